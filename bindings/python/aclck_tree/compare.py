@@ -149,8 +149,8 @@ class Compared:
         forms = meaning(before), meaning(after)
         if forms[0] == forms[1] and not (owners and _speaks_of_owners(before.acl)):
             return FaceChange("bytes", note=owners)
-        told = {self.new.full_name(change.whom) for change in changes}
-        changes += self._mentioned(old, new, before, after, told)
+        reported = {self.new.full_name(change.whom) for change in changes}
+        changes += self._mentioned(old, new, before, after, reported)
         return FaceChange("meaning", changes, _difference(before, after), owners)
 
     def _owners(self, old: Face, new: Face) -> str:
@@ -168,7 +168,7 @@ class Compared:
         found = (_change(person.name, *pair) for person, pair in zip(self.new.people, zip(before, after)))
         return [change for change in found if change]
 
-    def _mentioned(self, old: Face, new: Face, before: Asked, after: Asked, told: "set[str]") -> List[Change]:
+    def _mentioned(self, old: Face, new: Face, before: Asked, after: Asked, reported: "set[str]") -> List[Change]:
         """Asks both lists about each single principal that one of them mentions, and about a stranger."""
         sides = [(before, *self.old.owner_and_group(old, before.kind)),
                  (after, *self.new.owner_and_group(new, after.kind))]
@@ -183,7 +183,7 @@ class Compared:
         for place, (words, user, _) in enumerate(whom):
             part = slice(place * width, place * width + width)
             change = _change(words, tuple(found[0][part]), tuple(found[1][part]))
-            if change and user not in told:
+            if change and user not in reported:
                 changes.append(change)
         return changes
 

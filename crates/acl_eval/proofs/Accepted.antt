@@ -27,8 +27,7 @@ use Rattle.acl_nfs4.specs.Who.{IsWho, is_no_who_len, is_plain, is_special, is_un
 use Rattle.acl_nfs4.specs.Spelling.{IsAce, weight}
 use Rattle.acl_nfs4.proofs.Exports.{weight-cons}
 use Rattle.acl_eval.specs.Bridge.{image, bridged_who, bridged_flags, ace_of, each, is_user_tag, is_group_tag, is_other_tag, allow_of, deny_of, decide_of, bridge_list}
-use Rattle.acl_eval.specs.Bridge.{image, bridged_who, bridged_flags, ace_of, each, is_user_tag, is_group_tag, is_other_tag, allow_of, deny_of, decide_of, bridge_list}
-use Rattle.acl_eval.specs.BridgeNames.{NamesDiffer, NamesStand, OnlyLimitsRefuse}
+use Rattle.acl_eval.specs.BridgeNames.{NamesDiffer, NamesAreValid, OnlyLimitsRefuse}
 use Rattle.acl_eval.proofs.Images.{image_mask, image_some}
 use Rattle.acl_eval.proofs.EntryRuns.{effective_lt, everywhere}
 use Rattle.acl_eval.proofs.BridgeNames.{not_owner, not_group, not_everyone}
@@ -39,6 +38,7 @@ use Rattle.acl_eval.proofs.BridgeNames.{not_owner, not_group, not_everyone}
 pub names_differ : NamesDiffer
 names_differ m n p q e = decimal_injective m n (omega arith) (omega arith) e
 
+-- decimal digits are plain bytes
 digits_plain : (ds : List ℕ) → AllDigits 10 ds → list_all is_plain ds ≡ true
 digits_plain [] d = refl
 digits_plain (c ∷ cs) d = let r = digit_from_value c d.0 in plain c (omega (arith, r)) (omega (arith, r))
@@ -48,21 +48,26 @@ digits_plain (c ∷ cs) d = let r = digit_from_value c d.0 in plain c (omega (ar
     plain c low high rest = let a : leb 32 c ≡ true = grind arith in let b : eqb c 127 ≡ false = grind arith in
         rw (a, b) rest
 
+-- each byte of decimal digits is below 58
 digits_below : (ds : List ℕ) (i : ℕ) → AllDigits 10 ds → get_or ds i 0 < 58
 digits_below [] i d = omega arith
 digits_below (c ∷ cs) zero d = omega (arith, digit_from_value c d.0)
 digits_below (c ∷ cs) (suc i) d = digits_below cs i d.1
 
+-- a byte below 58 is not `@`
 no_at : (b : ℕ) → b < 58 → eqb b 64 ≡ false
 no_at b lt = grind arith
 
+-- a name in which each of the four checks of a who finds nothing is valid as a who
 no_fault : (who : List ℕ) → is_no_who_len (length who) ≡ false → is_utf8 who ≡ true → list_all is_plain who ≡ true
     → is_unknown_special who ≡ false → IsWho who
 no_fault who some utf8 plain known = rw (some, utf8, plain, known) refl
 
+-- a length from 1 to that of the longest who is the length of a who
 some_len : (n : ℕ) → 0 < n → n ≤ longest_who → is_no_who_len n ≡ false
 some_len n some short = grind arith
 
+-- the decimal digits of an id are valid as a who
 is_who-decimal : (n : ℕ) → IsId n → IsWho (decimal n)
 is_who-decimal n lt =
     let digits : AllDigits 10 (decimal n) = (decimal_is_IsNumeral n (omega arith)).0.1 in
@@ -76,23 +81,28 @@ is_who-decimal n lt =
     (ap (λ (b : Bool). b && not (is_special (decimal n))) at)
 
 -- each name is a valid who, and none is a special identifier
-pub names_stand : NamesStand
-names_stand n lt = (is_who-decimal n lt, rw (not_owner n lt, not_group n lt, not_everyone n lt) refl)
+pub names_valid : NamesAreValid
+names_valid n lt = (is_who-decimal n lt, rw (not_owner n lt, not_group n lt, not_everyone n lt) refl)
 
+-- bytes that are all below 128 are ASCII
 ascii : (bs : List ℕ) → list_all (λ b. ltb b 128) bs ≡ true → IsAscii bs
 ascii [] h i = omega arith
 ascii (b ∷ bs) h zero = ltb-true b 128 (and_true (ltb b 128) (list_all (λ c. ltb c 128) bs) h).0
 ascii (b ∷ bs) h (suc i) = ascii bs (and_true (ltb b 128) (list_all (λ c. ltb c 128) bs) h).1 i
 
+-- bytes that are all below 128 are UTF-8
 text : (bs : List ℕ) → list_all (λ b. ltb b 128) bs ≡ true → is_utf8 bs ≡ true
 text bs h = is_utf8-from_IsUtf8 bs (IsUtf8-from_ascii bs (ascii bs h))
 
+-- `OWNER@` is valid as a who
 is_who-owner : IsWho owner_name
 is_who-owner = no_fault owner_name refl (text owner_name refl) refl refl
 
+-- `GROUP@` is valid as a who
 is_who-group : IsWho group_name
 is_who-group = no_fault group_name refl (text group_name refl) refl refl
 
+-- `EVERYONE@` is valid as a who
 is_who-everyone : IsWho everyone_name
 is_who-everyone = no_fault everyone_name refl (text everyone_name refl) refl refl
 
@@ -102,6 +112,7 @@ is_who-everyone = no_fault everyone_name refl (text everyone_name refl) refl ref
 abbrev Good : Ace → Type 0
 Good a = IsAce full a × (0 < count_ones a.mask)
 
+-- an ACE of a tag may be in a list if the flags and the who of the tag may
 with_who : (k : Kind) (l : Tag) (p : ℕ) → p < 8 → IsWithin all_flags (bridged_flags l) → IsWho (bridged_who l)
     → AllByRecursion Good (ace_of k l p)
 unfolding ace_of
@@ -113,10 +124,11 @@ with_who k l p lt fl w =
       | false ↦ λ e. ((record { flags = fl; mask = image_mask p lt; who = w }, image_some p lt e), tt)
     ] refl
 
--- MASK has no ACE in any part
+-- the tag has ACEs in some part of the list: each tag has them but MASK
 abbrev has_aces : Tag → Bool
 has_aces l = is_user_tag l || is_group_tag l || is_other_tag l
 
+-- an ACE of a tag that has ACEs may be in a list
 each_ace : (k : Kind) (l : Tag) (p : ℕ) → p < 8 → IsTag l → has_aces l ≡ true → AllByRecursion Good (ace_of k l p)
 each_ace k user_obj p lt is h = with_who k user_obj p lt refl is_who-owner
 each_ace k (user id) p lt is h = with_who k (user id) p lt refl (is_who-decimal id is)
@@ -125,10 +137,12 @@ each_ace k (group id) p lt is h = with_who k (group id) p lt refl (is_who-decima
 each_ace k mask p lt is h = absurd cc
 each_ace k other p lt is h = with_who k other p lt refl is_who-everyone
 
+-- if the ACEs of two lists may be in a list, so may those of both lists together
 together : (xs ys : List Ace) → AllByRecursion Good xs → AllByRecursion Good ys → AllByRecursion Good (xs ++ ys)
 together [] ys h g = g
 together (a ∷ xs) ys h g = (h.0, together xs ys h.1 g)
 
+-- the ACEs of a part may be in a list if those of each of its entries may
 of_part : (which : Tag → Bool) (f : Tag × ℕ → List Ace) (es : List (Tag × ℕ))
     → ((e : Tag × ℕ) → IsEntry e → which e.0 ≡ true → AllByRecursion Good (f e)) → AllByRecursion IsEntry es
     → AllByRecursion Good (each which f es)
@@ -141,17 +155,21 @@ of_part which f (e ∷ es) g all =
       | false ↦ λ is. rest
     ] refl
 
+-- USER_OBJ and USER have ACEs
 user_has : (l : Tag) → is_user_tag l ≡ true → has_aces l ≡ true
 user_has l h = rw h refl
 
+-- GROUP_OBJ and GROUP have ACEs
 group_has : (l : Tag) → is_group_tag l ≡ true → has_aces l ≡ true
 group_has l h = ap (λ (b : Bool). (is_user_tag l || b) || is_other_tag l) h
     ∙ ap (λ (b : Bool). b || is_other_tag l) (or_true_right (is_user_tag l))
 
+-- OTHER has ACEs
 other_has : (l : Tag) → is_other_tag l ≡ true → has_aces l ≡ true
 other_has l h =
     ap (λ (b : Bool). (is_user_tag l || is_group_tag l) || b) h ∙ or_true_right (is_user_tag l || is_group_tag l)
 
+-- each ACE of the bridged list may be in a list, and its mask is not empty
 aces_good : (E : Entries) → AllByRecursion IsEntry (fin.entries E) → AllByRecursion Good (bridge_list E)
 unfolding bridge_list
 aces_good E all =
@@ -172,9 +190,10 @@ aces_good E all =
     (together (users ++ group_allows) group_denies (together users group_allows a b) c) d
 
 -- each ACE of the bridged list may be in a list
-pub aces_stand : (E : Entries) → AllByRecursion IsEntry (fin.entries E) → AllByRecursion (IsAce full) (bridge_list E)
-aces_stand E all = everywhere Good (IsAce full) (λ a g. g.0) (bridge_list E) (aces_good E all)
+pub aces_valid : (E : Entries) → AllByRecursion IsEntry (fin.entries E) → AllByRecursion (IsAce full) (bridge_list E)
+aces_valid E all = everywhere Good (IsAce full) (λ a g. g.0) (bridge_list E) (aces_good E all)
 
+-- a list of ACEs whose masks are not empty has no more ACEs than mask bits
 no_longer : (xs : List Ace) → AllByRecursion Good xs → length xs ≤ weight xs
 no_longer [] h = omega arith
 no_longer (a ∷ xs) h = omega (arith, h.0.1, no_longer xs h.1, weight-cons a xs)
@@ -192,6 +211,6 @@ only_limits_refuse entries access = (
     count = small.0;
     weight = small.1;
     each =
-        aces_stand entries (recursion_from_All IsEntry (fin.entries entries) access.within);
+        aces_valid entries (recursion_from_All IsEntry (fin.entries entries) access.within);
   },
 )

@@ -8,8 +8,9 @@ use Rattle.std.specs.declared.cmp.Ordering.TheVariants.{Less, Equal, Greater}
 use Rattle.std.specs.FinMap as fin
 use Rattle.std.specs.FinMap.Entries.{below_all, is_sorted}
 use Rattle.std.proofs.lemmas.List.Elements.{recursion_from_All}
+use Rattle.std.proofs.lemmas.Option.{same_Some}
 use Rattle.acl_perm.specs.Bits.{has_bit}
-use Rattle.acl_perm.proofs.Bools.{and_regroup, and_swap, and_true_right, and_twice, cond_bool, either_and, or_false_right}
+use Rattle.acl_perm.proofs.Bools.{and_regroup, and_swap, and_true_right, and_twice, both_hold, cond_bool, either_and, or_false_right}
 use Rattle.acl_perm.proofs.Sets.{has_bit-and, no_bit}
 use Rattle.acl_perm.specs.Situation.{Situation}
 use Rattle.acl_posix.specs.Id.{IsId}
@@ -24,7 +25,7 @@ use Rattle.acl_eval.specs.Bridge.{is_user_tag, is_group_tag, is_other_tag, bridg
 use Rattle.acl_eval.specs.BridgeLaws.{by_name, IsAsked, IsAccess}
 use Rattle.acl_eval.proofs.Runs.{run}
 use Rattle.acl_eval.proofs.Bits.{contains_power}
-use Rattle.acl_eval.proofs.Images.{Stands}
+use Rattle.acl_eval.proofs.Images.{Belongs}
 use Rattle.acl_eval.proofs.BridgeNames.{concerns, user_test, group_test, same_name}
 use Rattle.acl_eval.proofs.EntryRuns.{first, bit_of, users_test, allows_test, denies_test, others_test, class_answer, everywhere, run_bridge}
 
@@ -34,22 +35,25 @@ pub record IsRight (want j b : ℕ) : Type 0 where
   pub some : 0 < want
   pub whole : contains 7 want ≡ true
   pub small : j < 3
-  pub stands : Stands j b
+  pub belongs : Belongs j b
 
 -- ---- tests of some element
 
+-- if two tests agree on all elements, some element passes the first if and only if one passes the second
 any_alike : {X : Type 0} (p q : X → Bool) (xs : List X) → AllByRecursion (λ x. p x ≡ q x) xs → list_any p xs
     ≡ list_any q xs
 any_alike p q [] h = refl
 any_alike p q (x ∷ xs) h = ap (λ (z : Bool). z || list_any p xs) h.0
     ∙ ap (λ (z : Bool). q x || z) (any_alike p q xs h.1)
 
+-- a condition that is the same for all elements can be tested after them
 any_and : {X : Type 0} (p : X → Bool) (c : Bool) (xs : List X) → list_any (λ x. p x && c) xs ≡ (list_any p xs && c)
 any_and p c [] = refl
 any_and p c (x ∷ xs) = ap (λ (z : Bool). (p x && c) || z) (any_and p c xs) ∙ sym (either_and (p x) (list_any p xs) c)
 
 -- ---- the bit of an entry
 
+-- permissions within MASK, if there is one, have a bit if and only if both contain its permission
 masked_bit : (o : Option ℕ) (n j want : ℕ) → want ≡ 2 ^ j → 0 < want → contains 7 want ≡ true
     → has_bit (bit_and n (unwrap_or o n)) j ≡ (contains n want && contains (unwrap_or o 7) want)
 masked_bit None n j want e pos all =
@@ -69,14 +73,7 @@ masked E e want j b right is =
 
 -- ---- the order of the entries
 
-front : (x y : Bool) → T (x && y) → T x
-front true y h = tt
-front false y h = h
-
-back : (x y : Bool) → T (x && y) → T y
-back true y h = h
-back false y h = absurd h
-
+-- what passes the test for less is less
 less : (o : Ordering) → T (is_lt o) → o ≡ Less
 less Less h = refl
 less Equal h = absurd h
@@ -90,10 +87,11 @@ below_found k q p (e ∷ ps) h f =
     elim (eq_by_cmp tag_cmp q e.0) as (λ t. eq_by_cmp tag_cmp q e.0 ≡ t → cond t (Some e.1) (fin.find tag_cmp q ps)
     ≡ Some p → tag_cmp k q ≡ Less) [
       | true ↦ λ same g. ap (tag_cmp k) (same_tag q e.0 same)
-          ∙ less (tag_cmp k e.0) (front (is_lt (tag_cmp k e.0)) (below_all tag_cmp k ps) h)
-      | false ↦ λ same g. below_found k q p ps (back (is_lt (tag_cmp k e.0)) (below_all tag_cmp k ps) h) g
+          ∙ less (tag_cmp k e.0) (both_hold (is_lt (tag_cmp k e.0)) (below_all tag_cmp k ps) h).0
+      | false ↦ λ same g. below_found k q p ps (both_hold (is_lt (tag_cmp k e.0)) (below_all tag_cmp k ps) h).1 g
     ] refl f
 
+-- no tag is before USER_OBJ
 owner_least : (l : Tag) → tag_cmp l user_obj ≡ Less → ⊥
 owner_least user_obj h = cc
 owner_least (user id) h = cc
@@ -102,6 +100,7 @@ owner_least (group id) h = cc
 owner_least mask h = cc
 owner_least other h = cc
 
+-- a tag that does not compare equal to OTHER is not OTHER
 other_only : (l : Tag) → eq_by_cmp tag_cmp other l ≡ false → is_other_tag l ≡ false
 other_only user_obj h = refl
 other_only (user id) h = refl
@@ -110,34 +109,34 @@ other_only (group id) h = refl
 other_only mask h = refl
 other_only other h = absurd cc
 
+-- a tag after OTHER is not OTHER
 other_last : (l : Tag) → T (is_lt (tag_cmp other l)) → is_other_tag l ≡ false
 other_last l h = other_only l (ap is_eq (less (tag_cmp other l) h))
 
 -- ---- the owner
 
-same_Some : (x y : ℕ) → Some x ≡ Some y → x ≡ y
-same_Some x y h = ap (λ o. unwrap_or o 0) h
-
+-- if USER_OBJ matches the requester, its permissions decide the bit
 owner_decides : (E : Entries) (s : Situation) (j p : ℕ) (r : Bool) (ps : List (Tag × ℕ)) → concerns s user_obj ≡ true
     → T (is_sorted tag_cmp ps) → fin.find tag_cmp user_obj ps ≡ Some p
     → first (users_test s) (bit_of E j) ps r ≡ has_bit p j
-owner_decides E s j p r [] speak sorted f = absurd cc
-owner_decides E s j p r (e ∷ ps) speak sorted f =
+owner_decides E s j p r [] meets sorted f = absurd cc
+owner_decides E s j p r (e ∷ ps) meets sorted f =
     elim (eq_by_cmp tag_cmp user_obj e.0) as (λ t. eq_by_cmp tag_cmp user_obj e.0 ≡ t
     → cond t (Some e.1) (fin.find tag_cmp user_obj ps) ≡ Some p → first (users_test s) (bit_of E j) (e ∷ ps) r
     ≡ has_bit p j) [
       | true ↦ λ same g.
           ap (λ (l : Tag). cond (is_user_tag l && concerns s l) (bit_of E j (l, e.1))
           (first (users_test s) (bit_of E j) ps r)) (sym (same_tag user_obj e.0 same))
-          ∙ ap (λ (t : Bool). cond t (has_bit e.1 j) (first (users_test s) (bit_of E j) ps r)) speak
+          ∙ ap (λ (t : Bool). cond t (has_bit e.1 j) (first (users_test s) (bit_of E j) ps r)) meets
           ∙ ap (λ (n : ℕ). has_bit n j) (same_Some e.1 p g)
       | false ↦ λ same g. absurd
           (owner_least e.0
-          (below_found e.0 user_obj p ps (front (below_all tag_cmp e.0 ps) (is_sorted tag_cmp ps) sorted) g))
+          (below_found e.0 user_obj p ps (both_hold (below_all tag_cmp e.0 ps) (is_sorted tag_cmp ps) sorted).0 g))
     ] refl f
 
 -- ---- a user with an entry, or none
 
+-- for a requester who is not the owner, the entry of the user and MASK decide, or without this entry the rest
 user_decides : (E : Entries) (object : Object) (requester : Requester) (want j b : ℕ) (r : Bool) (ps : List (Tag × ℕ))
     → IsRight want j b → IsAsked object requester → AllByRecursion IsEntry ps → (requester.user == object.user) ≡ false
     → first (users_test (by_name object requester)) (bit_of E j) ps r
@@ -157,6 +156,7 @@ user_decides E object requester want j b r (e ∷ ps) right a all differ =
 
 -- ---- the group class
 
+-- MASK limits GROUP_OBJ and GROUP
 group_masked : (l : Tag) → is_group_tag l ≡ true → is_masked l ≡ true
 group_masked user_obj h = absurd cc
 group_masked (user id) h = absurd cc
@@ -172,6 +172,7 @@ split true true true = refl
 split true true false = refl
 split true false m = refl
 
+-- four alternatives can be paired in two ways
 join : (a b c d : Bool) → ((a || b) || (c || d)) ≡ ((a || c) || (b || d))
 join true b c d = refl
 join false true true d = refl
@@ -179,6 +180,7 @@ join false false true d = refl
 join false true false d = refl
 join false false false d = refl
 
+-- some entry of a group matches if and only if one matches and allows, or one matches and denies
 any_split : (E : Entries) (s : Situation) (j : ℕ) (ps : List (Tag × ℕ))
     → list_any (λ e. is_group_tag e.0 && concerns s e.0) ps ≡ (list_any (allows_test E s j) ps || list_any
     (denies_test E s j) ps)
@@ -190,24 +192,28 @@ any_split E s j (e ∷ ps) =
     ∙ join (allows_test E s j e) (denies_test E s j e) (list_any (allows_test E s j) ps)
     (list_any (denies_test E s j) ps)
 
+-- if some group allows or denies, the answer is whether one allows, and otherwise that of OTHER
 class_is : (a d o : Bool) → cond a true (cond d false o) ≡ cond (a || d) a o
 class_is true d o = refl
 class_is false d o = refl
 
+-- where a test is two others together, it can be replaced by them, in another order
 reorder : (g v h c m : Bool) → (g ≡ true → v ≡ (h && c)) → (g && (v && m)) ≡ (((g && m) && h) && c)
 reorder false v h c m e = refl
 reorder true v h c m e = ap (λ (z : Bool). z && m) (e refl) ∙ and_swap (h && c) m ∙ sym (and_regroup m h c)
 
 -- ---- OTHER
 
+-- no entry after OTHER is of OTHER, allows the bit and matches
 none_behind : (E : Entries) (s : Situation) (j : ℕ) (ps : List (Tag × ℕ)) → T (below_all tag_cmp other ps)
     → list_any (others_test E s j) ps ≡ false
 none_behind E s j [] h = refl
 none_behind E s j (e ∷ ps) h =
     ap (λ (z : Bool). (z && (bit_of E j e && concerns s e.0)) || list_any (others_test E s j) ps)
-    (other_last e.0 (front (is_lt (tag_cmp other e.0)) (below_all tag_cmp other ps) h))
-    ∙ none_behind E s j ps (back (is_lt (tag_cmp other e.0)) (below_all tag_cmp other ps) h)
+    (other_last e.0 (both_hold (is_lt (tag_cmp other e.0)) (below_all tag_cmp other ps) h).0)
+    ∙ none_behind E s j ps (both_hold (is_lt (tag_cmp other e.0)) (below_all tag_cmp other ps) h).1
 
+-- OTHER allows a bit if and only if its permissions contain the permission of the bit
 others_decide : (E : Entries) (s : Situation) (want j b : ℕ) (ps : List (Tag × ℕ)) → IsRight want j b
     → T (is_sorted tag_cmp ps)
     → list_any (others_test E s j) ps ≡ contains (unwrap_or (fin.find tag_cmp other ps) 0) want
@@ -219,7 +225,7 @@ others_decide E s want j b (e ∷ ps) right sorted =
           let is : e.0 ≡ other = sym (same_tag other e.0 same) in
           let behind : list_any (others_test E s j) ps ≡ false =
           none_behind E s j ps (subst (λ (l : Tag). T (below_all tag_cmp l ps)) is
-          (front (below_all tag_cmp e.0 ps) (is_sorted tag_cmp ps) sorted)) in
+          (both_hold (below_all tag_cmp e.0 ps) (is_sorted tag_cmp ps) sorted).0) in
           ap (λ (z : Bool). others_test E s j e || z) behind
           ∙ or_false_right (others_test E s j e)
           ∙ ap (λ (l : Tag). is_other_tag l && (bit_of E j (l, e.1) && concerns s l)) is
@@ -228,7 +234,7 @@ others_decide E s want j b (e ∷ ps) right sorted =
       | false ↦ λ same.
           ap (λ (z : Bool). (z && (bit_of E j e && concerns s e.0)) || list_any (others_test E s j) ps)
           (other_only e.0 same)
-          ∙ others_decide E s want j b ps right (back (below_all tag_cmp e.0 ps) (is_sorted tag_cmp ps) sorted)
+          ∙ others_decide E s want j b ps right (both_hold (below_all tag_cmp e.0 ps) (is_sorted tag_cmp ps) sorted).1
     ] refl
 
 -- ---- the whole check
@@ -238,6 +244,7 @@ abbrev class_check : Entries → Object → Requester → ℕ → Bool
 class_check E object requester want = cond (posix.any_matches E object.group requester.groups)
     (posix.any_contains E object.group requester.groups want && mask_contains E want) (contains (perm_at E other) want)
 
+-- the group class and OTHER answer as the plain check does for a requester who is not the owner and has no entry
 class_decides : (E : Entries) (object : Object) (requester : Requester) (want j b : ℕ) → IsRight want j b
     → IsAsked object requester → AllByRecursion IsEntry (fin.entries E)
     → class_answer E (by_name object requester) j (fin.entries E) ≡ class_check E object requester want
@@ -277,6 +284,7 @@ some_value : (o : Option ℕ) → is_some o ≡ true → (p : ℕ) × (o ≡ Som
 some_value None h = absurd cc
 some_value (Some p) h = (p, refl)
 
+-- the list grants a bit if and only if the plain check grants the permission to which the bit belongs
 agrees_plainly : (E : Entries) (object : Object) (requester : Requester) (want j b : ℕ) → IsAccess E
     → IsAsked object requester → IsRight want j b
     → run (bridge_list E) (by_name object requester) b false ≡ plain E object requester want
@@ -287,7 +295,7 @@ agrees_plainly E object requester want j b access a right =
     let all = recursion_from_All IsEntry es access.within in
     let class : Bool = class_check E object requester want in
     let start : run (bridge_list E) s b false ≡ first (users_test s) (bit_of E j) es class =
-    run_bridge E s j b right.stands right.small all
+    run_bridge E s j b right.belongs right.small all
     ∙ ap (λ (z : Bool). first (users_test s) (bit_of E j) es z) (class_decides E object requester want j b right a all)
     in
     start

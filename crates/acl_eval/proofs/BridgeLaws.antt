@@ -19,19 +19,20 @@ use Rattle.acl_eval.specs.BridgeLaws.{by_name, IsAsked, IsAccess, GrantsSingles,
 use Rattle.acl_eval.proofs.Runs.{run_grants}
 use Rattle.acl_eval.proofs.Same.{only_bit}
 use Rattle.acl_eval.proofs.Bits.{contains_power}
-use Rattle.acl_eval.proofs.Images.{Stands, same_answers, image_bit, rights}
+use Rattle.acl_eval.proofs.Images.{Belongs, same_below, image_bit, rights}
 use Rattle.acl_eval.proofs.ValidChecks.{mask_contains, plain, plain_check}
 use Rattle.acl_eval.proofs.Agree.{IsRight, agrees}
 
--- r, w and x, by their bits
-right_at : (j b : ℕ) → j < 3 → Stands j b → IsRight (2 ^ j) j b
-right_at zero b lt st = record { power = refl; some = omega arith; whole = refl; small = lt; stands = st }
-right_at (suc zero) b lt st = record { power = refl; some = omega arith; whole = refl; small = lt; stands = st }
-right_at (suc (suc zero)) b lt st = record { power = refl; some = omega arith; whole = refl; small = lt; stands = st }
+-- the permission of a bit below 3 has the rights that belong to the bit
+right_at : (j b : ℕ) → j < 3 → Belongs j b → IsRight (2 ^ j) j b
+right_at zero b lt st = record { power = refl; some = omega arith; whole = refl; small = lt; belongs = st }
+right_at (suc zero) b lt st = record { power = refl; some = omega arith; whole = refl; small = lt; belongs = st }
+right_at (suc (suc zero)) b lt st = record { power = refl; some = omega arith; whole = refl; small = lt; belongs = st }
 right_at (suc (suc (suc j))) b lt st = absurd (omega (arith, lt))
 
 -- ---- the check of less is granted where that of more is
 
+-- permissions that contain a request contain each part of it
 contains_less : (p want less : ℕ) → contains want less ≡ true → contains p want ≡ true → contains p less ≡ true
 contains_less p want less sub h =
     let s = subset_test want less in
@@ -39,11 +40,13 @@ contains_less p want less sub h =
     let u = subset_test p less in
     u.1 (λ k has. t.0 h k (s.0 sub k has))
 
+-- if each of two tests implies another one, both together imply the other two together
 and_less : (a b c d : Bool) → (a ≡ true → c ≡ true) → (b ≡ true → d ≡ true) → (a && b) ≡ true → (c && d) ≡ true
 and_less true true c d f g h = rw (f refl, g refl) refl
 and_less true false c d f g h = absurd cc
 and_less false b c d f g h = absurd cc
 
+-- if one test implies another, and some element passes the first, some element passes the second
 any_less : {X : Type 0} (p q : X → Bool) (xs : List X) → ((x : X) → p x ≡ true → q x ≡ true) → list_any p xs ≡ true
     → list_any q xs ≡ true
 any_less p q [] f h = absurd cc
@@ -53,11 +56,13 @@ any_less p q (x ∷ xs) f h =
       | false ↦ λ is more. ap (λ (z : Bool). q x || z) (any_less p q xs f more) ∙ or_true_right (q x)
     ] refl h
 
+-- if each of two tests implies another one, the choice between them implies the choice between the other two
 choose_less : (t a b c d : Bool) → (a ≡ true → b ≡ true) → (c ≡ true → d ≡ true) → cond t a c ≡ true
     → cond t b d ≡ true
 choose_less true a b c d f g = f
 choose_less false a b c d f g = g
 
+-- the plain check grants each part of a request that it grants
 plain_less : (E : Entries) (object : Object) (requester : Requester) (want less : ℕ) → contains want less ≡ true
     → plain E object requester want ≡ true → plain E object requester less ≡ true
 plain_less E object requester want less sub =
@@ -83,6 +88,7 @@ bit_granted : (E : Entries) (object : Object) (requester : Requester) (want j b 
 bit_granted E object requester want j b access a right =
     sym (run_grants (bridge_list E) (by_name object requester) b) ∙ agrees E object requester want j b access a right
 
+-- the list grants the rights of one permission if and only if the check grants the permission
 single : (E : Entries) (object : Object) (requester : Requester) (want j b : ℕ) → IsAccess E → IsAsked object requester
     → IsRight want j b → want < 8 → has_bit (image want) b ≡ true
     → Grant (bridge_list E) (by_name object requester) (image want) ↔ (grants E object requester want ≡ true)
@@ -91,13 +97,13 @@ single E object requester want j b access a right lt has = (
   λ h k is.
       let p = image_bit want k lt is in
       let same : p.j ≡ j = only_bit j p.j (subst (λ (n : ℕ). has_bit n p.j ≡ true) right.power p.has) in
-      let stands : Stands j k = subst (λ (i : ℕ). Stands i k) same p.stands in
+      let belongs : Belongs j k = subst (λ (i : ℕ). Belongs i k) same p.belongs in
       bit_granted E object requester want j k access a (record {
         power = right.power;
         some = right.some;
         whole = right.whole;
         small = right.small;
-        stands = stands;
+        belongs = belongs;
       }) ∙ h,
 )
 
@@ -111,21 +117,22 @@ grants_singles entries object requester want access a (inr (inl w)) = rw w
 grants_singles entries object requester want access a (inr (inr x)) = rw x
     (single entries object requester 1 0 5 access a (right_at 0 5 (omega arith) rights.execute) (omega arith) refl)
 
--- one permission of a set
+-- a set that has one of the bits of permissions contains the permission of that bit
 part : (want j : ℕ) → j < 3 → has_bit want j ≡ true → contains want (2 ^ j) ≡ true
 part want zero lt h = contains_power want 0 1 refl (omega arith) ∙ h
 part want (suc zero) lt h = contains_power want 1 2 refl (omega arith) ∙ h
 part want (suc (suc zero)) lt h = contains_power want 2 4 refl (omega arith) ∙ h
 part want (suc (suc (suc j))) lt h = absurd (omega (arith, lt))
 
+-- read, write and execute together contain every set of permissions
 all_contain : (want : ℕ) → want < 8 → contains 7 want ≡ true
-all_contain = same_answers 8 (contains 7) (λ n. true) refl
+all_contain = same_below 8 (contains 7) (λ n. true) refl
 
 -- what the check grants together, the list grants together
 pub keeps_grants : KeepsGrants
 keeps_grants entries object requester want access a lt granted b has =
     let p = image_bit want b lt has in
-    let right : IsRight (2 ^ p.j) p.j b = right_at p.j b p.small p.stands in
+    let right : IsRight (2 ^ p.j) p.j b = right_at p.j b p.small p.belongs in
     let all : plain entries object requester want ≡ true =
     plain_check entries object requester want access.valid (all_contain want lt) ∙ granted in
     let one : plain entries object requester (2 ^ p.j) ≡ true =
@@ -135,10 +142,11 @@ keeps_grants entries object requester want access a lt granted b has =
 
 -- ---- ids that the code holds
 
+-- the number of each id that the code holds is within the limit of ids
 each_id : (gs : List Id) → AllByRecursion IsId (ids gs)
 each_id [] = tt
 each_id (g ∷ gs) = (g.within, each_id gs)
 
--- ids of the code are ids
+-- the numbers of all ids that the code holds are within the limit of ids
 pub all_ids : (gs : List Id) → All IsId (ids gs)
 all_ids gs = All-from_recursion IsId (ids gs) (each_id gs)

@@ -3,6 +3,7 @@ use Rattle.std.proofs.Common.{◌≡◌, ℕ, ◌<◌, Bool, true, false, eqb, L
 use Rattle.std.specs.Prelude.{◌&&◌, ◌||◌, ◌==◌, map}
 use Rattle.std.specs.List.{AllByRecursion}
 use Rattle.std.specs.Fmt.{decimal}
+use Rattle.std.specs.Cmp.Lexicographic.{nat_list_eq_equiv}
 use Rattle.std.specs.Str.{bytes_eq}
 use Rattle.std.specs.Str.Parse.{AllDigits}
 use Rattle.std.specs.Ordering.{nat_cmp, eq_by_cmp, is_eq}
@@ -23,7 +24,7 @@ use Rattle.acl_nfs4.specs.Ace.{Ace}
 use Rattle.acl_nfs4.specs.Who.{owner_name, group_name, everyone_name}
 use Rattle.acl_eval.specs.Bridge.{bridged_who, bridged_flags, is_user_tag, is_group_tag}
 use Rattle.acl_eval.specs.BridgeLaws.{by_name, IsAsked}
-use Rattle.acl_eval.specs.Scan.{speaks}
+use Rattle.acl_eval.specs.Scan.{applies}
 
 -- ---- decimal names
 
@@ -32,6 +33,7 @@ not_decimal : (n c : ℕ) (cs : List ℕ) → IsId n → 57 < c → decimal n �
 not_decimal n c cs h big e =
     omega (arith, digit_from_value c (subst (AllDigits 10) e (decimal_is_IsNumeral n (omega arith)).0.1).0)
 
+-- names that differ do not pass the test of equality
 unequal : (xs ys : List ℕ) → (xs ≡ ys → ⊥) → bytes_eq xs ys ≡ false
 unequal xs ys differ = elim (bytes_eq xs ys) as (λ b. bytes_eq xs ys ≡ b → b ≡ false) [
   | true ↦ λ h. absurd (differ ((bytes_eq-Decides xs ys).0 h))
@@ -42,11 +44,11 @@ unequal xs ys differ = elim (bytes_eq xs ys) as (λ b. bytes_eq xs ys ≡ b → 
 pub not_owner : (n : ℕ) → IsId n → bytes_eq (decimal n) owner_name ≡ false
 not_owner n h = unequal (decimal n) owner_name (λ e. not_decimal n _ _ h (omega arith) e)
 
--- none is `GROUP@`
+-- no name of an id is `GROUP@`
 pub not_group : (n : ℕ) → IsId n → bytes_eq (decimal n) group_name ≡ false
 not_group n h = unequal (decimal n) group_name (λ e. not_decimal n _ _ h (omega arith) e)
 
--- and none is `EVERYONE@`
+-- no name of an id is `EVERYONE@`
 pub not_everyone : (n : ℕ) → IsId n → bytes_eq (decimal n) everyone_name ≡ false
 not_everyone n h = unequal (decimal n) everyone_name (λ e. not_decimal n _ _ h (omega arith) e)
 
@@ -57,17 +59,13 @@ same_name m n p q = same_answers (bytes_eq (decimal m) (decimal n)) (m == n)
     ((bytes_eq-Decides (decimal m) (decimal n)).0 h)))
     (λ h. (bytes_eq-Decides (decimal m) (decimal n)).1 (ap decimal (eqb-true m n h)))
 
-same_id : (m n : ℕ) → IsId m → IsId n → bytes_eq (decimal m) (decimal n) ≡ (n == m)
-same_id m n p q = same_answers (bytes_eq (decimal m) (decimal n)) (n == m)
-    (λ h. eq-eqb n m
-    (sym (decimal_injective m n (omega arith) (omega arith) ((bytes_eq-Decides (decimal m) (decimal n)).0 h))))
-    (λ h. (bytes_eq-Decides (decimal m) (decimal n)).1 (ap decimal (sym (eqb-true n m h))))
-
 -- a group is among some groups by its name if and only if it is by its id
 is_one : (id : ℕ) (gs : List ℕ) → IsId id → AllByRecursion IsId gs → is_one_of (decimal id) (map decimal gs)
     ≡ posix.is_member id gs
 is_one id [] h all = refl
-is_one id (g ∷ gs) h all = ap (λ (b : Bool). b || is_one_of (decimal id) (map decimal gs)) (same_id id g h all.0)
+is_one id (g ∷ gs) h all =
+    ap (λ (b : Bool). b || is_one_of (decimal id) (map decimal gs))
+    (nat_list_eq_equiv.symm (decimal id) (decimal g) ∙ same_name g id all.0 h)
     ∙ ap (λ (b : Bool). (g == id) || b) (is_one id gs h all.1)
 
 -- ---- the ACEs of a tag
@@ -78,14 +76,17 @@ ace_with kind tag rights = record { kind = kind; flags = bridged_flags tag; mask
 
 -- the ACEs of a tag match the requester
 abbrev pub concerns : Situation → Tag → Bool
-concerns s tag = speaks s (ace_with Allow tag 0)
+concerns s tag = applies s (ace_with Allow tag 0)
 
+-- the ACEs of a USER match the requester who has the name of its id
 concerns_user : (s : Situation) (id : ℕ) → IsId id → concerns s (user id) ≡ bytes_eq s.user_name (decimal id)
 concerns_user s id h = rw (not_owner id h, not_group id h, not_everyone id h) refl
 
+-- the ACEs of a GROUP match a requester who is in the group that has the name of its id
 concerns_group : (s : Situation) (id : ℕ) → IsId id → concerns s (group id) ≡ is_one_of (decimal id) s.groups
 concerns_group s id h = rw (not_owner id h, not_group id h, not_everyone id h) refl
 
+-- two numbers compare equal if and only if they are the same
 equal_numbers : (m n : ℕ) → is_eq (nat_cmp m n) ≡ eqb m n
 equal_numbers m n = grind (arith, nat_tests)
 

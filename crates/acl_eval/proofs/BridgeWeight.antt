@@ -22,8 +22,9 @@ use Rattle.acl_eval.specs.Bridge.{image, bridged_who, bridged_flags, ace_of, all
 use Rattle.acl_eval.specs.internal.BridgeBody.{cost_of}
 use Rattle.acl_eval.proofs.Images.{four_bits, image_none}
 use Rattle.acl_eval.proofs.EntryRuns.{effective_lt}
-use Rattle.acl_eval.proofs.Accepted.{aces_stand, length_within}
+use Rattle.acl_eval.proofs.Accepted.{aces_valid, length_within}
 
+-- the ACEs of a tag have as many mask bits as the rights of its permissions
 weight_ace : (k : Kind) (l : Tag) (p : ℕ) → weight (ace_of k l p) ≡ count_ones (image p)
 unfolding ace_of
 weight_ace k l p =
@@ -37,9 +38,11 @@ weight_ace k l p =
       )
     ] refl
 
+-- the weight of two lists together is the sum of their weights
 weight-append : (xs ys : List Ace) → weight (xs ++ ys) ≡ weight xs + weight ys
 weight-append xs ys = sum_by-append (λ (a : Ace). count_ones a.mask) xs ys
 
+-- what an entry allows and what it denies have four mask bits together
 both_weigh : (E : Entries) (e : Tag × ℕ) → e.1 < 8 → weight (allow_of E e) + weight (deny_of E e) ≡ 4
 both_weigh E e lt =
     omega (
@@ -50,6 +53,7 @@ both_weigh E e lt =
           (effective_of E e) (effective_lt E e lt),
     )
 
+-- an entry adds the weight of its ACEs to a part of the list if the part is about such entries
 weight_each : (which : Tag → Bool) (f : Tag × ℕ → List Ace) (e : Tag × ℕ) (es : List (Tag × ℕ))
     → weight (each which f (e ∷ es)) ≡ cond (which e.0) (weight (f e)) 0 + weight (each which f es)
 weight_each which f e es =
@@ -60,6 +64,7 @@ weight_each which f e es =
       | false ↦ omega arith
     ]
 
+-- the ACEs of an entry weigh together, over the four parts of the list, what the entry costs
 entry_cost : (E : Entries) (l : Tag) (n : ℕ) → n < 8
     → cond (is_user_tag l) (weight (decide_of E (l, n))) 0 + cond (is_group_tag l) (weight (allow_of E (l, n))) 0 + cond
     (is_group_tag l) (weight (deny_of E (l, n))) 0 + cond (is_other_tag l) (weight (allow_of E (l, n))) 0 ≡ cost_of l n
@@ -84,6 +89,7 @@ entry_cost E other n lt = omega (arith, weight_ace Allow other n)
 abbrev pub cost : Tag × ℕ → ℕ
 cost e = cost_of e.0 e.1
 
+-- the four parts of the list weigh together what the entries cost
 total : (E : Entries) (es : List (Tag × ℕ)) → AllByRecursion IsEntry es
     → weight (each is_user_tag (decide_of E) es) + weight (each is_group_tag (allow_of E) es) + weight
     (each is_group_tag (deny_of E) es) + weight (each is_other_tag (allow_of E) es) ≡ sum_by cost es
@@ -112,14 +118,14 @@ weight_bridge E all =
     omega (arith, weight-append (D ++ A ++ N) O, weight-append (D ++ A) N, weight-append D A, total E es all)
 
 -- the list is accepted if and only if its weight is within the limit
-accepted_by_weight : (E : Entries) → AllByRecursion IsEntry (fin.entries E) → (sum_by cost (fin.entries E) ≤ most_weight)
-    ↔ IsAccepted full (bridge_list E)
+accepted_by_weight : (E : Entries) → AllByRecursion IsEntry (fin.entries E)
+    → (sum_by cost (fin.entries E) ≤ most_weight) ↔ IsAccepted full (bridge_list E)
 accepted_by_weight E all = (
   λ le. record {
     count = omega (arith, length_within E all, weight_bridge E all, le);
     weight =
         omega (arith, weight_bridge E all, le);
-    each = aces_stand E all;
+    each = aces_valid E all;
   },
   λ ok. omega (arith, weight_bridge E all, ok.weight),
 )

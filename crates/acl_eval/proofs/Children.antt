@@ -21,15 +21,18 @@ use Rattle.acl_eval.specs.Inheritance.{child_flags, children, ends, goes_on, wai
 
 -- ---- flags within a set
 
+-- if one test implies another, it still does with one more condition
 both_kept : (f c s : Bool) → (f && s) ≡ f → ((f && c) && s) ≡ (f && c)
 both_kept false c s e = refl
 both_kept true false s e = refl
 both_kept true true s e = e
 
+-- if each of two tests implies a third, so does either of them
 either_kept : (g e s : Bool) → (g && s) ≡ g → (e && s) ≡ e → ((g || e) && s) ≡ (g || e)
 either_kept true e s p q = p
 either_kept false e s p q = q
 
+-- each bit of a number within a set is a bit of the set
 bit_within : (set n k : ℕ) → IsWithin set n → (has_bit n k && has_bit set k) ≡ has_bit n k
 bit_within set n k is = sym (has_bit-and n set k) ∙ ap (λ (m : ℕ). has_bit m k) is
 
@@ -39,7 +42,7 @@ part_within set n c is = same_set _ _ (λ k.
     has_bit-and (bit_and n c) set k ∙ ap (λ (b : Bool). b && has_bit set k) (has_bit-and n c k)
     ∙ both_kept (has_bit n k) (has_bit c k) (has_bit set k) (bit_within set n k is) ∙ sym (has_bit-and n c k))
 
--- and so is a union of two numbers within the set
+-- the union of two numbers within a set is within the set
 pub union_within : (set m n : ℕ) → IsWithin set m → IsWithin set n → IsWithin set (bit_or m n)
 union_within set m n p q = same_set _ _ (λ k.
     has_bit-and (bit_or m n) set k ∙ ap (λ (b : Bool). b && has_bit set k) (has_bit-or m n k)
@@ -93,6 +96,7 @@ pub child_lacks : (kind : ChildKind) (a : Ace) (list : List Ace) → child_flags
     → children kind (a ∷ list) ≡ children kind list
 child_lacks kind a list e = rw e refl
 
+-- a property of ACEs that stays with the flags of the child holds for all ACEs of the child if for those of the parent
 each_child : (P : Ace → Type 0) (kind : ChildKind) (list : List Ace)
     → ((a : Ace) (f : ℕ) → child_flags kind a.flags ≡ Some f → P a → P (with_flags a f))
     → AllByRecursion P list → AllByRecursion P (children kind list)
@@ -120,11 +124,11 @@ no_more total of cons same kind (a ∷ list) =
         ap total (child_has kind a list f e) ∙ cons (with_flags a f) (children kind list) in
         omega (arith, rest, l, same a f, cons a list)
 
--- the child has no more ACEs
+-- the child has no more ACEs than the parent
 pub fewer : (kind : ChildKind) (list : List Ace) → length (children kind list) ≤ length list
 fewer = no_more length (λ a. 1) (λ a list. omega arith) (λ a f. refl)
 
--- and no more mask bits
+-- the child has no more mask bits than the parent
 pub lighter : (kind : ChildKind) (list : List Ace) → weight (children kind list) ≤ weight list
 lighter = no_more weight (λ a. count_ones a.mask) weight-cons (λ a f. refl)
 
@@ -175,36 +179,36 @@ one_more_accepted kind done a rest whole is ok =
 
 -- ---- the table, row by row
 
--- a file has an ACE with FILE_INHERIT
+-- a file has an ACE with FILE_INHERIT, without flags of inheritance
 pub file_inherited : (flags : ℕ) → has_bit flags file_inherit ≡ true → child_flags File flags ≡ Some (ends flags)
 file_inherited flags f = rw f refl
 
--- and no other
+-- a file does not have an ACE without FILE_INHERIT
 pub file_absent : (flags : ℕ) → has_bit flags file_inherit ≡ false → child_flags File flags ≡ None
 file_absent flags f = rw f refl
 
--- a directory has an ACE that ends in it
+-- a directory has an ACE with NO_PROPAGATE_INHERIT and DIRECTORY_INHERIT, without flags of inheritance
 pub directory_ended : (flags : ℕ) → has_bit flags no_propagate_inherit ≡ true → has_bit flags directory_inherit ≡ true
     → child_flags Directory flags ≡ Some (ends flags)
 directory_ended flags n d = rw (d, n) refl
 
--- it does not have an ACE that ends before it
+-- a directory does not have an ACE with NO_PROPAGATE_INHERIT and without DIRECTORY_INHERIT
 pub directory_ended_before : (flags : ℕ) → has_bit flags no_propagate_inherit ≡ true
     → has_bit flags directory_inherit ≡ false → child_flags Directory flags ≡ None
 directory_ended_before flags n d = rw (d, n) refl
 
--- it has an ACE that it passes on
+-- a directory has an ACE with DIRECTORY_INHERIT and without NO_PROPAGATE_INHERIT, and passes it on
 pub directory_inherited : (flags : ℕ) → has_bit flags no_propagate_inherit ≡ false
     → has_bit flags directory_inherit ≡ true → child_flags Directory flags ≡ Some (goes_on flags)
 directory_inherited flags n d = rw (d, n) refl
 
--- it has an ACE for files alone, which waits
+-- a directory has an ACE for files alone without NO_PROPAGATE_INHERIT, with INHERIT_ONLY, and passes it on
 pub directory_for_files : (flags : ℕ) → has_bit flags no_propagate_inherit ≡ false
     → has_bit flags directory_inherit ≡ false → has_bit flags file_inherit ≡ true
     → child_flags Directory flags ≡ Some (waiting_flags flags)
 directory_for_files flags n d f = rw (d, n, f) refl
 
--- and no other
+-- a directory does not have an ACE that is neither for files nor for directories
 pub directory_absent : (flags : ℕ) → has_bit flags no_propagate_inherit ≡ false
     → has_bit flags directory_inherit ≡ false → has_bit flags file_inherit ≡ false
     → child_flags Directory flags ≡ None

@@ -1,5 +1,5 @@
 -- The classes of a mode, ACE by ACE.
-use Rattle.std.proofs.Common.{◌≡◌, ℕ, Bool, List, [], refl, sym, ap, ◌∙◌}
+use Rattle.std.proofs.Common.{◌≡◌, ℕ, Bool, List, [], ◌∷◌, refl, sym, ap, ◌∙◌}
 use Rattle.std.specs.Prelude.{◌||◌}
 use Rattle.acl_perm.proofs.Bools.{and_false_right, or_false_right}
 use Rattle.acl_perm.specs.Bits.{has_bit, all_rights}
@@ -8,6 +8,14 @@ use Rattle.acl_perm.specs.Principal.{Principal}
 use Rattle.acl_nfs4.specs.Ace.{Ace}
 use Rattle.acl_eval.specs.ListMode.{is_granted_by, perm_of}
 use Rattle.acl_eval.specs.internal.Settled.{settled}
+
+-- what is settled before an ACE and after it, with the rest of the list, is what the whole list settles
+pub after_more : (test : Principal → Bool) (g l h m : ℕ) (a : Ace) (list rest whole : List Ace) → list ≡ a ∷ rest
+    → ((bit : ℕ) → settled test h m rest bit ≡ settled test g l (a ∷ rest) bit)
+    → ((bit : ℕ) → settled test g l list bit ≡ settled test 0 all_rights whole bit)
+    → (bit : ℕ) → settled test h m rest bit ≡ settled test 0 all_rights whole bit
+after_more test g l h m a list rest whole next step so_far bit =
+    step bit ∙ ap (λ (xs : List Ace). settled test g l xs bit) (sym next) ∙ so_far bit
 
 -- at the end of the list a bit is granted if and only if it is granted already
 pub at_the_end : (test : Principal → Bool) (granted left bit : ℕ)

@@ -17,13 +17,13 @@ use Rattle.acl_nfs4.specs.Ace.{Ace}
 use Rattle.acl_eval.specs.Bridge.{image, ace_of, allow_of, deny_of, decide_of, each, is_user_tag, is_group_tag, is_other_tag, bridge_list}
 use Rattle.acl_eval.specs.Grant.{is_allow}
 use Rattle.acl_eval.proofs.Runs.{run, run-append}
-use Rattle.acl_eval.proofs.Images.{Stands, complement}
+use Rattle.acl_eval.proofs.Images.{Belongs, complement}
 use Rattle.acl_eval.proofs.BridgeNames.{ace_with, concerns}
 
 -- ---- one entry
 
 -- the ACE of a tag decides a bit if it has the permission and matches the requester
-run_ace : (k : Kind) (l : Tag) (p : ℕ) (s : Situation) (j b : ℕ) (r : Bool) → Stands j b → p < 8
+run_ace : (k : Kind) (l : Tag) (p : ℕ) (s : Situation) (j b : ℕ) (r : Bool) → Belongs j b → p < 8
     → run (ace_of k l p) s b r ≡ cond (has_bit p j && concerns s l) (is_allow k) r
 unfolding ace_of
 run_ace k l p s j b r st lt =
@@ -34,6 +34,7 @@ run_ace k l p s j b r st lt =
       | false ↦ λ e. ap (λ (h : Bool). cond (h && concerns s l) (is_allow k) r) (st.same p lt)
     ] refl
 
+-- if an entry matches, its answer is whether it has the permission; otherwise the rest answers
 decided : (v m r : Bool) → cond (v && m) true (cond (not v && m) false r) ≡ cond m v r
 decided true true r = refl
 decided true false r = refl
@@ -48,19 +49,19 @@ effective_lt E e lt = elim (is_masked e.0) as (λ t. cond t (bit_and e.1 (unwrap
 ]
 
 -- what an entry allows decides a bit if the entry has the permission
-run_allow : (E : Entries) (e : Tag × ℕ) (s : Situation) (j b : ℕ) (r : Bool) → Stands j b → e.1 < 8
+run_allow : (E : Entries) (e : Tag × ℕ) (s : Situation) (j b : ℕ) (r : Bool) → Belongs j b → e.1 < 8
     → run (allow_of E e) s b r ≡ cond (has_bit (effective_of E e) j && concerns s e.0) true r
 run_allow E e s j b r st lt = run_ace Allow e.0 (effective_of E e) s j b r st (effective_lt E e lt)
 
 -- what an entry denies decides a bit if the entry does not have the permission
-run_deny : (E : Entries) (e : Tag × ℕ) (s : Situation) (j b : ℕ) (r : Bool) → Stands j b → j < 3 → e.1 < 8
+run_deny : (E : Entries) (e : Tag × ℕ) (s : Situation) (j b : ℕ) (r : Bool) → Belongs j b → j < 3 → e.1 < 8
     → run (deny_of E e) s b r ≡ cond (not (has_bit (effective_of E e) j) && concerns s e.0) false r
 run_deny E e s j b r st js lt =
     run_ace Deny e.0 (7 - effective_of E e) s j b r st (omega arith)
     ∙ ap (λ (h : Bool). cond (h && concerns s e.0) false r) (complement j (effective_of E e) js (effective_lt E e lt))
 
--- and both together always decide, if they match the requester
-run_decide : (E : Entries) (e : Tag × ℕ) (s : Situation) (j b : ℕ) (r : Bool) → Stands j b → j < 3 → e.1 < 8
+-- what an entry allows and denies together decides every bit, if the entry matches the requester
+run_decide : (E : Entries) (e : Tag × ℕ) (s : Situation) (j b : ℕ) (r : Bool) → Belongs j b → j < 3 → e.1 < 8
     → run (decide_of E e) s b r ≡ cond (concerns s e.0) (has_bit (effective_of E e) j) r
 run_decide E e s j b r st js lt =
     run-append (allow_of E e) (deny_of E e) s b r
@@ -99,23 +100,23 @@ first_const m c (x ∷ xs) r =
     elim (m x) as (λ t. cond t c (first m (λ _. c) xs r)
     ≡ cond (t || list_any m xs) c r) [ true ↦ refl | false ↦ first_const m c xs r ]
 
--- the four parts of the list
+-- the effective permissions of the entry have the bit
 abbrev pub bit_of : Entries → ℕ → Tag × ℕ → Bool
 bit_of E j e = has_bit (effective_of E e) j
 
--- an entry of a user matches
+-- the entry is of a user and matches
 abbrev pub users_test : Situation → Tag × ℕ → Bool
 users_test s e = is_user_tag e.0 && concerns s e.0
 
--- an entry of a group matches and allows
+-- the entry is of a group, allows the bit and matches
 abbrev pub allows_test : Entries → Situation → ℕ → Tag × ℕ → Bool
 allows_test E s j e = is_group_tag e.0 && (bit_of E j e && concerns s e.0)
 
--- an entry of a group matches and denies
+-- the entry is of a group, denies the bit and matches
 abbrev pub denies_test : Entries → Situation → ℕ → Tag × ℕ → Bool
 denies_test E s j e = is_group_tag e.0 && (not (bit_of E j e) && concerns s e.0)
 
--- OTHER matches and allows
+-- the entry is of OTHER, allows the bit and matches
 abbrev pub others_test : Entries → Situation → ℕ → Tag × ℕ → Bool
 others_test E s j e = is_other_tag e.0 && (bit_of E j e && concerns s e.0)
 
@@ -131,7 +132,7 @@ everywhere P Q f [] h = tt
 everywhere P Q f (x ∷ xs) h = (f x h.0, everywhere P Q f xs h.1)
 
 -- the first entry of a user that matches decides for the list, and otherwise the group class and OTHER
-pub run_bridge : (E : Entries) (s : Situation) (j b : ℕ) → Stands j b → j < 3 → AllByRecursion IsEntry (fin.entries E)
+pub run_bridge : (E : Entries) (s : Situation) (j b : ℕ) → Belongs j b → j < 3 → AllByRecursion IsEntry (fin.entries E)
     → run (bridge_list E) s b false ≡ first (users_test s) (bit_of E j) (fin.entries E)
     (class_answer E s j (fin.entries E))
 unfolding bridge_list

@@ -9,17 +9,19 @@ use Rattle.acl_eval.specs.declared.inherit.ChildKind.TheVariants.{File, Director
 use Rattle.acl_eval.specs.Inheritance.{child_flags, ends, goes_on, waiting_flags, file_inherit, directory_inherit, no_propagate_inherit, inherited, kept_at_the_end, kept_on_the_way, inherit_only_alone}
 use Rattle.acl_eval.specs.InheritanceLaws.{IsByFlag, successful_access, failed_access}
 
--- a flag that is kept, and one that is cleared
+-- a flag of the set that is kept is as it was
 kept : (n c k : ℕ) → has_bit c k ≡ true → has_bit (bit_and n c) k ≡ has_bit n k
 kept n c k e = has_bit-and n c k ∙ ap (λ (b : Bool). has_bit n k && b) e ∙ and_true_right (has_bit n k)
 
+-- a flag outside the set that is kept is clear
 cleared : (n c k : ℕ) → has_bit c k ≡ false → has_bit (bit_and n c) k ≡ false
 cleared n c k e = has_bit-and n c k ∙ ap (λ (b : Bool). has_bit n k && b) e ∙ and_false_right (has_bit n k)
 
--- a flag of a union with one flag, and that flag itself
-beside : (n c k : ℕ) → has_bit c k ≡ false → has_bit (bit_or n c) k ≡ has_bit n k
-beside n c k e = has_bit-or n c k ∙ ap (λ (b : Bool). has_bit n k || b) e ∙ or_false_right (has_bit n k)
+-- a flag that is not added is as it was
+with_bits : (n c k : ℕ) → has_bit c k ≡ false → has_bit (bit_or n c) k ≡ has_bit n k
+with_bits n c k e = has_bit-or n c k ∙ ap (λ (b : Bool). has_bit n k || b) e ∙ or_false_right (has_bit n k)
 
+-- a flag that is added is set
 set : (n c k : ℕ) → has_bit c k ≡ true → has_bit (bit_or n c) k ≡ true
 set n c k e = has_bit-or n c k ∙ ap (λ (b : Bool). has_bit n k || b) e ∙ or_true_right (has_bit n k)
 
@@ -41,26 +43,29 @@ by_part on flags c file directory ends waiting_flags success failed group not_in
   not_inherited = cleared flags c inherited not_inherited;
 }
 
+-- an ACE that the child does not pass on has the flags of the law
 ended : (flags : ℕ) → IsByFlag false flags (ends flags)
 ended flags =
     let gone = λ (k : ℕ) (e : has_bit kept_at_the_end k ≡ false). cleared flags kept_at_the_end k e in
     by_part false flags kept_at_the_end (gone file_inherit refl) (gone directory_inherit refl)
     (gone no_propagate_inherit refl) (gone inherit_only refl) refl refl refl refl
 
-handed_on : (flags : ℕ) → has_bit flags no_propagate_inherit ≡ false → has_bit flags directory_inherit ≡ true
+-- an ACE that takes part in the child and is passed on has the flags of the law
+passed_on : (flags : ℕ) → has_bit flags no_propagate_inherit ≡ false → has_bit flags directory_inherit ≡ true
     → IsByFlag true flags (goes_on flags)
-handed_on flags n d =
+passed_on flags n d =
     let stays = λ (k : ℕ) (e : has_bit kept_on_the_way k ≡ true). kept flags kept_on_the_way k e in
     by_part true flags kept_on_the_way (stays file_inherit refl) (stays directory_inherit refl)
     (stays no_propagate_inherit refl ∙ n)
     (cleared flags kept_on_the_way inherit_only refl ∙ sym (ap not d)) refl refl refl refl
 
+-- an ACE that takes no part in the child and is passed on has the flags of the law
 waiting : (flags : ℕ) → has_bit flags no_propagate_inherit ≡ false → has_bit flags directory_inherit ≡ false
     → IsByFlag true flags (waiting_flags flags)
 waiting flags n d =
     let on = goes_on flags in
     let stays = λ (k : ℕ) (e : has_bit inherit_only_alone k ≡ false) (h : has_bit kept_on_the_way k ≡ true).
-    beside on inherit_only_alone k e ∙ kept flags kept_on_the_way k h in
+    with_bits on inherit_only_alone k e ∙ kept flags kept_on_the_way k h in
     record {
       file = stays file_inherit refl refl;
       directory = stays directory_inherit refl refl;
@@ -69,10 +74,10 @@ waiting flags n d =
       success = stays successful_access refl refl;
       failed = stays failed_access refl refl;
       group = stays identifier_group refl refl;
-      not_inherited = beside on inherit_only_alone inherited refl ∙ cleared flags kept_on_the_way inherited refl;
+      not_inherited = with_bits on inherit_only_alone inherited refl ∙ cleared flags kept_on_the_way inherited refl;
     }
 
--- the flags of an ACE in a file
+-- an ACE in a new file has the flags of the law, by which it is not passed on
 pub files_by_flag : (flags f : ℕ) → child_flags File flags ≡ Some f → IsByFlag false flags f
 files_by_flag flags f e = by (has_bit flags file_inherit) refl e
   where
@@ -80,7 +85,7 @@ files_by_flag flags f e = by (has_bit flags file_inherit) refl e
     by true pe e = subst (IsByFlag false flags) (same_Some _ _ (sym (rw pe refl) ∙ e)) (ended flags)
     by false pe e = let none : child_flags File flags ≡ None = rw pe refl in absurd cc
 
--- the flags of an ACE in a directory
+-- an ACE in a new directory has the flags of the law, by which it is passed on unless it has NO_PROPAGATE_INHERIT
 pub directories_by_flag : (flags f : ℕ) → child_flags Directory flags ≡ Some f
     → IsByFlag (not (has_bit flags no_propagate_inherit)) flags f
 directories_by_flag flags f e =
@@ -95,7 +100,7 @@ directories_by_flag flags f e =
         (subst (IsByFlag false flags) (same_Some _ _ (sym (rw (de, ne) refl) ∙ e)) (ended flags))
     by p true false pe de ne e =
         subst (λ (on : Bool). IsByFlag on flags f) (sym (ap not ne))
-        (subst (IsByFlag true flags) (same_Some _ _ (sym (rw (de, ne) refl) ∙ e)) (handed_on flags ne de))
+        (subst (IsByFlag true flags) (same_Some _ _ (sym (rw (de, ne) refl) ∙ e)) (passed_on flags ne de))
     by p false true pe de ne e =
         let none : child_flags Directory flags ≡ None = rw (de, ne) refl in absurd cc
     by true false false pe de ne e =

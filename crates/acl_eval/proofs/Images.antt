@@ -8,63 +8,65 @@ use Rattle.acl_perm.proofs.Sets.{has_bit-above}
 use Rattle.acl_eval.specs.Bridge.{image}
 
 -- the values of a function for the numbers below n
-abbrev pub answers : {A : Type 0} → ℕ → (ℕ → A) → List A
-answers zero f = []
-answers (suc n) f = f 0 ∷ answers n (λ k. f (suc k))
+abbrev pub values_below : {A : Type 0} → ℕ → (ℕ → A) → List A
+values_below zero f = []
+values_below (suc n) f = f 0 ∷ values_below n (λ k. f (suc k))
 
 -- two functions with the same values below n agree there
-pub same_answers : {A : Type 0} (n : ℕ) (f g : ℕ → A) → answers n f ≡ answers n g → (k : ℕ) → k < n → f k ≡ g k
-same_answers zero f g e k lt = absurd (omega (arith, lt))
-same_answers (suc n) f g e zero lt = cc
-same_answers (suc n) f g e (suc k) lt =
-    let others : answers n (λ k. f (suc k)) ≡ answers n (λ k. g (suc k)) = cc in
-    same_answers n (λ k. f (suc k)) (λ k. g (suc k)) others k (omega (arith, lt))
+pub same_below : {A : Type 0} (n : ℕ) (f g : ℕ → A) → values_below n f ≡ values_below n g → (k : ℕ) → k < n → f k ≡ g k
+same_below zero f g e k lt = absurd (omega (arith, lt))
+same_below (suc n) f g e zero lt = cc
+same_below (suc n) f g e (suc k) lt =
+    let others : values_below n (λ k. f (suc k)) ≡ values_below n (λ k. g (suc k)) = cc in
+    same_below n (λ k. f (suc k)) (λ k. g (suc k)) others k (omega (arith, lt))
 
 -- the right belongs to the permission: an image has the right if and only if its set has the permission
-pub record Stands (j b : ℕ) : Type 0 where
+pub record Belongs (j b : ℕ) : Type 0 where
   pub same : (p : ℕ) → p < 8 → has_bit (image p) b ≡ has_bit p j
 
 -- READ_DATA belongs to read, WRITE_DATA and APPEND_DATA to write, and EXECUTE to execute
 pub record Rights : Type 0 where
-  pub read_data : Stands 2 0
-  pub write_data : Stands 1 1
-  pub append_data : Stands 1 2
-  pub execute : Stands 0 5
+  pub read_data : Belongs 2 0
+  pub write_data : Belongs 1 1
+  pub append_data : Belongs 1 2
+  pub execute : Belongs 0 5
 
 -- each of these rights belongs to its permission
 pub rights : Rights
 unfolding image
 rights = record {
-  read_data = record { same = same_answers 8 (λ p. has_bit (image p) 0) (λ p. has_bit p 2) refl };
-  write_data = record { same = same_answers 8 (λ p. has_bit (image p) 1) (λ p. has_bit p 1) refl };
-  append_data = record { same = same_answers 8 (λ p. has_bit (image p) 2) (λ p. has_bit p 1) refl };
-  execute = record { same = same_answers 8 (λ p. has_bit (image p) 5) (λ p. has_bit p 0) refl };
+  read_data = record { same = same_below 8 (λ p. has_bit (image p) 0) (λ p. has_bit p 2) refl };
+  write_data = record { same = same_below 8 (λ p. has_bit (image p) 1) (λ p. has_bit p 1) refl };
+  append_data = record { same = same_below 8 (λ p. has_bit (image p) 2) (λ p. has_bit p 1) refl };
+  execute = record { same = same_below 8 (λ p. has_bit (image p) 5) (λ p. has_bit p 0) refl };
 }
 
+-- a right that the rights of no permissions have is not among those of a set of permissions
 none_at : (b : ℕ) → ((p : ℕ) → p < 8 → has_bit (image p) b ≡ false) → (want : ℕ) → want < 8 → has_bit (image want) b
     ≡ true → ⊥
 none_at b lacks want lt h = true≢false (sym h ∙ lacks want lt)
 
+-- the number of the rights of permissions is below 64
 image_lt : (p : ℕ) → p < 8 → image p < 64
 unfolding image
-image_lt p lt = ltb-true _ _ (same_answers 8 (λ p. ltb (image p) 64) (λ p. true) refl p lt)
+image_lt p lt = ltb-true _ _ (same_below 8 (λ p. ltb (image p) 64) (λ p. true) refl p lt)
 
 -- an image is a set of rights
 pub image_mask : (p : ℕ) → p < 8 → IsMask (image p)
 unfolding image
-image_mask = same_answers 8 (λ p. bit_and (image p) all_rights) image refl
+image_mask = same_below 8 (λ p. bit_and (image p) all_rights) image refl
 
 -- the image of some permissions is not empty
 pub image_some : (p : ℕ) → p < 8 → eqb p 0 ≡ false → 0 < count_ones (image p)
 unfolding image lib.Count.ones
 image_some p lt some = ltb-true _ _
     (sym (ap (λ (b : Bool). b || ltb 0 (count_ones (image p))) some)
-    ∙ same_answers 8 (λ p. eqb p 0 || ltb 0 (count_ones (image p))) (λ p. true) refl p lt)
+    ∙ same_below 8 (λ p. eqb p 0 || ltb 0 (count_ones (image p))) (λ p. true) refl p lt)
 
 -- what is allowed and what is denied have four bits together
 pub four_bits : (p : ℕ) → p < 8 → count_ones (image p) + count_ones (image (7 - p)) ≡ 4
 unfolding image lib.Count.ones
-four_bits = same_answers 8 (λ p. count_ones (image p) + count_ones (image (7 - p))) (λ p. 4) refl
+four_bits = same_below 8 (λ p. count_ones (image p) + count_ones (image (7 - p))) (λ p. 4) refl
 
 -- the image of no permissions is empty
 pub image_none : count_ones (image 0) ≡ 0
@@ -75,7 +77,7 @@ image_none = refl
 pub image_parts : (p : ℕ) → p < 8 → bit_or (bit_or (cond (eqb (bit_and p 4) 4) 1 0) (cond (eqb (bit_and p 2) 2) 6 0))
     (cond (eqb (bit_and p 1) 1) 32 0) ≡ image p
 unfolding image
-image_parts = same_answers 8 (λ p. bit_or (bit_or (cond (eqb (bit_and p 4) 4) 1 0) (cond (eqb (bit_and p 2) 2) 6 0))
+image_parts = same_below 8 (λ p. bit_or (bit_or (cond (eqb (bit_and p 4) 4) 1 0) (cond (eqb (bit_and p 2) 2) 6 0))
     (cond (eqb (bit_and p 1) 1) 32 0)) image refl
 
 -- no image has one of the other rights of the first byte
@@ -85,24 +87,26 @@ record Others : Type 0 where
   sixth : (p : ℕ) → p < 8 → has_bit (image p) 6 ≡ false
   seventh : (p : ℕ) → p < 8 → has_bit (image p) 7 ≡ false
 
+-- the rights of permissions have none of the other four rights of the first byte
 others : Others
 unfolding image
 others = record {
-  third = same_answers 8 (λ p. has_bit (image p) 3) (λ p. false) refl;
-  fourth = same_answers 8 (λ p. has_bit (image p) 4) (λ p. false) refl;
-  sixth = same_answers 8 (λ p. has_bit (image p) 6) (λ p. false) refl;
-  seventh = same_answers 8 (λ p. has_bit (image p) 7) (λ p. false) refl;
+  third = same_below 8 (λ p. has_bit (image p) 3) (λ p. false) refl;
+  fourth = same_below 8 (λ p. has_bit (image p) 4) (λ p. false) refl;
+  sixth = same_below 8 (λ p. has_bit (image p) 6) (λ p. false) refl;
+  seventh = same_below 8 (λ p. has_bit (image p) 7) (λ p. false) refl;
 }
 
 -- the permission to which a right of an image belongs
 pub record Permits (want b : ℕ) : Type 0 where
   pub j : ℕ
   pub small : j < 3
-  pub stands : Stands j b
+  pub belongs : Belongs j b
   pub has : has_bit want j ≡ true
 
-permits : (want b j : ℕ) → want < 8 → j < 3 → Stands j b → has_bit (image want) b ≡ true → Permits want b
-permits want b j lt small st h = record { j = j; small = small; stands = st; has = sym (st.same want lt) ∙ h }
+-- if a right belongs to a permission, and the rights of a set have it, the set has the permission
+permits : (want b j : ℕ) → want < 8 → j < 3 → Belongs j b → has_bit (image want) b ≡ true → Permits want b
+permits want b j lt small st h = record { j = j; small = small; belongs = st; has = sym (st.same want lt) ∙ h }
 
 -- each right of an image belongs to a permission
 pub image_bit : (want b : ℕ) → want < 8 → has_bit (image want) b ≡ true → Permits want b
@@ -120,7 +124,7 @@ image_bit want (suc (suc (suc (suc (suc (suc (suc (suc b)))))))) lt h =
 
 -- what is not allowed is denied
 pub complement : (j p : ℕ) → j < 3 → p < 8 → has_bit (7 - p) j ≡ not (has_bit p j)
-complement zero p lt = same_answers 8 (λ p. has_bit (7 - p) 0) (λ p. not (has_bit p 0)) refl p
-complement (suc zero) p lt = same_answers 8 (λ p. has_bit (7 - p) 1) (λ p. not (has_bit p 1)) refl p
-complement (suc (suc zero)) p lt = same_answers 8 (λ p. has_bit (7 - p) 2) (λ p. not (has_bit p 2)) refl p
+complement zero p lt = same_below 8 (λ p. has_bit (7 - p) 0) (λ p. not (has_bit p 0)) refl p
+complement (suc zero) p lt = same_below 8 (λ p. has_bit (7 - p) 1) (λ p. not (has_bit p 1)) refl p
+complement (suc (suc zero)) p lt = same_below 8 (λ p. has_bit (7 - p) 2) (λ p. not (has_bit p 2)) refl p
 complement (suc (suc (suc j))) p lt = absurd (omega (arith, lt))

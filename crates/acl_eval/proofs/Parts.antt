@@ -52,11 +52,13 @@ first_fits old a b ok =
 
 -- ---- one entry after the other
 
+-- the ACEs of two lists of entries together are those of the first and then those of the second
 each-append : (which : Tag → Bool) (f : Tag × ℕ → List Ace) (xs ys : List (Tag × ℕ)) → each which f (xs ++ ys)
     ≡ each which f xs ++ each which f ys
 each-append which f xs ys = ap (flat_map f) (filter-append (λ (e : Tag × ℕ). which e.0) xs ys)
     ∙ flat_map-append f (filter (λ (e : Tag × ℕ). which e.0) xs) (filter (λ (e : Tag × ℕ). which e.0) ys)
 
+-- a part of two lists of entries together is that of the first and then that of the second
 part-append : (E : Entries) (part : Part) (xs ys : List (Tag × ℕ)) → bridged_part E part (xs ++ ys)
     ≡ bridged_part E part xs ++ bridged_part E part ys
 part-append E Users xs ys = each-append is_user_tag (decide_of E) xs ys
@@ -64,6 +66,7 @@ part-append E GroupAllows xs ys = each-append is_group_tag (allow_of E) xs ys
 part-append E GroupDenies xs ys = each-append is_group_tag (deny_of E) xs ys
 part-append E Others xs ys = each-append is_other_tag (allow_of E) xs ys
 
+-- a part of one more entry is the part so far and the ACEs of this entry
 part_more : (E : Entries) (part : Part) (es : List Entry) (i : ℕ) (e : Entry) → i < length es → e ≡ get_or es i e
     → bridged_part E part (pairs (take (i + 1) es))
     ≡ bridged_part E part (pairs (take i es)) ++ bridged_part E part (pair_of e ∷ [])
@@ -86,7 +89,8 @@ part_kept E part es i e old mid next lt read so_far step =
 -- if the list is accepted with the whole part, it is accepted with the ACEs of one more entry
 pub entry_fits : (E : Entries) (part : Part) (es : List Entry) (i : ℕ) (e : Entry) (old mid : List Ace)
     → i < length es → e ≡ get_or es i e → pairs es ≡ fin.entries E
-    → mid ≡ old ++ bridged_part E part (pairs (take i es)) → IsAccepted full (old ++ bridged_part E part (fin.entries E))
+    → mid ≡ old ++ bridged_part E part (pairs (take i es))
+    → IsAccepted full (old ++ bridged_part E part (fin.entries E))
     → IsAccepted full (mid ++ bridged_part E part (pair_of e ∷ []))
 entry_fits E part es i e old mid lt read is so_far ok =
     let front : List Ace = bridged_part E part (pairs (take (i + 1) es)) in
@@ -102,6 +106,7 @@ entry_fits E part es i e old mid lt read is so_far ok =
 
 -- ---- one part after the other
 
+-- a part of the list, from all entries
 abbrev all_of : Entries → Part → List Ace
 all_of E part = bridged_part E part (fin.entries E)
 
@@ -122,6 +127,7 @@ record Fronts (E : Entries) : Type 0 where
   pub denies : IsAccepted full (all_of E Users ++ all_of E GroupAllows ++ all_of E GroupDenies)
   pub others : IsAccepted full (all_of E Users ++ all_of E GroupAllows ++ all_of E GroupDenies ++ all_of E Others)
 
+-- if the list is accepted, it is accepted after each of its parts
 fronts : (E : Entries) → IsAccepted full (bridge_list E) → Fronts E
 unfolding bridge_list
 fronts E ok =
@@ -132,20 +138,20 @@ fronts E ok =
     let allows = front_accepted full (U ++ A) D denies in
     record { users = front_accepted full U A allows; allows = allows; denies = denies; others = ok }
 
--- the list is accepted with the first part
+-- if the whole list is accepted, its first part is
 pub users_fit : (E : Entries) (a : List Ace) → a ≡ [] → IsAccepted full (bridge_list E)
     → IsAccepted full (a ++ all_of E Users)
 users_fit E a ae ok =
     subst (λ (l : List Ace). IsAccepted full (l ++ all_of E Users)) (sym ae) (fronts E ok).users
 
--- and with the second
+-- if the whole list is accepted, its first two parts are
 pub allows_fit : (E : Entries) (a b : List Ace) → a ≡ [] → b ≡ a ++ all_of E Users → IsAccepted full (bridge_list E)
     → IsAccepted full (b ++ all_of E GroupAllows)
 allows_fit E a b ae be ok =
     subst (λ (l : List Ace). IsAccepted full (l ++ all_of E GroupAllows))
     (sym (be ∙ ap (λ (l : List Ace). l ++ all_of E Users) ae)) (fronts E ok).allows
 
--- and with the third
+-- if the whole list is accepted, its first three parts are
 pub denies_fit : (E : Entries) (a b c : List Ace) → a ≡ [] → b ≡ a ++ all_of E Users → c ≡ b ++ all_of E GroupAllows
     → IsAccepted full (bridge_list E) → IsAccepted full (c ++ all_of E GroupDenies)
 denies_fit E a b c ae be ce ok =
@@ -153,7 +159,7 @@ denies_fit E a b c ae be ce ok =
     (sym (ce ∙ ap (λ (l : List Ace). l ++ all_of E GroupAllows) (be ∙ ap (λ (l : List Ace). l ++ all_of E Users) ae)))
     (fronts E ok).denies
 
--- and with the last
+-- if the whole list is accepted, its four parts together are
 pub others_fit : (E : Entries) (a b c d : List Ace) → a ≡ [] → b ≡ a ++ all_of E Users
     → c ≡ b ++ all_of E GroupAllows → d ≡ c ++ all_of E GroupDenies → IsAccepted full (bridge_list E)
     → IsAccepted full (d ++ all_of E Others)

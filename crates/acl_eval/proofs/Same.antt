@@ -1,9 +1,10 @@
 -- Lists that grant the same.
-use Rattle.std.proofs.Common.{◌≡◌, ℕ, ◌^◌, Bool, true, false, List, refl, sym, ap, subst, ◌∙◌, arith, inl, inr}
+use Rattle.std.proofs.Common.{◌≡◌, ℕ, ◌^◌, true, List, refl, sym, ap, subst, ◌∙◌, arith, inl, inr}
 use Rattle.std.proofs.lemmas.Bool.{cases_eq, eqb-true}
 use Rattle.std.proofs.lemmas.Nat.Bits.{bit_at-pow_same, bit_at-pow_other}
 use Rattle.std.specs.Prelude.{◌↔◌, IsTrue}
 use Rattle.std.specs.Int.{bit_at}
+use Rattle.acl_perm.proofs.Bools.{same_answers}
 use Rattle.acl_perm.specs.Bits.{has_bit, IsSubset}
 use Rattle.acl_perm.specs.Situation.{Situation, IsSituation}
 use Rattle.acl_perm.specs.declared.kind.Kind.{Kind}
@@ -24,21 +25,18 @@ equivalence rights = record {
       (λ g. more.0 (both.0 g), λ g. both.1 (more.1 g));
 }
 
-one_bit : (k : ℕ) → has_bit (2 ^ k) k ≡ true
+-- a power of two has its own bit
+pub one_bit : (k : ℕ) → has_bit (2 ^ k) k ≡ true
 one_bit k = rw (bit_at-pow_same k) refl
 
--- a power of two has one bit
+-- a power of two has no other bit than its own
 pub only_bit : (k i : ℕ) → has_bit (2 ^ k) i ≡ true → i ≡ k
 only_bit k i h = elim (cases_eq i k) [
   | inl e ↦ e
   | inr n ↦ absurd (let zero = bit_at-pow_other k i n in let one = eqb-true (bit_at (2 ^ k) i) 1 h in omega arith)
 ]
 
-same_truth : (x y : Bool) → (x ≡ true → y ≡ true) → (y ≡ true → x ≡ true) → x ≡ y
-same_truth true y f g = sym (f refl)
-same_truth false true f g = g refl
-same_truth false false f g = refl
-
+-- two kinds are the same if both are ALLOW or neither is
 same_kind : (x y : Kind) → is_allow x ≡ is_allow y → x ≡ y
 same_kind Deny Deny e = refl
 same_kind Allow Allow e = refl
@@ -63,7 +61,7 @@ by_bits rights list other = (
       let both = same s valid (2 ^ bit) inside in
       let here = grant_one list s bit in
       let there = grant_one other s bit in
-      same_truth _ _ (λ g. there.0 (both.0 (here.1 g))) (λ g. here.0 (both.1 (there.1 g))),
+      same_answers _ _ (λ g. there.0 (both.0 (here.1 g))) (λ g. here.0 (both.1 (there.1 g))),
   λ alike s valid request within. (
     λ g bit h. sym (alike s valid bit (within bit h)) ∙ g bit h,
     λ g bit h. alike s valid bit (within bit h) ∙ g bit h,

@@ -18,6 +18,7 @@ use Rattle.acl_eval.specs.Unnamed.{is_unnamed, unnamed}
 abbrev PassesNoName : (Principal → Bool) → Type 0
 PassesNoName test = (p : Principal) → is_unnamed p ≡ false → test p ≡ false
 
+-- the first key that passes such a test has the same kind without the ACEs of names
 same_kind : (test : Principal → Bool) → PassesNoName test → (list : List Ace) (bit : ℕ)
     → first_kind test (column (unnamed list) bit) ≡ first_kind test (column list bit)
 same_kind test skips [] bit = refl
@@ -36,26 +37,31 @@ same_kind test skips (a ∷ list) bit =
     by rest false true false m p q r s = rw (p, q, r) rest
     by rest false true true m p q r s = let n = skips (principal_of a) p in rw (p, q, r, n) rest
 
+-- what the ACEs that pass such a test grant is the same without the ACEs of names
 same_part : (test : Principal → Bool) → PassesNoName test → (list : List Ace)
     → perm_of (is_granted_by test (unnamed list)) ≡ perm_of (is_granted_by test list)
 same_part test skips list =
     let at = λ (bit : ℕ). ap (λ (kind : Option Kind). is_allow (unwrap_or kind Deny)) (same_kind test skips list bit) in
     same_perm (is_granted_by test (unnamed list)) (is_granted_by test list) (at 0) (at 1) (at 2) (at 5)
 
+-- if neither of two tests holds, the first does not and the second does not
 neither : (a b : Bool) → (a || b) ≡ false → (a ≡ false) × (b ≡ false)
 neither false b h = (refl, h)
 neither true b h = absurd cc
 
+-- ACEs of names do not decide for the owner
 owner_no_name : PassesNoName is_for_owner
 owner_no_name p e = (neither (is_for_owner p) (is_for_group p) e).0
 
+-- ACEs of names do not decide for the group
 group_no_name : PassesNoName is_for_group
 group_no_name p e = (neither (is_for_owner p) (is_for_group p) e).1
 
+-- ACEs of names do not decide for others
 others_no_name : PassesNoName is_for_others
 others_no_name p e = (neither (principal_rank p == 0) (is_everyone p) (owner_no_name p e)).1
 
--- the mode is the same
+-- the mode of a list is the same without the ACEs of names
 pub same_mode : (list : List Ace) → mode_of_list (unnamed list) ≡ mode_of_list list
 same_mode list =
     three _ _ _ _ _ _ (same_part is_for_owner owner_no_name list) (same_part is_for_group group_no_name list)

@@ -5,7 +5,7 @@ use Rattle.std.specs.List.{list_any}
 use Rattle.std.specs.Int.Bits.{and_zero_r}
 use Rattle.std.specs.Ordering.{eq_by_cmp}
 use Rattle.std.specs.FinMap as fin
-use Rattle.acl_perm.proofs.Bools.{or_true_right}
+use Rattle.acl_perm.proofs.Bools.{and_swap, or_true_right}
 use Rattle.acl_posix.specs.Tag.{Tag, user_obj, user, group_obj, group, mask, other, is_named, tag_cmp}
 use Rattle.acl_posix.specs.Entries.{Entries, tags}
 use Rattle.acl_posix.specs.Valid.{missing, IsValid}
@@ -54,6 +54,7 @@ complete E v =
     parts true true true true h = absurd cc
     parts true true true false h = (refl, refl, refl, refl)
 
+-- a list of entries in which a USER or GROUP is found has a named entry
 named_there : (l : Tag) (ps : List (Tag × ℕ)) → is_named l ≡ true → is_some (fin.find tag_cmp l ps) ≡ true
     → list_any is_named (tags ps) ≡ true
 named_there l [] named h = absurd cc
@@ -99,12 +100,14 @@ pub there : (o : Option ℕ) (d want : ℕ) → is_some o ≡ true → contains 
 there None d want h = absurd cc
 there (Some n) d want h = refl
 
+-- a condition on each of two alternatives can be tested once
 spread : (x c y : Bool) → (((x && c) || false) || (y && c)) ≡ ((x || y) && c)
 spread true true y = refl
 spread true false true = refl
 spread true false false = refl
 spread false c y = refl
 
+-- if no GROUP contains a request, a group of the requester contains it only as the owning group
 only_owning : (E : Entries) (og want : ℕ) (gs : List ℕ) → ((id : ℕ) → entry_contains E (group id) want ≡ false)
     → list_any (group_contains E og want) gs ≡ (is_member og gs && entry_contains E group_obj want)
 only_owning E og want [] none = refl
@@ -122,10 +125,12 @@ owning_alone E og want gs c no_mask =
     ∙ only_owning E og want gs (λ id. ap (λ (o : Option ℕ). is_contained o want)
     (none_named E (group id) c refl no_mask))
 
+-- an entry that is there contains the empty request
 contains_none : (o : Option ℕ) → is_some o ≡ true → is_contained o 0 ≡ true
 contains_none None h = absurd cc
 contains_none (Some n) h = rw (and_zero_r n) refl
 
+-- if a match with the empty request holds, a match with a request is the test of this request
 and_same : (m a e c : Bool) → (a ≡ (m && true)) → e ≡ (m && c) → a ≡ true → (e && true) ≡ c
 and_same true a true true f g h = refl
 and_same true a true false f g h = absurd cc
@@ -139,16 +144,10 @@ class_plain : (E : Entries) (og want : ℕ) (gs : List ℕ) → Complete E → c
     → (any_contains E og gs want && mask_contains E want) ≡ class_contains E og gs want
 class_plain E og want gs c whole matched = by (fin.get E mask) refl
   where
-    swap : (a b : Bool) → (a && b) ≡ (b && a)
-    swap true true = refl
-    swap true false = refl
-    swap false true = refl
-    swap false false = refl
-
     by : (o : Option ℕ) → fin.get E mask ≡ o
         → (any_contains E og gs want && contains (unwrap_or o 7) want)
         ≡ cond (is_some o) (is_contained o want && any_contains E og gs want) (entry_contains E group_obj want)
-    by (Some m) e = swap (any_contains E og gs want) (contains m want)
+    by (Some m) e = and_swap (any_contains E og gs want) (contains m want)
     by None e =
         let no_mask : is_some (fin.get E mask) ≡ false = ap (λ (o : Option ℕ). is_some o) e in
         let matches_is : any_matches E og gs ≡ (is_member og gs && true) = sym (contains_empty E og gs)
@@ -158,6 +157,7 @@ class_plain E og want gs c whole matched = by (fin.get E mask) refl
         ∙ and_same (is_member og gs) (any_matches E og gs) (any_contains E og gs want)
         (entry_contains E group_obj want) matches_is (owning_alone E og want gs c no_mask) matched
 
+-- two choices by one test are the same if their two answers are, the first pair where the test holds
 choose : (t a b c d : Bool) → (t ≡ true → a ≡ b) → c ≡ d → cond t a c ≡ cond t b d
 choose true a b c d f e = f refl
 choose false a b c d f e = e

@@ -33,15 +33,15 @@ bridged_who (group id) = decimal id
 bridged_who mask = []
 bridged_who other = everyone_name
 
--- USER_OBJ and USER
+-- the tag is USER_OBJ or USER
 abbrev pub is_user_tag : Tag → Bool
 is_user_tag tag = rank tag == 0 || rank tag == 1
 
--- GROUP_OBJ and GROUP
+-- the tag is GROUP_OBJ or GROUP
 abbrev pub is_group_tag : Tag → Bool
 is_group_tag tag = rank tag == 2 || rank tag == 3
 
--- OTHER
+-- the tag is OTHER
 abbrev pub is_other_tag : Tag → Bool
 is_other_tag tag = rank tag == 5
 

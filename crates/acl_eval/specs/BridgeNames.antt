@@ -15,8 +15,8 @@ abbrev pub NamesDiffer : Type 0
 NamesDiffer = (m n : ℕ) → IsId m → IsId n → decimal m ≡ decimal n → m ≡ n
 
 -- each name is valid as a who, and none is a special identifier
-abbrev pub NamesStand : Type 0
-NamesStand = (n : ℕ) → IsId n → IsWho (decimal n) × IsFalse (is_special (decimal n))
+abbrev pub NamesAreValid : Type 0
+NamesAreValid = (n : ℕ) → IsId n → IsWho (decimal n) × IsFalse (is_special (decimal n))
 
 -- only the limits of a list refuse the list of a valid ACL
 abbrev pub OnlyLimitsRefuse : Type 0

@@ -6,13 +6,13 @@ use Rattle.acl_perm.specs.Bits.{has_bit}
 use Rattle.acl_perm.specs.Situation.{Situation}
 use Rattle.acl_perm.specs.declared.kind.Kind.{Kind}
 use Rattle.acl_nfs4.specs.Ace.{Ace}
-use Rattle.acl_eval.specs.Scan.{speaks}
+use Rattle.acl_eval.specs.Scan.{applies}
 use Rattle.acl_eval.specs.declared.deciding.Decision.{Decision}
 use Rattle.acl_eval.specs.declared.deciding_all.Decisions.{Decisions}
 
 -- the ACE has the bit, takes part and matches the requester
 abbrev pub decides : Situation → ℕ → Ace → Bool
-decides s bit a = has_bit a.mask bit && speaks s a
+decides s bit a = has_bit a.mask bit && applies s a
 
 -- the place of the first ACE that decides, if there is one
 abbrev pub deciding_place : List Ace → Situation → ℕ → Option ℕ

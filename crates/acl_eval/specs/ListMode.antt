@@ -12,11 +12,11 @@ use Rattle.acl_eval.specs.Permissions.{read_data, write_data, append_data, execu
 abbrev pub is_for_owner : Principal → Bool
 is_for_owner p = principal_rank p == principal_rank owner || is_everyone p
 
--- those of `GROUP@` and of `EVERYONE@` for the group
+-- ACEs of `GROUP@` and of `EVERYONE@` decide for the group
 abbrev pub is_for_group : Principal → Bool
 is_for_group p = principal_rank p == principal_rank group || is_everyone p
 
--- those of `EVERYONE@` alone for others
+-- ACEs of `EVERYONE@` alone decide for others
 abbrev pub is_for_others : Principal → Bool
 is_for_others p = is_everyone p
 

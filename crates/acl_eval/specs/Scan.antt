@@ -7,8 +7,8 @@ use Rattle.acl_eval.specs.Column.{takes_part}
 use Rattle.acl_eval.specs.Grant.{is_allow}
 
 -- the ACE takes part, and its who matches the requester
-abbrev pub speaks : Situation → Ace → Bool
-speaks s a = takes_part a && matches s (principal_of a)
+abbrev pub applies : Situation → Ace → Bool
+applies s a = takes_part a && matches s (principal_of a)
 
 -- the bits of one set that another does not have
 abbrev pub without : ℕ → ℕ → ℕ
@@ -19,6 +19,6 @@ without bits others = bit_xor bits (bit_and bits others)
 abbrev pub scan : List Ace → Situation → ℕ → Bool
 scan [] s left = left == 0
 scan (a ∷ list) s left = if left == 0 then true
-    else (if not (speaks s a) then scan list s left
+    else (if not (applies s a) then scan list s left
     else (if is_allow a.kind then scan list s (without left a.mask)
     else (bit_and left a.mask == 0 && scan list s left)))

@@ -9,6 +9,6 @@ use Rattle.acl_eval.specs.ListMode.{is_for_group, is_for_owner}
 abbrev pub is_unnamed : Principal → Bool
 is_unnamed p = is_for_owner p || is_for_group p
 
--- the ACEs of these
+-- the ACEs of a list that name one of these three
 abbrev pub unnamed : List Ace → List Ace
 unnamed list = filter (λ a. is_unnamed (principal_of a)) list

@@ -90,7 +90,7 @@ mod tests {
         \0\0\0\0\0\0\0\0\0\0\0\x02\0\0\0\x09EVERYONE@\0\0\0";
 
     #[test]
-    fn the_bytes_decide(rt: HostRuntime) -> Result<(), Fail> {
+    fn the_bytes_of_the_attribute_decide(rt: HostRuntime) -> Result<(), Fail> {
         let write = Mask::WRITE_DATA;
         let alice = decide(ATTRIBUTE, b"alice", b"staff", b"alice", &[], write);
         assert_eq!(rt; alice, Ok(true));

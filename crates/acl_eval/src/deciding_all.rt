@@ -11,6 +11,7 @@ use crate::deciding::Decision;
 use crate::situation::{Object, Requester};
 use crate::standing::Standing;
 use acl_nfs4::{AceRef, Aces};
+use acl_perm::internal::Bit;
 use acl_perm::{Mask, Right};
 
 /// For each right, the ACE that decides it.
@@ -41,9 +42,8 @@ impl Decisions {
         ensures { (bit : ℕ) → decision_of self.new bit
             ≡ (if has_bit rights.bits bit then Some decision else decision_of self.old bit) }
     {
-        let bits = rights.bits();
         for (bit, found) in self.by_bit.iter_mut().enumerate() {
-            if (bits >> bit) & 1 == 1 {
+            if (Bit { bit }).is_in(rights) {
                 *found = Some(decision);
             }
         }

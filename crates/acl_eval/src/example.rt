@@ -10,7 +10,7 @@ const ATTRIBUTE: &[u8; 72] = b"\0\0\0\x03\
     \0\0\0\0\0\0\0\0\0\0\0\x02\0\0\0\x06OWNER@\0\0";
 
 #[test]
-fn who_may_write(rt: HostRuntime) -> Result<(), Fail> {
+fn alice_may_write_and_bob_may_not(rt: HostRuntime) -> Result<(), Fail> {
     let list = AclView::parse_whole(ATTRIBUTE)?;
     let write = read_mask(b"WRITE_DATA").ok_or("no such right")?;
     for (user, expected) in [("alice", true), ("bob", false)] {

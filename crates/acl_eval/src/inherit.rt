@@ -5,6 +5,7 @@ ghost use Rattle.acl_perm.specs.Profile.{Profile};
 ghost use Rattle.acl_nfs4.specs.Ace.{ace};
 ghost use Rattle.acl_nfs4.specs.Spelling.{Fits};
 ghost use Rattle.acl_eval.specs.Inheritance.{child_flags, children};
+ghost use Rattle.acl_eval.specs.declared.inherit.ChildKind.TheVariants.{Directory, File};
 
 use acl_nfs4::{AceRef, Acl, AclView, Flags};
 use std::alloc::{AllocError, Global};
@@ -73,20 +74,45 @@ const KEPT_ON_THE_WAY: Flags = Flags {
 };
 
 // The flags of an ACE in the child, if the child has it.
-#[tactic(auto, using(crate::proofs::Bits::single_bits))]
 fn inherited(kind: ChildKind, flags: Flags) -> Option<Flags>
     ensures { option_map (λ f. f.bits) result ≡ child_flags kind flags.bits }
 {
-    let for_files = flags.contains(Flags::FILE_INHERIT);
-    let for_directories = flags.contains(Flags::DIRECTORY_INHERIT);
-    let ends = flags.contains(Flags::NO_PROPAGATE_INHERIT);
     match kind {
-        ChildKind::File if for_files => Some(flags & KEPT_AT_THE_END),
-        ChildKind::Directory if for_directories && ends => Some(flags & KEPT_AT_THE_END),
-        ChildKind::Directory if for_directories => Some(flags & KEPT_ON_THE_WAY),
-        ChildKind::Directory if for_files && !ends => {
-            Some((flags & KEPT_ON_THE_WAY) | Flags::INHERIT_ONLY)
-        }
-        _ => None,
+        ChildKind::File => inherited_by_a_file(flags),
+        ChildKind::Directory => inherited_by_a_directory(flags),
+    }
+}
+
+#[tactic(auto, using(crate::proofs::Bits::single_bits))]
+fn inherited_by_a_file(flags: Flags) -> Option<Flags>
+    ensures { option_map (λ f. f.bits) result ≡ child_flags File flags.bits }
+{
+    if flags.contains(Flags::FILE_INHERIT) {
+        Some(flags & KEPT_AT_THE_END)
+    } else {
+        None
+    }
+}
+
+// The directory does not pass on an ACE with NO_PROPAGATE_INHERIT. An ACE that is for files alone is passed on to the
+// files in the directory, and takes no part on the directory.
+#[tactic(auto, using(crate::proofs::Bits::single_bits))]
+fn inherited_by_a_directory(flags: Flags) -> Option<Flags>
+    ensures { option_map (λ f. f.bits) result ≡ child_flags Directory flags.bits }
+{
+    let ends = flags.contains(Flags::NO_PROPAGATE_INHERIT);
+    if flags.contains(Flags::DIRECTORY_INHERIT) {
+        let kept = if ends {
+            KEPT_AT_THE_END
+        } else {
+            KEPT_ON_THE_WAY
+        };
+        Some(flags & kept)
+    } else if ends {
+        None
+    } else if flags.contains(Flags::FILE_INHERIT) {
+        Some((flags & KEPT_ON_THE_WAY) | Flags::INHERIT_ONLY)
+    } else {
+        None
     }
 }

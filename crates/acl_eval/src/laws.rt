@@ -7,7 +7,7 @@ ghost use Rattle.acl_posix.specs.Check.{ids};
 ghost use Rattle.acl_nfs4.specs.Ace.{Ace};
 ghost use Rattle.acl_nfs4.specs.Spelling.{IsAccepted};
 ghost use Rattle.acl_eval.specs.BridgeLaws.{AnswersAlike, GrantsSingles, KeepsGrants};
-ghost use Rattle.acl_eval.specs.BridgeNames.{NamesDiffer, NamesStand, OnlyLimitsRefuse};
+ghost use Rattle.acl_eval.specs.BridgeNames.{NamesDiffer, NamesAreValid, OnlyLimitsRefuse};
 ghost use Rattle.acl_eval.specs.Deciding.{deciding_kind};
 ghost use Rattle.acl_perm.specs.declared.kind.Kind.TheVariants.{Allow};
 ghost use Rattle.acl_eval.specs.Grant.{Grant, SameBits, SameColumns, SameGrants, grants_bit};
@@ -133,7 +133,7 @@ pub fn bridge_names()
     // Different ids have different names.
     ensures differ { NamesDiffer }
     // Each name is valid, and none is a special identifier.
-    ensures stand { NamesStand }
+    ensures valid { NamesAreValid }
 {}
 
 /// The list of a valid ACL is accepted if and only if it is within the limits of length and weight.
@@ -149,6 +149,6 @@ pub fn bridge_and_check(acl: &PosixAcl, owner: Id, group: Id, user: Id, groups: 
         (record { user = user.value; groups = ids groups.now })
         want.bits }
 {
-    // The entries of an ACL are valid, and the law is about valid entries.
-    let _entries = acl.entries();
+    // Called for its clauses: the entries of an ACL are valid, and the law is about valid entries.
+    acl.entries();
 }

@@ -1,5 +1,5 @@
 //! The mode of a list: what it grants the owner, the group and others.
-ghost use Rattle.std.specs.Prelude.{◌≡◌, ◌≤◌, ◌∷◌, ◌&&◌, if◌then◌else◌, ℕ, List, Bool};
+ghost use Rattle.std.specs.Prelude.{◌≡◌, ◌∷◌, ◌&&◌, if◌then◌else◌, ℕ, List};
 ghost use Rattle.acl_perm.specs.Bits.{all_rights, has_bit};
 ghost use Rattle.acl_perm.specs.Principal.{principal};
 ghost use Rattle.acl_nfs4.specs.Ace.{Ace, ace};

@@ -68,21 +68,21 @@ fn granted(bytes: &[u8], times: usize) -> Option<usize> {
 }
 
 #[test]
-fn input_4096(rt: HostRuntime) {
+fn a_list_of_4096_aces_is_read(rt: HostRuntime) {
     if let Ok(bytes) = spelled(rt.alloc()) {
         assert!(rt; granted(&bytes, 0) == Some(0));
     }
 }
 
 #[test]
-fn grants_4096(rt: HostRuntime) {
+fn the_last_of_4096_aces_grants_once(rt: HostRuntime) {
     if let Ok(bytes) = spelled(rt.alloc()) {
         assert!(rt; granted(&bytes, 1) == Some(1));
     }
 }
 
 #[test]
-fn grants_4096_often(rt: HostRuntime) {
+fn the_last_of_4096_aces_grants_1000_times(rt: HostRuntime) {
     if let Ok(bytes) = spelled(rt.alloc()) {
         assert!(rt; granted(&bytes, 1000) == Some(1000));
     }

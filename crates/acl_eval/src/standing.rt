@@ -1,4 +1,4 @@
-//! What is the same for each ACE of a list about a requester and an object, so that it is computed once.
+//! The facts about a requester and an object that are the same for each ACE of a list. They are computed once.
 ghost use Rattle.std.specs.Prelude.{◌≡◌, ◌≤◌, length};
 ghost use Rattle.std.specs.List.{list_any};
 ghost use Rattle.std.specs.Option.{ForSome};
@@ -9,7 +9,7 @@ ghost use Rattle.acl_nfs4.specs.Ace.{ace};
 ghost use Rattle.acl_eval.specs.Situation.{groups_of, situation, user_of};
 ghost use Rattle.acl_eval.specs.internal.GroupTable.{HoldsGroups};
 ghost use Rattle.acl_eval.specs.internal.LastByte.{last_of};
-ghost use Rattle.acl_eval.specs.Scan.{speaks};
+ghost use Rattle.acl_eval.specs.Scan.{applies};
 
 use crate::group_table::GroupTable;
 use crate::situation::{Object, Requester};
@@ -66,7 +66,7 @@ impl<'a> Standing<'a> {
     #[inline(always)]
     pub(crate) fn is_meant_by(&self, item: &AceRef<'_>) -> bool
         requires { 1 ≤ length item.now.who.now }
-        ensures { result ≡ speaks (asked_situation self.now) (ace item.now) }
+        ensures { result ≡ applies (asked_situation self.now) (ace item.now) }
     {
         let last = item.who[item.who.len() - 1];
         if last != b'@' && item.takes_part() && !item.flags.is_group() {

@@ -1,6 +1,6 @@
 -- The names that the proofs of this crate use most, from std, from the crates below and from specs/, in one place.
 pub use Rattle.acl_nfs4.specs.Ace.{Ace, ace}
-pub use Rattle.acl_nfs4.specs.AceText.{ace_line, ace_lines, ace_lines_from, ace_text, as_text, HasLineFields, HasNoSpace, is_skipped, IsAceText, kind_name, LineFields, space, SpellEach, SpellsAce, TextLine}
+pub use Rattle.acl_nfs4.specs.AceText.{ace_line, ace_lines, ace_text, as_text, HasLineFields, HasNoSpace, is_skipped, IsAceText, kind_name, LineFields, space, SpellEach, SpellsAce, TextLine}
 pub use Rattle.acl_nfs4.specs.AceTextFault.{IsAceTextFault, IsAt, IsFlagged, IsLight, IsLineFault, IsMasked, IsSplit, IsTextRefusal, IsTyped, mask_column, who_column}
 pub use Rattle.acl_nfs4.specs.BitNames.{bar, bit_in, BitName, bits_in, first_name, is_name_of, names_of, no_names, set_text, SpellsSet}
 pub use Rattle.acl_nfs4.specs.Fault.{Border, Breaks, IsFault, IsFirstFault, IsOwed, IsWholeFault, refuses, size, Stage}
@@ -8,11 +8,11 @@ pub use Rattle.acl_nfs4.specs.Fault.Border.{counted, flagged, masked, measured, 
 pub use Rattle.acl_nfs4.specs.Fault.IsWholeFault.{behind, of_value}
 pub use Rattle.acl_nfs4.specs.Fields.{count_of, flags_of, kind_of, mask_of, number, padding_of, unless, who_len_of, who_of, who_reason}
 pub use Rattle.acl_nfs4.specs.FlagNames.{flag_names}
-pub use Rattle.acl_nfs4.specs.Laws.{BeginsSpelling, bits_of, pairs_from}
+pub use Rattle.acl_nfs4.specs.Laws.{BeginsSpelling, bits_of, pairs_at, pairs_of}
 pub use Rattle.acl_nfs4.specs.Limits.{longest_who, most_aces, most_weight}
 pub use Rattle.acl_nfs4.specs.Owned.{IsOwned, list_cmp}
 pub use Rattle.acl_nfs4.specs.Rights.{mask_named, rights, SpellsMask}
-pub use Rattle.acl_nfs4.specs.Spelling.{Fits, IsAccepted, IsAce, kind_number, pad_len, piece, spelling, weight, word, Xdr}
+pub use Rattle.acl_nfs4.specs.Spelling.{Fits, IsAccepted, IsAce, pad_len, piece, spelling, weight, word, Xdr}
 pub use Rattle.acl_nfs4.specs.Stream.{Decodes, FaultsOrFails, FedExactly, Feeds, FeedsEach, further, HoldsLittle, IsCutShort, IsOrFails, IsSmall, no_memory, RefusesStream, SameOrFails, StreamState, together}
 pub use Rattle.acl_nfs4.specs.Stream.StreamState.{done, more, refused}
 pub use Rattle.acl_nfs4.specs.Who.{ends_in_at, is_no_who_len, is_plain, is_unknown_special, IsWho, who_fault}
@@ -24,11 +24,11 @@ pub use Rattle.acl_nfs4.specs.declared.who.WhoFault.{WhoFault}
 pub use Rattle.acl_nfs4.specs.declared.xdr.fault.Fault.{Fault}
 pub use Rattle.acl_nfs4.specs.declared.xdr.fault.Reason.{Reason}
 pub use Rattle.acl_nfs4.specs.declared.xdr.fault.Reason.TheVariants.{Read, TooManyAces, TrailingBytes, Truncated}
-pub use Rattle.acl_nfs4.specs.internal.AceReading.{after_flags, after_kind, after_mask, cut_space, FailsAs, if_light, last_fields, line_fields, read_ace, read_ace_fields, read_lines, who_fault_at, who_judged}
+pub use Rattle.acl_nfs4.specs.internal.AceReading.{ace_lines_from, after_flags, after_kind, after_mask, cut_space, FailsAs, if_light, last_fields, line_fields, read_ace, read_ace_fields, read_lines, who_fault_at, who_judged}
 pub use Rattle.acl_nfs4.specs.internal.Body.{aces_of, IsBody, IsList, SpellsBody}
 pub use Rattle.acl_nfs4.specs.internal.Cursor.{place}
 pub use Rattle.acl_nfs4.specs.internal.NameTable.{bit_name_of, bit_names_of, is_rising, IsFieldCut, joined_names, parts_after, set_if_within, set_within, size_after}
-pub use Rattle.acl_nfs4.specs.internal.Progress.{behind_scanned, body_in, EndsPart, HasTaken, IsBytes, IsFeed, IsProgress, IsScanned, IsText, IsWhole, Judged, standing}
+pub use Rattle.acl_nfs4.specs.internal.Progress.{behind_scanned, body_in, EndsPart, HasTaken, IsBytes, IsFeed, IsProgress, IsScanned, IsText, IsWhole, Judged, state_of}
 pub use Rattle.acl_nfs4.specs.internal.Pulling.{HasAce, IsDrawn, IsFilled, IsHalted, IsLacking, IsPulled}
 pub use Rattle.acl_nfs4.specs.internal.Reading.{ace_at, aces_at, ArePlain, fault_at, field, Gives, is_plain_ascii, judged, kind_from, moved, Place, Placed, word_field}
 pub use Rattle.acl_perm.proofs.Bools.{and_true}
@@ -37,6 +37,7 @@ pub use Rattle.acl_perm.proofs.PieceLemmas.{IsOut, out_cut, out_more}
 pub use Rattle.acl_perm.proofs.Sets.{has_bit-and, has_bit-or, IsMask-union, same_set}
 pub use Rattle.acl_perm.specs.Bits.{all_flags, all_rights, has_bit, IsMask}
 pub use Rattle.acl_perm.specs.Profile.{full, Profile, profile_of}
+pub use Rattle.acl_perm.specs.Kind.{kind_number}
 pub use Rattle.acl_perm.specs.declared.kind.Kind.{Kind}
 pub use Rattle.acl_perm.specs.declared.kind.Kind.TheVariants.{Allow, Deny}
 pub use Rattle.acl_perm.specs.declared.mask.Mask.{Mask}
@@ -60,7 +61,7 @@ pub use Rattle.std.proofs.lemmas.Str.Ascii.{IsAscii-from_all}
 pub use Rattle.std.specs.Int.{bit_at}
 pub use Rattle.std.specs.Int.Count.{count_trailing_zeros, ones-le, ones_step}
 pub use Rattle.std.specs.Io.KnownBytes.{Consumes, IsAtEnd}
-pub use Rattle.std.specs.List.{All, AllByRecursion, concat, flat_map, join_with_byte, list_all, position_or_len, prefix_len, range_with_len, slice_split}
+pub use Rattle.std.specs.List.{All, AllByRecursion, concat, enumerate_from, flat_map, join_with_byte, list_all, position_or_len, prefix_len, range_with_len, slice_split}
 pub use Rattle.std.specs.Option.{option_and_then, option_map_or}
 pub use Rattle.std.specs.Prelude.{bit_and, bit_or, count_by, count_ones, find, IfErr, IfOk, IfSome, IsOkAnd, IsSome, IsSomeAnd, map, MatchResult, nat_le, nat_lt, None, not, ok_or, Option, option_copied, option_map, position, replicate, Some, ◌&&◌, ◌==◌, ◌↔◌, ◌⊎◌}
 pub use Rattle.std.specs.Str.{bytes_eq, is_utf8, IsUtf8}

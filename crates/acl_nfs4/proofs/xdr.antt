@@ -8,3 +8,5 @@ pub mod Lengths
 pub mod OneFault
 pub mod Decoding
 pub mod FromSource
+pub mod PulledAce
+pub mod PulledList

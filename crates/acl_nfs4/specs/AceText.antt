@@ -1,6 +1,6 @@
--- The text form of a list of ACEs, which is this library's own: one line per ACE, `TYPE FLAGS MASK WHO`.
-use Rattle.std.specs.Prelude.{◌≡◌, ◌+◌, ◌==◌, ◌||◌, ℕ, List, [], ◌∷◌, ◌++◌, Bool, true, not, IsTrue, if◌then◌else◌}
-use Rattle.std.specs.List.{flat_map, list_all}
+-- The text form of a list of ACEs, which is this library's own: one line per ACE, `KIND FLAGS MASK WHO`.
+use Rattle.std.specs.Prelude.{◌≡◌, ◌==◌, ◌||◌, ℕ, List, [], ◌∷◌, ◌++◌, Bool, true, not, IsTrue, if◌then◌else◌, map}
+use Rattle.std.specs.List.{enumerate_from, filter, flat_map, list_all}
 use Rattle.std.specs.Str.{is_utf8}
 use Rattle.std.specs.Str.Lossy.{replacement_bytes}
 -- the byte between two fields of a line, and the byte with which a comment begins
@@ -29,15 +29,13 @@ pub record TextLine : Type 0 where
   pub number : ℕ
   pub bytes : List ℕ
 
--- those of some lines that should spell an ACE; the first of the lines has this number
-abbrev pub ace_lines_from : ℕ → List (List ℕ) → List TextLine
-ace_lines_from number [] = []
-ace_lines_from number (line ∷ lines) = if is_skipped line then ace_lines_from (number + 1) lines
-    else record { number = number; bytes = line } ∷ ace_lines_from (number + 1) lines
+-- a number and a line, as a line with its number
+abbrev pub text_line : ℕ × List ℕ → TextLine
+text_line numbered = record { number = numbered.0; bytes = numbered.1 }
 
 -- the lines of a text that should spell an ACE, in order
 abbrev pub ace_lines : List ℕ → List TextLine
-ace_lines text = ace_lines_from 1 (lines_of text)
+ace_lines text = filter (λ line. not (is_skipped line.bytes)) (map text_line (enumerate_from 1 (lines_of text)))
 
 -- ---- what a line spells
 

@@ -1,7 +1,7 @@
 -- Tables that name bits, and the fields of the text form that name a set of bits (RFC 8881, sections 6.2.1.3.1 and
 -- 6.2.1.4.1, has the names of the rights and the flags; the form of a field is this library's own).
-use Rattle.std.specs.Prelude.{◌≡◌, ◌≢◌, ◌⊎◌, ◌||◌, ℕ, List, [], ◌∷◌, Bool, false, Option, Some, codes, find, option_map, bit_and, bit_or, if◌then◌else◌, ◌==◌}
-use Rattle.std.specs.List.{join_with_byte, slice_split}
+use Rattle.std.specs.Prelude.{◌≡◌, ◌≢◌, ◌⊎◌, ◌||◌, ℕ, List, [], ◌∷◌, Bool, false, Option, Some, codes, find, map, option_map, bit_and, bit_or, if◌then◌else◌, ◌==◌}
+use Rattle.std.specs.List.{filter, join_with_byte, slice_split}
 use Rattle.std.specs.Option.{option_and_then, option_map_or}
 use Rattle.std.specs.Str.{bytes_eq}
 -- the byte between two names of a field
@@ -42,11 +42,13 @@ set_named table field =
 
 -- ---- the field of a set
 
+-- the rows of the bits that a set has, in the order of the table
+abbrev pub rows_of : List BitName → ℕ → List BitName
+rows_of table set = filter (λ row. bit_and set row.bit == row.bit) table
+
 -- the first names of the bits that a set has, in the order of the table
 abbrev pub names_of : List BitName → ℕ → List (List ℕ)
-names_of [] set = []
-names_of (row ∷ rows) set =
-    if bit_and set row.bit == row.bit then row.name ∷ names_of rows set else names_of rows set
+names_of table set = map (λ row. row.name) (rows_of table set)
 
 -- the field of a set as it is written: `-` for the empty set, else these names with `|` between them
 unfoldable pub set_text : List BitName → ℕ → List ℕ

@@ -7,8 +7,9 @@ use Rattle.acl_nfs4.specs.Ace.{Ace}
 use Rattle.acl_nfs4.specs.Limits.{most_aces, most_weight, longest_who}
 use Rattle.acl_nfs4.specs.Who.{IsWho}
 use Rattle.acl_nfs4.specs.Within.{IsWithin}
-use Rattle.acl_nfs4.specs.Spelling.{word, kind_number, pad_len, weight, Xdr}
+use Rattle.acl_nfs4.specs.Spelling.{word, pad_len, weight, Xdr}
 use Rattle.acl_nfs4.specs.Fields.{number, count_of, kind_of, flags_of, mask_of, who_len_of, who_of, padding_of}
+use Rattle.acl_perm.specs.Kind.{kind_number}
 use Rattle.acl_perm.specs.declared.kind.Kind.{Kind}
 use Rattle.acl_nfs4.specs.declared.xdr.fault.Reason.{Reason}
 use Rattle.acl_nfs4.specs.declared.xdr.fault.Reason.TheVariants.{Truncated, TrailingBytes}
@@ -48,15 +49,11 @@ pub data Border (p : Profile) : Stage → List ℕ → Type 0 where
       → Border p (kind n (list ++ record { kind = k; flags = f; mask = m; who = w } ∷ []))
       (t ++ replicate (pad_len (length w)) 0)
 
--- how many bytes the next field has, or 0 if there is none
+-- how many bytes the next field has; padding may have none
 abbrev pub size : Stage → ℕ
-size count = 4
-size (kind n list) = 4
-size (flags n list k) = 4
-size (mask n list k f) = 4
-size (len n list k f m) = 4
 size (who n list k f m l) = l
 size (padding n list k f m w) = pad_len (length w)
+size _ = 4
 
 -- the next field is refused with this reason, if it holds these bytes
 abbrev pub refuses : Profile → Stage → List ℕ → Reason → Type 0
@@ -68,15 +65,10 @@ refuses p (len n list k f m) bytes r = who_len_of (number bytes) ≡ Err r
 refuses p (who n list k f m l) bytes r = who_of bytes ≡ Err r
 refuses p (padding n list k f m w) bytes r = padding_of bytes ≡ Err r
 
--- there must be a field
+-- the next field must follow: a kind must if the list has fewer ACEs than the count says, and any other field must
 abbrev pub IsOwed : Stage → Type 0
-IsOwed count = Unit {0}
 IsOwed (kind n list) = length list < n
-IsOwed (flags n list k) = Unit {0}
-IsOwed (mask n list k f) = Unit {0}
-IsOwed (len n list k f m) = Unit {0}
-IsOwed (who n list k f m l) = Unit {0}
-IsOwed (padding n list k f m w) = Unit {0}
+IsOwed _ = Unit {0}
 
 -- the rest of the bytes ends inside the next field, and all of it is taken; or the field is whole and refused, and the
 -- bytes are taken to its end
@@ -99,7 +91,7 @@ pub record IsFirstFault (p : Profile) (bytes : List ℕ) (offset taken : ℕ) (r
   pub breaks : Breaks p stage rest more r
   pub ends : offset + more ≡ taken
 
--- the first fault of bytes
+-- the first fault of bytes, however many of them are taken when it is known
 abbrev pub IsFault : Profile → List ℕ → ℕ → Reason → Type 0
 IsFault p bytes offset r = (taken : ℕ) × IsFirstFault p bytes offset taken r
 

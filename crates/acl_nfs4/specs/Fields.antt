@@ -19,26 +19,26 @@ use Rattle.acl_nfs4.specs.declared.who.WhoFault.TheVariants as who
 abbrev pub number : List ℕ → ℕ
 number bytes = from_be_bytes w32 bytes
 
--- the number of ACEs
+-- the number of ACEs that a word says, or why it is refused
 abbrev pub count_of : ℕ → Result ℕ Reason
 count_of n = if nat_lt most_aces n then Err TooManyAces else Ok n
 
--- the kind; AUDIT is 2 and ALARM is 3
+-- the kind that a word says, or why it is refused; AUDIT is 2 and ALARM is 3
 abbrev pub kind_of : ℕ → Result Kind Reason
 kind_of n = if n == 0 then Ok Allow
     else (if n == 1 then Ok Deny
     else (if nat_lt n 4 then Err AuditOrAlarm else Err AceType))
 
--- the flags
+-- the flags that a word says, or why they are refused
 abbrev pub flags_of : Profile → ℕ → Result ℕ Reason
 flags_of p n = if is_within p.flags n then Ok n else Err FlagBits
 
--- the mask, after ACEs of this weight
+-- the mask that a word says after ACEs of this weight, or why it is refused
 abbrev pub mask_of : Profile → ℕ → ℕ → Result ℕ Reason
 mask_of p weight n = if not (is_within p.masks n) then Err MaskBits
     else (if nat_lt most_weight (weight + count_ones n) then Err TooHeavy else Ok n)
 
--- the length of the who
+-- the length of the who that a word says, or why it is refused
 abbrev pub who_len_of : ℕ → Result ℕ Reason
 who_len_of n = if is_no_who_len n then Err WhoLength else Ok n
 
@@ -54,10 +54,10 @@ abbrev pub unless : {A : Type 0} → Option Reason → A → Result A Reason
 unless None x = Ok x
 unless (Some r) x = Err r
 
--- the who
+-- the who, or why the bytes are refused
 abbrev pub who_of : List ℕ → Result (List ℕ) Reason
 who_of bytes = unless (option_map who_reason (who_fault bytes)) bytes
 
--- the padding
+-- the padding, or why the bytes are refused
 abbrev pub padding_of : List ℕ → Result (Unit {0}) Reason
 padding_of bytes = if list_all (λ b. b == 0) bytes then Ok tt else Err Padding

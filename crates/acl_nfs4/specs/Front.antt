@@ -6,8 +6,8 @@ use Rattle.acl_nfs4.specs.Ace.{Ace}
 use Rattle.acl_nfs4.specs.Spelling.{Xdr}
 
 -- so many bytes at the front spell the list
-abbrev pub StandsAtFront : Profile → List ℕ → List Ace × ℕ → Type 0
-StandsAtFront p bytes found = (found.1 ≤ length bytes) × Xdr p found.0 (take found.1 bytes)
+abbrev pub IsAtFront : Profile → List ℕ → List Ace × ℕ → Type 0
+IsAtFront p bytes found = (found.1 ≤ length bytes) × Xdr p found.0 (take found.1 bytes)
 
 -- what was found is this list, in as many bytes as the text has
 abbrev pub IsListOf : List Ace → List ℕ → List Ace × ℕ → Type 0

@@ -1,6 +1,6 @@
 -- What the laws of the XDR layout say (RFC 4506, over the types of RFC 8881, section 6.2.1).
-use Rattle.std.specs.Prelude.{ℕ, ◌+◌, List, [], ◌∷◌, ◌++◌, map}
-use Rattle.std.specs.List.{filter, range_with_len}
+use Rattle.std.specs.Prelude.{ℕ, List, ◌++◌, map}
+use Rattle.std.specs.List.{enumerate_from, filter, flat_map, range_with_len}
 use Rattle.acl_perm.specs.Bits.{has_bit}
 use Rattle.acl_perm.specs.Profile.{Profile}
 use Rattle.acl_nfs4.specs.Ace.{Ace}
@@ -10,15 +10,14 @@ use Rattle.acl_nfs4.specs.Spelling.{Xdr}
 abbrev pub BeginsSpelling : Profile → List ℕ → Type 0
 BeginsSpelling p text = (list : List Ace) × (rest : List ℕ) × Xdr p list (text ++ rest)
 
--- the bits of a mask, a word, in ascending order
+-- the bits of a mask of 32 bits, in ascending order
 abbrev pub bits_of : ℕ → List ℕ
 bits_of mask = filter (has_bit mask) (range_with_len 0 32)
 
--- the pairs of a place in the list, counted from the given one, and a bit that the ACE there has
-abbrev pub pairs_from : ℕ → List Ace → List (ℕ × ℕ)
-pairs_from place [] = []
-pairs_from place (a ∷ list) = map (λ bit. (place, bit)) (bits_of a.mask) ++ pairs_from (place + 1) list
+-- the pairs of the place of an ACE and a bit that its mask has
+abbrev pub pairs_at : ℕ × Ace → List (ℕ × ℕ)
+pairs_at placed = map (λ bit. (placed.0, bit)) (bits_of placed.1.mask)
 
 -- the pairs of a place in the list and a bit that the ACE there has
 abbrev pub pairs_of : List Ace → List (ℕ × ℕ)
-pairs_of list = pairs_from 0 list
+pairs_of list = flat_map pairs_at (enumerate_from 0 list)

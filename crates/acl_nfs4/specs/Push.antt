@@ -10,7 +10,7 @@ use Rattle.acl_nfs4.specs.declared.list.push_fault.PushFault.TheVariants.{TooMan
 use Rattle.acl_nfs4.specs.declared.who.WhoFault.{WhoFault}
 use Rattle.acl_nfs4.specs.declared.who.WhoFault.TheVariants as who
 
--- a fault of the who, as one of a push
+-- the fault of a push for a fault of the who
 abbrev pub who_refusal : WhoFault → PushFault
 who_refusal who.Length = WhoLength
 who_refusal who.Utf8 = WhoUtf8
@@ -23,7 +23,7 @@ push_refusal list a = if nat_le most_aces (length list) then Some TooManyAces
     else (if nat_lt most_weight (weight list + count_ones a.mask) then Some TooHeavy
     else option_map who_refusal (who_fault a.who))
 
--- no condition refuses the ACE, and there was memory or not; or the ACE is refused with this condition
+-- if no condition refuses the ACE, a push succeeds or runs out of memory; otherwise it fails with that condition
 abbrev pub PushAnswers : Result (Unit {0}) PushFault → Option PushFault → Type 0
 PushAnswers (Ok _) refusal = refusal ≡ None
 PushAnswers (Err Memory) refusal = refusal ≡ None

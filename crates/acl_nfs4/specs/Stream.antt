@@ -22,11 +22,11 @@ pub data StreamState : Type 0 where
   done : (list : List Ace) → StreamState
   refused : (fault : Fault) → StreamState
 
--- a growth was refused
+-- the fault of a call that ran out of memory
 abbrev pub no_memory : Fault
 no_memory = record { offset = 0; reason = Memory }
 
--- a growth was refused, or the text has this fault and is not cut short
+-- memory ran out, or the text has this fault and is not cut short
 abbrev pub RefusesStream : Profile → List ℕ → Fault → Type 0
 RefusesStream p text f = (f ≡ no_memory) ⊎ (IsFault p text f.offset f.reason × (f.reason ≢ Truncated))
 
@@ -37,14 +37,10 @@ Feeds (more p s) piece More new = (new ≡ more p (s ++ piece)) × IsCutShort p 
 Feeds (more p s) piece (Done taken) new =
     (list : List Ace) × (new ≡ done list) × (taken ≤ length piece) × Xdr p list (s ++ take taken piece)
 Feeds (more p s) piece (Refused f) new = (new ≡ refused f) × RefusesStream p (s ++ piece) f
-Feeds (done list) piece More new = ⊥
-Feeds (done list) piece (Done taken) new = (new ≡ done list) × (taken ≡ 0)
-Feeds (done list) piece (Refused f) new = ⊥
-Feeds (refused f) piece More new = ⊥
-Feeds (refused f) piece (Done taken) new = ⊥
-Feeds (refused f) piece (Refused g) new = (new ≡ refused f) × (g ≡ f)
+Feeds (done list) piece answer new = (new ≡ done list) × (answer ≡ Done 0)
+Feeds (refused f) piece answer new = (new ≡ refused f) × (answer ≡ Refused f)
 
--- this answer, or that a growth was refused
+-- this answer, or that memory ran out
 abbrev pub IsFedOrFails : Fed → Fed → Type 0
 IsFedOrFails answer expected = (answer ≡ expected) ⊎ (answer ≡ Refused no_memory)
 
@@ -101,15 +97,15 @@ together (piece ∷ pieces) (More ∷ answers) = further (length piece) (togethe
 together (piece ∷ pieces) (Done taken ∷ answers) = Done taken
 together (piece ∷ pieces) (Refused f ∷ answers) = Refused f
 
--- in one of two cases a growth was refused; or the answers are the same, and the feed represents the same
+-- memory ran out in one of two cases, or the answers are the same and the feed represents the same
 abbrev pub SameOrFails : Fed → StreamState → Fed → StreamState → Type 0
 SameOrFails a x b y = (a ≡ Refused no_memory) ⊎ ((b ≡ Refused no_memory) ⊎ ((a ≡ b) × (x ≡ y)))
 
 -- ---- reading from a source
 
 -- the answer of a decoder that took exactly this text: the list that it spells; that it is cut short, at the end of the
--- input; that a read failed, at the field where the text is cut short; that a growth was refused; or the fault of the
--- text, whose last field is the refused one
+-- input; that a read failed, at the field where the text is cut short; that memory ran out; or the fault of the text,
+-- whose last field is the refused one
 abbrev pub Decodes : Profile → List ℕ → Type 0 → Result (List Ace) Fault → Type 0
 Decodes p given at_end (Ok list) = Xdr p list given
 Decodes p given at_end (Err f) = ((f.reason ≡ Truncated) × IsFault p given f.offset Truncated × at_end)

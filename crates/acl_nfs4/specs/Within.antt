@@ -12,7 +12,7 @@ IsWithin set n = bit_and n set ≡ n
 abbrev pub is_within : ℕ → ℕ → Bool
 is_within set n = bit_and n set == n
 
--- a set of rights and a set of flags
+-- the masks of the profile are rights of the standard, and its flags are flags of the standard
 pub record IsProfile (p : Profile) : Type 0 where
   pub masks : IsWithin all_rights p.masks
   pub flags : IsWithin all_flags p.flags

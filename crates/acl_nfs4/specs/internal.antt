@@ -18,3 +18,5 @@ pub mod Progress
 pub mod Pulling
 -- equal lists are fed alike to a hasher
 pub mod FedAlike
+-- to compare lists by their spellings is an equivalence
+pub mod SameSpelling

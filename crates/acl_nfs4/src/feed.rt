@@ -5,9 +5,9 @@ pub(crate) mod scan;
 pub(crate) mod step;
 pub(crate) mod stream;
 
-ghost use Rattle.std.specs.Prelude.{◌≡◌, ℕ, ◌+◌, ◌≤◌, ◌<◌, ◌^◌, ◌++◌, List, [], MatchResult, length, take, drop};
+ghost use Rattle.std.specs.Prelude.{◌≡◌, ℕ, ◌≤◌, ◌++◌, List, [], MatchResult, length};
 ghost use Rattle.acl_perm.specs.Profile.{Profile as Allowed, full, profile_of};
-ghost use Rattle.acl_nfs4.specs.Stream.{FedExactly, Feeds, FinishesStream, IsCutShort, IsSmall, more};
+ghost use Rattle.acl_nfs4.specs.Stream.{FedExactly, Feeds, FinishesStream, IsSmall, more};
 ghost use Rattle.acl_nfs4.specs.Fault.{IsFault};
 ghost use Rattle.acl_nfs4.specs.declared.feed.fed.Fed.TheVariants.{Done};
 ghost use Rattle.acl_nfs4.specs.declared.xdr.fault.Reason.TheVariants.{Truncated};
@@ -22,7 +22,7 @@ use acl_perm::Profile;
 use std::alloc::Global;
 use std::marker::Model;
 
-// A long piece is taken by so many bytes at a time. So no more bytes than these are kept needlessly behind the end of a
+// How many bytes of a long piece are taken at a time. So a feed never holds more bytes than these behind the end of a
 // list.
 const CHUNK: usize = 4096;
 
@@ -39,11 +39,11 @@ pub struct Feed {
 impl Model for Feed {
     ghost use Rattle.acl_perm.specs.Profile.{profile_of};
     ghost use Rattle.acl_nfs4.specs.Stream.{StreamState};
-    ghost use Rattle.acl_nfs4.specs.internal.Progress.{IsFeed, standing};
+    ghost use Rattle.acl_nfs4.specs.internal.Progress.{IsFeed, state_of};
 
     ghost Value = { StreamState };
 
-    ghost view = { λ s. standing (profile_of s.profile) s.stage s.progress s.text };
+    ghost view = { λ s. state_of (profile_of s.profile) s.stage s.progress s.text };
 
     ghost invariant = { λ s. IsFeed (profile_of s.profile) s.stage s.progress s.text };
 }
@@ -101,7 +101,7 @@ impl Feed {
     /// Returns the list, if the stream ends here. Otherwise returns that the stream is cut short, or the fault that was
     /// reported. It takes no memory.
     pub fn finish(self) -> Result<Acl, Fault>
-        ensures told { FinishesStream self result }
+        ensures finishes { FinishesStream self result }
         // For a stream that is cut short no list is returned.
         ensures cut { (p : Allowed) (s : List ℕ) → self ≡ more p s → MatchResult result
             (λ _. ⊥) (λ f. (f.reason ≡ Truncated) × IsFault p s f.offset Truncated) }
@@ -127,22 +127,11 @@ impl Feed {
             let (chunk, _) = rest.split_at(CHUNK);
             match self.take(chunk) {
                 Fed::More => taken += CHUNK,
-                Fed::Done { taken: more } => {
-                    return Fed::Done {
-                        taken: taken + more,
-                    };
-                }
-                Fed::Refused(fault) => return Fed::Refused(fault),
+                fed => return fed.behind(taken),
             }
         }
         let (_, rest) = piece.split_at(taken);
-        match self.take(rest) {
-            Fed::More => Fed::More,
-            Fed::Done { taken: more } => Fed::Done {
-                taken: taken + more,
-            },
-            Fed::Refused(fault) => Fed::Refused(fault),
-        }
+        self.take(rest).behind(taken)
     }
 
     // Takes a piece whole, and then drops the bytes that do not belong to the list.

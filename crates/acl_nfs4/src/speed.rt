@@ -95,56 +95,56 @@ fn goes_well(alloc: Global, call: Call, times: usize) -> bool {
 }
 
 #[test]
-fn input(rt: HostRuntime) {
+fn the_bytes_are_made(rt: HostRuntime) {
     assert!(rt; goes_well(rt.alloc(), Call::Parse, 0));
 }
 
 #[test]
-fn parse_once(rt: HostRuntime) {
+fn a_list_is_parsed_once(rt: HostRuntime) {
     assert!(rt; goes_well(rt.alloc(), Call::Parse, 1));
 }
 
 #[test]
-fn parse_often(rt: HostRuntime) {
+fn a_list_is_parsed_ten_times(rt: HostRuntime) {
     assert!(rt; goes_well(rt.alloc(), Call::Parse, 10));
 }
 
 #[test]
-fn decode_once(rt: HostRuntime) {
+fn a_list_is_decoded_once(rt: HostRuntime) {
     assert!(rt; goes_well(rt.alloc(), Call::Decode, 1));
 }
 
 #[test]
-fn decode_often(rt: HostRuntime) {
+fn a_list_is_decoded_ten_times(rt: HostRuntime) {
     assert!(rt; goes_well(rt.alloc(), Call::Decode, 10));
 }
 
 #[test]
-fn feed_once(rt: HostRuntime) {
+fn a_list_is_fed_once(rt: HostRuntime) {
     assert!(rt; goes_well(rt.alloc(), Call::Feed, 1));
 }
 
 #[test]
-fn feed_often(rt: HostRuntime) {
+fn a_list_is_fed_ten_times(rt: HostRuntime) {
     assert!(rt; goes_well(rt.alloc(), Call::Feed, 10));
 }
 
 #[test]
-fn feed_bytes(rt: HostRuntime) {
+fn a_list_is_fed_byte_by_byte(rt: HostRuntime) {
     assert!(rt; goes_well(rt.alloc(), Call::FeedBytes, 1));
 }
 
 #[test]
-fn encode_none(rt: HostRuntime) {
+fn a_list_is_made_and_not_encoded(rt: HostRuntime) {
     assert!(rt; goes_well(rt.alloc(), Call::Encode, 0));
 }
 
 #[test]
-fn encode_once(rt: HostRuntime) {
+fn a_list_is_encoded_once(rt: HostRuntime) {
     assert!(rt; goes_well(rt.alloc(), Call::Encode, 1));
 }
 
 #[test]
-fn encode_often(rt: HostRuntime) {
+fn a_list_is_encoded_ten_times(rt: HostRuntime) {
     assert!(rt; goes_well(rt.alloc(), Call::Encode, 10));
 }

@@ -52,8 +52,8 @@ pub(crate) fn judge_text(who: &[u8]) -> Result<(), WhoFault>
     Ok(())
 }
 
-/// Returns whether the first `len` bytes are a who of plain ASCII. It tests many bytes at once. `true` is certain; after
-/// `false`, `judge_text` decides.
+/// Returns whether the first `len` bytes are a who of plain ASCII, by a test of many bytes at once. `true` is certain;
+/// after `false`, `judge_text` decides.
 #[inline(always)]
 pub(crate) fn begins_plain_who(bytes: &[u8], len: usize) -> bool
     requires some { is_no_who_len len ≡ false }

@@ -1,8 +1,8 @@
 -- The names that the proofs of this crate use most, from std, from the crates below and from specs/, in one place.
-pub use Rattle.acl_eval.proofs.Same.{equivalence}
+pub use Rattle.acl_eval.proofs.Same.{equivalence, one_bit, only_bit}
 pub use Rattle.acl_eval.proofs.Scans.{has_bit-without}
-pub use Rattle.acl_eval.specs.Column.{Column, column, first_kind, SameVerdicts, takes_part, verdict}
-pub use Rattle.acl_eval.specs.Grant.{is_allow, SameGrants}
+pub use Rattle.acl_eval.specs.Column.{Column, SameVerdicts, column, first_kind, takes_part, verdict}
+pub use Rattle.acl_eval.specs.Grant.{SameGrants, is_allow}
 pub use Rattle.acl_eval.specs.Laws.{IsEquivalence}
 pub use Rattle.acl_eval.specs.Scan.{without}
 pub use Rattle.acl_nfs4.proofs.Exports.{fits_of}
@@ -11,57 +11,57 @@ pub use Rattle.acl_nfs4.specs.Spelling.{Fits, IsAccepted, IsAce, spelling, weigh
 pub use Rattle.acl_nfs4.specs.Who.{everyone_name, group_name, owner_name, principal_of}
 pub use Rattle.acl_nfs4.specs.Within.{IsProfile, IsWithin}
 pub use Rattle.acl_nfs4.specs.declared.ace.AceRef.{AceRef}
-pub use Rattle.acl_normal.specs.Keys.{ace_key, compare_keys, conflicts, Key, key_record, kind_eq, plain_key, principal_eq}
+pub use Rattle.acl_normal.specs.Keys.{ColumnKey, ace_key, compare_keys, conflicts, key_record, kind_eq, plain_key, principal_eq}
 pub use Rattle.acl_normal.specs.Laws.{Has}
 pub use Rattle.acl_normal.specs.Left.{KeepsFirsts, left}
-pub use Rattle.acl_normal.specs.Normal.{counts, flags_for, HasNoEmptyMask, HasNormalFlags, is_free, is_inherit_only, IsIrreducibleList, IsNormal, without_bit}
+pub use Rattle.acl_normal.specs.Normal.{HasNoEmptyMask, HasNormalFlags, IsIrreducibleList, IsNormal, counts, flags_for, is_free, is_inherit_only, without_bit}
 pub use Rattle.acl_normal.specs.internal.Tidy.{HasMasks, HasNames, HaveNames, IsQuiet, IsTidy}
 pub use Rattle.acl_normal.specs.NormalForm.{IsNormalFormOf}
 pub use Rattle.acl_normal.specs.Places.{first_at, is_waiting, nothing_left, same_class, take_out, waits, without_bits}
 pub use Rattle.acl_normal.specs.internal.Places.{is_blocked, key_here, mask_here, principal_here, slot_of, waits_before}
-pub use Rattle.acl_normal.specs.SmallSets.{is_mentioning, mentioned, mentioned_with, principal_pairs, partners, singles, small_sets}
+pub use Rattle.acl_normal.specs.SmallSets.{is_mentioning, mentioned, mentioned_in, partners, principal_pairs, singles, small_sets}
 pub use Rattle.acl_normal.specs.SmallSituations.{HasName, is_among, longest, small_situation}
 pub use Rattle.acl_normal.specs.Tables.{AreRows, of_borrowed, with_bit}
-pub use Rattle.acl_normal.specs.internal.TableRows.{AddsRow, HasKey, HasFirstPlaces}
+pub use Rattle.acl_normal.specs.internal.TableRows.{AddsRow, HasFirstPlaces, HasKey}
 pub use Rattle.acl_normal.specs.declared.comparison.small_set.SmallSet.{SmallSet}
 pub use Rattle.acl_normal.specs.declared.comparison.standing.Standing.{Standing}
 pub use Rattle.acl_normal.specs.declared.comparison.standing.Whom.{Whom}
 pub use Rattle.acl_normal.specs.declared.comparison.standing.Whom.TheVariants.{Everyone, Nobody, One}
 pub use Rattle.acl_normal.specs.declared.emit.emission.Emitted.{Emitted}
 pub use Rattle.acl_normal.specs.declared.rows.remaining.Remaining.TheInside.{Inside}
-pub use Rattle.acl_normal.specs.internal.Alike.{is_either, is_either_or_everyone, IsAlike, IsIrreducible}
+pub use Rattle.acl_normal.specs.internal.Alike.{IsAlike, IsIrreducible, is_either, is_either_or_everyone}
 pub use Rattle.acl_normal.specs.Classes.{is_users}
 pub use Rattle.acl_normal.specs.internal.comparison.CodeSets.{set_of}
 pub use Rattle.acl_normal.specs.internal.Counts.{count_left}
 pub use Rattle.acl_normal.specs.internal.emit.Emissions.{HasEmptyColumns, HasOnceColumns, IsEmission, IsOnce, IsStep}
-pub use Rattle.acl_normal.specs.internal.emit.Emitted.{emitted_ace, emitted_aces, StandInRows}
-pub use Rattle.acl_normal.specs.internal.comparison.FirstPlaces.{AgreesAt, AreFirstFrom, AreStandings, AreWhoms, first_place, inverts, inverts_any, IsStanding, IsWhom, no_ace, no_standing, SameAlone}
+pub use Rattle.acl_normal.specs.internal.emit.Emitted.{AreInRows, emitted_ace, emitted_aces}
+pub use Rattle.acl_normal.specs.internal.comparison.FirstPlaces.{AgreesAt, AreFirstFrom, AreStandings, AreWhoms, IsStanding, IsWhom, SameAlone, first_place, inverts, inverts_any, no_ace, no_standing}
 pub use Rattle.acl_normal.specs.internal.rows.Heads.{BeginsWith}
 pub use Rattle.acl_normal.specs.internal.Needed.{default_at}
-pub use Rattle.acl_normal.specs.internal.Passes.{Best, conflicts_before, is_shadowed, IsLeastCandidate, KeepsProfiles}
+pub use Rattle.acl_normal.specs.internal.Passes.{Best, IsLeastCandidate, KeepsProfiles, conflicts_before, is_shadowed}
 pub use Rattle.acl_normal.specs.internal.comparison.PlaceTables.{is_of_camp}
 pub use Rattle.acl_normal.specs.internal.Plain.{default, has_opposite, is_needed, needed_keys, reduced, unshadowed, without_principal}
 pub use Rattle.acl_normal.specs.internal.emit.Queues.{AreNoted, AreQueues, IsQueueAt}
-pub use Rattle.acl_normal.specs.internal.emit.Ready.{Enters, FitsKeys, Grows, key_eq, low_bits, Marked, marks, who_for}
+pub use Rattle.acl_normal.specs.internal.emit.Ready.{Enters, FitsKeys, Grows, Marked, key_eq, low_bits, marks, who_for}
 pub use Rattle.acl_normal.specs.internal.Reduced.{IsReducedOf}
 pub use Rattle.acl_normal.specs.internal.rows.Remaining.{IsQueue, IsRemaining, masks_left, remaining_of}
-pub use Rattle.acl_normal.specs.internal.emit.Rising.{all_cleared, cleared, HasRisen}
+pub use Rattle.acl_normal.specs.internal.emit.Rising.{HasRisen, all_cleared, cleared}
 pub use Rattle.acl_normal.specs.internal.rows.RowNumbers.{named_at, named_from, who_here}
-pub use Rattle.acl_normal.specs.internal.rows.Rows.{AreRowNumbers, first_place_of, is_principal_of, IsByPrincipal, IsRowOf, key_number, row_of}
+pub use Rattle.acl_normal.specs.internal.rows.Rows.{AreRowNumbers, IsByPrincipal, IsRowOf, first_place_of, is_principal_of, key_number, row_of}
 pub use Rattle.acl_normal.specs.internal.comparison.SamePlaces.{ArePlacesOf}
-pub use Rattle.acl_normal.specs.internal.comparison.SetSearch.{IsGrantedTo, differ, FindsFirst, GrantAlikeTo, is_granted_to, IsRisingSet, principals}
+pub use Rattle.acl_normal.specs.internal.comparison.SetSearch.{FindsFirst, GrantAlikeTo, IsGrantedTo, IsRisingSet, differ, is_granted_to, principals}
 pub use Rattle.acl_normal.specs.internal.Shown.{aces_in, mask_numbers, with_masks}
-pub use Rattle.acl_normal.specs.internal.comparison.TwoLists.{all_mentioned, FindSet, StandAs, two_lists, TwoLists}
-pub use Rattle.acl_perm.proofs.Bools.{and_false_right}
+pub use Rattle.acl_normal.specs.internal.comparison.TwoLists.{FindSet, StandAs, TwoLists, all_mentioned, two_lists}
+pub use Rattle.acl_perm.proofs.Bools.{and_false_right, same_answers}
 pub use Rattle.acl_perm.proofs.Orders.{key_order, principal_exact, principal_order}
-pub use Rattle.acl_perm.proofs.Sets.{bits_from_mask, has_bit-and, has_bit-or, IsMask-lt, no_bit, same_set}
-pub use Rattle.acl_perm.specs.Bits.{all_rights, has_bit, identifier_group, IsDifference, IsMask, IsSubset, IsUnion}
+pub use Rattle.acl_perm.proofs.Sets.{IsMask-lt, bits_from_mask, has_bit-and, has_bit-or, no_bit, same_set}
+pub use Rattle.acl_perm.specs.Bits.{IsDifference, IsMask, IsSubset, IsUnion, all_rights, has_bit, identifier_group}
 pub use Rattle.acl_perm.specs.Kind.{other_kind}
 pub use Rattle.acl_perm.specs.Order.{kind_rank, principal_cmp, principal_name}
 pub use Rattle.acl_perm.specs.Overlap.{may_overlap}
-pub use Rattle.acl_perm.specs.Principal.{everyone, group, group_named, is_user, owner, Principal, principal, user}
-pub use Rattle.acl_perm.specs.Profile.{full, Profile}
-pub use Rattle.acl_perm.specs.Situation.{IsName, IsSituation, matches, Situation}
+pub use Rattle.acl_perm.specs.Principal.{Principal, everyone, group, group_named, is_user, owner, principal, user}
+pub use Rattle.acl_perm.specs.Profile.{Profile, full}
+pub use Rattle.acl_perm.specs.Situation.{IsName, IsSituation, Situation, matches}
 pub use Rattle.acl_perm.specs.declared.kind.Kind.{Kind}
 pub use Rattle.acl_perm.specs.declared.kind.Kind.TheVariants.{Allow, Deny}
 pub use Rattle.acl_perm.specs.declared.mask.Mask.{Mask}
@@ -79,7 +79,7 @@ pub use Rattle.std.specs.Cmp.Lexicographic.{slice_cmp}
 pub use Rattle.std.specs.Int.{bit_at, trailing_zeros, w32}
 pub use Rattle.std.specs.List.{AllByRecursion, AllZip, list_any}
 pub use Rattle.std.specs.Ordering.{is_eq, is_le, is_lt, nat_cmp, ordering_reverse}
-pub use Rattle.std.specs.Prelude.{[], All, bit_and, bit_or, Bool, cond, drop, Err, false, IfNone, IfOk, IfSome, if◌then◌else◌, is_none, is_some, IsTrue, length, List, map, max, nat_lt, None, not, Ok, Option, option_map, refl, replicate, Result, slice_index_or, slice_set, Some, suc, take, true, unwrap_or, vec_len, zero, ℕ, ◌%◌, ◌&&◌, ◌*◌, ◌++◌, ◌+◌, ◌-◌, ◌/◌, ◌<◌, ◌==◌, ◌^◌, ◌||◌, ◌↔◌, ◌∷◌, ◌≡◌, ◌≢◌, ◌≤◌, ◌⊎◌}
+pub use Rattle.std.specs.Prelude.{All, Bool, Err, IfNone, IfOk, IfSome, IsTrue, List, None, Ok, Option, Result, Some, [], bit_and, bit_or, cond, drop, false, if◌then◌else◌, is_none, is_some, length, map, max, nat_lt, not, option_map, refl, replicate, slice_index_or, slice_set, suc, take, true, unwrap_or, vec_len, zero, ℕ, ◌%◌, ◌&&◌, ◌*◌, ◌++◌, ◌+◌, ◌-◌, ◌/◌, ◌<◌, ◌==◌, ◌^◌, ◌||◌, ◌↔◌, ◌∷◌, ◌≡◌, ◌≢◌, ◌≤◌, ◌⊎◌}
 pub use Rattle.std.specs.Str.{bytes_eq}
 pub use Rattle.std.specs.declared.cmp.Ordering.{Ordering}
 pub use Rattle.std.specs.declared.cmp.Ordering.TheVariants.{Equal, Greater, Less}

@@ -1,5 +1,5 @@
 -- The rows of a list that is its own normal form, place by place.
-use Rattle.acl_normal.proofs.Common.{[], Ace, ace_key, AddsRow, all_cleared, ap, AreRows, arith, Bool, bytes_eq, cleared, column, eqb-true, everyone_name, false, first_at, flags_for, group_name, has_bit, identifier_group, IsOnce, IsQuiet, IsTidy, Key, key_here, left, length, List, map, map-append, mask_here, of_borrowed, owner_name, principal_here, principal_of, refl, slice_index_or, Some, subst, suc, sym, take, take_all, take_more, true, with_bit, zero, ℕ, ◌++◌, ◌+◌, ◌<◌, ◌==◌, ◌∙◌, ◌∷◌, ◌≡◌, ◌≤◌}
+use Rattle.acl_normal.proofs.Common.{Ace, AddsRow, AreRows, Bool, ColumnKey, IsOnce, IsQuiet, IsTidy, List, Some, [], ace_key, all_cleared, ap, arith, bytes_eq, cleared, column, eqb-true, everyone_name, false, first_at, flags_for, group_name, has_bit, identifier_group, key_here, left, length, map, map-append, mask_here, of_borrowed, owner_name, principal_here, principal_of, refl, slice_index_or, subst, suc, sym, take, take_all, take_more, true, with_bit, zero, ℕ, ◌++◌, ◌+◌, ◌<◌, ◌==◌, ◌∙◌, ◌∷◌, ◌≡◌, ◌≤◌}
 use Rattle.std.proofs.lemmas.List.Elements.{filter-append}
 use Rattle.acl_normal.specs.Tables.{TableRow}
 use Rattle.acl_normal.specs.declared.bit_table.BorrowedRow.{BorrowedRow}
@@ -8,7 +8,7 @@ use Rattle.acl_normal.proofs.emit.RisingKeys.{named_again}
 use Rattle.acl_normal.proofs.rows.FirstPlaces.{first_by_place, first_here}
 use Rattle.acl_normal.proofs.unique.Bits.{no_bits_of_zero}
 
--- ---- where an ACE stands
+-- ---- where an ACE is
 
 -- the ACE at a place has the key and the mask of the place
 here_is : (xs : List Ace) (i : ℕ) (a : Ace) → i < length xs → slice_index_or xs i a ≡ a
@@ -23,12 +23,12 @@ first_once : (b : ℕ) (xs : List Ace) (i : ℕ) (a : Ace) → i < length xs →
 first_once b xs i a l is has once quiet =
     let here = here_is xs i a l is in
     let has_here : has_bit (mask_here xs i) b ≡ true = ap (λ m. has_bit m b) here.1 ∙ has in
-    subst (λ (k : Key). first_at b k.0 xs ≡ Some (k.1, i)) here.0
+    subst (λ (k : ColumnKey). first_at b k.0 xs ≡ Some (k.1, i)) here.0
     (first_by_place b (principal_here xs i) xs i (first_here b xs i once quiet has_here l))
 
 -- ---- the word on groups
 
--- without IDENTIFIER_GROUP a who is not the name of a group
+-- if an ACE lacks IDENTIFIER_GROUP, its principal needs no such flag
 pub no_group_name : (a : Ace) → has_bit a.flags identifier_group ≡ false
     → has_bit (flags_for (principal_of a)) identifier_group ≡ false
 no_group_name a lacks = go (bytes_eq a.who owner_name) refl (bytes_eq a.who group_name) refl
@@ -44,7 +44,7 @@ no_group_name a lacks = go (bytes_eq a.who owner_name) refl (bytes_eq a.who grou
 
 -- ---- the loop
 
--- the rows of one ACE more
+-- if the next ACE adds its row, the rows are those of the ACEs up to it
 next_place : (b : ℕ) (xs : List Ace) (i : ℕ) (a : Ace) (old new : List BorrowedRow) → i < length xs
     → slice_index_or xs i a ≡ a → AddsRow b xs (cleared a) old new
     → AreRows b xs (with_bit b (all_cleared (take i xs))) (map of_borrowed old)
@@ -57,7 +57,7 @@ next_place b xs i a old new l is adds so =
     ∙ sym (ap all_cleared (take_more xs i a l))))
     (adds (with_bit b (all_cleared (take i xs))) so)
 
--- an ACE with the bit has the row of its place
+-- if the next ACE has the bit, its row is added to the rows of the ACEs before it
 pub row_in_place : (b : ℕ) (xs : List Ace) (i : ℕ) (a : Ace) (old new : List BorrowedRow) (r : BorrowedRow)
     → i < length xs → slice_index_or xs i a ≡ a → has_bit a.mask b ≡ true → IsTidy xs
     → r.kind ≡ a.kind → r.who.now ≡ a.who → r.group ≡ has_bit (flags_for (principal_of a)) identifier_group
@@ -73,7 +73,7 @@ row_in_place b xs i a old new r l is has tidy kind who group source more =
           ∙ ap (λ k. Some (k, i)) (sym kind) ∙ ap (λ n. Some (r.kind, n)) (sym source);
     }) more)
 
--- a place without the bit adds none
+-- a place without the bit adds none to the ACEs that have the bit
 past_place : (b : ℕ) (xs : List Ace) (i : ℕ) → i < length xs → has_bit (mask_here xs i) b ≡ false
     → with_bit b (all_cleared (take i xs)) ≡ with_bit b (all_cleared (take (suc i) xs))
 past_place b [] i l lacks = absurd (omega (arith, l))
@@ -86,7 +86,7 @@ past_place b (a ∷ xs) (suc i) l lacks = go (has_bit a.mask b) refl (past_place
     go true e ih = rw e (ap (λ v. cleared a ∷ v) ih)
     go false e ih = rw e ih
 
--- so the rows are the same
+-- the rows up to a place without the bit are those of the ACEs before it
 pub no_row_in_place : (b : ℕ) (xs : List Ace) (i : ℕ) (rows : List TableRow) → i < length xs
     → has_bit (mask_here xs i) b ≡ false → AreRows b xs (with_bit b (all_cleared (take i xs))) rows
     → AreRows b xs (with_bit b (all_cleared (take (i + 1) xs))) rows
@@ -95,7 +95,7 @@ no_row_in_place b xs i rows l lacks so =
     subst (λ n. AreRows b xs (with_bit b (all_cleared (take n xs))) rows) next
     (subst (λ v. AreRows b xs v rows) (past_place b xs i l lacks) so)
 
--- empty ACEs have no row
+-- the ACEs that have the bit are the same without the empty ACEs
 empty_apart : (b : ℕ) (xs : List Ace) → with_bit b (all_cleared xs) ≡ with_bit b (all_cleared (left xs))
 empty_apart b [] = refl
 empty_apart b (a ∷ xs) = go (a.mask == 0) refl (has_bit a.mask b) refl (empty_apart b xs)
@@ -108,7 +108,7 @@ empty_apart b (a ∷ xs) = go (a.mask == 0) refl (has_bit a.mask b) refl (empty_
     go false e true f ih = rw (e, f) (ap (λ v. cleared a ∷ v) ih)
     go false e false f ih = rw (e, f) ih
 
--- at the end all have theirs
+-- after the last place the rows are those of the list without its empty ACEs
 pub rows_in_place : (b : ℕ) (xs : List Ace) (i : ℕ) (rows : List TableRow) → length xs ≤ i
     → AreRows b xs (with_bit b (all_cleared (take i xs))) rows
     → AreRows b xs (with_bit b (all_cleared (left xs))) rows

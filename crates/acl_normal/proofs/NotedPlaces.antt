@@ -1,15 +1,16 @@
 -- The places of the ACEs that have a right, noted by row, place by place.
-use Rattle.acl_normal.proofs.Common.{Ace, ap, AreRowNumbers, arith, Bool, cases_lt, eqb-false, eqb-true, false, false≢true, first_place_of, get_or-set_other, has_bit, HasFirstPlaces, inl, inr, IsRowOf, IsTidy, key_here, length, List, mask_here, Principal, principal_here, refl, row_of, same_Some, slice_index_or, slice_set, Some, sym, true, ℕ, ⊎_elim, ◌+◌, ◌<◌, ◌==◌, ◌∙◌, ◌≡◌, ◌≢◌, ◌≤◌, ◌⊎◌}
+use Rattle.acl_normal.proofs.Common.{Ace, ap, AreRowNumbers, arith, Bool, eqb-false, eqb-true, false, false≢true, first_place_of, get_or-set_other, has_bit, HasFirstPlaces, IsRowOf, IsTidy, key_here, length, List, mask_here, Principal, principal_here, refl, row_of, same_Some, slice_index_or, slice_set, Some, sym, true, ℕ, ⊎_elim, ◌+◌, ◌<◌, ◌==◌, ◌∙◌, ◌≡◌, ◌≢◌, ◌≤◌}
 use Rattle.std.proofs.lemmas.Grind.{get_or-set_at}
 use Rattle.acl_normal.proofs.rows.FirstPlaces.{first_by_place, first_in, has_first, named_there, row_has}
 use Rattle.acl_normal.proofs.rows.Rows.{named_here, row_below}
+use Rattle.acl_normal.proofs.Each.{before_or_at}
 
--- those before a place are noted
+-- by row, the place of the first ACE of its principal with the bit, where that place is before the given one
 abbrev pub NotesTo : ℕ → List Ace → List ℕ → ℕ → Type 0
 NotesTo b xs places to = (row : ℕ) (p : Principal) (i : ℕ) → IsRowOf row p xs → first_place_of b p xs ≡ Some i → i < to
     → slice_index_or places row 0 ≡ i
 
--- the row of a place is one of as many as there are places
+-- the row of a place is less than the number of places
 pub row_inside : (xs : List Ace) (rows : List ℕ) (i : ℕ) → AreRowNumbers xs rows → i < length xs
     → slice_index_or rows i 0 < length xs
 row_inside xs rows i numbers l =
@@ -17,10 +18,7 @@ row_inside xs rows i numbers l =
     let below = row_below (key_here xs i).0 xs (named_here xs i l) in
     omega (arith, row, below)
 
-before_or_at : (j i : ℕ) → j < i + 1 → (j < i) ⊎ (j ≡ i)
-before_or_at j i l = ⊎_elim inl (λ (g : i ≤ j). inr (omega (arith, l, g))) (cases_lt j i)
-
--- the place of an ACE with the bit is noted in its row
+-- if the ACE at the next place has the bit, its place is noted in its row
 pub noted_more : (b : ℕ) (xs : List Ace) (rows places : List ℕ) (i : ℕ) → AreRowNumbers xs rows → IsTidy xs
     → i < length xs → length places ≡ length xs → has_bit (mask_here xs i) b ≡ true → NotesTo b xs places i
     → NotesTo b xs (slice_set places (slice_index_or rows i 0) i) (i + 1)
@@ -46,7 +44,7 @@ noted_more b xs rows places i numbers tidy l count has so row p j at first below
         absurd (other (numbers.at i l ∙ ap (λ v. row_of v xs) whose ∙ sym at.is)))
         (before_or_at j i below)
 
--- one without the bit is not
+-- if the ACE at the next place lacks the bit, nothing has to be noted
 pub noted_past : (b : ℕ) (xs : List Ace) (places : List ℕ) (i : ℕ) → has_bit (mask_here xs i) b ≡ false
     → NotesTo b xs places i → NotesTo b xs places (i + 1)
 noted_past b xs places i lacks so row p j at first below =
@@ -55,7 +53,7 @@ noted_past b xs places i lacks so row p j at first below =
     ∙ has_first b p xs _ j (first_by_place b p xs j first))))
     (before_or_at j i below)
 
--- at the end all are noted
+-- after the last place the first places of all principals are noted
 pub noted_all : (b : ℕ) (xs : List Ace) (places : List ℕ) (i : ℕ) → length xs ≤ i → NotesTo b xs places i
     → HasFirstPlaces b xs places
 noted_all b xs places i end so row p j at first =

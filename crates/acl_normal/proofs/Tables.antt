@@ -1,18 +1,17 @@
 -- The table of one bit, row by row.
-use Rattle.std.proofs.Common.{◌≡◌, ℕ, ◌+◌, ◌<◌, suc, true, List, [], ◌∷◌, ◌++◌, length, take, drop, refl}
-use Rattle.acl_normal.proofs.Common.{Ace, AddsRow, All, ap, AreRows, arith, column, counts, Emitted, emitted_ace, emitted_aces, first_at, first_place_of, has_bit, HasKey, HasFirstPlaces, identifier_group, IsAlike, IsOnce, KeepsFirsts, Kind, map, map-append, None, of_borrowed, Option, plain_key, Principal, principal_of, slice_index_or, Some, StandInRows, subst, sym, take_more, with_bit, ◌∙◌}
+use Rattle.std.proofs.Common.{◌≡◌, ℕ, ◌+◌, ◌<◌, true, List, [], ◌∷◌, ◌++◌, length, take, drop, refl}
+use Rattle.acl_normal.proofs.Common.{Ace, AddsRow, All, ap, AreRows, arith, column, counts, Emitted, emitted_ace, emitted_aces, first_at, first_place_of, has_bit, HasKey, HasFirstPlaces, identifier_group, IsAlike, IsOnce, KeepsFirsts, Kind, map, map-append, None, of_borrowed, Option, plain_key, Principal, principal_of, slice_index_or, Some, AreInRows, subst, sym, take_more, with_bit, ◌∙◌, same_Some}
 use Rattle.std.proofs.lemmas.List.Elements.{filter-append}
 use Rattle.acl_normal.specs.Tables.{IsRow, TableRow}
 use Rattle.acl_normal.specs.declared.bit_table.BorrowedRow.{BorrowedRow}
-use Rattle.acl_normal.proofs.unique.Columns.{column_has}
-use Rattle.acl_normal.proofs.rows.TakeOut.{kind_in, kind_first}
-use Rattle.acl_normal.proofs.unique.ListColumns.{column-append}
+use Rattle.acl_normal.proofs.unique.Columns.{column_has, column-append, no_inherit_only}
 use Rattle.acl_normal.proofs.unique.Names.{overlaps_itself}
 use Rattle.acl_normal.proofs.unique.SameOrder.{once_has}
-use Rattle.acl_normal.proofs.unique.Unique.{no_inherit_only}
 use Rattle.acl_normal.proofs.five_forms.Writing.{split_at}
 use Rattle.acl_normal.proofs.rows.Rows.{row_below}
+use Rattle.acl_normal.proofs.rows.FirstAces.{kind_in, kind_first}
 
+-- the rows of a list and the row of one more ACE are the rows of the list with that ACE
 rows_push : (b : ℕ) (xs list : List Ace) (a : Ace) (rows : List TableRow) (r : TableRow) → AreRows b xs list rows
     → IsRow b xs a r → AreRows b xs (list ++ a ∷ []) (rows ++ r ∷ [])
 rows_push b xs [] a [] r so is = (is, tt)
@@ -20,7 +19,7 @@ rows_push b xs [] a (s ∷ rows) r so is = absurd so
 rows_push b xs (c ∷ list) a [] r so is = absurd so
 rows_push b xs (c ∷ list) a (s ∷ rows) r so is = (so.0, rows_push b xs list a rows r so.1 is)
 
--- an ACE with the bit has a row
+-- an ACE with the bit adds its row behind the rows before it
 pub row_pushed : (b : ℕ) (xs : List Ace) (a : Ace) (old new : List BorrowedRow) (r : BorrowedRow)
     → has_bit a.mask b ≡ true → IsRow b xs a (of_borrowed r) → new ≡ old ++ r ∷ [] → AddsRow b xs a old new
 row_pushed b xs a old new r has is more list so =
@@ -28,14 +27,11 @@ row_pushed b xs a old new r has is more list so =
     (sym (ap (map of_borrowed) more ∙ map-append of_borrowed old (r ∷ [])))
     (rows_push b xs list a (map of_borrowed old) (of_borrowed r) so is))
 
-some_kind : (j k : Kind) → ◌≡◌ {A = Option Kind} (Some j) (Some k) → j ≡ k
-some_kind j k h = cc
-
--- the ACE of a normal form takes part
+-- an ACE of a normal form takes part with each bit of its mask
 emitted_counts : (b : ℕ) (e : Emitted) → has_bit e.mask.bits b ≡ true → counts b (emitted_ace e) ≡ true
 emitted_counts b e h = rw (h, no_inherit_only (plain_key e.key).0) refl
 
--- where a key of the principal is in the column, and the place is that of the first, this is what stands first
+-- the kind of a principal's key and the place of its first ACE are what the first ACE gives
 placed : (b : ℕ) (p : Principal) (xs : List Ace) (kind : Kind) (source : ℕ)
     → kind_in (first_at b p xs) ≡ Some kind
     → ((place : ℕ) → first_place_of b p xs ≡ Some place → source ≡ place)
@@ -45,11 +41,11 @@ placed b p xs kind source there at = go (first_at b p xs) refl
     go : (o : Option (Kind × ℕ)) → first_at b p xs ≡ o → first_at b p xs ≡ Some (kind, source)
     go None e = cc (rw e at there)
     go (Some (k, i)) e =
-        let same : k ≡ kind = some_kind k kind (rw e at there) in
+        let same : k ≡ kind = same_Some k kind (rw e at there) in
         let is : source ≡ i = at i (rw e refl) in
         e ∙ ap (λ v. Some (v, i)) same ∙ ap (λ v. Some (kind, v)) (sym is)
 
--- what the row of an ACE says, where its key is in the list
+-- a row that shows an emitted ACE, whose key is in the list, is the row that the ACE adds
 pub one_row : (b : ℕ) (xs : List Ace) (e : Emitted) (a : Ace) (old new : List BorrowedRow) (r : BorrowedRow)
     → has_bit e.mask.bits b ≡ true → HasKey b xs (emitted_ace e) → a ≡ emitted_ace e
     → ((place : ℕ) → first_place_of b (principal_of (emitted_ace e)) xs ≡ Some place → r.source ≡ place)
@@ -69,7 +65,7 @@ one_row b xs e a old new r has key is at own who group more =
 
 -- ---- the loop
 
--- one ACE more
+-- if the next ACE adds its row, the rows are those of the ACEs up to it
 pub rows_on : (b : ℕ) (xs : List Ace) (es : List Emitted) (i : ℕ) (d : Emitted) (old new : List BorrowedRow)
     → i < length es
     → AreRows b xs (with_bit b (emitted_aces (take i es))) (map of_borrowed old)
@@ -85,14 +81,14 @@ rows_on b xs es i d old new l so adds =
 
 -- ---- the table
 
--- each ACE of a list without repetition has its key in one that is alike
+-- a list whose columns are alike those of the emitted ACEs has the key of each of these ACEs
 pub key_there : (b : ℕ) (xs : List Ace) (es : List Emitted) → IsOnce (column (emitted_aces es) b)
     → IsAlike (column xs b) (column (emitted_aces es) b) → (i : ℕ) (d : Emitted) → i < length es
     → HasKey b xs (emitted_ace (slice_index_or es i d))
 key_there b xs es once alike i d l has =
     let a = emitted_ace (slice_index_or es i d) in
     let front = emitted_aces (take i es) in
-    let back = emitted_aces (drop (suc i) es) in
+    let back = emitted_aces (drop (i + 1) es) in
     let whole : column (emitted_aces es) b ≡ column front b ++ (principal_of a, a.kind) ∷ column back b =
     ap (λ v. column v b) (split_at es i d l) ∙ column-append b front (a ∷ back)
     ∙ ap (λ v. column front b ++ v) (column_has b a back has) in
@@ -100,7 +96,7 @@ key_there b xs es once alike i d l has =
     ∙ once_has (column (emitted_aces es) b) (principal_of a) a.kind once
     (record { before = column front b; after = column back b; is = whole })
 
--- what stands first in a list stands first in the source
+-- rows that show first places of a list show first places of its source, if the list keeps them
 pub rows_from : (b : ℕ) (xs ys list : List Ace) (rows : List TableRow) → KeepsFirsts xs ys → AreRows b ys list rows
     → AreRows b xs list rows
 rows_from b xs ys [] [] keeps so = tt
@@ -116,8 +112,8 @@ rows_from b xs ys (a ∷ list) (r ∷ rows) keeps so = (
   rows_from b xs ys list rows keeps so.1,
 )
 
--- what stands in the rows of a list stands in one of so many
-pub row_there : (xs : List Ace) (es shown : List Emitted) (n : ℕ) → StandInRows xs es → shown ≡ es → n ≡ length xs
+-- the row of each emitted ACE is less than the number of ACEs of the list
+pub row_there : (xs : List Ace) (es shown : List Emitted) (n : ℕ) → AreInRows xs es → shown ≡ es → n ≡ length xs
     → All (λ e. e.row < n) shown
 row_there xs es shown n stand is count = subst (λ v. All (λ e. e.row < n) v) (sym is) below
   where
@@ -125,14 +121,14 @@ row_there xs es shown n stand is count = subst (λ v. All (λ e. e.row < n) v) (
     below k d l = let at = stand k d l in
         omega (arith, count, at.is, row_below (principal_of (emitted_ace (slice_index_or es k d))) xs at.named)
 
--- the rows of all, by their places in a list
+-- what holds of rows made from copies of the first places and of the emitted ACEs holds of these
 pub rows_shown : (b : ℕ) (xs : List Ace) (places held : List ℕ) (es shown : List Emitted) (rows : List TableRow)
     → held ≡ places → shown ≡ es
-    → ((list : List Ace) → HasFirstPlaces b list held → StandInRows list shown
+    → ((list : List Ace) → HasFirstPlaces b list held → AreInRows list shown
     → All (λ e. HasKey b list (emitted_ace e)) shown → AreRows b list (with_bit b (emitted_aces shown)) rows)
-    → HasFirstPlaces b xs places → StandInRows xs es → All (λ e. HasKey b xs (emitted_ace e)) es
+    → HasFirstPlaces b xs places → AreInRows xs es → All (λ e. HasKey b xs (emitted_ace e)) es
     → AreRows b xs (with_bit b (emitted_aces es)) rows
 rows_shown b xs places held es shown rows same is so at stand keys =
     subst (λ v. AreRows b xs (with_bit b (emitted_aces v)) rows) is
-    (so xs (subst (λ v. HasFirstPlaces b xs v) (sym same) at) (subst (λ v. StandInRows xs v) (sym is) stand)
+    (so xs (subst (λ v. HasFirstPlaces b xs v) (sym same) at) (subst (λ v. AreInRows xs v) (sym is) stand)
     (subst (λ v. All (λ e. HasKey b xs (emitted_ace e)) v) (sym is) keys))

@@ -7,12 +7,12 @@ two_users : reduced ((user (codes "bob"), Deny) ∷ (user (codes "alice"), Allow
     ≡ (user (codes "alice"), Allow) ∷ []
 two_users = refl
 
--- nor is it in the other order
+-- ALLOW alice, DENY bob: the denial isn't needed in this order either
 two_users_turned : reduced ((user (codes "alice"), Allow) ∷ (user (codes "bob"), Deny) ∷ [])
     ≡ (user (codes "alice"), Allow) ∷ []
 two_users_turned = refl
 
--- DENY bob, ALLOW EVERYONE@ is needed as it stands
+-- DENY bob, ALLOW EVERYONE@: both keys are needed
 all_but_one : reduced ((user (codes "bob"), Deny) ∷ (everyone, Allow) ∷ [])
     ≡ (user (codes "bob"), Deny) ∷ (everyone, Allow) ∷ []
 all_but_one = refl
@@ -26,56 +26,66 @@ trailing : reduced ((owner, Allow) ∷ (owner, Deny) ∷ (everyone, Deny) ∷ (u
     ≡ (owner, Allow) ∷ []
 trailing = refl
 
--- a user and a group of one name: the denial behind isn't needed, and the one before is
+-- ALLOW the user ops, DENY the group ops: the denial isn't needed
 user_first : reduced ((user (codes "ops"), Allow) ∷ (group_named (codes "ops"), Deny) ∷ [])
     ≡ (user (codes "ops"), Allow) ∷ []
 user_first = refl
 
+-- DENY the group ops, ALLOW the user ops: the denial is needed, since it comes first
 group_first : reduced ((group_named (codes "ops"), Deny) ∷ (user (codes "ops"), Allow) ∷ [])
     ≡ (group_named (codes "ops"), Deny) ∷ (user (codes "ops"), Allow) ∷ []
 group_first = refl
 
--- ALLOW READ_DATA GROUP@ with IDENTIFIER_GROUP: the flag is none that GROUP@ needs
+-- the ACE ALLOW READ_DATA GROUP@ with IDENTIFIER_GROUP
 marked_group : Ace
 marked_group = record { kind = Allow; flags = 0x40; mask = 1; who = codes "GROUP@" }
 
+-- the flag does not make GROUP@ the name of a group
 group_names_itself : principal_of marked_group ≡ group
 unfolding marked_group
 group_names_itself = refl
 
+-- GROUP@ needs no flag
 group_flags : flags_for group ≡ 0
 group_flags = refl
 
--- DENY WRITE_DATA bob, ALLOW READ_DATA|WRITE_DATA OWNER@: WRITE_DATA of the owner isn't free, READ_DATA is
+-- the ACE DENY WRITE_DATA bob
 bob : Ace
 bob = record { kind = Deny; flags = 0; mask = 2; who = codes "bob" }
 
+-- the ACE ALLOW READ_DATA|WRITE_DATA OWNER@
 mine : Ace
 mine = record { kind = Allow; flags = 0; mask = 3; who = codes "OWNER@" }
 
+-- the column of WRITE_DATA has the keys of both ACEs
 write_column : column (bob ∷ mine ∷ []) 1 ≡ (user (codes "bob"), Deny) ∷ (owner, Allow) ∷ []
 unfolding bob mine
 write_column = refl
 
+-- the two keys conflict, since bob may be the owner
 owner_conflicts : conflicts (ace_key bob) (ace_key mine) ≡ true
 unfolding bob mine
 owner_conflicts = refl
 
+-- at WRITE_DATA the key of the owner is not free behind the denial
 write_held : is_free (column (bob ∷ mine ∷ []) 1) (owner, Allow) ≡ false
 unfolding bob mine
 write_held = refl
 
+-- at READ_DATA, which the denial lacks, the key of the owner is free
 read_free : is_free (column (bob ∷ mine ∷ []) 0) (owner, Allow) ≡ true
 unfolding bob mine
 read_free = refl
 
--- ALLOW READ_DATA alice, ALLOW WRITE_DATA alice: both bits are free at alice
+-- the ACE ALLOW READ_DATA alice
 reads : Ace
 reads = record { kind = Allow; flags = 0; mask = 1; who = codes "alice" }
 
+-- the ACE ALLOW WRITE_DATA alice
 writes : Ace
 writes = record { kind = Allow; flags = 0; mask = 2; who = codes "alice" }
 
+-- at WRITE_DATA, which the second ACE has, the key of the first ACE is free: it is the same key
 both_free : is_free (column (reads ∷ writes ∷ []) 1) (ace_key reads) ≡ true
 unfolding reads writes
 both_free = refl

@@ -1,5 +1,5 @@
--- Whos that do not end in `@`: they are names of users and of groups.
-use Rattle.acl_normal.proofs.Common.{[], Ace, AceRef, aces_in, ap, arith, Bool, bytes_eq, everyone, everyone_name, false, false_from_ne_true, group, group_name, group_named, has_bit, identifier_group, if◌then◌else◌, length, List, nat_cmp, owner, owner_name, Principal, principal_cmp, principal_here, principal_of, refl, slice_cmp, slice_index_or, suc, sym, true, user, who_here, zero, ℕ, ◌<◌, ◌∙◌, ◌∷◌, ◌≡◌, ◌≤◌}
+-- Whos: those that do not end in `@` are names, and principals of one rank are in the order of their whos.
+use Rattle.acl_normal.proofs.Common.{[], Ace, AceRef, aces_in, ap, arith, bytes_eq, everyone, everyone_name, false, false_from_ne_true, group, group_name, group_named, has_bit, identifier_group, if◌then◌else◌, length, List, nat_cmp, owner, owner_name, Principal, principal_cmp, principal_here, principal_of, refl, slice_cmp, slice_index_or, suc, sym, true, user, who_here, zero, ℕ, ◌<◌, ◌∙◌, ◌∷◌, ◌≡◌, ◌≤◌, who_for}
 use Rattle.acl_perm.specs.Order.{principal_rank}
 use Rattle.acl_normal.proofs.unique.Names.{bytes_eq_same}
 use Rattle.acl_nfs4.specs.Who.{ends_in_at}
@@ -12,33 +12,13 @@ no_special who name h l =
     let clash : true ≡ false = sym h ∙ sym (ap ends_in_at same) ∙ l in
     cc)
 
--- the who of a principal
-abbrev who_of : Principal → List ℕ
-who_of owner = owner_name
-who_of (user name) = name
-who_of group = group_name
-who_of (group_named name) = name
-who_of everyone = everyone_name
+-- the who of an ACE is that of its principal
+pub who_is : (a : Ace) → who_for (principal_of a) ≡ a.who
+who_is a = grind (arith, bytes_eq_same a.who)
 
--- an ACE has that of its principal
-who_is : (a : Ace) → a.who ≡ who_of (principal_of a)
-who_is a =
-    go (bytes_eq a.who owner_name) (bytes_eq a.who group_name) (bytes_eq a.who everyone_name)
-    (has_bit a.flags identifier_group) refl refl refl
-  where
-    go : (t u v w : Bool) → bytes_eq a.who owner_name ≡ t → bytes_eq a.who group_name ≡ u
-        → bytes_eq a.who everyone_name ≡ v
-        → a.who ≡ who_of (if t then owner else (if u then group else (if v then everyone
-        else (if w then group_named a.who else user a.who))))
-    go true u v w e f g = bytes_eq_same a.who owner_name e
-    go false true v w e f g = bytes_eq_same a.who group_name f
-    go false false true w e f g = bytes_eq_same a.who everyone_name g
-    go false false false true e f g = refl
-    go false false false false e f g = refl
-
--- whos stand to each other as principals of one rank
+-- two principals of one rank are in the order of their whos
 whos_compare : (p q : Principal) → principal_rank p ≡ principal_rank q
-    → principal_cmp p q ≡ slice_cmp nat_cmp (who_of p) (who_of q)
+    → principal_cmp p q ≡ slice_cmp nat_cmp (who_for p) (who_for q)
 whos_compare (user a) (user b) e = refl
 whos_compare (group_named a) (group_named b) e = refl
 whos_compare owner owner e = refl
@@ -47,29 +27,29 @@ whos_compare everyone everyone e = refl
 whos_compare _ _ e = absurd (omega (arith, e))
 
 -- the who at a place is that of the principal there
-who_at : (xs : List Ace) (i : ℕ) → i < length xs → who_of (principal_here xs i) ≡ who_here xs i
+who_at : (xs : List Ace) (i : ℕ) → i < length xs → who_for (principal_here xs i) ≡ who_here xs i
 who_at [] i l = absurd (omega (arith, l))
-who_at (a ∷ xs) zero l = sym (who_is a)
+who_at (a ∷ xs) zero l = who_is a
 who_at (a ∷ xs) (suc i) l = who_at xs i (omega (arith, l))
 
--- principals of one rank stand to each other as their whos
+-- if the principals at two places have one rank, they are in the order of the whos there
 pub compared_by_whos : (xs : List Ace) (i j : ℕ) → i < length xs → j < length xs
     → principal_rank (principal_here xs i) ≡ principal_rank (principal_here xs j)
     → principal_cmp (principal_here xs i) (principal_here xs j)
     ≡ slice_cmp nat_cmp (who_here xs i) (who_here xs j)
 compared_by_whos xs i j l u e =
     whos_compare (principal_here xs i) (principal_here xs j) e
-    ∙ ap (λ v. slice_cmp nat_cmp v (who_of (principal_here xs j))) (who_at xs i l)
+    ∙ ap (λ v. slice_cmp nat_cmp v (who_for (principal_here xs j))) (who_at xs i l)
     ∙ ap (slice_cmp nat_cmp (who_here xs i)) (who_at xs j u)
 
--- the who that the code reads at a place
+-- the who that the code reads at a place is the one of the list there
 pub who_in : (aces : List AceRef) (i : ℕ) (a : AceRef) → i < length aces → a ≡ slice_index_or aces i a
     → a.who.now ≡ who_here (aces_in aces) i
 who_in [] i a l e = absurd (omega (arith, l))
 who_in (b ∷ aces) zero a l e = ap (λ (v : AceRef). v.who.now) e
 who_in (b ∷ aces) (suc i) a l e = who_in aces i a (omega (arith, l)) e
 
--- behind the last there is none
+-- after the last place there is no who
 pub who_after : (aces : List AceRef) (i : ℕ) → length aces ≤ i → who_here (aces_in aces) i ≡ []
 who_after [] i l = refl
 who_after (b ∷ aces) zero l = absurd (omega (arith, l))

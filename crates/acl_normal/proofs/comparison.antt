@@ -6,23 +6,27 @@ pub mod SmallSetLemmas
 pub mod SetEvaluation
 -- the test whether two principals are the same
 pub mod SameTests
--- going over the small sets, one after the other
+-- the search through the small sets, one after the other
 pub mod SetSearchLemmas
 -- the longest name of the principals that lists mention
 pub mod MentionedNames
--- rising lists of the same principals are the same
+-- principals in order: none is below itself, and rising lists of the same principals are the same
 pub mod Ordered
--- what the first small set at which two lists grant otherwise says of them
+-- what the first small set at which two lists do not grant the same says of them
 pub mod FirstSet
--- the numbers of principals that stand in order
+-- the numbers of rising principals
 pub mod Numbers
--- the principals that lists mention, by row and by number
+-- the principals that a list mentions, by row
 pub mod MentionedRows
+-- the principals of a table, in order, and their numbers
+pub mod MentionedNumbers
+-- whom the ACEs of two lists name, by the numbers of the principals
+pub mod MentionedWhoms
 -- where a list first mentions each principal
 pub mod FirstPlaceLemmas
 -- what two principals are granted, by what each is granted alone and which comes first
 pub mod PairGrants
--- the least number of a principal at which two lists grant otherwise, bit by bit
+-- the least number of a principal at which two lists do not grant the same, bit by bit
 pub mod RowFacts
 -- tables that show which standings invert another
 pub mod TableFacts

@@ -4,7 +4,7 @@ pub mod SoFar
 pub mod Marks
 -- the heap of the numbers that have bits
 pub mod Heaped
--- what is left of a list in memory has few ACEs: twice their number is one of the machine's
+-- what remains of a list is short and tidy
 pub mod Few
 -- a walk over the places of a queue: those that wait before the first that is blocked are free
 pub mod Walk
@@ -14,17 +14,25 @@ pub mod NewlyFree
 pub mod Filled
 -- the list that is left, without its empty ACEs, and what is emitted of it
 pub mod Leaving
+-- which keys are free in a column without a principal
+pub mod FreeWithout
+-- the principal of each key of a list has a who, and what is emitted for the key names it
+pub mod KeyNames
 -- the loop that emits: what it keeps, what a turn does, and that it ends
 pub mod Drained
--- what is emitted stands in the row of its principal
+-- each emitted ACE has the row of its principal
 pub mod InRows
--- what remains of a list while it is emitted: masks by place of which masks by row leave a part, and places of queues
+-- what remains of a list while it is emitted: masks by place of which masks by row leave a part, and queues of places
 pub mod RemainingLemmas
--- chains of links: the queues of what waits, made from the last place to the first
+-- chains of links: what a link is followed by, and a new link in front of a chain
 pub mod Chains
+-- the queues of a list, each a chain of links: what is left of them when bits are taken out, and the walk along one
+pub mod QueueChains
+-- the queues of a list are made from the last place to the first, bit by bit
+pub mod NotedQueues
 -- what remains of a list, by its fields
 pub mod InRemaining
--- a list whose keys rise stands in the order of its normal form
+-- a list whose keys rise is in the order of its normal form
 pub mod RisingKeys
--- the look at the numbers of the keys tells whether they rise
+-- the numbers of the keys show whether they rise, and the list without its empty ACEs is made place by place
 pub mod Risen

@@ -2,5 +2,5 @@
 pub mod Paths
 -- lists that go out one behind the other
 pub mod FormsOut
--- that the ACEs of a normal form, one after the other, are a list
+-- the ACEs of a normal form, written one after the other, are a list
 pub mod Writing

@@ -1,5 +1,7 @@
 -- the plain reduction of a column decides alike, and is settled
 pub mod Reduced
+-- the unshadowed keys of a column decide as the column, and are a clean column
+pub mod Unshadowed
 -- loops over ACEs in memory, and what they gather bit by bit
 pub mod Passes
 -- the first pass of the plain reduction: shadowed bits go

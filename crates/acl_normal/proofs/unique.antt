@@ -1,4 +1,4 @@
--- when two principals are the same, and when they overlap
+-- when two principals, two kinds or two keys are the same, and when two principals overlap
 pub mod Names
 -- one bit of a list that begins with an ACE, or that is two lists
 pub mod Columns
@@ -16,11 +16,15 @@ pub mod Named
 pub mod SameKeys
 -- single bits of a mask
 pub mod Bits
--- the columns of lists, and of irreducible lists
+-- the next right of a mask, from a bit on
+pub mod NextRight
+-- the columns of a list, and from which ACE each key of a column comes
 pub mod ListColumns
+-- the columns of irreducible lists are irreducible, and alike if the lists grant the same
+pub mod IrreducibleLists
 -- which keys are free, by what comes first
 pub mod Free
--- the order of keys tells them apart
+-- keys that are equal in their order are equal
 pub mod Keys
 -- normal lists that grant the same are equal
 pub mod Unique
@@ -50,7 +54,7 @@ pub mod Accepted
 pub mod Outline
 -- what makes a normal list the normal form of an accepted one: that its keys are keys of the source
 pub mod Forming
--- that the keys of the normal form are keys of the source
+-- the keys of the normal form are keys of the source
 pub mod Taken
 -- the five normal forms of a list, and what they say about the list
 pub mod FiveFormLemmas

@@ -11,7 +11,7 @@ pub use Rattle.acl_normal.specs.FiveForms.{five_spellings}
 pub use Rattle.acl_normal.specs.Keys.{kind_eq, plain_key, principal_eq}
 pub use Rattle.acl_normal.specs.Left.{IsLowest, left}
 pub use Rattle.acl_normal.specs.Normal.{flags_for, is_free, IsIrreducibleList, IsNormal}
-pub use Rattle.acl_normal.specs.NormalForm.{IsNormalFormOf, Normalises}
+pub use Rattle.acl_normal.specs.NormalForm.{IsNormalFormOf, Normalizes}
 pub use Rattle.acl_normal.specs.Places.{nothing_left, take_out}
 pub use Rattle.acl_normal.specs.Tables.{of_borrowed}
 pub use Rattle.acl_normal.specs.internal.Counts.{count_left}
@@ -29,7 +29,7 @@ pub use Rattle.acl_normal.specs.internal.comparison.MentionedRows.{AreMentioned}
 pub use Rattle.acl_normal.specs.internal.comparison.SetSearch.{GrantAlikeTo, IsGrantedTo, principals}
 pub use Rattle.acl_normal.specs.internal.comparison.TwoLists.{all_mentioned, AreAlikeTo, FindSet, two_lists}
 pub use Rattle.acl_normal.specs.internal.emit.Emissions.{IsEmission}
-pub use Rattle.acl_normal.specs.internal.emit.Emitted.{emitted_ace, emitted_aces, StandInRows}
+pub use Rattle.acl_normal.specs.internal.emit.Emitted.{emitted_ace, emitted_aces, AreInRows}
 pub use Rattle.acl_normal.specs.internal.emit.Queues.{AreQueues}
 pub use Rattle.acl_normal.specs.internal.emit.Rising.{all_cleared, IsRising}
 pub use Rattle.acl_normal.specs.internal.rows.Remaining.{IsNumbered}

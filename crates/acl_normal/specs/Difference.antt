@@ -17,7 +17,7 @@ situation_of d = record {
 }
 
 -- the result of a comparison of two lists: nothing if and only if they grant the same, else their first difference
-pub record IsComparison (list other : List Ace) (told : Option Difference) : Type 0 where
-  pub same : IsNone told ↔ SameGrants all_rights list other
-  pub first : IfSome told (λ d. IsFirstDifference list other (situation_of d) d.bit.bits d.first_grants)
-  pub requester : IfSome told (λ d. TellsApart list other (situation_of d) d.bit.bits d.first_grants)
+pub record IsComparison (list other : List Ace) (found : Option Difference) : Type 0 where
+  pub same : IsNone found ↔ SameGrants all_rights list other
+  pub first : IfSome found (λ d. IsFirstDifference list other (situation_of d) d.bit.bits d.first_grants)
+  pub requester : IfSome found (λ d. TellsApart list other (situation_of d) d.bit.bits d.first_grants)

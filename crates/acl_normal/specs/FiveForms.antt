@@ -1,12 +1,11 @@
 -- The five normal forms of the list of a directory (this library's own, over RFC 8881, section 6.2.1).
 use Rattle.std.specs.Prelude.{◌≡◌, ◌↔◌, ◌∷◌, [], ℕ, Bool, List}
-use Rattle.std.specs.Cmp.{IsEquivalence, IsPartialEquivalence, on_equiv, on_per}
-use Rattle.std.specs.Cmp.Lexicographic.{lists_equiv, lists_per, pointwise}
+use Rattle.std.specs.Cmp.Lexicographic.{pointwise}
 use Rattle.std.specs.List.{flat_map}
 use Rattle.std.specs.Ordering.{on}
 use Rattle.acl_perm.specs.Profile.{Profile}
 use Rattle.acl_nfs4.specs.Ace.{Ace}
-use Rattle.acl_nfs4.specs.Owned.{same_list, same_list_equiv, same_list_laws}
+use Rattle.acl_nfs4.specs.Owned.{same_list}
 use Rattle.acl_nfs4.specs.Spelling.{IsAccepted, spelling}
 use Rattle.acl_nfs4.specs.Within.{IsProfile}
 use Rattle.acl_eval.specs.declared.inherit.ChildKind.TheVariants.{Directory, File}
@@ -58,11 +57,3 @@ TellApart Same = (p : Profile) (list other : List Ace) (five other_five : FiveFo
 -- the same spelling if and only if they are the same
 abbrev pub same_forms : FiveForms → FiveForms → Bool
 same_forms = on five_lists (pointwise same_list)
-
--- the five are compared by a partial equivalence
-pub same_forms_laws : IsPartialEquivalence same_forms
-same_forms_laws = on_per five_lists (lists_per same_list_laws)
-
--- the five are compared by an equivalence
-pub same_forms_equiv : IsEquivalence same_forms
-same_forms_equiv = on_equiv five_lists (lists_equiv same_list_equiv)

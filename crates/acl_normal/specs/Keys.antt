@@ -1,23 +1,23 @@
--- Keys of one bit of a list of ACEs (RFC 8881, section 6.2.1): a principal and a kind. When two keys are the same, when
--- they conflict, and their order.
-use Rattle.std.specs.Prelude.{Bool, true, false, not, ◌&&◌}
+-- Keys of one right of a list of ACEs (RFC 8881, section 6.2.1): a principal and a kind. When two keys are the same,
+-- when they conflict, and their order.
+use Rattle.std.specs.Prelude.{Bool, false, not, true, ◌&&◌}
 use Rattle.std.specs.Str.{bytes_eq}
 use Rattle.std.specs.declared.cmp.Ordering.{Ordering}
-use Rattle.acl_perm.specs.Principal.{Principal, principal, owner, user, group, group_named, everyone}
+use Rattle.acl_perm.specs.Principal.{Principal, everyone, group, group_named, owner, principal, user}
 use Rattle.acl_perm.specs.Overlap.{may_overlap}
 use Rattle.acl_perm.specs.Order.{Key as Record, key_cmp}
 use Rattle.acl_perm.specs.declared.key.Key.{Key as CodeKey}
 use Rattle.acl_perm.specs.declared.kind.Kind.{Kind}
-use Rattle.acl_perm.specs.declared.kind.Kind.TheVariants.{Deny, Allow}
+use Rattle.acl_perm.specs.declared.kind.Kind.TheVariants.{Allow, Deny}
 use Rattle.acl_nfs4.specs.Ace.{Ace}
 use Rattle.acl_nfs4.specs.Who.{principal_of}
 
 -- a key of a column: its principal, and whether it denies or allows
-abbrev pub Key : Type 0
-Key = Principal × Kind
+abbrev pub ColumnKey : Type 0
+ColumnKey = Principal × Kind
 
--- the key of an ACE in the column of each of its bits
-abbrev pub ace_key : Ace → Key
+-- the key of an ACE in the column of each of its rights
+abbrev pub ace_key : Ace → ColumnKey
 ace_key a = (principal_of a, a.kind)
 
 -- the same principal
@@ -37,17 +37,17 @@ kind_eq Allow Deny = false
 kind_eq Allow Allow = true
 
 -- the kinds differ, and one requester can match both principals
-abbrev pub conflicts : Key → Key → Bool
+abbrev pub conflicts : ColumnKey → ColumnKey → Bool
 conflicts e f = may_overlap e.0 f.0 && not (kind_eq e.1 f.1)
 
 -- the key as a record, as acl_perm orders it
-abbrev pub key_record : Key → Record
+abbrev pub key_record : ColumnKey → Record
 key_record e = record { principal = e.0; kind = e.1 }
 
 -- keys are ordered as in acl_perm
-abbrev pub compare_keys : Key → Key → Ordering
+abbrev pub compare_keys : ColumnKey → ColumnKey → Ordering
 compare_keys e f = key_cmp (key_record e) (key_record f)
 
 -- the principal of a key of the code, and whether the key denies or allows
-abbrev pub plain_key : CodeKey → Key
+abbrev pub plain_key : CodeKey → ColumnKey
 plain_key k = (principal k.principal, k.kind)

@@ -6,18 +6,18 @@ use Rattle.acl_nfs4.specs.Spelling.{IsAccepted, spelling}
 use Rattle.acl_nfs4.specs.Within.{IsProfile}
 use Rattle.acl_eval.specs.Column.{Column}
 use Rattle.acl_eval.specs.Grant.{SameGrants}
-use Rattle.acl_normal.specs.Keys.{Key}
+use Rattle.acl_normal.specs.Keys.{ColumnKey}
 use Rattle.acl_normal.specs.Normal.{IsNormal}
 use Rattle.acl_normal.specs.NormalForm.{IsNormalFormOf}
 
 -- the key is in the column
-pub record Has (c : Column) (e : Key) : Type 0 where
+pub record Has (c : Column) (e : ColumnKey) : Type 0 where
   pub before : Column
   pub after : Column
   pub is : c ≡ before ++ e ∷ after
 
 -- the first key is before the second
-pub record Precedes (c : Column) (e f : Key) : Type 0 where
+pub record Precedes (c : Column) (e f : ColumnKey) : Type 0 where
   pub before : Column
   pub between : Column
   pub after : Column

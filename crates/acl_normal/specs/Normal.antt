@@ -1,5 +1,5 @@
--- The normal form of a list of ACEs (this library's own, over what lists grant by RFC 8881, section 6.2.1): no bit that
--- plays no part, one order, and no flag that plays no part.
+-- The normal form of a list of ACEs (this library's own, over what lists grant by RFC 8881, section 6.2.1): no right
+-- that plays no part, one order, and no flag that plays no part.
 use Rattle.std.specs.Prelude.{⊤, ◌≡◌, ◌≢◌, ℕ, ◌^◌, Bool, false, not, ◌||◌, ◌&&◌, IsTrue, List, [], ◌∷◌, ◌++◌}
 use Rattle.std.specs.List.{AllByRecursion}
 use Rattle.std.specs.Ordering.{is_le}
@@ -10,13 +10,13 @@ use Rattle.acl_nfs4.specs.Who.{principal_of}
 use Rattle.acl_eval.specs.Column.{Column, column}
 use Rattle.acl_eval.specs.Grant.{SameGrants}
 use Rattle.acl_eval.specs.Scan.{without}
-use Rattle.acl_normal.specs.Keys.{Key, ace_key, principal_eq, kind_eq, conflicts, compare_keys}
+use Rattle.acl_normal.specs.Keys.{ColumnKey, ace_key, principal_eq, kind_eq, conflicts, compare_keys}
 
--- the ACE without one bit of its mask
+-- the ACE without one right of its mask
 abbrev pub without_bit : Ace → ℕ → Ace
 without_bit a bit = record a { mask = without a.mask (2 ^ bit) }
 
--- the bit of that ACE is needed: without it the list would not grant the same
+-- the right of that ACE is needed: without it the list would not grant the same
 abbrev pub IsNeeded : List Ace → Ace → List Ace → ℕ → Type 0
 IsNeeded before a after bit =
     SameGrants all_rights (before ++ a ∷ after) (before ++ without_bit a bit ∷ after) → ⊥
@@ -25,22 +25,23 @@ IsNeeded before a after bit =
 abbrev pub HasNoEmptyMask : List Ace → Type 0
 HasNoEmptyMask list = AllByRecursion (λ a. a.mask ≢ 0) list
 
--- no mask is empty, and each bit of each mask is needed
+-- no mask is empty, and each right of each mask is needed
 pub record IsIrreducibleList (list : List Ace) : Type 0 where
   pub no_empty_mask : HasNoEmptyMask list
   pub needed : (before : List Ace) (a : Ace) (after : List Ace) (bit : ℕ) → list ≡ before ++ a ∷ after
       → IsTrue (has_bit a.mask bit) → IsNeeded before a after bit
 
 -- the key is free in a column: the column has it, and no key before it conflicts with it
-abbrev pub is_free : Column → Key → Bool
+abbrev pub is_free : Column → ColumnKey → Bool
 is_free [] e = false
 is_free (first ∷ c) e = (principal_eq first.0 e.0 && kind_eq first.1 e.1) || (not (conflicts first e) && is_free c e)
 
--- at each place is the least key that is free at some bit from there on, with all bits at which it is free
+-- each ACE has the least key that is free on some right in the rest of the list, with all rights on which it is free
 abbrev pub IsOrdered : List Ace → Type 0
 IsOrdered [] = ⊤
 IsOrdered (a ∷ list) =
-    ((e : Key) (bit : ℕ) → IsTrue (is_free (column (a ∷ list) bit) e) → IsTrue (is_le (compare_keys (ace_key a) e)))
+    ((e : ColumnKey) (bit : ℕ) → IsTrue (is_free (column (a ∷ list) bit) e)
+    → IsTrue (is_le (compare_keys (ace_key a) e)))
     × ((bit : ℕ) → has_bit a.mask bit ≡ is_free (column (a ∷ list) bit) (ace_key a))
     × IsOrdered list
 
@@ -68,6 +69,6 @@ pub record IsNormal (list : List Ace) : Type 0 where
 abbrev pub is_inherit_only : Ace → Bool
 is_inherit_only a = has_bit a.flags inherit_only
 
--- the ACE has the bit and takes part, so that it is a key of the bit's column
+-- the ACE has the right and takes part, so that it is a key of the right's column
 abbrev pub counts : ℕ → Ace → Bool
 counts bit a = has_bit a.mask bit && not (is_inherit_only a)

@@ -20,7 +20,7 @@ pub record IsNormalFormOf (source result : List Ace) : Type 0 where
   pub itself : IsNormal source → result ≡ source
 
 -- the bytes spell a list, and the text its normal form (RFC 4506)
-pub record Normalises (p : Profile) (bytes text : List ℕ) : Type 0 where
+pub record Normalizes (p : Profile) (bytes text : List ℕ) : Type 0 where
   pub source : List Ace
   pub form : List Ace
   pub read : Xdr p source bytes

@@ -15,7 +15,7 @@ use Rattle.acl_normal.specs.declared.five_forms.FiveForms.{FiveForms}
 -- ---- the five normal forms
 
 -- the input spells a list, and the bytes its five normal forms, one behind the other (RFC 4506)
-pub record NormalisesAtPaths (p : Profile) (input bytes : List ℕ) : Type 0 where
+pub record NormalizesAtPaths (p : Profile) (input bytes : List ℕ) : Type 0 where
   pub source : List Ace
   pub forms : FiveForms
   pub read : Xdr p source input

@@ -19,15 +19,15 @@ use Rattle.acl_perm.specs.Situation.{IsSituation, Situation}
 abbrev pub is_mentioning : Ace → Bool
 is_mentioning a = takes_part a && not (principal_eq (principal_of a) everyone)
 
--- the principals that a list mentions, whatever their masks, each inserted in its place among the given ones
-abbrev pub mentioned_with : List Principal → List Ace → List Principal
-mentioned_with given [] = given
-mentioned_with given (a ∷ list) =
-    mentioned_with (if is_mentioning a then insert_key principal_cmp given (principal_of a) else given) list
+-- the principals that a list mentions, whatever the masks of their ACEs, in order and each once
+abbrev pub mentioned_in : List Ace → List Principal
+mentioned_in [] = []
+mentioned_in (a ∷ list) =
+    if is_mentioning a then insert_key principal_cmp (mentioned_in list) (principal_of a) else mentioned_in list
 
--- the principals that two lists mention, in order, each once
+-- the principals that two lists mention, in order and each once
 abbrev pub mentioned : List Ace → List Ace → List Principal
-mentioned list other = mentioned_with (mentioned_with [] list) other
+mentioned list other = mentioned_in (list ++ other)
 
 -- the sets of one of the principals
 abbrev pub singles : List Principal → List (List Principal)

@@ -10,7 +10,7 @@ pub mod comparison
 pub mod Alike
 -- the keys that play a part, without a look at any situation
 pub mod Plain
--- what is left of a list after bits that play no part are removed
+-- what is left of a list after rights that play no part are removed
 pub mod Reduced
 -- how many keys the columns of a list have
 pub mod Counts
@@ -20,11 +20,11 @@ pub mod Passes
 pub mod Shown
 -- the rights of a mask, one after the other
 pub mod NextRight
--- which bits are needed, computed from masks
+-- which rights are needed, computed from masks
 pub mod Needed
 -- ACEs and keys by their places in a list, and the numbers of the sets of places
 pub mod Places
 -- lists on the way to a normal form
 pub mod Tidy
--- how the rows of the table of one bit come about
+-- how the rows of the table of one right come about
 pub mod TableRows

@@ -1,6 +1,6 @@
-//! The table of one right: what the normal form says of it, and where that comes from.
-ghost use Rattle.std.specs.Prelude.{◌<◌, ◌^◌, ◌≡◌, All, IsOkAnd};
-ghost use Rattle.acl_normal.specs.Common.{[], Ace, ace, all_cleared, AreRowNumbers, emitted_ace, emitted_aces, first_place_of, flags_for, has_bit, IfOk, IsLowest, IsNumbered, IsOk, IsReducedOf, IsRising, IsTidy, left, length, List, map, mask_numbers, of_borrowed, OnOk, principal_of, Some, StandInRows, vec_len, with_masks, ℕ};
+//! The table of one right: the ACEs of the normal form that have the right, and where they come from.
+ghost use Rattle.std.specs.Prelude.{◌<◌, ◌≡◌, All, IsOkAnd};
+ghost use Rattle.acl_normal.specs.Common.{[], Ace, ace, all_cleared, AreRowNumbers, emitted_ace, emitted_aces, first_place_of, flags_for, has_bit, IfOk, IsLowest, IsOk, IsTidy, left, length, List, map, mask_numbers, of_borrowed, OnOk, principal_of, Some, AreInRows, vec_len, with_masks, ℕ};
 ghost use Rattle.acl_perm.specs.Bits.{identifier_group};
 ghost use Rattle.acl_normal.specs.Tables.{AreRows, IsBorrowedTable, IsTable, of_row, with_bit};
 ghost use Rattle.acl_normal.specs.internal.TableRows.{AddsRow, HasKey, HasFirstPlaces};
@@ -16,8 +16,7 @@ use acl_perm::internal::Bit;
 use acl_perm::{Kind, Mask};
 use std::alloc::{AllocError, Global};
 
-/// An ACE of the normal form: its kind, its who, whether that is the name of a group, and the place in the given list,
-/// from 0, of the first ACE without INHERIT_ONLY that has the right and names the same.
+/// One ACE of the normal form that has the right of the table, and the ACE of the given list from which it comes.
 #[derive(Debug, Drop)]
 pub struct Row {
     /// Whether it denies or allows.
@@ -26,7 +25,8 @@ pub struct Row {
     pub who: Vec<u8>,
     /// Whether the who is the name of a group.
     pub group: bool,
-    /// The place in the given list, from 0.
+    /// The place in the given list, from 0, of the first ACE without INHERIT_ONLY that has the right and names the same
+    /// principal.
     pub source: usize,
 }
 
@@ -39,12 +39,13 @@ pub struct BorrowedRow<'a> {
     pub group: bool,
     /// The who of the ACE.
     pub who: &'a [u8],
-    /// The place in the given list, from 0.
+    /// The place in the given list, as in a [`Row`].
     pub source: usize,
 }
 
-/// Returns the ACEs of the normal form of a list that have a right, in its order (this library's own, over RFC 8881,
-/// section 6.2.1). Of several rights it is the lowest; without a right there is no row. Fails if memory runs out.
+/// Returns the ACEs of a list's normal form that have a right, in the order of the normal form (this library's own,
+/// over RFC 8881, section 6.2.1). If `bit` has several rights, the table is that of the lowest one; if it has none, the
+/// table is empty. Fails if memory runs out.
 ///
 /// ```rust
 /// let list = parse_text(alloc, b"DENY - WRITE_DATA bob\nALLOW - READ_DATA|WRITE_DATA OWNER@\n")?;
@@ -61,14 +62,13 @@ pub fn table(alloc: Global, list: &Acl, bit: Mask) -> Result<Vec<Row>, AllocErro
 }
 
 /// Returns the rows of a right of the list of a view, as [`table`] does of an owned list. It does not copy the list.
-pub fn table_of_view(alloc: Global, list: &AclView<'_>, bit: Mask) -> Result<Vec<Row>, AllocError>
-    ensures rows { IfOk result (λ rows. (b : ℕ) → IsLowest b bit.bits
+pub fn table_of_view(alloc: Global, list: &AclView<'_>, right: Mask) -> Result<Vec<Row>, AllocError>
+    ensures rows { IfOk result (λ rows. (b : ℕ) → IsLowest b right.bits
         → IsTable b list.now rows.items) }
-    ensures none { bit.bits ≡ 0 → IsOkAnd result (λ rows. rows.items ≡ []) }
+    ensures none { right.bits ≡ 0 → IsOkAnd result (λ rows. rows.items ≡ []) }
 {
-    let rows = borrowed_rows(alloc, list, bit)?;
-    let table = owned_rows(alloc, &rows)?;
-    Ok(table)
+    let rows = borrowed_rows(alloc, list, right)?;
+    owned_rows(alloc, &rows)
 }
 
 // The rows, each with a copy of its who.
@@ -102,22 +102,34 @@ fn owned_rows(alloc: Global, rows: &[BorrowedRow<'_>]) -> Result<Vec<Row>, Alloc
 pub fn borrowed_rows<'a>(
     alloc: Global,
     list: &AclView<'a>,
-    bit: Mask,
+    right: Mask,
 ) -> Result<Vec<BorrowedRow<'a>>, AllocError>
-    ensures rows { IfOk result (λ rows. (b : ℕ) → IsLowest b bit.bits
+    ensures rows { IfOk result (λ rows. (b : ℕ) → IsLowest b right.bits
         → IsBorrowedTable b list.now rows.items) }
-    ensures none { bit.bits ≡ 0 → IsOkAnd result (λ rows. rows.items ≡ []) }
+    ensures none { right.bits ≡ 0 → IsOkAnd result (λ rows. rows.items ≡ []) }
 {
-    let Some(right) = lowest(bit) else {
+    let Some(right) = lowest(right) else {
         return Ok(Vec::new(alloc));
     };
+    rows_of_right(alloc, list, right)
+}
+
+// The rows of a right of the list of a view.
+fn rows_of_right<'a>(
+    alloc: Global,
+    list: &AclView<'a>,
+    right: Bit,
+) -> Result<Vec<BorrowedRow<'a>>, AllocError>
+    ensures { IfOk result (λ rows. IsBorrowedTable right.bit list.now rows.items) }
+{
     let reduced = reduced_list(alloc, list)?;
-    if rises(&reduced.aces, &reduced.masks, &reduced.numbers.rows) {
-        // What is left is its own normal form, in which each ACE stands at its place.
-        return rows_in_place(alloc, &reduced.aces, &reduced.masks, right);
+    let aces = reduced.aces.as_slice();
+    let masks = reduced.masks.as_slice();
+    if rises(aces, masks, &reduced.numbers.rows) {
+        // The rest is its own normal form, so each ACE comes from its own place.
+        return rows_in_place(alloc, aces, masks, right);
     }
-    let numbers = &reduced.numbers;
-    let places = places(alloc, &reduced.aces, &reduced.masks, &numbers.rows, right)?;
+    let places = places(alloc, aces, masks, &reduced.numbers.rows, right)?;
     let mut rows = Remaining::of(alloc, reduced)?;
     let form = normalize_left(alloc, &mut rows)?;
     drop(rows);
@@ -138,15 +150,15 @@ fn rows_in_place<'a>(
         (map of_borrowed rows.items)) }
 {
     let mut rows = Vec::with_capacity(alloc, aces.len())?;
-    for place in 0..aces.len() {
+    for (place, ace) in aces.iter().enumerate() {
         if right.is_in(masks[place]) {
-            rows.push(row_at(aces[place], place))?;
+            rows.push(row_at(*ace, place))?;
         }
     }
     Ok(rows)
 }
 
-// The row of an ACE at a place, of whose flags those alone count that say whom it names.
+// The row of an ACE at a place. Of the flags, only the one that says whom the ACE names counts.
 fn row_at<'a>(item: AceRef<'a>, source: usize) -> BorrowedRow<'a>
     ensures kind { result.kind ≡ item.entry.kind }
     ensures who { result.who.now ≡ item.entry.who.now }
@@ -162,7 +174,7 @@ fn row_at<'a>(item: AceRef<'a>, source: usize) -> BorrowedRow<'a>
     }
 }
 
-// Whether the who of an ACE is the name of a group. Where the flag lacks, the who is not read.
+// Whether the who of an ACE is the name of a group. Without the flag, the who is not read.
 #[tactic(auto, using(crate::proofs::InPlace::no_group_name))]
 fn names_group(item: AceRef<'_>) -> bool
     ensures { result ≡ has_bit (flags_for (principal_of (ace item.entry))) identifier_group }
@@ -170,7 +182,7 @@ fn names_group(item: AceRef<'_>) -> bool
     item.flags.is_group() && flags_of(item.principal()).is_group()
 }
 
-// By row, the place of the ACE that has the right, where one has it.
+// By row, the place of the ACE that has the right, or 0 if none has it.
 fn places(
     alloc: Global,
     aces: &[AceRef<'_>],
@@ -186,16 +198,15 @@ fn places(
         (with_masks aces.now (mask_numbers masks.now)) places.items) }
 {
     let mut places = vec![in alloc; 0; aces.len()]?;
-    for place in 0..aces.len() {
-        let mask = masks[place];
-        if right.is_in(mask) {
+    for (place, mask) in masks.iter().enumerate() {
+        if right.is_in(*mask) {
             places[rows[place]] = place;
         }
     }
     Ok(places)
 }
 
-// The rows of the ACEs that have the right, by the places of their principals.
+// The rows of the emitted ACEs that have the right. `places` has the place of the ACE of each row.
 fn rows_of<'a>(
     alloc: Global,
     places: &[usize],
@@ -204,7 +215,7 @@ fn rows_of<'a>(
 ) -> Result<Vec<BorrowedRow<'a>>, AllocError>
     requires { All (λ e. e.row < length places.now) form.now }
     ensures { IfOk result (λ table. (list : List Ace) → HasFirstPlaces right.bit list places.now
-        → StandInRows list form.now → All (λ e. HasKey right.bit list (emitted_ace e)) form.now
+        → AreInRows list form.now → All (λ e. HasKey right.bit list (emitted_ace e)) form.now
         → AreRows right.bit list (with_bit right.bit (emitted_aces form.now))
         (map of_borrowed table.items)) }
 {
@@ -215,7 +226,7 @@ fn rows_of<'a>(
     Ok(table)
 }
 
-// The row of an ACE, where that has the right.
+// Adds the row of an emitted ACE if the ACE has the right.
 fn add_row<'a>(
     place: usize,
     item: Emitted<'a>,

@@ -9,7 +9,7 @@ use acl_nfs4::AceRef;
 use acl_perm::Mask;
 use acl_perm::internal::Bit;
 
-/// Returns the rights with which the ACE takes part.
+/// Returns the rights of an ACE, or none if the ACE takes no part.
 pub(crate) fn active(item: AceRef<'_>) -> Mask
     ensures { (b : ℕ) → has_bit result.bits b ≡ counts b (ace item.entry) }
 {
@@ -20,7 +20,7 @@ pub(crate) fn active(item: AceRef<'_>) -> Mask
     }
 }
 
-/// Returns the rights of a mask, if its ACE names everyone, and otherwise none.
+/// Returns the mask if its ACE names everyone, and otherwise no rights.
 #[inline(always)]
 pub(crate) fn of_everyone(item: AceRef<'_>, mask: Mask) -> Mask
     ensures { (b : ℕ) → has_bit result.bits b
@@ -33,7 +33,7 @@ pub(crate) fn of_everyone(item: AceRef<'_>, mask: Mask) -> Mask
     }
 }
 
-/// Returns the first right of the mask at or above a bit.
+/// Returns the lowest right of the mask whose bit is not below a number.
 pub(crate) fn next_right(mask: Mask, from: usize) -> Option<Bit>
     requires { from ≤ bit_count }
     ensures some { IfSome result (λ right. IsNextRight mask.bits from right.bit) }
@@ -42,7 +42,7 @@ pub(crate) fn next_right(mask: Mask, from: usize) -> Option<Bit>
     numbered(from + (mask.bits >> from).trailing_zeros() as usize)
 }
 
-// The bit of a number, or none for numbers above 20.
+// The bit of a number, or `None` for a number above 20.
 fn numbered(bit: usize) -> Option<Bit>
     ensures within { IsSome result ↔ (bit < bit_count) }
     ensures value { IfSome result (λ right. right.bit ≡ bit) }
@@ -54,7 +54,7 @@ fn numbered(bit: usize) -> Option<Bit>
     }
 }
 
-/// Returns the mask of one right. For a bit that is in no mask it is empty.
+/// Returns the mask of one right. The mask is empty for a bit that is no right.
 pub(crate) fn alone(right: Bit) -> Mask
     ensures { has_bit all_rights right.bit ≡ true → result.bits ≡ 2 ^ right.bit }
 {
@@ -63,7 +63,7 @@ pub(crate) fn alone(right: Bit) -> Mask
     }
 }
 
-/// Returns the number of a set of bits with one more bit.
+/// Adds a bit to a set of bits that is given as a number.
 pub(crate) fn with(bits: u32, right: Bit) -> u32
     ensures { result ≡ bit_or bits (2 ^ right.bit) }
 {

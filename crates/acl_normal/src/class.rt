@@ -8,14 +8,14 @@ use acl_perm::Principal;
 /// principal.
 #[derive(Clone, Copy, Debug, PartialEq, Eq)]
 pub enum Class {
-    /// Users.
+    /// A user by name.
     Users,
-    /// The owner, groups, and everyone.
+    /// The owner, the owning group, a group by name, or everyone.
     Others,
 }
 
 impl Class {
-    /// Returns the class of a principal.
+    /// Only a user by name is of the class of users: the owner is of the other class, although a user is the owner.
     pub(crate) fn of(p: Principal<'_>) -> Class
         ensures { is_users result ≡ is_user (principal p.entry) }
     {
@@ -26,7 +26,6 @@ impl Class {
         }
     }
 
-    /// Returns whether the class is that of users.
     pub(crate) fn is_users(self) -> bool
         ensures { result ≡ is_users self }
     {

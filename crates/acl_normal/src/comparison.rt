@@ -1,4 +1,4 @@
-//! The first small situation in which two lists grant otherwise.
+//! The first small situation in which two lists grant different rights.
 ghost use Rattle.std.specs.Prelude.{◌<◌, ◌≤◌, All, length};
 ghost use Rattle.acl_normal.specs.OneRight.{IsOneRight};
 
@@ -22,8 +22,8 @@ use acl_perm::Mask;
 pub use comparing::{compare, compare_views};
 pub use requester_names::RequesterNames;
 
-/// A requester and an object whom two lists answer otherwise: the names, the groups in order of bytes, and the lowest
-/// right that one of the lists grants and the other denies.
+/// A requester and an object for which one of two lists grants a right that the other denies. The groups are in the
+/// order of their bytes, and the right is the lowest such right.
 #[derive(Debug, Drop)]
 pub struct Difference {
     /// The object's owner.

@@ -1,5 +1,4 @@
-//! The normal forms of what a directory's list grants in the directory and in everything that will ever be made below
-//! it.
+//! The normal forms of the list of a directory, and of the lists of everything that will ever be created below it.
 ghost use Rattle.std.specs.Prelude.{◌+◌, ◌<◌, ◌^◌, ◌≡◌, ◌≤◌, OnErr};
 ghost use Rattle.acl_normal.specs.Common.{five_spellings, IfOk, IsAccepted, IsNormalFormOf, IsProfile, OnOk, Profile, spelling, ℕ};
 ghost use Rattle.acl_perm.specs.Devices.{one_more};
@@ -34,7 +33,7 @@ pub struct FiveForms {
 }
 
 impl FiveForms {
-    /// Returns the same five again, with one allocation each. Fails if memory runs out.
+    /// Returns a copy, with one allocation for each form. Fails if memory runs out.
     pub fn copy(&self, alloc: Global) -> Result<FiveForms, AllocError>
         ensures { IfOk result (λ forms. forms ≡ self.now) }
     {
@@ -47,27 +46,28 @@ impl FiveForms {
         })
     }
 
-    /// Writes the bytes that spell the five, one behind the other in the order of the fields (RFC 4506 over RFC 8881,
-    /// section 6.2.1), without memory. It ends at the first write that fails: then `written` bytes went out. It tries
-    /// nothing again.
+    /// Writes the bytes that spell the five forms, one after the other in the order of the fields (RFC 4506 over RFC
+    /// 8881, section 6.2.1). It takes no memory. It ends at the first write that fails and does not repeat it;
+    /// `written` of the fault is the number of bytes that were written before.
     pub fn encode<K: Sink>(&self, sink: &mut K) -> Result<(), WriteFault>
         ensures { Writes K.contents K.failure_count sink.old sink.new
             (five_spellings self.now) result }
     {
-        match put_forms(sink, self) {
-            Ok(_) => Ok(()),
-            Err(fault) => Err(fault),
-        }
+        put_forms(sink, self)?;
+        Ok(())
     }
 }
 
 impl PartialEq for FiveForms {
     ghost use Rattle.std.specs.Prelude.{◌≡◌, ◌↔◌, IsTrue};
-    ghost use Rattle.acl_normal.specs.FiveForms.{same_forms, same_forms_laws};
+    ghost use Rattle.std.specs.Cmp.{on_per};
+    ghost use Rattle.std.specs.Cmp.Lexicographic.{lists_per};
+    ghost use Rattle.acl_nfs4.specs.Owned.{same_list_laws};
+    ghost use Rattle.acl_normal.specs.FiveForms.{five_lists, same_forms};
 
     ghost eq = { same_forms };
 
-    ghost laws = { same_forms_laws };
+    ghost laws = { on_per five_lists (lists_per same_list_laws) };
 
     fn eq(&self, other: &FiveForms) -> bool
         ensures value { result ≡ same_forms self.now other.now }
@@ -82,12 +82,15 @@ impl PartialEq for FiveForms {
 }
 
 impl Eq for FiveForms {
-    ghost use Rattle.acl_normal.specs.FiveForms.{same_forms_equiv};
+    ghost use Rattle.std.specs.Cmp.{on_equiv};
+    ghost use Rattle.std.specs.Cmp.Lexicographic.{lists_equiv};
+    ghost use Rattle.acl_nfs4.specs.Owned.{same_list_equiv};
+    ghost use Rattle.acl_normal.specs.FiveForms.{five_lists};
 
-    ghost laws = { same_forms_equiv };
+    ghost laws = { on_equiv five_lists (lists_equiv same_list_equiv) };
 }
 
-// Writes the bytes that spell the five, and returns how many they are.
+// Writes the bytes that spell the five forms, and returns their number.
 fn put_forms<K: Sink>(sink: &mut K, forms: &FiveForms) -> Result<u64, WriteFault>
     ensures written { WritesFrom (K.contents sink.old) (K.contents sink.new) 0
         (five_spellings forms.now) result }
@@ -101,7 +104,7 @@ fn put_forms<K: Sink>(sink: &mut K, forms: &FiveForms) -> Result<u64, WriteFault
     put_list(sink, inner_file, &forms.directory_in_directory)
 }
 
-// Writes the bytes that spell a list, after `done` bytes, and returns how many are out then.
+// Writes the bytes that spell a list, and returns their number together with the `done` bytes that were written before.
 fn put_list<K: Sink>(sink: &mut K, done: u64, list: &Acl) -> Result<u64, WriteFault>
     requires { done < 2 ^ 62 }
     ensures written { WritesFrom (K.contents sink.old) (K.contents sink.new) done
@@ -119,9 +122,9 @@ fn put_list<K: Sink>(sink: &mut K, done: u64, list: &Acl) -> Result<u64, WriteFa
     }
 }
 
-/// Returns the five normal forms of a list, by this library's table of inheritance. Two lists have the same five if and
-/// only if they grant the same, and their children always will. It takes time that is nearly linear in the bytes of the
-/// list. Fails if memory runs out.
+/// Returns the five normal forms of a list, by this library's table of inheritance. Two lists have the same five forms
+/// if and only if they grant the same, and so do the lists of all objects that will ever be created below them. It
+/// takes time that is nearly linear in the bytes of the list. Fails if memory runs out.
 ///
 /// ```rust
 /// let list = parse_text(alloc, b"ALLOW FILE READ_DATA amy")?;
@@ -183,7 +186,7 @@ fn forms_of(
     })
 }
 
-// The normal form of what a directory's list gives a new object in it. A list and its form are given.
+// The normal form of the list of a new object in a directory with this list. Another list and its form are given.
 fn child_form(
     alloc: Global,
     list: &Acl,
@@ -198,8 +201,8 @@ fn child_form(
     form_beside(alloc, &child_list, other, other_form)
 }
 
-// The normal form of a list. Another list and its form are given, and if the lists are equal, the form is copied. This
-// is mostly so, because few ACEs end on their way down.
+// The normal form of a list. Another list and its form are given. If the lists are equal, as they mostly are because
+// most ACEs keep their flags on their way down, the form is copied.
 fn form_beside(alloc: Global, list: &Acl, other: &Acl, other_form: &Acl) -> Result<Acl, AllocError>
     requires { IsNormalFormOf other.now other_form.now }
     ensures { IfOk result (λ form. IsNormalFormOf list.now form) }

@@ -1,27 +1,27 @@
 //! Laws of normal forms.
 
 ghost use Rattle.std.specs.Prelude.{◌↔◌, ◌≡◌};
-ghost use Rattle.acl_normal.specs.Common.{Ace, all_rights, column, false, five_spellings, has_bit, IsIrreducibleList, IsNormal, IsProfile, List, Normalises, Profile, SameGrants, true, ℕ};
+ghost use Rattle.acl_normal.specs.Common.{Ace, all_rights, column, false, five_spellings, has_bit, IsIrreducibleList, IsNormal, IsProfile, List, Normalizes, Profile, SameGrants, true, ℕ};
 ghost use Rattle.acl_perm.specs.Situation.{Situation};
 ghost use Rattle.acl_nfs4.specs.Spelling.{Fits, Xdr};
 ghost use Rattle.acl_eval.specs.Grant.{grants_bit};
-ghost use Rattle.acl_normal.specs.Keys.{Key, conflicts};
+ghost use Rattle.acl_normal.specs.Keys.{ColumnKey, conflicts};
 ghost use Rattle.acl_normal.specs.FiveForms.{AreSpelledAlike, TellApart};
 ghost use Rattle.acl_normal.specs.Laws.{Has, IsFormOfAccepted, IsForm, Precedes, SpellingsTellApart};
 ghost use Rattle.acl_normal.specs.Paths.{SameAtEveryPath, SameAtFive};
 ghost use Rattle.acl_normal.specs.SmallSets.{SmallSituationsSuffice};
 
-/// In irreducible lists that grant the same, each principal has the same bits, with the same kinds.
+/// In irreducible lists that grant the same, each principal has the same rights, with the same kinds.
 pub fn same_bits()
     ensures { (list other : List Ace) → IsIrreducibleList list → IsIrreducibleList other
-        → SameGrants all_rights list other → (bit : ℕ) (e : Key)
+        → SameGrants all_rights list other → (bit : ℕ) (e : ColumnKey)
         → Has (column list bit) e ↔ Has (column other bit) e }
 {}
 
-/// In irreducible lists that grant the same, each two conflicting keys of a bit are in the same order.
+/// In irreducible lists that grant the same, each two conflicting keys of a right are in the same order.
 pub fn same_order()
     ensures { (list other : List Ace) → IsIrreducibleList list → IsIrreducibleList other
-        → SameGrants all_rights list other → (bit : ℕ) (e f : Key) → conflicts e f ≡ true
+        → SameGrants all_rights list other → (bit : ℕ) (e f : ColumnKey) → conflicts e f ≡ true
         → Precedes (column list bit) e f ↔ Precedes (column other bit) e f }
 {}
 
@@ -45,10 +45,10 @@ pub fn nothing_outside_a_profile()
 /// profile. Bytes that spell a normal form normalize to themselves.
 pub fn normal_bytes_tell_apart()
     ensures apart { (p : Profile) (a b x y : List ℕ) (source other : List Ace) → IsProfile p
-        → Xdr p source a → Xdr p other b → Normalises p a x → Normalises p b y
+        → Xdr p source a → Xdr p other b → Normalizes p a x → Normalizes p b y
         → (x ≡ y) ↔ SameGrants p.masks source other }
     ensures twice { (p : Profile) (a x y : List ℕ) → IsProfile p
-        → Normalises p a x → Normalises p x y → x ≡ y }
+        → Normalizes p a x → Normalizes p x y → x ≡ y }
 {
     equal_bytes();
     acl_nfs4::laws::one_spelling();

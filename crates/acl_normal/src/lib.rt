@@ -1,4 +1,4 @@
-//! Normal forms: one list of ACEs for each set of grants.
+//! Normal forms: one list of ACEs for each set of grants; tables of one right; and the comparison of two lists.
 #![tactic(auto)]
 
 mod bit_table;

@@ -1,4 +1,4 @@
-//! What is left of a list, with the places that wait in sets.
+//! The rows of a list that was emitted in part, with the places that wait as sets.
 ghost use Rattle.std.specs.Prelude.{◌<◌, ◌^◌, ◌||◌, ◌↔◌, ◌≡◌, ◌≤◌, None};
 ghost use Rattle.acl_normal.specs.Common.{all_rights, column, false, has_bit, IfOk, is_blocked, is_free, is_users, IsIrreducibleList, IsLowest, IsRowOf, IsTrue, left, nat_cmp, nothing_left, option_map, principal, SameGrants, Some, take_out, true, waits_before, ℕ};
 ghost use Rattle.std.specs.BTreeSet.{contains};
@@ -19,7 +19,7 @@ use std::collections::BTreeSet;
 use std::marker::Model;
 
 /// What is left of a list while its normal form is made (this library's own, over RFC 8881, section 6.2.1): the needed
-/// bits that were not emitted yet, by principal, and by the places in the given list that still wait with them.
+/// rights that were not emitted yet, by principal, and the places in the given list that still wait with them.
 #[derive(Drop)]
 pub struct MergedRows<'a> {
     pub(crate) rest: Remaining<'a>,
@@ -39,19 +39,21 @@ impl<'a> Model for MergedRows<'a> {
     ghost invariant = { IsMerged };
 }
 
-// A bit below 21 that is in no mask.
+// A bit below 21 that is no right.
 const NO_RIGHT: Bit = Bit { bit: 11 };
 
 impl<'a> MergedRows<'a> {
-    /// Returns a list without the bits that play no part, in time that is nearly linear in its bytes.
+    /// Returns the rows of a list without the rights that play no part. It takes time that is nearly linear in the
+    /// bytes of the list. Fails if memory runs out.
     pub fn new(alloc: Global, list: &'a Acl) -> Result<MergedRows<'a>, AllocError>
         // The places are those of the given list, with their kinds, flags and whos.
         ensures places { IfOk result (λ rows. nothing_left rows ≡ nothing_left list.now) }
-        // What is left of a principal at a bit stands where its first ACE with the bit stands in the given list.
+        // What is left of a principal's right is at the place of the principal's first ACE with the right in the given
+        // list.
         ensures firsts { IfOk result (λ rows. KeepsFirsts list.now rows) }
-        // It grants the same.
+        // The rows grant the same.
         ensures grants { IfOk result (λ rows. SameGrants all_rights list.now rows) }
-        // Each bit is needed.
+        // Each right is needed.
         ensures irreducible { IfOk result (λ rows. IsIrreducibleList (left rows)) }
     {
         let reduced = reduced_list(alloc, &list.view())?;
@@ -60,8 +62,8 @@ impl<'a> MergedRows<'a> {
         Ok(MergedRows { rest, waiting })
     }
 
-    /// Takes rights of a principal out of what is left. Rights that it does not have there are ignored. It takes no
-    /// memory.
+    /// Takes rights of a principal out of what is left. Rights that the principal does not have there are ignored. It
+    /// takes no memory.
     pub fn emit(&mut self, p: Principal<'_>, bits: Mask)
         ensures { self.new ≡ take_out (principal p.entry) bits.bits self.old }
     {
@@ -70,8 +72,8 @@ impl<'a> MergedRows<'a> {
         }
     }
 
-    /// Returns whether the principal has one of these rights in what is left and is free on it: no ACE before its own
-    /// conflicts with that on the right. It takes no memory.
+    /// Returns whether the principal has one of these rights in what is left and is free on it: no ACE before the
+    /// principal's own ACE conflicts with it on the right. It takes no memory.
     pub fn is_free(&self, p: Principal<'_>, bits: Mask) -> bool
         ensures { IsTrue result ↔ HasFree self.now (principal p.entry) bits.bits }
     {
@@ -85,13 +87,13 @@ impl<'a> MergedRows<'a> {
         false
     }
 
-    /// Returns the places that wait with a right: those of the ACEs of what is left that have the right, are of the
-    /// kind, and name a principal of the class. Of several rights it is the lowest, and of none no place waits. It
-    /// takes no memory.
+    /// Returns the places that wait with a right: the places of the ACEs that still have the right, are of the kind,
+    /// and name a principal of the class. If `bits` has several rights, the lowest one counts; if it has none, no place
+    /// waits. It takes no memory.
     pub fn waiting(&self, kind: Kind, class: Class, bits: Mask) -> &BTreeSet<usize>
         ensures places { (bit : ℕ) → IsLowest bit bits.bits → (place : ℕ)
             → contains nat_cmp result.now place ≡ waits kind (is_users class) bit self.now place }
-        // Of no right it is empty.
+        // For no right, the set is empty.
         ensures none { bits.bits ≡ 0 → (place : ℕ) → contains nat_cmp result.now place ≡ false }
     {
         match lowest(bits) {
@@ -100,7 +102,7 @@ impl<'a> MergedRows<'a> {
         }
     }
 
-    /// Takes rights of the principal of a row out.
+    /// Takes rights of the principal of a row out of what is left.
     fn emit_row(&mut self, row: usize, p: Principal<'_>, mask: Mask)
         requires { IsRowOf row (principal p) self.old }
         ensures { self.new ≡ take_out (principal p.entry) mask.bits self.old }
@@ -112,7 +114,7 @@ impl<'a> MergedRows<'a> {
         }
     }
 
-    /// Takes one right of the principal of a row out.
+    /// Takes one right of the principal of a row out of what is left, and its place out of the set of places that wait.
     fn emit_bit(&mut self, row: usize, p: Principal<'_>, right: Bit)
         requires { IsRowOf row (principal p) self.old }
         ensures { self.new ≡ take_out (principal p.entry) (2 ^ right.bit) self.old }
@@ -126,7 +128,7 @@ impl<'a> MergedRows<'a> {
         }
     }
 
-    /// Returns whether the principal has the right and is free on it.
+    /// Returns whether the principal still has the right and is free on it.
     fn is_free_at(&self, p: Principal<'_>, right: Bit) -> bool
         ensures { result ≡ (is_free (column self.now right.bit) (principal p.entry, Deny)
             || is_free (column self.now right.bit) (principal p.entry, Allow)) }
@@ -137,8 +139,8 @@ impl<'a> MergedRows<'a> {
         }
     }
 
-    /// Returns the last place where an ACE of a kind and a class with a right has nothing before it that conflicts with
-    /// it.
+    /// Returns the last place at which no waiting ACE before the place conflicts with an ACE of a kind and a class on a
+    /// right.
     fn last_clear(&self, kind: Kind, class: Class, right: Bit) -> usize
         ensures clear { (place : ℕ) → place ≤ result
             → is_blocked kind (is_users class) right.bit self.now place ≡ false }
@@ -150,12 +152,12 @@ impl<'a> MergedRows<'a> {
             Class::Users => others,
             Class::Others => {
                 let users = self.first_waiting(kind.other(), Class::Users, right);
-                if users < others { users } else { others }
+                users.min(others)
             }
         }
     }
 
-    /// Returns the first place that waits in a kind and a class with a right, or the greatest number where none does.
+    /// Returns the first place that waits in a kind and a class with a right, or the greatest number if none waits.
     fn first_waiting(&self, kind: Kind, class: Class, right: Bit) -> usize
         ensures before { (place : ℕ) → place ≤ result
             → waits_before kind (is_users class) right.bit self.now place ≡ false }
@@ -168,7 +170,7 @@ impl<'a> MergedRows<'a> {
         }
     }
 
-    /// Returns the places of the ACEs of a kind and a class that wait with a right. With a bit that is no right none
+    /// Returns the places of the ACEs of a kind and a class that wait with a right. If the bit is no right, no place
     /// waits.
     fn waiting_at(&self, kind: Kind, class: Class, right: Bit) -> &BTreeSet<usize>
         ensures places { (i : ℕ) → contains nat_cmp result.now i
@@ -180,7 +182,7 @@ impl<'a> MergedRows<'a> {
     }
 }
 
-// The lowest of some rights, if there are any.
+// The lowest right of a mask, if it has any.
 pub(crate) fn lowest(bits: Mask) -> Option<Bit>
     ensures some { (bit : ℕ) → IsLowest bit bits.bits → option_map (λ right. right.bit) result
         ≡ Some bit }

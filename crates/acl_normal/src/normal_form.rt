@@ -1,6 +1,6 @@
 //! The normal form of a list of ACEs.
-ghost use Rattle.std.specs.Prelude.{◌<◌, ◌^◌, ◌↔◌, ◌≡◌, ◌⊎◌, Err, IfErr};
-ghost use Rattle.acl_normal.specs.Common.{[], Ace, ace, emitted_ace, emitted_aces, flags_for, full, IfOk, IsAccepted, IsNormal, IsNormalFormOf, IsNumbered, IsOk, IsReducedOf, IsRising, IsTrue, left, List, mask_numbers, Normalises, principal, spelling, vec_len, with_masks, ℕ};
+ghost use Rattle.std.specs.Prelude.{◌<◌, ◌↔◌, ◌≡◌, ◌⊎◌, Err, IfErr};
+ghost use Rattle.acl_normal.specs.Common.{[], Ace, ace, emitted_ace, emitted_aces, flags_for, full, IfOk, IsAccepted, IsNormal, IsNormalFormOf, IsOk, IsTrue, List, Normalizes, principal, spelling, ℕ};
 ghost use Rattle.acl_perm.specs.Profile.{profile_of};
 ghost use Rattle.acl_nfs4.specs.Fault.{IsWholeFault};
 ghost use Rattle.acl_nfs4.specs.Stream.{no_memory};
@@ -35,8 +35,8 @@ pub fn is_normal(alloc: Global, list: &Acl) -> Result<bool, AllocError>
 /// assert!(rt; AclView::parse_whole(&form)?.len() == 1);
 /// ```
 pub fn normal_bytes(alloc: Global, bytes: &[u8]) -> Result<Vec<u8>, Fault>
-    ensures ok { IfOk result (λ text. Normalises full bytes.now text.items) }
-    // A fault is that of the bytes, or Memory.
+    ensures ok { IfOk result (λ text. Normalizes full bytes.now text.items) }
+    // A fault is the fault of the bytes, or Memory.
     ensures fault { IfErr result (λ f. (f ≡ no_memory)
         ⊎ IsWholeFault full bytes.now f.offset f.reason) }
     // Bytes with a fault are refused with that fault, and never with Memory.
@@ -49,7 +49,7 @@ pub fn normal_bytes(alloc: Global, bytes: &[u8]) -> Result<Vec<u8>, Fault>
 /// Returns the bytes that spell the normal form of the list that all of the bytes spell, if the profile has its flags
 /// and rights. Fails with the fault of the bytes, or if memory runs out.
 pub fn normal_bytes_with(alloc: Global, bytes: &[u8], profile: Profile) -> Result<Vec<u8>, Fault>
-    ensures ok { IfOk result (λ text. Normalises (profile_of profile) bytes.now text.items) }
+    ensures ok { IfOk result (λ text. Normalizes (profile_of profile) bytes.now text.items) }
     ensures fault { IfErr result (λ f. (f ≡ no_memory)
         ⊎ IsWholeFault (profile_of profile) bytes.now f.offset f.reason) }
     ensures refused { (offset : ℕ) (r : Reason)
@@ -76,8 +76,8 @@ fn spelled_form(alloc: Global, view: &AclView<'_>) -> Result<Vec<u8>, AllocError
 }
 
 /// Returns the normal form of a list (this library's own, over RFC 8881, section 6.2.1): the one list that grants the
-/// same in every situation, in which each bit is needed, in the one order. It takes time that is nearly linear in the
-/// bytes of the list. Fails if memory runs out.
+/// same in every situation, in which each right of each ACE is needed, and whose ACEs are in the one order. It takes
+/// time that is nearly linear in the bytes of the list. Fails if memory runs out.
 ///
 /// ```rust
 /// let list = parse_text(alloc, b"DENY - WRITE_DATA bob\nALLOW - READ_DATA|WRITE_DATA OWNER@\n")?;
@@ -104,16 +104,18 @@ pub fn normalize_view(alloc: Global, list: &AclView<'_>) -> Result<Acl, AllocErr
         return Ok(Acl::new(alloc));
     }
     let reduced = reduced_list(alloc, list)?;
-    if rises(&reduced.aces, &reduced.masks, &reduced.numbers.rows) {
-        // Only flags have to be cleared.
-        return cleared(alloc, &reduced.aces, &reduced.masks);
+    let aces = reduced.aces.as_slice();
+    let masks = reduced.masks.as_slice();
+    if rises(aces, masks, &reduced.numbers.rows) {
+        // The list is its own normal form, except for its flags.
+        return cleared(alloc, aces, masks);
     }
     let mut rows = Remaining::of(alloc, reduced)?;
     let form = normalize_left(alloc, &mut rows)?;
     written(alloc, &form)
 }
 
-// The list of these ACEs.
+// The list of the emitted ACEs.
 fn written(alloc: Global, form: &[Emitted<'_>]) -> Result<Acl, AllocError>
     requires { IsAccepted full (emitted_aces form.now) }
     ensures { IfOk result (λ list. list ≡ emitted_aces form.now) }
@@ -125,7 +127,7 @@ fn written(alloc: Global, form: &[Emitted<'_>]) -> Result<Acl, AllocError>
     Ok(list)
 }
 
-/// Returns the ACE of a normal form.
+/// Returns the ACE of an emitted key and its rights.
 pub(crate) fn ace_of<'a>(item: Emitted<'a>) -> AceRef<'a>
     ensures { ace result ≡ emitted_ace item.entry }
 {

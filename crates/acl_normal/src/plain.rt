@@ -1,5 +1,5 @@
-//! The normal form and the comparison in a plain way, which tests use as a measure: each ACE is compared with all
-//! others, and all small situations are tried.
+//! The normal form and the comparison in a plain way, with which tests compare the fast functions: each ACE is compared
+//! with all others, and all small situations are tried.
 
 ghost use Rattle.acl_normal.specs.Common.{aces_in, full, IfOk, IsAccepted, IsNormalFormOf};
 ghost use Rattle.acl_normal.specs.internal.Passes.{IsPlainReduction};
@@ -24,7 +24,7 @@ pub fn normalize(alloc: Global, source: &Acl) -> Result<Acl, AllocError>
     emit(alloc, needed)
 }
 
-// The ACEs with the bits that play a part.
+// The ACEs with only those rights that play a part.
 fn reduce(alloc: Global, source: &Acl) -> Result<Vec<AceRef<'_>>, AllocError>
     ensures reduced { IfOk result (λ needed. IsPlainReduction source.now (aces_in needed.items)) }
     ensures accepted { IsAccepted full source.now }

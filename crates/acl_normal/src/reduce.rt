@@ -1,4 +1,4 @@
-//! A list without the bits that play no part.
+//! A list without the rights that play no part.
 ghost use Rattle.std.specs.Prelude.{◌<◌, ◌^◌, ◌≡◌};
 ghost use Rattle.acl_normal.specs.Common.{aces_in, AreRowNumbers, full, IfOk, IsAccepted, IsNumbered, IsReducedOf, length, mask_numbers, vec_len, with_masks};
 
@@ -15,14 +15,14 @@ use acl_nfs4::{AceRef, AclView};
 use acl_perm::Mask;
 use std::alloc::{AllocError, Global};
 
-/// Returns what is to be emitted of a list: all of it but what no situation needs.
+/// Returns the list without the rights that no situation needs, ready to be emitted.
 pub(crate) fn remaining<'a>(alloc: Global, list: &AclView<'a>) -> Result<Remaining<'a>, AllocError>
     ensures { IfOk result (λ rows. IsReducedOf list.now rows) }
 {
     Remaining::of(alloc, reduced_list(alloc, list)?)
 }
 
-/// Returns a list, without what no situation needs.
+/// Returns the list without the rights that no situation needs, with the rows of its principals.
 pub(crate) fn reduced_list<'a>(alloc: Global, list: &AclView<'a>) -> Result<Reduced<'a>, AllocError>
     ensures few { IfOk result (λ r. vec_len r.aces < 2 ^ 32) }
     ensures places { IfOk result (λ r. vec_len r.masks ≡ vec_len r.aces) }
@@ -42,8 +42,7 @@ pub(crate) fn reduced_list<'a>(alloc: Global, list: &AclView<'a>) -> Result<Redu
     })
 }
 
-// The masks that are left of a list's ACEs, by place: without the bits that play no part. `numbers` has the rows of
-// the principals, by place.
+// By place, the masks of the ACEs without the rights that play no part.
 fn reduced_masks(
     alloc: Global,
     aces: &[AceRef<'_>],

@@ -11,20 +11,19 @@ use acl_perm::{Kind, Mask};
 use itoa::Buffer;
 use std::alloc::{AllocError, Global};
 
-/// Returns the text of the rows of a list at a right: one line for each ACE of its normal form that has the right, in
-/// order. A line has the place in the given list from which the ACE comes, the kind, `GROUP` for a group with a name or
-/// else `-`, and the who, with one space between them (this library's own). For no right the text is empty. Fails only
-/// if memory runs out. Time `n log n` in the ACEs.
-pub fn table_text(alloc: Global, list: &Acl, bit: Mask) -> Result<Vec<u8>, AllocError>
-    ensures { IfOk result (λ text.
-        (rows : List TableRow) × AreTableOf bit.bits list.now rows × (text.items ≡ rows_text rows)) }
+/// Returns the text of the table of a right: one line for each ACE of the list's normal form that has the right, in
+/// order. A line has the place in the given list from which the ACE comes, the kind, `GROUP` for the name of a group or
+/// else `-`, and the who, with one space between them (this library's own). For no right the text is empty. It takes
+/// time `n log n` for `n` ACEs. Fails if memory runs out.
+pub fn table_text(alloc: Global, list: &Acl, right: Mask) -> Result<Vec<u8>, AllocError>
+    ensures { IfOk result (λ text. (rows : List TableRow) × AreTableOf right.bits list.now rows
+        × (text.items ≡ rows_text rows)) }
 {
     let view = list.view();
-    let rows = borrowed_rows(alloc, &view, bit)?;
+    let rows = borrowed_rows(alloc, &view, right)?;
     text_of_rows(alloc, &rows)
 }
 
-// The lines of the rows.
 fn text_of_rows(alloc: Global, rows: &[BorrowedRow<'_>]) -> Result<Vec<u8>, AllocError>
     ensures { IfOk result (λ text. text.items ≡ rows_text (map of_borrowed rows.now)) }
 {
@@ -46,7 +45,7 @@ fn add_line(text: &mut Vec<u8>, row: BorrowedRow<'_>) -> Result<(), AllocError>
     Ok(())
 }
 
-// What is between the place and the who: the two words, with a space before, between and behind them.
+// The words between the place and the who, with a space before, between and after them.
 fn words_between(kind: Kind, group: bool) -> &'static [u8]
     ensures { result.now
         ≡ space ∷ (kind_name kind ++ space ∷ (group_word group ++ space ∷ [])) }

@@ -1,4 +1,4 @@
-//! The rows of the principals of a list, by number, the places of its ACEs that wait, and what is left of it.
+//! The rows of the principals of a list: how they are numbered, which places wait, and what is left of each row.
 
 mod heads;
 pub(crate) mod numbers;

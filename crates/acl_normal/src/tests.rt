@@ -1,4 +1,4 @@
-//! Worked rows, and the calls held against the plain bodies.
+//! Tests by tables of worked lists, and of the fast functions against the plain ones.
 
 mod ample;
 mod bytes;

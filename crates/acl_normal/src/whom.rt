@@ -6,7 +6,7 @@ ghost use Rattle.acl_nfs4.specs.Who.{ends_in_at};
 use acl_nfs4::AceRef;
 use acl_perm::{Key, Principal};
 
-/// Returns whom the ACE names, and its kind.
+/// Returns the key of the ACE: whom it names, and its kind.
 #[inline(always)]
 pub(crate) fn key<'a>(item: &AceRef<'a>) -> Key<'a>
     ensures principal { principal result.principal ≡ principal_of (ace item.now) }
@@ -18,7 +18,8 @@ pub(crate) fn key<'a>(item: &AceRef<'a>) -> Key<'a>
     }
 }
 
-/// Returns whom the ACE names.
+/// Returns whom the ACE names, as `AceRef::principal` does, but compares the who with a special name only if it ends in
+/// `@`.
 #[inline(always)]
 #[tactic(auto, using(crate::proofs::Whoms::plain_who))]
 pub(crate) fn whom<'a>(item: &AceRef<'a>) -> Principal<'a>
@@ -33,7 +34,6 @@ pub(crate) fn whom<'a>(item: &AceRef<'a>) -> Principal<'a>
     }
 }
 
-// Whether the last byte is `@`.
 #[inline(always)]
 fn ends_in_at(who: &[u8]) -> bool
     ensures { result ≡ ends_in_at who.now }

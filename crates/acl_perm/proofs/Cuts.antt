@@ -19,7 +19,7 @@ abbrev pub Says : (ℕ → Bool) → List ℕ → Option ℕ → Type 0
 Says p xs None = position_or_len p xs ≡ length xs
 Says p xs (Some i) = Found p xs i
 
--- `position` says so
+-- `position` gives the place of the first byte with a property, or says that no byte has it
 pub place : (p : ℕ → Bool) (xs : List ℕ) → Says p xs (position p xs)
 place p xs =
     let le = prefix_len-le-length (λ x. not (p x)) xs in
@@ -73,6 +73,7 @@ blanks_none bs h = sym h
 
 -- ---- trimming
 
+-- bytes with one more byte at the end are all blanks if and only if the bytes are and the last one is
 all_blank_push : (bs : List ℕ) (b : ℕ) → list_all is_blank (bs ++ b ∷ []) ≡ (list_all is_blank bs && is_blank b)
 all_blank_push [] b = elim (is_blank b) as (λ t. (t && true) ≡ t) [ true ↦ refl | false ↦ refl ]
 all_blank_push (x ∷ bs) b =
@@ -98,7 +99,7 @@ end_trimmed-push_other (x ∷ bs) b h =
     ∙ ap (λ t. list_all is_blank (x ∷ bs) && t) h ∙ and_false_right _ in
     rw (all, end_trimmed-push_other bs b h) refl
 
--- the last byte, apart
+-- bytes are all of them but the last one, followed by the last one
 last_apart : (bs : List ℕ) → 1 ≤ length bs → bs ≡ take (length bs - 1) bs ++ get_or bs (length bs - 1) 0 ∷ []
 last_apart bs h =
     let n : length bs - 1 + 1 ≡ length bs = omega arith in

@@ -4,7 +4,7 @@ use Rattle.std.proofs.Math.Seq.{take-add}
 use Rattle.std.proofs.KnownBytes.{Appends-trans}
 use Rattle.std.specs.Io.KnownBytes.{Appends}
 
--- n more bytes of `all` are out
+-- if the next n bytes of a text went out after its first i bytes, its first i + n bytes are out
 pub appends_more : (a b c : Option (List ℕ)) (i n : ℕ) (all : List ℕ) → Appends a b (take i all)
     → Appends b c (take n (drop i all)) → Appends a c (take (i + n) all)
 appends_more a b c i n all front more =

@@ -16,7 +16,7 @@ use Rattle.acl_perm.specs.Overlap.{Overlap, may_overlap}
 pub itself : (name : List ℕ) → bytes_eq name name ≡ true
 itself name = (bytes_eq-Decides name name).1 refl
 
--- the user's name, if one of the two is a user
+-- the name of the user, if one of the two principals is a user
 common_user : Principal → Principal → List ℕ
 common_user owner q = principal_name q
 common_user (user name) q = name
@@ -33,12 +33,15 @@ meeting p q = record {
   groups = [] ∷ principal_name p ∷ principal_name q ∷ [];
 }
 
+-- one of three tests holds if the second one does
 second_of : (x y z : Bool) → y ≡ true → (x || (y || z)) ≡ true
 second_of x y z h = or_right x (y || z) (or_left y z h)
 
+-- one of three tests holds if the third one does
 third_of : (x y z : Bool) → z ≡ true → (x || (y || (z || false))) ≡ true
 third_of x y z h = or_right x (y || (z || false)) (or_right y (z || false) (or_left z false h))
 
+-- the requester that is made for two principals matches the first of them
 meets_first : (p q : Principal) → matches (meeting p q) p ≡ true
 unfolding meeting common_user
 meets_first owner q = itself (principal_name q)
@@ -48,6 +51,7 @@ meets_first (group_named a) q =
     second_of (bytes_eq a []) (bytes_eq a a) (bytes_eq a (principal_name q) || false) (itself a)
 meets_first everyone q = refl
 
+-- if the test by cases holds, the requester that is made for two principals matches the second of them
 meets_second : (p q : Principal) → may_overlap p q ≡ true → matches (meeting p q) q ≡ true
 unfolding meeting common_user
 meets_second p owner h = itself (common_user p owner)
@@ -61,7 +65,7 @@ meets_second p (group_named b) h =
     third_of (bytes_eq b []) (bytes_eq b (principal_name p)) (bytes_eq b b) (itself b)
 meets_second p everyone h = refl
 
--- a requester that matches two users shows that they are the same
+-- if some requester matches two principals, the test by cases holds for them
 one_user : (s : Situation) (p q : Principal) → matches s p ≡ true → matches s q ≡ true → may_overlap p q ≡ true
 one_user s owner q h k = refl
 one_user s (user a) owner h k = refl
@@ -84,7 +88,7 @@ overlap_is p q = (λ h. (meeting p q, meets_first p q, meets_second p q h), λ o
 pub means : (p q : Principal) (answer : Bool) → answer ≡ may_overlap p q → IsTrue answer ↔ Overlap p q
 means p q answer e = rw e (overlap_is p q)
 
--- the answer of the code for two users
+-- for two users, the test by cases compares their names
 pub two_users : (p q : PrincipalRef) (name other : Bor (List ℕ)) (answer : Bool) → p ≡ code.User name
     → q ≡ code.User other → answer ≡ bytes_eq name.now other.now
     → answer ≡ may_overlap (principal p) (principal q)

@@ -8,7 +8,7 @@ use Rattle.acl_perm.specs.internal.NameTable.{bit_name_of, bit_names_of}
 use Rattle.acl_perm.specs.declared.bit_names.BitName.{BitName as Row}
 use Rattle.acl_perm.proofs.Sets.{right_below}
 
--- the name of the row of a bit
+-- the name in the first row with a bit is the first name of the bit
 pub row_of_bit_found : (table : List Row) (bit : ℕ)
     → option_map (λ r. r.name.now) (find (λ r. eqb r.bit bit) table) ≡ first_name (bit_names_of table) bit
 row_of_bit_found [] bit = refl

@@ -24,12 +24,13 @@ is_less Less h = refl
 is_less Equal h = absurd cc
 is_less Greater h = absurd cc
 
--- types of one rank are the same
+-- kinds of one rank are the same
 pub same_kind : (j k : Kind) → kind_rank j ≡ kind_rank k → j ≡ k
 same_kind Deny Deny h = refl
 same_kind Allow Allow h = refl
 same_kind _ _ h = absurd (omega (arith, h))
 
+-- keys that compare equal are the same
 key_exact : (k l : Key) → key_cmp k l ≡ Equal → k ≡ l
 key_exact k l h =
     let parts = then_equal (principal_cmp k.principal l.principal) (nat_cmp (kind_rank k.kind) (kind_rank l.kind)) h in
@@ -37,7 +38,7 @@ key_exact k l h =
     let kinds = same_kind k.kind l.kind (exact_unsigned (kind_rank k.kind) (kind_rank l.kind) parts.1) in
     λ i. record { principal = principals i; kind = kinds i }
 
--- in a total order, no value is less than itself
+-- in a total order, each value is equal to itself
 self_equal : {K : Type 0} (cmp : K → K → Ordering) → IsTotalOrder cmp → (x : K) → cmp x x ≡ Equal
 self_equal cmp total x = go (cmp x x) (total.antisymm x x)
   where
@@ -46,6 +47,7 @@ self_equal cmp total x = go (cmp x x) (total.antisymm x x)
     go Equal h = refl
     go Greater h = absurd cc
 
+-- a total order in which only the same values are equal is strict and total
 strict_from_total : {K : Type 0} (cmp : K → K → Ordering) → IsTotalOrder cmp
     → ((x y : K) → cmp x y ≡ Equal → x ≡ y) → IsStrictTotalOrder cmp
 strict_from_total cmp total exact = record {

@@ -18,7 +18,7 @@ piece_fits p piece rest whole start done bound at e fits =
     let n = ap length e ∙ length-append p (piece ++ rest) in
     omega (arith, n, length-append piece rest)
 
--- k bytes are out, and the last of them are those of this piece
+-- if a front of the whole is out, and then a beginning of the next piece, a beginning of the whole is out
 pub cut_in : (a b c : Option (List ℕ)) (p piece rest whole : List ℕ) (start done k : ℕ) → done ≡ start + length p
     → whole ≡ p ++ (piece ++ rest)
     → done ≤ k → k < done + length piece → Appends a b p → Appends b c (take (k - done) piece)
@@ -32,14 +32,14 @@ cut_in a b c p piece rest whole start done k at e low high front last =
     ∙ ap (λ t. p ++ t) (take-append-le (k - done) piece rest inside) in
     rw same (Appends-trans a b c p (take (k - done) piece) front last)
 
--- what is out so far is less than the whole
+-- bytes that end within a piece of the whole are fewer than the whole
 pub under_whole : (p piece rest whole : List ℕ) (start done k : ℕ) → done ≡ start + length p
     → whole ≡ p ++ (piece ++ rest) → k < done + length piece → k < start + length whole
 under_whole p piece rest whole start done k at e under =
     let n = ap length e ∙ length-append p (piece ++ rest) in
     omega (arith, n, length-append piece rest)
 
--- the number of the bytes after one more piece
+-- the count of the bytes that are out is still right after one more piece
 pub grown : (p piece : List ℕ) (start done more : ℕ) → done ≡ start + length p → more ≡ done + length piece
     → more ≡ start + length (p ++ piece)
 grown p piece start done more at e = let n = length-append p piece in omega (arith, n)
@@ -53,6 +53,7 @@ pub record IsOut (start done : ℕ) (held holds : Option (List ℕ)) (whole rest
   pub known : Appends held holds front
   pub order : whole ≡ front ++ rest
 
+-- a sink that holds the same as before has taken the empty text
 appends_none : (held : Option (List ℕ)) → Appends held held []
 appends_none None = tt
 appends_none (Some xs) = sym (append-nil xs)
@@ -70,7 +71,7 @@ next_fits start done held holds whole rest line more h e fits =
     piece_fits h.front line more whole start done (2 ^ 64) h.count (h.order ∙ ap (λ (xs : List ℕ). h.front ++ xs) e)
     fits
 
--- a line that went out is out
+-- if the next line went out, a longer front of the whole is out
 pub out_more : (start done count : ℕ) (a b c : Option (List ℕ)) (whole rest line more : List ℕ)
     → IsOut start done a b whole rest → rest ≡ line ++ more → count ≡ done + length line → Appends b c line
     → IsOut start count a c whole more

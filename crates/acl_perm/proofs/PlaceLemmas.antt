@@ -8,7 +8,7 @@ use Rattle.std.proofs.lemmas.Simd.{run_in_chunk_le, run_in_chunk_fails, run_in_c
 use Rattle.std.proofs.lemmas.List.Sums.{position_or_len_is}
 use Rattle.acl_perm.specs.internal.Places.{IsAbsent, IsPlaceIn}
 
--- the number of bytes of a load before the first one that is wanted
+-- the number of bytes of a load before the first one that is wanted is the place of that byte in the load
 pub counted : (wanted : ℕ) (bytes : List ℕ) (at n r : ℕ) → at + n ≤ length bytes
     → r ≡ prefix_len (λ b. not (eqb b wanted)) (chunk at n bytes) → IsPlaceIn wanted bytes at n r
 counted wanted bytes at n r inside is = record {

@@ -6,6 +6,7 @@ use Rattle.acl_perm.proofs.Sets.{bits_from_mask}
 use Rattle.acl_perm.specs.Bits.{has_bit}
 use Rattle.acl_perm.specs.internal.RightsLeft.{rights_from}
 
+-- the rights from a bit on are the bit, if the mask has it, and the rights from the next bit on
 split : (m f : ℕ) → f < 21
     → rights_from m f ≡ cond (has_bit m f) (f ∷ rights_from m (f + 1)) (rights_from m (f + 1))
 split m f lt =

@@ -15,21 +15,24 @@ IsMask-lt n is = let le : n ≤ 0x001f07ff = rw (← is) (and_le_r n 0x001f07ff)
 
 -- ---- the bits of what the operations give
 
+-- the lesser of two binary digits is 1 if and only if both are 1
 both : (d e : ℕ) → d < 2 → e < 2 → eqb (min d e) 1 ≡ (eqb d 1 && eqb e 1)
 both d e dl el = grind arith
 
+-- the greater of two binary digits is 1 if and only if one of them is 1
 either : (d e : ℕ) → d < 2 → e < 2 → eqb (max d e) 1 ≡ (eqb d 1 || eqb e 1)
 either d e dl el = grind arith
 
+-- 1 less a binary digit is 1 if and only if the digit is not 1
 turned : (e : ℕ) → e < 2 → eqb (1 - e) 1 ≡ not (eqb e 1)
 turned e el = grind arith
 
--- the bits that both of two numbers have
+-- the intersection of two numbers has a bit if and only if both have it
 pub has_bit-and : (m n k : ℕ) → has_bit (bit_and m n) k ≡ (has_bit m k && has_bit n k)
 has_bit-and m n k =
     ap (λ (d : ℕ). eqb d 1) (bit_at_and m n k) ∙ both (bit_at m k) (bit_at n k) (bit_at-lt m k) (bit_at-lt n k)
 
--- the bits that one of two numbers has
+-- the union of two numbers has a bit if and only if one of them has it
 pub has_bit-or : (m n k : ℕ) → has_bit (bit_or m n) k ≡ (has_bit m k || has_bit n k)
 has_bit-or m n k =
     ap (λ (d : ℕ). eqb d 1) (bit_at_or m n k) ∙ either (bit_at m k) (bit_at n k) (bit_at-lt m k) (bit_at-lt n k)
@@ -38,7 +41,7 @@ has_bit-or m n k =
 pub has_bit-above : (w : Width) (n k : ℕ) → n < 2 ^ bits w → bits w ≤ k → has_bit n k ≡ false
 has_bit-above w n k lt le = ap (λ (d : ℕ). eqb d 1) (bit_at_above n (bits w) k lt le)
 
--- the bits that the first of two numbers has and the second does not have
+-- the difference of two numbers has a bit if and only if the first has it and the second does not
 pub has_bit-clear : (w : Width) (m n k : ℕ) → m < 2 ^ bits w → n < 2 ^ bits w
     → has_bit (bit_and m (bit_not w n)) k ≡ (has_bit m k && not (has_bit n k))
 has_bit-clear w m n k ml nl =
@@ -52,6 +55,7 @@ has_bit-clear w m n k ml nl =
 
 -- ---- sets of rights
 
+-- if one binary digit is 1 only where another one is, it is the lesser of the two
 least : (d e : ℕ) → d < 2 → e < 2 → (eqb d 1 ≡ true → eqb e 1 ≡ true) → min d e ≡ d
 least d e dl el h = grind arith
 
@@ -90,7 +94,7 @@ right_below b h =
       | inr le ↦ absurd (false≢true (sym (ap (λ (d : ℕ). eqb d 1) (bit_at_above all_rights 21 b (omega arith) le)) ∙ h))
     ]
 
--- the number of one right is less than 2 ^ 21
+-- the number of one right fits into 32 bits
 pub right_small : (b : ℕ) → IsTrue (has_bit all_rights b) → 1 * 2 ^ b % 4294967296 ≡ 2 ^ b
 right_small b h = let small : 2 ^ b < 2 ^ 32 = pow_below b 32 (omega (arith, right_below b h)) in omega (arith, small)
 
@@ -104,13 +108,15 @@ right_alone b h = mask_from_bits (2 ^ b) (λ k e.
 
 -- ---- one set by its bits
 
+-- binary digits are equal if both are 1 or neither is
 digits : (d e : ℕ) → d < 2 → e < 2 → eqb d 1 ≡ eqb e 1 → d ≡ e
 digits d e dl el h = grind arith
 
+-- two numbers that both have a bit, or both lack it, have the same digit there
 same_bit : (m n k : ℕ) → has_bit m k ≡ has_bit n k → bit_at m k ≡ bit_at n k
 same_bit m n k e = digits (bit_at m k) (bit_at n k) (bit_at-lt m k) (bit_at-lt n k) e
 
--- a set is its bits
+-- two sets with the same bits are equal
 pub same_set : (m n : ℕ) → ((k : ℕ) → has_bit m k ≡ has_bit n k) → m ≡ n
 same_set m n h = same_from_bits m n (λ k. same_bit m n k (h k))
 
@@ -126,6 +132,7 @@ some_bit n lt ne =
 
 -- ---- the test of a subset
 
+-- two tests together are the second one if the second implies the first
 narrower : (x y : Bool) → (y ≡ true → x ≡ true) → (x && y) ≡ y
 narrower true y h = refl
 narrower false true h = absurd (false≢true (h refl))
@@ -139,12 +146,13 @@ subset m n = (
   λ h. same_set (bit_and m n) n (λ k. has_bit-and m n k ∙ narrower (has_bit m k) (has_bit n k) (h k)),
 )
 
--- the test that one set is a part of another
+-- the test of the intersection holds if and only if the second set is a part of the first
 pub subset_test : (m n : ℕ) → (eqb (bit_and m n) n ≡ true) ↔ IsSubset n m
 subset_test m n = let s = subset m n in (λ t. s.0 (eqb-true _ _ t), λ h. eq-eqb _ _ (s.1 h))
 
 -- ---- tests of one bit
 
+-- a binary digit times a positive number is not 0 if and only if the digit is 1
 by_digit : (d p : ℕ) → d < 2 → 0 < p → not (eqb (d * p) 0) ≡ eqb d 1
 by_digit d p lt pos = grind arith
 
@@ -154,11 +162,11 @@ bit_test n k p e pos =
     ap (λ (m : ℕ). not (eqb m 0)) (ap (bit_and n) e ∙ and_pow n k)
     ∙ by_digit (bit_at n k) (2 ^ k) (bit_at-lt n k) (omega (arith, e))
 
--- the test of bit 3
+-- a number has a bit in common with 8 if and only if it has bit 3
 pub third : (n : ℕ) → not (eqb (bit_and n 8) 0) ≡ has_bit n 3
 third n = bit_test n 3 8 refl (omega arith)
 
--- the test of bit 6
+-- a number has a bit in common with 64 if and only if it has bit 6
 pub sixth : (n : ℕ) → not (eqb (bit_and n 64) 0) ≡ has_bit n 6
 sixth n = bit_test n 6 64 refl (omega arith)
 
@@ -166,23 +174,23 @@ pub ruleset flag_tests = (third, sixth)
 
 -- ---- what each type's operations need
 
--- the union of two numbers as a set
+-- the number of a union has the bits of either set
 pub union_is : (m n : ℕ) → IsUnion m n (bit_or m n)
 union_is m n = has_bit-or m n
 
--- the intersection of two numbers as a set
+-- the number of an intersection has the bits of both sets
 pub intersection_is : (m n : ℕ) → IsIntersection m n (bit_and m n)
 intersection_is m n = has_bit-and m n
 
--- the difference of two numbers as a set, for 8 bits
+-- the number of a difference, in 8 bits, has the bits of the first set that the second does not have
 pub w8_difference : (m n : ℕ) → m < 2 ^ 8 → n < 2 ^ 8 → IsDifference m n (bit_and m (bit_not w8 n))
 w8_difference m n ml nl k = has_bit-clear w8 m n k ml nl
 
--- the difference of two numbers as a set, for 16 bits
+-- the number of a difference, in 16 bits, has the bits of the first set that the second does not have
 pub w16_difference : (m n : ℕ) → m < 2 ^ 16 → n < 2 ^ 16 → IsDifference m n (bit_and m (bit_not w16 n))
 w16_difference m n ml nl k = has_bit-clear w16 m n k ml nl
 
--- the difference of two sets of rights
+-- the number of a difference of two sets of rights has the bits of the first that the second does not have
 pub mask_difference : (m n : ℕ) → IsMask m → IsMask n → IsDifference m n (bit_and m (bit_not w32 n))
 mask_difference m n p q k = has_bit-clear w32 m n k (IsMask-lt m p) (IsMask-lt n q)
 

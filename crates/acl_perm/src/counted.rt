@@ -1,5 +1,5 @@
 //! A reader or a writer with a count of its failures.
-ghost use Rattle.std.specs.Prelude.{◌≡◌, ℕ};
+ghost use Rattle.std.specs.Prelude.{◌≡◌};
 ghost use Rattle.acl_perm.specs.Devices.{failures_after};
 
 use crate::devices::{Sink, Source};

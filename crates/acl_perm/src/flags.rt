@@ -42,7 +42,7 @@ impl Flags {
     /// The ACE was inherited.
     pub const INHERITED: Flags = Flags { bits: 0x80 };
 
-    /// Returns the set that a number stands for, or `None` if the number has a bit outside `0xff`.
+    /// Returns the set of this number, or `None` if the number has a bit outside `0xff`.
     pub fn new(bits: u32) -> Option<Flags>
         ensures within { IsSome result ↔ IsFlags bits }
         ensures value { IfSome result (λ flags. flags.bits ≡ bits) }
@@ -54,7 +54,7 @@ impl Flags {
         }
     }
 
-    /// Returns the number that the set stands for.
+    /// Returns the number of the set.
     pub fn bits(self) -> u8
         ensures { result ≡ self.bits }
     {

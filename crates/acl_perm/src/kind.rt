@@ -1,6 +1,6 @@
 //! The two kinds of an NFSv4 ACE.
 ghost use Rattle.std.specs.Prelude.{◌≡◌, Some};
-ghost use Rattle.acl_perm.specs.Kind.{is_allow, other_kind};
+ghost use Rattle.acl_perm.specs.Kind.{is_allow, kind_number, other_kind};
 ghost use Rattle.acl_perm.specs.Names.{kind_name};
 
 use std::fmt;
@@ -32,6 +32,17 @@ impl Kind {
         match self {
             Kind::Deny => false,
             Kind::Allow => true,
+        }
+    }
+
+    /// Returns the number of the kind in XDR (RFC 8881, section 6.2.1.1): 0 for ALLOW, and 1 for DENY.
+    #[inline(always)]
+    pub fn number(self) -> u32
+        ensures { result ≡ kind_number self }
+    {
+        match self {
+            Kind::Allow => 0,
+            Kind::Deny => 1,
         }
     }
 }

@@ -1,10 +1,8 @@
 //! Lines of a text, and parts of a line with their columns.
 ghost use Rattle.std.specs.Prelude.{◌≡◌, ◌+◌, ◌≤◌, ◌<◌, ◌^◌, ◌==◌, length, position, not};
-ghost use Rattle.std.specs.List.{list_all};
 ghost use Rattle.acl_perm.specs.Lines.{
   before_mark,
   blanks_before,
-  cut_at,
   is_all_blank,
   is_blank,
   span_of,

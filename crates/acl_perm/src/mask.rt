@@ -78,7 +78,7 @@ impl Mask {
     /// Use the object as something to wait on.
     pub const SYNCHRONIZE: Mask = Mask { bits: 0x0010_0000 };
 
-    /// Returns the set that a number stands for, or `None` if the number has a bit outside `0x001f07ff`.
+    /// Returns the set of this number, or `None` if the number has a bit outside `0x001f07ff`.
     pub fn new(bits: u32) -> Option<Mask>
         ensures within { IsSome result ↔ IsMask bits }
         ensures value { IfSome result (λ mask. mask.bits ≡ bits) }
@@ -90,7 +90,7 @@ impl Mask {
         }
     }
 
-    /// Returns the number that the set stands for.
+    /// Returns the number of the set.
     pub fn bits(self) -> u32
         ensures value { result ≡ self.bits }
         ensures within { IsMask result }

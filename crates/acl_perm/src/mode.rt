@@ -24,7 +24,7 @@ impl Mode {
     /// The nine bits together.
     pub const ALL: Mode = Mode { bits: 0o777 };
 
-    /// Returns the set that a number stands for, or `None` if the number is above `0o777`.
+    /// Returns the set of this number, or `None` if the number is above `0o777`.
     pub fn new(bits: u16) -> Option<Mode>
         ensures within { IsSome result ↔ (bits ≤ all_mode_bits) }
         ensures value { IfSome result (λ mode. mode.bits ≡ bits) }
@@ -36,7 +36,7 @@ impl Mode {
         }
     }
 
-    /// Returns the number that the set stands for.
+    /// Returns the number of the set.
     pub fn bits(self) -> u16
         ensures value { result ≡ self.bits }
         ensures within { result ≤ all_mode_bits }

@@ -1,7 +1,7 @@
 //! Read, write and execute of a POSIX ACL entry.
 ghost use Rattle.std.specs.Prelude.{◌≡◌, ◌<◌, Some, IfSome, IsSome, IsTrue, ◌↔◌, ◌==◌, bit_and, bit_or};
 ghost use Rattle.std.specs.Int.{bit_not, w8};
-ghost use Rattle.acl_perm.specs.Shown.{letter, perm_text};
+ghost use Rattle.acl_perm.specs.Shown.{perm_text};
 ghost use Rattle.acl_perm.specs.Bits.{IsDifference, IsIntersection, IsSubset, IsUnion, all_permissions};
 
 use std::fmt;
@@ -31,7 +31,7 @@ impl Perm {
     /// Read, write and execute.
     pub const ALL: Perm = Perm { bits: 7 };
 
-    /// Returns the set that a number stands for, or `None` if the number is above 7.
+    /// Returns the set of this number, or `None` if the number is above 7.
     pub fn new(bits: u8) -> Option<Perm>
         ensures within { IsSome result ↔ (bits < 8) }
         ensures value { IfSome result (λ perm. perm.bits ≡ bits) }
@@ -39,7 +39,7 @@ impl Perm {
         if bits < 8 { Some(Perm { bits }) } else { None }
     }
 
-    /// Returns the number that the set stands for.
+    /// Returns the number of the set.
     pub fn bits(self) -> u8
         ensures value { result ≡ self.bits }
         ensures within { result < 8 }

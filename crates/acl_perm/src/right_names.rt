@@ -23,8 +23,8 @@ macro_rules! row {
     };
 }
 
-/// The rights in ascending order of their bits (RFC 8881, section 6.2.1.3.1, without `ACE4_`). A right has a second name
-/// if it has another name for directories.
+/// The rights in ascending order of their bits, with their names in RFC 8881, section 6.2.1.3.1, without `ACE4_`. A
+/// right that has another name at directories has it as its second name.
 pub static RIGHTS: [BitName; 16] = [
     row!(0x0000_0001, "READ_DATA", "LIST_DIRECTORY"),
     row!(0x0000_0002, "WRITE_DATA", "ADD_FILE"),

@@ -1,5 +1,5 @@
 //! Reads and writes of whole texts.
-ghost use Rattle.std.specs.Prelude.{◌≡◌, ◌<◌, ◌≤◌, IfErr, IfNone, IfOk, IfSome, OnErr, OnOk, OnSome, length, take};
+ghost use Rattle.std.specs.Prelude.{◌≡◌, ◌<◌, ◌≤◌, IfNone, IfOk, IfSome, OnOk, OnSome, length, take};
 ghost use Rattle.std.specs.Io.KnownBytes.{Appends, IsAtEnd, Keeps};
 ghost use Rattle.acl_perm.specs.Devices.{one_more};
 ghost use Rattle.acl_perm.specs.Pieces.{Writes};
@@ -73,7 +73,7 @@ fn put_piece<S: Sink>(sink: &mut S, bytes: &[u8]) -> Option<usize>
     }
 }
 
-// How many bytes a pull asks for: enough that a large input takes few pulls, and a small part of the stack.
+// The number of bytes that a pull asks for. With it a large input takes few pulls, and the buffer is small for a stack.
 const PIECE: usize = 16384;
 
 /// Reads to the end. It ends at the first pull that fails, and tries nothing again. For a source that never ends it

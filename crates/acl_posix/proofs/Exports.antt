@@ -1,7 +1,6 @@
 -- The lemmas that the proofs of the crates above use. A directory that has the name of a module is not seen from there.
 pub use Rattle.acl_posix.proofs.reader.Limits.{file_of_text}
-pub use Rattle.acl_posix.proofs.reader.Settled.{one_file}
+pub use Rattle.acl_posix.proofs.reader.Settled.{apart, back, one_file}
 pub use Rattle.acl_posix.proofs.sorted.Groups.{any_group, contains_empty}
 pub use Rattle.acl_posix.proofs.tag.Tags.{is_none, same_tag}
-pub use Rattle.acl_posix.proofs.writer.LongTexts.{canonical_reads}
-pub use Rattle.acl_posix.proofs.writer.Whole.{apart, back}
+pub use Rattle.acl_posix.proofs.writer.ReadBack.{canonical_reads}

@@ -1,9 +1,7 @@
--- pieces and lines, one after the other
+-- pieces and lines, one after the other, and all pieces of a text
 pub mod Lines
 -- one piece: its entry or its fault
 pub mod Judged
--- all pieces of a text
-pub mod Spelled
 -- a text spells one file or has one fault
 pub mod Settled
 -- what a text spells is within the limits

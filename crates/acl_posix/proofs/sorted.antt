@@ -1,10 +1,8 @@
--- the place of a tag, and the permissions there
-pub mod Lookups
--- edits of one entry, and which sets stay valid
-pub mod Changes
+-- the list of a set: the place of a tag, the permissions there, and edits of one entry
+pub mod Lists
 -- when two sets and two files are equal
 pub mod Equality
--- the union that the mask is
-pub mod Masks
+-- the union that the mask is, and laws of the mode and the mask
+pub mod ModeAndMask
 -- which group of a requester matches an entry
 pub mod Groups

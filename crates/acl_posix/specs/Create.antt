@@ -1,4 +1,4 @@
--- The ACLs of a new file (acl(5), "OBJECT CREATION AND DEFAULT ACLs").
+-- The ACLs of a new file or directory (acl(5), "OBJECT CREATION AND DEFAULT ACLs").
 use Rattle.std.specs.Prelude.{ℕ, bit_and, Bool, [], ◌∷◌, Option, Some, None, if◌then◌else◌}
 use Rattle.std.specs.Int.{w16, bit_not}
 use Rattle.acl_perm.specs.Mode.{owner_part, group_part, others_part}

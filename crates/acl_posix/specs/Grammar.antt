@@ -1,6 +1,7 @@
 -- The texts of ACLs: one grammar for the long form, the short form and what getfacl prints for one file (acl(5), "LONG
 -- TEXT FORM", "SHORT TEXT FORM"). What a line is and how it is cut are this library's own.
-use Rattle.std.specs.Prelude.{ℕ, ◌≡◌, ◌+◌, ◌<◌, List, [], ◌∷◌, ◌++◌, length, map, Option, Some, None, IsFalse, if◌then◌else◌}
+use Rattle.std.specs.Prelude.{ℕ, ◌≡◌, ◌<◌, List, [], ◌∷◌, length, map, Option, Some, None, IsFalse, if◌then◌else◌}
+use Rattle.std.specs.List.{enumerate_from, flat_map}
 -- the byte that begins a comment, the byte between two entries of a line, and the byte between two fields of an entry
 pub use Rattle.acl_perm.specs.Ascii.{hash as comment_mark, comma, colon}
 use Rattle.acl_perm.specs.Lines.{Span, lines_of, cut_at, before_mark, is_all_blank, trimmed}
@@ -29,14 +30,13 @@ line_pieces line =
 abbrev pub numbered : ℕ → List Span → List TextPiece
 numbered line spans = map (λ span. record { line = line; span = span }) spans
 
--- the pieces of lines, of which the first has this number
-abbrev pub pieces_from : ℕ → List (List ℕ) → List TextPiece
-pieces_from line [] = []
-pieces_from line (bytes ∷ lines) = numbered line (line_pieces bytes) ++ pieces_from (line + 1) lines
+-- the pieces of lines with their numbers, in order
+abbrev pub pieces_of_lines : List (ℕ × List ℕ) → List TextPiece
+pieces_of_lines lines = flat_map (λ line. numbered line.0 (line_pieces line.1)) lines
 
--- the pieces of a text, in order
+-- the pieces of a text, in order; its lines are numbered from 1
 abbrev pub pieces_of : List ℕ → List TextPiece
-pieces_of text = pieces_from 1 (lines_of text)
+pieces_of text = pieces_of_lines (enumerate_from 1 (lines_of text))
 
 -- the fields of an entry, and the part that it belongs to
 pub record EntryFields : Type 0 where

@@ -1,5 +1,5 @@
--- What programs make of the text of a file with POSIX ACLs, defined once for all of them (this library's own, over acl(5)
--- and POSIX.1e draft 17, section 23).
+-- What programs make of the text of a file with POSIX ACLs, defined once for all of them (this library's own, over
+-- acl(5) and POSIX.1e draft 17, section 23).
 use Rattle.std.specs.Prelude.{◌≡◌, ◌∷◌, ◌++◌, [], ℕ, Bool, List}
 use Rattle.acl_perm.specs.Lines.{line_feed}
 use Rattle.acl_posix.specs.Check.{Object, Requester, grants}
@@ -19,13 +19,13 @@ file_text Canonical file = canonical_text file.access file.default
 file_text Shown file = shown_text file.access file.default
 file_text Short file = short_text file.access file.default ++ line_feed ∷ []
 
--- the canonical text of a file with the mask of its access ACL calculated (POSIX.1e draft 17, section 23.4); the default
--- ACL stays
+-- the canonical text of a file with the mask of its access ACL calculated (POSIX.1e draft 17, section 23.4); the
+-- default ACL stays
 abbrev pub masked_text : PosixFile → List ℕ
 masked_text file = canonical_text (with_mask file.access) file.default
 
--- the canonical text of a file with the mode of its access ACL set (acl(5), "CORRESPONDENCE BETWEEN ACL ENTRIES AND FILE
--- PERMISSION BITS"); the default ACL stays
+-- the canonical text of a file with the mode of its access ACL set (acl(5), "CORRESPONDENCE BETWEEN ACL ENTRIES AND
+-- FILE PERMISSION BITS"); the default ACL stays
 abbrev pub chmod_text : ℕ → PosixFile → List ℕ
 chmod_text mode file = canonical_text (chmoded file.access mode) file.default
 

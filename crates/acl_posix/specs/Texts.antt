@@ -82,7 +82,7 @@ canonical_text access default =
     flat_map (λ entry. line (long_entry entry)) (set.entries access)
     ++ flat_map (λ entry. line (long_default entry)) (default_entries default)
 
--- the canonical text, with the effective permissions of each entry that the mask limits
+-- the canonical text, in which the effective permissions follow each entry that loses some to the mask
 unfoldable pub shown_text : Entries → Option Entries → List ℕ
 shown_text access default =
     flat_map (λ entry. line (long_entry entry ++ effective_mark access entry)) (set.entries access)

@@ -2,6 +2,8 @@
 
 -- the order of the tags of the code with its proof, and tags and sets of entries as numbers
 pub mod TagCode
+-- the tests of sets of entries and of files are equivalences
+pub mod Equivalences
 -- the fault of a tag that occurs twice
 pub mod TagMap
 -- entries as single numbers, which are sorted

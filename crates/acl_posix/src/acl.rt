@@ -45,11 +45,13 @@ impl Model for PosixAcl {
 
 impl PartialEq for PosixAcl {
     ghost use Rattle.std.specs.Prelude.{◌≡◌, ◌↔◌, IsTrue};
-    ghost use Rattle.acl_posix.specs.Equal.{same_set, same_set_laws};
+    ghost use Rattle.std.specs.Cmp.{partial_equiv_from_equiv};
+    ghost use Rattle.acl_posix.specs.Equal.{same_set};
+    ghost use Rattle.acl_posix.specs.internal.Equivalences.{same_set_equiv};
 
     ghost eq = { same_set };
 
-    ghost laws = { same_set_laws };
+    ghost laws = { partial_equiv_from_equiv same_set_equiv };
 
     /// Returns whether the two ACLs have the same entries. No memory; linear time.
     fn eq(&self, other: &PosixAcl) -> bool
@@ -61,7 +63,7 @@ impl PartialEq for PosixAcl {
 }
 
 impl Eq for PosixAcl {
-    ghost use Rattle.acl_posix.specs.Equal.{same_set_equiv};
+    ghost use Rattle.acl_posix.specs.internal.Equivalences.{same_set_equiv};
 
     ghost laws = { same_set_equiv };
 }
@@ -122,6 +124,7 @@ impl PosixAcl {
     /// Returns the three entries of a mode: USER_OBJ, GROUP_OBJ and OTHER with its bits (acl(5), "CORRESPONDENCE
     /// BETWEEN ACL ENTRIES AND FILE PERMISSION BITS"). Fails if memory runs out. Constant time; one table of three
     /// entries.
+    #[tactic(auto, using(crate::proofs::one_entry::OneEntry::three_valid))]
     pub fn of_mode(alloc: Global, mode: Mode) -> Result<PosixAcl, AllocError>
         ensures { IfOk result (λ acl. acl ≡ of_mode mode.bits) }
     {

@@ -39,6 +39,7 @@ impl SortedEntries {
 
     /// Returns whether some entry matches by a group of the requester: whether some such entry contains the empty
     /// request.
+    #[tactic(auto, using(crate::proofs::sorted::Groups::contains_empty))]
     fn any_matches(&self, owning_group: Id, groups: &[Id]) -> bool
         ensures { result ≡ any_matches self.now owning_group.value (ids groups.now) }
     {

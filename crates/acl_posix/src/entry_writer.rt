@@ -1,5 +1,5 @@
 //! The text of one entry. It is put together from its end: each part is put in front of the parts after it.
-ghost use Rattle.std.specs.Prelude.{◌≡◌, ◌+◌, ◌≤◌, ◌++◌, ◌∷◌, [], ◌==◌, bit_and, drop, if◌then◌else◌};
+ghost use Rattle.std.specs.Prelude.{◌≡◌, ◌+◌, ◌≤◌, ◌++◌, ◌∷◌, [], ◌==◌, drop, if◌then◌else◌};
 ghost use Rattle.acl_perm.specs.Ascii.{colon};
 ghost use Rattle.acl_perm.specs.Shown.{letter, perm_text};
 ghost use Rattle.acl_posix.specs.Entries.{pair_of};
@@ -98,6 +98,7 @@ fn letter(perm: Perm, bit: u8, shown: u8) -> u8
 }
 
 // Puts the id in decimal, if the tag has one.
+#[tactic(auto, using(crate::proofs::writer::Putting::id_short))]
 fn put_qualifier(line: &mut [u8; LINE], end: usize, tag: Tag) -> usize
     requires room { qualifier_room ≤ end }
     requires inside { end ≤ line_room }

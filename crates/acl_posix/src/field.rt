@@ -3,7 +3,7 @@ ghost use Rattle.std.specs.Prelude.{◌≡◌, ◌==◌, ◌||◌, IsTrue, count
 ghost use Rattle.std.specs.List.{list_all};
 ghost use Rattle.std.specs.Str.{bytes_eq};
 ghost use Rattle.std.specs.Char.{is_ascii_digit};
-ghost use Rattle.acl_posix.specs.Fields.{occurrences, id_of, is_default, is_permission, permissions_of, word_of};
+ghost use Rattle.acl_posix.specs.Fields.{id_of, is_default, is_permission, permissions_of, word_of};
 ghost use Rattle.acl_posix.specs.Names.{is_number};
 
 use crate::id::{GREATEST, Id};
@@ -91,7 +91,7 @@ fn are_digits(bytes: &[u8]) -> bool
 }
 
 /// Returns the id of decimal digits, if they are an id.
-#[tactic(auto, unfolding(crate::specs::Fields::id_of))]
+#[tactic(auto, using(crate::proofs::field::Digits::value_more), unfolding(crate::specs::Fields::id_of))]
 pub(crate) fn read_id(digits: &[u8]) -> Option<Id>
     requires { IsTrue (is_number digits.now) }
     ensures { option_map (λ id. id.value) result ≡ id_of digits.now }

@@ -17,11 +17,13 @@ pub struct PosixFile {
 
 impl PartialEq for PosixFile {
     ghost use Rattle.std.specs.Prelude.{◌≡◌, ◌↔◌, IsTrue};
-    ghost use Rattle.acl_posix.specs.Equal.{same_file, same_file_laws};
+    ghost use Rattle.std.specs.Cmp.{partial_equiv_from_equiv};
+    ghost use Rattle.acl_posix.specs.Equal.{same_file};
+    ghost use Rattle.acl_posix.specs.internal.Equivalences.{same_file_equiv};
 
     ghost eq = { same_file };
 
-    ghost laws = { same_file_laws };
+    ghost laws = { partial_equiv_from_equiv same_file_equiv };
 
     /// Returns whether the access ACLs are equal, and both files have no default ACL or equal ones. No memory; linear
     /// time.
@@ -34,7 +36,7 @@ impl PartialEq for PosixFile {
 }
 
 impl Eq for PosixFile {
-    ghost use Rattle.acl_posix.specs.Equal.{same_file_equiv};
+    ghost use Rattle.acl_posix.specs.internal.Equivalences.{same_file_equiv};
 
     ghost laws = { same_file_equiv };
 }
@@ -43,7 +45,7 @@ impl Eq for PosixFile {
 /// (acl(5), "OBJECT CREATION AND DEFAULT ACLs"). With a default ACL, the access ACL is the default ACL with the entries
 /// of its mode reduced to the bits of `mode`, the umask is ignored, and a directory gets the default ACL unchanged as
 /// its own. Without one, the access ACL has three entries with the bits of `mode` that are not in `umask`. Fails if
-/// memory runs out. Linear time; a table for each ACL.
+/// memory runs out. It takes linear time, and memory for the entries of each ACL.
 ///
 /// ```rust
 /// let mode = Mode { bits: 0o666 };

@@ -14,16 +14,19 @@ ghost use Rattle.acl_posix.specs.Texts.{canonical_text, short_text, shown_text};
 ghost use Rattle.acl_posix.specs.Valid.{IsFaultOf, IsValidList, is_refusal};
 
 /// After the mode is set, the mode is that mode.
+#[tactic(auto, using(crate::proofs::sorted::ModeAndMask::mode_set))]
 pub fn mode_is_set()
     ensures { ModeIsSet }
 {}
 
 /// After the mask is calculated, each entry grants all of its own permissions.
+#[tactic(auto, using(crate::proofs::sorted::ModeAndMask::effective_own))]
 pub fn mask_leaves_all()
     ensures { MaskLeavesAll }
 {}
 
 /// Calculating the mask twice gives the same as calculating it once.
+#[tactic(auto, using(crate::proofs::sorted::ModeAndMask::mask_again))]
 pub fn mask_stays()
     ensures { MaskStays }
 {}

@@ -1,4 +1,5 @@
-//! POSIX.1e access control lists: validity, the access check, the mode and the mask, what a new file gets, and texts.
+//! POSIX.1e access control lists: validity, the access check, the mode and the mask, what a new file or
+//! directory gets, and texts.
 #![tactic(auto)]
 
 mod acl;

@@ -44,7 +44,8 @@ impl Model for Names {
 
     ghost coded = { coded_table };
 
-    ghost view = { λ names. record { users = ids_of names.users.entries; groups = ids_of names.groups.entries } };
+    ghost view = { λ names.
+        record { users = ids_of names.users.entries; groups = ids_of names.groups.entries } };
 }
 
 impl Names {

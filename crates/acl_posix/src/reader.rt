@@ -2,8 +2,8 @@
 ghost use Rattle.std.specs.Prelude.{◌≡◌, MatchResult, OnOk, Ok};
 ghost use Rattle.acl_perm.specs.Lines.{lines_of};
 ghost use Rattle.acl_posix.specs.Entries.{pair_of};
-ghost use Rattle.acl_posix.specs.Grammar.{pieces_from, pieces_of};
-ghost use Rattle.acl_posix.specs.internal.Reading.{added, lists_of, no_lists, read_entries, read_pieces, view_entry, FailsWith, ReadsOn};
+ghost use Rattle.acl_posix.specs.Grammar.{pieces_of};
+ghost use Rattle.acl_posix.specs.internal.Reading.{added, lists_of, no_lists, pieces_from, read_entries, read_pieces, FailsWith, ReadsOn};
 
 use crate::entry::Entry;
 use crate::names::Names;
@@ -20,7 +20,7 @@ pub(crate) struct EntryLists {
     pub default: Vec<Entry>,
 }
 
-/// Reads the entries of a text.
+/// Returns the entries of each part of a text, or the fault of its first piece that spells no entry.
 pub(crate) fn read_text(alloc: Global, text: &[u8], names: &Names) -> Result<EntryLists, TextFault>
     ensures { MatchResult result
         (λ lists. read_pieces names.now no_lists (pieces_of text.now) ≡ Ok (lists_of lists))
@@ -39,7 +39,7 @@ pub(crate) fn read_text(alloc: Global, text: &[u8], names: &Names) -> Result<Ent
     Ok(lists)
 }
 
-/// Reads the entries of the first line of a text, and returns the text behind the line.
+/// Adds the entries of the first line of a text to the lists, and returns the text behind the line.
 fn read_first<'a>(
     text: &'a [u8],
     number: usize,
@@ -60,7 +60,7 @@ fn read_first<'a>(
     Ok(rest)
 }
 
-/// Reads the entries of a line.
+/// Adds the entries of a line to the lists, up to the first piece that spells no entry, whose fault it returns.
 fn read_line(
     line: &[u8],
     number: usize,

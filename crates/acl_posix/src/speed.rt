@@ -40,7 +40,7 @@ fn push_each(
 }
 
 // Makes the entries without a qualifier, and `count` users and as many groups.
-fn many(alloc: Global, count: u32, step: u32) -> Result<Vec<Entry>, AllocError>
+fn entries_of(alloc: Global, count: u32, step: u32) -> Result<Vec<Entry>, AllocError>
     requires { 0 < count }
 {
     let mut entries = Vec::new(alloc);
@@ -56,13 +56,13 @@ fn many(alloc: Global, count: u32, step: u32) -> Result<Vec<Entry>, AllocError>
 fn acl_of(alloc: Global, count: u32, step: u32) -> Result<PosixAcl, AclFault>
     requires { 0 < count }
 {
-    let entries = many(alloc.clone()?, count, step)?;
+    let entries = entries_of(alloc.clone()?, count, step)?;
     PosixAcl::from_entries(alloc, entries)
 }
 
 // Returns how often, out of ten thousand times, a user in sixteen groups is granted all permissions. Neither the user
 // nor the groups have an entry.
-fn granted(acl: &PosixAcl) -> usize {
+fn count_granted(acl: &PosixAcl) -> usize {
     let (owner, group, user) = (
         Id { value: 4000000001 },
         Id { value: 4000000002 },
@@ -75,7 +75,7 @@ fn granted(acl: &PosixAcl) -> usize {
 }
 
 // Returns whether an ACL has this number of entries, unless memory runs out.
-fn holds(alloc: Global, count: u32, step: u32, len: usize) -> bool
+fn has_len(alloc: Global, count: u32, step: u32, len: usize) -> bool
     requires { 0 < count }
 {
     match acl_of(alloc, count, step) {
@@ -89,49 +89,49 @@ fn grants_all(alloc: Global, count: u32) -> bool
     requires { 0 < count }
 {
     match acl_of(alloc, count, LARGE_PRIME) {
-        Ok(acl) => granted(&acl) == 10000,
+        Ok(acl) => count_granted(&acl) == 10000,
         Err(_) => true,
     }
 }
 
 #[test]
-fn entries_1000(rt: HostRuntime) {
-    let entries = many(rt.alloc(), 498, LARGE_PRIME);
+fn the_input_has_1000_entries(rt: HostRuntime) {
+    let entries = entries_of(rt.alloc(), 498, LARGE_PRIME);
     assert!(rt; entries.map_or(true, |entries| entries.len() == 1000));
 }
 
 #[test]
-fn entries_10000(rt: HostRuntime) {
-    let entries = many(rt.alloc(), 4998, LARGE_PRIME);
+fn the_input_has_10000_entries(rt: HostRuntime) {
+    let entries = entries_of(rt.alloc(), 4998, LARGE_PRIME);
     assert!(rt; entries.map_or(true, |entries| entries.len() == 10000));
 }
 
 #[test]
-fn ordered_1000(rt: HostRuntime) {
-    assert!(rt; holds(rt.alloc(), 498, 1, 1000));
+fn an_acl_is_made_of_1000_ordered_entries(rt: HostRuntime) {
+    assert!(rt; has_len(rt.alloc(), 498, 1, 1000));
 }
 
 #[test]
-fn ordered_10000(rt: HostRuntime) {
-    assert!(rt; holds(rt.alloc(), 4998, 1, 10000));
+fn an_acl_is_made_of_10000_ordered_entries(rt: HostRuntime) {
+    assert!(rt; has_len(rt.alloc(), 4998, 1, 10000));
 }
 
 #[test]
-fn shuffled_1000(rt: HostRuntime) {
-    assert!(rt; holds(rt.alloc(), 498, LARGE_PRIME, 1000));
+fn an_acl_is_made_of_1000_shuffled_entries(rt: HostRuntime) {
+    assert!(rt; has_len(rt.alloc(), 498, LARGE_PRIME, 1000));
 }
 
 #[test]
-fn shuffled_10000(rt: HostRuntime) {
-    assert!(rt; holds(rt.alloc(), 4998, LARGE_PRIME, 10000));
+fn an_acl_is_made_of_10000_shuffled_entries(rt: HostRuntime) {
+    assert!(rt; has_len(rt.alloc(), 4998, LARGE_PRIME, 10000));
 }
 
 #[test]
-fn check_1000(rt: HostRuntime) {
+fn an_acl_of_1000_entries_grants_each_check(rt: HostRuntime) {
     assert!(rt; grants_all(rt.alloc(), 498));
 }
 
 #[test]
-fn check_10000(rt: HostRuntime) {
+fn an_acl_of_10000_entries_grants_each_check(rt: HostRuntime) {
     assert!(rt; grants_all(rt.alloc(), 4998));
 }

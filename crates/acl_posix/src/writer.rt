@@ -102,6 +102,7 @@ impl PosixAcl {
 }
 
 /// Writes a text of the ACLs of a file, and returns how many bytes it has.
+#[tactic(auto, using(crate::proofs::writer::Bounds::part_under))]
 fn put_file<S: Sink>(
     sink: &mut S,
     form: Form,
@@ -114,13 +115,12 @@ fn put_file<S: Sink>(
     ensures failed { OnErr result (S.failure_count sink.new ≡ one_more (S.failure_count sink.old)) }
 {
     let entries = access.entries();
-    match put_part(sink, 0, form, Part::Access, access, entries, true) {
-        Ok(done) => put_default(sink, done, form, default),
-        Err(fault) => Err(fault),
-    }
+    let done = put_part(sink, 0, form, Part::Access, access, entries, true)?;
+    put_default(sink, done, form, default)
 }
 
 /// Writes the entries of the default part, if there is one.
+#[tactic(auto, using(crate::proofs::writer::Bounds::part_under))]
 fn put_default<S: Sink>(
     sink: &mut S,
     done: u64,

@@ -102,6 +102,9 @@ fn fields_before(bytes: &[u8]) -> Option<FieldsBefore<'_>>
 // The number of digits of the greatest id. Ten digits fit in 64 bits.
 const MOST_DIGITS: usize = 10;
 
+/// Returns the id before the first colon, if at most ten digits are before it. `read_id` does not serve here: it takes
+/// digits that are already cut off, and finding their end first would be a second pass over them.
+#[tactic(auto, using(crate::proofs::field::Digits::ten_digits))]
 fn id_before(bytes: &[u8]) -> Option<IdBefore<'_>>
     ensures { IfSome result (λ found. IsIdBefore bytes.now found.id.value found.rest.now) }
 {

@@ -40,10 +40,10 @@ refused_run (Some t) known held holds f is (inr fails) =
     (f, refuses_by (Answers t) known held holds f (cause_of f) is fails)
 
 -- at 2 the input has a fault
-pub refused_told : (task : Option Task) (known held holds : Option (List ℕ)) (f : CommandFault) (status : ℕ)
+pub report_refused : (task : Option Task) (known held holds : Option (List ℕ)) (f : CommandFault) (status : ℕ)
     → Performs task known held holds (Err f) → status ≡ status_of f → status ≡ 2 → IsRefused task known
-refused_told task known held holds command.Usage status performs is two = absurd (omega (arith, is, two))
-refused_told task known held holds (command.Run f) status performs is two =
+report_refused task known held holds command.Usage status performs is two = absurd (omega (arith, is, two))
+report_refused task known held holds (command.Run f) status performs is two =
     by (is_input_fault f) refl
   where
     by : (b : Bool) → is_input_fault f ≡ b → IsRefused task known
@@ -76,12 +76,12 @@ begun_at (Some t) known held holds (command.Run f) (inr fails) write =
     begins_by (Answers t) known held holds f (cause_of f) write fails
 
 -- nothing was written, or a write failed after a beginning was written
-pub told_begun : (task : Option Task) (known held holds : Option (List ℕ)) (f : CommandFault) (Kept : Type 0)
+pub report_begun : (task : Option Task) (known held holds : Option (List ℕ)) (f : CommandFault) (Kept : Type 0)
     (old new : ℕ) → Performs task known held holds (Err f) → (is_write_fault f ≡ true) ⊎ Kept
     → new ≡ failures_after old (is_write_fault f)
     → Kept ⊎ ((new ≡ one_more old) × IsBegun task known held holds)
-told_begun task known held holds f Kept old new performs (inr kept) failed = inl kept
-told_begun task known held holds f Kept old new performs (inl write) failed =
+report_begun task known held holds f Kept old new performs (inr kept) failed = inl kept
+report_begun task known held holds f Kept old new performs (inl write) failed =
     inr (failed ∙ ap (failures_after old) write, begun_at task known held holds f performs write)
 
 -- ---- one result after the other
@@ -133,7 +133,7 @@ ended_so {words} {left} {source} {holds} {out} {out_after} o status below at run
   ended = λ two. absurd (omega (arith, below, two));
   unwritten = λ two _. absurd (omega (arith, below, two));
   begun = λ four. absurd (omega (arith, below, four));
-  untold = λ _. refl;
+  unreported = λ _. refl;
   none_failed = λ _. (runs.reads, runs.writes);
   one_read = inl runs.reads;
   one_write = inl runs.writes;
@@ -161,7 +161,7 @@ bad_usage {out} {out_after} status is runs = record {
   ended = λ two. absurd (omega (arith, is, two));
   unwritten = λ _ _. kept runs.unwritten;
   begun = λ four. absurd (omega (arith, is, four));
-  untold = λ below. absurd (omega (arith, is, below));
+  unreported = λ below. absurd (omega (arith, is, below));
   none_failed = λ _. (runs.reads, runs.writes);
   one_read = inl runs.reads;
   one_write = inl runs.writes;
@@ -186,7 +186,7 @@ bad_input {words} {left} {reads_failed} {source} {source_after} {holds} {writes_
       named = λ below. below_named _ _ _ _ (command.Run f) status runs.performs is below;
       done = λ below. absurd (omega (arith, two, below));
       whole = λ below. absurd (omega (arith, two, below));
-      refused = λ _. refused_told _ _ _ _ (command.Run f) status runs.performs is two;
+      refused = λ _. report_refused _ _ _ _ (command.Run f) status runs.performs is two;
       usage = λ three. absurd (omega (arith, two, three));
       unread = λ three. absurd (omega (arith, two, three));
       unnamed = λ none. let e = unnamed none in absurd cc;
@@ -195,7 +195,7 @@ bad_input {words} {left} {reads_failed} {source} {source_after} {holds} {writes_
       ended = λ _. runs.ended (sym is ∙ two);
       unwritten = λ _ _. kept runs.unwritten;
       begun = λ four. absurd (omega (arith, two, four));
-      untold = λ below. absurd (omega (arith, two, below));
+      unreported = λ below. absurd (omega (arith, two, below));
       none_failed = λ _. (read, written);
       one_read = inl read;
       one_write = inl written;
@@ -240,8 +240,8 @@ bad_device {words} {left} {reads_failed} {source} {source_after} {holds} {writes
       stopped = stops (source_or_not (cause_of f));
       ended = λ two. absurd (omega (arith, four, two));
       unwritten = λ _ three. absurd (omega (arith, four, three));
-      begun = λ _. told_begun _ _ _ _ (command.Run f) _ _ _ runs.performs runs.unwritten runs.writes;
-      untold = λ below. absurd (omega (arith, four, below));
+      begun = λ _. report_begun _ _ _ _ (command.Run f) _ _ _ runs.performs runs.unwritten runs.writes;
+      unreported = λ below. absurd (omega (arith, four, below));
       none_failed = λ below. absurd (omega (arith, four, below));
       one_read = stays_or_more _ _ (is_read f) runs.reads;
       one_write = stays_or_more _ _ (is_write f) runs.writes;

@@ -50,5 +50,5 @@ compares_is list other (Some d) o text same is grants first = rw same (record {
   mask = d.bit.bits;
   first_grants = d.first_grants;
   is_first = first;
-  told = is;
+  is_text = is;
 })

@@ -13,7 +13,7 @@ use Rattle.acl_nfs4.specs.declared.feed.fed.Fed.TheVariants.{Done, More, Refused
 use Rattle.acl_nfs4.specs.declared.xdr.fault.Fault.{Fault}
 use Rattle.acl_nfs4.proofs.Exports.{bytes_append, nothing_cut}
 use Rattle.aclck.specs.ListInput.{piece_len}
-use Rattle.aclck.specs.internal.Reading.{IsTold, ReadsNone, ReadsValue}
+use Rattle.aclck.specs.internal.Reading.{IsReaderFault, ReadsNone, ReadsValue}
 use Rattle.aclck.specs.declared.input.xdr.ListFault.{ListFault}
 use Rattle.aclck.specs.declared.input.xdr.ListFault.TheVariants as unread
 use Rattle.aclck.specs.declared.input.xdr.Value.{Value}
@@ -24,7 +24,7 @@ pub record IsFed (p : Profile) (left pulled : List ℕ) (old new : Option (List 
     : Type 0 where
   pub given : List ℕ
   pub text : List ℕ
-  pub stands : feed ≡ more p text
+  pub is_more : feed ≡ more p text
   pub parts : left ++ given ≡ text ++ pulled
   pub taken : Consumes old new given
   pub is_fed : fed ≡ length text
@@ -42,7 +42,7 @@ pub fed_nothing : (p : Profile) (left : List ℕ) (known : Option (List ℕ)) (f
 fed_nothing p left known feed is = record {
   given = [];
   text = [];
-  stands = is;
+  is_more = is;
   parts = append-nil left;
   taken = Consumes-nil known;
   is_fed = refl;
@@ -61,11 +61,11 @@ pub fed_more : {p : Profile} {left pulled pull new_pulled : List ℕ} {old mid n
     → IsBytes pull → Feeds feed pull More feed_after → Consumes mid new new_pulled → fed_after ≡ fed + length pulled
     → IsFed p left new_pulled old new feed_after fed_after
 fed_more {pull} {new_pulled} h same bytes feeds next is =
-    let d = rw h.stands at feeds in
+    let d = rw h.is_more at feeds in
     record {
       given = h.given ++ new_pulled;
       text = h.text ++ pull;
-      stands = d.0;
+      is_more = d.0;
       parts = next_parts _ h.given h.text _ pull new_pulled h.parts same;
       taken = Consumes-trans _ _ _ _ _ h.taken next;
       is_fed = omega (arith, is, h.is_fed, length-append h.text pull, ap length same);
@@ -80,7 +80,7 @@ pub fed_value : {p : Profile} {left pulled pull new_left : List ℕ} {old new : 
     → IfOk r (λ v. (v.len ≡ fed + t) × FinishesStream feed_after (Ok v.list))
     → IfOk r (λ v. ReadsValue p left new_left old new v.list v.len)
 fed_value {p} {left} {pulled} {pull} {new_left} {old} {new} {feed} {fed} feed_after t h same after feeds r is =
-    let d = rw h.stands at feeds in
+    let d = rw h.is_more at feeds in
     done_reads p left h.given h.text pulled pull new_left old new fed t feed_after d.0 r h.parts h.taken h.is_fed same
     after d.2 d.1 d.3 is
 
@@ -90,19 +90,19 @@ pub fed_none : {p : Profile} {left pulled pull : List ℕ} {old new : Option (Li
     → length pulled ≤ piece_len → IsBytes pull → Feeds feed pull (Done t) feed_after
     → (r : Result Value ListFault) → FinishesNot feed_after r → IfErr r (λ e. ReadsNone p left old new e)
 fed_none {p} {left} {pulled} {pull} {old} {new} {feed} {fed} feed_after t h same short bytes feeds r is =
-    let d = rw h.stands at feeds in
+    let d = rw h.is_more at feeds in
     done_none p left h.given h.text pulled pull old new t feed_after d.0 r h.parts h.taken same short d.1 d.3
     (bytes_append h.text pull h.bytes bytes) is
 
 -- a feed that refuses the last pull
 pub fed_refused : {p : Profile} {left pulled pull : List ℕ} {old new : Option (List ℕ)} {feed : StreamState} {fed : ℕ}
     {f : Fault} {e : ListFault} (feed_after : StreamState) → IsProfile p → IsFed p left pulled old new feed fed
-    → pull ≡ pulled → length pulled ≤ piece_len → IsBytes pull → Feeds feed pull (Refused f) feed_after → IsTold e f
-    → ReadsNone p left old new e
-fed_refused {p} {left} {pulled} {pull} {old} {new} {f} {e} feed_after ok h same short bytes feeds told =
-    let d = rw h.stands at feeds in
+    → pull ≡ pulled → length pulled ≤ piece_len → IsBytes pull → Feeds feed pull (Refused f) feed_after
+    → IsReaderFault e f → ReadsNone p left old new e
+fed_refused {p} {left} {pulled} {pull} {old} {new} {f} {e} feed_after ok h same short bytes feeds run_fault =
+    let d = rw h.is_more at feeds in
     refused_reads p left h.given h.text pulled pull old new f e ok h.parts h.taken same short h.cut
-    (bytes_append h.text pull h.bytes bytes) d.1 told
+    (bytes_append h.text pull h.bytes bytes) d.1 run_fault
 
 -- a feed that asks for more at the end of the source
 pub fed_end : {p : Profile} {left pulled pull new_pulled : List ℕ} {old mid : Option (List ℕ)} {feed : StreamState}
@@ -112,6 +112,6 @@ pub fed_end : {p : Profile} {left pulled pull new_pulled : List ℕ} {old mid : 
     → IfErr r (λ e. ReadsNone p left old new e)
 fed_end {p} {left} {pulled} {pull} {new_pulled} {old} {mid} {feed} new feed_after h same bytes feeds next end r
     is =
-    let d = rw h.stands at feeds in
+    let d = rw h.is_more at feeds in
     end_reads p left h.given h.text pulled pull new_pulled old mid new feed_after r h.parts same h.taken next end.0
     end.1 d.0 d.1 (bytes_append h.text pull h.bytes bytes) is

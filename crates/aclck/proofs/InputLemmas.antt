@@ -20,7 +20,7 @@ use Rattle.aclck.specs.Answer.{IsListFault, cause_of, is_read}
 use Rattle.aclck.specs.commands.Compare.{IsFaultOfTwo}
 use Rattle.aclck.specs.commands.Compare.IsFaultOfTwo.{of_first, of_second}
 use Rattle.aclck.specs.ListInput.{AreOpen, EndsBehind, IsOpen, ListEnds, RefusalEnds, TakesPart, TakesTo, TwoEnd, piece_len}
-use Rattle.aclck.specs.internal.Reading.{BytesEnd, EndsNot, HasInput, InputKind, ReadsInput, ReadsNone, ReadsValue, StandsBelow, Unread, is_failed_pull, later, one_list_input, told, two_list_input}
+use Rattle.aclck.specs.internal.Reading.{BytesEnd, EndsNot, HasInput, InputKind, ReadsInput, ReadsNone, ReadsValue, IsOffsetBelow, Unread, is_failed_pull, later, one_list_input, run_fault, two_list_input}
 use Rattle.aclck.specs.declared.answer.RunFault.{RunFault}
 use Rattle.aclck.specs.declared.answer.RunFault.TheVariants as fault
 use Rattle.aclck.specs.declared.input.xdr.ListFault.{ListFault}
@@ -89,16 +89,16 @@ list_ends p text end (inl v) = inl v.value
 list_ends p text end (inr r) = inr r
 
 -- a fault is reported at its place
-told_at : (Has : ℕ → Reason → Type 0) (n place : ℕ) (r : Reason) → n ≡ place → Has n r
+fault_at_place : (Has : ℕ → Reason → Type 0) (n place : ℕ) (r : Reason) → n ≡ place → Has n r
     → IsListFault Has (fault.Nfs (record { offset = place; reason = r }))
-told_at Has n place r same has =
+fault_at_place Has n place r same has =
     record { found = record { offset = place; reason = r }; is = refl; has = subst (λ (k : ℕ). Has k r) same has }
 
--- one list is behind no bytes
+-- no bytes begin the input of one list
 pub one_begins : (p : Profile) → Continues (one_list_input p) p []
 one_begins p = record {
   refused = λ rest offset r has.
-      told_at (IsWholeFault p rest) offset (offset + 0) r (omega arith) (of_value offset r has);
+      fault_at_place (IsWholeFault p rest) offset (offset + 0) r (omega arith) (of_value offset r has);
   ends = λ rest end e near. record { end = end; is_end = list_ends p rest end e; near = near };
   goes_on = λ rest cut. inl cut;
 }
@@ -133,7 +133,7 @@ first_ends p rest end (inl v) near =
 pub two_begin : (p : Profile) → Continues (two_list_input p) p []
 two_begin p = record {
   refused = λ rest offset r has.
-      told_at (IsFaultOfTwo p rest) offset (offset + 0) r (omega arith) (of_first offset r has);
+      fault_at_place (IsFaultOfTwo p rest) offset (offset + 0) r (omega arith) (of_first offset r has);
   ends = first_ends p;
   goes_on = λ rest cut. inl cut;
 }
@@ -143,7 +143,7 @@ pub two_go_on : (p : Profile) (list : List Ace) (first : List ℕ) → Xdr p lis
     → Continues (two_list_input p) p first
 two_go_on p list first x = record {
   refused = λ rest offset r has.
-      told_at (IsFaultOfTwo p (first ++ rest)) (length first + offset) (offset + length first) r (omega arith)
+      fault_at_place (IsFaultOfTwo p (first ++ rest)) (length first + offset) (offset + length first) r (omega arith)
       (of_second list first rest offset r x refl (of_value offset r has));
   ends = λ rest end e near. record {
     end = length first + end;
@@ -157,7 +157,7 @@ two_go_on p list first x = record {
 -- a list is a whole input of one list
 pub one_whole : (p : Profile) (list : List Ace) (text : List ℕ) → Xdr p list text → Completes (one_list_input p) text
 one_whole p list text x = record {
-  refused = λ rest some. told_at (IsWholeFault p (text ++ rest)) (length text) (length text) TrailingBytes refl
+  refused = λ rest some. fault_at_place (IsWholeFault p (text ++ rest)) (length text) (length text) TrailingBytes refl
       (behind list text rest x refl some);
   ends = λ rest. inl (record {
     list = list;
@@ -172,7 +172,7 @@ pub two_whole : (p : Profile) (list other : List Ace) (first second : List ℕ) 
     → Completes (two_list_input p) (first ++ second)
 two_whole p list other first second x y = record {
   refused = λ rest some.
-      told_at (IsFaultOfTwo p ((first ++ second) ++ rest)) (length first + length second) (length (first ++ second))
+      fault_at_place (IsFaultOfTwo p ((first ++ second) ++ rest)) (length first + length second) (length (first ++ second))
       TrailingBytes (sym (length-append first second))
       (of_second list first (second ++ rest) (length second) TrailingBytes x (append_assoc first second rest)
       (behind other second rest y refl some));
@@ -186,7 +186,7 @@ two_whole p list other first second x y = record {
 
 -- a fault is where accepted fields end, and these have few bytes
 pub fault_below : (p : Profile) (left : List ℕ) (old mid : Option (List ℕ)) (e : ListFault) → ReadsNone p left old mid e
-    → StandsBelow (2 ^ 32) e
+    → IsOffsetBelow (2 ^ 32) e
 fault_below p left old mid (unread.Refused f) h =
     let b = begins p h.has.stage h.has.front h.has.border in
     omega (arith, h.has.here, length-append h.has.front b.1, spelled_short p b.0 (h.has.front ++ b.1) b.2)
@@ -214,16 +214,16 @@ still_has p given left f end h (inr b) all =
     (λ e. never_truncated p h.stage _ (subst (λ (r : Reason). refuses p h.stage (take (size h.stage) h.rest) r) e b.2))
 
 -- a fault that counts from an earlier byte is a fault of the source if and only if it was one before
-later_read : (e : ListFault) (len : ℕ) → is_read (told (later e len)) ≡ is_failed_pull e
+later_read : (e : ListFault) (len : ℕ) → is_read (run_fault (later e len)) ≡ is_failed_pull e
 later_read (unread.Refused f) len = refl
 later_read unread.Read len = refl
 later_read unread.Memory len = refl
 
 -- a fault that is reported is a fault of the source if and only if a pull failed
-told_read : (e : ListFault) → is_read (told e) ≡ is_failed_pull e
-told_read (unread.Refused f) = refl
-told_read unread.Read = refl
-told_read unread.Memory = refl
+run_fault_read : (e : ListFault) → is_read (run_fault e) ≡ is_failed_pull e
+run_fault_read (unread.Refused f) = refl
+run_fault_read unread.Read = refl
+run_fault_read unread.Memory = refl
 
 -- a fault that counts from the first byte stays as it is
 later_none : (e : ListFault) → later e 0 ≡ e
@@ -236,11 +236,12 @@ later_none unread.Memory = refl
 -- if a value has a fault, the input has it
 value_refused : (k : InputKind) (p : Profile) (before after given : List ℕ) (old mid new : Option (List ℕ))
     (e : ListFault) → Continues k p before → given ≡ before ++ after → Consumes old mid given
-    → ReadsNone p after mid new e → Unread (HasInput (λ input. k.HasFault input (told (later e (length before)))) old)
-    (cause_of (told (later e (length before))))
+    → ReadsNone p after mid new e
+    → Unread (HasInput (λ input. k.HasFault input (run_fault (later e (length before)))) old)
+    (cause_of (run_fault (later e (length before))))
 value_refused k p before after given old mid new (unread.Refused f) next parts c h =
     input_found _ (given ++ h.given) old new (Consumes-trans old mid new given h.given c h.taken) (λ left end.
-    subst (λ (y : List ℕ). k.HasFault y (told (later (unread.Refused f) (length before))))
+    subst (λ (y : List ℕ). k.HasFault y (run_fault (later (unread.Refused f) (length before))))
     (sym (ap (λ (y : List ℕ). y ++ left) (regroup given before after h.given parts)
     ∙ append_assoc before (after ++ h.given) left))
     (next.refused ((after ++ h.given) ++ left) f.offset f.reason
@@ -282,7 +283,7 @@ pub value_unread : {X : Type 0} (k : InputKind) (p : Profile) (Is : X → List �
     (old mid new : Option (List ℕ)) (failed mid_failed new_failed : ℕ) (e : ListFault) → Continues k p before
     → HasRead before after old mid failed mid_failed → ReadsNone p after mid new e
     → new_failed ≡ failures_after mid_failed (is_failed_pull e)
-    → ReadsInput k Is old new failed new_failed (Err (told (later e (length before))))
+    → ReadsInput k Is old new failed new_failed (Err (run_fault (later e (length before))))
 value_unread k p Is before after old mid new failed mid_failed new_failed e next read h failures = record {
   found = tt;
   whole = tt;
@@ -297,16 +298,16 @@ value_unread k p Is before after old mid new failed mid_failed new_failed e next
 -- the reason why the first value was not read is the reason why the input was not read, after `?` has converted it
 pub first_unread : {X : Type 0} (k : InputKind) (p : Profile) (Is : X → List ℕ → Type 0) (left : List ℕ)
     (old new : Option (List ℕ)) (failed new_failed : ℕ) (e : ListFault) (r : Result X RunFault) → left ≡ []
-    → IsErrAnd r (λ run. run ≡ told e) → Continues k p [] → ReadsNone p left old new e
+    → IsErrAnd r (λ run. run ≡ run_fault e) → Continues k p [] → ReadsNone p left old new e
     → new_failed ≡ failures_after failed (is_failed_pull e) → ReadsInput k Is old new failed new_failed r
 first_unread k p Is left old new failed new_failed e (Ok x) none goes_up next h failures = absurd goes_up
 first_unread k p Is left old new failed new_failed e (Err run) none goes_up next h failures =
-    rw goes_up (subst (λ (f : ListFault). ReadsInput k Is old new failed new_failed (Err (told f))) (later_none e)
+    rw goes_up (subst (λ (f : ListFault). ReadsInput k Is old new failed new_failed (Err (run_fault f))) (later_none e)
     (value_unread k p Is [] left old old new failed failed new_failed e next (nothing left old failed none) h failures))
 
 -- ---- all values are read
 
--- little was taken if an input continues, or ends, behind them
+-- little was taken if an input continues, or ends, behind the values that were read
 whole_near : (k : InputKind) (text after given others : List ℕ) (old mid new : Option (List ℕ)) → Completes k text
     → given ≡ text ++ after → Consumes old mid given → Consumes mid new others
     → length (after ++ others) ≤ piece_len → TakesTo k.EndsAt old new
@@ -329,7 +330,7 @@ all_read text after given parts none =
 end_refused : (k : InputKind) (text after given : List ℕ) (old mid new : Option (List ℕ)) (len : ℕ) (e : ListFault)
     → Completes k text → given ≡ text ++ after → Consumes old mid given → len ≡ length text
     → EndsNot len after mid new e
-    → Unread (HasInput (λ input. k.HasFault input (told e)) old) (cause_of (told e))
+    → Unread (HasInput (λ input. k.HasFault input (run_fault e)) old) (cause_of (run_fault e))
 end_refused k text after given old mid new len (unread.Refused f) all parts c is h =
     rw (h.0, is) (input_found _ (given ++ h.1.given) old new (Consumes-trans old mid new given h.1.given c h.1.taken)
     (λ left end.
@@ -355,7 +356,7 @@ end_open k text after given old mid new len e all parts c h r =
 -- the reason why an input does not end behind its values is the reason why it was not read
 pub end_unread : {X : Type 0} (k : InputKind) (Is : X → List ℕ → Type 0) (text after : List ℕ)
     (old mid new : Option (List ℕ)) (failed mid_failed new_failed len : ℕ) (e : ListFault) (r : Result X RunFault)
-    → IsErrAnd r (λ run. run ≡ told e) → Completes k text → HasRead text after old mid failed mid_failed
+    → IsErrAnd r (λ run. run ≡ run_fault e) → Completes k text → HasRead text after old mid failed mid_failed
     → len ≡ length text → EndsNot len after mid new e → new_failed ≡ failures_after mid_failed (is_failed_pull e)
     → ReadsInput k Is old new failed new_failed r
 end_unread k Is text after old mid new failed mid_failed new_failed len e (Ok x) goes_up all read is h failures =
@@ -368,9 +369,9 @@ end_unread k Is text after old mid new failed mid_failed new_failed len e (Err r
       not_read = end_refused k text after read.given old mid new len e all read.parts read.taken is h;
       bound = whole_near k text after read.given past.given old mid new all read.parts read.taken past.taken past.near;
       stopped = λ r. end_open k text after read.given old mid new len e all read.parts read.taken h
-          (sym (told_read e) ∙ r);
+          (sym (run_fault_read e) ∙ r);
       reads = failures ∙ ap (λ (n : ℕ). failures_after n (is_failed_pull e)) read.none_failed
-          ∙ ap (failures_after failed) (sym (told_read e));
+          ∙ ap (failures_after failed) (sym (run_fault_read e));
     })
 
 -- an input that is what was read and nothing more

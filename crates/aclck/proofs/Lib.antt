@@ -13,4 +13,4 @@ pub mod InputLemmas
 pub mod NormalFormLemmas
 pub mod PathLemmas
 pub mod CompareLemmas
-pub mod ToldLemmas
+pub mod WritingLemmas

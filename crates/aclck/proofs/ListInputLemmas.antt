@@ -20,7 +20,7 @@ use Rattle.acl_nfs4.specs.declared.xdr.fault.Reason.{Reason}
 use Rattle.acl_nfs4.specs.declared.xdr.fault.Reason.TheVariants.{Truncated}
 use Rattle.acl_nfs4.proofs.Exports.{begins, breaks_whole, judges, never_truncated, one_reason, short_rest, spelling_short, stage_bounds, value_or_fault}
 use Rattle.aclck.specs.ListInput.{ListEnds, RefusalEnds, ValueEnds, piece_len}
-use Rattle.aclck.specs.internal.Reading.{EndsNot, IsTold, ReadsLittle, ReadsNone, ReadsPart, ReadsValue, is_failed_pull}
+use Rattle.aclck.specs.internal.Reading.{EndsNot, IsReaderFault, ReadsLittle, ReadsNone, ReadsPart, ReadsValue, is_failed_pull}
 use Rattle.aclck.specs.declared.input.xdr.ListFault.{ListFault}
 use Rattle.aclck.specs.declared.input.xdr.ListFault.TheVariants as unread
 use Rattle.aclck.specs.declared.input.xdr.Value.{Value}
@@ -276,7 +276,7 @@ memory_reads p left given text pulled pull old new ok parts c same short cut byt
 pub refused_reads : (p : Profile) (left given text pulled pull : List ℕ) (old new : Option (List ℕ)) (f : Fault)
     (e : ListFault) → IsProfile p → left ++ given ≡ text ++ pulled → Consumes old new given → pull ≡ pulled
     → length pulled ≤ piece_len → IsCutShort p text → IsBytes (text ++ pull) → RefusesStream p (text ++ pull) f
-    → IsTold e f → ReadsNone p left old new e
+    → IsReaderFault e f → ReadsNone p left old new e
 refused_reads p left given text pulled pull old new f e ok parts c same short cut bytes h (inl memory) =
     rw memory (memory_reads p left given text pulled pull old new ok parts c same short cut bytes)
 refused_reads p left given text pulled pull old new f e ok parts c same short cut bytes (inl m) (inr is) =

@@ -11,7 +11,7 @@ use Rattle.acl_nfs4.proofs.Exports.{code_profile, one}
 use Rattle.acl_eval.specs.Grant.{SameGrants}
 use Rattle.acl_eval.proofs.Same.{equivalence}
 use Rattle.acl_normal.specs.Normal.{IsNormal}
-use Rattle.acl_normal.specs.NormalForm.{IsNormalFormOf, Normalises}
+use Rattle.acl_normal.specs.NormalForm.{IsNormalFormOf, Normalizes}
 use Rattle.acl_normal.proofs.unique.Spelled.{IsForm, form_of, forms_tell}
 use Rattle.acl_normal.proofs.unique.Unique.{unique}
 use Rattle.aclck.specs.Answer.{done}
@@ -25,24 +25,24 @@ pub one_of : (p : Profile) (list other : List Ace) (x : List ℕ) → IsProfile 
 one_of p list other x is h k = (one p list other x x [] [] is h k refl).0
 
 -- the list that was written is a form of the list that was read
-form_is : (p : Profile) (list : List Ace) (x a : List ℕ) → IsProfile p → Xdr p list x → (h : Normalises p x a)
+form_is : (p : Profile) (list : List Ace) (x a : List ℕ) → IsProfile p → Xdr p list x → (h : Normalizes p x a)
     → IsForm p list h.form
 form_is p list x a is read h = subst (λ source. IsForm p source h.form) (one_of p h.source list x is h.read read)
     (form_of p h.source h.form is h.read.accepted h.is_form)
 
 -- what holds if and only if two texts are equal also holds for two texts that are equal to these
-pub told_by : {Same : Type 0} (a b one two : List ℕ) → a ≡ one → b ≡ two → (one ≡ two) ↔ Same → (a ≡ b) ↔ Same
-told_by a b one two e f law = (λ equal. law.0 (sym e ∙ equal ∙ f), λ same. e ∙ law.1 same ∙ sym f)
+pub same_or_not : {Same : Type 0} (a b one two : List ℕ) → a ≡ one → b ≡ two → (one ≡ two) ↔ Same → (a ≡ b) ↔ Same
+same_or_not a b one two e f law = (λ equal. law.0 (sym e ∙ equal ∙ f), λ same. e ∙ law.1 same ∙ sym f)
 
 -- two lists get equal bytes if and only if they grant the same
-pub bytes_tell : TellsListsApart Normalises SameGrants
+pub bytes_tell : TellsListsApart Normalizes SameGrants
 bytes_tell p list other x y a b is read read_other h k =
-    told_by a b (spelling h.form) (spelling k.form) h.spelled.spelled k.spelled.spelled
+    same_or_not a b (spelling h.form) (spelling k.form) h.spelled.spelled k.spelled.spelled
     (forms_tell p list other h.form k.form is (form_is p list x a is read h) (form_is p other y b is read_other k))
 
 -- the list that was written grants what the list that was read grants
 pub form_grants : (p : Profile) (list form : List Ace) (x a : List ℕ) → IsProfile p → Xdr p list x → Xdr p form a
-    → Normalises p x a → SameGrants p.masks list form
+    → Normalizes p x a → SameGrants p.masks list form
 form_grants p list form x a is read written h = subst (SameGrants p.masks list)
     (one_of p h.form form a is h.spelled written) (IsForm.grants (form_is p list x a is read h))
 
@@ -59,9 +59,9 @@ own_form list normal accepted = record {
 }
 
 -- the spelling of the normal form of a list that is read is written
-normalises : (p : Profile) (source form : List Ace) (x : List ℕ) → Xdr p source x → IsNormalFormOf source form
-    → IsAccepted p form → Normalises p x (spelling form)
-normalises p source form x read is_form accepted = record {
+normalizes : (p : Profile) (source form : List Ace) (x : List ℕ) → Xdr p source x → IsNormalFormOf source form
+    → IsAccepted p form → Normalizes p x (spelling form)
+normalizes p source form x read is_form accepted = record {
   source = source;
   form = form;
   read = read;
@@ -71,13 +71,13 @@ normalises p source form x read is_form accepted = record {
 
 -- of the bytes of an accepted normal form, these bytes are written
 pub own_bytes : (p : Profile) (form : List Ace) → IsNormal form → IsAccepted full form → IsAccepted p form
-    → Normalises p (spelling form) (spelling form)
+    → Normalizes p (spelling form) (spelling form)
 own_bytes p form normal accepted taken =
-    normalises p form form (spelling form) (record { accepted = taken; spelled = refl }) (own_form form normal accepted)
+    normalizes p form form (spelling form) (record { accepted = taken; spelled = refl }) (own_form form normal accepted)
     taken
 
 -- of bytes that were written, the same bytes are written, and no others
-pub twice : (p : Profile) (x a b : List ℕ) → IsProfile p → Normalises p x a → Normalises p a b ↔ (b ≡ a)
+pub twice : (p : Profile) (x a b : List ℕ) → IsProfile p → Normalizes p x a → Normalizes p a b ↔ (b ≡ a)
 twice p x a b is h = (
   λ k.
       let read : k.source ≡ h.form = one_of p k.source h.form a is k.read h.spelled in
@@ -85,7 +85,7 @@ twice p x a b is h = (
       k.spelled.spelled ∙ ap spelling (same ∙ read) ∙ sym h.spelled.spelled,
   λ e.
       let same : spelling h.form ≡ a = sym h.spelled.spelled in
-      subst (λ y. Normalises p a y) (sym e) (subst (λ y. Normalises p y y) same
+      subst (λ y. Normalizes p a y) (sym e) (subst (λ y. Normalizes p y y) same
       (own_bytes p h.form h.is_form.normal h.is_form.accepted h.spelled.accepted)),
 )
 
@@ -95,6 +95,6 @@ pub written_form : (profile : CodeProfile) → profile.flags.bits ≤ 255 → (s
     → NormalizeAnswer (profile_of profile) x (done outcome.Yes (spelling form))
 written_form profile le source form x read is_form = (
   refl,
-  normalises (profile_of profile) source form x read is_form
+  normalizes (profile_of profile) source form x read is_form
       (form_of (profile_of profile) source form (code_profile profile le) read.accepted is_form).accepted,
 )

@@ -10,28 +10,28 @@ use Rattle.acl_nfs4.specs.Within.{IsProfile}
 use Rattle.acl_nfs4.proofs.Exports.{code_profile}
 use Rattle.acl_eval.specs.Grant.{SameGrants}
 use Rattle.acl_normal.specs.FiveForms.{AreFormsOf, five_spellings}
-use Rattle.acl_normal.specs.NormalForm.{IsNormalFormOf, Normalises}
+use Rattle.acl_normal.specs.NormalForm.{IsNormalFormOf, Normalizes}
 use Rattle.acl_normal.specs.Paths.{SameAtEveryPath}
 use Rattle.acl_normal.specs.declared.five_forms.FiveForms.{FiveForms}
 use Rattle.acl_normal.proofs.unique.FiveFormLemmas.{all_accepted, joined_tell}
 use Rattle.aclck.specs.Answer.{done}
 use Rattle.aclck.specs.Headline.{GrantAtPaths}
 use Rattle.aclck.specs.Laws.{IsFiveForms, TellsListsApart}
-use Rattle.acl_normal.specs.Programs.{NormalisesAtPaths}
+use Rattle.acl_normal.specs.Programs.{NormalizesAtPaths}
 use Rattle.aclck.specs.commands.Normalize.{NormalizeInheritAnswer}
 use Rattle.aclck.specs.declared.answer.Outcome.TheVariants as outcome
-use Rattle.aclck.proofs.NormalFormLemmas.{one_of, own_bytes, told_by}
+use Rattle.aclck.proofs.NormalFormLemmas.{one_of, own_bytes, same_or_not}
 
 -- the list that was read is the one whose five were written
-of_read : (p : Profile) (list : List Ace) (x a : List ℕ) → IsProfile p → Xdr p list x → (h : NormalisesAtPaths p x a)
+of_read : (p : Profile) (list : List Ace) (x a : List ℕ) → IsProfile p → Xdr p list x → (h : NormalizesAtPaths p x a)
     → AreFormsOf list h.forms
 of_read p list x a is read h =
     subst (λ source. AreFormsOf source h.forms) (one_of p h.source list x is h.read read) h.are_forms
 
 -- two lists get equal bytes if and only if they grant the same at every path
-pub paths_tell : TellsListsApart NormalisesAtPaths SameAtEveryPath
+pub paths_tell : TellsListsApart NormalizesAtPaths SameAtEveryPath
 paths_tell p list other x y a b is read read_other h k =
-    told_by a b (five_spellings h.forms) (five_spellings k.forms) h.spelled k.spelled
+    same_or_not a b (five_spellings h.forms) (five_spellings k.forms) h.spelled k.spelled
     (joined_tell p list other h.forms k.forms is read.accepted (of_read p list x a is read h)
     read_other.accepted (of_read p other y b is read_other k))
 
@@ -43,7 +43,7 @@ part_of_rights p list other is same s valid request within =
 
 -- each of the five grants what the list at its path grants
 pub grants_at_paths : (p : Profile) (list : List Ace) (x a : List ℕ) → IsProfile p → Xdr p list x
-    → (h : NormalisesAtPaths p x a) → GrantAtPaths p.masks list h.forms
+    → (h : NormalizesAtPaths p x a) → GrantAtPaths p.masks list h.forms
 grants_at_paths p list x a is read h =
     let five = of_read p list x a is read h in record {
       object = part_of_rights p _ _ is five.object.grants;
@@ -55,11 +55,11 @@ grants_at_paths p list x a is read h =
 
 -- an accepted normal form is its own normal form
 form_own : (p : Profile) (source form : List Ace) → IsNormalFormOf source form → IsAccepted p form
-    → Normalises p (spelling form) (spelling form)
+    → Normalizes p (spelling form) (spelling form)
 form_own p source form h = own_bytes p form h.normal h.accepted
 
 -- each of the five forms is its own normal form
-pub forms_own : (p : Profile) (x a : List ℕ) → IsProfile p → NormalisesAtPaths p x a → IsFiveForms p a
+pub forms_own : (p : Profile) (x a : List ℕ) → IsProfile p → NormalizesAtPaths p x a → IsFiveForms p a
 forms_own p x a is h =
     let five = h.are_forms in
     let taken = h.accepted in record {

@@ -74,7 +74,7 @@ pub record RunsWords {S K E : Type 0} (words : List Text)
       ⊎ ((writes_failed out_after ≡ one_more (writes_failed out))
       × IsBegun (task_of words) (left source) (holds out) (holds out_after))
   -- at 0 and 1 nothing was written to the sink of faults
-  pub untold : status < 2 → err_after ≡ err
+  pub unreported : status < 2 → err_after ≡ err
   -- below 4 no read and no write failed
   pub none_failed : status < 4
       → (reads_failed source_after ≡ reads_failed source) × (writes_failed out_after ≡ writes_failed out)

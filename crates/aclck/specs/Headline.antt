@@ -7,9 +7,9 @@ use Rattle.acl_nfs4.specs.Spelling.{Xdr}
 use Rattle.acl_nfs4.specs.Within.{IsProfile}
 use Rattle.acl_eval.specs.Grant.{SameGrants}
 use Rattle.acl_eval.specs.declared.inherit.ChildKind.TheVariants.{Directory, File}
-use Rattle.acl_normal.specs.NormalForm.{Normalises}
+use Rattle.acl_normal.specs.NormalForm.{Normalizes}
 use Rattle.acl_normal.specs.Paths.{SameAtEveryPath, at, below, here}
-use Rattle.acl_normal.specs.Programs.{NormalisesAtPaths}
+use Rattle.acl_normal.specs.Programs.{NormalizesAtPaths}
 use Rattle.acl_normal.specs.declared.five_forms.FiveForms.{FiveForms}
 use Rattle.acl_posix.specs.TextLaws.{ReadsBack, TextTellsApart}
 use Rattle.acl_posix.specs.Texts.{canonical_text}
@@ -17,15 +17,15 @@ use Rattle.aclck.specs.Laws.{IsFiveForms, TellsListsApart}
 
 -- the headline, part by part
 pub record Headline : Type 0 where
-  -- two NFSv4 lists normalise to equal bytes if and only if, in every situation and for every mask, both grant or both
+  -- two NFSv4 lists normalize to equal bytes if and only if, in every situation and for every mask, both grant or both
   -- deny
-  pub equal_bytes : TellsListsApart Normalises SameGrants
+  pub equal_bytes : TellsListsApart Normalizes SameGrants
   -- the normal form grants what its source grants
   pub same_grants : (p : Profile) (list form : List Ace) (input output : List ℕ) → IsProfile p
-      → Xdr p list input → Xdr p form output → Normalises p input output → SameGrants p.masks list form
-  -- normalising twice gives the same as normalising once
-  pub twice_is_once : (p : Profile) (input once twice : List ℕ) → IsProfile p → Normalises p input once
-      → Normalises p once twice ↔ (twice ≡ once)
+      → Xdr p list input → Xdr p form output → Normalizes p input output → SameGrants p.masks list form
+  -- normalizing twice gives the same as normalizing once
+  pub twice_is_once : (p : Profile) (input once twice : List ℕ) → IsProfile p → Normalizes p input once
+      → Normalizes p once twice ↔ (twice ≡ once)
   -- two POSIX files have the same canonical text if and only if they have the same entries
   pub one_text : TextTellsApart canonical_text
   -- the canonical text reads back as the same file
@@ -43,10 +43,10 @@ pub record GrantAtPaths (rights : ℕ) (list : List Ace) (forms : FiveForms) : T
 pub record HeadlineOverPaths : Type 0 where
   -- the five normal forms of two lists have equal bytes if and only if, at every path, in every situation and for every
   -- mask, both grant or both deny
-  pub equal_bytes : TellsListsApart NormalisesAtPaths SameAtEveryPath
+  pub equal_bytes : TellsListsApart NormalizesAtPaths SameAtEveryPath
   -- each of the five grants what the list at its path grants
   pub same_grants : (p : Profile) (list : List Ace) (input output : List ℕ) → IsProfile p → Xdr p list input
-      → (five : NormalisesAtPaths p input output) → GrantAtPaths p.masks list five.forms
-  -- normalising each of the five once more changes none of them
-  pub twice_is_once : (p : Profile) (input output : List ℕ) → IsProfile p → NormalisesAtPaths p input output
+      → (five : NormalizesAtPaths p input output) → GrantAtPaths p.masks list five.forms
+  -- normalizing each of the five once more changes none of them
+  pub twice_is_once : (p : Profile) (input output : List ℕ) → IsProfile p → NormalizesAtPaths p input output
       → IsFiveForms p output

@@ -8,7 +8,7 @@ use Rattle.acl_nfs4.specs.Spelling.{Xdr, spelling}
 use Rattle.acl_nfs4.specs.Within.{IsProfile}
 use Rattle.acl_eval.specs.Grant.{SameGrants}
 use Rattle.acl_normal.specs.FiveForms.{five_lists, five_spellings}
-use Rattle.acl_normal.specs.NormalForm.{Normalises}
+use Rattle.acl_normal.specs.NormalForm.{Normalizes}
 use Rattle.acl_normal.specs.Paths.{SameAtEveryPath}
 use Rattle.acl_normal.specs.declared.five_forms.FiveForms.{FiveForms}
 use Rattle.acl_posix.specs.Grammar.{Reads}
@@ -77,7 +77,7 @@ NormalizeInheritTellsApart =
 pub record IsFiveForms (p : Profile) (text : List ℕ) : Type 0 where
   pub forms : FiveForms
   pub parts : text ≡ five_spellings forms
-  pub own : AllByRecursion (λ form. Normalises p (spelling form) (spelling form)) (five_lists forms)
+  pub own : AllByRecursion (λ form. Normalizes p (spelling form) (spelling form)) (five_lists forms)
 
 -- what `normalize --inherit` makes of bytes is five lists, one behind the other, of each of which `normalize` makes the
 -- same bytes

@@ -1,14 +1,14 @@
 -- What only the code and its proofs need (this library's own).
 -- Reading: how one list and two are read from pulls
 -- Files: why the file of a text was not read
--- Telling: how much of a text was written
+-- Writing: how much of a text was written
 -- Compared: the text and the outcome of what `acl_normal` answers
 -- Held: a command's arguments in the program
 -- Adding: names that are cut out of words and added to a table
 -- Performing: the result of a command line, from which the status is made
 pub mod Reading
 pub mod Files
-pub mod Telling
+pub mod Writing
 pub mod Compared
 pub mod Held
 pub mod Adding

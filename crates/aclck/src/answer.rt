@@ -2,7 +2,7 @@
 ghost use Rattle.std.specs.Prelude.{◌≡◌};
 ghost use Rattle.acl_nfs4.specs.Spelling.{spelling};
 ghost use Rattle.aclck.specs.Answer.{cause_of, decision_line, is_input_fault, is_yes, run_fault_of};
-ghost use Rattle.aclck.specs.internal.Telling.{Tells};
+ghost use Rattle.aclck.specs.internal.Writing.{WritesText};
 
 use acl_nfs4::{AceTextFault, Acl, Fault, ReadFault, WriteFault};
 use acl_perm::{Sink, put_all};
@@ -135,20 +135,20 @@ pub(crate) fn decision_line(outcome: Outcome) -> &'static [u8]
 }
 
 /// Writes a text, after which a command ends with this outcome.
-pub(crate) fn tell<K: Sink>(
+pub(crate) fn write_answer<K: Sink>(
     sink: &mut K,
     outcome: Outcome,
     text: &[u8],
 ) -> Result<Outcome, RunFault>
-    ensures { Tells outcome text.now K.contents K.failure_count sink.old sink.new result }
+    ensures { WritesText outcome text.now K.contents K.failure_count sink.old sink.new result }
 {
     put_all(sink, text)?;
     Ok(outcome)
 }
 
 /// Writes the bytes that spell a list, after which a command ends with Yes.
-pub(crate) fn tell_list<K: Sink>(sink: &mut K, list: &Acl) -> Result<Outcome, RunFault>
-    ensures { Tells Outcome.Yes (spelling list.now)
+pub(crate) fn write_list_answer<K: Sink>(sink: &mut K, list: &Acl) -> Result<Outcome, RunFault>
+    ensures { WritesText Outcome.Yes (spelling list.now)
         K.contents K.failure_count sink.old sink.new result }
 {
     list.encode(sink)?;

@@ -40,14 +40,14 @@ pub fn normalize_inherit_gives_forms()
 {}
 
 /// The headline: normal forms have equal bytes if and only if their lists grant the same, they grant what their lists
-/// grant, and normalising twice gives the same as once; canonical texts are equal if and only if the entries are equal,
+/// grant, and normalizing twice gives the same as once; canonical texts are equal if and only if the entries are equal,
 /// and they read back.
 pub fn headline()
     ensures { Headline }
 {}
 
 /// The headline over paths: the five normal forms have equal bytes if and only if their lists grant the same at every
-/// path of creations, each grants what the list at its path grants, and normalising each once more changes none.
+/// path of creations, each grants what the list at its path grants, and normalizing each once more changes none.
 pub fn headline_over_paths()
     ensures { HeadlineOverPaths }
 {}

@@ -1,6 +1,6 @@
 -- What a call promises, by what it made.
 use Rattle.std.proofs.Common.{◌≡◌, ◌≤◌, ◌<◌, ℕ, List, Result, Ok, Err, arith, inl, inr, subst, sym}
-use Rattle.std.specs.Prelude.{⊤, ◌≢◌, IfErr, IfOk}
+use Rattle.std.specs.Prelude.{⊤, ◌≢◌, ◌++◌, IfErr, IfOk}
 use Rattle.std.specs.Global.{Vec}
 use Rattle.acl_perm.specs.Profile.{Profile}
 use Rattle.aclck_c.specs.Call.{JudgesInput, ReportsFault, WritesOfFile, WritesOfList}
@@ -38,13 +38,13 @@ pub written : (Means : List ℕ → Type 0) (made : Result (Vec ℕ) Failure) {b
     → EndsCall made buffer buffer_after needed needed_after fault fault_after returned
     → WritesBytes status.done Means buffer buffer_after needed needed_after returned
 written Means (Ok bytes) means ends = record {
-  done = λ is. record { text = bytes.items; means = means; puts = ends.put.put is; told = ends.put.told };
-  short = λ is. record { text = bytes.items; means = means; short = ends.put.short is; told = ends.put.told };
+  done = λ is. record { text = bytes.items; means = means; puts = ends.put.put is; reported = ends.put.reported };
+  short = λ is. record { text = bytes.items; means = means; short = ends.put.short is; reported = ends.put.reported };
   unwritten = λ not. elim ends.put.known [
     | inl is ↦ absurd (not is)
     | inr is ↦ ends.put.unwritten is
   ];
-  untold = λ not fits. elim ends.put.known [
+  unreported = λ not fits. elim ends.put.known [
     | inl is ↦ absurd (not is)
     | inr is ↦ absurd (fits is)
   ];
@@ -55,7 +55,7 @@ written Means (Err f) {fault} {fault_after} {returned} means ends =
       done = λ is. absurd (fails.0 is);
       short = λ is. absurd (fails.1 is);
       unwritten = λ _. ends.unwritten;
-      untold = λ _ _. ends.untold;
+      unreported = λ _ _. ends.unreported;
     }
 
 -- what bytes say that they also say in other words
@@ -108,21 +108,22 @@ is_bad AreGood Known IsRefused (Err failure.Memory) says ends is = absurd (omega
 -- no other status is returned
 pub known : (made : Result (Vec ℕ) Failure) {buffer buffer_after : List ℕ} {needed needed_after : ℕ}
     {fault fault_after : Refusal} {returned : ℕ}
-    → EndsCall made buffer buffer_after needed needed_after fault fault_after returned → returned ≤ status.short
+    → EndsCall made buffer buffer_after needed needed_after fault fault_after returned
+    → status.IsOneOf (status.done_or_short ++ status.failures) returned
 known (Ok bytes) ends = elim ends.put.known [
-  | inl is ↦ omega (arith, is)
-  | inr is ↦ omega (arith, is)
+  | inl is ↦ inl is
+  | inr is ↦ inr (inl is)
 ]
-known (Err failure.BadArgument) ends = omega (arith, ends.reported.0)
-known (Err (failure.Refused shown)) ends = omega (arith, ends.reported.0)
-known (Err failure.Memory) ends = omega (arith, ends.reported.0)
+known (Err (failure.Refused shown)) ends = inr (inr (inl ends.reported.0))
+known (Err failure.BadArgument) ends = inr (inr (inr (inl ends.reported.0)))
+known (Err failure.Memory) ends = inr (inr (inr (inr (inl ends.reported.0))))
 
 -- what a call says about its input, with arguments that are good
 pub of_input : (AreGood Known : Type 0) (IsRefused : Refusal → Type 0) (made : Result (Vec ℕ) Failure)
     {buffer buffer_after : List ℕ} {needed needed_after : ℕ} {fault fault_after : Refusal} {returned : ℕ}
     → AreGood → IfErr made (IsFailure ⊤ IsRefused Known)
     → EndsCall made buffer buffer_after needed needed_after fault fault_after returned
-    → JudgesInput IsRefused Known AreGood status.short fault fault_after returned
+    → JudgesInput IsRefused Known AreGood status.done_or_short fault fault_after returned
 of_input AreGood Known IsRefused made good says ends = record {
   refusal = reported ⊤ Known IsRefused made says ends;
   memory = ran_out ⊤ Known IsRefused made says ends;
@@ -140,7 +141,8 @@ pub of_list : (p q : Profile) (list : List ℕ) (AreGood : Type 0) (Means : Prof
 of_list p q list AreGood Means made same good means says ends =
     let says_p = subst (λ (r : Profile). IfErr made (IsListFailure r list 0)) same says in
     record {
-      bytes = written (Means p) made (subst (λ (r : Profile). IfOk made (λ bytes. Means r bytes.items)) same means) ends;
+      bytes = written (Means p) made
+          (subst (λ (r : Profile). IfOk made (λ bytes. Means r bytes.items)) same means) ends;
       input = of_input AreGood (AreList p list) (IsRefusedList p list 0) made good says_p ends;
     }
 

@@ -1,5 +1,5 @@
 -- What calls from C promise (this library's own): what each status says about the answer, the arguments and the input.
-use Rattle.std.specs.Prelude.{◌≡◌, ◌≢◌, ◌≤◌, ℕ, Bool, List, false, true}
+use Rattle.std.specs.Prelude.{◌≡◌, ◌≢◌, ◌++◌, ℕ, Bool, List, false, true}
 use Rattle.acl_perm.specs.Profile.{Profile}
 use Rattle.aclck_c.specs.Compare.{IsRefusedPair}
 use Rattle.aclck_c.specs.Lists.{AreList, IsRefusedList}
@@ -35,36 +35,35 @@ pub record JudgesNames (names : List Name) (AreGood : Type 0) (returned : ℕ) :
   -- if memory runs out, nothing is said about the names
   pub named : (returned ≢ status.bad_argument) → (returned ≢ status.memory) → AreGoodNames names
 
--- what a call promises about its input and its arguments; it returns at most this status
-pub record JudgesInput (IsRefused : Refusal → Type 0) (Known AreGood : Type 0) (most : ℕ)
+-- what a call promises about its input and its arguments, if these statuses are its answers
+pub record JudgesInput (IsRefused : Refusal → Type 0) (Known AreGood : Type 0) (answers : List ℕ)
     (fault fault_after : Refusal) (returned : ℕ) : Type 0 where
   pub refusal : ReportsFault IsRefused fault fault_after returned
   -- what is known of the input if memory runs out
   pub memory : returned ≡ status.memory → Known
   pub arguments : JudgesArguments AreGood returned
   -- no other status is returned
-  pub known : returned ≤ most
+  pub known : status.IsOneOf (answers ++ status.failures) returned
 
 -- the same of a call that reads the text of POSIX ACLs, which may use these names
-pub record ReadsFile (names : List Name) (IsRefused : Refusal → Type 0) (AreGood : Type 0) (most : ℕ)
+pub record ReadsFile (names : List Name) (IsRefused : Refusal → Type 0) (AreGood : Type 0) (answers : List ℕ)
     (fault fault_after : Refusal) (returned : ℕ) : Type 0 where
   pub refusal : ReportsFault IsRefused fault fault_after returned
   pub arguments : JudgesNames names AreGood returned
   -- no other status is returned
-  pub known : returned ≤ most
+  pub known : status.IsOneOf (answers ++ status.failures) returned
 
 -- a call that only looks at the bytes of a list takes no memory
-abbrev pub LooksAtList : Profile → List ℕ → Type 0 → Refusal → Refusal → ℕ → Type 0
-LooksAtList p list AreGood = JudgesInput (IsRefusedList p list 0) ⊥ AreGood status.bad_argument
+abbrev pub LooksAtList : Profile → List ℕ → Type 0 → List ℕ → Refusal → Refusal → ℕ → Type 0
+LooksAtList p list AreGood = JudgesInput (IsRefusedList p list 0) ⊥ AreGood
 
 -- bytes with a fault are refused with that fault, also if memory runs out
 abbrev pub ReadsList : Profile → List ℕ → Type 0 → Refusal → Refusal → ℕ → Type 0
-ReadsList p list AreGood = JudgesInput (IsRefusedList p list 0) (AreList p list) AreGood status.short
+ReadsList p list AreGood = JudgesInput (IsRefusedList p list 0) (AreList p list) AreGood status.done_or_short
 
 -- bytes with a fault are refused with that fault, also if memory runs out, but for those of the second list
-abbrev pub ReadsTwoLists : Profile → List ℕ → List ℕ → Type 0 → ℕ → Refusal → Refusal → ℕ → Type 0
-ReadsTwoLists p first second AreGood most =
-    JudgesInput (IsRefusedPair p first second) (AreList p first) AreGood most
+abbrev pub ReadsTwoLists : Profile → List ℕ → List ℕ → Type 0 → List ℕ → Refusal → Refusal → ℕ → Type 0
+ReadsTwoLists p first second = JudgesInput (IsRefusedPair p first second) (AreList p first)
 
 -- what a call promises that makes bytes of the list that bytes spell
 pub record WritesOfList (p : Profile) (list : List ℕ) (AreGood : Type 0) (Means : List ℕ → Type 0)
@@ -77,4 +76,4 @@ pub record WritesOfFile (names : List Name) (AreGood : Type 0) (IsRefused : Refu
     (Means : List ℕ → Type 0) (buffer buffer_after : List ℕ) (needed needed_after : ℕ)
     (fault fault_after : Refusal) (returned : ℕ) : Type 0 where
   pub bytes : WritesBytes status.done Means buffer buffer_after needed needed_after returned
-  pub input : ReadsFile names IsRefused AreGood status.short fault fault_after returned
+  pub input : ReadsFile names IsRefused AreGood status.done_or_short fault fault_after returned

@@ -10,7 +10,7 @@ use Rattle.acl_nfs4.specs.Spelling.{Xdr}
 use Rattle.acl_eval.specs.Grant.{SameGrants}
 use Rattle.acl_normal.specs.SmallSets.{IsFirstDifference}
 use Rattle.aclck_c.specs.Lists.{AreList, IsRefusedList}
-use Rattle.aclck_c.specs.declared.nfs4.compare.Distinction.{Distinction}
+use Rattle.aclck_c.specs.declared.nfs4.compare.RawDifference.{RawDifference}
 use Rattle.aclck_c.specs.declared.refusal.Refusal.{Refusal}
 
 -- both spell lists, which grant everybody the same
@@ -48,11 +48,11 @@ truth_number false = 0
 truth_number true = 1
 
 -- the right, and the number of what the first list grants
-abbrev pub distinction : ℕ → Bool → Distinction
-distinction right first_grants = record { right = right; first_grants = truth_number first_grants }
+abbrev pub raw_difference : ℕ → Bool → RawDifference
+raw_difference right first_grants = record { right = right; first_grants = truth_number first_grants }
 
 -- both spell lists, and the first situation in which they differ has these names, at this right
-pub record DifferAt (p : Profile) (first second : List ℕ) (at : Distinction) (names : List ℕ) : Type 0 where
+pub record DifferAt (p : Profile) (first second : List ℕ) (at : RawDifference) (names : List ℕ) : Type 0 where
   pub list : List Ace
   pub other : List Ace
   pub first_spelled : Xdr p list first
@@ -61,8 +61,8 @@ pub record DifferAt (p : Profile) (first second : List ℕ) (at : Distinction) (
   pub right : ℕ
   pub first_grants : Bool
   pub is_first : IsFirstDifference list other situation right first_grants
-  pub is_at : at ≡ distinction right first_grants
-  pub told : names ≡ names_text situation
+  pub is_at : at ≡ raw_difference right first_grants
+  pub named : names ≡ names_text situation
 
 -- the first is refused with this fault, or the first spells a list and the second is refused with this fault
 abbrev pub IsRefusedPair : Profile → List ℕ → List ℕ → Refusal → Type 0

@@ -3,7 +3,7 @@ use Rattle.std.specs.Prelude.{◌≡◌, ◌↔◌, ℕ, List, take}
 use Rattle.acl_nfs4.specs.Ace.{Ace}
 use Rattle.acl_nfs4.specs.Spelling.{Xdr}
 use Rattle.acl_eval.specs.Grant.{SameGrants}
-use Rattle.acl_normal.specs.NormalForm.{Normalises}
+use Rattle.acl_normal.specs.NormalForm.{Normalizes}
 use Rattle.aclck_c.specs.Options.{profile_from}
 use Rattle.aclck_c.specs.Out.{HandsOut}
 
@@ -15,6 +15,6 @@ NormalizedBytesTellApart =
     (input other_input buffer filled other_buffer other_filled : List ℕ)
     → Xdr (profile_from options) list input
     → Xdr (profile_from options) other other_input
-    → HandsOut (Normalises (profile_from options) input) buffer filled needed
-    → HandsOut (Normalises (profile_from options) other_input) other_buffer other_filled other_needed
+    → HandsOut (Normalizes (profile_from options) input) buffer filled needed
+    → HandsOut (Normalizes (profile_from options) other_input) other_buffer other_filled other_needed
     → (take needed filled ≡ take other_needed other_filled) ↔ SameGrants (profile_from options).masks list other

@@ -12,14 +12,14 @@ pub record HandsOut (Means : List ℕ → Type 0) (buffer buffer_after : List �
   pub text : List ℕ
   pub means : Means text
   pub puts : Puts text buffer buffer_after
-  pub told : needed_after ≡ length text
+  pub reported : needed_after ≡ length text
 
 -- a text that satisfies this is longer than the buffer, and its length is reported
 pub record IsShortFor (Means : List ℕ → Type 0) (buffer : List ℕ) (needed_after : ℕ) : Type 0 where
   pub text : List ℕ
   pub means : Means text
   pub short : length buffer < length text
-  pub told : needed_after ≡ length text
+  pub reported : needed_after ≡ length text
 
 -- the effect of a call that writes bytes of this meaning, if its status is this one, on the buffer and on the reported
 -- length
@@ -32,7 +32,7 @@ pub record WritesBytes (written : ℕ) (Means : List ℕ → Type 0) (buffer buf
   -- at every other status the buffer is as it was
   pub unwritten : (returned ≢ written) → buffer_after ≡ buffer
   -- at every other status the reported length is as it was
-  pub untold : (returned ≢ written) → (returned ≢ status.short) → needed_after ≡ needed
+  pub unreported : (returned ≢ written) → (returned ≢ status.short) → needed_after ≡ needed
 
 -- the effect of a call that writes a value of this meaning
 pub record WritesValue {A : Type 0} (Means : A → Type 0) (value value_after : A) (returned : ℕ) : Type 0 where

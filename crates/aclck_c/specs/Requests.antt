@@ -6,7 +6,8 @@ use Rattle.acl_perm.specs.Profile.{Profile}
 use Rattle.acl_perm.specs.Situation.{Situation}
 use Rattle.acl_perm.specs.declared.kind.Kind.{Kind}
 use Rattle.acl_nfs4.specs.Ace.{Ace}
-use Rattle.acl_nfs4.specs.Spelling.{Xdr, kind_number}
+use Rattle.acl_perm.specs.Kind.{kind_number}
+use Rattle.acl_nfs4.specs.Spelling.{Xdr}
 use Rattle.acl_eval.specs.Deciding.{deciding_kind, deciding_place}
 use Rattle.acl_eval.specs.Grant.{grants_bit}
 use Rattle.aclck_c.specs.Options.{IsProfileOption}

@@ -1,5 +1,5 @@
 -- What calls from C return (this library's own): `enum aclck_status` of `aclck.h` has these names.
-use Rattle.std.specs.Prelude.{ℕ}
+use Rattle.std.specs.Prelude.{◌≡◌, ◌⊎◌, ◌∷◌, [], ℕ, List}
 
 -- the result is written
 abbrev pub done : ℕ
@@ -28,3 +28,28 @@ memory = 4
 -- the buffer is too short
 abbrev pub short : ℕ
 short = 5
+
+-- the status is one of these
+abbrev pub IsOneOf : List ℕ → ℕ → Type 0
+IsOneOf [] returned = ⊥
+IsOneOf (s ∷ statuses) returned = (returned ≡ s) ⊎ IsOneOf statuses returned
+
+-- the answers of a call that says yes or no, or that finds something or nothing
+abbrev pub yes_or_no : List ℕ
+yes_or_no = yes ∷ no ∷ []
+
+-- the answer of a call that only writes a value
+abbrev pub only_done : List ℕ
+only_done = done ∷ []
+
+-- the answers of a call that only writes bytes
+abbrev pub done_or_short : List ℕ
+done_or_short = done ∷ short ∷ []
+
+-- the answers of a call that writes bytes where it says no
+abbrev pub yes_or_no_or_short : List ℕ
+yes_or_no_or_short = yes ∷ no ∷ short ∷ []
+
+-- what every call returns that fails for its input, its arguments, or memory
+abbrev pub failures : List ℕ
+failures = refused ∷ bad_argument ∷ memory ∷ []

@@ -7,4 +7,4 @@ pub mod Endings
 -- why calls fail
 pub mod Failures
 -- the first difference of two lists
-pub mod Told
+pub mod Reports

@@ -16,11 +16,11 @@ mod version;
 mod words;
 
 pub use mask_text::aclck_mask_text;
-pub use nfs4::check_many::{Asker, aclck_check_many};
+pub use nfs4::check_many::{RawRequester, aclck_check_many};
 pub use nfs4::check_nfs::aclck_check_nfs;
 pub use nfs4::child::aclck_child;
-pub use nfs4::compare::{Distinction, aclck_compare};
-pub use nfs4::deciding::{Deciding, aclck_deciding};
+pub use nfs4::compare::{RawDifference, aclck_compare};
+pub use nfs4::deciding::{RawDecision, aclck_deciding};
 pub use nfs4::encode::aclck_encode;
 pub use nfs4::granted::aclck_granted;
 pub use nfs4::mode::aclck_mode;

@@ -2,7 +2,7 @@
 ghost use Rattle.acl_perm.specs.Bits.{IsMask};
 ghost use Rattle.aclck_c.specs.Status as status;
 ghost use Rattle.aclck_c.specs.Words.{rights_text};
-ghost use Rattle.std.specs.Prelude.{◌≡◌, ◌⊎◌};
+ghost use Rattle.std.specs.Prelude.{◌≡◌, ◌∷◌};
 ghost use Rattle.aclck_c.specs.Common.{JudgesArguments, WritesBytes};
 
 use crate::out::put;
@@ -18,8 +18,7 @@ pub extern "C" fn aclck_mask_text(mask: u32, out: &mut [u8], needed: &mut usize)
     ensures names { WritesBytes status.done (λ text. text ≡ rights_text mask)
         out.old out.new needed.old needed.new result }
     ensures arguments { JudgesArguments (IsMask mask) result }
-    ensures known { (result ≡ status.done)
-        ⊎ ((result ≡ status.bad_argument) ⊎ (result ≡ status.short)) }
+    ensures known { status.IsOneOf (status.bad_argument ∷ status.done_or_short) result }
 {
     let Some(mask) = Mask::new(mask) else {
         return BAD_ARGUMENT;

@@ -2,7 +2,7 @@
 ghost use Rattle.acl_nfs4.specs.Rights.{SpellsMask};
 ghost use Rattle.aclck_c.specs.Status as status;
 ghost use Rattle.aclck_c.specs.Words.{reason_name};
-ghost use Rattle.std.specs.Prelude.{◌≡◌, ◌≤◌, ◌⊎◌};
+ghost use Rattle.std.specs.Prelude.{◌≡◌, ◌∷◌};
 ghost use Rattle.aclck_c.specs.Common.{ℕ, IsSome, Some, option_map, JudgesArguments, WritesBytes, WritesValue};
 
 use crate::out::put;
@@ -15,7 +15,7 @@ use acl_nfs4::read_mask;
 pub extern "C" fn aclck_read_mask(text: &[u8], mask: &mut u32) -> u32
     ensures named { WritesValue (SpellsMask text.now) mask.old mask.new result }
     ensures none { result ≡ status.no → (rights : ℕ) → SpellsMask text.now rights → ⊥ }
-    ensures known { result ≤ status.no }
+    ensures known { status.IsOneOf status.yes_or_no result }
 {
     match read_mask(text) {
         Some(found) => {
@@ -33,8 +33,7 @@ pub extern "C" fn aclck_reason_text(reason: u32, out: &mut [u8], needed: &mut us
     ensures name { WritesBytes status.done (λ name. reason_name reason ≡ Some name)
         out.old out.new needed.old needed.new result }
     ensures arguments { JudgesArguments (IsSome (reason_name reason)) result }
-    ensures known { (result ≡ status.done)
-        ⊎ ((result ≡ status.bad_argument) ⊎ (result ≡ status.short)) }
+    ensures known { status.IsOneOf (status.bad_argument ∷ status.done_or_short) result }
 {
     match reason_name(reason) {
         Some(name) => put(name, out, needed),

@@ -1,4 +1,5 @@
--- The table of the groups of a requester: this library's own.
+-- The table of the groups of a requester: this library's own. The proof at the end is here because `Hash` of the code
+-- cites it, and code can cite only what is in specs/.
 use Rattle.std.proofs.Common.{ap}
 use Rattle.std.specs.Prelude.{◌≡◌, ℕ, Bool, List, [], ◌∷◌, true}
 use Rattle.std.specs.Borrow.{Bor}

@@ -3,9 +3,9 @@
 use super::{bridging, creation, modes, naming};
 
 #[test]
-fn every_row_is_answered_as_it_says(rt: HostRuntime) {
-    assert!(rt; bridging::lists(&rt, rt.alloc()).is_ok());
-    assert!(rt; creation::created(&rt, rt.alloc()).is_ok());
-    assert!(rt; modes::modes(&rt, rt.alloc()).is_ok());
-    assert!(rt; naming::tables(&rt, rt.alloc()).is_ok());
+fn every_row_holds_with_enough_memory(rt: HostRuntime) {
+    assert!(rt; bridging::check_lists(&rt, rt.alloc()).is_ok());
+    assert!(rt; creation::check_creations(&rt, rt.alloc()).is_ok());
+    assert!(rt; modes::check_modes(&rt, rt.alloc()).is_ok());
+    assert!(rt; naming::check_tables(&rt, rt.alloc()).is_ok());
 }

@@ -58,8 +58,8 @@ fn has_list(alloc: Global, acl: &PosixAcl, text: &[u8], mode: u16) -> Result<boo
     Ok(list == wanted && mode_of(list.aces()).bits() == mode)
 }
 
-/// Each ACL has the list of its row, and the list has the mode of the row.
-pub fn lists(rt: &impl Abort, alloc: Global) -> Result<(), PushFault> {
+/// Checks that each ACL has the list of its row, and the list the mode of the row.
+pub fn check_lists(rt: &impl Abort, alloc: Global) -> Result<(), PushFault> {
     for (text, list, mode) in LISTS {
         let acl = acl_of(alloc, text)?;
         assert!(rt; has_list(alloc, &acl, list, mode)?);
@@ -68,8 +68,8 @@ pub fn lists(rt: &impl Abort, alloc: Global) -> Result<(), PushFault> {
 }
 
 #[test]
-fn each_acl_has_its_list(rt: HostRuntime) {
-    assert!(rt; passes(lists(&rt, rt.alloc())));
+fn each_acl_has_the_list_of_its_row(rt: HostRuntime) {
+    assert!(rt; passes(check_lists(&rt, rt.alloc())));
 }
 
 // Returns whether the check of an object of user 1 and group 2 grants user 3, who is in the groups 50 and 60.
@@ -148,7 +148,7 @@ mod ample {
 
     // USER_OBJ, GROUP_OBJ and each USER cost four bits: 16,382 users fill a list.
     #[test]
-    fn a_bridge_ends_at_the_limits_of_lists(rt: HostRuntime) -> Result<(), Fail> {
+    fn an_acl_has_a_list_up_to_the_limits_of_lists(rt: HostRuntime) -> Result<(), Fail> {
         for (users, other, is_within) in [
             (16382u32, 0, true),
             (16382, 4, false),

@@ -60,8 +60,8 @@ fn wanted_of(alloc: Global, ace: Entry, flags: Option<u32>) -> Result<Acl, PushF
     }
 }
 
-/// A new file or directory inherits what the rows say.
-pub fn created(rt: &impl Abort, alloc: Global) -> Result<(), PushFault> {
+/// Checks that a new file or directory inherits what its row says.
+pub fn check_creations(rt: &impl Abort, alloc: Global) -> Result<(), PushFault> {
     for (ace, flags, kind, inherited) in CREATIONS {
         let parent = built(alloc, &[with_flags(ace, flags)])?;
         let wanted = wanted_of(alloc, ace, inherited)?;
@@ -72,7 +72,7 @@ pub fn created(rt: &impl Abort, alloc: Global) -> Result<(), PushFault> {
 
 #[test]
 fn a_child_inherits_by_its_kind(rt: HostRuntime) {
-    assert!(rt; passes(created(&rt, rt.alloc())));
+    assert!(rt; passes(check_creations(&rt, rt.alloc())));
 }
 
 // Returns whether the new object has an ACE of the directory.
@@ -88,7 +88,7 @@ fn is_taken(kind: ChildKind, parent: Flags) -> bool {
 }
 
 // Returns whether the new object passes the ACE on.
-fn is_handed_on(kind: ChildKind, parent: Flags) -> bool {
+fn is_passed_on(kind: ChildKind, parent: Flags) -> bool {
     kind == Directory && !parent.contains(Flags::NO_PROPAGATE_INHERIT)
 }
 
@@ -103,7 +103,7 @@ const LASTING: [Flags; 3] = [
 // on, with INHERIT_ONLY if and only if the ACE is for files alone; those that are not about inheritance as they were;
 // and never INHERITED.
 fn are_flags(kind: ChildKind, parent: Flags, new: Flags) -> bool {
-    let on = is_handed_on(kind, parent);
+    let on = is_passed_on(kind, parent);
     let for_directories = parent.contains(Flags::DIRECTORY_INHERIT);
     new.contains(Flags::FILE_INHERIT) == (on && parent.contains(Flags::FILE_INHERIT))
         && new.contains(Flags::DIRECTORY_INHERIT) == (on && for_directories)
@@ -179,7 +179,7 @@ mod ample {
 
     // An ACE that only files inherit waits in a new directory for the files in it.
     #[test]
-    fn a_directory_hands_on_what_is_for_files(rt: HostRuntime) -> Result<(), PushFault> {
+    fn a_directory_passes_on_what_is_for_files(rt: HostRuntime) -> Result<(), PushFault> {
         let parent = built(rt.alloc(), &[with_flags(ALICE, 0x01)])?;
         let directory = child_of(rt.alloc(), &parent, Directory)?;
         let file = child_of(rt.alloc(), &directory, File)?;

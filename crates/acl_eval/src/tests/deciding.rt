@@ -1,20 +1,12 @@
 //! The ACE that decides a right.
 
-use super::lists::{GROUP_NAMED, INHERIT_ONLY, LONG_NAMES, NONE, OWNING_GROUP, THREE};
+use super::lists::{GROUP_NAMED, INHERIT_ONLY, LONG_NAMES, NONE, OWNING_GROUP, Question, THREE};
 use crate::*;
-use acl_nfs4::AclView;
 use acl_perm::{Kind, Right};
 
-// What `deciding_ace` answers for one right, and what `deciding_aces` does.
-fn decisions_of(
-    bytes: &[u8],
-    user: &str,
-    groups: &[&[u8]],
-    bit: usize,
-) -> Option<[Option<Decision>; 2]> {
-    let list = AclView::parse_whole(bytes).ok()?;
-    let object = Object::new(b"bob", b"staff")?;
-    let requester = Requester::new(user.as_bytes(), groups)?;
+// Returns the answers of `deciding_ace` and of `deciding_aces` for one right.
+fn decisions_of(question: &Question<'_>, bit: usize) -> Option<[Option<Decision>; 2]> {
+    let (list, object, requester) = question.values()?;
     let right = Right::new(bit)?;
     let alone = deciding_ace(list.aces(), &object, &requester, right);
     let among_all = deciding_aces(list.aces(), &object, &requester).of(right);
@@ -53,13 +45,14 @@ static DECISIONS: [(&[u8], &str, &[&[u8]], usize, Option<(usize, Kind)>); 11] = 
 ];
 
 #[test]
-fn the_first_that_has_the_right_and_speaks_of_the_requester_decides(rt: HostRuntime) {
+fn the_first_ace_that_has_the_right_and_matches_the_requester_decides(rt: HostRuntime) {
     for (bytes, user, groups, bit, decider) in DECISIONS {
         let decision = match decider {
             Some((place, kind)) => Some(Decision { place, kind }),
             None => None,
         };
-        let answers = decisions_of(bytes, user, groups, bit);
+        let question = Question::new(bytes, "bob", user, groups);
+        let answers = decisions_of(&question, bit);
         assert!(rt; answers == Some([decision, decision]), "{user}, bit {bit}");
     }
 }

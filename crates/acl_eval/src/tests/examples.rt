@@ -6,19 +6,22 @@ use acl_perm::{Mask, Right};
 use acl_posix::{Names, parse};
 use std::test::Fail;
 
+// The examples of `grants` and of `granted`.
 #[test]
-fn of_grants(rt: HostRuntime) -> Result<(), Fail> {
+fn a_user_is_granted_what_an_ace_allows(rt: HostRuntime) -> Result<(), Fail> {
     let alloc = rt.alloc();
     let list = parse_text(alloc, b"ALLOW - READ_DATA|WRITE_DATA bob")?;
     let object = Object::new(b"alice", b"staff").ok_or("a name is empty")?;
     let bob = Requester::new(b"bob", &[]).ok_or("a name is empty")?;
     assert!(rt; grants(list.aces(), &object, &bob, Mask::WRITE_DATA));
     assert!(rt; !grants(list.aces(), &object, &bob, Mask::ALL));
+    let rights = granted(list.aces(), &object, &bob, Mask::ALL);
+    assert!(rt; rights == Mask::READ_DATA | Mask::WRITE_DATA);
     Ok(())
 }
 
 #[test]
-fn of_grants_by_table(rt: HostRuntime) -> Result<(), Fail> {
+fn a_group_that_is_denied_is_found_in_the_table(rt: HostRuntime) -> Result<(), Fail> {
     let alloc = rt.alloc();
     let list = parse_text(
         alloc,
@@ -32,18 +35,7 @@ fn of_grants_by_table(rt: HostRuntime) -> Result<(), Fail> {
 }
 
 #[test]
-fn of_granted(rt: HostRuntime) -> Result<(), Fail> {
-    let alloc = rt.alloc();
-    let list = parse_text(alloc, b"ALLOW - READ_DATA|WRITE_DATA bob")?;
-    let object = Object::new(b"alice", b"staff").ok_or("a name is empty")?;
-    let bob = Requester::new(b"bob", &[]).ok_or("a name is empty")?;
-    let rights = granted(list.aces(), &object, &bob, Mask::ALL);
-    assert!(rt; rights == Mask::READ_DATA | Mask::WRITE_DATA);
-    Ok(())
-}
-
-#[test]
-fn of_deciding_ace(rt: HostRuntime) -> Result<(), Fail> {
+fn the_second_ace_decides_the_right_that_the_first_lacks(rt: HostRuntime) -> Result<(), Fail> {
     let alloc = rt.alloc();
     let list = parse_text(alloc, b"ALLOW - READ_DATA bob\nDENY - WRITE_DATA bob")?;
     let object = Object::new(b"alice", b"staff").ok_or("a name is empty")?;
@@ -55,7 +47,7 @@ fn of_deciding_ace(rt: HostRuntime) -> Result<(), Fail> {
 }
 
 #[test]
-fn of_child(rt: HostRuntime) -> Result<(), Fail> {
+fn a_file_inherits_the_ace_with_file_inherit(rt: HostRuntime) -> Result<(), Fail> {
     let alloc = rt.alloc();
     let parent = parse_text(alloc, b"ALLOW FILE READ_DATA bob\nDENY - WRITE_DATA bob")?;
     let list = child(alloc, &parent, ChildKind::File)?;
@@ -64,7 +56,7 @@ fn of_child(rt: HostRuntime) -> Result<(), Fail> {
 }
 
 #[test]
-fn of_mode_of(rt: HostRuntime) -> Result<(), Fail> {
+fn reading_and_executing_for_everyone_is_mode_555(rt: HostRuntime) -> Result<(), Fail> {
     let alloc = rt.alloc();
     let list = parse_text(alloc, b"ALLOW - READ_DATA|EXECUTE EVERYONE@")?;
     let mode = mode_of(list.aces());
@@ -73,7 +65,7 @@ fn of_mode_of(rt: HostRuntime) -> Result<(), Fail> {
 }
 
 #[test]
-fn of_bridge(rt: HostRuntime) -> Result<(), Fail> {
+fn the_list_of_an_acl_has_the_mode_of_the_acl(rt: HostRuntime) -> Result<(), Fail> {
     let alloc = rt.alloc();
     let file = parse(alloc, b"u::rw-,g::r--,o::---", &Names::new(alloc))?;
     let list = bridge(alloc, &file.access)?;
@@ -82,14 +74,14 @@ fn of_bridge(rt: HostRuntime) -> Result<(), Fail> {
 }
 
 #[test]
-fn of_object_new(rt: HostRuntime) {
+fn an_object_has_an_owner_and_a_group(rt: HostRuntime) {
     let object = Object::new(b"alice", b"staff");
     assert!(rt; object.is_some());
     assert!(rt; Object::new(b"alice", b"").is_none());
 }
 
 #[test]
-fn of_requester_new(rt: HostRuntime) {
+fn no_group_of_a_requester_has_an_empty_name(rt: HostRuntime) {
     let requester = Requester::new(b"bob", &[b"staff", b"users"]);
     assert!(rt; requester.is_some());
     assert!(rt; Requester::new(b"bob", &[b""]).is_none());

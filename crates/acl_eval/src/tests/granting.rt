@@ -1,6 +1,6 @@
 //! What a list grants, by RFC 8881, section 6.2.1.
 
-use super::lists::{GROUP_NAMED, INHERIT_ONLY, NONE, THREE, granted_of, is_granted};
+use super::lists::{GROUP_NAMED, INHERIT_ONLY, NONE, Question, THREE};
 
 // A list, the owner, the requester, who is in the group staff, the rights, and whether they are granted.
 static REQUESTS: [(&[u8], &str, &str, u32, bool); 11] = [
@@ -24,8 +24,11 @@ static REQUESTS: [(&[u8], &str, &str, u32, bool); 11] = [
 #[test]
 fn the_first_match_decides(rt: HostRuntime) {
     for (bytes, owner, user, bits, granted) in REQUESTS {
-        let answer = is_granted(bytes, owner, user, &[b"staff"], bits);
-        assert!(rt; answer == Some(granted), "{user} of {owner}, {bits}");
+        let question = Question::new(bytes, owner, user, &[b"staff"]);
+        assert!(rt;
+            question.is_granted(bits) == Some(granted),
+            "{user} of {owner}, {bits}"
+        );
     }
 }
 
@@ -48,7 +51,10 @@ static MASKS: [(&[u8], &str, &str, u32, u32); 8] = [
 #[test]
 fn the_rights_that_are_granted_are_those_of_the_first_matches(rt: HostRuntime) {
     for (bytes, owner, user, bits, expected) in MASKS {
-        let answer = granted_of(bytes, owner, user, &[b"staff", b"guest"], bits);
-        assert!(rt; answer == Some(expected), "{user} of {owner}, {bits}");
+        let question = Question::new(bytes, owner, user, &[b"staff", b"guest"]);
+        assert!(rt;
+            question.granted(bits) == Some(expected),
+            "{user} of {owner}, {bits}"
+        );
     }
 }

@@ -31,39 +31,42 @@ pub const LONG_NAMES: &[u8; 68] = b"\0\0\0\x02\
     \0\0\0\x01\0\0\0\0\0\0\0\x01\0\0\0\x0dx-long-name@a\0\0\0\
     \0\0\0\0\0\0\0\0\0\0\0\x01\0\0\0\x0dy-long-name@a\0\0\0";
 
-// Returns a list, an object of this owner and of the group staff, and a requester.
-fn question<'a>(
+/// A list, the owner of an object of the group staff, and a requester.
+#[derive(Clone, Copy)]
+pub struct Question<'a> {
     bytes: &'a [u8],
     owner: &'a str,
     user: &'a str,
     groups: &'a [&'a [u8]],
-) -> Option<(AclView<'a>, Object<'a>, Requester<'a>)> {
-    let list = AclView::parse_whole(bytes).ok()?;
-    let object = Object::new(owner.as_bytes(), b"staff")?;
-    let requester = Requester::new(user.as_bytes(), groups)?;
-    Some((list, object, requester))
 }
 
-/// Returns whether a list of an object of this owner and of the group staff grants the requester the rights.
-pub fn is_granted(
-    bytes: &[u8],
-    owner: &str,
-    user: &str,
-    groups: &[&[u8]],
-    bits: u32,
-) -> Option<bool> {
-    let (list, object, requester) = question(bytes, owner, user, groups)?;
-    Some(grants(list.aces(), &object, &requester, Mask::new(bits)?))
-}
+impl<'a> Question<'a> {
+    pub fn new(bytes: &'a [u8], owner: &'a str, user: &'a str, groups: &'a [&'a [u8]]) -> Self {
+        Question {
+            bytes,
+            owner,
+            user,
+            groups,
+        }
+    }
 
-/// Returns the rights of a mask that a list of an object of this owner and of the group staff grants the requester.
-pub fn granted_of(
-    bytes: &[u8],
-    owner: &str,
-    user: &str,
-    groups: &[&[u8]],
-    bits: u32,
-) -> Option<u32> {
-    let (list, object, requester) = question(bytes, owner, user, groups)?;
-    Some(granted(list.aces(), &object, &requester, Mask::new(bits)?).bits())
+    /// Returns the values of the question, if the bytes spell a list and no name is empty.
+    pub fn values(&self) -> Option<(AclView<'a>, Object<'a>, Requester<'a>)> {
+        let list = AclView::parse_whole(self.bytes).ok()?;
+        let object = Object::new(self.owner.as_bytes(), b"staff")?;
+        let requester = Requester::new(self.user.as_bytes(), self.groups)?;
+        Some((list, object, requester))
+    }
+
+    /// Returns whether the list grants the rights.
+    pub fn is_granted(&self, bits: u32) -> Option<bool> {
+        let (list, object, requester) = self.values()?;
+        Some(grants(list.aces(), &object, &requester, Mask::new(bits)?))
+    }
+
+    /// Returns the rights of the mask that the list grants.
+    pub fn granted(&self, bits: u32) -> Option<u32> {
+        let (list, object, requester) = self.values()?;
+        Some(granted(list.aces(), &object, &requester, Mask::new(bits)?).bits())
+    }
 }

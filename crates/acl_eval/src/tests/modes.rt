@@ -41,7 +41,7 @@ static MODES: [(&[AceRow], u16); 14] = [
 ];
 
 #[test]
-fn a_view_has_its_mode(rt: HostRuntime) {
+fn a_view_has_the_mode_of_its_aces(rt: HostRuntime) {
     let mode = match AclView::parse_whole(NO_WRITE) {
         Ok(list) => Some(mode_of(list.aces()).bits()),
         Err(_) => None,
@@ -49,8 +49,8 @@ fn a_view_has_its_mode(rt: HostRuntime) {
     assert!(rt; mode == Some(0o466));
 }
 
-/// A list has the mode that the rows say.
-pub fn modes(rt: &impl Abort, alloc: Global) -> Result<(), PushFault> {
+/// Checks that each list has the mode of its row.
+pub fn check_modes(rt: &impl Abort, alloc: Global) -> Result<(), PushFault> {
     for (rows, mode) in MODES {
         let list = built(alloc, rows)?;
         assert!(rt; mode_of(list.aces()).bits() == mode);
@@ -59,6 +59,6 @@ pub fn modes(rt: &impl Abort, alloc: Global) -> Result<(), PushFault> {
 }
 
 #[test]
-fn a_list_has_its_mode(rt: HostRuntime) {
-    assert!(rt; passes(modes(&rt, rt.alloc())));
+fn each_list_has_the_mode_of_its_row(rt: HostRuntime) {
+    assert!(rt; passes(check_modes(&rt, rt.alloc())));
 }

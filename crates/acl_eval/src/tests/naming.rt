@@ -1,7 +1,7 @@
 //! Whom the names of a list, of an object and of a requester mean.
 
 use super::harness::passes;
-use super::lists::{GROUP_NAMED, LONG_NAMES, OWNING_GROUP, THREE, is_granted};
+use super::lists::{GROUP_NAMED, LONG_NAMES, OWNING_GROUP, Question, THREE};
 use crate::*;
 use acl_nfs4::{AceRef, Acl, PushFault};
 use acl_perm::{Flags, Kind, Mask};
@@ -44,23 +44,32 @@ static NAMES: [(&[u8], &str, &str, &[&[u8]], bool); 16] = [
 ];
 
 #[test]
-fn names_say_who_is_meant(rt: HostRuntime) {
+fn a_name_matches_only_the_user_or_the_group_of_this_name(rt: HostRuntime) {
     for (bytes, owner, user, groups, granted) in NAMES {
-        let answer = is_granted(bytes, owner, user, groups, 1);
-        assert!(rt; answer == Some(granted), "{user} of {owner}");
+        let question = Question::new(bytes, owner, user, groups);
+        assert!(rt;
+            question.is_granted(1) == Some(granted),
+            "{user} of {owner}"
+        );
     }
+}
+
+// Returns whether `GROUP_NAMED`, which denies READ_DATA to the group users, grants it to a member of these groups.
+fn may_members_read(groups: &[&[u8]]) -> Option<bool> {
+    let question = Question::new(GROUP_NAMED, "bob", "alice", groups);
+    question.is_granted(1)
 }
 
 // In order, and in no order.
 #[test]
 fn a_group_is_found_among_many(rt: HostRuntime) {
     let mut groups = [b"staff".as_slice(); 130];
-    assert!(rt; is_granted(GROUP_NAMED, "bob", "alice", &groups, 1) == Some(true));
+    assert!(rt; may_members_read(&groups) == Some(true));
     groups[129] = b"users";
-    assert!(rt; is_granted(GROUP_NAMED, "bob", "alice", &groups, 1) == Some(false));
+    assert!(rt; may_members_read(&groups) == Some(false));
     groups[0] = b"users";
     groups[129] = b"staff";
-    assert!(rt; is_granted(GROUP_NAMED, "bob", "alice", &groups, 1) == Some(false));
+    assert!(rt; may_members_read(&groups) == Some(false));
 }
 
 fn of_group(kind: Kind, who: &[u8]) -> AceRef<'_> {
@@ -93,8 +102,8 @@ fn answers(alloc: Global, list: &Acl, groups: &[&[u8]]) -> Option<[bool; 2]> {
     }
 }
 
-/// The first ACE that speaks of the requester decides, also where the groups are in a table.
-pub fn tables(rt: &impl Abort, alloc: Global) -> Result<(), PushFault> {
+/// Checks that the first ACE that matches the requester decides, also if the groups are in a table.
+pub fn check_tables(rt: &impl Abort, alloc: Global) -> Result<(), PushFault> {
     for count in [1usize, 40] {
         let list = denials(alloc, count)?;
         for (first, last, granted) in [
@@ -115,11 +124,11 @@ pub fn tables(rt: &impl Abort, alloc: Global) -> Result<(), PushFault> {
 
 #[test]
 fn a_group_is_found_in_a_table(rt: HostRuntime) {
-    assert!(rt; passes(tables(&rt, rt.alloc())));
+    assert!(rt; passes(check_tables(&rt, rt.alloc())));
 }
 
 #[test]
-fn an_empty_name_is_none(rt: HostRuntime) {
+fn no_object_and_no_requester_has_an_empty_name(rt: HostRuntime) {
     assert!(rt; Object::new(b"", b"staff").is_none());
     assert!(rt; Object::new(b"alice", b"").is_none());
     assert!(rt; Object::new(b"alice", b"staff").is_some());

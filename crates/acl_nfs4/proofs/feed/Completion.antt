@@ -9,7 +9,7 @@ use Rattle.acl_nfs4.proofs.list.Push.{each_push, flat_map-push}
 abbrev pub head : ℕ → List Ace → List ℕ
 head n list = word n ++ flat_map piece list
 
--- the ACEs that are whole, and the number of ACEs that the count says
+-- a text is the word of a count and the pieces of these ACEs, which are accepted and no more than the count says
 pub record IsBegun (profile : Profile) (n : ℕ) (list : List Ace) (t : List ℕ) : Type 0 where
   pub small : n ≤ most_aces
   pub light : weight list ≤ most_weight
@@ -17,11 +17,12 @@ pub record IsBegun (profile : Profile) (n : ℕ) (list : List Ace) (t : List ℕ
   pub fewer : length list ≤ n
   pub text : t ≡ head n list
 
+-- the head of a list and the piece of an ACE behind it are the head of the list with that ACE at the end
 head_push : (n : ℕ) (list : List Ace) (a : Ace) → head n list ++ piece a ≡ head n (list ++ a ∷ [])
 head_push n list a = append_assoc (word n) (flat_map piece list) (piece a)
     ∙ ap (λ (t : List ℕ). word n ++ t) (sym (flat_map-push list a))
 
--- a text up to the border before an ACE
+-- a text up to a border before an ACE is the head of the ACEs that are whole
 pub begun : (profile : Profile) (n : ℕ) (list : List Ace) (t : List ℕ) → Border profile (at_kind n list) t
     → IsBegun profile n list t
 begun profile n _ _ (counted _ le) =
@@ -42,28 +43,35 @@ begun profile n _ _ (padded _ list k f m w _
 
 -- ---- a who of any length
 
+-- n times the letter `a`
 abbrev letters : ℕ → List ℕ
 letters n = replicate n 0x61
 
+-- n letters have the length n
 letters_len : (n : ℕ) → length (letters n) ≡ n
 letters_len n = length-replicate n 0x61
 
+-- no letter is a control byte
 plain_letters : (n : ℕ) → list_all is_plain (letters n) ≡ true
 plain_letters zero = refl
 plain_letters (suc n) = plain_letters n
 
+-- letters are UTF-8
 utf8_letters : (n : ℕ) → is_utf8 (letters n) ≡ true
 utf8_letters n = is_utf8-from_IsUtf8 (letters n) (IsUtf8-from_ascii (letters n)
     (IsAscii-from_all (letters n) (All-replicate (λ b. b < 128) n 0x61 (omega arith))))
 
+-- a who that does not end in `@` is no unknown special identifier
 known_letters : (who : List ℕ) → ends_in_at who ≡ false → is_unknown_special who ≡ false
 known_letters who e = rw e refl
 
+-- at least one letter does not end in `@`
 last_letter : (n : ℕ) → 1 ≤ n → ends_in_at (letters n) ≡ false
 last_letter n some =
     ap (λ (k : ℕ). eqb (get_or (letters n) (k - 1) 0) 0x40) (letters_len n)
     ∙ ap (λ (b : ℕ). eqb b 0x40) (get_or-replicate n (n - 1) 0x61 0 (omega (arith, some)))
 
+-- letters of a length that a who may have are a who
 letters_are_who : (n : ℕ) → 1 ≤ n → n ≤ longest_who → IsWho (letters n)
 letters_are_who n some short =
     let len = letters_len n in
@@ -76,17 +84,21 @@ letters_are_who n some short =
 abbrev filler : Ace
 filler = record { kind = Allow; flags = 0; mask = 0; who = letters 1 }
 
+-- the ACE without bits is an ACE of each profile
 filler_is : (profile : Profile) → IsAce profile filler
 filler_is profile = record { flags = refl; mask = refl; who = letters_are_who 1 (omega arith) (omega arith) }
 
+-- the mask 0 has no bits
 no_ones : count_ones 0 ≡ 0
 no_ones = let h = ones_le_self 0 in omega (arith, h)
 
 -- ---- from each border to a whole spelling
 
+-- if a text begins a spelling, so does its front
 longer : (profile : Profile) (t more : List ℕ) → BeginsSpelling profile (t ++ more) → BeginsSpelling profile t
 longer profile t more b = (b.0, more ++ b.1, subst (Xdr profile b.0) (append_assoc t more b.1) b.2)
 
+-- a text that has as many whole ACEs as its count says begins a spelling
 all_there : (profile : Profile) (n : ℕ) (list : List Ace) (t : List ℕ) → Border profile (at_kind n list) t
     → length list ≡ n → BeginsSpelling profile t
 all_there profile n list t b e =
@@ -99,6 +111,7 @@ all_there profile n list t b e =
       },
     )
 
+-- a text that lacks so many whole ACEs begins a spelling
 fill : (profile : Profile) (todo n : ℕ) (list : List Ace) (t : List ℕ) → length list + todo ≡ n
     → Border profile (at_kind n list) t → BeginsSpelling profile t
 fill profile zero n list t e b = all_there profile n list t b (omega (arith, e))
@@ -108,15 +121,18 @@ fill profile (suc todo) n list t e b =
     (border_after profile n list t filler b (omega (arith, e)) (filler_is profile)
     (let h = begun profile n list t b in omega (arith, h.light, no_ones))))
 
+-- a text up to the kind of an ACE begins a spelling
 from_kind : (profile : Profile) (n : ℕ) (list : List Ace) (t : List ℕ) → Border profile (at_kind n list) t
     → BeginsSpelling profile t
 from_kind profile n list t b =
     let h = begun profile n list t b in fill profile (n - length list) n list t (omega (arith, h.fewer)) b
 
+-- a text up to the padding of an ACE begins a spelling
 from_padding : (profile : Profile) (n : ℕ) (list : List Ace) (k : Kind) (f m : ℕ) (w t : List ℕ)
     → Border profile (at_padding n list k f m w) t → BeginsSpelling profile t
 from_padding profile n list k f m w t b = longer profile t _ (from_kind profile n _ _ (padded n list k f m w t b))
 
+-- a text up to the who of an ACE begins a spelling
 from_who : (profile : Profile) (n : ℕ) (list : List Ace) (k : Kind) (f m l : ℕ) (t : List ℕ) → 1 ≤ l → l ≤ longest_who
     → Border profile (at_who n list k f m l) t → BeginsSpelling profile t
 from_who profile n list k f m l t some short b =
@@ -125,12 +141,14 @@ from_who profile n list k f m l t some short b =
     longer profile t (letters l) (from_padding profile n list k f m (letters l) (t ++ letters l)
     (named n list k f m (letters l) t same (letters_are_who l some short)))
 
+-- a text up to the length of a who begins a spelling
 from_len : (profile : Profile) (n : ℕ) (list : List Ace) (k : Kind) (f m : ℕ) (t : List ℕ)
     → Border profile (at_len n list k f m) t → BeginsSpelling profile t
 from_len profile n list k f m t b =
     longer profile t (word 1) (from_who profile n list k f m 1 (t ++ word 1) (omega arith) (omega arith)
     (measured n list k f m 1 t b (omega arith) (omega arith)))
 
+-- a text up to the mask of an ACE begins a spelling
 from_mask : (profile : Profile) (n : ℕ) (list : List Ace) (k : Kind) (f : ℕ) (t : List ℕ)
     → Border profile (at_mask n list k f) t → BeginsSpelling profile t
 from_mask profile n list k f _ (flagged _ _ _ _ _ (typed _ _ _ t b lt) is) =
@@ -138,17 +156,18 @@ from_mask profile n list k f _ (flagged _ _ _ _ _ (typed _ _ _ t b lt) is) =
     longer profile _ (word 0) (from_len profile n list k f 0 _
     (masked n list k f 0 _ (flagged n list k f _ (typed n list k t b lt) is) refl (omega (arith, h.light, no_ones))))
 
+-- a text up to the flags of an ACE begins a spelling
 from_flags : (profile : Profile) (n : ℕ) (list : List Ace) (k : Kind) (t : List ℕ)
     → Border profile (at_flags n list k) t → BeginsSpelling profile t
 from_flags profile n list k t b =
     longer profile t (word 0) (from_mask profile n list k 0 (t ++ word 0) (flagged n list k 0 t b refl))
 
--- the bounds of the length of a who
+-- at a border before a who, the bounds of its length
 abbrev pub WhoBounds : Stage → Type 0
 WhoBounds (at_who n list k f m l) = (1 ≤ l) × (l ≤ longest_who)
 WhoBounds _ = Unit {0}
 
--- a border keeps the bounds of a who
+-- at a border before a who, its length is within the bounds
 pub who_bounds : (profile : Profile) (s : Stage) (t : List ℕ) → Border profile s t → WhoBounds s
 who_bounds profile _ _ (measured n list k f m l t b some short) = (some, short)
 who_bounds profile _ _ b = tt

@@ -1,5 +1,5 @@
 -- The answer of a feed for the stream so far, and many pieces as one.
-use Rattle.acl_nfs4.proofs.Common.{[], Ace, ap, append-nil, append_assoc, arith, concat, done, drop, Fault, Fed, FedExactly, Feeds, FeedsEach, inl, inr, IsCutShort, IsFault, IsFeed, IsProfile, length, length-append, length-take, List, more, no_memory, Profile, Progress, Reason, refl, refused, RefusesStream, SameOrFails, standing, StreamState, subst, sym, take, take-append-drop, together, Truncated, Xdr, ℕ, ◌++◌, ◌-◌, ◌∙◌, ◌∷◌, ◌≡◌, ◌≤◌, ◌⊎◌}
+use Rattle.acl_nfs4.proofs.Common.{[], Ace, ap, append-nil, append_assoc, arith, concat, done, drop, Fault, Fed, FedExactly, Feeds, FeedsEach, inl, inr, IsCutShort, IsFault, IsFeed, IsProfile, length, length-append, length-take, List, more, no_memory, Profile, Progress, Reason, refl, refused, RefusesStream, SameOrFails, state_of, StreamState, subst, sym, take, take-append-drop, together, Truncated, Xdr, ℕ, ◌++◌, ◌-◌, ◌∙◌, ◌∷◌, ◌≡◌, ◌≤◌, ◌⊎◌}
 use Rattle.acl_nfs4.specs.Stream.{IsFedOrFails}
 use Rattle.acl_nfs4.specs.declared.feed.step.Stage.{Stage}
 use Rattle.acl_nfs4.specs.declared.feed.step.Stage.TheVariants.{Open, Done, Refused}
@@ -9,26 +9,28 @@ use Rattle.acl_nfs4.proofs.xdr.OneFault.{one_place, value_or_fault}
 use Rattle.acl_nfs4.proofs.feed.Pieces.{joins, longer}
 use Rattle.acl_nfs4.proofs.feed.Streaming.{text_short}
 
--- a text has one fault
+-- two faults of a text are the same fault
 pub same_fault : (p : Profile) (whole : List ℕ) (f : Fault) (o : ℕ) (r : Reason) → IsProfile p
     → IsFault p whole f.offset f.reason → IsFault p whole o r → f ≡ record { offset = o; reason = r }
 same_fault p whole f o r ok g h = let e = one_place p whole f.offset o f.reason r ok g h in rw (sym e.0, sym e.1) refl
 
--- a text has one reason to be refused
+-- two faults of a text have the same reason
 pub one_reason : (p : Profile) (whole : List ℕ) (o q : ℕ) (r s : Reason) → IsProfile p → IsFault p whole o r
     → IsFault p whole q s → r ≡ s
 one_reason p whole o q r s ok f g = (one_place p whole o q r s ok f g).1
 
+-- a stream and a piece are the stream with the front of the piece, and then the rest of the piece
 whole_is : (s piece : List ℕ) (t : ℕ) → s ++ piece ≡ (s ++ take t piece) ++ drop t piece
 whole_is s piece t = ap (λ (x : List ℕ). s ++ x) (sym (take-append-drop t piece))
     ∙ sym (append_assoc s (take t piece) (drop t piece))
 
--- a value that ends in a piece leaves no fault
+-- a stream whose list ends in a piece has no fault
 ended_or_fault : (p : Profile) (s piece : List ℕ) (t : ℕ) (list : List Ace) (o : ℕ) (r : Reason) → IsProfile p
     → Xdr p list (s ++ take t piece) → IsFault p (s ++ piece) o r → ⊥
 ended_or_fault p s piece t list o r ok x f = value_or_fault p (s ++ piece) list (s ++ take t piece) (drop t piece) o r
     ok x (whole_is s piece t) f
 
+-- a refusal that is true of the stream is the exact answer, or memory ran out
 refused_exactly : (p : Profile) (s piece : List ℕ) (r : Fault) → IsProfile p → RefusesStream p (s ++ piece) r
     → FedExactly p (s ++ piece) (length s) (fed.Refused r)
 refused_exactly p s piece r ok (inl m) = record {
@@ -43,13 +45,14 @@ refused_exactly p s piece r ok (inr h) = record {
       (ap (λ (x : Fault). fed.Refused x) (same_fault p (s ++ piece) r f.offset f.reason ok h.0 g));
 }
 
--- the end of the value in the stream, from its end in a piece
+-- the bytes of a piece that belong to the list are those that the list has beyond the stream so far
 end_is : (p : Profile) (s piece text rest : List ℕ) (t : ℕ) (a b : List Ace) → IsProfile p → t ≤ length piece
     → Xdr p a (s ++ take t piece) → Xdr p b text → s ++ piece ≡ text ++ rest → t ≡ length text - length s
 end_is p s piece text rest t a b ok le x y e =
     let w = (one p a b (s ++ take t piece) text (drop t piece) rest ok x y (sym (whole_is s piece t) ∙ e)).1 in
     omega (arith, ap length w, length-append s (take t piece), length-take t piece, le)
 
+-- the answer of a feed to a piece is the exact answer for the stream with the piece
 fed_exactly : (p : Profile) (s piece : List ℕ) (answer : Fed) (new : StreamState) → IsProfile p
     → Feeds (more p s) piece answer new → FedExactly p (s ++ piece) (length s) answer
 fed_exactly p s piece fed.More new ok h = record {
@@ -64,28 +67,29 @@ fed_exactly p s piece (fed.Done t) new ok h = record {
 }
 fed_exactly p s piece (fed.Refused r) new ok h = refused_exactly p s piece r ok h.1
 
-standing_profile : (p q : Profile) (stage : Stage) (so_far : Progress) (text s : List ℕ) → IsFeed q stage so_far text
-    → standing q stage so_far text ≡ more p s → IsProfile p
-standing_profile p q (Open f) so_far text s is e =
+-- the profile of a feed that represents an unfinished stream has only flags and rights of the standard
+state_profile : (p q : Profile) (stage : Stage) (so_far : Progress) (text s : List ℕ) → IsFeed q stage so_far text
+    → state_of q stage so_far text ≡ more p s → IsProfile p
+state_profile p q (Open f) so_far text s is e =
     let same : q ≡ p = more_profile q p text s e in
     subst (λ (x : Profile). IsProfile x) same is.profile where
       more_profile : (q p : Profile) (text s : List ℕ) → more q text ≡ more p s → q ≡ p
       more_profile q p text s e = cc
-standing_profile p q Done so_far text s is e = absurd cc
-standing_profile p q (Refused f) so_far text s is e = absurd cc
+state_profile p q Done so_far text s is e = absurd cc
+state_profile p q (Refused f) so_far text s is e = absurd cc
 
--- the answer of a call of a feed, from its fields before the call
+-- the answer of a feed, by its fields before the call, is the exact answer for the stream with the piece
 pub fed_so : (q : Profile) (stage : Stage) (so_far : Progress) (text : List ℕ) (old : StreamState) (piece : List ℕ)
-    (answer : Fed) (new : StreamState) → IsFeed q stage so_far text → standing q stage so_far text ≡ old
+    (answer : Fed) (new : StreamState) → IsFeed q stage so_far text → state_of q stage so_far text ≡ old
     → Feeds old piece answer new → (p : Profile) (s : List ℕ) → old ≡ more p s
     → FedExactly p (s ++ piece) (length s) answer
 fed_so q stage so_far text old piece answer new is view h p s e =
-    fed_exactly p s piece answer new (standing_profile p q stage so_far text s is (view ∙ e))
+    fed_exactly p s piece answer new (state_profile p q stage so_far text s is (view ∙ e))
     (subst (λ (o : StreamState). Feeds o piece answer new) e h)
 
 -- ---- many pieces
 
--- after one answer a feed represents one state
+-- two states of a feed after the same answer to the same piece are the same
 one_state : (p : Profile) (s piece : List ℕ) (a : Fed) (x y : StreamState) → IsProfile p → Feeds (more p s) piece a x
     → Feeds (more p s) piece a y → x ≡ y
 one_state p s piece fed.More x y ok h g = h.0 ∙ sym g.0
@@ -94,7 +98,7 @@ one_state p s piece (fed.Done t) x y ok h g =
     h.1 ∙ ap (λ (l : List Ace). done l) (one p h.0 g.0 text text [] [] ok h.3 g.3 refl).0 ∙ sym g.1
 one_state p s piece (fed.Refused f) x y ok h g = h.0 ∙ sym g.0
 
--- the answer that is exact for a stream is that of each call, or a growth was refused
+-- an exact answer for the stream is the answer of the feed, unless memory ran out for one of them
 exactly_this : (p : Profile) (s piece : List ℕ) (a b : Fed) (x : StreamState) → Feeds (more p s) piece a x
     → FedExactly p (s ++ piece) (length s) b → (a ≡ fed.Refused no_memory) ⊎ IsFedOrFails b a
 exactly_this p s piece fed.More b x h e = inr (e.cut h.1.0 h.1.1)
@@ -108,7 +112,7 @@ exactly_this p s piece (fed.Refused f) b x h e = elim h.1 [
   | inr r ↦ inr (e.fault f r.0 r.1)
 ]
 
--- there is one answer to a piece, and one state behind it
+-- two answers to a piece are the same and lead to the same state, unless memory runs out
 pub one_answer : (p : Profile) (s piece : List ℕ) (a b : Fed) (x y : StreamState) → IsProfile p
     → Feeds (more p s) piece a x → Feeds (more p s) piece b y → SameOrFails a x b y
 one_answer p s piece a b x y ok h g =
@@ -123,25 +127,22 @@ one_answer p s piece a b x y ok h g =
       ]
     ]
 
--- a list and a fault are kept
+-- a feed that has its list keeps it, whatever pieces follow
 done_kept : (list : List Ace) (pieces : List (List ℕ)) (answers : List Fed) (new : StreamState)
     → FeedsEach (done list) pieces answers new → new ≡ done list
 done_kept list [] [] new h = h
 done_kept list [] (a ∷ answers) new h = absurd h
 done_kept list (x ∷ pieces) [] new h = absurd h
-done_kept list (x ∷ pieces) (fed.More ∷ answers) new h = absurd h.1
-done_kept list (x ∷ pieces) (fed.Done t ∷ answers) new h = done_kept list pieces answers new
+done_kept list (x ∷ pieces) (a ∷ answers) new h = done_kept list pieces answers new
     (subst (λ (n : StreamState). FeedsEach n pieces answers new) h.1.0 h.2)
-done_kept list (x ∷ pieces) (fed.Refused f ∷ answers) new h = absurd h.1
 
+-- a feed that was refused keeps its fault, whatever pieces follow
 refused_kept : (g : Fault) (pieces : List (List ℕ)) (answers : List Fed) (new : StreamState)
     → FeedsEach (refused g) pieces answers new → new ≡ refused g
 refused_kept g [] [] new h = h
 refused_kept g [] (a ∷ answers) new h = absurd h
 refused_kept g (x ∷ pieces) [] new h = absurd h
-refused_kept g (x ∷ pieces) (fed.More ∷ answers) new h = absurd h.1
-refused_kept g (x ∷ pieces) (fed.Done t ∷ answers) new h = absurd h.1
-refused_kept g (x ∷ pieces) (fed.Refused f ∷ answers) new h = refused_kept g pieces answers new
+refused_kept g (x ∷ pieces) (a ∷ answers) new h = refused_kept g pieces answers new
     (subst (λ (n : StreamState). FeedsEach n pieces answers new) h.1.0 h.2)
 
 -- pieces that are fed one after the other are answered as all of them at once
@@ -171,7 +172,7 @@ each_is p s (x ∷ pieces) (fed.Refused f ∷ answers) new cut h =
 pub nothing_cut : (p : Profile) → IsCutShort p []
 nothing_cut p = (0, text_short p [] (omega arith))
 
--- the same for a new feed
+-- a new feed answers pieces one after the other as it answers all of them at once, unless memory runs out
 pub any_cutting : (p : Profile) (pieces : List (List ℕ)) (answers : List Fed) (new : StreamState) (once : Fed)
     (now : StreamState) → IsProfile p → FeedsEach (more p []) pieces answers new
     → Feeds (more p []) (concat pieces) once now → SameOrFails (together pieces answers) new once now

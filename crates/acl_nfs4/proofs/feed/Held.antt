@@ -6,18 +6,18 @@ use Rattle.acl_nfs4.proofs.feed.Completion.{begun}
 use Rattle.acl_nfs4.proofs.xdr.Fields.{who_bounds}
 use Rattle.acl_nfs4.proofs.xdr.OneFault.{never_truncated}
 
--- the next field is cut short
+-- if the next field is cut short, fewer bytes are left than it has
 pub short_rest : (p : Profile) (s : Stage) (rest : List ℕ) (n : ℕ) → Breaks p s rest n Truncated → length rest < size s
 short_rest p s rest n (inl h) = h.0
 short_rest p s rest n (inr h) = absurd (never_truncated p s _ h.2)
 
--- these bytes are behind whole ACEs
+-- a text of whole ACEs and few bytes behind them holds little
 behind : (p : Profile) (n : ℕ) (list : List Ace) (t text tail : List ℕ) → Border p (at_kind n list) t
     → text ≡ t ++ tail → length tail < 16 + longest_who → HoldsLittle text
 behind p n list t text tail b e lt =
     inr (n, list, tail, e ∙ ap (λ (x : List ℕ). x ++ tail) (begun p n list t b).text, lt)
 
--- the bytes behind the whole ACEs, at each border
+-- a text that ends inside the field behind a border holds little
 little : (p : Profile) (s : Stage) (t rest : List ℕ) → Border p s t → length rest < size s → HoldsLittle (t ++ rest)
 little p (at_kind n list) t rest b short = behind p n list t (t ++ rest) rest b refl (omega (arith, short))
 little p _ _ rest start short = inl short
@@ -45,26 +45,30 @@ cut_holds p text cut =
     (little p f.stage f.front f.rest f.border
     (short_rest p f.stage f.rest f.more f.breaks))
 
+-- a feed whose stream is cut short holds little beyond whole ACEs
 small_is : (new : StreamState) (p : Profile) (s : List ℕ) → new ≡ more p s → IsCutShort p s → IsSmall new
 small_is new p s e cut = subst (λ (n : StreamState). IsSmall n) (sym e) (cut_holds p s cut)
 
+-- the limit on what a feed holds says nothing about a feed that has its list
 small_done : (new : StreamState) (list : List Ace) → new ≡ done list → IsSmall new
 small_done new list e = subst (λ (n : StreamState). IsSmall n) (sym e) tt
 
--- after each piece a feed holds few bytes behind the whole ACEs
+-- after each piece a feed that is not done holds few bytes behind the whole ACEs
 pub small_after : (old : StreamState) (piece : List ℕ) (answer : Fed) (new : StreamState) → Feeds old piece answer new
     → IsSmall new
 small_after (more p s) piece fed.More new h = small_is new p (s ++ piece) h.0 h.1
 small_after (more p s) piece (fed.Done t) new h = small_done new h.0 h.1
 small_after (more p s) piece (fed.Refused f) new h = subst (λ (n : StreamState). IsSmall n) (sym h.0) tt
-small_after (done list) piece (fed.Done t) new h = small_done new list h.0
-small_after (refused g) piece (fed.Refused f) new h = subst (λ (n : StreamState). IsSmall n) (sym h.0) tt
-small_after old piece answer new h = absurd h
+small_after (done list) piece answer new h = small_done new list h.0
+small_after (refused g) piece answer new h = subst (λ (n : StreamState). IsSmall n) (sym h.0) tt
 
--- at most the whole piece belongs to the list
+-- no more bytes belong to the list than the piece has
 pub taken_within : (old : StreamState) (piece : List ℕ) (answer : Fed) (new : StreamState) → Feeds old piece answer new
     → (taken : ℕ) → answer ≡ fed.Done taken → taken ≤ length piece
 taken_within (more p s) piece (fed.Done t) new h taken e = let same : t ≡ taken = cc in omega (arith, h.2, same)
-taken_within (done list) piece (fed.Done t) new h taken e = let same : t ≡ taken = cc in omega (arith, h.1, same)
-taken_within (refused g) piece (fed.Done t) new h taken e = absurd h
-taken_within old piece answer new h taken e = absurd cc
+taken_within (more p s) piece answer new h taken e = absurd cc
+taken_within (done list) piece answer new h taken e =
+    let d = h.1 in
+    let none : taken ≡ 0 = cc in
+    omega (arith, none)
+taken_within (refused g) piece answer new h taken e = let d = h.1 in absurd cc

@@ -1,5 +1,5 @@
 -- A piece that is taken in chunks.
-use Rattle.acl_nfs4.proofs.Common.{[], ap, append-nil, append_assoc, arith, Breaks, done, drop, Fed, Feeds, further, HasTaken, inl, inr, IsCutShort, IsFault, IsFirstFault, length, length-append, length-take, List, more, Profile, Reason, refl, refused, refuses, RefusesStream, size, Stage, StreamState, subst, sym, take, take-add, take-append-add, take-append-drop, take-append-le, Truncated, Xdr, ℕ, ◌++◌, ◌+◌, ◌∙◌, ◌≡◌, ◌≢◌, ◌≤◌}
+use Rattle.acl_nfs4.proofs.Common.{ap, append_assoc, arith, Breaks, done, drop, Fed, Feeds, further, HasTaken, inl, inr, IsCutShort, IsFault, IsFirstFault, length, length-append, length-take, List, more, Profile, Reason, refl, refused, refuses, RefusesStream, size, Stage, StreamState, subst, sym, take, take-add, take-append-add, take-append-drop, take-append-le, Truncated, Xdr, ℕ, ◌++◌, ◌+◌, ◌∙◌, ◌≡◌, ◌≢◌, ◌≤◌}
 use Rattle.acl_nfs4.specs.declared.feed.fed.Fed.TheVariants as fed
 use Rattle.acl_nfs4.proofs.xdr.Faults.{first_at}
 
@@ -26,18 +26,13 @@ pub fault_stays : (p : Profile) (text others : List ℕ) (o : ℕ) (r : Reason) 
     → IsFault p (text ++ others) o r
 fault_stays p text others o r f not_cut = (f.0, first_stays p text others o f.0 r f.1 not_cut)
 
--- nothing of a piece was taken
-pub none_taken : (old : StreamState) → HasTaken old [] old
-none_taken (more p s) = ap (λ (t : List ℕ). more p t) (sym (append-nil s))
-none_taken (done list) = (refl, refl)
-none_taken (refused f) = (refl, refl)
-
--- what a feed has taken when it answers More
+-- a feed that answers More has taken the whole piece
 has_taken : (old new : StreamState) (piece : List ℕ) → Feeds old piece fed.More new → HasTaken old piece new
 has_taken (more p s) new piece f = f.0
-has_taken old new piece f = absurd f
+has_taken (done list) new piece f = let e = f.1 in absurd cc
+has_taken (refused q) new piece f = let e = f.1 in absurd cc
 
--- a piece behind a stream and x, as a piece behind the stream
+-- the answer to y behind a stream and x is, counted from the stream, the answer to x and y together
 pub joins : (p : Profile) (s x y : List ℕ) (a : Fed) (new : StreamState) → Feeds (more p (s ++ x)) y a new
     → Feeds (more p s) (x ++ y) (further (length x) a) new
 joins p s x y fed.More new h =
@@ -50,17 +45,17 @@ joins p s x y (fed.Done t) new h =
 joins p s x y (fed.Refused f) new h =
     (h.0, subst (λ (t : List ℕ). RefusesStream p t f) (append_assoc s x y) h.1)
 
--- a piece behind the bytes that were taken
+-- the answer to a chunk, counted from the bytes that were taken before it, is the answer to both together
 on : (old now new : StreamState) (front chunk : List ℕ) (a : Fed) → HasTaken old front now → Feeds now chunk a new
     → Feeds old (front ++ chunk) (further (length front) a) new
 on (more p s) now new front chunk a h f =
     joins p s front chunk a new (subst (λ (n : StreamState). Feeds n chunk a new) h f)
-on (done list) now new front chunk (fed.Done t) h f =
-    let g = subst (λ (n : StreamState). Feeds n chunk (fed.Done t) new) h.0 f in
-    (g.0, omega (arith, g.1, ap length h.1))
-on (refused q) now new front chunk (fed.Refused r) h f =
-    subst (λ (n : StreamState). Feeds n chunk (fed.Refused r) new) h.0 f
-on old now new front chunk a h f = absurd (subst (λ (n : StreamState). Feeds n chunk a new) h.0 f)
+on (done list) now new front chunk a h f =
+    let g = subst (λ (n : StreamState). Feeds n chunk a new) h.0 f in
+    (g.0, ap (further (length front)) g.1 ∙ ap (λ (n : ℕ). fed.Done (n + 0)) (ap length h.1))
+on (refused q) now new front chunk a h f =
+    let g = subst (λ (n : StreamState). Feeds n chunk a new) h.0 f in
+    (g.0, ap (further (length front)) g.1)
 
 -- bytes behind a piece that ends the list or is refused change nothing
 pub longer : (old new : StreamState) (chunk back : List ℕ) (a : Fed) → a ≢ fed.More → Feeds old chunk a new
@@ -83,33 +78,31 @@ longer (more p s) new chunk back (fed.Refused f) ends h = (
     )
   ],
 )
-longer old new chunk back a ends h = h
+longer (done list) new chunk back a ends h = h
+longer (refused q) new chunk back a ends h = h
 
-parts : (piece : List ℕ) (taken n : ℕ)
-    → piece ≡ take taken piece ++ (take n (drop taken piece) ++ drop n (drop taken piece))
-parts piece taken n = sym (take-append-drop taken piece)
-    ∙ ap (λ (x : List ℕ). take taken piece ++ x) (sym (take-append-drop n (drop taken piece)))
-
--- the parts of a piece
-pub cut_up : (piece rest chunk back : List ℕ) (taken n : ℕ) → rest ≡ drop taken piece → chunk ≡ take n rest
-    → back ≡ drop n rest → piece ≡ take taken piece ++ (chunk ++ back)
-cut_up piece rest chunk back taken n re ce be = rw (ce, be, re) (parts piece taken n)
-
--- the parts of a piece of which all is taken
-pub last_part : (piece rest : List ℕ) (taken : ℕ) → rest ≡ drop taken piece → piece ≡ take taken piece ++ (rest ++ [])
-last_part piece rest taken e = rw (append-nil rest, e) (sym (take-append-drop taken piece))
-
--- the list ends in this part of the piece, or this part is refused
-pub end_piece : (old now new : StreamState) (piece chunk back : List ℕ) (taken : ℕ) (a : Fed) → taken ≤ length piece
-    → piece ≡ take taken piece ++ (chunk ++ back) → HasTaken old (take taken piece) now → a ≢ fed.More
-    → Feeds now chunk a new → Feeds old piece (further taken a) new
-end_piece old now new piece chunk back taken a le e h ends f =
+-- the answer to what is left of a piece, counted from the front of the piece, is the answer to the whole piece
+pub end_rest : (old now new : StreamState) (piece rest : List ℕ) (taken : ℕ) (a : Fed) → taken ≤ length piece
+    → rest ≡ drop taken piece → HasTaken old (take taken piece) now → Feeds now rest a new
+    → Feeds old piece (further taken a) new
+end_rest old now new piece rest taken a le e h f =
     let n : length (take taken piece) ≡ taken = omega (arith, length-take taken piece) in
+    let whole : take taken piece ++ rest ≡ piece = rw e (take-append-drop taken piece) in
     subst (λ (k : ℕ). Feeds old piece (further k a) new) n
-    (subst (λ (x : List ℕ). Feeds old x (further (length (take taken piece)) a) new) (sym e)
-    (on old now new (take taken piece) (chunk ++ back) a h (longer now new chunk back a ends f)))
+    (subst (λ (x : List ℕ). Feeds old x (further (length (take taken piece)) a) new) whole
+    (on old now new (take taken piece) rest a h f))
 
--- this part of the piece is taken
+-- an answer other than More to the next chunk of a piece is the answer to the whole piece
+pub end_chunk : (old now new : StreamState) (piece rest chunk back : List ℕ) (taken n : ℕ) (a : Fed)
+    → taken ≤ length piece → rest ≡ drop taken piece → chunk ≡ take n rest → back ≡ drop n rest
+    → HasTaken old (take taken piece) now → a ≢ fed.More → Feeds now chunk a new
+    → Feeds old piece (further taken a) new
+end_chunk old now new piece rest chunk back taken n a le re ce be h ends f =
+    let both : chunk ++ back ≡ rest = rw (ce, be) (take-append-drop n rest) in
+    end_rest old now new piece rest taken a le re h
+    (subst (λ (x : List ℕ). Feeds now x a new) both (longer now new chunk back a ends f))
+
+-- after one more part that is answered with More, the feed has taken the piece up to the end of that part
 pub more_piece : (old now new : StreamState) (piece rest chunk : List ℕ) (taken n : ℕ) → rest ≡ drop taken piece
     → chunk ≡ take n rest → HasTaken old (take taken piece) now → Feeds now chunk fed.More new
     → HasTaken old (take (taken + n) piece) new

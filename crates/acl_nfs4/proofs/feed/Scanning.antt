@@ -6,7 +6,7 @@ use Rattle.acl_nfs4.proofs.xdr.Faults.{weight-push}
 use Rattle.acl_nfs4.proofs.list.Push.{each_push, spells_push, no_spells}
 use Rattle.acl_nfs4.proofs.list.Within.{ace_in_full}
 
--- nothing is judged yet
+-- each body is judged up to its front
 pub none_scanned : (p : Profile) (body : List ℕ) → IsScanned p body (record { seen = 0; used = 0; weight = 0 })
 none_scanned p body = record
     { list = []; spells = no_spells; each = tt; long = refl; total = refl; inside = omega arith }
@@ -31,7 +31,7 @@ pub record Scans (p : Profile) (body : List ℕ) (from : Progress) (a : Ace) (q 
   pub scanned : IsScanned p body
       (record { seen = from.seen + 1; used = length body - length q.rest; weight = from.weight + count_ones a.mask })
 
--- the next ACE is judged from the end of the others
+-- a body is judged one ACE further if the next ACE is accepted
 pub scans : (p : Profile) (body : List ℕ) (from : Progress) (a : Ace) (q : Place) → IsProfile p → IsBytes body
     → IsScanned p body from
     → ace_at p from.weight (behind_scanned body from) ≡ Ok (a, q) → Scans p body from a q
@@ -63,6 +63,6 @@ scans p body from a q ok fits s e =
       };
     }
 
--- a place from its parts
+-- a place with these parts is the place that is made of them
 pub place_is : (q : Place) (n : ℕ) (rest : List ℕ) → q.at ≡ n → q.rest ≡ rest → q ≡ record { at = n; rest = rest }
 place_is q n rest a r = rw (a, r) refl

@@ -1,6 +1,6 @@
 -- A text that was judged up to a place.
 pub mod FirstWord
-use Rattle.acl_nfs4.proofs.Common.{[], Ace, ace_at, aces_of, AllByRecursion, ap, append-nil, append_assoc, arith, behind_scanned, body_in, cases_lt, count_of, count_ones, drop, drop-append-le, EndsPart, Err, Fault, flat_map, flat_map-cons, inl, inr, IsAce, IsCutShort, IsFault, IsProfile, IsProgress, IsScanned, IsWhole, Judged, le-ltb, length, length-append, length-drop, length-take, List, lt-ltb, most_aces, most_weight, None, number, Ok, Option, piece, Place, Profile, Progress, Reason, refl, Result, Some, subst, suc, sym, take, take-append-add, take-append-drop, take-append-le, TooManyAces, Truncated, weight, word_field, Xdr, ℕ, ◌++◌, ◌+◌, ◌-◌, ◌<◌, ◌>>=◌, ◌∙◌, ◌∷◌, ◌≡◌, ◌≤◌, start, IsFirstFault, word, spelling, counted, be_bytes_4, take_at}
+use Rattle.acl_nfs4.proofs.Common.{[], Ace, ace_at, aces_of, ap, append_assoc, arith, behind_scanned, body_in, cases_lt, count_of, drop, drop-append-le, EndsPart, Err, Fault, flat_map, inl, inr, IsCutShort, IsFault, IsProfile, IsProgress, IsScanned, IsWhole, Judged, length, length-append, length-drop, length-take, List, most_aces, None, number, Ok, Option, piece, Profile, Progress, Reason, refl, Some, subst, sym, take, take-append-drop, take-append-le, Truncated, weight, Xdr, ℕ, ◌++◌, ◌+◌, ◌-◌, ◌<◌, ◌∙◌, ◌≡◌, ◌≤◌, start, IsFirstFault, word, spelling, counted, be_bytes_4, take_at}
 use Rattle.acl_nfs4.proofs.xdr.Fields.{IsBytes, IsBytes-drop, IsBytes-take, count_is, front_behind}
 use Rattle.acl_nfs4.proofs.xdr.Body.{is_body, aces_of-flat_map}
 use Rattle.acl_nfs4.proofs.xdr.Faults.{ace_fails, borders_after, first_at}
@@ -10,6 +10,7 @@ use Rattle.acl_nfs4.specs.Fault.Stage.{count as at_count}
 
 module _ (p : Profile) (text : List ℕ) (so_far : Progress) (long : 4 ≤ length text)
     (small : number (take 4 text) ≤ most_aces) (s : IsScanned p (drop 4 text) so_far) (fits : IsBytes text) where
+  -- the text is the word of its count, the pieces of the ACEs that were seen, and the rest
   parts : text ≡ (word (number (take 4 text)) ++ flat_map piece s.list) ++ drop so_far.used (drop 4 text)
   parts =
       let rest : List ℕ = drop so_far.used (drop 4 text) in
@@ -22,10 +23,11 @@ module _ (p : Profile) (text : List ℕ) (so_far : Progress) (long : 4 ≤ lengt
       ∙ ap (λ (x : List ℕ). word (number (take 4 text)) ++ x) body
       ∙ sym (append_assoc (word (number (take 4 text))) (flat_map piece s.list) rest)
 
+  -- the word of the count and the pieces of the ACEs that were seen have four bytes more than was judged
   front_len : length (word (number (take 4 text)) ++ flat_map piece s.list) ≡ 4 + so_far.used
   front_len = omega (arith, ap length s.spells.spelled, length-take so_far.used (drop 4 text), s.inside)
 
-  -- the next ACE has the fault of the text
+  -- a fault of the next ACE is the fault of the text
   pub text_fails : (f : Fault) → so_far.seen < number (take 4 text)
       → ace_at p so_far.weight (behind_scanned (drop 4 text) so_far) ≡ Err f → IsFault p text f.offset f.reason
   text_fails f lt e =
@@ -39,7 +41,7 @@ module _ (p : Profile) (text : List ℕ) (so_far : Progress) (long : 4 ≤ lengt
       }) b (omega (arith, s.long, lt))
       (ap (λ (w : ℕ). ace_at p w (behind_scanned (drop 4 text) so_far)) s.total ∙ e)
 
-  -- all ACEs were seen
+  -- if as many ACEs were seen as the count says, the text begins with their list
   pub text_ends : so_far.seen ≡ number (take 4 text) → IsWhole p text so_far
   text_ends e =
       let body : List ℕ = body_in text so_far in
@@ -61,12 +63,12 @@ module _ (p : Profile) (text : List ℕ) (so_far : Progress) (long : 4 ≤ lengt
         inside = omega (arith, s.inside, length-drop 4 text, long);
       }
 
--- a text without the word of the count
+-- a text that is shorter than the word of the count is cut short
 pub text_short : (p : Profile) (text : List ℕ) → length text < 4 → IsFault p text 0 Truncated
 text_short p text short =
     (length text, first_at at_count [] text _ refl start refl tt (omega arith) (inl (short, refl, refl)) (omega arith))
 
--- a text whose word of the count is refused
+-- a text whose count is refused has that fault at its front
 pub text_refused : (p : Profile) (text : List ℕ) (r : Reason) → 4 ≤ length text
     → count_of (number (take 4 text)) ≡ Err r
     → IsFirstFault p text 0 4 r
@@ -75,6 +77,7 @@ text_refused p text r long e =
 
 -- ---- more of the text
 
+-- the first bytes of a body stay the same as the text grows
 same_front : (text more : List ℕ) (n : ℕ) → n ≤ length (drop 4 text)
     → take n (drop 4 (text ++ more)) ≡ take n (drop 4 text)
 same_front text more n inside =
@@ -85,6 +88,7 @@ same_front text more n inside =
           ap (take n) d ∙ take-append-le n (drop 4 text) more inside
     ]
 
+-- so many ACEs stay within the count as the text grows
 same_seen : (text more : List ℕ) (n : ℕ) → n ≤ number (take 4 text) → (length text < 4 → n ≡ 0)
     → n ≤ number (take 4 (text ++ more))
 same_seen text more n seen begun =
@@ -105,11 +109,11 @@ progress_grows p text more so_far g = record {
   begun = λ short. g.begun (omega (arith, length-append text more));
 }
 
--- nothing was judged yet
+-- each text is judged up to the front of its body
 pub no_progress : (p : Profile) (text : List ℕ) → IsProgress p text (record { seen = 0; used = 0; weight = 0 })
 no_progress p text = record { scanned = none_scanned p (drop 4 text); seen = omega arith; begun = λ _. refl }
 
--- if a text has a fault, a value at the front of a longer text does not end inside it
+-- if a text has a fault, a list at the front of a longer text does not end inside it
 ends_after : (p : Profile) (text more : List ℕ) (list : List Ace) (n o : ℕ) (r : Reason) → IsProfile p
     → Xdr p list (take n (text ++ more)) → IsFault p text o r → length text ≤ n
 ends_after p text more list n o r ok x f =
@@ -120,7 +124,7 @@ ends_after p text more list n o r ok x f =
       | inr le ↦ le
     ]
 
--- where judging a body ends, for the whole text
+-- where judging a body ends, the whole text begins with a list or has that fault
 pub judged_is : (p : Profile) (text body : List ℕ) (count : ℕ) (so_far : Progress) (end : Option Fault)
     → IsBytes text → 4 ≤ length text → count_of (number (take 4 text)) ≡ Ok count → body ≡ drop 4 text
     → IsScanned p body so_far → EndsPart p count body so_far end → Judged p text so_far end
@@ -145,7 +149,12 @@ pub record Ended (p : Profile) (old piece text : List ℕ) (so_far : Progress) :
   pub within : 4 + so_far.used - length old ≤ length piece
   pub xdr : Xdr p (aces_of so_far.seen (body_in text so_far)) (old ++ take (4 + so_far.used - length old) piece)
 
--- a value that was not whole before ends in the piece
+-- a text that is judged to its end, with no fault, begins with its list
+pub judged_whole : (p : Profile) (text : List ℕ) (so_far : Progress) (end : Option Fault) → Judged p text so_far end
+    → end ≡ None → IsWhole p text so_far
+judged_whole p text so_far end judged none = subst (Judged p text so_far) none judged
+
+-- a list that was not whole before the piece ends in the piece
 pub ended : (p : Profile) (old piece text : List ℕ) (so_far : Progress) → IsProfile p → text ≡ old ++ piece
     → IsWhole p text so_far → IsCutShort p old → Ended p old piece text so_far
 ended p old piece text so_far ok e w cut =

@@ -5,12 +5,13 @@ use Rattle.std.specs.Ordering.{nat_cmp, ordering_then}
 use Rattle.std.specs.declared.cmp.Ordering.{Ordering}
 use Rattle.std.specs.declared.cmp.Ordering.TheVariants.{Less, Equal, Greater}
 
+-- comparisons one after the other may be grouped in either way
 then_then : (o p q : Ordering) → ordering_then o (ordering_then p q) ≡ ordering_then (ordering_then o p) q
 then_then Less p q = refl
 then_then Equal p q = refl
 then_then Greater p q = refl
 
--- fronts of one length decide first
+-- if two texts begin with fronts of one length, the fronts are compared first, and then what is behind them
 fronts_first : (a b x y : List ℕ) → length a ≡ length b
     → slice_cmp nat_cmp (a ++ x) (b ++ y) ≡ ordering_then (slice_cmp nat_cmp a b) (slice_cmp nat_cmp x y)
 fronts_first [] [] x y e = refl
@@ -20,7 +21,7 @@ fronts_first (c ∷ a) (d ∷ b) x y e =
     ap (ordering_then (nat_cmp c d)) (fronts_first a b x y (omega (arith, e)))
     ∙ then_then (nat_cmp c d) (slice_cmp nat_cmp a b) (slice_cmp nat_cmp x y)
 
--- the bytes of an owned list
+-- an owned list is spelled by the word of its number of ACEs and its body
 spelled : (count total : ℕ) (body : List ℕ) → IsOwned count total body
     → spelling (aces_of count body) ≡ word count ++ body
 spelled count total body is =

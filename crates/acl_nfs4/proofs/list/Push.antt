@@ -7,24 +7,24 @@ use Rattle.acl_nfs4.proofs.xdr.Body.{aces_of-flat_map, is_body}
 use Rattle.acl_nfs4.proofs.xdr.Faults.{weight-push}
 use Rattle.acl_nfs4.proofs.list.Within.{flags_within}
 
--- one more ACE at the end of a list of ACEs
+-- if all ACEs of a list and one more are of the profile, so are all ACEs of the list with that ACE at the end
 pub each_push : (profile : Profile) (list : List Ace) (a : Ace) → AllByRecursion (IsAce profile) list → IsAce profile a
     → AllByRecursion (IsAce profile) (list ++ a ∷ [])
 each_push profile [] a each is = (is, tt)
 each_push profile (b ∷ list) a each is = (each.0, each_push profile list a each.1 is)
 
--- the last ACE of a list of ACEs
+-- if all ACEs of a list are of the profile, so is the last one
 pub each_last : (profile : Profile) (list : List Ace) (a : Ace) → AllByRecursion (IsAce profile) (list ++ a ∷ [])
     → IsAce profile a
 each_last profile [] a each = each.0
 each_last profile (b ∷ list) a each = each_last profile list a each.1
 
--- the pieces of a list with one more ACE at the end
+-- the pieces of a list with one more ACE are those of the list and the piece of that ACE
 pub flat_map-push : (list : List Ace) (a : Ace) → flat_map piece (list ++ a ∷ []) ≡ flat_map piece list ++ piece a
 flat_map-push list a = flat_map-append piece list (a ∷ [])
     ∙ ap (λ (t : List ℕ). flat_map piece list ++ t) (flat_map-cons piece a [] ∙ append-nil (piece a))
 
--- a spelling with one more piece
+-- if bytes spell a list, the bytes and one more piece spell the list and one more ACE
 pub spells_push : (list : List Ace) (a : Ace) (bytes : List ℕ) → SpellsBody list bytes → IsAce full a
     → weight list + count_ones a.mask ≤ most_weight → SpellsBody (list ++ a ∷ []) (bytes ++ piece a)
 spells_push list a bytes s is light = record {
@@ -72,7 +72,7 @@ pushed n w bytes a o is room light =
       list = e;
     }
 
--- a push of an ACE of the code onto the list that fields hold
+-- a push of an ACE of the code onto the list that the fields hold keeps the invariant
 pub pushed_item : (n w : ℕ) (bytes : List ℕ) (list : List Ace) (item : AceRef) → IsOwned n w bytes
     → aces_of n bytes ≡ list → item.flags.bits ≤ 255 → IsWho item.who.now → length list < most_aces
     → weight list + count_ones item.mask.bits ≤ most_weight → Pushed n w bytes (ace item)
@@ -90,7 +90,7 @@ push_passes list a ok =
     le-ltb most_weight _ (omega (arith, ok.weight, weight-push list a)) in
     rw (room, light, (each_last full list a ok.each).who) refl
 
--- a head, a who and up to three zero bytes behind a text
+-- a head, a who and three zero bytes behind a text, cut behind the padding, are the text and the piece
 pub fields_appended : (old head who b c d : List ℕ) (n m pad : ℕ) → b ≡ old ++ head → c ≡ b ++ who
     → d ≡ c ++ replicate 3 0 → n ≡ length c → m ≡ pad → pad ≤ 3
     → take (n + m) d ≡ old ++ ((head ++ who) ++ replicate pad 0)

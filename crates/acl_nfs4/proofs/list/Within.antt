@@ -61,7 +61,7 @@ pub fits_of : (profile : Profile) (list : List Ace) → AllByRecursion (IsAce pr
 fits_of profile [] each = tt
 fits_of profile (a ∷ list) each = ((each.0.flags, each.0.mask), fits_of profile list each.1)
 
--- an accepted list that fits a profile is accepted under it
+-- if the ACEs of a list are ACEs of the full profile and fit another profile, they are ACEs of that profile
 pub each_of : (profile : Profile) (list : List Ace) → AllByRecursion (IsAce full) list → Fits profile list
     → AllByRecursion (IsAce profile) list
 each_of profile [] each fits = tt
@@ -91,11 +91,11 @@ fits_means profile list now result is e a h =
       λ b. h.1 (subst (Fits profile) (sym e) (same.0 b).1),
     )
 
--- a test of a set within another, as `contains` says it
+-- if the test of `contains` passes, the bits are in the set
 pub contains_is : (set n : ℕ) → eqb (bit_and set n) n ≡ true → IsWithin set n
 contains_is set n e = and_comm n set ∙ eqb-true _ _ e
 
--- the other way round
+-- if the bits are in the set, the test of `contains` passes
 pub contains_again : (set n : ℕ) → IsWithin set n → eqb (bit_and set n) n ≡ true
 contains_again set n is = eq-eqb _ _ (and_comm set n ∙ is)
 
@@ -111,7 +111,7 @@ first_fits profile a whole now rest e is h = (
   λ f. (subst (Fits profile) e (h.1 f)).1,
 )
 
--- an ACE that does not fit
+-- if the first ACE does not fit, the list does not fit
 pub first_misses : (profile : Profile) (a : Ace) (whole now rest : List Ace) → now ≡ a ∷ rest
     → (IsWithin profile.flags a.flags × IsWithin profile.masks a.mask → ⊥)
     → (Fits profile now ↔ Fits profile whole) → Fits profile whole → ⊥

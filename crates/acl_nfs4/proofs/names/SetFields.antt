@@ -32,17 +32,17 @@ cut_some field rest i h e =
 abbrev pub bits_from : List BitName → ℕ → Option (List ℕ) → Option ℕ
 bits_from table so_far after = option_map (bit_or so_far) (bits_in table (parts_after after))
 
--- the union of three sets
+-- the union of three sets may be grouped in either way
 or_assoc : (a b c : ℕ) → bit_or (bit_or a b) c ≡ bit_or a (bit_or b c)
 or_assoc a b c = same_set _ _ (λ k. simp has_bit-or (either_assoc (has_bit a k) (has_bit b k) (has_bit c k)))
 
--- the union of two sets, and then of the rest
+-- the union of two sets and then of the rest is the union of the first with that of the second and the rest
 joined_bits : (so_far bit : ℕ) (r : Option ℕ)
     → option_map (bit_or (bit_or so_far bit)) r ≡ option_map (bit_or so_far) (option_map (bit_or bit) r)
 joined_bits so_far bit None = refl
 joined_bits so_far bit (Some m) = ap (λ (n : ℕ). Some n) (or_assoc so_far bit m)
 
--- one turn of the loop over a field
+-- after one more word, the bits so far and the rest still name the same set
 pub next_left : (table : List BitName) (so_far bit : ℕ) (field word : List ℕ) (after : Option (List ℕ))
     (total : Option ℕ)
     → IsFieldCut field word after → Some bit ≡ bit_in table word → bits_from table so_far (Some field) ≡ total
@@ -52,6 +52,7 @@ next_left table so_far bit field word after total cut named e =
 
 -- ---- tables whose names can be in a field
 
+-- a word without a bar
 abbrev is_whole : List ℕ → Bool
 is_whole word = list_all (λ b. not (is_bar b)) word
 
@@ -68,7 +69,7 @@ NameThemselves table rows =
 abbrev pub AreBits : List BitName → List ℕ → Type 0
 AreBits rows places = map (λ (row : BitName). row.bit) rows ≡ map (λ k. 2 ^ k) places
 
--- no name has a bar, no name is the field of the empty set, the first names tell the bits apart, and each bit is one
+-- no name has a bar or is the field of the empty set, each first name names its bit, and each bit is a power of two
 pub record IsTable (table : List BitName) : Type 0 where
   pub whole : list_all has_whole_names table ≡ true
   pub no_dash : bit_in table no_names ≡ None
@@ -102,7 +103,7 @@ flags_table = record {
 pub same_bytes : (xs ys : List ℕ) → bytes_eq xs ys ≡ true → xs ≡ ys
 same_bytes xs ys e = search (rules, bytes_eq-Decides xs ys, e)
 
--- bytes without a given byte
+-- if bytes pass the test for bytes other than c, none of them is c
 pub all_apart : (c : ℕ) (word : List ℕ) → list_all (λ b. not (eqb b c)) word ≡ true → All (λ b. eqb b c ≡ false) word
 all_apart c word e = All-weaker _ _ (λ b h. not-true (eqb b c) h) word (AllPass-from_list_all _ word e)
 
@@ -161,7 +162,7 @@ first_named table word words set e = both (bit_in table word) (bits_in table wor
   both (Some bit) (Some others) named rest h =
       record { bit = bit; others = others; named = named; rest = rest; union = cc }
 
--- the words are the parts of what they are joined to
+-- names that are joined by bars are cut into the same names
 split_joined : (table : List BitName) (word : List ℕ) (words : List (List ℕ)) (set : ℕ) → IsTable table
     → bits_in table (word ∷ words) ≡ Some set
     → slice_split is_bar (join_with_byte 0x7c (word ∷ words)) ≡ word ∷ words
@@ -175,12 +176,12 @@ split_joined table word (next ∷ words) set is e =
 
 -- ---- the relation and the function
 
--- a field has a part
+-- a field has at least one part
 some_parts : (field : List ℕ) → slice_split is_bar field ≢ []
 some_parts field e = let none : length (slice_split is_bar field) ≡ 0 = ap length e in
     omega (arith, length-slice_split is_bar field, none)
 
--- words that name bits, joined by bars
+-- a field spells the set that it names
 pub spelled : (table : List BitName) (field : List ℕ) (set : ℕ) → set_named table field ≡ Some set
     → SpellsSet table field set
 unfolding set_named
@@ -220,13 +221,13 @@ named_again table field set is (inr s) = words_again table field set s.0 is s.1 
 
 -- ---- what `read_mask` answers, seen as the number of its mask
 
--- what is answered is spelled
+-- the field spells the mask that is returned
 pub answers_spelled : (field : List ℕ) (r : Option Mask) → option_map (λ m. m.bits) r ≡ mask_named field
     → IfSome r (λ m. SpellsMask field m.bits)
 answers_spelled field None given = tt
 answers_spelled field (Some m) given = spelled rights field m.bits (sym given)
 
--- what is spelled is answered
+-- a mask that the field spells is returned
 pub answers_only : (field : List ℕ) (r : Option Mask) (mask : ℕ) → option_map (λ m. m.bits) r ≡ mask_named field
     → SpellsMask field mask → IsSomeAnd r (λ m. m.bits ≡ mask)
 answers_only field None mask given s = let e = named_again rights field mask rights_table s in cc

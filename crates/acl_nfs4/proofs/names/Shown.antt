@@ -5,6 +5,7 @@ use Rattle.acl_nfs4.specs.BitNames.{set_text}
 use Rattle.acl_nfs4.proofs.names.Tables.{names_pass, set_text-pass}
 use Rattle.acl_nfs4.proofs.plain_ascii.PlainText.{plain_ascii_is_utf8}
 
+-- the field of a set is displayed unchanged if the names of its table are plain ASCII
 shown : (table : List BitName) (set : ℕ) → names_pass is_plain_ascii table ≡ true
     → as_text (set_text table set) ≡ set_text table set
 shown table set plain = ap (λ (b : Bool). cond b (set_text table set) replacement_bytes)

@@ -1,9 +1,9 @@
 -- Tables that name bits: the rows that words name, and the sets of them.
-use Rattle.acl_nfs4.proofs.Common.{[], all_rights, and_le_l, and_pow, and_true, ap, arith, bar, bit_and, bit_at, bit_at-lt, bit_in, bit_name_of, bit_names_of, bit_or, BitName, bits_in, Bool, Bor, cond, drop, eq-eqb, eqb, eqb-true, eqb_tells, false, find, first_name, get_or, has_bit, has_bit-and, has_bit-or, IfSome, inl, inr, is_rising, is_within, IsMask, IsMask-union, IsSome, IsWithin, join_with_byte, length, List, list_all, ltb, ltb-true, Mask, mask_named, names_of, no_names, None, Option, option_map, refl, rights, same_set, set_if_within, Some, SpellsMask, SpellsSet, subst, suc, true, zero, ℕ, ⊎_elim, ◌&&◌, ◌*◌, ◌<◌, ◌^◌, ◌↔◌, ◌∙◌, ◌∷◌, ◌≡◌}
+use Rattle.acl_nfs4.proofs.Common.{[], all_rights, and_le_l, and_pow, and_true, ap, arith, bar, bit_and, bit_at, bit_at-lt, bit_in, bit_name_of, bit_names_of, bit_or, BitName, bits_in, Bool, Bor, cond, drop, eq-eqb, eqb, eqb-true, eqb_tells, false, find, first_name, get_or, has_bit, has_bit-and, has_bit-or, IfSome, inl, inr, is_rising, is_within, IsMask, IsMask-union, IsSome, IsWithin, join_with_byte, length, List, list_all, ltb, ltb-true, map, Mask, mask_named, names_of, no_names, None, Option, option_map, refl, rights, same_set, set_if_within, Some, SpellsMask, SpellsSet, subst, suc, true, zero, ℕ, ⊎_elim, ◌&&◌, ◌*◌, ◌<◌, ◌^◌, ◌↔◌, ◌∙◌, ◌∷◌, ◌≡◌}
 use Rattle.std.proofs.Math.Bool.{and-or_distrib_left}
 use Rattle.std.proofs.lemmas.List.Folds.{list_all-append}
 use Rattle.std.specs.Int.Bits.{and_zero_r, or_zero_l, or_zero_r}
-use Rattle.acl_nfs4.specs.BitNames.{set_named, set_text}
+use Rattle.acl_nfs4.specs.BitNames.{rows_of, set_named, set_text}
 use Rattle.acl_nfs4.specs.internal.NameTable.{set_within}
 use Rattle.acl_perm.specs.declared.bit_names.BitName.{BitName as Row}
 use Rattle.acl_nfs4.proofs.names.SetFields.{AreBits, IsTable, NameThemselves, first_named, named_again, rights_table, row_of, spelled}
@@ -29,7 +29,7 @@ above_all : (bits bit : ℕ) → bits < bit → eqb (bit_and bits bit) bit ≡ f
 above_all bits bit lt = ⊎_elim (λ h. absurd (omega (arith, lt, h.1, and_le_l bits bit))) (λ h. h.0)
     (eqb_tells (bit_and bits bit) bit)
 
--- a set has none of bits that are greater than it
+-- a set has no names among rows whose bits are all greater than the set
 none_above : (rows : List Row) (set bit : ℕ) → set < bit → list_all (λ next. ltb bit next.bit) rows ≡ true
     → names_of (bit_names_of rows) set ≡ []
 none_above [] set bit lt h = refl
@@ -38,7 +38,7 @@ none_above (r ∷ rows) set bit lt h =
     let less : set < r.bit = omega (arith, lt, ltb-true bit r.bit both.0) in
     rw (above_all set r.bit less) (none_above rows set bit lt both.1)
 
--- if the bits of the rows ascend, it has none of the bits from such a row on
+-- if the bits of the rows ascend, a set has no names from a row on whose bit is greater than the set
 pub none_from : (table : List Row) (set i : ℕ) (d : Row) → is_rising table ≡ true → i < length table
     → set < (get_or table i d).bit → names_of (bit_names_of (drop i table)) set ≡ []
 none_from [] set i d rising inside lt = absurd (omega (arith, inside))
@@ -70,7 +70,7 @@ named_right field n e = elim (spelled rights field n e) [
   | inr some ↦ rights_named some.0 n some.3
 ]
 
--- the mask of a number that is a mask
+-- if a number is a mask, the mask that is made of it has that number
 pub mask_made : (r : Option Mask) (bits : ℕ) → (IsSome r ↔ IsMask bits) → IfSome r (λ m. m.bits ≡ bits) → IsMask bits
     → option_map (λ m. m.bits) r ≡ Some bits
 mask_made None bits is value h = let no = is.1 h in absurd cc
@@ -106,12 +106,12 @@ abbrev pub all_of : List BitName → ℕ
 all_of [] = 0
 all_of (row ∷ rows) = bit_or row.bit (all_of rows)
 
--- the part of a set that is in one of two other sets
+-- the part of a set that is in a union is the union of its parts in both sets
 and_or : (a b c : ℕ) → bit_and a (bit_or b c) ≡ bit_or (bit_and a b) (bit_and a c)
 and_or a b c = same_set _ _ (λ k.
     simp (has_bit-and, has_bit-or) (and-or_distrib_left (has_bit a k) (has_bit b k) (has_bit c k)))
 
--- a digit times a power is the power or 0
+-- a binary digit times a number is the number or 0
 zero_and : (d p : ℕ) → d < 2 → (eqb (d * p) p ≡ false) → d * p ≡ 0
 zero_and zero p lt h = omega arith
 zero_and (suc zero) p lt h = let same : 1 * p ≡ p = omega arith in grind arith
@@ -134,7 +134,7 @@ names_spell table (row ∷ rows) (k ∷ places) set named bits =
     let powers : AreBits rows places = cc in
     let rest = names_spell table rows places set others powers in
     elim (eqb (bit_and set row.bit) row.bit) as (λ t. eqb (bit_and set row.bit) row.bit ≡ t
-    → bits_in table (cond t (row.name ∷ names_of rows set) (names_of rows set))
+    → bits_in table (map (λ (r : BitName). r.name) (cond t (row ∷ rows_of rows set) (rows_of rows set)))
     ≡ Some (bit_and set (bit_or row.bit (all_of rows)))) [
       | true ↦ λ has. rw (name, rest, and_or set row.bit (all_of rows), eqb-true _ _ has) refl
       | false ↦ λ lacks.
@@ -171,12 +171,13 @@ names_of-pass test [] set h = refl
 names_of-pass test (row ∷ rows) set h =
     let both = and_true (list_all test row.name) (list_all (λ (r : BitName). list_all test r.name) rows) h in
     elim (eqb (bit_and set row.bit) row.bit)
-    as (λ t. list_all (list_all test) (cond t (row.name ∷ names_of rows set) (names_of rows set)) ≡ true) [
+    as (λ t. list_all (list_all test)
+    (map (λ (r : BitName). r.name) (cond t (row ∷ rows_of rows set) (rows_of rows set))) ≡ true) [
       | true ↦ rw both.0 (names_of-pass test rows set both.1)
       | false ↦ names_of-pass test rows set both.1
     ]
 
--- so do the bytes of names with `|` between them
+-- the bytes of words with `|` between them pass a test that `|` and the bytes of the words pass
 join-pass : (test : ℕ → Bool) (words : List (List ℕ)) → test bar ≡ true → list_all (list_all test) words ≡ true
     → list_all test (join_with_byte bar words) ≡ true
 join-pass test [] at_bar h = refl
@@ -186,7 +187,7 @@ join-pass test (word ∷ next ∷ words) at_bar h =
     rw (list_all-append test word (bar ∷ join_with_byte bar (next ∷ words)), both.0, at_bar)
     (join-pass test (next ∷ words) at_bar both.1)
 
--- the bytes of the field of a set pass it too
+-- the bytes of the field of a set pass a test that `-`, `|` and the bytes of all names pass
 pub set_text-pass : (test : ℕ → Bool) (table : List BitName) (set : ℕ) → names_pass test table ≡ true
     → list_all test (set_text table set) ≡ true
 unfolding set_text

@@ -24,7 +24,7 @@ beyond n lanes = mask_l (map (top 7) (beyond_lanes n (zip2 less lanes (replicate
 plain_byte : (b : ℕ) → b < 256 → is_beyond b ≡ false → is_plain_ascii b ≡ true
 plain_byte b small e = grind (arith, nat_tests)
 
--- the answer in terms of the bytes
+-- the answer of all lanes is the mask of the bytes that are not plain ASCII
 beyond_is : (n : ℕ) (lanes : List ℕ) → length lanes ≡ n → n ≤ 64 → beyond n lanes ≡ mask_l (map is_beyond lanes)
 beyond_is n lanes long most =
     let lowered : List ℕ = map (λ b. less b 32) lanes in

@@ -3,14 +3,15 @@ use Rattle.acl_nfs4.proofs.Common.{arith, list_all-from_AllPass, nat_tests, Bool
 use Rattle.std.proofs.lemmas.List.Elements.{All-weaker}
 use Rattle.std.proofs.lemmas.List.Sums.{AllPass-from_list_all}
 
--- a true answer
+-- if bytes are UTF-8, the test says true
 pub yes : (bytes : List ℕ) → IsUtf8 bytes → true ≡ is_utf8 bytes
 yes bytes h = sym (is_utf8-from_IsUtf8 bytes h)
 
--- a false answer
+-- if bytes are not UTF-8, the test says false
 pub no : (bytes : List ℕ) → ¬ (IsUtf8 bytes) → false ≡ is_utf8 bytes
 no bytes h = sym (false_from_ne_true (is_utf8 bytes) (λ e. h (IsUtf8-from_is_utf8 bytes e)))
 
+-- what the two tests for UTF-8 need
 pub ruleset text_tests = (yes, no)
 
 -- ---- plain ASCII

@@ -23,7 +23,7 @@ abbrev pub CutSays : List ℕ → Option (List ℕ × List ℕ) → Type 0
 CutSays bytes None = count_by is_space bytes ≡ 0
 CutSays bytes (Some parts) = IsSpaceCut bytes parts.0 parts.1
 
--- the parts before and behind the first space
+-- bytes are cut at their first space into what is before it and what is behind it
 cut_at : (bytes : List ℕ) (i : ℕ) → position is_space bytes ≡ Some i
     → IsSpaceCut bytes (take i bytes) (drop (i + 1) bytes)
 cut_at bytes i e =
@@ -49,7 +49,7 @@ cut_at bytes i e =
       );
     }
 
--- bytes that are cut have the parts that the cut says
+-- what a cut finds is true of the bytes
 pub cut_says : (bytes : List ℕ) → CutSays bytes (cut_space bytes)
 cut_says bytes =
     elim (position is_space bytes) as (λ o. position is_space bytes ≡ o
@@ -59,7 +59,7 @@ cut_says bytes =
       | Some i ↦ λ e. cut_at bytes i e
     ] refl
 
--- the first space of bytes whose front has none
+-- if a front has no space, the first space of the bytes is the one behind it
 first_space : (first rest : List ℕ) → HasNoSpace first → position_or_len is_space (first ++ space ∷ rest) ≡ length first
 first_space [] rest h = refl
 first_space (b ∷ first) rest h =
@@ -81,7 +81,7 @@ abbrev pub FieldsSay : List ℕ → Option LineFields → Type 0
 FieldsSay line None = count_by is_space line < 3
 FieldsSay line (Some fields) = HasLineFields line fields × (3 ≤ count_by is_space line)
 
--- a cut, and what comes of its parts
+-- what is found is true of the line, if it is true without a space and for the parts of each cut
 step : (bytes line : List ℕ) (next : List ℕ × List ℕ → Option LineFields) (o : Option (List ℕ × List ℕ))
     → CutSays bytes o → (count_by is_space bytes ≡ 0 → FieldsSay line None)
     → ((parts : List ℕ × List ℕ) → IsSpaceCut bytes parts.0 parts.1 → FieldsSay line (next parts))
@@ -89,7 +89,7 @@ step : (bytes line : List ℕ) (next : List ℕ × List ℕ → Option LineField
 step bytes line next None says missing found = missing says
 step bytes line next (Some parts) says missing found = found parts says
 
--- what the third cut of a line says
+-- what the third cut of a line finds is true of the line
 third : (line kind one flags two : List ℕ) → IsSpaceCut line kind one → IsSpaceCut one flags two
     → (o : Option (List ℕ × List ℕ)) → CutSays two o → FieldsSay line (last_fields kind flags o)
 third line kind one flags two a b None h = omega (arith, a.count, b.count, h)
@@ -115,7 +115,7 @@ fields_read line fields h =
     (rw (cut_spelled fields.flags (fields.mask ++ space ∷ fields.who) h.flags)
     (rw (cut_spelled fields.mask fields.who h.mask) refl)))
 
--- the lengths of what bytes are cut into
+-- bytes that are cut are one byte longer than the two parts
 pub cut_len : (bytes first rest : List ℕ) → Some (first, rest) ≡ cut_space bytes
     → length bytes ≡ length first + length rest + 1
 cut_len bytes first rest e =

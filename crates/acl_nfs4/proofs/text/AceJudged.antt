@@ -1,4 +1,4 @@
--- Reading one line, and what the grammar and the faults say of it: each tells the other.
+-- What is read of a line is true of the line, and what is true of a line is what is read of it.
 use Rattle.acl_nfs4.proofs.Common.{Ace, AceTextFault, after_flags, after_kind, after_mask, Allow, arith, bytes_eq, cond, count_ones, Deny, Err, false, flag_names, if_light, IsAce, IsAt, IsFlagged, IsLight, IsLineFault, IsMasked, IsSplit, IsTyped, Kind, kind_name, le-leb, le-ltb, leb-false, leb-true, length, line_fields, LineFields, List, lt-ltb, ltb-false, ltb-true, mask_column, most_aces, most_weight, nat_le, nat_lt, nat_tests, None, Ok, ok_or, Option, Profile, read_ace_fields, refl, Result, rights, set_within, Some, SpellsAce, TextLine, true, weight, who_column, who_fault, who_fault_at, who_judged, WhoFault, ℕ, ◌+◌, ◌<◌, ◌>>=◌, ◌∙◌, ◌≡◌, ◌≢◌, ◌≤◌}
 use Rattle.acl_nfs4.specs.internal.AceReading.{kind_named, read_ace}
 use Rattle.acl_nfs4.specs.declared.who.WhoFault.TheVariants as who
@@ -23,13 +23,13 @@ abbrev pub LineSays : Profile → List Ace → TextLine → Result Ace AceTextFa
 LineSays p list line (Ok a) = TakesAce p list line a
 LineSays p list line (Err fault) = IsLineFault p list line fault
 
--- a place is where it is
+-- each line and column is at itself
 here : (line column : ℕ) → IsAt line column line column
 here line column = record { same_line = refl; same_column = refl }
 
 -- ---- what is answered is true
 
--- a field that may be missing, and what is read behind it
+-- what is answered is true if it is true where a field is missing, and behind each value that the field may have
 step : {A : Type 0} (p : Profile) (list : List Ace) (line : TextLine) (fault : AceTextFault)
     (next : A → Result Ace AceTextFault) (Says : Option A → Type 0) (o : Option A) → Says o
     → (Says None → IsLineFault p list line fault) → ((x : A) → Says (Some x) → LineSays p list line (next x))
@@ -37,7 +37,7 @@ step : {A : Type 0} (p : Profile) (list : List Ace) (line : TextLine) (fault : A
 step p list line fault next Says None says missing found = missing says
 step p list line fault next Says (Some x) says missing found = found x says
 
--- what is read behind a mask that the list can accept
+-- what is read behind a mask that the list can accept is true of the line
 who_says : (p : Profile) (list : List Ace) (line : TextLine) (fields : LineFields) (light : IsLight p list line fields)
     (o : Option WhoFault) → who_fault fields.who ≡ o
     → LineSays p list line (who_judged line.number (who_column fields) fields.who o
@@ -72,7 +72,7 @@ who_says p list line fields light (Some who.Control) e =
 who_says p list line fields light (Some who.Special) e =
     record { fields = fields; light = light; reason = e; place = here _ _ }
 
--- what is read behind flags
+-- what is read behind the flags is true of the line
 mask_says : (p : Profile) (list : List Ace) (line : TextLine) (fields : LineFields)
     (flagged : IsFlagged p list line fields) (o : Option ℕ) → PartSays rights p.masks fields.mask o
     → LineSays p list line ((ok_or o (faults.Mask line.number (mask_column fields))
@@ -93,18 +93,18 @@ mask_says p list line fields flagged (Some mask) h =
           (record { mask = mask; masked = masked; light = ltb-false _ _ light }) (who_fault fields.who) refl
     ] refl
 
--- a word that was read as a type is the name of the type
+-- what is said of a word by the kind as which it was read
 abbrev KindSays : List ℕ → Option Kind → Type 0
 KindSays word None = (kind : Kind) → word ≢ kind_name kind
 KindSays word (Some kind) = word ≡ kind_name kind
 
--- a word that differs from both names is not the name of a type
+-- a word that differs from both names is not the name of a kind
 neither : (word : List ℕ) → bytes_eq word (kind_name Allow) ≡ false → bytes_eq word (kind_name Deny) ≡ false
     → (kind : Kind) → word ≢ kind_name kind
 neither word a d Allow e = let wrong = rw e at a in cc
 neither word a d Deny e = let wrong = rw e at d in cc
 
--- the type that is read is the type of the word
+-- the kind as which a word is read is the kind that it names
 kind_says : (word : List ℕ) → KindSays word (kind_named word)
 unfolding kind_named
 kind_says word =
@@ -119,7 +119,7 @@ kind_says word =
           ] refl
     ] refl
 
--- what is read of a line, if the list can take one more ACE
+-- what is read of a line is true of it, if the list can take one more ACE
 fields_next : (p : Profile) (list : List Ace) (line : TextLine) → length list < most_aces
     → LineSays p list line (ok_or (line_fields line.bytes) (faults.Fields line.number 1)
     >>= (λ fields. read_ace_fields p (weight list) line.number fields))
@@ -150,7 +150,7 @@ line_says p list line =
 
 -- ---- the other way round
 
--- the name of a type is read as the type
+-- the name of a kind is read as the kind
 kind_read : (kind : Kind) → kind_named (kind_name kind) ≡ Some kind
 unfolding kind_named
 kind_read Allow = refl
@@ -161,27 +161,29 @@ missing : {A : Type 0} (Says : Option A → Type 0) (o : Option A) → Says o �
 missing Says None says none = refl
 missing Says (Some x) says none = absurd (none x says)
 
--- a list that can take one more ACE
+-- the test of the number of ACEs says that a list below the limit can take one more
 has_room : (n : ℕ) → n < most_aces → nat_le most_aces n ≡ false
 has_room n lt = grind (arith, nat_tests)
 
--- the answer for a line that is right up to a field is what is read behind that field: its fields, its type, its
--- flags, its mask, and the weight of the mask
+-- the answer for a line that has its fields is what is read of the fields
 cut_read : (p : Profile) (list : List Ace) (line : TextLine) (fields : LineFields) → IsSplit list line fields
     → answer_of p list line ≡ read_ace_fields p (weight list) line.number fields
 unfolding read_ace
 cut_read p list line fields h = rw (has_room (length list) h.room, fields_read line.bytes fields h.has) refl
 
+-- the answer for a line that is right up to its kind is what is read behind the kind
 typed_read : (p : Profile) (list : List Ace) (line : TextLine) (fields : LineFields) (h : IsTyped list line fields)
     → answer_of p list line ≡ after_kind p (weight list) line.number fields h.kind
 typed_read p list line fields h = cut_read p list line fields h.cut ∙ rw (h.is_kind, kind_read h.kind) refl
 
+-- the answer for a line that is right up to its flags is what is read behind the flags
 flagged_read : (p : Profile) (list : List Ace) (line : TextLine) (fields : LineFields)
     (h : IsFlagged p list line fields)
     → answer_of p list line ≡ after_flags p (weight list) line.number fields h.typed.kind h.flags
 flagged_read p list line fields h = typed_read p list line fields h.typed
     ∙ rw (part_read flag_names p.flags fields.flags h.flags flags_table h.named h.within) refl
 
+-- the answer for a line that is right up to its mask is that of the weight, and then what is read behind the mask
 masked_read : (p : Profile) (list : List Ace) (line : TextLine) (fields : LineFields) (mask : ℕ)
     (h : IsMasked p list line fields mask)
     → answer_of p list line ≡ (if_light (weight list) line.number (mask_column fields) mask
@@ -189,12 +191,13 @@ masked_read : (p : Profile) (list : List Ace) (line : TextLine) (fields : LineFi
 masked_read p list line fields mask h = flagged_read p list line fields h.flagged
     ∙ rw (part_read rights p.masks fields.mask mask rights_table h.named h.within) refl
 
+-- the answer for a line whose mask the list can accept is what is read behind the mask
 light_read : (p : Profile) (list : List Ace) (line : TextLine) (fields : LineFields) (h : IsLight p list line fields)
     → answer_of p list line ≡ after_mask line.number fields h.masked.flagged.typed.kind h.masked.flagged.flags h.mask
 light_read p list line fields h = masked_read p list line fields h.mask h.masked
     ∙ rw (le-ltb most_weight _ h.light) refl
 
--- the last field is not a who
+-- the answer for a line whose last field is no who is the fault of that field
 no_who : (p : Profile) (list : List Ace) (line : TextLine) (fields : LineFields) (why : WhoFault)
     → IsLight p list line fields → who_fault fields.who ≡ Some why
     → answer_of p list line ≡ Err (who_fault_at line.number (who_column fields) why)

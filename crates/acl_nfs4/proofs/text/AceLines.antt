@@ -1,4 +1,4 @@
--- Reading the lines of a text, and what the grammar and the faults say of them: each tells the other.
+-- What is read of a text is true of the text, and what is true of a text is what is read of it.
 use Rattle.acl_nfs4.proofs.Common.{[], Ace, ace_lines, ace_lines_from, AceTextFault, ap, append-nil, append_assoc, arith, Err, FailsAs, false, IfErr, IfOk, inl, inr, is_skipped, IsAccepted, IsAceText, IsAceTextFault, IsTextRefusal, length, length-append, List, MatchResult, Ok, Profile, read_ace, refl, Result, SpellEach, SpellsAce, subst, sym, TextLine, true, weight, ℕ, ◌++◌, ◌+◌, ◌>>=◌, ◌∙◌, ◌∷◌, ◌≡◌, ◌⊎◌}
 use Rattle.acl_nfs4.specs.internal.AceReading.{read_lines}
 use Rattle.acl_nfs4.specs.declared.text.fault.AceTextFault.TheVariants as faults
@@ -35,7 +35,7 @@ abbrev pub TextSays : Profile → List ℕ → Result (List Ace) AceTextFault �
 TextSays p text (Ok list) = IsAceText p list text
 TextSays p text (Err fault) = IsAceTextFault p text fault
 
--- a list with one more ACE
+-- an accepted list that can take the ACE of a line is accepted with it
 accepted_push : (p : Profile) (list : List Ace) (line : TextLine) (a : Ace) → IsAccepted p list
     → TakesAce p list line a → IsAccepted p (list ++ a ∷ [])
 accepted_push p list line a h takes = record {
@@ -52,7 +52,7 @@ spelled_push [] (b ∷ list) line a each last = absurd each
 spelled_push (l ∷ lines) [] line a each last = absurd each
 spelled_push (l ∷ lines) (b ∷ list) line a each last = (each.0, spelled_push lines list line a each.1 last)
 
--- the answer of reading the lines that are left of a text, behind lines that spell a list
+-- what is answered for the lines that are left is true of the text, if the lines before them spell a list
 lines_say : (p : Profile) (text : List ℕ) (before lines : List TextLine) (list : List Ace)
     → ace_lines text ≡ before ++ lines → SpellEach before list → IsAccepted p list
     → TextSays p text (read_lines p list lines)
@@ -86,7 +86,7 @@ text_says p text = lines_say p text [] (ace_lines text) [] refl tt
 
 -- ---- the other way round
 
--- a list takes the next ACE of an accepted one
+-- a list that is the front of an accepted one can take the next ACE
 takes_next : (p : Profile) (list more : List Ace) (line : TextLine) (a : Ace) → IsAccepted p (list ++ a ∷ more)
     → SpellsAce line.bytes a → TakesAce p list line a
 takes_next p list more line a h s =
@@ -123,7 +123,7 @@ text_read p text (Err fault) h = ap (read_lines p []) h.order
 
 -- ---- what a call answers
 
--- what a call that reads a text answers
+-- what a call that reads a text returns is what reading the text gives, or memory ran out
 abbrev pub Answered : Profile → List ℕ → Result (List Ace) AceTextFault → Type 0
 Answered p text result = MatchResult result (λ list. read_lines p [] (ace_lines text) ≡ Ok list)
     (λ fault. FailsAs fault (read_lines p [] (ace_lines text)))
@@ -141,7 +141,7 @@ refusals p text (Ok list) h = tt
 refusals p text (Err faults.Memory) h = inl refl
 refusals p text (Err fault) h = inr (subst (TextSays p text) h (text_says p text))
 
--- the list that the text spells is read
+-- the list that the text spells is returned, unless memory runs out
 pub only_list : (p : Profile) (text : List ℕ) (result : Result (List Ace) AceTextFault) → Answered p text result
     → (list : List Ace) → IsAceText p list text
     → MatchResult result (λ read. read ≡ list) (λ fault. fault ≡ faults.Memory)
@@ -149,7 +149,7 @@ only_list p text (Ok read) h list is = let e = text_read p text (Ok list) is in 
 only_list p text (Err faults.Memory) h list is = refl
 only_list p text (Err fault) h list is = let e = text_read p text (Ok list) is in cc
 
--- a text with a fault is refused by it
+-- a text with a fault is refused with that fault, unless memory runs out
 pub only_fault : (p : Profile) (text : List ℕ) (result : Result (List Ace) AceTextFault) → Answered p text result
     → (wrong : AceTextFault) → IsAceTextFault p text wrong
     → MatchResult result (λ _. ⊥) (λ fault. (fault ≡ wrong) ⊎ (fault ≡ faults.Memory))
@@ -157,12 +157,12 @@ only_fault p text (Ok read) h wrong is = let e = text_read p text (Err wrong) is
 only_fault p text (Err faults.Memory) h wrong is = inr refl
 only_fault p text (Err fault) h wrong is = inl (let e = text_read p text (Err wrong) is in cc)
 
--- a text spells one list
+-- a text spells at most one list
 pub one_list : (p : Profile) (text : List ℕ) (one two : List Ace) → IsAceText p one text → IsAceText p two text
     → one ≡ two
 one_list p text one two h k = let e = text_read p text (Ok one) h in let f = text_read p text (Ok two) k in cc
 
--- a text has one fault
+-- a text has at most one fault
 pub one_text_fault : (p : Profile) (text : List ℕ) (one two : AceTextFault) → IsAceTextFault p text one
     → IsAceTextFault p text two → one ≡ two
 one_text_fault p text one two h k = let e = text_read p text (Err one) h in let f = text_read p text (Err two) k in cc

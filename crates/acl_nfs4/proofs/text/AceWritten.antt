@@ -13,7 +13,7 @@ use Rattle.acl_nfs4.proofs.plain_ascii.PlainText.{all_weaker}
 
 -- ---- the bytes of a line
 
--- no line feed
+-- whether a byte is no line feed
 abbrev is_no_feed : ℕ → Bool
 is_no_feed b = not (eqb b 10)
 
@@ -28,7 +28,7 @@ plain_who name h = no_control (is_no_who_len (length name)) (is_utf8 name) (list
       no_control false true true special h = refl
       no_control false true false special h = absurd cc
 
--- the bytes of a type pass a test that the bytes of both pass
+-- the bytes of the name of a kind pass a test that the bytes of both names pass
 kind_pass : (test : ℕ → Bool) → list_all test (kind_name Allow) ≡ true → list_all test (kind_name Deny) ≡ true
     → (kind : Kind) → list_all test (kind_name kind) ≡ true
 kind_pass test allow deny Allow = allow
@@ -54,7 +54,7 @@ no_feed_in a h =
     let who = all_weaker is_plain is_no_feed a.who (λ b plain. grind (arith, nat_tests, plain)) (plain_who a.who h) in
     simp (list_all-append {X = ℕ}) (rw (kind, flags, mask, who) refl)
 
--- a body is no line that is skipped
+-- a body is not skipped
 kept : (a : Ace) → is_skipped (body a) ≡ false
 kept a = by_kind a.kind (0x20 ∷ (set_text flag_names a.flags ++ 0x20 ∷ (set_text rights a.mask ++ 0x20 ∷ a.who))) where
   by_kind : (kind : Kind) (rest : List ℕ) → is_skipped (kind_name kind ++ rest) ≡ false
@@ -82,7 +82,7 @@ spells_line p a is h = record {
   who = refl;
 }
 
--- the lines of a text that begins with the line of an ACE
+-- the first line of a written text is the body of its first ACE
 lines_next : (p : Profile) (a : Ace) (list : List Ace) → IsAce p a
     → lines_of (ace_text (a ∷ list)) ≡ body a ∷ lines_of (ace_text list)
 lines_next p a list h =
@@ -101,7 +101,7 @@ spelled_from p number (a ∷ list) is each =
 pub text_again : (p : Profile) (list : List Ace) → IsProfile p → IsAccepted p list → IsAceText p list (ace_text list)
 text_again p list is h = record { spelled = spelled_from p 1 list is h.each; accepted = h }
 
--- the written text spells no other list
+-- the written text spells the list and no other
 pub reads_back : (p : Profile) (list other : List Ace) → IsProfile p → IsAccepted p list
     → IsAceText p other (ace_text list) ↔ (other ≡ list)
 reads_back p list other is h = (

@@ -15,15 +15,17 @@ pub record Layout (bytes : List ℕ) (a : Ace) (more : List ℕ) : Type 0 where
   pub tail : drop ((length a.who + 19) / 4 * 4) bytes ≡ more
   pub room : (length a.who + 19) / 4 * 4 + length more ≡ length bytes
 
+-- the word of a kind spells the number of the kind
 kind_back : (k : Kind) → number (word (kind_number k)) ≡ kind_number k
 kind_back Allow = refl
 kind_back Deny = refl
 
--- the type of the number of a kind
+-- the kind of the number of a kind is that kind
 pub kind_from-number : (k : Kind) → kind_from (kind_number k) ≡ k
 kind_from-number Allow = refl
 kind_from-number Deny = refl
 
+-- the piece of an ACE has the layout of the ACE
 layout-of : (a : Ace) (more : List ℕ) → IsAce full a → Layout (piece a ++ more) a more
 layout-of a more is =
     let pad : List ℕ = replicate (pad_len (length a.who)) 0 in
@@ -43,14 +45,14 @@ layout-of a more is =
 pub layout : (bytes : List ℕ) (a : Ace) (more : List ℕ) → IsAce full a → bytes ≡ piece a ++ more → Layout bytes a more
 layout bytes a more is e = subst (λ (b : List ℕ). Layout b a more) (sym e) (layout-of a more is)
 
--- two ACEs with the same fields
+-- two ACEs with the same fields are the same
 pub same_ace : (a : Ace) (k : Kind) (f m : ℕ) (w : List ℕ) → k ≡ a.kind → f ≡ a.flags → m ≡ a.mask → w ≡ a.who
     → record { kind = k; flags = f; mask = m; who = w } ≡ a
 same_ace a k f m w ke fe me we = rw (ke, fe, me, we) refl
 
 -- ---- a body, one ACE after the other
 
--- bytes that spell a list are the body of that list
+-- the ACEs of bytes that spell a list are that list
 pub aces_of-flat_map : (list : List Ace) (bytes : List ℕ) → SpellsBody list bytes → aces_of (length list) bytes ≡ list
 unfolding aces_of
 aces_of-flat_map [] bytes s = refl
@@ -67,7 +69,7 @@ aces_of-flat_map (a ∷ list) bytes s =
     ∙ ap (λ (m : List Ace). a ∷ m) (aces_of-flat_map list (flat_map piece list)
     (record { spelled = refl; weight = omega (arith, s.weight, weight-cons a list); each = s.each.1 }))
 
--- bytes that spell a list are its body
+-- bytes that spell so many ACEs are a body of so many ACEs
 pub is_body : (list : List Ace) (count : ℕ) (bytes : List ℕ) → length list ≡ count → SpellsBody list bytes
     → IsBody count bytes
 is_body list count bytes len s =
@@ -85,6 +87,7 @@ pub record Splits (count : ℕ) (bytes : List ℕ) : Type 0 where
   pub body : IsBody (count - 1) more
   pub others_are : aces_of (count - 1) more ≡ others
 
+-- bytes that spell a list of at least one ACE begin with its piece, and a body of the others follows
 splits-of : (list : List Ace) (count : ℕ) (bytes : List ℕ) → 0 < count → length list ≡ count
     → aces_of count bytes ≡ list → SpellsBody list bytes → Splits count bytes
 splits-of [] count bytes some len e s = absurd (omega arith)

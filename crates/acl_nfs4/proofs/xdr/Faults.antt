@@ -5,20 +5,23 @@ use Rattle.acl_nfs4.specs.Fault.Stage.{kind as at_kind, flags as at_flags, mask 
 use Rattle.acl_nfs4.proofs.xdr.Fields.{IsBytes, Takes, field_takes, word_takes, who_bounds, kind_is, flags_are, mask_is, who_len_is, who_is}
 use Rattle.acl_nfs4.proofs.xdr.Lists.{weight-cons}
 
+-- a fault, as a result of a given type
 abbrev bad : {A E : Type 0} → E → Result A E
 bad e = Err e
 
+-- a value, as a result that may be a fault
 abbrev good : {A : Type 0} → A → Result A Fault
 good x = Ok x
 
--- the weight with one more ACE
+-- the weight of a list and the bits of one more ACE are the weight of the list with that ACE
 pub weight-push : (list : List Ace) (a : Ace) → weight list + count_ones a.mask ≡ weight (list ++ a ∷ [])
 weight-push list a = sym (sum_by_push (λ x. count_ones x.mask) list a)
 
+-- equal results have equal faults
 bad_is : {A E : Type 0} (d e : E) → bad {A = A} {E = E} d ≡ bad e → d ≡ e
 bad_is d e h = cc
 
--- a step that fails, or one that goes on and then fails
+-- if two steps fail, the first fails, or it gives a value and the second fails
 pub bind_fails : {A B E C : Type 0} (r : Result A E) (f : A → Result B E) (e : E) → (r >>= f) ≡ Err e → (r ≡ Err e → C)
     → ((x : A) → r ≡ Ok x → f x ≡ Err e → C) → C
 bind_fails (Ok x) f e h first later = later x refl h
@@ -30,7 +33,7 @@ pub record Carried (bytes t : List ℕ) (p : Place) : Type 0 where
   pub here : length t ≡ p.at
   pub fits : IsBytes p.rest
 
--- reading goes on
+-- behind one more field, reading has come to the end of that field
 pub Carried-then : (bytes t : List ℕ) (p : Place) (x : List ℕ) (q : Place) → Carried bytes t p → Takes p x q
     → Carried bytes (t ++ x) q
 Carried-then bytes t p x q c k = record {
@@ -39,18 +42,18 @@ Carried-then bytes t p x q c k = record {
   fits = k.bytes;
 }
 
--- an answer has one fault
+-- a result has at most one fault
 pub err_is : {A : Type 0} (f g : Fault) (r : Result A Fault) → r ≡ Err f → r ≡ Err g → f ≡ g
 err_is f g (Ok x) p q = absurd cc
 err_is f g (Err h) p q = cc
 
--- a whole field that is refused
+-- a whole field that fails is refused for a reason, and the fault is at its place
 pub judged_err : {A : Type 0} (n : ℕ) (p : Place) (r : Result A Reason) (f : Fault) → judged n p r ≡ Err f
     → (d : Reason) × (r ≡ Err d) × (fault_at p d ≡ f)
 judged_err n p (Ok x) f e = absurd cc
 judged_err n p (Err d) f e = (d, refl, cc)
 
--- accepted fields up to a border, and a field behind it that is wrong
+-- accepted fields up to a border, and a wrong field behind it, are a first fault
 pub first_at : {p : Profile} {bytes : List ℕ} {o t : ℕ} {r : Reason} (s : Stage) (front rest : List ℕ) (n : ℕ)
     → bytes ≡ front ++ rest → Border p s front → length front ≡ o → IsOwed s → 0 < size s → Breaks p s rest n r
     → o + n ≡ t → IsFirstFault p bytes o t r
@@ -68,7 +71,7 @@ first_at s front rest n parts border here owed some breaks ends = record {
   ends = ends;
 }
 
--- the next field is the one that fails
+-- if the next field fails, its fault is the fault of the text
 here : {A : Type 0} (profile : Profile) (bytes t : List ℕ) (p : Place) (s : Stage) (value : List ℕ → Result A Reason)
     (f : Fault) → Carried bytes t p → Border profile s t → IsOwed s
     → ((r : Reason) → refuses profile s (take (size s) p.rest) r → 0 < size s)
@@ -97,15 +100,16 @@ here profile bytes t p s value f c b owed some means e =
           )
     ]
 
--- a padding of no bytes is never refused
+-- a padding that is refused has at least one byte
 padding_some : (n : ℕ) (bytes : List ℕ) (r : Reason) → padding_of (take n bytes) ≡ Err r → 0 < n
 padding_some zero bytes r e = absurd cc
 padding_some (suc n) bytes r e = omega arith
 
+-- a word has at least one byte
 some_word : (r : Reason) → 0 < 4
 some_word r = omega arith
 
--- the fields behind a text, one by one and together
+-- fields that are put behind a text one by one may be put there together
 pub regroup : (t a b c d e f : List ℕ)
     → ((((((t ++ a) ++ b) ++ c) ++ d) ++ e) ++ f) ≡ t ++ (((((a ++ b) ++ c) ++ d) ++ e) ++ f)
 regroup t a b c d e f = simp append_assoc
@@ -127,7 +131,7 @@ border_after profile n list t a b lt is light =
     (regroup t (word (kind_number a.kind)) (word a.flags) (word a.mask) (word (length a.who)) a.who
     (replicate (pad_len (length a.who)) 0)) b6
 
--- behind so many whole ACEs too
+-- behind more whole ACEs the text is at a border again
 pub borders_after : (profile : Profile) (n : ℕ) (list more : List Ace) (t : List ℕ) → Border profile (at_kind n list) t
     → AllByRecursion (IsAce profile) more → length list + length more ≤ n → weight list + weight more ≤ most_weight
     → Border profile (at_kind n (list ++ more)) (t ++ flat_map piece more)
@@ -144,10 +148,11 @@ borders_after profile n list (a ∷ more) t b each few light =
     (subst (λ (x : List ℕ). Border profile (at_kind n ((list ++ a ∷ []) ++ more)) x)
     (append_assoc t (piece a) (flat_map piece more) ∙ ap (λ (x : List ℕ). t ++ x) (sym (flat_map-cons piece a more))) h)
 
+-- no value is a fault
 ok_no_err : {A : Type 0} (x : A) (f : Fault) → good x ≡ bad f → ⊥
 ok_no_err x f e = cc
 
--- a fault in the who or the padding
+-- a fault in the who or the padding of the next ACE is the fault of the text
 tail_fails : (profile : Profile) (bytes : List ℕ) (n : ℕ) (list : List Ace) (k : Kind) (f m l : ℕ) (t : List ℕ)
     (p : Place) (fault : Fault) → Carried bytes t p → Border profile (at_who n list k f m l) t → 1 ≤ l → l ≤ longest_who
     → from_who k f m l p ≡ Err fault → IsFault profile bytes fault.offset fault.reason
@@ -165,7 +170,7 @@ tail_fails profile bytes n list k f m l t p fault c b some short e =
     (subst (λ (x : ℕ). field (pad_len x) padding_of w.1 ≡ Err fault) (sym len) h))
     (λ z ze zr. absurd (ok_no_err _ fault zr)))
 
--- a fault in an ACE
+-- a fault in the next ACE is the fault of the text
 pub ace_fails : (profile : Profile) (bytes : List ℕ) (n : ℕ) (list : List Ace) (t : List ℕ) (p : Place) (fault : Fault)
     → Carried bytes t p → Border profile (at_kind n list) t → length list < n
     → ace_at profile (weight list) p ≡ Err fault → IsFault profile bytes fault.offset fault.reason

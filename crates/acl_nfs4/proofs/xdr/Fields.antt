@@ -5,11 +5,11 @@ use Rattle.acl_nfs4.proofs.Common.{[], Allow, and_true, ap, append_assoc, arith,
 abbrev pub IsBytes : List ℕ → Type 0
 IsBytes bytes = (i : ℕ) → get_or bytes i 0 < 256
 
--- the numbers behind some bytes are bytes
+-- what is behind the first bytes of a list of bytes is bytes
 pub IsBytes-drop : (n : ℕ) (bytes : List ℕ) → IsBytes bytes → IsBytes (drop n bytes)
 IsBytes-drop n bytes h i = rw get_or-drop (h (n + i))
 
--- the first of some bytes are bytes
+-- the first bytes of a list of bytes are bytes
 pub IsBytes-take : (n : ℕ) (bytes : List ℕ) → IsBytes bytes → IsBytes (take n bytes)
 IsBytes-take n bytes h i =
     elim (cases_lt i n) [
@@ -17,7 +17,7 @@ IsBytes-take n bytes h i =
       | inr le ↦ rw (get_or_past (take n bytes) i 0 (omega (arith, length-take n bytes))) (omega arith)
     ]
 
--- bytes behind bytes
+-- bytes behind bytes are bytes
 pub bytes_append : (a b : List ℕ) → IsBytes a → IsBytes b → IsBytes (a ++ b)
 bytes_append a b f g i =
     elim (cases_lt i (length a)) [
@@ -25,44 +25,45 @@ bytes_append a b f g i =
       | inr le ↦ rw (get_or-append_right a b (length a) i 0 refl le) (g (i - length a))
     ]
 
--- the front of a list, by the length of the rest
+-- the front of a text has as many bytes as the text has more than the back
 pub front_is : (whole front back : List ℕ) → whole ≡ front ++ back → take (length whole - length back) whole ≡ front
 front_is whole front back e =
     let n : length whole - length back ≡ length front = omega (arith, ap length e, length-append front back) in
     ap (λ (k : ℕ). take k whole) n ∙ ap (take (length front)) e ∙ take_at front back (length front) refl
 
--- the front of two texts, up to a place behind the first
+-- the front of two texts, up to a place behind the first, is the first and a front of the second
 pub front_behind : (text more : List ℕ) (n : ℕ) → length text ≤ n
     → take n (text ++ more) ≡ text ++ take (n - length text) more
 front_behind text more n le =
     let k : n ≡ length text + (n - length text) = omega arith in
     ap (λ (i : ℕ). take i (text ++ more)) k ∙ take-append-add text more (n - length text)
 
--- the value of a step that did not fail, where what follows is shown for each value: the value is then a variable,
--- and goals stay short
+-- if two steps give a value, what follows from each value of the first follows; so goals stay short
 pub bind_then : {A B E C : Type 0} (r : Result A E) (f : A → Result B E) (y : B) → (r >>= f) ≡ Ok y
     → ((x : A) → r ≡ Ok x → f x ≡ Ok y → C) → C
 bind_then (Ok x) f y e go = go x refl e
 bind_then (Err d) f y e go = absurd cc
 
--- a step that is known not to fail
+-- a step that gives a value goes on with that value
 pub goes_to : {A B E : Type 0} (r : Result A E) (f : A → Result B E) (x : A) → r ≡ Ok x → (r >>= f) ≡ f x
 goes_to {A = A} {E = E} r f x e = ap (λ (s : Result A E). s >>= f) e
 
--- a test that did not fail
+-- if a test did not refuse, it was false, and the value is that of the other branch
 pub guard_ok : {A E : Type 0} (b : Bool) (d : E) (r : Result A E) (y : A) → cond b (Err d) r ≡ Ok y
     → (b ≡ false) × (r ≡ Ok y)
 guard_ok true d r y e = absurd cc
 guard_ok false d r y e = (refl, e)
 
+-- if a test gave a value, it was true
 guard_then : {A E : Type 0} (b : Bool) (x : A) (d : E) (y : A) → cond b (Ok x) (Err d) ≡ Ok y → b ≡ true
 guard_then true x d y e = refl
 guard_then false x d y e = absurd cc
 
+-- a value, as a result of a given type
 abbrev ok : {A E : Type 0} → A → Result A E
 ok x = Ok x
 
--- the same answer has the same value
+-- equal results have equal values
 pub ok_is : {A E : Type 0} (x y : A) → ok {A = A} {E = E} x ≡ ok y → x ≡ y
 ok_is x y e = cc
 
@@ -83,13 +84,13 @@ Takes-then p x q y r s t = record {
 
 -- ---- any field
 
--- a whole field that is accepted
+-- a whole field that gives a value was accepted, and reading goes on behind it
 pub judged_ok : {A : Type 0} (n : ℕ) (p : Place) (r : Result A Reason) (x : A × Place) → judged n p r ≡ Ok x
     → (r ≡ Ok x.0) × (moved n p ≡ x.1)
 judged_ok n p (Ok y) x e = let h : (y, moved n p) ≡ x = ok_is _ _ e in (ap (λ z. Ok z.0) h, ap (λ z. z.1) h)
 judged_ok n p (Err d) x e = absurd cc
 
--- a field that was read
+-- a field that was read has all its bytes, which spell its value, and reading took them
 pub field_takes : {A : Type 0} (n : ℕ) (value : List ℕ → Result A Reason) (p : Place) (x : A × Place) → IsBytes p.rest
     → field n value p ≡ Ok x
     → (value (take n p.rest) ≡ Ok x.0) × (length (take n p.rest) ≡ n) × Takes p (take n p.rest) x.1
@@ -116,7 +117,7 @@ field_again n value at text rest x len e =
 
 -- ---- words
 
--- a word that was read
+-- a word that was read is taken, and its number is accepted
 pub word_takes : {A : Type 0} (value : ℕ → Result A Reason) (p : Place) (x : A × Place) → IsBytes p.rest
     → word_field value p ≡ Ok x
     → (n : ℕ) × (value n ≡ Ok x.0) × Takes p (word n) x.1 × (n < 2 ^ 32)
@@ -141,7 +142,7 @@ word_again value at n rest x lt e =
 
 -- ---- what each field accepts
 
--- the number of ACEs
+-- a count that is accepted is its number, within the limit
 pub count_is : (n m : ℕ) → count_of n ≡ Ok m → (n ≡ m) × (m ≤ most_aces)
 count_is n m e = grind (arith, nat_tests)
 
@@ -149,17 +150,17 @@ count_is n m e = grind (arith, nat_tests)
 pub count_again : (n : ℕ) → n ≤ most_aces → count_of n ≡ Ok n
 count_again n le = grind (arith, nat_tests)
 
--- the type that was read is the one of its number
+-- a kind that was read is that of its number
 pub kind_is : (n : ℕ) (k : Kind) → kind_of n ≡ Ok k → n ≡ kind_number k
 kind_is n Allow e = grind arith
 kind_is n Deny e = grind arith
 
--- each type is accepted
+-- each kind is accepted
 pub kind_again : (k : Kind) → kind_of (kind_number k) ≡ Ok k
 kind_again Allow = refl
 kind_again Deny = refl
 
--- a type is a word
+-- the number of a kind fits a word
 pub kind_lt : (k : Kind) → kind_number k < 2 ^ 32
 kind_lt Allow = omega arith
 kind_lt Deny = omega arith
@@ -183,7 +184,7 @@ pub mask_again : (profile : Profile) (weight n : ℕ) → IsWithin profile.masks
 mask_again profile weight n within light =
     rw (eq-eqb (bit_and n profile.masks) n within, le-ltb most_weight (weight + count_ones n) light) refl
 
--- a number of bytes that some who has
+-- a length that a who may have is within the bounds
 pub len_bounds : (n : ℕ) → is_no_who_len n ≡ false → (1 ≤ n) × (n ≤ longest_who)
 len_bounds n e = grind (arith, nat_tests)
 
@@ -199,10 +200,11 @@ who_len_some n m e = grind (arith, nat_tests)
 pub who_len_again : (n : ℕ) → 1 ≤ n → n ≤ longest_who → who_len_of n ≡ Ok n
 who_len_again n some short = grind (arith, nat_tests)
 
--- how many bytes a who has
+-- the length of a who is within the bounds
 pub who_bounds : (who : List ℕ) → IsWho who → (1 ≤ length who) × (length who ≤ longest_who)
 who_bounds who is = grind (arith, nat_tests)
 
+-- bytes that are accepted as a who are that who, and have no fault
 taken_is : (fault : Option WhoFault) (bytes who : List ℕ) → unless (option_map who_reason fault) bytes ≡ Ok who
     → (bytes ≡ who) × (fault ≡ None)
 taken_is None bytes who e = (ok_is bytes who e, refl)
@@ -216,6 +218,7 @@ who_is bytes who e = let h = taken_is (who_fault bytes) bytes who e in (h.0, sub
 pub who_again : (who : List ℕ) → IsWho who → who_of who ≡ Ok who
 who_again who is = rw is refl
 
+-- bytes that are all zero are so many zeros
 zeros : (bytes : List ℕ) → list_all (λ b. eqb b 0) bytes ≡ true → bytes ≡ replicate (length bytes) 0
 zeros [] e = refl
 zeros (b ∷ bytes) e =
@@ -228,10 +231,11 @@ zeros (b ∷ bytes) e =
 pub padding_is : (bytes : List ℕ) (x : Unit {0}) → padding_of bytes ≡ Ok x → bytes ≡ replicate (length bytes) 0
 padding_is bytes x e = zeros bytes (guard_then (list_all (λ b. eqb b 0) bytes) _ _ x e)
 
+-- so many zeros are all zero
 zeros_again : (n : ℕ) → list_all (λ b. eqb b 0) (replicate n 0) ≡ true
 zeros_again zero = refl
 zeros_again (suc n) = zeros_again n
 
--- zero bytes are accepted
+-- zero bytes are accepted as padding
 pub padding_again : (n : ℕ) → padding_of (replicate n 0) ≡ Ok tt
 padding_again n = rw (zeros_again n) refl

@@ -5,13 +5,13 @@ use Rattle.acl_nfs4.proofs.xdr.Fields.{IsBytes, bind_then, ok_is, Takes, Takes-t
 
 -- ---- one ACE
 
--- an ACE that was read
+-- an ACE was read and taken, and the list can accept it
 pub record TakesAce (profile : Profile) (weight : ℕ) (p : Place) (a : Ace) (q : Place) : Type 0 where
   pub takes : Takes p (piece a) q
   pub is : IsAce profile a
   pub light : weight + count_ones a.mask ≤ most_weight
 
--- what each field gave
+-- if each field of an ACE was read, the ACE was read
 takes_fields : (profile : Profile) (weight : ℕ) (p : Place) (k : Kind × Place) (f m l : ℕ × Place) (w : List ℕ × Place)
     (z : Unit {0} × Place) → IsBytes p.rest
     → word_field kind_of p ≡ Ok k → word_field (flags_of profile) k.1 ≡ Ok f
@@ -63,7 +63,7 @@ ace_takes profile weight p x fits e =
 
 -- ---- the list
 
--- the weight with one ACE before
+-- the weight of a list is the bits of its first ACE and the weight of the others
 pub weight-cons : (a : Ace) (list : List Ace) → weight (a ∷ list) ≡ count_ones a.mask + weight list
 weight-cons a list = sum_by-cons (λ x. count_ones x.mask) a list
 

@@ -1,7 +1,7 @@
 -- A text has at most one fault, and it has none if a value is at its front.
 use Rattle.acl_nfs4.proofs.Common.{[], Ace, ap, append-nil, arith, behind, cases_lt, Err, Fault, inl, inr, IsFault, IsFirstFault, IsProfile, IsWholeFault, length, length-append, length-take, List, None, of_value, Option, option_map, Profile, Read, Reason, refl, refuses, size, Some, Stage, subst, sym, take, take-append-add, take-take, Truncated, unless, who_fault, who_reason, WhoFault, Xdr, ℕ, ◌++◌, ◌+◌, ◌<◌, ◌∙◌, ◌≡◌, ◌≤◌, ◌⊎◌, ◌-◌, ◌≢◌, kind_of, flags_of, mask_of, who_len_of, who_of, padding_of, number, weight, Result, Ok, IfOk, IfErr, IsOkAnd, drop, take-append-drop, TrailingBytes, length-drop}
 use Rattle.acl_nfs4.specs.Fault.Stage.{count as at_count, kind as at_kind, flags as at_flags, mask as at_mask, len as at_len, who as at_who, padding as at_padding}
-use Rattle.acl_nfs4.specs.Front.{IsListOf, StandsAtFront}
+use Rattle.acl_nfs4.specs.Front.{IsListOf, IsAtFront}
 use Rattle.acl_nfs4.specs.declared.who.WhoFault.TheVariants as who
 use Rattle.acl_nfs4.proofs.xdr.Faults.{err_is, first_at}
 use Rattle.acl_nfs4.proofs.feed.Pieces.{breaks_whole}
@@ -12,7 +12,7 @@ use Rattle.acl_nfs4.proofs.xdr.Resume.{answers_fault, one, read_again}
 abbrev pub IsOfSource : Reason → Type 0
 IsOfSource r = (r ≡ Truncated) ⊎ (r ≡ Read)
 
--- no who is refused by such a reason
+-- no fault of a who has a reason of the source
 no_such_reason : (fault : Option WhoFault) (bytes : List ℕ) (r : Reason) → IsOfSource r
     → unless (option_map who_reason fault) bytes ≡ Err r → ⊥
 no_such_reason None bytes r s e = absurd cc
@@ -21,30 +21,31 @@ no_such_reason (Some who.Utf8) bytes r s e = elim s [ inl t ↦ absurd cc | inr 
 no_such_reason (Some who.Control) bytes r s e = elim s [ inl t ↦ absurd cc | inr t ↦ absurd cc ]
 no_such_reason (Some who.Special) bytes r s e = elim s [ inl t ↦ absurd cc | inr t ↦ absurd cc ]
 
--- no type is refused with such a reason
+-- no kind is refused for a reason of the source
 pub kind_never : (n : ℕ) (r : Reason) → IsOfSource r → kind_of n ≡ Err r → ⊥
 kind_never n r o h = grind (arith, o)
 
--- nor are flags
+-- no flags are refused for a reason of the source
 pub flags_never : (profile : Profile) (n : ℕ) (r : Reason) → IsOfSource r → flags_of profile n ≡ Err r → ⊥
 flags_never profile n r o h = grind (arith, o)
 
--- nor is a mask
+-- no mask is refused for a reason of the source
 pub mask_never : (profile : Profile) (weight n : ℕ) (r : Reason) → IsOfSource r → mask_of profile weight n ≡ Err r → ⊥
 mask_never profile weight n r o h = grind (arith, o)
 
--- nor is a length
+-- no length is refused for a reason of the source
 pub len_never : (n : ℕ) (r : Reason) → IsOfSource r → who_len_of n ≡ Err r → ⊥
 len_never n r o h = grind (arith, o)
 
--- nor is a who
+-- no who is refused for a reason of the source
 pub who_never : (bytes : List ℕ) (r : Reason) → IsOfSource r → who_of bytes ≡ Err r → ⊥
 who_never bytes = no_such_reason (who_fault bytes) bytes
 
--- nor is padding
+-- no padding is refused for a reason of the source
 pub padding_never : (bytes : List ℕ) (r : Reason) → IsOfSource r → padding_of bytes ≡ Err r → ⊥
 padding_never bytes r o h = grind (arith, o)
 
+-- no field is refused for a reason of the source
 never_of_source : (profile : Profile) (s : Stage) (bytes : List ℕ) (r : Reason) → IsOfSource r
     → refuses profile s bytes r → ⊥
 never_of_source profile at_count bytes r o h = grind (arith, o)
@@ -59,12 +60,13 @@ never_of_source profile (at_padding n list k f m w) bytes r o h = padding_never 
 pub never_truncated : (profile : Profile) (s : Stage) (bytes : List ℕ) → refuses profile s bytes Truncated → ⊥
 never_truncated profile s bytes = never_of_source profile s bytes Truncated (inl refl)
 
+-- the first bytes of a text, up to a place behind its front, are the front and the first bytes of the rest
 kept_front : (bytes front rest : List ℕ) (o k : ℕ) → bytes ≡ front ++ rest → length front ≡ o
     → take (o + k) bytes ≡ front ++ take k rest
 kept_front bytes front rest o k parts here =
     ap (λ (n : ℕ). take (n + k) bytes) (sym here) ∙ ap (take (length front + k)) parts ∙ take-append-add front rest k
 
--- the place and the reason of a fault
+-- two faults of a text have the same place and the same reason
 pub one_place : (profile : Profile) (bytes : List ℕ) (o q : ℕ) (r s : Reason) → IsProfile profile
     → IsFault profile bytes o r → IsFault profile bytes q s → (o ≡ q) × (r ≡ s)
 one_place profile bytes o q r s ok f g =
@@ -138,8 +140,8 @@ value_or_fault profile bytes list text rest o r ok x e f =
 
 -- the answer of a reader that finds the list at the front, or returns a fault of the bytes
 module _ (p : Profile) (bytes : List ℕ) (ok : IsProfile p) where
-  -- a list at the front is found
-  pub found_only : (result : Result (List Ace × ℕ) Fault) → IfOk result (StandsAtFront p bytes)
+  -- the list at the front is found
+  pub found_only : (result : Result (List Ace × ℕ) Fault) → IfOk result (IsAtFront p bytes)
       → IfErr result (λ f. IsFault p bytes f.offset f.reason) → (list : List Ace) (text rest : List ℕ)
       → Xdr p list text → bytes ≡ text ++ rest → IsOkAnd result (IsListOf list text)
   found_only (Ok x) found fault list text rest xdr e =
@@ -149,8 +151,8 @@ module _ (p : Profile) (bytes : List ℕ) (ok : IsProfile p) where
   found_only (Err f) found fault list text rest xdr e =
       absurd (value_or_fault p bytes list text rest f.offset f.reason ok xdr e fault)
 
-  -- a fault of the bytes is returned
-  pub found_refused : (result : Result (List Ace × ℕ) Fault) → IfOk result (StandsAtFront p bytes)
+  -- bytes with a fault are refused with that fault
+  pub found_refused : (result : Result (List Ace × ℕ) Fault) → IfOk result (IsAtFront p bytes)
       → IfErr result (λ f. IsFault p bytes f.offset f.reason) → (offset : ℕ) (r : Reason) → IsFault p bytes offset r
       → result ≡ Err (record { offset = offset; reason = r })
   found_refused (Ok x) found fault offset r f =
@@ -159,10 +161,12 @@ module _ (p : Profile) (bytes : List ℕ) (ok : IsProfile p) where
   found_refused (Err g) found fault offset r f =
       let e = one_place p bytes g.offset offset g.reason r ok fault f in rw (sym e.0, sym e.1) refl
 
+-- two spellings at the front of a text end at the same place
 one_end : (profile : Profile) (a b : List Ace) (s t x y bytes : List ℕ) → IsProfile profile → Xdr profile a s
     → Xdr profile b t → bytes ≡ s ++ x → bytes ≡ t ++ y → length s ≡ length t
 one_end profile a b s t x y bytes ok p q d e = ap length (one profile a b s t x y ok p q (sym d ∙ e)).1
 
+-- for one fault of a text, what is taken ends at one place
 same_end : {p : Profile} {bytes : List ℕ} {o t u : ℕ} {r : Reason} → IsProfile p → IsFirstFault p bytes o t r
     → IsFirstFault p bytes o u r → t ≡ u
 same_end {p} {r = r} ok f g =
@@ -190,7 +194,7 @@ same_end {p} {r = r} ok f g =
           omega (arith, a.1, b.1, f.ends, g.ends, no_later ok f g not_cut, no_later ok g f not_cut)
     ]
 
--- a text has one first fault, and one place where what is taken ends
+-- two first faults of a text have the same place and reason, and what is taken ends at the same place
 pub one_fault : (profile : Profile) (bytes : List ℕ) (o q t u : ℕ) (r s : Reason) → IsProfile profile
     → IsFirstFault profile bytes o t r → IsFirstFault profile bytes q u s → (o ≡ q) × (t ≡ u) × (r ≡ s)
 one_fault profile bytes o q t u r s ok f g =
@@ -199,7 +203,7 @@ one_fault profile bytes o q t u r s ok f g =
     (subst (λ (x : Reason). IsFirstFault profile bytes q u x) (sym place.1) g) in
     (place.0, same_end ok f same, place.1)
 
--- at most one fault of a text that is to be one value
+-- bytes that should be one list have at most one fault
 pub one_whole_fault : (profile : Profile) (bytes : List ℕ) (o q : ℕ) (r s : Reason) → IsProfile profile
     → IsWholeFault profile bytes o r → IsWholeFault profile bytes q s → (o ≡ q) × (r ≡ s)
 one_whole_fault profile bytes _ _ _ _ ok (of_value o r f) (of_value q s g) = one_place profile bytes o q r s ok f g
@@ -219,7 +223,7 @@ whole_or_fault profile bytes list _ _ ok x (behind b u v y e n) =
     let same : length bytes ≡ length u = one_end profile list b bytes u [] v bytes ok x y (sym (append-nil bytes)) e in
     omega (arith, same, ap length e, length-append u v, n)
 
--- the bytes behind a list are the fault
+-- if bytes follow a list, the first of them is a fault
 pub trails : (profile : Profile) (bytes : List ℕ) (list : List Ace) (len : ℕ) → len < length bytes
     → Xdr profile list (take len bytes) → IsWholeFault profile bytes len TrailingBytes
 trails profile bytes list len lt x =
@@ -237,7 +241,7 @@ module _ (p : Profile) (bytes : List ℕ) (ok : IsProfile p) where
   whole_only (Ok found) x fault list y = (one p found list bytes bytes [] [] ok x y refl).0
   whole_only (Err f) x fault list y = absurd (whole_or_fault p bytes list f.offset f.reason ok y fault)
 
-  -- a fault of the bytes is returned
+  -- bytes with a fault as a whole are refused with that fault
   pub whole_refused : (result : Result (List Ace) Fault) → IfOk result (λ list. Xdr p list bytes)
       → IfErr result (λ f. IsWholeFault p bytes f.offset f.reason) → (offset : ℕ) (r : Reason)
       → IsWholeFault p bytes offset r → result ≡ Err (record { offset = offset; reason = r })

@@ -6,10 +6,11 @@ use Rattle.acl_nfs4.proofs.xdr.Fields.{goes_to, ok_is, word_again, field_again, 
 use Rattle.acl_nfs4.proofs.xdr.Faults.{borders_after, weight-push}
 use Rattle.acl_nfs4.proofs.list.Within.{flags_lt, mask_lt}
 
--- the result of reading behind these ACEs
+-- what is read behind these ACEs, with these ACEs in front of it
 abbrev pub behind : List Ace → Result (List Ace × Place) Fault → Result (List Ace × Place) Fault
 behind list r = r >>= λ x. Ok (list ++ x.0, x.1)
 
+-- the ACE that is read, and then the others up to the count, with these ACEs in front of them
 abbrev then_others : Profile → ℕ → List Ace → Result (Ace × Place) Fault → Result (List Ace × Place) Fault
 then_others profile n list r =
     behind list (r >>= λ first. aces_at profile (n - length list - 1) (weight list + count_ones first.0.mask)
@@ -25,10 +26,11 @@ resume profile (at_len n list k f m) p = then_others profile n list (from_len k 
 resume profile (at_who n list k f m l) p = then_others profile n list (from_who k f m l p)
 resume profile (at_padding n list k f m w) p = then_others profile n list (from_padding k f m (length w) w p)
 
+-- a place, by the number of bytes before it and the bytes behind it
 abbrev place : ℕ → List ℕ → Place
 place n rest = record { at = n; rest = rest }
 
--- one more field was read
+-- if reading goes on at a border, and from there over one more field, it goes on behind that field
 moves_on : (profile : Profile) (s u : Stage) (t x rest : List ℕ)
     → read_list profile (t ++ (x ++ rest)) ≡ resume profile s (place (length t) (x ++ rest))
     → resume profile s (place (length t) (x ++ rest)) ≡ resume profile u (place (length t + length x) rest)
@@ -37,19 +39,22 @@ moves_on profile s u t x rest before step =
     ap (read_list profile) (append_assoc t x rest) ∙ before ∙ step
     ∙ ap (λ (n : ℕ). resume profile u (place n rest)) (sym (length-append t x))
 
--- the result of reading with no ACE before
+-- with no ACE in front of it, what is read stays the same
 pub behind-nil : (r : Result (List Ace × Place) Fault) → r ≡ behind [] r
 behind-nil (Ok x) = refl
 behind-nil (Err f) = refl
 
+-- an ACE in front of what is read may be the last of the ACEs in front of it
 behind-push : (list : List Ace) (a : Ace) (r : Result (List Ace × Place) Fault)
     → behind list (r >>= λ x. Ok (a ∷ x.0, x.1)) ≡ behind (list ++ a ∷ []) r
 behind-push list a (Ok x) = ap (λ (l : List Ace). Ok (l, x.1)) (sym (append_assoc list (a ∷ []) x.0))
 behind-push list a (Err f) = refl
 
+-- the padding of a who
 abbrev zeros_for : List ℕ → List ℕ
 zeros_for w = replicate (pad_len (length w)) 0
 
+-- at a border before an ACE, reading goes over the kind to the flags
 kind_step : (profile : Profile) (n : ℕ) (list : List Ace) (k : Kind) (at : ℕ) (rest : List ℕ) → length list < n
     → resume profile (at_kind n list) (place at (word (kind_number k) ++ rest))
     ≡ resume profile (at_flags n list k) (place (at + 4) rest)
@@ -60,6 +65,7 @@ kind_step profile n list k at rest lt =
     ∙ ap (then_others profile n list) (goes_to _ _ _ (word_again kind_of at (kind_number k) rest k (kind_lt k)
     (kind_again k)))
 
+-- at a border before the padding, reading goes over it to the next ACE
 padding_step : (profile : Profile) (n : ℕ) (list : List Ace) (k : Kind) (f m : ℕ) (w : List ℕ) (at : ℕ) (rest : List ℕ)
     → resume profile (at_padding n list k f m w) (place at (zeros_for w ++ rest))
     ≡ resume profile (at_kind n (list ++ record { kind = k; flags = f; mask = m; who = w } ∷ []))
@@ -78,6 +84,7 @@ padding_step profile n list k f m w at rest =
     ∙ ap (λ (c : ℕ). behind (list ++ a ∷ []) (aces_at profile (n - length (list ++ a ∷ [])) (weight (list ++ a ∷ []))
     (place (at + c) rest))) (sym len)
 
+-- reading a text whose fields up to a border are accepted goes on at the border
 resumes : (profile : Profile) (s : Stage) (t rest : List ℕ) → IsProfile profile → Border profile s t
     → read_list profile (t ++ rest) ≡ resume profile s (place (length t) rest)
 unfolding read_list
@@ -116,7 +123,7 @@ resumes profile _ _ rest ok (padded n list k f m w t b) =
     (resumes profile (at_padding n list k f m w) t (zeros_for w ++ rest) ok b)
     (padding_step profile n list k f m w (length t) rest)
 
--- a field that is cut short or refused
+-- a field that is cut short or refused fails with that reason
 pub field_breaks : {A : Type 0} (size : ℕ) (value : List ℕ → Result A Reason) (p : Place) (n : ℕ) (r : Reason)
     → ((length p.rest < size) × (n ≡ length p.rest) × (r ≡ Truncated))
     ⊎ ((size ≤ length p.rest) × (n ≡ size) × (value (take size p.rest) ≡ Err r))
@@ -128,6 +135,7 @@ field_breaks size value p n r (inr h) = rw (le-ltb (length p.rest) size h.0, h.2
 pub fails : {A B E : Type 0} (r : Result A E) (f : A → Result B E) (e : E) → r ≡ Err e → (r >>= f) ≡ Err e
 fails r f e h = rw h refl
 
+-- if the field behind a border is cut short or refused, reading fails with that fault
 breaks_is : (profile : Profile) (s : Stage) (p : Place) (n : ℕ) (r : Reason) → IsOwed s → Breaks profile s p.rest n r
     → resume profile s p ≡ Err (fault_at p r)
 unfolding aces_at ace_at
@@ -157,7 +165,7 @@ answers_fault profile bytes offset r ok fault =
     ∙ breaks_is profile f.stage (place (length f.front) f.rest) f.more r f.owed f.breaks
     ∙ ap (λ (n : ℕ). Err (record { offset = n; reason = r })) f.here
 
--- a list that was written is read again
+-- the spelling of a list is read as that list
 pub read_again : (profile : Profile) (list : List Ace) (text rest : List ℕ) → IsProfile profile → Xdr profile list text
     → read_list profile (text ++ rest) ≡ Ok (list, place (length text) rest)
 unfolding aces_at

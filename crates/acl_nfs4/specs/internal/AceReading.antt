@@ -1,6 +1,7 @@
 -- How the code reads lines of ACEs one after the other, as functions: this library's own words, which only code needs.
 -- What public clauses say about texts is in AceText and AceTextFault.
-use Rattle.std.specs.Prelude.{◌≡◌, ◌+◌, ◌≤◌, ◌==◌, ℕ, List, [], ◌∷◌, ◌++◌, length, take, drop, position, Option, None, Some, option_map, ok_or, Result, Ok, Err, nat_le, nat_lt, count_ones, if◌then◌else◌}
+use Rattle.std.specs.Prelude.{◌≡◌, ◌+◌, ◌≤◌, ◌==◌, ℕ, List, [], ◌∷◌, ◌++◌, length, take, drop, position, Option, None, Some, option_map, ok_or, Result, Ok, Err, nat_le, nat_lt, count_ones, if◌then◌else◌, map, not}
+use Rattle.std.specs.List.{enumerate_from, filter}
 use Rattle.std.specs.Option.{option_and_then}
 use Rattle.std.specs.Str.{bytes_eq}
 use Rattle.acl_perm.specs.Ascii.{space}
@@ -8,7 +9,7 @@ use Rattle.acl_perm.specs.Profile.{Profile}
 use Rattle.acl_perm.specs.declared.kind.Kind.{Kind}
 use Rattle.acl_perm.specs.declared.kind.Kind.TheVariants.{Deny, Allow}
 use Rattle.acl_nfs4.specs.Ace.{Ace}
-use Rattle.acl_nfs4.specs.AceText.{TextLine, LineFields, kind_name}
+use Rattle.acl_nfs4.specs.AceText.{TextLine, LineFields, is_skipped, kind_name, text_line}
 use Rattle.acl_nfs4.specs.AceTextFault.{flags_column, mask_column, who_column}
 use Rattle.acl_nfs4.specs.FlagNames.{flag_names}
 use Rattle.acl_nfs4.specs.Limits.{most_aces, most_weight}
@@ -44,7 +45,7 @@ unfoldable pub line_fields : List ℕ → Option LineFields
 line_fields line = option_and_then (λ kind.
     option_and_then (λ flags. last_fields kind.0 flags.0 (cut_space flags.1)) (cut_space kind.1)) (cut_space line)
 
--- the fields of code
+-- the fields of a line as code holds them, without their places in memory
 abbrev pub viewed_fields : HeldFields → LineFields
 viewed_fields fields =
     record { kind = fields.kind.now; flags = fields.flags.now; mask = fields.mask.now; who = fields.who.now }
@@ -56,12 +57,12 @@ LineFieldsFit fields line =
 
 -- ---- what a field holds
 
--- the kind of a word
+-- the kind that a word names, if it names one
 unfoldable pub kind_named : List ℕ → Option Kind
 kind_named word = if bytes_eq word (kind_name Allow) then Some Allow
     else (if bytes_eq word (kind_name Deny) then Some Deny else None)
 
--- the flags of a field
+-- the flags of a field, or the fault at this line and column
 abbrev pub read_flags : Profile → ℕ → ℕ → List ℕ → Result ℕ AceTextFault
 read_flags p line column field = ok_or (set_within flag_names p.flags field) (faults.Flag line column)
 
@@ -70,24 +71,24 @@ abbrev pub if_light : ℕ → ℕ → ℕ → ℕ → Result ℕ AceTextFault
 if_light heavy line column mask =
     if nat_lt most_weight (heavy + count_ones mask) then Err (faults.TooHeavy line column) else Ok mask
 
--- the mask of a field, after ACEs of this weight
+-- the mask of a field after ACEs of this weight, or the fault at this line and column
 abbrev pub read_mask_field : Profile → ℕ → ℕ → ℕ → List ℕ → Result ℕ AceTextFault
 read_mask_field p heavy line column field =
     ok_or (set_within rights p.masks field) (faults.Mask line column) >>= λ n. if_light heavy line column n
 
--- the fault of a who
+-- the fault of a text for the fault of a who at this line and column
 abbrev pub who_fault_at : ℕ → ℕ → WhoFault → AceTextFault
 who_fault_at line column who.Length = faults.WhoLength line column
 who_fault_at line column who.Utf8 = faults.WhoUtf8 line column
 who_fault_at line column who.Control = faults.WhoControl line column
 who_fault_at line column who.Special = faults.SpecialWho line column
 
--- bytes, unless there is a fault
+-- the bytes of a who, or its fault at this line and column
 abbrev pub who_judged : ℕ → ℕ → List ℕ → Option WhoFault → Result (List ℕ) AceTextFault
 who_judged line column bytes None = Ok bytes
 who_judged line column bytes (Some fault) = Err (who_fault_at line column fault)
 
--- the who of a field
+-- the who of a field, or its fault at this line and column
 abbrev pub read_who : ℕ → ℕ → List ℕ → Result (List ℕ) AceTextFault
 read_who line column field = who_judged line column field (who_fault field)
 
@@ -117,6 +118,11 @@ read_ace_fields p heavy line fields =
 unfoldable pub read_ace : Profile → ℕ → ℕ → ℕ → List ℕ → Result Ace AceTextFault
 read_ace p count heavy line bytes = if nat_le most_aces count then Err (faults.TooManyAces line 1)
     else (ok_or (line_fields bytes) (faults.Fields line 1) >>= λ fields. read_ace_fields p heavy line fields)
+
+-- the lines that should spell an ACE, among lines of which the first has this number
+abbrev pub ace_lines_from : ℕ → List (List ℕ) → List TextLine
+ace_lines_from number lines =
+    filter (λ line. not (is_skipped line.bytes)) (map text_line (enumerate_from number lines))
 
 -- the ACEs of lines behind a list, or the first fault
 unfoldable pub read_lines : Profile → List Ace → List TextLine → Result (List Ace) AceTextFault

@@ -22,7 +22,7 @@ front_ace bytes = record {
   who = take (front_who_len bytes) (drop 16 bytes);
 }
 
--- the first ACEs, so many, that the bytes spell
+-- the first ACEs that the bytes spell, as many as are asked for
 unfoldable pub aces_of : ℕ → List ℕ → List Ace
 aces_of zero bytes = []
 aces_of (suc n) bytes =
@@ -44,6 +44,6 @@ pub record IsList (count : ℕ) (bytes : List ℕ) : Type 0 where
   pub body : IsBody count bytes
   pub small : count ≤ most_aces
 
--- a piece is in front
+-- the bytes begin with the piece of an ACE
 abbrev pub BeginsWithAce : List ℕ → Type 0
 BeginsWithAce bytes = (a : Ace) × (more : List ℕ) × IsAce full a × (bytes ≡ piece a ++ more)

@@ -18,11 +18,11 @@ use Rattle.acl_nfs4.specs.declared.feed.scan.Progress.{Progress}
 use Rattle.acl_nfs4.specs.declared.feed.step.Stage.{Stage}
 use Rattle.acl_nfs4.specs.declared.feed.step.Stage.TheVariants.{Open, Done, Refused}
 
--- each is a byte
+-- each number is a byte
 abbrev pub IsBytes : List ℕ → Type 0
 IsBytes bytes = (i : ℕ) → get_or bytes i 0 < 256
 
--- the first word and what follows it
+-- what holds for the first word of a stream, how much of it has come, and the bytes behind it
 pub record IsText (head : List ℕ) (filled : ℕ) (body : List ℕ) : Type 0 where
   pub word : length head ≡ 4
   pub inside : filled ≤ 4
@@ -38,7 +38,7 @@ pub record IsScanned (p : Profile) (body : List ℕ) (at : Progress) : Type 0 wh
   pub total : weight list ≡ at.weight
   pub inside : at.used ≤ length body
 
--- the place behind them; the word of the count is before the body
+-- the place behind the ACEs that were judged; the word of the count is before the body
 abbrev pub behind_scanned : List ℕ → Progress → Place
 behind_scanned body at = record { at = 4 + at.used; rest = drop at.used body }
 
@@ -63,12 +63,12 @@ pub record IsWhole (p : Profile) (text : List ℕ) (at : Progress) : Type 0 wher
   pub owned : IsOwned at.seen at.weight (body_in text at)
   pub inside : 4 + at.used ≤ length text
 
--- a text begins with a value, or has this fault
+-- a text begins with the list that was seen, or has this fault
 abbrev pub Judged : Profile → List ℕ → Progress → Option Fault → Type 0
 Judged p text at None = IsWhole p text at
 Judged p text at (Some f) = IsFault p text f.offset f.reason
 
--- the fields of a feed that answers More
+-- what holds for the fields of a feed that answers More
 pub record IsUnfinished (p : Profile) (f : Fault) (at : Progress) (text : List ℕ) : Type 0 where
   pub profile : IsProfile p
   pub cut : IsFault p text f.offset f.reason
@@ -76,12 +76,12 @@ pub record IsUnfinished (p : Profile) (f : Fault) (at : Progress) (text : List �
   pub progress : IsProgress p text at
 
 -- what the fields of a feed represent
-abbrev pub standing : Profile → Stage → Progress → List ℕ → StreamState
-standing p (Open f) at text = more p text
-standing p Done at text = done (aces_of at.seen (drop 4 text))
-standing p (Refused f) at text = refused f
+abbrev pub state_of : Profile → Stage → Progress → List ℕ → StreamState
+state_of p (Open f) at text = more p text
+state_of p Done at text = done (aces_of at.seen (drop 4 text))
+state_of p (Refused f) at text = refused f
 
--- the fields of a feed
+-- what holds for the fields of a feed
 abbrev pub IsFeed : Profile → Stage → Progress → List ℕ → Type 0
 IsFeed p (Open f) at text = IsUnfinished p f at text
 IsFeed p Done at text = IsOwned at.seen at.weight (drop 4 text)

@@ -42,7 +42,7 @@ pub record IsLacking (offset size : ℕ) (piece : List ℕ) (left : Option (List
 pub record IsFilled (held size : ℕ) (old new piece : List ℕ) (before after : ℕ) : Type 0 where
   pub long : length piece ≡ size
   pub room : take (held + size) new ≡ take held old ++ piece
-  pub stands : take size (drop held new) ≡ piece
+  pub behind : take size (drop held new) ≡ piece
   pub bytes : IsBytes piece
   pub kept : after ≡ before
 

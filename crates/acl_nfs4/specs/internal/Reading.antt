@@ -48,7 +48,7 @@ abbrev pub text_fault : List ℕ → Option WhoFault
 text_fault bytes = if not (is_utf8 bytes) then Some Utf8
     else (if not (list_all is_plain bytes) then Some Control else None)
 
--- the kind of a number, if it is one
+-- the kind of a number, which must be the number of a kind
 abbrev pub kind_from : ℕ → Kind
 kind_from n = if n == 0 then Allow else Deny
 
@@ -91,37 +91,37 @@ from_padding kind flags mask len who at = do
   padding ← field (pad_len len) padding_of at
   Ok (record { kind = kind; flags = flags; mask = mask; who = who }, padding.1)
 
--- from its who on
+-- the rest of an ACE, from its who on
 abbrev pub from_who : Kind → ℕ → ℕ → ℕ → Place → Result (Ace × Place) Fault
 from_who kind flags mask len at = do
   who ← field len who_of at
   from_padding kind flags mask len who.0 who.1
 
--- from the length of its who on
+-- the rest of an ACE, from the length of its who on
 abbrev pub from_len : Kind → ℕ → ℕ → Place → Result (Ace × Place) Fault
 from_len kind flags mask at = do
   len ← word_field who_len_of at
   from_who kind flags mask len.0 len.1
 
--- from its mask on, after ACEs of this weight
+-- the rest of an ACE, from its mask on, after ACEs of this weight
 abbrev pub from_mask : Profile → ℕ → Kind → ℕ → Place → Result (Ace × Place) Fault
 from_mask p weight kind flags at = do
   mask ← word_field (mask_of p weight) at
   from_len kind flags mask.0 mask.1
 
--- from its flags on, after ACEs of this weight
+-- the rest of an ACE, from its flags on, after ACEs of this weight
 abbrev pub from_flags : Profile → ℕ → Kind → Place → Result (Ace × Place) Fault
 from_flags p weight kind at = do
   flags ← word_field (flags_of p) at
   from_mask p weight kind flags.0 flags.1
 
--- an ACE, after ACEs of this weight
+-- the ACE at a place, after ACEs of this weight
 unfoldable pub ace_at : Profile → ℕ → Place → Result (Ace × Place) Fault
 ace_at p weight at = do
   kind ← word_field kind_of at
   from_flags p weight kind.0 kind.1
 
--- so many ACEs, after ACEs of this weight
+-- so many ACEs from a place on, after ACEs of this weight
 unfoldable pub aces_at : Profile → ℕ → ℕ → Place → Result (List Ace × Place) Fault
 aces_at p zero weight at = Ok ([], at)
 aces_at p (suc n) weight at = do
@@ -129,7 +129,7 @@ aces_at p (suc n) weight at = do
   others ← aces_at p n (weight + count_ones first.0.mask) first.1
   Ok (first.0 ∷ others.0, others.1)
 
--- the value at the front, and the place behind it
+-- the list at the front of bytes, and the place behind it
 unfoldable pub read_list : Profile → List ℕ → Result (List Ace × Place) Fault
 read_list p bytes = do
   count ← word_field count_of (record { at = 0; rest = bytes })

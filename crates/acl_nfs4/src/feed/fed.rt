@@ -1,4 +1,7 @@
 //! The answer to one piece of a stream.
+ghost use Rattle.std.specs.Prelude.{◌≡◌, ◌+◌, ◌<◌, ◌^◌, ℕ};
+ghost use Rattle.acl_nfs4.specs.Stream.{further};
+ghost use Rattle.acl_nfs4.specs.declared.feed.fed.Fed.TheVariants.{Done};
 
 use crate::xdr::fault::Fault;
 
@@ -11,4 +14,20 @@ pub enum Fed {
     Done { taken: usize },
     /// The stream has this fault.
     Refused(Fault),
+}
+
+impl Fed {
+    /// Returns the answer to a piece as the answer to this number of bytes and the piece behind them.
+    pub(crate) fn behind(self, bytes: usize) -> Fed
+        requires { (taken : ℕ) → self ≡ Done taken → bytes + taken < 2 ^ 64 }
+        ensures { result ≡ further bytes self }
+    {
+        match self {
+            Fed::More => Fed::More,
+            Fed::Done { taken } => Fed::Done {
+                taken: bytes + taken,
+            },
+            Fed::Refused(fault) => Fed::Refused(fault),
+        }
+    }
 }

@@ -24,7 +24,7 @@ pub(crate) struct Reach {
 }
 
 impl Reach {
-    /// Judging ends here.
+    /// Returns that the judging ended at this fault.
     pub(crate) fn at_fault(progress: Progress, fault: Fault) -> Reach
         ensures { result ≡ record { progress = progress; fault = Some fault } }
     {
@@ -35,7 +35,7 @@ impl Reach {
     }
 }
 
-/// Judges the ACEs from there on, up to the first that is not whole or is refused.
+/// Judges the ACEs of a body behind those that were judged before, up to the first that is not whole or is refused.
 #[inline(always)]
 pub(crate) fn scan(body: &[u8], count: u32, from: Progress, profile: Profile) -> Reach
     requires scanned { IsScanned (profile_of profile) body.now from }

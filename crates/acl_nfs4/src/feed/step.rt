@@ -1,10 +1,10 @@
 //! What one more piece makes of bytes that are cut short: the list, a fault, or bytes that are still cut short.
-ghost use Rattle.std.specs.Prelude.{◌≡◌, ◌+◌, ◌≤◌, ◌<◌, ◌^◌, ◌++◌, length, take, drop};
+ghost use Rattle.std.specs.Prelude.{◌≡◌, ◌<◌, ◌^◌, length};
 ghost use Rattle.acl_perm.specs.Profile.{profile_of};
 ghost use Rattle.acl_nfs4.specs.Stream.{Feeds, IsCutShort, more};
 ghost use Rattle.acl_nfs4.specs.declared.feed.step.Stage.TheVariants.{Done, Open, Refused};
 ghost use Rattle.acl_nfs4.specs.declared.feed.fed.Fed.TheVariants as fed;
-ghost use Rattle.acl_nfs4.specs.internal.Progress.{IsFeed, IsProgress, Judged, standing};
+ghost use Rattle.acl_nfs4.specs.internal.Progress.{IsFeed, IsProgress, Judged, state_of};
 
 use crate::feed::fed::Fed;
 use crate::feed::scan::{Progress, Reach, scan};
@@ -30,7 +30,7 @@ pub(crate) struct Step {
 }
 
 impl Step {
-    // If the stream ended here, that would be a fault, but more may come.
+    // Returns the step for a stream that is cut short. If no more comes, it has this fault.
     fn open(fault: Fault, progress: Progress) -> Step
         ensures { result ≡ record { stage = Open fault; progress = progress; fed = fed.More } }
     {
@@ -41,7 +41,7 @@ impl Step {
         }
     }
 
-    // The list ends in the piece, after so many of its bytes.
+    // Returns the step for a list that ends in the piece, after `taken` bytes of it.
     fn done(taken: usize, progress: Progress) -> Step
         ensures { result ≡ record { stage = Done; progress = progress; fed = fed.Done taken } }
     {
@@ -52,7 +52,7 @@ impl Step {
         }
     }
 
-    // No list begins like this, whatever follows.
+    // Returns the step for a stream that has this fault, whatever follows.
     fn refused(fault: Fault, progress: Progress) -> Step
         ensures { result ≡ record {
           stage = Refused fault;
@@ -75,7 +75,7 @@ pub(crate) fn advance(text: &mut Text, piece: &[u8], from: Progress, profile: Pr
     requires cut { IsCutShort (profile_of profile) text.old }
     ensures feed { IsFeed (profile_of profile) result.stage result.progress text.new }
     ensures feeds { Feeds (more (profile_of profile) text.old) piece.now result.fed
-        (standing (profile_of profile) result.stage result.progress text.new) }
+        (state_of (profile_of profile) result.stage result.progress text.new) }
 {
     let before = text.len();
     match text.extend(piece) {
@@ -96,8 +96,7 @@ pub(crate) fn advance(text: &mut Text, piece: &[u8], from: Progress, profile: Pr
     }
 }
 
-// To which place the bytes are judged, if they were judged up to `from` before. So no whole ACE is judged again at each
-// piece.
+// Judges the bytes behind the ACEs that were judged before, so that no whole ACE is judged again at each piece.
 fn judge(text: &Text, from: Progress, profile: Profile) -> Reach
     requires { IsProgress (profile_of profile) text.now from }
     ensures progress { IsProgress (profile_of profile) text.now result.progress }

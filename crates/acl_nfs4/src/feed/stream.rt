@@ -1,4 +1,4 @@
-//! The bytes of a stream so far, and what is known of the list that is still arriving.
+//! The bytes of a stream so far.
 ghost use Rattle.std.specs.Prelude.{◌≡◌, ◌+◌, ◌≤◌, ◌<◌, ◌^◌, ◌↔◌, [], IsSome, IfSome, length, take, drop};
 ghost use Rattle.acl_nfs4.specs.internal.Appending.{Extended};
 ghost use Rattle.acl_nfs4.specs.Fields.{number};
@@ -8,7 +8,7 @@ use byteorder::{BigEndian, ByteOrder};
 use std::alloc::{AllocError, Global};
 use std::marker::Model;
 
-/// The first word is here, so that it takes no memory, and the bytes behind it are in a vector.
+/// The bytes of a stream so far. The first word needs no memory, and the bytes behind it are in a vector.
 #[derive(Drop)]
 pub(crate) struct Text {
     head: [u8; 4],

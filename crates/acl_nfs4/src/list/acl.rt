@@ -1,8 +1,8 @@
 //! The owned list, which is always accepted: an ACE is judged when it is added.
 ghost use Rattle.std.specs.Prelude.{◌≡◌, ◌+◌, ◌<◌, ◌≤◌, ◌↔◌, count_ones, IsTrue, IfErr, IfOk, OnOk, OnErr, None};
-ghost use Rattle.std.specs.Prelude.{[], ◌∷◌, ◌++◌, length, replicate};
+ghost use Rattle.std.specs.Prelude.{[], ◌∷◌, ◌++◌, length};
 ghost use Rattle.acl_nfs4.specs.Ace.{ace};
-ghost use Rattle.acl_nfs4.specs.Spelling.{piece, word, kind_number, IsAccepted, Fits};
+ghost use Rattle.acl_nfs4.specs.Spelling.{piece, word, IsAccepted, Fits};
 ghost use Rattle.acl_nfs4.specs.Spelling as spelled;
 ghost use Rattle.acl_nfs4.specs.Owned.{same_list};
 ghost use Rattle.acl_nfs4.specs.Push.{push_refusal, PushAnswers};
@@ -10,6 +10,7 @@ ghost use Rattle.acl_nfs4.specs.declared.list.push_fault.PushFault.TheVariants.{
 ghost use Rattle.acl_nfs4.specs.internal.Appending.{Extended};
 ghost use Rattle.acl_nfs4.specs.Limits.{most_aces, most_weight, longest_who};
 ghost use Rattle.acl_nfs4.specs.Who.{IsWho};
+ghost use Rattle.acl_perm.specs.Kind.{kind_number};
 ghost use Rattle.acl_perm.specs.Profile.{full, profile_of};
 
 use crate::ace::AceRef;
@@ -20,7 +21,7 @@ use crate::who::judge;
 use crate::xdr::encode::count_word;
 use crate::xdr::judges::pad_len;
 use crate::xdr::view::AclView;
-use acl_perm::{Kind, Profile};
+use acl_perm::Profile;
 use byteorder::{BigEndian, ByteOrder};
 use std::alloc::{AllocError, Global};
 use std::cmp::Ordering;
@@ -177,10 +178,7 @@ impl Acl {
             return Err(PushFault::TooHeavy);
         }
         judge(item.who)?;
-        match self.append(item) {
-            Ok(()) => Ok(()),
-            Err(_) => Err(PushFault::Memory),
-        }
+        Ok(self.append(item)?)
     }
 
     /// Adds an ACE at the end of a list that stays accepted with it. Fails only if memory runs out. It judges nothing:
@@ -239,21 +237,11 @@ fn head(item: &AceRef<'_>) -> [u8; 16]
         ++ word item.now.mask.bits ++ word (length item.now.who.now) }
 {
     let mut bytes = [0u8; 16];
-    BigEndian::write_u32(&mut bytes, kind_word(item.kind));
+    BigEndian::write_u32(&mut bytes, item.kind.number());
     BigEndian::write_u32(&mut bytes[4..], item.flags.bits() as u32);
     BigEndian::write_u32(&mut bytes[8..], item.mask.bits());
     BigEndian::write_u32(&mut bytes[12..], item.who.len() as u32);
     bytes
-}
-
-#[inline(always)]
-fn kind_word(kind: Kind) -> u32
-    ensures { result ≡ kind_number kind }
-{
-    match kind {
-        Kind::Allow => 0,
-        Kind::Deny => 1,
-    }
 }
 
 impl PartialEq for Acl {
@@ -281,11 +269,14 @@ impl Eq for Acl {
 impl PartialOrd for Acl {
     ghost use Rattle.std.specs.Prelude.{◌≡◌, Some};
     ghost use Rattle.std.specs.Ordering.{as_partial_cmp};
-    ghost use Rattle.acl_nfs4.specs.Owned.{list_cmp, list_partial_order};
+    ghost use Rattle.std.specs.Cmp.{on_po};
+    ghost use Rattle.std.specs.Cmp.Lexicographic.{texts_po};
+    ghost use Rattle.acl_nfs4.specs.Owned.{list_cmp};
+    ghost use Rattle.acl_nfs4.specs.Spelling.{spelling};
 
     ghost partial_cmp = { as_partial_cmp list_cmp };
 
-    ghost laws = { list_partial_order };
+    ghost laws = { on_po spelling texts_po };
 
     fn partial_cmp(&self, other: &Acl) -> Option<Ordering>
         ensures { result ≡ Some (list_cmp self.now other.now) }
@@ -296,15 +287,18 @@ impl PartialOrd for Acl {
 
 impl Ord for Acl {
     ghost use Rattle.std.specs.Prelude.{◌≡◌, refl};
-    ghost use Rattle.acl_nfs4.specs.Owned.{list_cmp, list_cmp_total, list_ties};
+    ghost use Rattle.std.specs.Cmp.{on_total};
+    ghost use Rattle.std.specs.Cmp.Lexicographic.{nat_list_cmp_total, texts_ties};
+    ghost use Rattle.acl_nfs4.specs.Owned.{list_cmp};
+    ghost use Rattle.acl_nfs4.specs.Spelling.{spelling};
 
     ghost cmp = { list_cmp };
 
-    ghost total = { list_cmp_total };
+    ghost total = { on_total spelling nat_list_cmp_total };
 
     ghost matches_partial_cmp = { λ a b. refl };
 
-    ghost matches_eq = { list_ties };
+    ghost matches_eq = { λ a b. texts_ties (spelling a) (spelling b) };
 
     #[tactic(auto, using(crate::proofs::list::Ordered::ordered))]
     fn cmp(&self, other: &Acl) -> Ordering

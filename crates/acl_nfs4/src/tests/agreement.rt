@@ -5,7 +5,8 @@ use crate::*;
 use std::alloc::{AllocError, Global};
 use std::process::Abort;
 
-fn same(alloc: Global, bytes: &[u8], first: usize) -> bool {
+// Returns whether all readers return the same fault, or each returns a list.
+fn agree(alloc: Global, bytes: &[u8], first: usize) -> bool {
     let fault = parsed(alloc, bytes).err();
     decoded(alloc, bytes, u64::MAX, 7).err() == fault && fed(alloc, bytes, first).err() == fault
 }
@@ -16,10 +17,10 @@ fn is_cut_alike(alloc: Global, len: usize) -> bool {
     let (one, _) = ONE.split_at(len.min(31));
     let (alice, _) = ALICE.split_at(len.min(27));
     let fault = fed(alloc, front, 5).err();
-    same(alloc, front, len / 2)
+    agree(alloc, front, len / 2)
         && fault.is_some_and(|fault| fault.reason == Reason::Truncated)
-        && same(alloc, one, 30)
-        && same(alloc, alice, 3)
+        && agree(alloc, one, 30)
+        && agree(alloc, alice, 3)
 }
 
 // A place, the bytes from there on, and the fault of the list with these bytes.
@@ -35,13 +36,14 @@ static REFUSED: [(usize, &[u8], u64, Reason); 9] = [
     (16, b"\0\0\0\x02\x09@\0\0", 20, Reason::WhoControl),
 ];
 
-fn told_alike(rt: &impl Abort, alloc: Global, at: usize, bytes: &[u8], told: Fault) {
+// Checks that every reader returns this fault for the list with these bytes at a place.
+fn check_fault(rt: &impl Abort, alloc: Global, at: usize, bytes: &[u8], expected: Fault) {
     let mut whole = ONE;
     for (to, from) in whole.iter_mut().skip(at).zip(bytes) {
         *to = *from;
     }
-    assert!(rt; parsed(alloc, &whole).err() == Some(told));
-    assert!(rt; same(alloc, &whole, 18), "{told:?}");
+    assert!(rt; parsed(alloc, &whole).err() == Some(expected));
+    assert!(rt; agree(alloc, &whole, 18), "{expected:?}");
 }
 
 // A list of one ACE whose who has 1,024 bytes.
@@ -58,7 +60,7 @@ mod ample {
 
     // Every beginning of a list, and the list with each of its bytes damaged in several ways.
     #[test]
-    fn reading_decoding_and_feeding_agree(rt: HostRuntime) {
+    fn parsing_decoding_and_feeding_agree(rt: HostRuntime) {
         for len in 0..72usize {
             assert!(rt; is_cut_alike(rt.alloc(), len), "{len} bytes");
         }
@@ -68,20 +70,20 @@ mod ample {
                 if let Some(at) = damaged.get_mut(place) {
                     *at = byte;
                 }
-                assert!(rt; same(rt.alloc(), &damaged, place), "{byte} at {place}");
+                assert!(rt; agree(rt.alloc(), &damaged, place), "{byte} at {place}");
             }
         }
     }
 
     // Words and names that every reader refuses at the same place, and the longest name.
     #[test]
-    fn refusals_are_told_alike(rt: HostRuntime) -> Result<(), AllocError> {
+    fn every_reader_reports_the_same_fault(rt: HostRuntime) -> Result<(), AllocError> {
         for (at, bytes, offset, reason) in REFUSED {
-            told_alike(&rt, rt.alloc(), at, bytes, fault(offset, reason));
+            check_fault(&rt, rt.alloc(), at, bytes, fault(offset, reason));
         }
         let longest = longest(rt.alloc())?;
         assert!(rt; parsed(rt.alloc(), &longest).is_ok_and(|list| list.len() == 1));
-        assert!(rt; same(rt.alloc(), &longest, 1000));
+        assert!(rt; agree(rt.alloc(), &longest, 1000));
         Ok(())
     }
 }

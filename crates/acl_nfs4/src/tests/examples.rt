@@ -1,10 +1,10 @@
-//! The examples of the doc comments. The test of each call has the lines of its example, in the same order.
+//! The examples of the doc comments. Each test has the lines of the example of one call, in the same order.
 
 use crate::*;
 use std::test::Fail;
 
 #[test]
-fn parse_whole(rt: HostRuntime) -> Result<(), Fail> {
+fn parse_whole_returns_the_list_of_the_bytes(rt: HostRuntime) -> Result<(), Fail> {
     let bytes = b"\0\0\0\x01\0\0\0\0\0\0\0\0\0\0\0\x01\0\0\0\x06OWNER@\0\0";
     let list = AclView::parse_whole(bytes)?;
     assert!(rt; list.len() == 1);
@@ -15,7 +15,7 @@ fn parse_whole(rt: HostRuntime) -> Result<(), Fail> {
 }
 
 #[test]
-fn mask(rt: HostRuntime) -> Result<(), Fail> {
+fn read_mask_returns_the_rights_that_a_field_names(rt: HostRuntime) -> Result<(), Fail> {
     let mask = read_mask(b"READ_DATA|EXECUTE").ok_or("no such right")?;
     assert!(rt; mask.bits() == 0x21);
     Ok(())
@@ -25,7 +25,7 @@ mod ample {
     use super::*;
 
     #[test]
-    fn text(rt: HostRuntime) -> Result<(), Fail> {
+    fn parse_text_returns_the_list_of_the_lines(rt: HostRuntime) -> Result<(), Fail> {
         let alloc = rt.alloc();
         let text = b"ALLOW - READ_DATA OWNER@\nDENY GROUP WRITE_DATA staff\n";
         let list = parse_text(alloc, text)?;
@@ -35,7 +35,7 @@ mod ample {
     }
 
     #[test]
-    fn push(rt: HostRuntime) -> Result<(), Fail> {
+    fn push_adds_an_ace_to_a_list(rt: HostRuntime) -> Result<(), Fail> {
         let alloc = rt.alloc();
         let mut list = Acl::new(alloc);
         let mask = read_mask(b"READ_DATA").ok_or("no such right")?;
@@ -50,7 +50,7 @@ mod ample {
     }
 
     #[test]
-    fn encode(rt: HostRuntime) -> Result<(), Fail> {
+    fn encode_writes_the_bytes_of_a_list(rt: HostRuntime) -> Result<(), Fail> {
         let alloc = rt.alloc();
         let list = parse_text(alloc, b"ALLOW - READ_DATA OWNER@")?;
         let mut room = [0u8; 28];
@@ -60,7 +60,7 @@ mod ample {
     }
 
     #[test]
-    fn from_a_source(rt: HostRuntime) -> Result<(), Fail> {
+    fn decode_reads_the_list_at_the_front_of_a_source(rt: HostRuntime) -> Result<(), Fail> {
         let alloc = rt.alloc();
         let mut source = Counted::new(b"\0\0\0\0 and more".as_slice());
         let list = decode(alloc, &mut source)?;
@@ -69,7 +69,7 @@ mod ample {
     }
 
     #[test]
-    fn in_pieces(rt: HostRuntime) -> Result<(), Fail> {
+    fn a_feed_takes_a_list_in_pieces(rt: HostRuntime) -> Result<(), Fail> {
         let alloc = rt.alloc();
         let mut feed = Feed::new(alloc);
         assert!(rt; feed.feed(&[0, 0]) == Fed::More);

@@ -5,7 +5,7 @@ use crate::*;
 use std::alloc::{AllocError, Global};
 use std::process::Abort;
 
-fn in_two_pieces(rt: &impl Abort, alloc: Global, first: usize, list: &Acl) {
+fn feed_two_pieces(rt: &impl Abort, alloc: Global, first: usize, list: &Acl) {
     let mut feed = Feed::new(alloc);
     let (front, back) = THREE.split_at(first.min(72));
     let taken = 72usize.saturating_sub(first);
@@ -15,7 +15,7 @@ fn in_two_pieces(rt: &impl Abort, alloc: Global, first: usize, list: &Acl) {
     assert!(rt; feed.finish().is_ok_and(|fed| fed == *list));
 }
 
-fn byte_by_byte(rt: &impl Abort, alloc: Global, list: &Acl) {
+fn feed_byte_by_byte(rt: &impl Abort, alloc: Global, list: &Acl) {
     let mut feed = Feed::new(alloc);
     for (place, byte) in THREE.chunks(1).enumerate() {
         let last = Fed::Done { taken: 1 };
@@ -24,7 +24,7 @@ fn byte_by_byte(rt: &impl Abort, alloc: Global, list: &Acl) {
     assert!(rt; feed.finish().is_ok_and(|fed| fed == *list));
 }
 
-fn done_within_a_piece(rt: &impl Abort, alloc: Global) {
+fn feed_past_the_end(rt: &impl Abort, alloc: Global) {
     let mut feed = Feed::new(alloc);
     let (front, _) = ONE.split_at(30);
     assert!(rt; feed.feed(&[]) == Fed::More);
@@ -75,14 +75,14 @@ fn fed_in_pieces(alloc: Global, bytes: &[u8], size: usize) -> Result<Acl, Fault>
 
 // After a request for memory was refused, the feed returns Memory from then on.
 #[test]
-fn a_feed_keeps_its_want_of_memory(rt: HostRuntime) {
+fn a_feed_that_ran_out_of_memory_stays_refused(rt: HostRuntime) {
     let mut feed = Feed::new(rt.alloc());
     match feed.feed(&THREE) {
         Fed::Done { taken } => assert!(rt; taken == 72),
-        Fed::Refused(told) => {
-            assert!(rt; told == fault(0, Reason::Memory));
-            assert!(rt; feed.feed(&THREE) == Fed::Refused(told));
-            assert!(rt; feed.finish().err() == Some(told));
+        Fed::Refused(found) => {
+            assert!(rt; found == fault(0, Reason::Memory));
+            assert!(rt; feed.feed(&THREE) == Fed::Refused(found));
+            assert!(rt; feed.finish().err() == Some(found));
         }
         Fed::More => assert!(rt; false),
     }
@@ -93,20 +93,20 @@ mod ample {
 
     // However a list is cut, the feed returns how many bytes belong to it, and later pieces change nothing.
     #[test]
-    fn lists_are_fed_in_any_two_pieces(rt: HostRuntime) -> Result<(), Fault> {
+    fn a_list_may_be_cut_into_any_two_pieces(rt: HostRuntime) -> Result<(), Fault> {
         let list = parsed(rt.alloc(), &THREE)?;
         for first in 0..72usize {
-            in_two_pieces(&rt, rt.alloc(), first, &list);
+            feed_two_pieces(&rt, rt.alloc(), first, &list);
         }
-        byte_by_byte(&rt, rt.alloc(), &list);
+        feed_byte_by_byte(&rt, rt.alloc(), &list);
         Ok(())
     }
 
     #[test]
-    fn pieces_are_answered(rt: HostRuntime) {
-        done_within_a_piece(&rt, rt.alloc());
-        let told = fed_to_padding(&rt, rt.alloc()).finish().err();
-        assert!(rt; told == Some(fault(29, Reason::Truncated)));
+    fn a_feed_reports_the_end_of_a_list_and_a_fault(rt: HostRuntime) {
+        feed_past_the_end(&rt, rt.alloc());
+        let found = fed_to_padding(&rt, rt.alloc()).finish().err();
+        assert!(rt; found == Some(fault(29, Reason::Truncated)));
         let mut feed = fed_to_padding(&rt, rt.alloc());
         let padding = fault(29, Reason::Padding);
         assert!(rt; feed.feed(&[0, 0]) == Fed::Refused(padding));
@@ -117,7 +117,7 @@ mod ample {
     }
 
     #[test]
-    fn lists_are_fed_narrowly_in_any_two_pieces(rt: HostRuntime) {
+    fn a_list_of_the_narrow_profile_may_be_cut_into_any_two_pieces(rt: HostRuntime) {
         for first in 0..=72usize {
             let fed = fed_narrowly(rt.alloc(), &THREE, first);
             assert!(rt; same_list(fed, parsed(rt.alloc(), &THREE)), "{first}");
@@ -126,7 +126,7 @@ mod ample {
 
     // Pieces that are about as long as the chunk that a feed takes at once.
     #[test]
-    fn lists_are_fed_in_large_pieces(rt: HostRuntime) -> Result<(), AllocError> {
+    fn a_list_may_be_cut_into_large_pieces(rt: HostRuntime) -> Result<(), AllocError> {
         let bytes = many(rt.alloc(), 600, 0)?;
         for size in [4_095, 4_096, 4_097, 8_192, 16_000usize] {
             let fed = fed_in_pieces(rt.alloc(), &bytes, size);
@@ -137,7 +137,7 @@ mod ample {
 
     // If a piece goes on behind the list, the feed keeps little more than the list. The requested memory is counted.
     #[test]
-    fn large_pieces_are_not_kept(rt: HostRuntime) -> Result<(), AllocError> {
+    fn bytes_behind_a_list_are_not_kept(rt: HostRuntime) -> Result<(), AllocError> {
         let bytes = many(rt.alloc(), 200, 1_000)?;
         let mut feed = Feed::new(rt.alloc());
         assert!(rt; feed.feed(&bytes) == Fed::Done { taken: 4_804 });

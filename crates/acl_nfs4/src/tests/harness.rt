@@ -13,7 +13,11 @@ pub fn kept<T>(answer: Result<T, AllocError>) -> Result<T, PushFault> {
 }
 
 /// Returns whether the message of a fault is this line.
-pub fn is_told<F: Display>(alloc: Global, fault: &F, line: &str) -> Result<bool, PushFault> {
-    let told = kept(fault.to_string(alloc))?;
-    Ok(told.as_str() == line)
+pub fn is_displayed_as<F: Display>(
+    alloc: Global,
+    fault: &F,
+    line: &str,
+) -> Result<bool, PushFault> {
+    let displayed = kept(fault.to_string(alloc))?;
+    Ok(displayed.as_str() == line)
 }

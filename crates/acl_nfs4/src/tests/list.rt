@@ -1,7 +1,9 @@
 //! Owned lists: copies of lists and of views, their order, and the profiles that they fit.
 
-use super::harness::{is_told, kept};
-use super::rows::{Row, append_ace, append_word, built, copied, item, repeated, shows, spelled};
+use super::harness::{is_displayed_as, kept};
+use super::rows::{
+    Row, append_ace, append_word, built, check_copy, item, repeated, shows, spelled,
+};
 use crate::*;
 use std::alloc::{AllocError, Global};
 use std::process::Abort;
@@ -33,7 +35,7 @@ static LISTS: [&[Row]; 14] = [
 ];
 
 // Returns whether every way through a list gives these rows, and their number.
-fn is_gone_through(list: &Acl, rows: &[Row]) -> bool {
+fn gives_rows(list: &Acl, rows: &[Row]) -> bool {
     let aces = list.into_iter();
     let again: Result<_, _> = aces.clone();
     aces.len() == rows.len() && shows(aces, rows) && again.is_ok_and(|again| shows(again, rows))
@@ -46,7 +48,7 @@ pub fn a_copy_is_the_same_list(rt: &impl Abort, alloc: Global) -> Result<(), Pus
         let copy = kept(list.copy(alloc))?;
         assert!(rt; copy == list);
         assert!(rt; shows(copy.aces(), rows));
-        assert!(rt; is_gone_through(&list, rows));
+        assert!(rt; gives_rows(&list, rows));
     }
     Ok(())
 }
@@ -70,7 +72,7 @@ fn are_spelled(
     Ok(view.to_bytes(alloc)?.as_slice() == bytes && list.to_bytes(alloc)?.as_slice() == bytes)
 }
 
-fn viewed(
+fn check_view(
     rt: &impl Abort,
     alloc: Global,
     rows: &[Row],
@@ -103,7 +105,7 @@ pub fn a_list_from_a_view_is_what_the_view_shows(
     for rows in LISTS {
         let bytes = kept(spelled(alloc, rows))?;
         let expected = built(alloc, rows)?;
-        viewed(rt, alloc, rows, &bytes, &expected)?;
+        check_view(rt, alloc, rows, &bytes, &expected)?;
     }
     Ok(())
 }
@@ -154,7 +156,7 @@ pub fn an_ace_is_shown_as_its_line(rt: &impl Abort, alloc: Global) -> Result<(),
         let Some(ace) = item(row) else {
             return Ok(());
         };
-        assert!(rt; is_told(alloc, &ace, line)?, "{line}");
+        assert!(rt; is_displayed_as(alloc, &ace, line)?, "{line}");
         assert!(rt; item(row) == Some(ace));
     }
     Ok(())
@@ -174,7 +176,7 @@ static PRINCIPALS: [(Principal<'static>, &str); 6] = [
 pub fn a_principal_is_shown_as_its_who(rt: &impl Abort, alloc: Global) -> Result<(), PushFault> {
     for (principal, who) in PRINCIPALS {
         let name = PrincipalName { principal };
-        assert!(rt; is_told(alloc, &name, who)?, "{who}");
+        assert!(rt; is_displayed_as(alloc, &name, who)?, "{who}");
     }
     Ok(())
 }
@@ -256,7 +258,7 @@ mod ample {
     fn a_list_grows_past_a_megabyte(rt: HostRuntime) -> Result<(), PushFault> {
         let list = repeated(rt.alloc(), 1_100, (Kind::Allow, 0, 0, &[b'a'; 1024]))?;
         assert!(rt; list.len() == 1_100);
-        assert!(rt; copied(&rt, rt.alloc(), &list).is_ok());
+        assert!(rt; check_copy(&rt, rt.alloc(), &list).is_ok());
         Ok(())
     }
 }

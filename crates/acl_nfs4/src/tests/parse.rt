@@ -1,6 +1,6 @@
 //! Bytes that spell a list, and bytes that have a fault.
 
-use super::harness::{is_told, kept};
+use super::harness::{is_displayed_as, kept};
 use crate::*;
 use std::alloc::{AllocError, Global};
 use std::process::Abort;
@@ -27,7 +27,7 @@ fn with(at: usize, bytes: &[u8]) -> [u8; 44] {
     whole
 }
 
-fn read_one(rt: &impl Abort, list: &AclView<'_>) {
+fn check_one(rt: &impl Abort, list: &AclView<'_>) {
     let mut aces = list.aces();
     let Some(ace) = aces.next() else {
         assert!(rt; false, "one ACE");
@@ -40,13 +40,13 @@ fn read_one(rt: &impl Abort, list: &AclView<'_>) {
 }
 
 #[test]
-fn lists_are_found(rt: HostRuntime) -> Result<(), Fault> {
+fn a_list_at_the_front_is_found(rt: HostRuntime) -> Result<(), Fault> {
     let (empty, len) = AclView::parse(&[0, 0, 0, 0, 9])?;
     assert!(rt; len == 4);
     assert!(rt; empty.aces().next().is_none());
     let (list, len) = AclView::parse(&ONE)?;
     assert!(rt; len == 32);
-    read_one(&rt, &list);
+    check_one(&rt, &list);
     Ok(())
 }
 
@@ -68,7 +68,7 @@ static DAMAGED: [(usize, &[u8], u64, Reason); 12] = [
 
 // Each reason for which a field is refused, at the first byte of the field.
 #[test]
-fn faults_stand_where_they_should(rt: HostRuntime) {
+fn each_fault_is_reported_at_the_first_byte_of_its_field(rt: HostRuntime) {
     for (at, bytes, offset, reason) in DAMAGED {
         let found = AclView::parse(&with(at, bytes)).err();
         assert!(rt; found == fault(offset, reason), "{reason:?}");
@@ -91,7 +91,7 @@ fn cut_at(length: usize) -> u64 {
 
 // The list is cut short at each length, and has one byte more.
 #[test]
-fn a_list_that_is_cut_is_truncated(rt: HostRuntime) {
+fn a_list_that_is_cut_short_is_refused_as_truncated(rt: HostRuntime) {
     for length in 0..32usize {
         let (cut, _) = ONE.split_at(length);
         let truncated = fault(cut_at(length), Reason::Truncated);
@@ -118,7 +118,13 @@ fn repeated(alloc: Global, count: u32, mask: u32) -> Result<Vec<u8>, AllocError>
 }
 
 // Checks the answer for a list that has this many ACEs with one mask.
-fn weighed(rt: &impl Abort, bytes: &[u8], profile: Profile, count: u32, expected: Option<Fault>) {
+fn check_weight(
+    rt: &impl Abort,
+    bytes: &[u8],
+    profile: Profile,
+    count: u32,
+    expected: Option<Fault>,
+) {
     let found = AclView::parse_whole_with(bytes, profile);
     assert!(rt;
         expected.is_some() || found.is_ok_and(|view| view.aces().count() == count as usize)
@@ -152,7 +158,7 @@ pub fn the_weight_of_a_list_is_limited(rt: &impl Abort, alloc: Global) -> Result
         ),
     ] {
         let bytes = kept(repeated(alloc, count, mask))?;
-        weighed(rt, &bytes, profile, count, expected);
+        check_weight(rt, &bytes, profile, count, expected);
     }
     Ok(())
 }
@@ -226,10 +232,13 @@ mod ample {
     use super::*;
 
     #[test]
-    fn each_fault_has_its_line(rt: HostRuntime) {
+    fn each_fault_has_its_message(rt: HostRuntime) {
         for (reason, line) in LINES {
             let fault = Fault { offset: 7, reason };
-            assert!(rt; is_told(rt.alloc(), &fault, line) == Ok(true), "{line}");
+            assert!(rt;
+                is_displayed_as(rt.alloc(), &fault, line) == Ok(true),
+                "{line}"
+            );
         }
     }
 }

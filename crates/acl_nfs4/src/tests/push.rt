@@ -1,14 +1,14 @@
 //! The answers when an ACE is pushed.
 
-use super::harness::is_told;
-use super::rows::{EVERYONE, built, copied, item, repeated, shows};
+use super::harness::is_displayed_as;
+use super::rows::{EVERYONE, built, check_copy, item, repeated, shows};
 use crate::PushFault::{Memory, SpecialWho, TooHeavy, TooManyAces, WhoControl, WhoLength, WhoUtf8};
 use crate::*;
 use std::alloc::Global;
 use std::process::Abort;
 
 // Pushes an ACE with this mask and who, and checks the answer and the list after it.
-fn pushed(
+fn check_push(
     rt: &impl Abort,
     alloc: Global,
     mask: u32,
@@ -44,22 +44,22 @@ pub fn a_push_is_judged_by_its_who(rt: &impl Abort, alloc: Global) -> Result<(),
         (b"OWNER@", Ok(())),
     ];
     for (who, answer) in rows {
-        pushed(rt, alloc, 1, who, answer)?;
+        check_push(rt, alloc, 1, who, answer)?;
     }
     Ok(())
 }
 
 // Returns the answer of a list to an ACE with this mask and an empty who.
-fn pushed_nameless(list: &mut Acl, mask: u32) -> Option<Result<(), PushFault>> {
+fn push_nameless(list: &mut Acl, mask: u32) -> Option<Result<(), PushFault>> {
     let ace = item((Kind::Allow, 0, mask, b""))?;
     Some(list.push(ace))
 }
 
-fn heavy_list(rt: &impl Abort, alloc: Global) -> Result<(), PushFault> {
+fn check_heavy_list(rt: &impl Abort, alloc: Global) -> Result<(), PushFault> {
     let mut heavy = repeated(alloc, 4_096, (Kind::Allow, 0, 0x001f_07ff, b"a"))?;
     assert!(rt; heavy.weight() == 65_536);
-    assert!(rt; pushed_nameless(&mut heavy, 1) == Some(Err(TooHeavy)));
-    assert!(rt; pushed_nameless(&mut heavy, 0) == Some(Err(WhoLength)));
+    assert!(rt; push_nameless(&mut heavy, 1) == Some(Err(TooHeavy)));
+    assert!(rt; push_nameless(&mut heavy, 0) == Some(Err(WhoLength)));
     assert!(rt; heavy.len() == 4_096);
     Ok(())
 }
@@ -81,17 +81,20 @@ mod ample {
     #[test]
     fn a_full_list_takes_no_more(rt: HostRuntime) -> Result<(), PushFault> {
         let mut list = repeated(rt.alloc(), 65_536, (Kind::Allow, 0, 0, b"a"))?;
-        assert!(rt; pushed_nameless(&mut list, 1) == Some(Err(TooManyAces)));
+        assert!(rt; push_nameless(&mut list, 1) == Some(Err(TooManyAces)));
         assert!(rt; list.len() == 65_536);
         assert!(rt; list.weight() == 0);
-        assert!(rt; copied(&rt, rt.alloc(), &list).is_ok());
-        heavy_list(&rt, rt.alloc())
+        assert!(rt; check_copy(&rt, rt.alloc(), &list).is_ok());
+        check_heavy_list(&rt, rt.alloc())
     }
 
     #[test]
-    fn each_refusal_has_its_line(rt: HostRuntime) {
+    fn each_refusal_has_its_message(rt: HostRuntime) {
         for (fault, line) in LINES {
-            assert!(rt; is_told(rt.alloc(), &fault, line) == Ok(true), "{line}");
+            assert!(rt;
+                is_displayed_as(rt.alloc(), &fault, line) == Ok(true),
+                "{line}"
+            );
         }
     }
 }

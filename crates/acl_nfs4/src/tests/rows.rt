@@ -97,7 +97,7 @@ pub fn repeated(alloc: Global, count: u32, row: Row) -> Result<Acl, PushFault> {
 }
 
 /// Checks that a copy of a list is the same list.
-pub fn copied(rt: &impl Abort, alloc: Global, list: &Acl) -> Result<(), AllocError> {
+pub fn check_copy(rt: &impl Abort, alloc: Global, list: &Acl) -> Result<(), AllocError> {
     let copy = list.copy(alloc)?;
     assert!(rt; copy == *list);
     Ok(())

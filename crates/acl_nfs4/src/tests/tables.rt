@@ -20,7 +20,7 @@ fn tables(rt: &impl Abort, alloc: Global) -> Result<(), PushFault> {
 }
 
 #[test]
-fn each_table_holds_or_memory_is_wanting(rt: HostRuntime) {
+fn each_table_holds_unless_memory_runs_out(rt: HostRuntime) {
     assert!(rt; matches!(tables(&rt, rt.alloc()), Ok(()) | Err(PushFault::Memory)));
 }
 
@@ -28,7 +28,7 @@ mod ample {
     use super::*;
 
     #[test]
-    fn each_table_holds(rt: HostRuntime) {
+    fn each_table_holds_with_ample_memory(rt: HostRuntime) {
         assert!(rt; tables(&rt, rt.alloc()) == Ok(()));
     }
 }

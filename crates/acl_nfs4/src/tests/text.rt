@@ -1,6 +1,6 @@
 //! Texts that spell a list, and texts that have a fault.
 
-use super::harness::is_told;
+use super::harness::{is_displayed_as, kept};
 use crate::*;
 use std::alloc::{AllocError, Global};
 use std::process::Abort;
@@ -105,7 +105,10 @@ fn is_written(list: &Acl, text: &[u8]) -> bool {
 // Returns whether a text spells the list with this written text, or memory ran out.
 fn spells(alloc: Global, text: &[u8], written: &[u8]) -> Result<bool, PushFault> {
     match parse_text(alloc, text) {
-        Ok(list) => Ok(is_written(&list, written)),
+        Ok(list) => {
+            let returned = kept(list.to_text(alloc))?;
+            Ok(is_written(&list, written) && returned.as_slice() == written)
+        }
         Err(AceTextFault::Memory) => Err(PushFault::Memory),
         Err(_) => Ok(false),
     }
@@ -116,7 +119,7 @@ fn is_refused(alloc: Global, text: &[u8], line: &str) -> Result<bool, PushFault>
     match parse_text(alloc, text) {
         Ok(_) => Ok(false),
         Err(AceTextFault::Memory) => Err(PushFault::Memory),
-        Err(fault) => is_told(alloc, &fault, line),
+        Err(fault) => is_displayed_as(alloc, &fault, line),
     }
 }
 
@@ -146,7 +149,7 @@ fn spelled_within(alloc: Global, text: &[u8], profile: Profile) -> Result<usize,
 
 // In a buffer of n bytes the fault has n, and the buffer holds the first n bytes of the text.
 #[test]
-fn each_write_of_a_text_fails_in_turn(rt: HostRuntime) {
+fn a_text_is_written_up_to_the_failure(rt: HostRuntime) {
     let text = b"ALLOW DIR|GROUP READ_DATA|WRITE_DATA  two words \nDENY - - a\n".as_slice();
     let Ok(list) = parse_text(rt.alloc(), text) else {
         return;
@@ -251,7 +254,7 @@ mod ample {
     }
 
     #[test]
-    fn lines_pass_4096_bytes(rt: HostRuntime) {
+    fn a_line_may_be_longer_than_4096_bytes(rt: HostRuntime) {
         for row in LONG_LINES {
             assert!(rt; is_long(rt.alloc(), row) == Ok(true), "{}", row.3);
         }

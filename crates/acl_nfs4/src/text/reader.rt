@@ -2,8 +2,8 @@
 ghost use Rattle.std.specs.Prelude.{◌≡◌, ◌⊎◌, ◌+◌, ◌∷◌, [], ℕ, IfErr, IfOk, List, MatchResult, Ok};
 ghost use Rattle.acl_perm.specs.Profile.{full, profile_of};
 ghost use Rattle.acl_nfs4.specs.Ace.{Ace};
-ghost use Rattle.acl_nfs4.specs.internal.AceReading.{read_lines, FailsAs};
-ghost use Rattle.acl_nfs4.specs.AceText.{IsAceText, ace_lines, ace_lines_from};
+ghost use Rattle.acl_nfs4.specs.internal.AceReading.{ace_lines_from, read_lines, FailsAs};
+ghost use Rattle.acl_nfs4.specs.AceText.{IsAceText, ace_lines};
 ghost use Rattle.acl_nfs4.specs.AceTextFault.{IsAceTextFault, IsTextRefusal};
 ghost use Rattle.acl_nfs4.specs.declared.text.fault.AceTextFault.{AceTextFault as FaultValue};
 ghost use Rattle.acl_nfs4.specs.declared.text.fault.AceTextFault.TheVariants.{Memory};
@@ -15,7 +15,7 @@ use acl_perm::Profile;
 use acl_perm::internal::cut_line;
 use std::alloc::Global;
 
-/// Returns the list that a text spells: one line per ACE, `TYPE FLAGS MASK WHO`, with one space between the fields. It
+/// Returns the list that a text spells: one line per ACE, `KIND FLAGS MASK WHO`, with one space between the fields. It
 /// skips lines of blanks and lines that begin with `#`. A text that spells no list is refused because of its first
 /// wrong line. Time linear in the text, and one growing list.
 ///
@@ -87,8 +87,5 @@ fn add_line(acl: &mut Acl, line: &[u8], number: usize, profile: Profile) -> Resu
         return Ok(());
     }
     let item = read_ace(line, number, acl.len(), acl.weight(), profile)?;
-    match acl.append(item) {
-        Ok(()) => Ok(()),
-        Err(_) => Err(AceTextFault::Memory),
-    }
+    Ok(acl.append(item)?)
 }

@@ -1,5 +1,5 @@
-//! Writes the text of a list to a sink. Each line is made in a buffer of its own, without memory.
-ghost use Rattle.std.specs.Prelude.{◌≡◌, ◌+◌, ◌*◌, ◌^◌, ◌<◌, ◌≤◌, ◌++◌, ◌↔◌, OnErr, OnOk, List, length, true};
+//! Writes the text of a list to a sink, line by line without memory, or into memory.
+ghost use Rattle.std.specs.Prelude.{◌≡◌, ◌+◌, ◌*◌, ◌≤◌, ◌++◌, ◌↔◌, IfOk, OnErr, OnOk, List, length, true};
 ghost use Rattle.std.specs.List.{join_with_byte, list_all};
 ghost use Rattle.arrayvec.specs.ArrayVec.{array_vec_len};
 ghost use Rattle.acl_perm.specs.Devices.{one_more};
@@ -17,8 +17,9 @@ use crate::list::acl::Acl;
 use crate::names::flag_names::FLAGS;
 use crate::xdr::view::AclView;
 use acl_perm::internal::{BitName, RIGHTS, put_next};
-use acl_perm::{Kind, Sink, WriteFault};
+use acl_perm::{Counted, Kind, Sink, WriteFault};
 use arrayvec::ArrayVec;
+use std::alloc::{AllocError, Global};
 
 /// Room for a line: a kind, all flags, all rights, the longest who, and the bytes between them.
 pub type Line = ArrayVec<u8, LINE_ROOM>;
@@ -26,6 +27,18 @@ pub type Line = ArrayVec<u8, LINE_ROOM>;
 pub const LINE_ROOM: usize = 1600;
 
 impl Acl {
+    /// Returns the text of the list, which `write_text` writes, in time linear in the text. Fails only if memory runs
+    /// out.
+    pub fn to_text(&self, alloc: Global) -> Result<Vec<u8>, AllocError>
+        ensures { IfOk result (λ text. text.items ≡ ace_text self.now) }
+    {
+        let mut text = Counted::new(Vec::new(alloc));
+        match self.write_text(&mut text) {
+            Ok(()) => Ok(text.into_inner()),
+            Err(_) => Err(AllocError),
+        }
+    }
+
     /// Writes the text of the list: one line per ACE, with the names of its flags and rights in ascending order of
     /// their bits. It ends at the first put that fails: then `written` bytes went out. It tries nothing again. No
     /// memory; time linear in the text.
@@ -51,10 +64,8 @@ impl<'a> AclView<'a> {
         ensures again { (other : List Ace) → IsAceText full other (ace_text self.now)
             ↔ (other ≡ self.now) }
     {
-        match put_lines(sink, self.aces()) {
-            Ok(_) => Ok(()),
-            Err(fault) => Err(fault),
-        }
+        put_lines(sink, self.aces())?;
+        Ok(())
     }
 }
 
@@ -70,10 +81,7 @@ fn put_lines<S: Sink>(sink: &mut S, aces: Aces<'_>) -> Result<u64, WriteFault>
     let mut done = 0;
     for ace in aces {
         fill(&mut line, ace);
-        match put_next(sink, done, &line) {
-            Ok(count) => done = count,
-            Err(fault) => return Err(fault),
-        }
+        done = put_next(sink, done, &line)?;
     }
     Ok(done)
 }

@@ -13,7 +13,7 @@ ghost use Rattle.acl_nfs4.specs.declared.xdr.fault.Reason.TheVariants.{Read};
 ghost use Rattle.acl_nfs4.specs.Stream.{Decodes, FaultsOrFails, IsOrFails};
 
 use crate::list::acl::Acl;
-use crate::xdr::fault::{Fault, Reason};
+use crate::xdr::fault::Fault;
 use crate::xdr::judges;
 use crate::xdr::pulling::{LONGEST_ACE, NextAce, pull_ace, word};
 use crate::xdr::reading::placed;
@@ -102,10 +102,8 @@ fn read_value<S: Source>(alloc: Global, source: &mut S, profile: Profile) -> Res
             profile,
         };
         let ace = pull_ace(source, &mut room, next)?;
-        match body.extend_from_slice(&room[..ace.len]) {
-            Ok(()) => weight += ace.bits,
-            Err(_) => return Err(Fault::at_front(Reason::Memory)),
-        }
+        body.extend_from_slice(&room[..ace.len])?;
+        weight += ace.bits;
     }
     Ok(Acl {
         count,

@@ -14,7 +14,7 @@ use crate::xdr::fault::Reason;
 use acl_perm::{Flags, Kind, Mask, Profile};
 use byteorder::{ByteOrder, LittleEndian};
 
-/// The number of ACEs.
+/// Returns the number of ACEs, or why it is refused.
 #[inline(always)]
 pub(crate) fn count_of(number: u32) -> Result<u32, Reason>
     ensures exact { Gives (λ x. x) result (count_of number) }
@@ -26,7 +26,7 @@ pub(crate) fn count_of(number: u32) -> Result<u32, Reason>
     Ok(number)
 }
 
-/// The kind.
+/// Returns the kind that a number stands for, or why it is refused.
 #[inline(always)]
 pub(crate) fn kind_of(number: u32) -> Result<Kind, Reason>
     ensures { Gives (λ x. x) result (kind_of number) }
@@ -39,7 +39,7 @@ pub(crate) fn kind_of(number: u32) -> Result<Kind, Reason>
     }
 }
 
-/// The flags.
+/// Returns the flags, or why they are refused.
 #[tactic(auto, using(crate::proofs::list::Within::within))]
 #[inline(always)]
 pub(crate) fn flags_of(number: u32, profile: Profile) -> Result<Flags, Reason>
@@ -51,7 +51,7 @@ pub(crate) fn flags_of(number: u32, profile: Profile) -> Result<Flags, Reason>
     Ok(Flags { bits: number as u8 })
 }
 
-/// The mask, after ACEs of this weight.
+/// Returns the mask, or why it is refused after ACEs of this weight.
 #[tactic(auto, using(crate::proofs::list::Within::within))]
 #[inline(always)]
 pub(crate) fn mask_of(number: u32, weight: u32, profile: Profile) -> Result<Mask, Reason>
@@ -68,7 +68,7 @@ pub(crate) fn mask_of(number: u32, weight: u32, profile: Profile) -> Result<Mask
     Ok(Mask { bits: number })
 }
 
-/// The length of the who.
+/// Returns the length of the who, or why it is refused.
 #[inline(always)]
 pub(crate) fn who_len_of(number: u32) -> Result<usize, Reason>
     ensures exact { Gives (λ x. x) result (who_len_of number) }
@@ -81,7 +81,7 @@ pub(crate) fn who_len_of(number: u32) -> Result<usize, Reason>
     Ok(len)
 }
 
-/// The who, of a length that a who may have.
+/// Returns the who, or why it is refused. Its length is already judged.
 #[inline(always)]
 pub(crate) fn who_of(bytes: &[u8]) -> Result<&[u8], Reason>
     requires { is_no_who_len (length bytes.now) ≡ false }
@@ -113,7 +113,7 @@ pub(crate) fn pad_len(len: usize) -> usize
     (4 - len % 4) % 4
 }
 
-/// The padding.
+/// Refuses padding with a byte that is not zero.
 #[inline(always)]
 pub(crate) fn padding_of(bytes: &[u8]) -> Result<(), Reason>
     ensures { Gives (λ x. x) result (padding_of bytes.now) }
@@ -132,7 +132,7 @@ fn is_zero(bytes: &[u8]) -> bool
     bytes.iter().all(|byte| *byte == 0)
 }
 
-/// Whether the first `n` bytes are zero, by the word that they begin. `true` is certain.
+/// Returns whether the first `n` bytes are zero, by a test of the first word. `true` is certain.
 #[inline(always)]
 pub(crate) fn begins_zero(bytes: &[u8], n: usize) -> bool
     requires word { 4 ≤ length bytes.now }
@@ -142,7 +142,7 @@ pub(crate) fn begins_zero(bytes: &[u8], n: usize) -> bool
     LittleEndian::read_u32(bytes) & low_bytes(n) == 0
 }
 
-// All bits of the lowest `n` bytes of a word.
+// Returns the word in which all bits of the lowest `n` bytes are set.
 #[inline(always)]
 fn low_bytes(n: usize) -> u32
     requires { n ≤ 3 }

@@ -1,9 +1,9 @@
 //! Reads the fields of a list in memory, one after the other, and gives the offset of a field that is refused.
-ghost use Rattle.std.specs.Prelude.{◌≡◌, ℕ, ◌+◌, ◌-◌, ◌<◌, ◌≤◌, ◌^◌, length, Ok, IfOk, IfSome, count_ones, false};
+ghost use Rattle.std.specs.Prelude.{◌≡◌, ◌+◌, ◌≤◌, Ok, IfOk, IfSome, count_ones, false};
 ghost use Rattle.acl_perm.specs.Profile.{profile_of};
 ghost use Rattle.acl_nfs4.specs.Fields.{kind_of, flags_of, mask_of, who_len_of, who_of, padding_of};
 ghost use Rattle.acl_nfs4.specs.Limits.{most_weight};
-ghost use Rattle.acl_nfs4.specs.internal.Reading.{Gives, Place, Placed, field, word_field, ace_at};
+ghost use Rattle.acl_nfs4.specs.internal.Reading.{Gives, Placed, field, word_field, ace_at};
 ghost use Rattle.acl_nfs4.specs.Spelling.{pad_len};
 ghost use Rattle.acl_nfs4.specs.Who.{is_no_who_len};
 ghost use Rattle.acl_nfs4.specs.internal.Cursor.{place};
@@ -17,8 +17,8 @@ use crate::xdr::judges::{self, begins_zero, pad_len};
 use acl_perm::{Flags, Kind, Mask, Profile};
 use byteorder::{BigEndian, ByteOrder};
 
-// The next ACE. Most are plain, and their fields are read at one go. Any other is judged field by field, which also says
-// what refuses it.
+// Reads the next ACE. `plain_ace` reads most ACEs. Any other ACE is judged field by field, which also says which field
+// is refused.
 #[inline(always)]
 pub(crate) fn next_ace<'a>(
     cursor: &mut Cursor<'a>,
@@ -42,8 +42,8 @@ pub(crate) fn next_ace<'a>(
     Ok(ace)
 }
 
-// The next ACE where it is right and its who is plain. `None` says nothing of it. Behind the test of the length, the
-// compiler leaves out the test that each field is there.
+// Reads the next ACE if it is valid and its who is plain ASCII. `None` says nothing about the ACE. After the test of
+// the length, the compiler leaves out the test that each field is there.
 #[tactic(auto, unfolding(crate::specs::internal::Reading::ace_at))]
 #[inline(always)]
 fn plain_ace<'a>(cursor: &mut Cursor<'a>, weight: u32, profile: Profile) -> Option<AceRef<'a>>
@@ -69,7 +69,7 @@ fn plain_ace<'a>(cursor: &mut Cursor<'a>, weight: u32, profile: Profile) -> Opti
     })
 }
 
-// The who where a test of many bytes at once shows that it is one.
+// Reads the who if a test of many bytes at once shows that it is valid.
 #[inline(always)]
 fn plain_who<'a>(cursor: &mut Cursor<'a>, len: usize) -> Option<&'a [u8]>
     requires { is_no_who_len len ≡ false }
@@ -85,7 +85,7 @@ fn plain_who<'a>(cursor: &mut Cursor<'a>, len: usize) -> Option<&'a [u8]>
     }
 }
 
-// The padding where it is zero and a whole word stands there, of which it is the front.
+// Reads the padding if it is zero and a whole word is there that begins with it.
 #[inline(always)]
 fn plain_padding(cursor: &mut Cursor<'_>, len: usize) -> Option<()>
     ensures { IfSome result (λ _. field (pad_len len) padding_of (place cursor.old)
@@ -100,6 +100,7 @@ fn plain_padding(cursor: &mut Cursor<'_>, len: usize) -> Option<()>
     Some(())
 }
 
+// Reads the next ACE field by field, up to the first field that is refused.
 #[tactic(auto, unfolding(crate::specs::internal::Reading::ace_at))]
 #[inline(never)]
 fn fields<'a>(cursor: &mut Cursor<'a>, weight: u32, profile: Profile) -> Result<AceRef<'a>, Fault>
@@ -198,6 +199,7 @@ pub(crate) fn placed<T>(offset: u64, judged: Result<T, Reason>) -> Result<T, Fau
     }
 }
 
+// Reads the next `n` bytes.
 #[inline(always)]
 fn bytes<'a>(cursor: &mut Cursor<'a>, n: usize) -> Result<&'a [u8], Fault>
     ensures { Gives (λ x. (x.now, place cursor.new)) result

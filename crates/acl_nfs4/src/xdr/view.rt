@@ -1,20 +1,20 @@
 //! A list in the bytes that spell it, so that reading it takes no memory.
-ghost use Rattle.std.specs.Prelude.{◌≡◌, ◌++◌, ◌≤◌, ◌↔◌, ℕ, List, [], length, IfOk, IfErr, IsOkAnd, IsTrue, Ok, Err};
+ghost use Rattle.std.specs.Prelude.{◌≡◌, ◌++◌, ◌≤◌, ◌↔◌, ℕ, List, [], length, IfOk, IfErr, IsOkAnd, IsTrue, Err};
 ghost use Rattle.acl_nfs4.specs.Ace.{Ace};
 ghost use Rattle.acl_nfs4.specs.Limits.{most_weight};
 ghost use Rattle.acl_nfs4.specs.Spelling.{Fits, IsAccepted, Xdr};
 ghost use Rattle.acl_nfs4.specs.Spelling as spelled;
-ghost use Rattle.acl_nfs4.specs.Front.{IsListOf, StandsAtFront};
+ghost use Rattle.acl_nfs4.specs.Front.{IsListOf, IsAtFront};
 ghost use Rattle.acl_perm.specs.Profile.{full, profile_of};
 ghost use Rattle.acl_nfs4.specs.Fault.{IsFault, IsWholeFault};
 ghost use Rattle.acl_nfs4.specs.declared.xdr.fault.Reason.{Reason};
+ghost use Rattle.acl_nfs4.specs.internal.Progress.{Judged};
 
 use crate::ace::AceRef;
-use crate::feed::scan::{Progress, scan};
+use crate::feed::scan::{Progress, Reach, scan};
 use crate::list::aces::{Aces, fit, weight_of, word_in};
 use crate::xdr::fault::{Fault, Reason};
 use crate::xdr::judges;
-use crate::xdr::reading::placed;
 use acl_perm::Profile;
 use std::alloc::AllocError;
 use std::marker::Model;
@@ -44,7 +44,7 @@ impl<'a> AclView<'a> {
     /// first byte (RFC 8881, section 6.2.1, in the layout of RFC 4506).
     pub fn parse(bytes: &'a [u8]) -> Result<(AclView<'a>, usize), Fault>
         // The bytes begin with the list that is returned.
-        ensures found { IfOk result (StandsAtFront full bytes.now) }
+        ensures found { IfOk result (IsAtFront full bytes.now) }
         // If the bytes begin with a list, that list is returned.
         ensures only { (list : List Ace) (text rest : List ℕ) → Xdr full list text
             → bytes.now ≡ text ++ rest → IsOkAnd result (IsListOf list text) }
@@ -62,7 +62,7 @@ impl<'a> AclView<'a> {
     #[inline(always)]
     pub fn parse_with(bytes: &'a [u8], profile: Profile) -> Result<(AclView<'a>, usize), Fault>
         // The bytes begin with the list that is returned.
-        ensures found { IfOk result (StandsAtFront (profile_of profile) bytes.now) }
+        ensures found { IfOk result (IsAtFront (profile_of profile) bytes.now) }
         // If the bytes begin with a list, that list is returned.
         ensures only { (list : List Ace) (text rest : List ℕ) → Xdr (profile_of profile) list text
             → bytes.now ≡ text ++ rest → IsOkAnd result (IsListOf list text) }
@@ -231,26 +231,39 @@ fn whole_of(bytes: &[u8], profile: Profile) -> Result<AclView<'_>, Fault>
 // Returns the list at the front, or the fault of the bytes.
 #[inline(always)]
 fn view_of(bytes: &[u8], profile: Profile) -> Result<(AclView<'_>, usize), Fault>
-    ensures found { IfOk result (StandsAtFront (profile_of profile) bytes.now) }
+    ensures found { IfOk result (IsAtFront (profile_of profile) bytes.now) }
     ensures fault { IfErr result (λ f. IsFault (profile_of profile) bytes.now f.offset f.reason) }
 {
-    if bytes.len() < 4 {
-        return Err(Fault::at_front(Reason::Truncated));
+    let reach = judge(bytes, profile);
+    match reach.fault {
+        Some(fault) => Err(fault),
+        None => {
+            let Progress { seen, used, .. } = reach.progress;
+            let (_, rest) = bytes.split_at(4);
+            let (body, _) = rest.split_at(used);
+            Ok((AclView { count: seen, body }, 4 + used))
+        }
     }
-    let count = placed(0, judges::count_of(word_in(bytes, 0)))?;
-    let (_, rest) = bytes.split_at(4);
+}
+
+// Judges the list at the front.
+#[inline(always)]
+fn judge(bytes: &[u8], profile: Profile) -> Reach
+    ensures { Judged (profile_of profile) bytes.now result.progress result.fault }
+{
     let none = Progress {
         seen: 0,
         used: 0,
         weight: 0,
     };
-    let reach = scan(rest, count, none, profile);
-    match reach.fault {
-        Some(fault) => Err(fault),
-        None => {
-            let Progress { seen, used, .. } = reach.progress;
-            let (body, _) = rest.split_at(used);
-            Ok((AclView { count: seen, body }, 4 + used))
+    if bytes.len() < 4 {
+        return Reach::at_fault(none, Fault::at_front(Reason::Truncated));
+    }
+    match judges::count_of(word_in(bytes, 0)) {
+        Err(reason) => Reach::at_fault(none, Fault::at_front(reason)),
+        Ok(count) => {
+            let (_, rest) = bytes.split_at(4);
+            scan(rest, count, none, profile)
         }
     }
 }

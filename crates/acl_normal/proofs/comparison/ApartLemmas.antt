@@ -8,7 +8,7 @@ use Rattle.acl_normal.specs.internal.comparison.FirstPlaces.{names_any, same_who
 use Rattle.acl_normal.specs.internal.comparison.RightsApart.{HasOpenBits, say_the_same}
 use Rattle.acl_normal.specs.declared.comparison.apart.Statement.{Statement}
 
--- whom the ACE at a place names
+-- the code's value at a place says whom the ACE there names
 pub named_at : (whole : List Principal) (refs : List AceRef) (ws : List Whom) (x : AceRef) (w : Whom) (i : ℕ)
     → i < length refs → x ≡ slice_index_or refs i x → w ≡ slice_index_or ws i Nobody → AreWhoms whole (aces_in refs) ws
     → IsWhom whole (ace x) w
@@ -26,7 +26,7 @@ column_at refs x i bit lt at =
     at_drop_more (λ r. column (aces_in r) bit) refs i x lt
     ∙ ap (λ v. column (ace v ∷ aces_in (drop (i + 1) refs)) bit) (sym at)
 
--- where a bit isn't apart, the open bits tell whether the ACE is in its column
+-- at a bit that isn't apart, an ACE has the bit open if and only if it has the bit and takes part
 open_is : (whole : List Principal) (a : Ace) (w : Whom) (apart mask bit : ℕ) → IsWhom whole a w
     → HasOpenBits a w apart mask → has_bit apart bit ≡ false
     → has_bit mask bit ≡ (has_bit a.mask bit && takes_part a)
@@ -37,7 +37,7 @@ open_is whole a w apart mask bit i h e =
     and_true : (t : Bool) → (t && true) ≡ t
     and_true t = grind arith
 
--- an ACE without the bit is passed over
+-- an ACE without the bit open leaves the column of what is left as it is
 passed : (whole : List Principal) (refs : List AceRef) (ws : List Whom) (x : AceRef) (w : Whom)
     (i apart mask bit : ℕ) → i < length refs → x ≡ slice_index_or refs i x → w ≡ slice_index_or ws i Nobody
     → AreWhoms whole (aces_in refs) ws → HasOpenBits (ace x) w apart mask → has_bit apart bit ≡ false
@@ -49,7 +49,7 @@ passed whole refs ws x w i apart mask bit lt at wi all h e f =
     ∙ ap (λ t. cond t ((principal_of (ace x), x.kind) ∷ column (aces_in (drop (i + 1) refs)) bit)
     (column (aces_in (drop (i + 1) refs)) bit)) test
 
--- two ACEs of which the same is named are of one principal
+-- two ACEs that name the same, one of which takes part, have one principal
 same_principal : (whole : List Principal) (a b : Ace) (w : Whom) → IsWhom whole a w → IsWhom whole b w
     → takes_part a ≡ true → principal_of a ≡ principal_of b
 same_principal whole a b w h i t = own a w h t ∙ sym (own b w i (i.part ∙ sym h.part ∙ t))
@@ -76,7 +76,7 @@ pub record AreWalked (refs others : List AceRef) (here there apart : ℕ) : Type
       → column (aces_in (drop here refs)) bit ≡ column (aces_in (drop there others)) bit
       → column (aces_in refs) bit ≡ column (aces_in others) bit
 
--- past an ACE of the first list without open rights
+-- the walk goes on after an ACE of the first list without open rights
 pub walk_here : (whole : List Principal) (refs others : List AceRef) (ws : List Whom) (x : AceRef) (w : Whom)
     (here there apart own : ℕ) → here < length refs → x ≡ slice_index_or refs here x → w ≡ slice_index_or ws here Nobody
     → AreWhoms whole (aces_in refs) ws → HasOpenBits (ace x) w apart own → own ≡ 0
@@ -86,7 +86,7 @@ walk_here whole refs others ws x w here there apart own lt at wi all h none inv 
       (passed whole refs ws x w here apart own bit lt at wi all h e (ap (λ m. has_bit m bit) none ∙ no_bit bit) ∙ rest);
 }
 
--- past one of the second
+-- the walk goes on after an ACE of the second list without open rights
 pub walk_there : (whole : List Principal) (refs others : List AceRef) (ws : List Whom) (x : AceRef) (w : Whom)
     (here there apart own : ℕ) → there < length others → x ≡ slice_index_or others there x
     → w ≡ slice_index_or ws there Nobody → AreWhoms whole (aces_in others) ws → HasOpenBits (ace x) w apart own
@@ -97,7 +97,7 @@ walk_there whole refs others ws x w here there apart own lt at wi all h none inv
       (ap (λ m. has_bit m bit) none ∙ no_bit bit)));
 }
 
--- past one of each list that are not alike, whose rights are apart from now on
+-- the walk goes on after two ACEs whose open rights are apart from now on
 pub walk_apart : (whole : List Principal) (refs others : List AceRef) (ws vs : List Whom) (x y : AceRef) (w v : Whom)
     (here there apart own theirs more new : ℕ) → here < length refs → there < length others
     → x ≡ slice_index_or refs here x → y ≡ slice_index_or others there y → w ≡ slice_index_or ws here Nobody
@@ -114,7 +114,7 @@ walk_apart whole refs others ws vs x y w v here there apart own theirs more new 
           ∙ sym (passed whole others vs y v there apart theirs bit lt ya vi hv ht inner.0 outer.1));
     }
 
--- past one of each list that are alike
+-- the walk goes on after two ACEs with the same open rights, kind and principal
 pub walk_both : (whole : List Principal) (refs others : List AceRef) (ws vs : List Whom) (x y : AceRef) (w v : Whom)
     (here there apart own theirs : ℕ) → here < length refs → there < length others
     → x ≡ slice_index_or refs here x → y ≡ slice_index_or others there y → w ≡ slice_index_or ws here Nobody
@@ -154,17 +154,17 @@ walk_both whole refs others ws vs x y w v here there apart own theirs lh lt xa y
         rest
         ∙ sym (column_at others y there bit lt ya ∙ column_first bit (ace y) (aces_in (drop (there + 1) others)))
 
--- whom two ACEs name alike
+-- if the test says that two ACEs name the same, they do
 named_alike : (v w : Whom) → same_whom v w ≡ true → v ≡ w
 named_alike v w h = grind (arith, eqb-true)
 
--- what two ACEs say that say the same
+-- two statements with the same rights, principal and kind
 pub record AreAlike (s t : Statement) : Type 0 where
   pub rights : s.rights.bits ≡ t.rights.bits
   pub whom : s.whom ≡ t.whom
   pub kind : s.kind ≡ t.kind
 
--- the test tells it
+-- two statements that pass the test are alike
 pub alike_is : (s t : Statement) → say_the_same s t ≡ true → AreAlike s t
 alike_is s t h = record {
   rights = eqb-true s.rights.bits t.rights.bits (grind arith);

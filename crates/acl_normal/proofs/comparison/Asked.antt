@@ -1,11 +1,10 @@
 -- What a difference has to have, so that an object, a requester and a right can be made of it.
 use Rattle.std.proofs.Common.{◌≡◌, ℕ, ◌^◌, ◌<◌, ◌≤◌, Bool, true, List, [], ◌∷◌, length, map}
-use Rattle.acl_normal.proofs.Common.{All, all_rights, ap, arith, bits_from_mask, group, has_bit, if◌then◌else◌, is_among, IsMask, IsName, length-map, Principal, set_of, small_situation, SmallSet, subst, sym, trailing_zeros, w32, ◌∙◌}
+use Rattle.acl_normal.proofs.Common.{All, all_rights, ap, arith, bits_from_mask, group, has_bit, if◌then◌else◌, is_among, IsMask, IsName, length-map, Principal, set_of, small_situation, SmallSet, subst, sym, trailing_zeros, w32, ◌∙◌, only_bit, one_bit}
 use Rattle.std.specs.Borrow.{Bor}
 use Rattle.std.proofs.lemmas.List.Elements.{All-cons, All-head, All-map, All-nil, All-tail}
 use Rattle.std.proofs.lemmas.Nat.{pow_pos}
 use Rattle.acl_normal.proofs.comparison.SetEvaluation.{lowest_is}
-use Rattle.acl_normal.proofs.unique.Bits.{has_power, power_has}
 use Rattle.acl_normal.specs.OneRight.{IsOneRight}
 use Rattle.acl_normal.specs.SmallSituations.{group_names, names_or}
 
@@ -13,15 +12,15 @@ use Rattle.acl_normal.specs.SmallSituations.{group_names, names_or}
 pub right_bit : (mask : ℕ) → IsMask mask → IsOneRight mask → has_bit all_rights (trailing_zeros w32 mask) ≡ true
 right_bit mask within one =
     let t = trailing_zeros w32 mask in
-    bits_from_mask mask t within (subst (λ m. has_bit m t ≡ true) (sym one) (has_power t))
+    bits_from_mask mask t within (subst (λ m. has_bit m t ≡ true) (sym one) (one_bit t))
 
--- the set of one right is that of its lowest right
+-- a set of rights that is a power of two is one right
 pub one_alone : (mask k : ℕ) → mask ≡ 2 ^ k → IsMask mask → IsOneRight mask
 one_alone mask k is within =
     let some : 0 < 2 ^ k = pow_pos k in
     let low = lowest_is mask (λ none. absurd (omega (arith, none, is, some))) within in
     let t = trailing_zeros w32 mask in
-    let same : t ≡ k = power_has k t (subst (λ m. has_bit m t ≡ true) is low.0) in
+    let same : t ≡ k = only_bit k t (subst (λ m. has_bit m t ≡ true) is low.0) in
     is ∙ ap (λ n. 2 ^ n) (sym same)
 
 -- there are no more group names than principals
@@ -29,10 +28,11 @@ few_names : (ps : List Principal) → length (group_names ps) ≤ length ps
 few_names [] = omega arith
 few_names (p ∷ ps) = grind (arith, few_names ps)
 
--- also with one name where there is none
+-- at most two names, with one name in the place of none, are at most two
 names_or_few : (names : List (List ℕ)) (x : List ℕ) → length names ≤ 2 → length (names_or names x) ≤ 2
 names_or_few names x l = grind arith
 
+-- a choice between two lists of at most two names has at most two names
 either_few : (b : Bool) (xs ys : List (List ℕ)) → length xs ≤ 2 → length ys ≤ 2
     → length (if b then xs else ys) ≤ 2
 either_few b xs ys h k = grind arith
@@ -41,7 +41,7 @@ either_few b xs ys h k = grind arith
 two_of : (set : SmallSet) → length (set_of set) ≤ 2
 two_of set = grind arith
 
--- so the requester of its small situation is in at most two groups
+-- the requester of the small situation of a small set is in at most two groups
 pub few_groups : {X : Type 0} (f : X → List ℕ) (xs : List X) (n : ℕ) (set : SmallSet)
     → map f xs ≡ (small_situation n (set_of set)).groups → length xs ≤ 2
 few_groups f xs n set is =

@@ -1,9 +1,9 @@
 -- The first small set, by least numbers.
-use Rattle.acl_normal.proofs.Common.{[], Ace, AgreesAt, all_mentioned, all_rights, AllByRecursion, ap, arith, Bool, cases_lt, cond, drop, drop_more, everyone, false, false≢true, FindSet, FindsFirst, first_place, GrantAlikeTo, has_bit, inl, inr, is_allow, is_granted_to, length, List, may_overlap, nat_lt, None, principal_pairs, partners, Principal, principal_eq, principal_of, refl, singles, slice_index_or, small_sets, Some, subst, sym, take, takes_part, true, TwoLists, ℕ, ◌&&◌, ◌++◌, ◌+◌, ◌-◌, ◌<◌, ◌||◌, ◌∙◌, ◌∷◌, ◌≡◌, ◌≤◌, ◌⊎◌}
+use Rattle.acl_normal.proofs.Common.{[], Ace, AgreesAt, all_mentioned, all_rights, AllByRecursion, ap, arith, Bool, cases_lt, cond, drop, everyone, false, false≢true, FindSet, FindsFirst, first_place, GrantAlikeTo, has_bit, inl, inr, is_allow, is_granted_to, length, List, may_overlap, nat_lt, None, principal_pairs, partners, Principal, principal_eq, principal_of, refl, singles, slice_index_or, small_sets, Some, subst, sym, take, takes_part, true, TwoLists, ℕ, ◌&&◌, ◌+◌, ◌-◌, ◌<◌, ◌||◌, ◌∙◌, ◌∷◌, ◌≡◌, ◌≤◌, ◌⊎◌}
 use Rattle.std.proofs.Common.{suc, zero}
-use Rattle.std.proofs.lemmas.List.{take-append-drop, get_or-take, get_or-drop, length-take, length-drop}
+use Rattle.std.proofs.lemmas.List.{get_or-take, get_or-drop, length-take, length-drop}
 use Rattle.std.proofs.lemmas.Bool.{cases_order, cond_both}
-use Rattle.acl_normal.proofs.Each.{all_at, all_from}
+use Rattle.acl_normal.proofs.Each.{all_at, all_from, split_there}
 use Rattle.acl_normal.proofs.unique.Names.{overlaps_back}
 use Rattle.acl_normal.proofs.comparison.PairGrants.{no_pairs, pair_granted, pairs_after}
 use Rattle.acl_normal.proofs.comparison.SetEvaluation.{granted_to-cons}
@@ -12,7 +12,7 @@ use Rattle.acl_normal.specs.internal.comparison.FirstPlaces.{Agrees, AlikeAlone,
 use Rattle.acl_normal.specs.internal.comparison.SetSearch.{FindsSet}
 use Rattle.acl_normal.specs.internal.comparison.TwoLists.{AreAlikeTo, IsFirstMember, IsFirstPartner, IsFirstSingle, later_than, principal_at}
 
--- the first single principal at which the lists grant otherwise
+-- the first principal to whom alone the lists do not grant the same is the first single set that is found
 pub singles_first : (xs ys : List Ace) (ps : List Principal) (v : ℕ) → v < length ps
     → ((k : ℕ) → k < v → GrantAlikeTo xs ys (slice_index_or ps k everyone ∷ []))
     → (GrantAlikeTo xs ys (slice_index_or ps v everyone ∷ []) → ⊥)
@@ -22,14 +22,14 @@ singles_first xs ys (p ∷ ps) zero lt before at = inr (at, refl)
 singles_first xs ys (p ∷ ps) (suc v) lt before at =
     inl (before 0 (omega arith), singles_first xs ys ps v (omega arith) (λ k l. before (suc k) (omega arith)) at)
 
--- or none
+-- if the lists grant alike to each principal alone, no single set is found
 pub singles_none : (xs ys : List Ace) (ps : List Principal)
     → ((k : ℕ) → k < length ps → GrantAlikeTo xs ys (slice_index_or ps k everyone ∷ []))
     → FindsFirst xs ys (singles ps) None
 singles_none xs ys [] h = refl
 singles_none xs ys (p ∷ ps) h = inl (h 0 (omega arith), singles_none xs ys ps (λ k l. h (suc k) (omega arith)))
 
--- the first partner with which they do
+-- the first partner with whom the lists do not grant the same is in the first pair that is found
 pub partners_first : (xs ys : List Ace) (p : Principal) (ps : List Principal) (v : ℕ) → v < length ps
     → ((k : ℕ) → k < v → OnAll (AlikeWith xs ys p ps) k) → (OnAll (AlikeWith xs ys p ps) v → ⊥)
     → FindsFirst xs ys (partners p ps) (Some (p ∷ slice_index_or ps v everyone ∷ []))
@@ -42,13 +42,13 @@ partners_first xs ys p (q ∷ ps) (suc v) lt before at =
     cond_both (may_overlap p q) _ _ (λ sets. FindsFirst xs ys sets (Some (p ∷ slice_index_or ps v everyone ∷ [])))
     (λ e. inl ((λ b has. before 0 (omega arith) b has e), later)) (λ e. later)
 
--- what holds of each bit for all, holds for all of each bit
+-- a principal that agrees with all principals on each right agrees with them on all rights
 pub on_each : (xs ys : List Ace) (p : Principal) (ps : List Principal)
     → ((b : ℕ) → has_bit all_rights b ≡ true → AgreesAt xs ys ps b p) → Agrees xs ys ps p
 on_each xs ys p [] h = tt
 on_each xs ys p (q ∷ ps) h = ((λ o b has. (h b has).0 o), on_each xs ys p ps (λ b has. (h b has).1))
 
--- those before the least member of a pair agree with all
+-- the principals before the first member of a differing pair agree with all
 pub front_agrees : (xs ys : List Ace) (ps : List Principal) (z : ℕ) → z ≤ length ps
     → ((k : ℕ) → k < z → OnAll (AlikeWithAll xs ys ps) k) → AllByRecursion (Agrees xs ys ps) (take z ps)
 front_agrees xs ys ps z le before = all_from (Agrees xs ys ps) (take z ps) everyone
@@ -56,12 +56,7 @@ front_agrees xs ys ps z le before = all_from (Agrees xs ys ps) (take z ps) every
     subst (λ v. Agrees xs ys ps v) (sym (get_or-take z ps k everyone l))
     (on_each xs ys (slice_index_or ps k everyone) ps (before k l)))
 
--- those before a number, the one there, and those behind it
-pub split_at_place : (ps : List Principal) (z : ℕ) → z < length ps
-    → ps ≡ take z ps ++ slice_index_or ps z everyone ∷ drop (z + 1) ps
-split_at_place ps z lt = sym (take-append-drop z ps) ∙ ap (λ v. take z ps ++ v) (drop_more ps z everyone lt)
-
--- the first pair has the least member and its first partner
+-- if all principals before one agree with all, and it has a differing partner, their pair is the first
 pub pairs_at : (xs ys : List Ace) (ps set : List Principal) (z : ℕ) → z < length ps
     → ((k : ℕ) → k < z → OnAll (AlikeWithAll xs ys ps) k)
     → FindsFirst xs ys (partners (slice_index_or ps z everyone) (drop (z + 1) ps)) (Some set)
@@ -69,18 +64,18 @@ pub pairs_at : (xs ys : List Ace) (ps set : List Principal) (z : ℕ) → z < le
 pairs_at xs ys ps set z lt before f =
     let s : Principal = slice_index_or ps z everyone in
     let rest : List Principal = drop (z + 1) ps in
-    subst (λ v. FindsFirst xs ys (principal_pairs v) (Some set)) (sym (split_at_place ps z lt))
-    (pairs_after xs ys ps (take z ps) (s ∷ rest) [] (Some set) (split_at_place ps z lt)
+    subst (λ v. FindsFirst xs ys (principal_pairs v) (Some set)) (sym (split_there ps z everyone lt))
+    (pairs_after xs ys ps (take z ps) (s ∷ rest) [] (Some set) (split_there ps z everyone lt)
     (front_agrees xs ys ps z (omega arith) before) (found_left xs ys (partners s rest) (principal_pairs rest) set f))
 
--- where all agree with all, no pair is found
+-- if each principal agrees with all, no pair is found
 pub pairs_none : (xs ys : List Ace) (ps : List Principal) (z : ℕ) → length ps ≤ z
     → ((k : ℕ) → k < z → OnAll (AlikeWithAll xs ys ps) k) → FindsFirst xs ys (principal_pairs ps) None
 pairs_none xs ys ps z le before =
     no_pairs xs ys ps ps [] refl (all_from (Agrees xs ys ps) ps everyone
     (λ k lt. on_each xs ys (slice_index_or ps k everyone) ps (before k (omega arith))))
 
--- two principals in either order, at one ACE
+-- one ACE in front grants the same to two principals in either order
 swapped : (t e x y k g h : Bool) → g ≡ h
     → cond (t && (e || (x || (y || false)))) k g ≡ cond (t && (e || (y || (x || false)))) k h
 swapped t e x y k g h i = grind arith
@@ -96,7 +91,7 @@ pair_swapped (a ∷ xs) p q b =
     (pair_swapped xs p q b)
     ∙ sym (granted_to-cons a xs (q ∷ p ∷ []) b)
 
--- one principal twice is that one alone
+-- a principal that is in a pair twice is granted what it is granted alone
 pub pair_alone : (xs : List Ace) (p : Principal) (b : ℕ) → is_granted_to xs (p ∷ p ∷ []) b ≡ is_granted_to xs (p ∷ []) b
 pair_alone xs p b = pair_granted xs p p b
     ∙ one_value (nat_lt (first_place (p ∷ []) b xs) (first_place (p ∷ []) b xs)) (is_granted_to xs (p ∷ []) b)
@@ -104,7 +99,7 @@ pair_alone xs p b = pair_granted xs p p b
     one_value : (t v : Bool) → cond t v v ≡ v
     one_value t v = grind arith
 
--- a principal that doesn't agree with all, where all before it do, doesn't agree with one of the later ones
+-- a principal that doesn't agree with all, where all before it do, doesn't agree with a later one
 pub has_partner : (xs ys : List Ace) (ps : List Principal) (z : ℕ) → z < length ps
     → ((k : ℕ) → k < length ps → OnAll (AlikeAlone xs ys ps) k) → ((k : ℕ) → k < z → OnAll (AlikeWithAll xs ys ps) k)
     → (OnAll (AlikeWithAll xs ys ps) z → ⊥)
@@ -144,7 +139,7 @@ has_partner xs ys ps z lt alone before at later =
         get_or-drop (z + 1) ps k everyone ∙ ap (λ v. slice_index_or ps v everyone) place in
         subst (λ v. Wanted b v) same (later k (omega (arith, length-drop (z + 1) ps)) b has) o
 
--- the answers of the fast search
+-- if the lists grant alike to nobody, the first principal to whom alone they do not is the small set that is found
 pub fast_single : (xs ys : List Ace) (ps : List Principal) (v : ℕ) → GrantAlikeTo xs ys []
     → IsLeast (OnAll (AlikeAlone xs ys ps)) (length ps) v → v < length ps
     → FindsSet xs ys (small_sets ps) (Some (slice_index_or ps v everyone ∷ []))
@@ -157,7 +152,7 @@ fast_single xs ys ps v empty l lt =
       );
     }
 
--- and that none is
+-- if the lists grant alike to nobody, to each principal alone and to each pair, no small set is found
 pub fast_none : (xs ys : List Ace) (ps : List Principal) (v z : ℕ) → GrantAlikeTo xs ys []
     → IsLeast (OnAll (AlikeAlone xs ys ps)) (length ps) v → length ps ≤ v
     → IsLeast (OnAll (AlikeWithAll xs ys ps)) (length ps) z → length ps ≤ z → FindsSet xs ys (small_sets ps) None
@@ -170,7 +165,7 @@ fast_none xs ys ps v z empty l le m me =
       );
     }
 
--- and that two are
+-- if the lists grant alike to nobody and to each principal alone, the first differing pair is what is found
 pub fast_pair : (xs ys : List Ace) (ps : List Principal) (v z w : ℕ) → GrantAlikeTo xs ys []
     → IsLeast (OnAll (AlikeAlone xs ys ps)) (length ps) v → length ps ≤ v
     → IsLeast (OnAll (AlikeWithAll xs ys ps)) (length ps) z → z < length ps
@@ -189,7 +184,7 @@ fast_pair xs ys ps v z w empty l le m lt n lw =
       );
     }
 
--- a least member has a partner
+-- the first member of a differing pair has a partner behind it
 pub fast_partner : (xs ys : List Ace) (ps : List Principal) (v z w : ℕ)
     → IsLeast (OnAll (AlikeAlone xs ys ps)) (length ps) v → length ps ≤ v
     → IsLeast (OnAll (AlikeWithAll xs ys ps)) (length ps) z → z < length ps
@@ -200,25 +195,25 @@ fast_partner xs ys ps v z w l le m lt n lw =
 
 -- ---- two lists that are compared
 
--- one is found, by its number
+-- the principal at the number of the first single one is the small set that is found
 pub single_answer : (both : TwoLists) (p : Principal) (v : ℕ) → AreAlikeTo both [] → IsFirstSingle both v
     → v < length (all_mentioned both) → p ≡ principal_at both v → FindSet both (Some (p ∷ []))
 single_answer both p v empty l lt is =
     subst (λ s. FindSet both (Some (s ∷ []))) (sym is)
     (fast_single both.first both.second (all_mentioned both) v empty l lt)
 
--- none is found
+-- if the numbers show no single principal and no member of a pair, no small set is found
 pub none_answer : (both : TwoLists) (v z : ℕ) → AreAlikeTo both [] → IsFirstSingle both v
     → length (all_mentioned both) ≤ v → IsFirstMember both z → z ≡ length (all_mentioned both) → FindSet both None
 none_answer both v z empty l le m e =
     fast_none both.first both.second (all_mentioned both) v z empty l le m (omega arith)
 
--- the least member is one of the principals
+-- the number of the first member of a pair is that of a mentioned principal
 pub member_within : (both : TwoLists) (z : ℕ) → IsFirstMember both z → (z ≡ length (all_mentioned both) → ⊥)
     → z < length (all_mentioned both)
 member_within both z m n = omega (arith, m.within)
 
--- and so is its partner
+-- the number of its first partner is that of a mentioned principal
 pub partner_within : (both : TwoLists) (v z w : ℕ) → IsFirstSingle both v → length (all_mentioned both) ≤ v
     → IsFirstMember both z → z < length (all_mentioned both) → IsFirstPartner both z w
     → z + 1 + w < length (all_mentioned both)
@@ -228,7 +223,7 @@ partner_within both v z w l le m lt n = go (cases_lt w (length (later_than both 
     go (inl lw) = omega (arith, length-drop (z + 1) (all_mentioned both))
     go (inr past) = absurd (fast_partner both.first both.second (all_mentioned both) v z w l le m lt n past)
 
--- two are found, by their numbers
+-- the principals at the numbers of the first member and its first partner are the small set that is found
 pub pair_answer : (both : TwoLists) (p q : Principal) (v z w i : ℕ) → AreAlikeTo both [] → IsFirstSingle both v
     → length (all_mentioned both) ≤ v → IsFirstMember both z → z < length (all_mentioned both)
     → IsFirstPartner both z w → i ≡ z + 1 + w → p ≡ principal_at both z → q ≡ principal_at both i

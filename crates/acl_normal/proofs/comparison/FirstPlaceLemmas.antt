@@ -11,12 +11,12 @@ pub whoms_length : (ps : List Principal) (aces : List AceRef) (ws : List Whom) �
     → length ws ≡ length aces
 whoms_length ps aces ws z = zip_length (IsWhom ps) (aces_in aces) ws z ∙ length-map aces ace
 
--- whom the ACE of a place names
+-- the value at a place says whom the ACE there names
 pub whom_at : (ps : List Principal) (xs : List Ace) (ws : List Whom) (i : ℕ) → i < length xs → AreWhoms ps xs ws
     → IsWhom ps (slice_index_or xs i no_ace) (slice_index_or ws i Nobody)
 whom_at ps xs ws i lt z = zip_at (IsWhom ps) xs ws i no_ace Nobody lt z
 
--- what the ACEs from a place on say first of a principal, by the ACE there
+-- the ACE at a place decides if it has the bit and is of the principal, and else the ACEs behind it do
 first_cons : (xs : List Ace) (a : Ace) (b i : ℕ) (p : Principal) → drop i xs ≡ a ∷ drop (i + 1) xs
     → (first_place (p ∷ []) b (drop i xs)
     ≡ cond (has_bit a.mask b && is_of a p) 0 (first_place (p ∷ []) b (drop (i + 1) xs) + 1))
@@ -27,7 +27,7 @@ first_cons xs a b i p is = (
   ap (λ v. is_granted_to v (p ∷ []) b) is ∙ granted_to-cons a (drop (i + 1) xs) (p ∷ []) b ∙ grind arith,
 )
 
--- the first key of the rest decides, or none of it
+-- an ACE that has the bit and is of the principal is the first from its place on
 first_taken : (xs : List Ace) (a : Ace) (b i : ℕ) (p : Principal) → drop i xs ≡ a ∷ drop (i + 1) xs
     → (has_bit a.mask b && is_of a p) ≡ true → IsFirstFrom xs b i p (record { place = i; kind = a.kind })
 first_taken xs a b i p is h =
@@ -35,7 +35,7 @@ first_taken xs a b i p is h =
     let here : first_place (p ∷ []) b (drop i xs) ≡ 0 = said.0 ∙ rw h refl in
     record { place = omega (arith, here); allows = sym (said.1 ∙ rw h refl) }
 
--- an ACE that is not of the principal leaves what the later ones say
+-- an ACE that lacks the bit or is not of the principal leaves the first of the later ones
 first_kept : (xs : List Ace) (a : Ace) (b i : ℕ) (p : Principal) (f : First) → drop i xs ≡ a ∷ drop (i + 1) xs
     → (has_bit a.mask b && is_of a p) ≡ false → IsFirstFrom xs b (i + 1) p f → IsFirstFrom xs b i p f
 first_kept xs a b i p f is h later =
@@ -44,7 +44,7 @@ first_kept xs a b i p f is h later =
     said.0 ∙ rw h refl in
     record { place = omega (arith, here, later.place); allows = later.allows ∙ sym (said.1 ∙ rw h refl) }
 
--- at the first place of everyone, or behind the list
+-- the first ACE of everyone with the bit, or the end of the list, is what each principal has from there on
 pub first_end : (ps : List Principal) (xs : List Ace) (ws : List Whom) (b e k : ℕ) → k < length ps → e ≤ length xs
     → (e < length xs → stops_at xs ws b e ≡ true) → AreWhoms ps xs ws
     → IsFirstFrom xs b e (slice_index_or ps k everyone)
@@ -70,7 +70,7 @@ first_end ps xs ws b e k lk le stop all = go (cases_lt e (length xs))
               ∙ sym (ap (λ v. is_granted_to v (slice_index_or ps k everyone ∷ []) b) (drop_all e xs past));
         }
 
--- all begin with what stands at the end
+-- at the place where the walk begins, each principal has that place as its first
 pub firsts_start : (ps : List Principal) (xs : List Ace) (ws : List Whom) (b e : ℕ) (firsts : List First) (f : First)
     (n : ℕ) → firsts ≡ replicate n f → n ≡ length ps → f.place ≡ e
     → f.kind ≡ (slice_index_or xs e no_ace).kind → e ≤ length xs
@@ -92,7 +92,7 @@ firsts_start ps xs ws b e firsts f n is count fp fa le stop all = record {
           ap (λ v. is_allow v.kind) (value k lt) ∙ ap is_allow fa ∙ a;
     }
 
--- one key earlier
+-- one place earlier, each principal has its first when the ACE there was put in
 pub firsts_step : (ps : List Principal) (xs : List Ace) (a : Ace) (w : Whom) (b i : ℕ) (old : List First)
     → drop i xs ≡ a ∷ drop (i + 1) xs → stops b a w ≡ false → IsWhom ps a w → AreFirstFrom ps xs b (i + 1) old
     → AreFirstFrom ps xs b i (put old a w i b)
@@ -142,7 +142,7 @@ firsts_step ps xs a (One j) b i old is s h later = go (has_bit a.mask b) refl
           (later.each k lt);
     })
 
--- the loop's step, from place n to the one before
+-- a turn of the loop, which goes back, makes the first places from one place earlier
 pub firsts_more : (ps : List Principal) (aces : List AceRef) (d : AceRef) (ws : List Whom) (b e n i : ℕ)
     (old new : List First) → n ≡ i + 1 → n ≤ e → e ≤ length aces
     → ((k : ℕ) → k < e → stops_at (aces_in aces) ws b k ≡ false) → AreWhoms ps (aces_in aces) ws

@@ -5,14 +5,15 @@ use Rattle.acl_normal.specs.internal.comparison.SetSearch.{HasBitsOf}
 use Rattle.acl_normal.specs.declared.comparison.members.Members.{Members}
 use Rattle.acl_normal.specs.declared.comparison.members.Members.TheVariants as code
 
--- an ACE names one of the numbers or everyone just where it takes part and is of their principals or everyone
+-- an ACE names one of the numbers or everyone if and only if it takes part and is of one of their principals or
+-- everyone
 matched_is : (whole : List Principal) (a : Ace) (w : Whom) (set : Members) → IsWhom whole a w → AreNumbered whole set
     → is_matched set w ≡ (takes_part a && is_among (principal_of a) (everyone ∷ members_of whole set))
 matched_is whole a w code.Nobody h n = grind (arith, h.all)
 matched_is whole a w (code.One i) h n = grind (arith, h.hit i n)
 matched_is whole a w (code.Two i j) h n = grind (arith, h.hit i n.0, h.hit j n.1)
 
--- its rights, if it names one of them or everyone, are those of an ACE of them
+-- the bits of an ACE that names one of the numbers or everyone are those of an ACE of their principals
 pub matched_bits : (whole : List Principal) (a : Ace) (w : Whom) (set : Members) (mask : ℕ) → IsWhom whole a w
     → AreNumbered whole set → ((bit : ℕ) → has_bit mask bit ≡ (has_bit a.mask bit && is_matched set w))
     → HasBitsOf a (members_of whole set) mask
@@ -24,7 +25,7 @@ matched_bits whole a w set mask h n is = record {
     regroup : (x y z : Bool) → (x && (y && z)) ≡ ((x && y) && z)
     regroup x y z = grind arith
 
--- the set that is found, read by what it is
+-- if members were found, the set of their principals is the small set that is found
 pub found_members : (both : TwoLists) (found : Option Members) (members : Members) (set : SmallSet)
     → FindSet both (members_or_none (all_mentioned both) found) → found ≡ Some members
     → set_of set ≡ members_of (all_mentioned both) members → FindSet both (Some (set_of set))
@@ -32,7 +33,7 @@ found_members both found members set h e is =
     subst (λ v. FindSet both (Some v)) (sym is)
     (subst (λ v. FindSet both (members_or_none (all_mentioned both) v)) e h)
 
--- and that none is
+-- if no members were found, no small set is found
 pub found_none : (both : TwoLists) (found : Option Members)
     → FindSet both (members_or_none (all_mentioned both) found) → found ≡ None → FindSet both None
 found_none both found h e = subst (λ v. FindSet both (members_or_none (all_mentioned both) v)) e h

@@ -7,7 +7,7 @@ use Rattle.acl_perm.specs.declared.principal.Principal.{Principal as PrincipalRe
 pub record IsLongest (names : List PrincipalRef) (most i : ℕ) : Type 0 where
   pub is : max most (longest (principals (drop i names))) ≡ longest (principals names)
 
--- one more name is the longest so far, or not
+-- the longer of the next name and the longest so far is the longest so far
 pub longest_more : (names : List PrincipalRef) (p : PrincipalRef) (most here new i : ℕ) → i < length names
     → here ≡ length (principal_name (principal (slice_index_or names i p))) → new ≡ max here most
     → IsLongest names most i → IsLongest names new (i + 1)
@@ -26,7 +26,7 @@ longest_all names most i le h =
     let whole = h.is in
     omega arith
 
--- before the first no name is longer
+-- before the first name the longest so far has no byte
 pub longest_start : (names : List PrincipalRef) → IsLongest names 0 0
 longest_start names = record { is = omega arith }
 

@@ -1,16 +1,15 @@
--- The numbers of principals that stand in order.
+-- The numbers of rising principals.
 use Rattle.std.proofs.Math.Bool.{or-false}
-use Rattle.acl_normal.proofs.Common.{[], Ace, ap, arith, Bool, eq-eqb, eqb-true, everyone, false, get_or-map, is_mentioning, IsRisingSet, IsWhom, length, Less, List, Principal, principal, principal_cmp, principal_eq, principal_of, principals, refl, slice_index_or, subst, sym, takes_part, true, ℕ, ◌<◌, ◌∙◌, ◌∷◌, ◌≡◌}
+use Rattle.acl_normal.proofs.Common.{[], Ace, ap, arith, Bool, eq-eqb, eqb-true, everyone, false, get_or-map, is_mentioning, IsRisingSet, IsWhom, length, Less, List, Principal, principal, principal_cmp, principal_eq, principal_of, principals, refl, slice_index_or, subst, sym, takes_part, true, ℕ, ◌<◌, ◌∙◌, ◌∷◌, ◌≡◌, same_answers}
 use Rattle.std.proofs.Common.{suc, zero}
 use Rattle.acl_perm.specs.declared.principal.Principal.{Principal as PrincipalRef}
 use Rattle.acl_normal.proofs.Each.{all_at}
 use Rattle.acl_normal.proofs.unique.Names.{principal_eq_itself, principal_eq_same}
-use Rattle.acl_normal.proofs.unique.Realised.{same_answers}
-use Rattle.acl_normal.proofs.comparison.SmallSetLemmas.{not_below_itself}
 use Rattle.acl_normal.specs.internal.comparison.FirstPlaces.{is_of}
 use Rattle.acl_normal.specs.internal.comparison.MentionedRows.{HasNumber, whom_of}
+use Rattle.acl_normal.proofs.comparison.Ordered.{not_below_itself}
 
--- the principal of a number
+-- the principal at a number is that of the code's name there
 pub numbered : (names : List PrincipalRef) (q : PrincipalRef) (i : ℕ) → i < length names
     → slice_index_or (principals names) i everyone ≡ principal (slice_index_or names i q)
 numbered names q i lt = get_or-map principal names i q everyone lt
@@ -28,12 +27,12 @@ apart (p ∷ ps) (suc i) zero r li lk e =
     (all_at (λ q. principal_cmp p q ≡ Less) ps i everyone (omega arith) r.0)))
 apart (p ∷ ps) (suc i) (suc k) r li lk e = ap suc (apart ps i k r.1 (omega arith) (omega arith) e)
 
--- a key that takes part and isn't of everyone is of a principal just where that is its own
+-- an ACE that takes part and isn't of everyone is of a principal if and only if that is its own
 pub is_of_own : (a : Ace) (p : Principal) → takes_part a ≡ true → principal_eq (principal_of a) everyone ≡ false
     → is_of a p ≡ principal_eq (principal_of a) p
 is_of_own a p h e = rw (h, e) (or-false (principal_eq (principal_of a) p))
 
--- whom an ACE names, by a number that is its principal's where it mentions that
+-- a number that is that of the principal whom an ACE mentions says whom the ACE names
 pub whom_is : (ps : List Principal) (a : Ace) (n : ℕ) → IsRisingSet ps
     → (is_mentioning a ≡ true → HasNumber ps (principal_of a) n) → IsWhom ps a (whom_of a n)
 whom_is ps a n r h = go (takes_part a) refl (principal_eq (principal_of a) everyone) refl

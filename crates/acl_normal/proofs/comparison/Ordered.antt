@@ -1,10 +1,29 @@
--- Rising lists of the same principals are the same.
-use Rattle.acl_normal.proofs.Common.{[], AllByRecursion, ap, false≢true, is_among, IsRisingSet, Less, List, or_cases, or_left, or_right, Principal, principal_cmp, principal_eq, refl, subst, sym, true, ⊎_elim, ◌∙◌, ◌∷◌, ◌≡◌}
+-- Principals in order: none is below itself, and rising lists of the same principals are the same.
+use Rattle.acl_normal.proofs.Common.{[], AllByRecursion, ap, false≢true, is_among, IsRisingSet, Less, List, or_cases, or_left, or_right, Principal, principal_cmp, principal_eq, refl, subst, sym, true, ⊎_elim, ◌∙◌, ◌∷◌, ◌≡◌, same_answers, principal_total, Greater, ordering_reverse}
 use Rattle.acl_normal.proofs.unique.Names.{principal_eq_itself, principal_eq_same}
-use Rattle.acl_normal.proofs.unique.Realised.{same_answers}
-use Rattle.acl_normal.proofs.comparison.SmallSetLemmas.{below_one, not_below_itself, not_both_below}
 
--- who is above the first of a rising list and among another with that first is among its rest
+-- of two principals one is the lesser
+pub principal_greater : (p q : Principal) → principal_cmp p q ≡ Greater → principal_cmp q p ≡ Less
+principal_greater p q h = principal_total.antisymm q p ∙ ap ordering_reverse h
+
+-- what holds of all principals holds of one among them
+pub below_one : (P : Principal → Type 0) (ps : List Principal) (p : Principal) → AllByRecursion P ps
+    → is_among p ps ≡ true → P p
+below_one P [] p h i = cc
+below_one P (x ∷ ps) p h i = ⊎_elim
+    (λ e. subst P (sym (principal_eq_same p x e)) h.0)
+    (λ j. below_one P ps p h.1 j)
+    (or_cases (principal_eq p x) (is_among p ps) i)
+
+-- no principal is below itself
+pub not_below_itself : (p : Principal) → principal_cmp p p ≡ Less → ⊥
+not_below_itself p h = let back = principal_total.antisymm p p in cc
+
+-- of two principals not each is below the other
+pub not_both_below : (p q : Principal) → principal_cmp p q ≡ Less → principal_cmp q p ≡ Less → ⊥
+not_both_below p q h i = not_below_itself p (principal_total.trans p q p h i)
+
+-- a principal above the first of a list and among another list with that first is among the rest of that list
 among_rest : (p : Principal) (ps qs : List Principal) (s : Principal)
     → AllByRecursion (λ q. principal_cmp p q ≡ Less) ps → is_among s (p ∷ ps) ≡ is_among s (p ∷ qs)
     → is_among s ps ≡ true → is_among s qs ≡ true

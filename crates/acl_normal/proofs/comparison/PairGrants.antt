@@ -7,18 +7,18 @@ use Rattle.acl_normal.proofs.comparison.SetEvaluation.{granted_to-cons}
 use Rattle.acl_normal.proofs.comparison.SetSearchLemmas.{found_right}
 use Rattle.acl_normal.specs.internal.comparison.FirstPlaces.{Agrees}
 
--- a choice among the same is the same
+-- a choice between equal values is equal
 cond_same : (l x v y w : Bool) → x ≡ v → y ≡ w → cond l x y ≡ cond l v w
 cond_same l x v y w h i = grind arith
 
--- one ACE before a list of which the claim on pairs holds
+-- if a pair is granted what its first principal is granted, so it is with one more ACE in front
 joined : (t e x y k g gp gq : Bool) (hp hq : ℕ) → g ≡ cond (nat_lt hq hp) gq gp
     → cond (t && (e || (x || (y || false)))) k g
     ≡ cond (nat_lt (cond (t && (e || (y || false))) 0 (hq + 1)) (cond (t && (e || (x || false))) 0 (hp + 1)))
     (cond (t && (e || (y || false))) k gq) (cond (t && (e || (x || false))) k gp)
 joined t e x y k g gp gq hp hq h = grind (arith, nat_tests)
 
--- what is granted to two is what is granted to the one that comes first
+-- a pair is granted what the principal with the earlier place is granted
 pub pair_granted : (xs : List Ace) (p q : Principal) (b : ℕ)
     → is_granted_to xs (p ∷ q ∷ []) b ≡ cond (nat_lt (first_place (q ∷ []) b xs) (first_place (p ∷ []) b xs))
     (is_granted_to xs (q ∷ []) b) (is_granted_to xs (p ∷ []) b)
@@ -32,25 +32,25 @@ pair_granted (a ∷ xs) p q b =
     ∙ sym (cond_same (nat_lt (first_place (q ∷ []) b (a ∷ xs)) (first_place (p ∷ []) b (a ∷ xs))) _ _ _ _
     (granted_to-cons a xs (q ∷ []) b) (granted_to-cons a xs (p ∷ []) b))
 
--- two users that may overlap are one
+-- two users that may overlap are one user
 both_users : (p q : Principal) → is_user p ≡ true → is_user q ≡ true → may_overlap p q ≡ true → p ≡ q
 both_users (user a) (user b) h i o = ap user (bytes_eq_same a b o)
 both_users (user a) _ h i o = cc
 both_users _ q h i o = cc
 
--- of two that may not, both are users
+-- two principals of which one is no user overlap
 not_both_users : (p q : Principal) → (is_user p && is_user q) ≡ false → may_overlap p q ≡ true
 not_both_users p q h = grind arith
 
--- four values, of which two agree, and the orders
+-- if two grants or two orders do not differ, both orders choose the same grant
 same_choice : (l m vp vq : Bool) → (differ vp vq && differ l m) ≡ false → cond l vq vp ≡ cond m vq vp
 same_choice l m vp vq h = grind arith
 
--- and where they don't agree
+-- if two grants differ and two orders differ, the orders choose different grants
 other_choice : (l m vp vq : Bool) → (differ vp vq && differ l m) ≡ true → cond l vq vp ≡ cond m vq vp → ⊥
 other_choice l m vp vq h e = grind arith
 
--- what the standings say of a pair, in both lists
+-- the first list grants to a pair what the standing with the earlier place there says
 pub here_is : (xs ys : List Ace) (b : ℕ) (p q : Principal) (r s : Standing) → IsStanding xs ys b p r
     → IsStanding xs ys b q s
     → is_granted_to xs (p ∷ q ∷ []) b
@@ -58,7 +58,7 @@ pub here_is : (xs ys : List Ace) (b : ℕ) (p q : Principal) (r s : Standing) �
 here_is xs ys b p q r s h i = pair_granted xs p q b
     ∙ rw (← h.here.place, ← i.here.place, ← h.here.allows, ← i.here.allows) refl
 
--- and in the second list
+-- the second list grants to a pair what the standing with the earlier place there says
 pub there_is : (xs ys : List Ace) (b : ℕ) (p q : Principal) (r s : Standing) → IsStanding xs ys b p r
     → IsStanding xs ys b q s
     → SameAlone r → SameAlone s → is_granted_to ys (p ∷ q ∷ []) b
@@ -66,7 +66,7 @@ pub there_is : (xs ys : List Ace) (b : ℕ) (p q : Principal) (r s : Standing) �
 there_is xs ys b p q r s h i u v =
     pair_granted ys p q b ∙ rw (← h.there.place, ← i.there.place, ← h.there.allows, ← i.there.allows, ← u, ← v) refl
 
--- a pair that is not inverted is granted alike
+-- the lists grant alike to a pair that overlaps and is not inverted
 pub not_inverted : (xs ys : List Ace) (b : ℕ) (p q : Principal) (r s : Standing) → IsStanding xs ys b p r
     → IsStanding xs ys b q s
     → SameAlone r → SameAlone s → inverts r s ≡ false → may_overlap p q ≡ true
@@ -89,7 +89,7 @@ not_inverted xs ys b p q r s h i u v e o = here_is xs ys b p q r s h i ∙ go (i
         (is_allow s.here.kind) (sym (ap (λ t. (not t && differ (is_allow r.here.kind) (is_allow s.here.kind)) && differ
         (nat_lt s.here.place r.here.place) (nat_lt s.there.place r.there.place)) k) ∙ e)
 
--- one that is inverted may overlap, and is not
+-- the principals of an inverted pair overlap, and the lists do not grant the same to the pair
 pub inverted : (xs ys : List Ace) (b : ℕ) (p q : Principal) (r s : Standing) → IsStanding xs ys b p r
     → IsStanding xs ys b q s
     → SameAlone r → SameAlone s → inverts r s ≡ true
@@ -101,7 +101,7 @@ inverted xs ys b p q r s h i u v e = (
       (sym (here_is xs ys b p q r s h i) ∙ same ∙ there_is xs ys b p q r s h i u v),
 )
 
--- a principal agrees with all the others on the bit just where its standing inverts none
+-- a principal agrees with all on the bit if its standing inverts none of theirs
 pub agrees_from_rows : (xs ys : List Ace) (b : ℕ) (p : Principal) (r : Standing) (ps : List Principal)
     (rows : List Standing)
     → IsStanding xs ys b p r → SameAlone r → AllZip (IsStanding xs ys b) ps rows → AllByRecursion SameAlone rows
@@ -112,7 +112,7 @@ agrees_from_rows xs ys b p r (q ∷ ps) (s ∷ rows) h u z all e =
     (not_inverted xs ys b p q r s h z.0 u all.0 parts.0, agrees_from_rows xs ys b p r ps rows h u z.1 all.1 parts.1)
 agrees_from_rows xs ys b p r _ _ h u z all e = absurd z
 
--- and doesn't where it inverts one
+-- a principal does not agree with all on the bit if its standing inverts one of theirs
 pub not_agrees_from_rows : (xs ys : List Ace) (b : ℕ) (p : Principal) (r : Standing) (ps : List Principal)
     (rows : List Standing) → IsStanding xs ys b p r → SameAlone r → AllZip (IsStanding xs ys b) ps rows
     → AllByRecursion SameAlone rows → inverts_any r rows ≡ true → AgreesAt xs ys ps b p → ⊥
@@ -126,7 +126,7 @@ not_agrees_from_rows xs ys b p r (q ∷ ps) (s ∷ rows) h u z all e a =
     go (inr k) later = later k
 not_agrees_from_rows xs ys b p r _ _ h u z all e a = absurd z
 
--- all pairs agree where each principal agrees with all
+-- if a principal agrees with all, no pair of it differs
 pub partners_agree : (xs ys : List Ace) (p : Principal) (ps : List Principal) → Agrees xs ys ps p
     → FindsFirst xs ys (partners p ps) None
 partners_agree xs ys p [] h = refl
@@ -134,13 +134,13 @@ partners_agree xs ys p (q ∷ ps) h =
     let later = partners_agree xs ys p ps h.1 in
     cond_both (may_overlap p q) _ _ (λ sets. FindsFirst xs ys sets None) (λ e. inl (h.0 e, later)) (λ e. later)
 
--- who agrees with all agrees with the rest
+-- a principal that agrees with all agrees with the rest of them
 pub agrees_rest : (xs ys : List Ace) (ps rest : List Principal) (p : Principal) → Agrees xs ys (ps ++ rest) p
     → Agrees xs ys rest p
 agrees_rest xs ys [] rest p h = h
 agrees_rest xs ys (q ∷ ps) rest p h = agrees_rest xs ys ps rest p h.1
 
--- if each of the first principals agrees with all, the pairs of the rest decide
+-- if each of the first principals agrees with all, the first pair is that of the rest
 pub pairs_after : (xs ys : List Ace) (whole before rest done : List Principal) (r : Option (List Principal))
     → whole ≡ done ++ (before ++ rest) → AllByRecursion (Agrees xs ys whole) before
     → FindsFirst xs ys (principal_pairs rest) r
@@ -155,7 +155,7 @@ pairs_after xs ys whole (p ∷ before) rest done r is h f =
     (partners_agree xs ys p (before ++ rest) tail)
     (pairs_after xs ys whole before rest (done ++ p ∷ []) r longer h.1 f)
 
--- where all agree with all, no pair differs
+-- if each principal agrees with all, no pair differs
 pub no_pairs : (xs ys : List Ace) (whole rest done : List Principal) → whole ≡ done ++ rest
     → AllByRecursion (Agrees xs ys whole) rest → FindsFirst xs ys (principal_pairs rest) None
 no_pairs xs ys whole [] done is h = refl

@@ -1,8 +1,8 @@
--- The least number of a principal at which two lists grant otherwise, bit by bit.
+-- The least number of a principal at which two lists do not grant the same, bit by bit.
 use Rattle.acl_normal.proofs.Common.{[], Ace, AgreesAt, all_mentioned, all_rights, AllByRecursion, AllZip, ap, AreFirstFrom, AreStandings, arith, cases_eq, cases_lt, drop, everyone, false, get_or_read, has_bit, inl, inr, inverts, inverts_any, is_allow, is_among, is_granted_to, is_user, is_users, IsStanding, length, length-map, List, map-append, no_standing, Principal, principal, principals, SameAlone, slice_index_or, Standing, subst, sym, take, take_more, true, TwoLists, verdict, ℕ, ◌++◌, ◌+◌, ◌<◌, ◌∙◌, ◌∷◌, ◌≡◌, ◌≤◌, ◌⊎◌}
-use Rattle.std.proofs.Common.{suc, zero}
+use Rattle.std.proofs.Common.{suc}
 use Rattle.acl_perm.specs.declared.principal.Principal.{Principal as PrincipalRef}
-use Rattle.acl_normal.proofs.Each.{all_at, all_drop, zip_at, zip_length, zip_push}
+use Rattle.acl_normal.proofs.Each.{all_at, all_drop, zip_at, zip_length, zip_push, zip_drop}
 use Rattle.acl_normal.proofs.unique.Bits.{below}
 use Rattle.acl_normal.proofs.comparison.Numbers.{numbered}
 use Rattle.acl_normal.proofs.comparison.PairGrants.{agrees_from_rows, inverted, not_agrees_from_rows, not_inverted}
@@ -11,11 +11,11 @@ use Rattle.acl_normal.specs.internal.comparison.TwoLists.{AlikeToOne, AlikeToPai
 use Rattle.acl_normal.specs.declared.class.Class.{Class}
 use Rattle.acl_normal.specs.declared.comparison.standing.First.{First}
 
--- what all ACEs say first
+-- the first ACE of a principal from place 0 on is its first ACE in the list
 pub first_of_all : (xs : List Ace) (b : ℕ) (p : Principal) (f : First) → IsFirstFrom xs b 0 p f → IsFirst xs b p f
 first_of_all xs b p f h = let place = h.place in record { place = omega arith; allows = h.allows }
 
--- one more standing
+-- the standings with that of the next principal are those of the principals up to it
 pub rows_more : (names : List PrincipalRef) (q : PrincipalRef) (xs ys : List Ace) (b i : ℕ)
     (heres theres : List First) (h t : First) (u : Class) (old new : List Standing) → i < length names
     → h ≡ slice_index_or heres i h → t ≡ slice_index_or theres i t
@@ -44,7 +44,7 @@ rows_more names q xs ys b i heres theres h t u old new lt hi ti ui hs ts is all 
           all.each row));
     }
 
--- the standing of a number
+-- the standing at a number is that of the principal there
 pub row_at : (ps : List Principal) (xs ys : List Ace) (b k : ℕ) (rows : List Standing) → k < length ps
     → AllZip (IsStanding xs ys b) ps rows
     → IsStanding xs ys b (slice_index_or ps k everyone) (slice_index_or rows k no_standing)
@@ -72,7 +72,7 @@ pub least_start : (Q : ℕ → ℕ → Type 0) (n least : ℕ) → least ≡ n �
 least_start Q n least e = record
     { within = omega arith; before = λ k l b below has. absurd (omega arith); at = λ l h. absurd (omega arith) }
 
--- one more bit, at which the least number may fall
+-- after one more bit, the least number is the old one, or a lesser one at which Q fails at some bit
 pub least_step : (Q : ℕ → ℕ → Type 0) (n bit old new : ℕ) → new ≤ old → ((k : ℕ) → k < new → Q bit k)
     → (new < old → OnAll Q new → ⊥) → Least Q n bit old → Least Q n (bit + 1) new
 least_step Q n bit old new le each stop h = record {
@@ -89,7 +89,7 @@ least_step Q n bit old new le each stop h = record {
     at_end l all (inl less) = stop less all
     at_end l all (inr same) = let e : new ≡ old = omega arith in h.at (omega arith) (subst (λ v. OnAll Q v) e all)
 
--- a bit of which Q holds below the least changes nothing
+-- a bit at which Q holds of each number leaves the least number as it is
 pub least_skip : (Q : ℕ → ℕ → Type 0) (n bit least : ℕ) → ((k : ℕ) → Q bit k) → Least Q n bit least
     → Least Q n (bit + 1) least
 least_skip Q n bit least all h =
@@ -100,19 +100,19 @@ pub least_done : (Q : ℕ → ℕ → Type 0) (n bit least : ℕ) → 21 ≤ bit
 least_done Q n bit least le h =
     record { within = h.within; before = λ k l b has. h.before k l b (omega (arith, below b has)) has; at = h.at }
 
--- single principals
+-- the lists grant alike to a principal alone if its standing has one kind in both lists
 pub alone_from_row : (ps : List Principal) (xs ys : List Ace) (b k : ℕ) (rows : List Standing) → k < length ps
     → AreStandings ps xs ys b rows → SameAlone (slice_index_or rows k no_standing) → AlikeAlone xs ys ps b k
 alone_from_row ps xs ys b k rows lt h e = let r = row_at ps xs ys b k rows lt h.each in
     sym r.here.allows ∙ e ∙ r.there.allows
 
--- and where they say otherwise, not
+-- the lists do not grant the same to a principal alone if its standing has two kinds
 pub not_alone_from_row : (ps : List Principal) (xs ys : List Ace) (b k : ℕ) (rows : List Standing) → k < length ps
     → AreStandings ps xs ys b rows → (SameAlone (slice_index_or rows k no_standing) → ⊥) → AlikeAlone xs ys ps b k → ⊥
 not_alone_from_row ps xs ys b k rows lt h n e = let r = row_at ps xs ys b k rows lt h.each in
     n (r.here.allows ∙ e ∙ sym r.there.allows)
 
--- one more bit of the search among single principals
+-- the search for the first single principal goes on to the next bit
 pub single_step : (ps : List Principal) (xs ys : List Ace) (bit old new : ℕ) (rows : List Standing)
     → AreStandings ps xs ys bit rows → has_bit all_rights bit ≡ true → new ≤ old
     → ((k : ℕ) → k < new → SameAlone (slice_index_or rows k no_standing))
@@ -124,7 +124,7 @@ single_step ps xs ys bit old new rows h has le each stop l =
     (λ k lt. alone_from_row ps xs ys bit k rows (omega (arith, l.within)) h (each k lt))
     (λ lt all. not_alone_from_row ps xs ys bit new rows (omega (arith, l.within)) h (stop lt) (all bit has)) l
 
--- a principal and all others
+-- if the lists grant alike to each principal alone, each standing has one kind in both lists
 pub all_alone : (ps : List Principal) (xs ys : List Ace) (b : ℕ) (rows : List Standing)
     → AllZip (IsStanding xs ys b) ps rows
     → ((k : ℕ) → k < length ps → AlikeAlone xs ys ps b k) → AllByRecursion SameAlone rows
@@ -136,7 +136,7 @@ all_alone (p ∷ ps) xs ys b (r ∷ rows) z h = (
 )
 all_alone _ xs ys b _ z h = absurd z
 
--- one more bit of the search for the lesser member of a pair
+-- the search for the first member of a pair goes on to the next bit
 pub member_step : (ps : List Principal) (xs ys : List Ace) (bit old new : ℕ) (rows : List Standing)
     → AreStandings ps xs ys bit rows → ((k : ℕ) → k < length ps → OnAll (AlikeAlone xs ys ps) k)
     → has_bit all_rights bit ≡ true → new ≤ old
@@ -156,15 +156,7 @@ member_step ps xs ys bit old new rows h alone has le each stop l =
     (row_at ps xs ys bit new rows (omega (arith, l.within)) h.each)
     (all_at SameAlone rows new no_standing (omega (arith, l.within)) same) h.each same (stop lt) (all bit has)) l
 
--- a principal and one of the others
-pub zip_drop : {A B : Type 0} (R : A → B → Type 0) (n : ℕ) (xs : List A) (ys : List B) → AllZip R xs ys
-    → AllZip R (drop n xs) (drop n ys)
-zip_drop R zero xs ys z = z
-zip_drop R (suc n) [] [] z = z
-zip_drop R (suc n) (x ∷ xs) (y ∷ ys) z = zip_drop R n xs ys z.1
-zip_drop R (suc n) _ _ z = absurd z
-
--- one more bit of the search for its partner
+-- the search for the first partner of a principal goes on to the next bit
 pub partner_step : (p : Principal) (r : Standing) (ps : List Principal) (xs ys : List Ace) (bit old new : ℕ)
     (rows : List Standing) → IsStanding xs ys bit p r → SameAlone r → AreStandings ps xs ys bit rows
     → AllByRecursion SameAlone rows
@@ -190,7 +182,7 @@ others_length ps xs ys b at items slice others h is split = ap length (split ∙
     ∙ zip_length (IsStanding xs ys b) (drop (at + 1) ps) (drop (at + 1) items)
     (zip_drop (IsStanding xs ys b) (at + 1) ps items h.each)
 
--- the same, as the code holds the standings
+-- the search for the first partner goes on to the next bit, with the standings as the code holds them
 pub partner_loop : (ps : List Principal) (xs ys : List Ace) (bit at old new : ℕ) (row : Standing)
     (items slice others : List Standing) → at < length ps → AreStandings ps xs ys bit items → slice ≡ items
     → others ≡ drop (at + 1) slice → row ≡ slice_index_or items at row
@@ -218,39 +210,39 @@ partner_loop ps xs ys bit at old new row items slice others lt h is split read a
 
 -- ---- two lists that are compared
 
--- with the same ACEs both grant alike
+-- lists with the same column at a bit grant it alike to each set
 pub same_alike : (both : TwoLists) (bit : ℕ) (set : List Principal) → HaveSameColumn both bit
     → is_granted_to both.first set bit ≡ is_granted_to both.second set bit
 same_alike both bit set h = ap (λ c. is_allow (verdict (λ r. is_among r (everyone ∷ set)) c)) h
 
--- and so they grant alike to each principal with any of some
+-- lists with the same column at a bit agree on it at each principal with any others
 same_agree : (both : TwoLists) (bit : ℕ) (p : Principal) (ps : List Principal) → HaveSameColumn both bit
     → AgreesAt both.first both.second ps bit p
 same_agree both bit p [] h = tt
 same_agree both bit p (q ∷ ps) h =
     (λ _. same_alike both bit (p ∷ q ∷ []) h, same_agree both bit p ps h)
 
--- to each principal alone
+-- lists with the same column at a bit grant it alike to each principal alone
 pub same_one : (both : TwoLists) (bit : ℕ) → HaveSameColumn both bit → (k : ℕ) → AlikeToOne both bit k
 same_one both bit h k = same_alike both bit (principal_at both k ∷ []) h
 
--- to each with all
+-- lists with the same column at a bit grant it alike to each principal with all
 pub same_pairs : (both : TwoLists) (bit : ℕ) → HaveSameColumn both bit → (k : ℕ) → AlikeToPairs both bit k
 same_pairs both bit h k = same_agree both bit (principal_at both k) (all_mentioned both) h
 
--- and to one with each behind it
+-- lists with the same column at a bit grant it alike to a principal with each one behind it
 pub same_pair : (both : TwoLists) (at bit : ℕ) → HaveSameColumn both bit → (k : ℕ) → AlikeToPair both at bit k
 same_pair both at bit h k _ =
     same_alike both bit (principal_at both at ∷ slice_index_or (later_than both at) k everyone ∷ []) h
 
--- the number so far of the first principal to whom alone they don't grant alike
+-- the number, after some bits, of the first principal to whom alone the lists do not grant the same
 abbrev pub LeastSingle : TwoLists → ℕ → ℕ → Type 0
 LeastSingle both bit least = Least (AlikeToOne both) (length (all_mentioned both)) bit least
 
--- of the first that is one of a pair to whom they don't
+-- the number, after some bits, of the first principal of a pair to whom the lists do not grant the same
 abbrev pub LeastMember : TwoLists → ℕ → ℕ → Type 0
 LeastMember both bit least = Least (AlikeToPairs both) (length (all_mentioned both)) bit least
 
--- of the first with whom one is such a pair, among those behind it
+-- the number, after some bits, of the first later principal that differs in a pair with a principal
 abbrev pub LeastPartner : TwoLists → ℕ → ℕ → ℕ → Type 0
 LeastPartner both at bit least = Least (AlikeToPair both at) (length (later_than both at)) bit least

@@ -1,30 +1,28 @@
 -- Lists that name the same as another, place by place.
-use Rattle.acl_normal.proofs.Common.{[], ace, AceRef, aces_in, AllByRecursion, AllZip, ap, ArePlacesOf, AreWhoms, arith, cases_lt, Err, everyone, get_or-append_seam, get_or-map, get_or_append_left, get_or_read, has_bit, IfOk, inl, inr, is_among, is_mentioning, IsWhom, length, length-append, length-map, List, map, map-append, mentioned, mentioned_with, no_ace, Nobody, not, Ok, Principal, principal_eq, principal_of, principals, Result, slice_index_or, subst, sym, takes_part, true, two_lists, Whom, ℕ, ◌&&◌, ◌++◌, ◌+◌, ◌<◌, ◌∙◌, ◌∷◌, ◌≡◌, ◌≤◌, ◌⊎◌}
+use Rattle.acl_normal.proofs.Common.{AceRef, AllByRecursion, ArePlacesOf, AreWhoms, Err, IfOk, IsWhom, List, Nobody, Ok, Principal, Result, Whom, [], ace, aces_in, ap, arith, cases_lt, everyone, get_or-append_seam, get_or-map, get_or_append_left, get_or_read, has_bit, inl, inr, is_among, is_mentioning, length, length-append, length-map, map, map-append, mentioned, mentioned_in, no_ace, not, principal_eq, principal_of, principals, same_answers, slice_index_or, subst, sym, takes_part, true, two_lists, ℕ, ◌&&◌, ◌++◌, ◌+◌, ◌<◌, ◌∙◌, ◌∷◌, ◌≡◌, ◌≤◌, ◌⊎◌}
 use Rattle.std.specs.declared.alloc.AllocError.{AllocError}
 use Rattle.std.proofs.Common.{suc}
-use Rattle.acl_normal.proofs.Each.{all_from}
+use Rattle.acl_normal.proofs.Each.{all_append, zip_append}
 use Rattle.acl_normal.proofs.comparison.FirstPlaceLemmas.{whom_at, whoms_length}
-use Rattle.acl_normal.proofs.comparison.MentionedPrincipals.{all_with, mentioned_rising, stays_with}
-use Rattle.acl_normal.proofs.comparison.MentionedRows.{among_at, mentioned_there, with_both}
-use Rattle.acl_normal.proofs.comparison.Ordered.{rising_same}
-use Rattle.acl_normal.proofs.comparison.SmallSetLemmas.{below_one}
-use Rattle.acl_normal.proofs.unique.Realised.{same_answers}
+use Rattle.acl_normal.proofs.comparison.MentionedPrincipals.{all_in, among_first, among_mentioned, mentioned_rising, rising_in}
+use Rattle.acl_normal.proofs.comparison.MentionedRows.{mentioned_there}
+use Rattle.acl_normal.proofs.comparison.Ordered.{below_one, rising_same}
 use Rattle.acl_normal.specs.internal.comparison.MentionedRows.{AreMentioned, AreMentionsOf}
 use Rattle.acl_normal.specs.declared.comparison.mentioned.Mentions.{Mentions}
 use Rattle.acl_normal.specs.internal.comparison.SamePlaces.{HasSameWho, HaveOneWho, with_copies}
 use Rattle.acl_perm.specs.Bits.{inherit_only}
 
--- ACEs with one who are of one principal
+-- two ACEs with one who have one principal
 one_principal : (a b : AceRef) → HaveOneWho a b → principal_of (ace a) ≡ principal_of (ace b)
 one_principal a b h =
     ap (λ f. principal_of (record { kind = a.kind; flags = f.bits; mask = a.mask.bits; who = a.who.now })) h.flags
     ∙ ap (λ w. principal_of (record { kind = a.kind; flags = b.flags.bits; mask = a.mask.bits; who = w })) h.who
 
--- both take part or neither does
+-- of two ACEs with one who, both take part or neither does
 one_part : (a b : AceRef) → HaveOneWho a b → takes_part (ace a) ≡ takes_part (ace b)
 one_part a b h = ap (λ f. not (has_bit f.bits inherit_only)) h.flags
 
--- what one of them names is what the other names
+-- two ACEs with one who name the same
 whom_same : (whole : List Principal) (a b : AceRef) (w : Whom) → HaveOneWho a b → IsWhom whole (ace a) w
     → IsWhom whole (ace b) w
 whom_same whole a b w h i =
@@ -41,7 +39,7 @@ whom_same whole a b w h i =
           ∙ i.hit k lt;
     }
 
--- whom the ACEs of a list name, by the places of others that name the same
+-- if other ACEs have the whos at some places, the values of these places say whom they name
 copies_named : (whole : List Principal) (refs : List AceRef) (ws : List Whom) → AreWhoms whole (aces_in refs) ws
     → (others : List AceRef) (places : List ℕ) → length places ≡ length others
     → ((i : ℕ) (z : AceRef) → i < length others
@@ -59,15 +57,7 @@ copies_named whole refs ws all (b ∷ others) (p ∷ places) count each =
 copies_named whole refs ws all [] (p ∷ places) count each = absurd (omega (arith, count))
 copies_named whole refs ws all (b ∷ others) [] count each = absurd (omega (arith, count))
 
--- two lists of pairs, one behind the other
-zip_append : {A B : Type 0} (R : A → B → Type 0) (xs vs : List A) (ys ws : List B) → AllZip R xs ys → AllZip R vs ws
-    → AllZip R (xs ++ vs) (ys ++ ws)
-zip_append R [] vs [] ws z h = h
-zip_append R (x ∷ xs) vs (y ∷ ys) ws z h = (z.0, zip_append R xs vs ys ws z.1 h)
-zip_append R [] vs (y ∷ ys) ws z h = absurd z
-zip_append R (x ∷ xs) vs [] ws z h = absurd z
-
--- whom the ACEs of both lists name
+-- the values with the copies for the other list say whom the ACEs of both lists name
 pub both_named : (whole : List Principal) (refs others : List AceRef) (ws new : List Whom) (places : List ℕ)
     → AreWhoms whole (aces_in refs) ws → ArePlacesOf refs others (length others) places
     → new ≡ with_copies ws places
@@ -77,12 +67,12 @@ both_named whole refs others ws new places all h is =
     (zip_append (IsWhom whole) (aces_in refs) (aces_in others) ws (map (λ p. slice_index_or ws p Nobody) places) all
     (copies_named whole refs ws all others places h.count h.each))
 
--- whom the others mention, the list mentions
+-- a list mentions the principals of ACEs that have its whos
 others_among : (refs others : List AceRef) (places : List ℕ) → length places ≡ length others
     → ((i : ℕ) (z : AceRef) → i < length others
     → HasSameWho refs (slice_index_or others i z) (slice_index_or places i 0))
-    → AllByRecursion (λ a. is_mentioning a ≡ true
-    → is_among (principal_of a) (mentioned_with [] (aces_in refs)) ≡ true) (aces_in others)
+    → AllByRecursion (λ a. is_mentioning a ≡ true → is_among (principal_of a) (mentioned_in (aces_in refs)) ≡ true)
+    (aces_in others)
 others_among refs [] [] count each = tt
 others_among refs (b ∷ others) (p ∷ places) count each = (
   here (each 0 b (omega arith)),
@@ -90,7 +80,7 @@ others_among refs (b ∷ others) (p ∷ places) count each = (
 )
   where
     here : HasSameWho refs b p → is_mentioning (ace b) ≡ true
-        → is_among (principal_of (ace b)) (mentioned_with [] (aces_in refs)) ≡ true
+        → is_among (principal_of (ace b)) (mentioned_in (aces_in refs)) ≡ true
     here h m =
         let a : AceRef = slice_index_or refs p b in
         let is : slice_index_or (aces_in refs) p no_ace ≡ ace a = get_or-map ace refs p b no_ace h.within in
@@ -98,28 +88,26 @@ others_among refs (b ∷ others) (p ∷ places) count each = (
         let same : is_mentioning (ace a) ≡ is_mentioning (ace b) =
         ap (λ v. v && not (principal_eq (principal_of (ace a)) everyone)) (one_part a b h.same)
         ∙ ap (λ q. takes_part (ace b) && not (principal_eq q everyone)) own in
-        subst (λ q. is_among q (mentioned_with [] (aces_in refs)) ≡ true) (ap principal_of is ∙ own)
-        (mentioned_there (aces_in refs) [] p (omega (arith, h.within, length-map refs ace))
+        subst (λ q. is_among q (mentioned_in (aces_in refs)) ≡ true) (ap principal_of is ∙ own)
+        (mentioned_there (aces_in refs) p (omega (arith, h.within, length-map refs ace))
         (ap is_mentioning is ∙ same ∙ m))
 others_among refs [] (p ∷ places) count each = absurd (omega (arith, count))
 others_among refs (b ∷ others) [] count each = absurd (omega (arith, count))
 
--- all of a list are among it
-all_among : (ps : List Principal) → AllByRecursion (λ p. is_among p ps ≡ true) ps
-all_among ps = all_from (λ p. is_among p ps ≡ true) ps everyone (λ k lt. among_at ps k lt)
-
--- two lists mention whom the first does, where the other names the same
+-- if the ACEs of a second list have whos of the first, both lists mention the principals of the first
 pub first_mentions : (refs others : List AceRef) (places : List ℕ) → ArePlacesOf refs others (length others) places
-    → mentioned_with [] (aces_in refs) ≡ mentioned (aces_in refs) (aces_in others)
+    → mentioned_in (aces_in refs) ≡ mentioned (aces_in refs) (aces_in others)
 first_mentions refs others places h =
-    let own : List Principal = mentioned_with [] (aces_in refs) in
-    rising_same own (mentioned (aces_in refs) (aces_in others)) (mentioned_rising (aces_in refs) [])
-    (mentioned_rising (aces_in refs) (aces_in others))
-    (λ s. same_answers (is_among s own) (is_among s (mentioned (aces_in refs) (aces_in others)))
-    (λ i. stays_with (aces_in others) own s i)
-    (λ i. below_one (λ p. is_among p own ≡ true) (mentioned (aces_in refs) (aces_in others)) s
-    (all_with (λ p. is_among p own ≡ true) (aces_in others) own (all_among own)
-    (others_among refs others places h.count h.each)) i))
+    let own : List Principal = mentioned_in (aces_in refs) in
+    let both : List Principal = mentioned (aces_in refs) (aces_in others) in
+    rising_same own both (rising_in (aces_in refs)) (mentioned_rising (aces_in refs) (aces_in others))
+    (λ s. same_answers (is_among s own) (is_among s both)
+    (λ i. below_one (λ p. is_among p both ≡ true) own s
+    (all_in (λ p. is_among p both ≡ true) (aces_in refs) (among_first (aces_in refs) (aces_in others))) i)
+    (λ i. below_one (λ p. is_among p own ≡ true) both s
+    (all_in (λ p. is_among p own ≡ true) (aces_in refs ++ aces_in others)
+    (all_append (λ a. is_mentioning a ≡ true → is_among (principal_of a) own ≡ true) (aces_in refs) (aces_in others)
+    (among_mentioned (aces_in refs)) (others_among refs others places h.count h.each))) i))
 
 -- before the first ACE there are no places
 pub places_start : (refs others : List AceRef) (places : List ℕ) → places ≡ [] → ArePlacesOf refs others 0 places
@@ -129,7 +117,7 @@ places_start refs others places is = record {
   each = λ j z l. absurd (omega (arith, l));
 }
 
--- the places of one more
+-- with the place of the next ACE, the places are those of the ACEs up to it
 pub places_more : (refs others : List AceRef) (x : AceRef) (places new : List ℕ) (i p : ℕ) → i < length others
     → x ≡ slice_index_or others i x → HasSameWho refs x p → new ≡ places ++ p ∷ []
     → ArePlacesOf refs others i places → ArePlacesOf refs others (i + 1) new
@@ -156,18 +144,18 @@ places_more refs others x places new i p lt at h is inv = record {
     found j z l = subst (HasSameWho refs (slice_index_or others j z)) (sym (ap (λ v. slice_index_or v j 0) is))
         (here j z l (cases_lt j i))
 
--- after the last ACE each has its place
+-- after the last ACE the places are those of all ACEs
 pub places_all : (refs others : List AceRef) (places : List ℕ) (i : ℕ) → length others ≤ i
     → ArePlacesOf refs others i places → i ≤ length others → ArePlacesOf refs others (length others) places
 places_all refs others places i le h ge =
     let e : i ≡ length others = omega arith in subst (λ v. ArePlacesOf refs others v places) e h
 
--- what was there stays
+-- with the copies there are at least as many values as before
 pub copies_long : (ws now : List Whom) (places : List ℕ) → now ≡ with_copies ws places → length ws ≤ length now
 copies_long ws now places is =
     omega (arith, ap length is, length-append ws (map (λ q. slice_index_or ws q Nobody) places))
 
--- at each place someone is named
+-- each place of which a copy is made is one of the values
 pub copies_there : (whole : List Principal) (refs others : List AceRef) (ws : List Whom) (places shown : List ℕ) (n : ℕ)
     → ArePlacesOf refs others (length others) places → shown ≡ places → AreWhoms whole (aces_in refs) ws
     → n ≡ length ws → (i : ℕ) → i < length shown → slice_index_or shown i 0 < n
@@ -175,7 +163,7 @@ copies_there whole refs others ws places shown n h is all e i lt =
     let at = h.within i (omega (arith, lt, ap length is, h.count)) in
     omega (arith, ap (λ v. slice_index_or v i 0) is, at, whoms_length whole refs ws all, e)
 
--- what one list mentions is what both of its parts do
+-- the principals that two lists together mention are those that the two lists mention
 pub joined_mentions : (list other aces shown : List AceRef) (r : Result Mentions AllocError) → shown ≡ aces
     → aces ≡ list ++ other → IfOk r (AreMentionsOf (aces_in shown))
     → IfOk r (AreMentioned (two_lists (aces_in list) (aces_in other)))
@@ -183,7 +171,7 @@ joined_mentions list other aces shown (Ok m) se ae h =
     let both : aces_in shown ≡ aces_in list ++ aces_in other =
     ap aces_in (se ∙ ae) ∙ map-append ace list other in
     record {
-      in_order = h.in_order ∙ ap (mentioned_with []) both ∙ with_both [] (aces_in list) (aces_in other);
+      in_order = h.in_order ∙ ap mentioned_in both;
       whoms = subst (λ v. AreWhoms (principals m.principals.items) v m.whoms.items) both h.whoms;
     }
 joined_mentions list other aces shown (Err e) se ae h = h

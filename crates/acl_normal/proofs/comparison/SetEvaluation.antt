@@ -1,10 +1,7 @@
 -- What a list grants to a small set of principals, as the code finds it: for all rights at once.
-use Rattle.acl_normal.proofs.Common.{Ace, ace, AceRef, aces_in, all_rights, Allow, ap, IsGrantedTo, arith, at_drop_more, bit_at, bits_from_mask, Bool, column, cond, Deny, differ, drop, eq-eqb, everyone, false, false_from_ne_true, false≢true, GrantAlikeTo, has_bit, is_allow, is_among, is_granted_to, IsDifference, IsMask, IsMask-lt, IsSubset, IsTrue, IsUnion, length, List, ne_eqb, no_bit, not, or_parts, Principal, principal_of, refl, same_set, slice_index_or, subst, sym, takes_part, trailing_zeros, true, w32, ℕ, ◌&&◌, ◌+◌, ◌<◌, ◌==◌, ◌^◌, ◌||◌, ◌↔◌, ◌∙◌, ◌∷◌, ◌≡◌, ◌≢◌}
+use Rattle.acl_normal.proofs.Common.{Ace, ace, AceRef, aces_in, all_rights, Allow, ap, IsGrantedTo, arith, at_drop_more, bit_at, bits_from_mask, Bool, column, cond, Deny, differ, drop, eq-eqb, everyone, false, false_from_ne_true, false≢true, GrantAlikeTo, has_bit, is_allow, is_among, is_granted_to, IsDifference, IsMask, IsMask-lt, IsSubset, IsTrue, IsUnion, length, List, ne_eqb, no_bit, not, or_parts, Principal, principal_of, refl, same_set, slice_index_or, subst, sym, takes_part, trailing_zeros, true, w32, ℕ, ◌&&◌, ◌+◌, ◌<◌, ◌==◌, ◌^◌, ◌||◌, ◌↔◌, ◌∙◌, ◌∷◌, ◌≡◌, ◌≢◌, only_bit, same_answers, one_bit}
 use Rattle.std.specs.Bool.{OnFalse}
 use Rattle.std.proofs.lemmas.Nat.Bits.{bit_at-trailing_zeros}
-use Rattle.acl_normal.proofs.unique.Bits.{has_power, power_has}
-use Rattle.acl_normal.proofs.unique.Realised.{same_answers}
-use Rattle.acl_normal.proofs.unique.SameKeys.{alike}
 use Rattle.acl_normal.specs.Left.{IsLowest}
 use Rattle.acl_normal.specs.internal.comparison.SetSearch.{AreDiffering, HasBitsOf, IsLowestDifference}
 use Rattle.acl_perm.proofs.Sets.{mask_from_bits}
@@ -27,7 +24,7 @@ step_allow : (a : Ace) (rest : List Ace) (set : List Principal) (granted decided
 step_allow a rest set granted decided own less new more bit d u v h k =
     grind (arith, granted_to-cons a rest set bit, d bit, u bit, v bit, h.bits bit)
 
--- one that denies only decides them
+-- an ACE that denies decides its bits and grants none
 step_deny : (a : Ace) (rest : List Ace) (set : List Principal) (granted decided own more bit : ℕ)
     → IsUnion decided own more → HasBitsOf a set own → a.kind ≡ Deny
     → decides granted more rest set bit ≡ decides granted decided (a ∷ rest) set bit
@@ -38,7 +35,7 @@ step_deny a rest set granted decided own more bit v h k =
 pub record DecidesAll (refs : List AceRef) (set : List Principal) (i granted decided : ℕ) : Type 0 where
   pub bits : (bit : ℕ) → decides granted decided (aces_in (drop i refs)) set bit ≡ is_granted_to (aces_in refs) set bit
 
--- the step at an ACE that allows
+-- after an ACE that allows, what is granted and decided still decides as the whole list
 pub loop_allow : (refs : List AceRef) (x : AceRef) (set : List Principal)
     (granted decided was own less new now more i : ℕ) → i < length refs → x ≡ slice_index_or refs i x → was ≡ decided
     → now ≡ new → IsDifference own decided less → IsUnion granted less new → IsUnion was own more
@@ -54,7 +51,7 @@ loop_allow refs x set granted decided was own less new now more i lt at old late
       ∙ sym (at_drop_more (λ r. decides granted decided (aces_in r) set bit) refs i x lt) ∙ inv.bits bit;
 }
 
--- the step at one that denies
+-- after an ACE that denies, what is granted and decided still decides as the whole list
 pub loop_deny : (refs : List AceRef) (x : AceRef) (set : List Principal) (granted decided was own now more i : ℕ)
     → i < length refs → x ≡ slice_index_or refs i x → was ≡ decided → now ≡ granted → IsUnion was own more
     → HasBitsOf (ace x) set own → x.kind ≡ Deny
@@ -84,7 +81,7 @@ differing_are list other set m n result h i is = record {
   bits = λ bit. is bit ∙ rw (h.bits bit, i.bits bit) refl;
 }
 
--- no right differs exactly if the lists grant alike
+-- there is no right on which the lists differ if and only if they grant alike
 pub none_differ : (list other : List Ace) (set : List Principal) (rights : ℕ) → IsMask rights
     → AreDiffering list other set rights → (rights ≡ 0) ↔ GrantAlikeTo list other set
 none_differ list other set rights within h = (
@@ -99,7 +96,7 @@ none_differ list other set rights within h = (
         false≢true (sym (differ_itself (is_granted_to other set bit))
         ∙ ap (λ v. differ v (is_granted_to other set bit)) (sym same) ∙ sym (h.bits bit) ∙ has)
 
--- the same of the test for zero
+-- if the rights on which the lists differ are not zero, the lists do not grant alike
 pub tells_unlike : (list other : List Ace) (set : List Principal) (rights : ℕ) → IsMask rights
     → AreDiffering list other set rights → OnFalse (rights == 0) (GrantAlikeTo list other set → ⊥)
 tells_unlike list other set rights within h = go (rights == 0) refl
@@ -117,19 +114,19 @@ lowest_is rights ne within =
 -- a bit of a set of rights is one right
 pub one_right : (rights mask k : ℕ) → IsMask rights → has_bit rights k ≡ true → mask ≡ 2 ^ k → IsMask mask
 one_right rights mask k within has is = mask_from_bits mask (λ b h.
-    let same : b ≡ k = power_has k b (subst (λ m. has_bit m b ≡ true) is h) in
+    let same : b ≡ k = only_bit k b (subst (λ m. has_bit m b ≡ true) is h) in
     subst (λ v. has_bit all_rights v ≡ true) (sym same) (bits_from_mask rights k within has))
 
--- a set has one right as a part exactly if it has the bit
+-- a set has one right as a part if and only if it has the bit
 has_part : (mask granted k : ℕ) (part : Bool) → mask ≡ 2 ^ k → IsTrue part ↔ IsSubset mask granted
     → part ≡ has_bit granted k
 has_part mask granted k part is h = same_answers part (has_bit granted k)
-    (λ e. h.0 e k (subst (λ m. has_bit m k ≡ true) (sym is) (has_power k)))
+    (λ e. h.0 e k (subst (λ m. has_bit m k ≡ true) (sym is) (one_bit k)))
     (λ has. h.1 (λ b i.
-    let same : b ≡ k = power_has k b (subst (λ m. has_bit m b ≡ true) is i) in
+    let same : b ≡ k = only_bit k b (subst (λ m. has_bit m b ≡ true) is i) in
     subst (λ v. has_bit granted v ≡ true) (sym same) has))
 
--- the lowest of the rights on which the lists differ
+-- the lowest right on which the lists differ, as a set of one right, is their lowest difference
 pub lowest_difference : (list other : List Ace) (set : List Principal) (rights mask granted k : ℕ) (first : Bool)
     → IsMask rights → AreDiffering list other set rights → IsLowest k rights → mask ≡ 2 ^ k
     → IsGrantedTo list set granted → IsTrue first ↔ IsSubset mask granted
@@ -149,7 +146,7 @@ pub record Covers (refs : List AceRef) (i rights : ℕ) : Type 0 where
   pub columns : (bit : ℕ) → has_bit rights bit ≡ false
       → column (aces_in (drop i refs)) bit ≡ column (aces_in refs) bit
 
--- the step at an ACE
+-- with the rights of one more ACE, the rest of the list has the columns of the whole
 pub covers_more : (refs : List AceRef) (x : AceRef) (i rights more : ℕ) → i < length refs
     → x ≡ slice_index_or refs i x → IsUnion rights x.mask.bits more → Covers refs i rights → Covers refs (i + 1) more
 covers_more refs x i rights more lt at u h = record {

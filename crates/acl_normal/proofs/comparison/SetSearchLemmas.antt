@@ -1,4 +1,4 @@
--- Going over the small sets, one after the other.
+-- The search through the small sets, one after the other.
 use Rattle.acl_normal.proofs.Common.{[], Ace, cond, drop, drop_all, drop_more, FindsFirst, GrantAlikeTo, inl, inr, length, List, may_overlap, None, Option, principal_pairs, partners, Principal, principal, principals, refl, singles, slice_index_or, small_sets, Some, subst, true, ℕ, ◌++◌, ◌+◌, ◌<◌, ◌∷◌, ◌≡◌, ◌≤◌}
 use Rattle.std.proofs.lemmas.Bool.{cases_Bool}
 use Rattle.acl_perm.specs.declared.principal.Principal.{Principal as PrincipalRef}
@@ -8,16 +8,16 @@ use Rattle.acl_normal.specs.internal.comparison.SetSearch.{FindsSet}
 pub record GoesOn (xs ys : List Ace) (rest whole : List (List Principal)) : Type 0 where
   pub found : (r : Option (List Principal)) → FindsFirst xs ys rest r → FindsFirst xs ys whole r
 
--- at the start nothing has been gone over
+-- at the start the sets that are left are all sets
 pub goes_on_all : (xs ys : List Ace) (whole : List (List Principal)) → GoesOn xs ys whole whole
 goes_on_all xs ys whole = record { found = λ r h. h }
 
--- the search ends at a set at which the lists grant otherwise
+-- the search ends at a set at which the lists do not grant the same
 pub found_here : (xs ys : List Ace) (ps : List Principal) (rest whole : List (List Principal))
     → (GrantAlikeTo xs ys ps → ⊥) → GoesOn xs ys (ps ∷ rest) whole → FindsSet xs ys whole (Some ps)
 found_here xs ys ps rest whole d g = record { first = g.found (Some ps) (inr (d, refl)) }
 
--- and goes on behind one at which they grant alike
+-- the search goes on behind a set at which the lists grant alike
 pub found_later : (xs ys : List Ace) (ps : List Principal) (rest whole : List (List Principal))
     → GrantAlikeTo xs ys ps → GoesOn xs ys (ps ∷ rest) whole → GoesOn xs ys rest whole
 found_later xs ys ps rest whole a g = record { found = λ r h. g.found r (inl (a, h)) }
@@ -35,7 +35,7 @@ single_here xs ys names p whole i lt d g =
     found_here xs ys _ (singles (principals (drop (i + 1) names))) whole d
     (subst (λ v. GoesOn xs ys (singles (principals v)) whole) (drop_more names i p lt) g)
 
--- or goes on behind it
+-- the search goes on behind a principal to whom alone the lists grant alike
 pub single_later : (xs ys : List Ace) (names : List PrincipalRef) (p : PrincipalRef) (whole : List (List Principal))
     (i : ℕ) → i < length names → GrantAlikeTo xs ys (principal (slice_index_or names i p) ∷ [])
     → GoesOn xs ys (singles (principals (drop i names))) whole
@@ -44,7 +44,7 @@ single_later xs ys names p whole i lt a g =
     found_later xs ys (principal (slice_index_or names i p) ∷ []) (singles (principals (drop (i + 1) names))) whole a
     (subst (λ v. GoesOn xs ys (singles (principals v)) whole) (drop_more names i p lt) g)
 
--- or finds none
+-- the search among single principals finds none after the last one
 pub single_none : (xs ys : List Ace) (names : List PrincipalRef) (whole : List (List Principal)) (i : ℕ)
     → length names ≤ i → GoesOn xs ys (singles (principals (drop i names))) whole → FindsSet xs ys whole None
 single_none xs ys names whole i le g =
@@ -64,7 +64,7 @@ partner_here xs ys s others q whole i lt o d g =
     subst (λ v. GoesOn xs ys (partners s (principals v)) whole) (drop_more others i q lt) g in
     found_here xs ys _ rest whole d (subst (λ b. GoesOn xs ys (cond b ((s ∷ t ∷ []) ∷ rest) rest) whole) o here)
 
--- or goes on behind one
+-- the search goes on behind a partner with whom the lists grant alike, if the two may overlap
 pub partner_later : (xs ys : List Ace) (s : Principal) (others : List PrincipalRef) (q : PrincipalRef)
     (whole : List (List Principal)) (i : ℕ) → i < length others
     → (may_overlap s (principal (slice_index_or others i q)) ≡ true
@@ -81,21 +81,21 @@ partner_later xs ys s others q whole i lt a g =
       | inr e ↦ rw e at here
     ]
 
--- or finds none
+-- the search among partners finds none after the last one
 pub partner_none : (xs ys : List Ace) (s : Principal) (others : List PrincipalRef) (whole : List (List Principal))
     (i : ℕ) → length others ≤ i → GoesOn xs ys (partners s (principals (drop i others))) whole
     → FindsSet xs ys whole None
 partner_none xs ys s others whole i le g =
     found_none xs ys whole (subst (λ v. GoesOn xs ys (partners s (principals v)) whole) (drop_all i others le) g)
 
--- what is found in the first part is found in both, and where nothing is, the second part decides
+-- what is found in the first part is found in both
 pub found_left : (xs ys : List Ace) (left right : List (List Principal)) (ps : List Principal)
     → FindsFirst xs ys left (Some ps) → FindsFirst xs ys (left ++ right) (Some ps)
 found_left xs ys [] right ps h = cc
 found_left xs ys (s ∷ left) right ps (inl h) = inl (h.0, found_left xs ys left right ps h.1)
 found_left xs ys (s ∷ left) right ps (inr h) = inr h
 
--- where the first part has none, the second decides
+-- if nothing is found in the first part, what is found in the second part is found in both
 pub found_right : (xs ys : List Ace) (left right : List (List Principal)) (r : Option (List Principal))
     → FindsFirst xs ys left None → FindsFirst xs ys right r → FindsFirst xs ys (left ++ right) r
 found_right xs ys [] right r h i = i
@@ -118,7 +118,7 @@ pair_here xs ys names others p whole i ps lt is h g =
           h.first));
     }
 
--- or goes on behind them
+-- the search goes on behind the pairs of one principal of which none is found
 pub pair_later : (xs ys : List Ace) (names others : List PrincipalRef) (p : PrincipalRef)
     (whole : List (List Principal)) (i : ℕ) → i < length names → others ≡ drop (i + 1) names
     → FindsSet xs ys (partners (principal (slice_index_or names i p)) (principals others)) None
@@ -135,13 +135,13 @@ pair_later xs ys names others p whole i lt is h g =
           later);
     }
 
--- or finds none
+-- the search among pairs finds none after the last principal
 pub pair_none : (xs ys : List Ace) (names : List PrincipalRef) (whole : List (List Principal)) (i : ℕ)
     → length names ≤ i → GoesOn xs ys (principal_pairs (principals (drop i names))) whole → FindsSet xs ys whole None
 pair_none xs ys names whole i le g =
     found_none xs ys whole (subst (λ v. GoesOn xs ys (principal_pairs (principals v)) whole) (drop_all i names le) g)
 
--- the three parts together
+-- the empty set is found first if the lists do not grant the same there
 pub empty_differs : (xs ys : List Ace) (ps : List Principal) → (GrantAlikeTo xs ys [] → ⊥)
     → FindsSet xs ys (small_sets ps) (Some [])
 empty_differs xs ys ps d = record { first = inr (d, refl) }

@@ -1,16 +1,16 @@
 -- The small situations of two lists decide whether the lists grant the same.
 use Rattle.std.specs.Prelude.{IsFalse}
-use Rattle.acl_normal.proofs.Common.{[], Ace, all_rights, AllByRecursion, ap, arith, Bool, column, Deny, everyone, false, false≢true, FindsFirst, GrantAlikeTo, has_bit, HasName, HasNames, inl, inr, is_allow, is_among, is_granted_to, IsRisingSet, IsSituation, IsTrue, Kind, length, Less, List, longest, map, map-append, matches, may_overlap, mentioned, None, not, or_cases, or_left, principal_pairs, partners, Principal, principal_cmp, principal_eq, principal_name, principal_total, refl, SameGrants, singles, Situation, small_sets, small_situation, Some, subst, sym, true, unwrap_or, user, ℕ, ⊎_elim, ◌++◌, ◌+◌, ◌<◌, ◌^◌, ◌||◌, ◌↔◌, ◌∙◌, ◌∷◌, ◌≡◌, ◌≢◌, ◌⊎◌}
+use Rattle.acl_normal.proofs.Common.{[], Ace, all_rights, AllByRecursion, ap, arith, Bool, column, Deny, everyone, false, false≢true, FindsFirst, GrantAlikeTo, has_bit, HasName, HasNames, inl, inr, is_allow, is_among, is_granted_to, IsRisingSet, IsSituation, IsTrue, Kind, length, Less, List, longest, map, map-append, matches, may_overlap, mentioned, None, not, or_cases, or_left, principal_pairs, partners, Principal, principal_cmp, principal_eq, principal_name, refl, SameGrants, singles, Situation, small_sets, small_situation, Some, subst, sym, true, unwrap_or, user, ℕ, ⊎_elim, ◌++◌, ◌+◌, ◌<◌, ◌^◌, ◌||◌, ◌↔◌, ◌∙◌, ◌∷◌, ◌≡◌, ◌≢◌, ◌⊎◌, only_bit, one_bit}
 use Rattle.acl_eval.specs.Grant.{Grant, grants_bit}
 use Rattle.std.proofs.lemmas.Bool.{cond_both}
 use Rattle.acl_normal.proofs.Each.{all_append, all_left, at_split, all_right}
-use Rattle.acl_normal.proofs.unique.Bits.{has_power, power_has}
 use Rattle.acl_normal.proofs.unique.ListColumns.{same_grants_from_columns, same_verdicts}
 use Rattle.acl_normal.proofs.comparison.MentionedPrincipals.{IsOneOf, column_is_short, first_has, mentioned_named, mentioned_others, mentioned_rising, one_is_short, second_has}
 use Rattle.acl_normal.proofs.unique.Names.{overlaps_itself, principal_eq_same, longest_name}
 use Rattle.acl_normal.proofs.unique.Realised.{HasOneUser, first_kind_alike, one_user, small_is_situation, small_matches}
 use Rattle.acl_normal.proofs.unique.Small.{IsSmallSet, none, one, small_suffice, two}
 use Rattle.acl_normal.specs.SmallSets.{GrantAlike, IsFirstDifference, SmallSituationsSuffice, TellsApart, strange_length}
+use Rattle.acl_normal.proofs.comparison.Ordered.{below_one, not_below_itself, not_both_below}
 
 -- what holds of mapped elements holds of the elements by their map
 pub all_mapped : {X Y : Type 0} (P : Y → Type 0) (f : X → Y) (xs : List X) → AllByRecursion P (map f xs)
@@ -18,7 +18,7 @@ pub all_mapped : {X Y : Type 0} (P : Y → Type 0) (f : X → Y) (xs : List X) �
 all_mapped P f [] h = tt
 all_mapped P f (x ∷ xs) h = (h.0, all_mapped P f xs h.1)
 
--- along two facts of each element, to the mapped list
+-- what follows from two facts of each element holds of each mapped element
 pub all_map_by : {X Y : Type 0} (S Q : X → Type 0) (P : Y → Type 0) (f : X → Y) (xs : List X)
     → ((x : X) → S x → Q x → P (f x)) → AllByRecursion S xs → AllByRecursion Q xs → AllByRecursion P (map f xs)
 all_map_by S Q P f [] g h i = tt
@@ -26,13 +26,13 @@ all_map_by S Q P f (x ∷ xs) g h i = (g x h.0 i.0, all_map_by S Q P f xs g h.1 
 
 -- each set of the enumeration is small
 
--- the sets of one principal are small
+-- the sets of one principal each are small
 pub all_singles : (P : Principal → Type 0) (ps : List Principal) → AllByRecursion P ps
     → AllByRecursion (λ p. principal_eq p everyone ≡ false) ps → AllByRecursion (IsSmallSet P) (singles ps)
 all_singles P [] h o = tt
 all_singles P (p ∷ ps) h o = (one p h.0 o.0, all_singles P ps h.1 o.1)
 
--- those of one and a later one that may overlap are
+-- the sets of a principal and a later one that may overlap are small
 pub all_partners : (P : Principal → Type 0) (p : Principal) (ps : List Principal) → P p
     → principal_eq p everyone ≡ false → AllByRecursion P ps → AllByRecursion (λ q. principal_eq q everyone ≡ false) ps
     → AllByRecursion (λ q. principal_cmp p q ≡ Less) ps → AllByRecursion (IsSmallSet P) (partners p ps)
@@ -42,7 +42,7 @@ all_partners P p (q ∷ ps) hp op h o below =
     cond_both (may_overlap p q) _ _ (AllByRecursion (IsSmallSet P))
     (λ e. (two p q hp h.0 op o.0 e below.0, later)) (λ e. later)
 
--- all sets of two are
+-- the sets of two rising principals that may overlap are small
 pub all_pairs : (P : Principal → Type 0) (ps : List Principal) → AllByRecursion P ps
     → AllByRecursion (λ p. principal_eq p everyone ≡ false) ps → IsRisingSet ps
     → AllByRecursion (IsSmallSet P) (principal_pairs ps)
@@ -50,7 +50,7 @@ all_pairs P [] h o r = tt
 all_pairs P (p ∷ ps) h o r = all_append (IsSmallSet P) (partners p ps) (principal_pairs ps)
     (all_partners P p ps h.0 o.0 h.1 o.1 r.0) (all_pairs P ps h.1 o.1 r.1)
 
--- all sets of the list are
+-- each of the small sets of rising principals has at most two of them, without everyone
 pub all_small : (P : Principal → Type 0) (ps : List Principal) → AllByRecursion P ps
     → AllByRecursion (λ p. principal_eq p everyone ≡ false) ps → IsRisingSet ps
     → AllByRecursion (IsSmallSet P) (small_sets ps)
@@ -60,24 +60,15 @@ all_small P ps h o r = (
       (all_pairs P ps h o r),
 )
 
--- each small set stands in the enumeration
+-- each small set is one of the list
 
--- what holds of all principals holds of one among them
-pub below_one : (P : Principal → Type 0) (ps : List Principal) (p : Principal) → AllByRecursion P ps
-    → is_among p ps ≡ true → P p
-below_one P [] p h i = cc
-below_one P (x ∷ ps) p h i = ⊎_elim
-    (λ e. subst P (sym (principal_eq_same p x e)) h.0)
-    (λ j. below_one P ps p h.1 j)
-    (or_cases (principal_eq p x) (is_among p ps) i)
-
--- what holds of each set of one holds of each principal's
+-- what holds of each set of one principal holds of each principal alone
 of_singles : (Q : List Principal → Type 0) (ps : List Principal) → AllByRecursion Q (singles ps)
     → AllByRecursion (λ p. Q (p ∷ [])) ps
 of_singles Q [] h = tt
 of_singles Q (p ∷ ps) h = (h.0, of_singles Q ps h.1)
 
--- what holds of each set of one and a later one holds of each later one that may overlap
+-- what holds of the sets of a principal and a later one holds of it with each later one that may overlap
 of_partners : (Q : List Principal → Type 0) (p : Principal) (ps : List Principal) → AllByRecursion Q (partners p ps)
     → AllByRecursion (λ q. may_overlap p q ≡ true → Q (p ∷ q ∷ [])) ps
 of_partners Q p [] h = tt
@@ -89,15 +80,7 @@ of_partners Q p (x ∷ ps) h = go (may_overlap p x) refl (of_partners Q p ps)
     go true e ih = let here = rw e at h in (λ o. here.0, ih here.1)
     go false e ih = (λ o. absurd (false≢true (sym e ∙ o)), ih (rw e at h))
 
--- nothing is below itself
-pub not_below_itself : (p : Principal) → principal_cmp p p ≡ Less → ⊥
-not_below_itself p h = let back = principal_total.antisymm p p in cc
-
--- of two only one is below the other
-pub not_both_below : (p q : Principal) → principal_cmp p q ≡ Less → principal_cmp q p ≡ Less → ⊥
-not_both_below p q h i = not_below_itself p (principal_total.trans p q p h i)
-
--- what holds of each set of two holds at each two that may overlap
+-- what holds of each set of two principals holds of each two that may overlap, with the lesser first
 pub at_pair : (Q : List Principal → Type 0) (p q : Principal) (ps : List Principal) → IsRisingSet ps
     → AllByRecursion Q (principal_pairs ps) → is_among p ps ≡ true → is_among q ps ≡ true → may_overlap p q ≡ true
     → principal_cmp p q ≡ Less → Q (p ∷ q ∷ [])
@@ -123,7 +106,7 @@ at_pair Q p q (x ∷ ps) r h i j o l =
         (below_one (λ v. principal_cmp x v ≡ Less) ps p r.0 e)))
     go (inr e) (inr f) ih = ih e f o l
 
--- who is everyone or one of these, and not everyone, is one of these
+-- a principal that is one of these or everyone, and not everyone, is one of these
 pub among_others : (ps : List Principal) (p : Principal) → IsOneOf ps p → principal_eq p everyone ≡ false
     → is_among p ps ≡ true
 among_others ps p h e = subst (λ t. (t || is_among p ps) ≡ true) e h
@@ -140,7 +123,7 @@ at_small Q ps _ r h (two p q m n e f o l) =
 
 -- what a small set is
 
--- what holds of the principals of a small set holds of each
+-- what holds of the principals of a small set holds of each of them
 pub small_each : (P : Principal → Type 0) (set : List Principal) → IsSmallSet P set → AllByRecursion P set
 small_each P _ none = tt
 small_each P _ (one p m e) = (m, tt)
@@ -156,12 +139,12 @@ small_one_user P _ (one p m e) a b h i =
     one_of r h = ⊎_elim (λ e. e) (λ e. absurd (false≢true e)) (or_cases (principal_eq r p) false h)
 small_one_user P _ (two p q m k e f o l) a b h i = one_user p q o a b h i
 
--- names are shorter than more than the longest
+-- if a number is more than the longest name, each name is shorter
 pub all_short : (ps : List Principal) (n : ℕ) → longest ps < n → AllByRecursion (λ p. length (principal_name p) < n) ps
 all_short [] n h = tt
 all_short (p ∷ ps) n h = (omega arith, all_short ps n (omega arith))
 
--- in the small situation the list grants what it grants to the set
+-- in the small situation of a set, a list grants what it grants to the set
 pub situation_is_set : (n : ℕ) (set : List Principal) (xs : List Ace) (b : ℕ) → 0 < n
     → IsSmallSet (λ p. length (principal_name p) < n) set → longest_name (column xs b) < n
     → grants_bit xs (small_situation n set) b ≡ is_granted_to xs set b
@@ -200,7 +183,7 @@ both_situations xs ys set b small = (
       (column_is_short (mentioned xs ys) (column ys b) (second_has b xs ys)),
 )
 
--- the lists agree in the small situation just where they agree at the set
+-- the lists agree in the small situation of a set if and only if they agree at the set
 pub alike_in_situation : (xs ys : List Ace) (set : List Principal)
     → IsSmallSet (λ p. length (principal_name p) < strange_length xs ys) set
     → (GrantAlike xs ys (small_situation (strange_length xs ys) set)) ↔ (GrantAlikeTo xs ys set)
@@ -209,13 +192,13 @@ alike_in_situation xs ys set small = (
   λ h b i. (both_situations xs ys set b small).0 ∙ h b i ∙ sym (both_situations xs ys set b small).1,
 )
 
--- the sets of mentioned principals have names shorter than the strange ones
+-- the small sets of the mentioned principals have names shorter than the strange ones
 pub sets_short : (xs ys : List Ace)
     → AllByRecursion (IsSmallSet (λ p. length (principal_name p) < strange_length xs ys)) (small_sets (mentioned xs ys))
 sets_short xs ys = all_small _ (mentioned xs ys) (all_short (mentioned xs ys) (strange_length xs ys) (omega arith))
     (mentioned_others xs ys) (mentioned_rising xs ys)
 
--- and names, if those of the lists are
+-- the small sets of the mentioned principals have names, if the lists have names
 pub sets_named : (xs ys : List Ace) → HasNames xs → HasNames ys
     → AllByRecursion (IsSmallSet HasName) (small_sets (mentioned xs ys))
 sets_named xs ys h i = all_small HasName (mentioned xs ys) (mentioned_named xs ys h i) (mentioned_others xs ys)
@@ -229,7 +212,7 @@ pub record FirstSet (xs ys : List Ace) (sets : List (List Principal)) (set : Lis
   pub alike : AllByRecursion (GrantAlikeTo xs ys) before
   pub differs : GrantAlikeTo xs ys set → ⊥
 
--- the set that is found stands in the list, and the lists grant alike at those before it
+-- the set that is found is one of the sets, and the lists grant alike at those before it
 pub first_set : (xs ys : List Ace) (sets : List (List Principal)) (set : List Principal)
     → FindsFirst xs ys sets (Some set) → FirstSet xs ys sets set
 first_set xs ys [] set h = cc
@@ -254,14 +237,14 @@ first_set xs ys (ps ∷ sets) set (inr h) =
           subst (λ v. GrantAlikeTo xs ys v → ⊥) same h.0;
     }
 
--- where none is found, the lists grant alike at all
+-- if no set is found, the lists grant alike at all sets
 pub none_differs : (xs ys : List Ace) (sets : List (List Principal)) → FindsFirst xs ys sets None
     → AllByRecursion (GrantAlikeTo xs ys) sets
 none_differs xs ys [] h = tt
 none_differs xs ys (ps ∷ sets) (inl h) = (h.0, none_differs xs ys sets h.1)
 none_differs xs ys (ps ∷ sets) (inr h) = absurd (cc)
 
--- and so grant the same
+-- if no small set of the mentioned principals is found, the lists grant the same
 pub none_then_same : (xs ys : List Ace) → FindsFirst xs ys (small_sets (mentioned xs ys)) None
     → SameGrants all_rights xs ys
 none_then_same xs ys h =
@@ -271,7 +254,7 @@ none_then_same xs ys h =
     (λ set small alike. (alike_in_situation xs ys set small).1 alike) (sets_short xs ys)
     (none_differs xs ys (small_sets (mentioned xs ys)) h))
 
--- the small situation of the set that is found first is one of names, if those of the lists are
+-- the small situation of the set that is found first has names, if the lists have names
 pub found_is_situation : (xs ys : List Ace) (set : List Principal) → HasNames xs → HasNames ys
     → FindsFirst xs ys (small_sets (mentioned xs ys)) (Some set)
     → IsSituation (small_situation (strange_length xs ys) set)
@@ -281,7 +264,7 @@ found_is_situation xs ys set nx ny h =
     (sets_named xs ys nx ny) in
     small_is_situation (strange_length xs ys) set (omega arith) (small_each HasName set named)
 
--- lists that differ at a small set grant otherwise
+-- if a small set is found, the lists do not grant the same
 pub some_then_differ : (xs ys : List Ace) (set : List Principal) → HasNames xs → HasNames ys
     → FindsFirst xs ys (small_sets (mentioned xs ys)) (Some set) → SameGrants all_rights xs ys → ⊥
 some_then_differ xs ys set nx ny h same =
@@ -292,7 +275,7 @@ some_then_differ xs ys set nx ny h same =
     s.differs ((alike_in_situation xs ys set small).0
     (λ b i. ap is_allow (same_verdicts xs ys same b i (small_situation (strange_length xs ys) set) valid)))
 
--- from the first set, and the lowest bit on which the lists differ at it
+-- the first set and the lowest bit on which the lists differ there are their first difference
 pub first_difference : (xs ys : List Ace) (set : List Principal) (bit mask : ℕ) (first : Bool)
     → FindsFirst xs ys (small_sets (mentioned xs ys)) (Some set) → mask ≡ 2 ^ bit → has_bit all_rights bit ≡ true
     → is_granted_to xs set bit ≢ is_granted_to ys set bit
@@ -325,13 +308,13 @@ first_difference xs ys set bit mask first h is_power sixteen differs lowest gran
       };
     }
 
--- a request of one bit is granted just as the bit is
+-- a request of one bit is granted if and only if the bit is
 one_bit_granted : (xs : List Ace) (s : Situation) (bit mask : ℕ) (first : Bool) → mask ≡ 2 ^ bit
     → first ≡ grants_bit xs s bit → Grant xs s mask ↔ IsTrue first
 one_bit_granted xs s bit mask first is h = (
-  λ g. h ∙ g bit (subst (λ m. has_bit m bit ≡ true) (sym is) (has_power bit)),
+  λ g. h ∙ g bit (subst (λ m. has_bit m bit ≡ true) (sym is) (one_bit bit)),
   λ e b i.
-      let same : b ≡ bit = power_has bit b (subst (λ m. has_bit m b ≡ true) is i) in
+      let same : b ≡ bit = only_bit bit b (subst (λ m. has_bit m b ≡ true) is i) in
       subst (λ v. grants_bit xs s v ≡ true) (sym same) (sym h ∙ e),
 )
 
@@ -344,7 +327,7 @@ false_by_not : (x : Bool) → IsTrue (not x) ↔ IsFalse x
 false_by_not true = (λ e. sym e, λ e. sym e)
 false_by_not false = (λ _. refl, λ _. refl)
 
--- the requester of a first difference tells the lists apart
+-- the lists answer the requester of a first difference differently
 pub tells_apart : (xs ys : List Ace) (s : Situation) (mask : ℕ) (first : Bool) → IsSituation s
     → IsFirstDifference xs ys s mask first → TellsApart xs ys s mask first
 tells_apart xs ys s mask first valid difference =

@@ -1,8 +1,9 @@
 -- Tables that show which standings invert another.
-use Rattle.acl_normal.proofs.Common.{[], Ace, all_mentioned, AllByRecursion, AllZip, and_parts, ap, arith, Bool, cases_eq, cond, differ, eq-eqb, false, first_place, get_or-replicate, get_or-set_other, get_or-set_same, get_or_read, inl, inr, inverts, inverts_any, is_of_camp, is_users, IsStanding, Kind, le-ltb, length, length-replicate, length-set, List, max, nat_lt, ne_eqb, no_standing, not, Principal, refl, replicate, slice_index_or, slice_set, StandAs, Standing, subst, sym, take, take_more, true, TwoLists, ℕ, ◌&&◌, ◌++◌, ◌+◌, ◌-◌, ◌<◌, ◌==◌, ◌||◌, ◌∙◌, ◌∷◌, ◌≡◌, ◌≤◌, ◌⊎◌}
+use Rattle.acl_normal.proofs.Common.{Ace, AllByRecursion, AllZip, Bool, IsStanding, Kind, List, Principal, StandAs, Standing, TwoLists, [], all_mentioned, and_parts, ap, arith, cases_eq, cond, differ, eq-eqb, false, first_place, get_or-replicate, get_or-set_other, get_or-set_same, get_or_default, get_or_read, inl, inr, inverts, inverts_any, is_of_camp, is_users, le-ltb, length, length-replicate, length-set, max, nat_lt, ne_eqb, no_standing, not, refl, replicate, slice_index_or, slice_set, subst, sym, take, take_more, true, ℕ, ◌&&◌, ◌++◌, ◌+◌, ◌-◌, ◌<◌, ◌==◌, ◌||◌, ◌∙◌, ◌∷◌, ◌≡◌, ◌≤◌, ◌⊎◌}
 use Rattle.std.proofs.lemmas.Bool.Decides.{nat_tests}
+use Rattle.std.proofs.lemmas.List.{get_or-take, length-take-le}
 use Rattle.acl_normal.proofs.Each.{all_at}
-use Rattle.acl_normal.specs.internal.comparison.PlaceTables.{IsStandingWithin, IsFirstOf, IsScattered, IsPlaceTable, Raises, is_counted, is_told, most_at, most_before, other_place, place_of}
+use Rattle.acl_normal.specs.internal.comparison.PlaceTables.{IsFirstOf, IsPlaceTable, IsScattered, IsStandingWithin, Raises, is_counted, is_inverting, most_at, most_before, other_place, place_of}
 use Rattle.acl_normal.specs.internal.comparison.TwoLists.{AreWithin}
 use Rattle.acl_normal.specs.declared.class.Class.{Class}
 use Rattle.acl_normal.specs.declared.comparison.inversions.Camp.{Camp}
@@ -20,23 +21,23 @@ pub most_at-append : (q : Camp) (w : Side) (k : ℕ) (xs ys : List Standing)
 most_at-append q w k [] ys = omega arith
 most_at-append q w k (r ∷ xs) ys = let ih = most_at-append q w k xs ys in omega arith
 
--- nothing stands just before place 0
+-- no standing is just before place 0
 pub at_zero : (q : Camp) (w : Side) (rows : List Standing) → most_at q w 0 rows ≡ 0
 at_zero q w [] = refl
 at_zero q w (r ∷ rows) =
     grind (arith, at_zero q w rows, ne_eqb (place_of w r + 1) 0 (λ e. absurd (omega arith)))
 
--- nothing stands before place 0
+-- no standing is before place 0
 pub before_zero : (q : Camp) (w : Side) (rows : List Standing) → most_before q w 0 rows ≡ 0
 before_zero q w [] = refl
 before_zero q w (r ∷ rows) = grind (arith, before_zero q w rows, le-ltb (place_of w r) 0 (omega arith))
 
--- the head's share, one place on
+-- what a standing adds one place on is the greater of what it adds there and what it adds before
 one_more : (t : Bool) (k j v : ℕ)
     → cond (t && nat_lt j (k + 1)) v 0 ≡ max (cond (t && (j + 1 == k + 1)) v 0) (cond (t && nat_lt j k) v 0)
 one_more t k j v = grind (arith, nat_tests)
 
--- one place on, those just before it are added
+-- the greatest before the next place is the greater of the greatest at that place and that before it
 pub before_more : (q : Camp) (w : Side) (k : ℕ) (rows : List Standing)
     → most_before q w (k + 1) rows ≡ max (most_at q w (k + 1) rows) (most_before q w k rows)
 before_more q w k [] = refl
@@ -45,18 +46,18 @@ before_more q w k (r ∷ rows) =
     let ih = before_more q w k rows in
     omega arith
 
--- some standing counts, stands before k, and isn't before v in the other list
+-- some standing counts, is before k in its list, and isn't before v in the other list
 abbrev pub any_over : Camp → Side → ℕ → ℕ → List Standing → Bool
 any_over q w k v [] = false
 any_over q w k v (r ∷ rows) =
     (is_counted q r && (nat_lt (place_of w r) k && not (nat_lt (other_place w r) v))) || any_over q w k v rows
 
--- one standing, and the others
+-- the greatest is over a number if and only if the first standing is, or that of the others is
 over_head : (t l : Bool) (v x m : ℕ)
     → nat_lt v (max (cond (t && l) (x + 1) 0) m) ≡ ((t && (l && not (nat_lt x v))) || nat_lt v m)
 over_head t l v x m = grind (arith, nat_tests)
 
--- the greatest is over a number exactly if some standing is
+-- the greatest is over a number if and only if that of some standing is
 pub over_is : (q : Camp) (w : Side) (k v : ℕ) (rows : List Standing)
     → nat_lt v (most_before q w k rows) ≡ any_over q w k v rows
 over_is q w k v [] = le-ltb v 0 (omega arith)
@@ -65,12 +66,12 @@ over_is q w k v (r ∷ rows) =
     ∙ ap (λ t. (is_counted q r && (nat_lt (place_of w r) k && not (nat_lt (other_place w r) v))) || t)
     (over_is q w k v rows)
 
--- one order in one list and the other in the other, either way round
+-- two orders differ if and only if one holds and the other does not, either way round
 either_order : (c l m x y : Bool)
     → ((c && differ l m) || (x || y)) ≡ (((c && (l && not m)) || x) || ((c && (m && not l)) || y))
 either_order c l m x y = grind arith
 
--- a standing inverts another just where the tables, in one direction or in the other, say so
+-- a standing inverts another if and only if one is over its place, in one direction or in the other
 pub inverts_is : (r : Standing) (rows : List Standing)
     → inverts_any r rows ≡ (any_over (camp_of r) Here r.here.place r.there.place rows || any_over
     (camp_of r) There r.there.place r.here.place rows)
@@ -81,7 +82,7 @@ inverts_is r (s ∷ rows) =
     (nat_lt s.there.place r.there.place) (any_over (camp_of r) Here r.here.place r.there.place rows)
     (any_over (camp_of r) There r.there.place r.here.place rows)
 
--- the same, by what the tables hold
+-- a standing inverts another if and only if one of two greatest values is over its place
 pub inverts_by_tables : (r : Standing) (rows : List Standing) (f s : ℕ)
     → f ≡ most_before (camp_of r) Here r.here.place rows
     → s ≡ most_before (camp_of r) There r.there.place rows
@@ -95,7 +96,7 @@ inverts_by_tables r rows f s h i =
           (camp_of r) There r.there.place r.here.place rows,
     ) refl
 
--- a standing that counts raises what stands behind its place
+-- a standing that counts raises the value behind its place
 pub raises_set : (q : Camp) (w : Side) (r : Standing) (old new : List ℕ) (j v : ℕ) → j < length old
     → is_counted q r ≡ true
     → j ≡ place_of w r + 1 → v ≡ other_place w r + 1 → new ≡ slice_set old j (max (slice_index_or old j 0) v)
@@ -117,11 +118,11 @@ raises_set q w r old new j v lt c jk vk is =
     at k (inr n) = get_or-set_other old j k (max (slice_index_or old j 0) v) 0 n
         ∙ rw (c, ne_eqb (place_of w r + 1) k (λ e. n (sym e ∙ sym jk))) (omega arith)
 
--- one that doesn't leaves it
+-- a standing that does not count raises nothing
 pub raises_none : (q : Camp) (w : Side) (r : Standing) (old : List ℕ) → is_counted q r ≡ false → Raises q w r old old
 raises_none q w r old c = record { count = refl; each = λ k lk. rw c (omega arith) }
 
--- before the first standing all is zero
+-- before the first standing the table is zero everywhere
 pub scatter_start : (q : Camp) (w : Side) (size n : ℕ) (table : List ℕ) → table ≡ replicate n 0 → n ≡ size + 2
     → IsScattered q w size [] table
 scatter_start q w size n table is e =
@@ -131,7 +132,7 @@ scatter_start q w size n table is e =
           ∙ get_or-replicate n k 0 0 (omega arith);
     }
 
--- one more standing
+-- a table that is raised by the next standing is scattered of the standings up to it
 pub scatter_more : (q : Camp) (w : Side) (size i : ℕ) (rows : List Standing) (d : Standing) (old new : List ℕ)
     → i < length rows
     → Raises q w (slice_index_or rows i d) old new → IsScattered q w size (take i rows) old
@@ -158,7 +159,7 @@ pub record IsSummed (q : Camp) (w : Side) (size k : ℕ) (rows : List Standing) 
   pub done : (j : ℕ) → j < k → slice_index_or table j 0 ≡ most_before q w j rows
   pub left : (j : ℕ) → k ≤ j → j < size + 2 → slice_index_or table j 0 ≡ most_at q w j rows
 
--- nothing stands before place 0
+-- a scattered table is finished below place 1, since no standing is before place 0
 pub summed_start : (q : Camp) (w : Side) (size : ℕ) (rows : List Standing) (table : List ℕ)
     → IsScattered q w size rows table
     → IsSummed q w size 1 rows table
@@ -170,7 +171,7 @@ summed_start q w size rows table h = record {
   left = λ j lo lt. h.each j lt;
 }
 
--- one more place
+-- with the greater of its own and the value before it at place k, a table is finished below k + 1
 pub summed_more : (q : Camp) (w : Side) (size k x y : ℕ) (rows : List Standing) (old new : List ℕ) → 0 < k
     → k < size + 2
     → x ≡ slice_index_or old k x → y ≡ slice_index_or old (k - 1) y → new ≡ slice_set old k (max x y)
@@ -201,7 +202,7 @@ summed_more q w size k x y rows old new pos lt xi yi is h = record {
         (get_or-set_same old k (max x y) 0 (omega (arith, h.count)) ∙ value)
     at j l (inr n) = get_or-set_other old k j (max x y) 0 n ∙ h.done j (omega arith)
 
--- after the last place the table is done
+-- after the last place the table is finished
 pub summed_done : (q : Camp) (w : Side) (size k : ℕ) (rows : List Standing) (table : List ℕ) → size + 2 ≤ k
     → IsSummed q w size k rows table → IsPlaceTable q w size rows table
 summed_done q w size k rows table le h = record { count = h.count; each = λ j lt. h.done j (omega arith) }
@@ -210,7 +211,7 @@ summed_done q w size k rows table le h = record { count = h.count; each = λ j l
 pub same_kind : (k l : Kind) → not (differ (is_allow k) (is_allow l)) ≡ true → k ≡ l
 same_kind k l h = grind arith
 
--- and so are classes
+-- classes that don't differ are the same
 same_class : (k l : Class) → not (differ (is_users k) (is_users l)) ≡ true → k ≡ l
 same_class k l h = grind arith
 
@@ -221,7 +222,7 @@ camp_is q r h = let p = and_parts (not (differ (is_allow q.kind) (is_allow r.her
     ap (λ v. record { kind = v; class = q.class }) (same_kind q.kind r.here.kind p.0)
     ∙ ap (λ v. record { kind = r.here.kind; class = v }) (same_class q.class r.class p.1)
 
--- what the two tables say of a standing of their camp
+-- a standing of a camp inverts another if and only if one of the camp's two tables is over its place
 pub by_camp : (q : Camp) (size : ℕ) (rows : List Standing) (r : Standing) (forward back : List ℕ)
     → is_of_camp q r ≡ true
     → IsStandingWithin size r → IsPlaceTable q Here size rows forward → IsPlaceTable q There size rows back
@@ -235,9 +236,9 @@ by_camp q size rows r forward back k p f b =
     (f.each r.here.place (omega arith) ∙ ap (λ v. most_before v Here r.here.place rows) own)
     (b.each r.there.place (omega arith) ∙ ap (λ v. most_before v There r.there.place rows) own)
 
--- a standing that is told inverts another
+-- a standing that the tables report inverts another
 pub found_true : (q : Camp) (size : ℕ) (rows : List Standing) (r : Standing) (forward back : List ℕ) (t : Bool)
-    → t ≡ is_told q r forward back → t ≡ true → IsStandingWithin size r → IsPlaceTable q Here size rows forward
+    → t ≡ is_inverting q r forward back → t ≡ true → IsStandingWithin size r → IsPlaceTable q Here size rows forward
     → IsPlaceTable q There size rows back → inverts_any r rows ≡ true
 found_true q size rows r forward back t h e p f b =
     let parts = and_parts (is_of_camp q r)
@@ -245,9 +246,9 @@ found_true q size rows r forward back t h e p f b =
     (slice_index_or back r.there.place 0)) (sym h ∙ e) in
     by_camp q size rows r forward back parts.0 p f b ∙ parts.1
 
--- one of the camp that is not told inverts none
+-- a standing of the camp that the tables do not report inverts none
 pub found_false : (q : Camp) (size : ℕ) (rows : List Standing) (r : Standing) (forward back : List ℕ) (t : Bool)
-    → t ≡ is_told q r forward back → t ≡ false → IsStandingWithin size r → IsPlaceTable q Here size rows forward
+    → t ≡ is_inverting q r forward back → t ≡ false → IsStandingWithin size r → IsPlaceTable q Here size rows forward
     → IsPlaceTable q There size rows back → is_of_camp q r ≡ true → inverts_any r rows ≡ false
 found_false q size rows r forward back t h e p f b k =
     by_camp q size rows r forward back k p f b
@@ -255,7 +256,7 @@ found_false q size rows r forward back t h e p f b k =
     (slice_index_or back r.there.place 0))) k)
     ∙ sym h ∙ e
 
--- places of standings are within the lists
+-- the first place of a set is at most the length of the list
 pub first_place_within : (ps : List Principal) (b : ℕ) (xs : List Ace) → first_place ps b xs ≤ length xs
 first_place_within ps b [] = omega arith
 first_place_within ps b (a ∷ xs) = grind (arith, first_place_within ps b xs)
@@ -274,20 +275,35 @@ rows_within (p ∷ ps) xs ys b size (r ∷ rows) lx ly z = (
 )
 rows_within _ xs ys b size _ lx ly z = absurd z
 
--- the same, as the code holds them
+-- the places of the standings that the code holds are within the lists
 pub slice_within : (both : TwoLists) (bit size : ℕ) (items slice : List Standing) → slice ≡ items → AreWithin both size
     → StandAs both bit items → AllByRecursion (IsStandingWithin size) slice
 slice_within both bit size items slice is within h =
     subst (AllByRecursion (IsStandingWithin size)) (sym is)
     (rows_within (all_mentioned both) both.first both.second bit size items within.first within.second h.each)
 
--- the first standing of a camp that is told
+-- a standing of the first part of a list has its place in the whole list too
+pub near_is : (rows near : List Standing) (limit k : ℕ) (d : Standing) → near ≡ take limit rows → limit ≤ length rows
+    → k < length near → (k < limit) × (slice_index_or near k d ≡ slice_index_or rows k no_standing)
+near_is rows near limit k d is within below =
+    let lt : k < limit = omega (arith, below, ap length is, length-take-le limit rows within) in (
+      lt,
+      get_or_default near k d no_standing below ∙ ap (λ v. slice_index_or v k no_standing) is
+          ∙ get_or-take limit rows k no_standing lt,
+    )
+
+-- behind the first part of a list is its limit
+pub near_end : (rows near : List Standing) (limit k : ℕ) → near ≡ take limit rows → limit ≤ length rows
+    → length near ≤ k → limit ≤ k
+near_end rows near limit k is within past = omega (arith, past, ap length is, length-take-le limit rows within)
+
+-- the first standing of a camp that the tables report is the first of the camp that inverts another
 pub first_of_camp : (q : Camp) (size limit k : ℕ) (rows : List Standing) (forward back fs bs : List ℕ) (t : Bool)
     → k < limit → limit ≤ length rows
     → ((j : ℕ) → j < k → is_of_camp q (slice_index_or rows j no_standing) ≡ true
     → inverts_any (slice_index_or rows j no_standing) rows ≡ false) → AllByRecursion (IsStandingWithin size) rows
     → IsPlaceTable q Here size rows forward → IsPlaceTable q There size rows back → fs ≡ forward → bs ≡ back
-    → t ≡ is_told q (slice_index_or rows k no_standing) fs bs → t ≡ true → IsFirstOf q rows limit k
+    → t ≡ is_inverting q (slice_index_or rows k no_standing) fs bs → t ≡ true → IsFirstOf q rows limit k
 first_of_camp q size limit k rows forward back fs bs t lt le before places f b fe be h e = record {
   within = omega arith;
   before = before;
@@ -297,11 +313,11 @@ first_of_camp q size limit k rows forward back fs bs t lt le before places f b f
       (subst (λ v. IsPlaceTable q There size rows v) (sym be) b);
 }
 
--- one more standing of which none is told
+-- a standing of the camp that the code's tables do not report inverts none
 pub not_of_camp : (q : Camp) (size k : ℕ) (rows : List Standing) (forward back fs bs : List ℕ) (t : Bool)
     → k < length rows → AllByRecursion (IsStandingWithin size) rows → IsPlaceTable q Here size rows forward
     → IsPlaceTable q There size rows back → fs ≡ forward → bs ≡ back
-    → t ≡ is_told q (slice_index_or rows k no_standing) fs bs → t ≡ false
+    → t ≡ is_inverting q (slice_index_or rows k no_standing) fs bs → t ≡ false
     → is_of_camp q (slice_index_or rows k no_standing) ≡ true
     → inverts_any (slice_index_or rows k no_standing) rows ≡ false
 not_of_camp q size k rows forward back fs bs t lt places f b fe be h e =

@@ -1,176 +1,18 @@
 -- The loop that emits: what it keeps, what a turn does, and that it ends.
-use Rattle.acl_normal.proofs.unique.Shorter.{without_absent, without_no_longer, without_shorter}
-use Rattle.acl_normal.proofs.Common.{[], Ace, ace_key, all_rights, Allow, and_from, and_parts, ap, arith, bit_at-zero, Bool, bytes_eq, cases_eq, cases_lt, Column, column, compare_keys, cond, conflicts, count_left, Deny, Emitted, emitted_ace, emitted_aces, everyone_name, false, false_from_ne_true, first_kind, FitsKeys, flags_for, group_name, has_bit, HasOnceColumns, inl, inr, is_either, is_free, is_le, is_principal_of, is_user, IsEmission, IsMask, IsOnce, IsRowOf, IsStep, Key, key_eq, key_here, key_number, Kind, kind_eq, length, List, Marked, marks, may_overlap, None, not, nothing_left, or_cases, or_left, or_right, other_kind, owner_name, Principal, principal_eq, principal_of, refl, slice_index_or, slice_set, Some, subst, suc, sym, take_out, true, user, who_for, without_principal, zero, ℕ, ⊎_elim, ◌&&◌, ◌++◌, ◌/◌, ◌<◌, ◌==◌, ◌∙◌, ◌∷◌, ◌≡◌, ◌≢◌, ◌≤◌, ◌⊎◌}
+use Rattle.acl_normal.proofs.unique.Shorter.{without_no_longer, without_shorter}
+use Rattle.acl_normal.proofs.Common.{Ace, Bool, Column, ColumnKey, Emitted, FitsKeys, HasOnceColumns, IsEmission, IsMask, IsRowOf, IsStep, List, Marked, Principal, [], ace_key, all_rights, and_from, and_parts, ap, arith, bit_at-zero, cases_eq, cases_lt, column, compare_keys, cond, conflicts, count_left, emitted_ace, emitted_aces, false, false_from_ne_true, flags_for, has_bit, inl, inr, is_free, is_le, is_principal_of, is_user, key_eq, key_number, kind_eq, length, marks, may_overlap, not, nothing_left, other_kind, principal_eq, principal_of, refl, same_answers, slice_index_or, slice_set, subst, suc, sym, take_out, true, without_principal, zero, ℕ, ⊎_elim, ◌++◌, ◌/◌, ◌<◌, ◌==◌, ◌∙◌, ◌∷◌, ◌≡◌, ◌≢◌, ◌≤◌, ◌⊎◌}
 use Rattle.acl_perm.proofs.Sets.{mask_from_bits}
-use Rattle.acl_normal.specs.internal.Places.{principal_named}
-use Rattle.acl_normal.specs.internal.emit.Ready.{IsKeyNumber, IsLeastReady, Frees, HoldsFree, Popped, TakesBits, emitted}
-use Rattle.acl_normal.proofs.unique.Names.{principal_eq_same, principal_eq_itself, overlaps_itself, bytes_eq_same, bytes_eq_itself}
-use Rattle.acl_normal.proofs.unique.Free.{kind_eq_same, kind_eq_itself, ahead_from_free, no_conflict, some_same}
-use Rattle.acl_normal.proofs.unique.Realised.{same_answers}
-use Rattle.acl_normal.proofs.unique.Unique.{head_is_free}
-use Rattle.acl_normal.proofs.unique.Bits.{no_bits}
-use Rattle.acl_normal.proofs.unique.FirstAndRest.{lacks_principal}
-use Rattle.acl_normal.proofs.emit.SoFar.{Completes, completes_more, completes_all}
-use Rattle.acl_normal.proofs.rows.TakeOut.{column_taken, none_taken, once_taken, low_taken}
-use Rattle.acl_normal.proofs.emit.Marks.{key_eq_same, key_eq_itself, fits_written, mark_named, mark_written, number_order, number_row, number_within, some_bits}
-use Rattle.acl_normal.proofs.rows.Rows.{named_outline, outline_taken, row_outline}
-use Rattle.acl_normal.proofs.emit.Walk.{stands_free}
-
-kinds_differ : (j k : Kind) → not (kind_eq j k) ≡ true → k ≡ other_kind j
-kinds_differ Deny Allow h = refl
-kinds_differ Allow Deny h = refl
-kinds_differ Deny Deny h = cc
-kinds_differ Allow Allow h = cc
-
--- of two different principals that overlap one is no user name
-one_is_other : (p q : Principal) → may_overlap p q ≡ true → principal_eq q p ≡ false → (is_user p && is_user q) ≡ false
-one_is_other (user a) (user b) o n =
-    let same : a ≡ b = bytes_eq_same a b o in
-    let equal : bytes_eq b a ≡ true = subst (λ v. bytes_eq b v ≡ true) (sym same) (bytes_eq_itself b) in
-    cc
-one_is_other _ (user b) o n = refl
-one_is_other (user a) _ o n = refl
-one_is_other _ _ o n = refl
-
--- ---- columns without a principal
-
--- what is free stays free without another principal
-pub free_without : (c : Column) (p : Principal) (l : Key) → principal_eq l.0 p ≡ false → is_free c l ≡ true
-    → is_free (without_principal p c) l ≡ true
-free_without [] p l n free = cc
-free_without ((s, i) ∷ c) p l n free =
-    go (principal_eq s p) refl (or_cases (principal_eq s l.0 && kind_eq i l.1)
-    (not (conflicts (s, i) l) && is_free c l) free) (free_without c p l n)
-  where
-    apart : principal_eq s p ≡ true → principal_eq s l.0 ≡ true → ⊥
-    apart e f =
-        let same : l.0 ≡ p = sym (principal_eq_same s l.0 f) ∙ principal_eq_same s p e in
-        let equal = subst (λ v. principal_eq l.0 v ≡ true) same (principal_eq_itself l.0) in
-        cc
-
-    go : (t : Bool) → principal_eq s p ≡ t
-        → ((principal_eq s l.0 && kind_eq i l.1) ≡ true) ⊎ ((not (conflicts (s, i) l) && is_free c l) ≡ true)
-        → (is_free c l ≡ true → is_free (without_principal p c) l ≡ true)
-        → is_free (without_principal p ((s, i) ∷ c)) l ≡ true
-    go true e (inl f) ih = absurd (apart e (and_parts (principal_eq s l.0) (kind_eq i l.1) f).0)
-    go true e (inr f) ih = rw e (ih (and_parts (not (conflicts (s, i) l)) (is_free c l) f).1)
-    go false e (inl f) ih =
-        rw e (or_left (principal_eq s l.0 && kind_eq i l.1)
-        (not (conflicts (s, i) l) && is_free (without_principal p c) l) f)
-    go false e (inr f) ih =
-        let both = and_parts (not (conflicts (s, i) l)) (is_free c l) f in
-        rw e (or_right (principal_eq s l.0 && kind_eq i l.1)
-        (not (conflicts (s, i) l) && is_free (without_principal p c) l)
-        (and_from (not (conflicts (s, i) l)) (is_free (without_principal p c) l) both.0 (ih both.1)))
-
--- a key that does not conflict with a free one was free before it was taken out
-pub free_back : (c : Column) (p : Principal) (j : Kind) (l : Key) → IsOnce c → is_free c (p, j) ≡ true
-    → conflicts (p, j) l ≡ false → is_free (without_principal p c) l ≡ true → is_free c l ≡ true
-free_back [] p j l once free apart left = left
-free_back ((s, i) ∷ c) p j l once free apart left =
-    go (principal_eq s p) refl (or_cases (principal_eq s p && kind_eq i j)
-    (not (conflicts (s, i) (p, j)) && is_free c (p, j)) free) (free_back c p j l once.1)
-  where
-    kind : principal_eq s p ≡ true
-        → ((principal_eq s p && kind_eq i j) ≡ true) ⊎ ((not (conflicts (s, i) (p, j)) && is_free c (p, j)) ≡ true)
-        → i ≡ j
-    kind e (inl f) = kind_eq_same i j (and_parts (principal_eq s p) (kind_eq i j) f).1
-    kind e (inr f) =
-        let same : s ≡ p = principal_eq_same s p e in
-        no_conflict s p i j (subst (λ v. may_overlap s v ≡ true) same (overlaps_itself s))
-        (and_parts (not (conflicts (s, i) (p, j))) (is_free c (p, j)) f).0
-
-    go : (t : Bool) → principal_eq s p ≡ t
-        → ((principal_eq s p && kind_eq i j) ≡ true) ⊎ ((not (conflicts (s, i) (p, j)) && is_free c (p, j)) ≡ true)
-        → (is_free c (p, j) ≡ true → conflicts (p, j) l ≡ false → is_free (without_principal p c) l ≡ true → is_free
-        c l ≡ true) → is_free ((s, i) ∷ c) l ≡ true
-    go true e f ih =
-        let same : s ≡ p = principal_eq_same s p e in
-        let alone = without_absent p c (subst (λ v. first_kind (is_either v v) c ≡ None) same once.0) in
-        let rest : is_free (without_principal p c) l ≡ true = rw e at left in
-        let clear : conflicts (s, i) l ≡ false = rw (same, kind e f) apart in
-        or_right (principal_eq s l.0 && kind_eq i l.1) (not (conflicts (s, i) l) && is_free c l)
-        (and_from (not (conflicts (s, i) l)) (is_free c l) (ap not clear)
-        (subst (λ v. is_free v l ≡ true) alone rest))
-    go false e (inl f) ih = absurd (clash (sym e ∙ (and_parts (principal_eq s p) (kind_eq i j) f).0))
-      where
-        clash : false ≡ true → ⊥
-        clash h = cc
-    go false e (inr f) ih =
-        from (or_cases (principal_eq s l.0 && kind_eq i l.1)
-        (not (conflicts (s, i) l) && is_free (without_principal p c) l) (rw e at left))
-      where
-        from : ((principal_eq s l.0 && kind_eq i l.1) ≡ true)
-            ⊎ ((not (conflicts (s, i) l) && is_free (without_principal p c) l) ≡ true) → is_free ((s, i) ∷ c) l ≡ true
-        from (inl g) = or_left (principal_eq s l.0 && kind_eq i l.1) (not (conflicts (s, i) l) && is_free c l) g
-        from (inr g) =
-            let both = and_parts (not (conflicts (s, i) l)) (is_free (without_principal p c) l) g in
-            or_right (principal_eq s l.0 && kind_eq i l.1) (not (conflicts (s, i) l) && is_free c l)
-            (and_from (not (conflicts (s, i) l)) (is_free c l) both.0
-            (ih (and_parts (not (conflicts (s, i) (p, j))) (is_free c (p, j)) f).1 apart both.1))
-
--- one kind of a principal alone is free
-pub one_free : (c : Column) (p : Principal) (j k : Kind) → is_free c (p, j) ≡ true → is_free c (p, k) ≡ true → j ≡ k
-one_free c p j k f g =
-    some_same' (sym (ahead_from_free c p j f p (overlaps_itself p)) ∙ ahead_from_free c p k g p (overlaps_itself p))
-  where
-    some_same' : {x y : Kind} → Some x ≡ Some y → x ≡ y
-    some_same' {x} {y} h = some_same h
-
--- a principal that a column lacks is not free in it
-pub lacks_free : (c : Column) (p : Principal) (k : Kind) → is_free (without_principal p c) (p, k) ≡ true → ⊥
-lacks_free c p k h =
-    let some = ahead_from_free (without_principal p c) p k h p (overlaps_itself p) in
-    let none = lacks_principal p c in
-    cc
-
--- ---- keys of principals that keys name
-
--- the who and the flags of a principal name it again
-pub named_again : (w : List ℕ) (g : Bool)
-    → principal_named (who_for (principal_named w g)) (has_bit (flags_for (principal_named w g)) 6) ≡ principal_named
-    w g
-named_again w g = go (bytes_eq w owner_name) (bytes_eq w group_name) (bytes_eq w everyone_name) g refl refl refl
-  where
-    go : (x y z g : Bool) → bytes_eq w owner_name ≡ x → bytes_eq w group_name ≡ y → bytes_eq w everyone_name ≡ z
-        → principal_named (who_for (principal_named w g)) (has_bit (flags_for (principal_named w g)) 6)
-        ≡ principal_named w g
-    go true y z g a b c = rw a refl
-    go false true z g a b c = rw (a, b) refl
-    go false false true g a b c = rw (a, b, c) refl
-    go false false false true a b c = rw (a, b, c) (rw (a, b, c) refl)
-    go false false false false a b c = rw (a, b, c) (rw (a, b, c) refl)
-
--- some who names the principal
-pub record IsNamed (p : Principal) : Type 0 where
-  pub who : List ℕ
-  pub is_group : Bool
-  pub is : p ≡ principal_named who is_group
-
--- the principal of each ACE is named
-pub here_named : (xs : List Ace) (i : ℕ) → IsNamed (key_here xs i).0
-here_named [] i = record { who = everyone_name; is_group = false; is = refl }
-here_named (a ∷ xs) zero = record { who = a.who; is_group = has_bit a.flags 6; is = refl }
-here_named (a ∷ xs) (suc i) = here_named xs i
-
--- what is emitted names the principal of its key
-pub emitted_principal : (k : Key) (m : ℕ) → IsNamed k.0 → principal_of (emitted k m) ≡ k.0
-emitted_principal k m n = rw n.is (named_again n.who n.is_group)
-
--- a mask has a bit below a place, or none
-pub some_below : (m n : ℕ) → ((b : ℕ) × (has_bit m b ≡ true)) ⊎ ((b : ℕ) → b < n → has_bit m b ≡ false)
-some_below m zero = inr (λ b l. absurd (omega (arith, l)))
-some_below m (suc n) = go (some_below m n) (has_bit m n) refl
-  where
-    go : ((b : ℕ) × (has_bit m b ≡ true)) ⊎ ((b : ℕ) → b < n → has_bit m b ≡ false) → (t : Bool) → has_bit m n ≡ t
-        → ((b : ℕ) × (has_bit m b ≡ true)) ⊎ ((b : ℕ) → b < suc n → has_bit m b ≡ false)
-    go (inl f) t e = inl f
-    go (inr f) true e = inl (n, e)
-    go (inr f) false e =
-        inr (λ b l. ⊎_elim (λ d. ap (has_bit m) d ∙ e)
-        (λ d. f b (⊎_elim (λ g. g) (λ g. absurd (d (omega (arith, g, l)))) (cases_lt b n))) (cases_eq b n))
-
--- ---- the step
+use Rattle.acl_normal.specs.internal.emit.Ready.{Frees, HoldsFree, IsKeyNumber, IsLeastReady, Popped, TakesBits, emitted}
+use Rattle.acl_normal.proofs.unique.Names.{key_eq_itself, key_eq_same, kind_eq_itself, overlaps_itself, principal_eq_same}
+use Rattle.acl_normal.proofs.unique.Free.{ahead_from_free, head_is_free}
+use Rattle.acl_normal.proofs.unique.Bits.{no_bits, some_below}
+use Rattle.acl_normal.proofs.emit.SoFar.{Completes, completes_all, completes_more}
+use Rattle.acl_normal.proofs.rows.TakeOut.{column_taken, low_taken, none_taken, once_taken}
+use Rattle.acl_normal.proofs.emit.Marks.{fits_written, mark_named, mark_written, number_order, number_row, number_within, some_bits}
+use Rattle.acl_normal.proofs.emit.Walk.{free_at}
+use Rattle.acl_normal.proofs.emit.FreeWithout.{free_back, free_without, kinds_differ, lacks_free, one_free, one_is_other}
+use Rattle.acl_normal.proofs.emit.KeyNames.{IsNamed, emitted_principal, here_named}
+use Rattle.acl_normal.proofs.rows.RowsAlike.{named_outline, outline_taken, row_outline}
 
 -- the bits of the least number are those of the least key
 pub popped : (xs : List Ace) (old new : List ℕ) (n m : ℕ) → FitsKeys xs old → IsLeastReady old n m
@@ -185,16 +27,17 @@ popped xs old new n m f l set k = record {
     there : slice_index_or old n 0 ≢ 0
     there none = l.some (l.is ∙ none)
 
-    go : (e : Key) → marks xs old e ≢ 0 → (t : Bool) → is_principal_of e.0 xs ≡ t → is_le (compare_keys k.key e) ≡ true
+    go : (e : ColumnKey) → marks xs old e ≢ 0 → (t : Bool) → is_principal_of e.0 xs ≡ t
+        → is_le (compare_keys k.key e) ≡ true
     go e some true named =
         let less : n ≤ key_number e xs = l.least (key_number e xs) (λ none. some (mark_named e xs old named ∙ none)) in
         number_order k.key e xs k.named named (subst (λ v. v ≤ key_number e xs) k.is less)
     go e some false unnamed = absurd (some (rw unnamed refl))
 
 -- the key of the least number is taken, whatever key has that number
-pub takes : (xs : List Ace) (old new : List ℕ) (n m : ℕ) (q : Key) → FitsKeys (nothing_left xs) old
+pub takes : (xs : List Ace) (old new : List ℕ) (n m : ℕ) (q : ColumnKey) → FitsKeys (nothing_left xs) old
     → IsLeastReady old n m → new ≡ slice_set old n 0
-    → ((k : Key) → is_principal_of k.0 xs ≡ true → n ≡ key_number k xs → q ≡ k) → TakesBits xs old new (n / 2) q m
+    → ((k : ColumnKey) → is_principal_of k.0 xs ≡ true → n ≡ key_number k xs → q ≡ k) → TakesBits xs old new (n / 2) q m
 takes xs old new n m q f l set whose = go (f.sound n (λ none. l.some (l.is ∙ none)))
   where
     go : IsKeyNumber (nothing_left xs) n → TakesBits xs old new (n / 2) q m
@@ -204,7 +47,7 @@ takes xs old new n m q f l set whose = go (f.sound n (λ none. l.some (l.is ∙ 
         let same : k.key ≡ q = sym (whose k.key named is) in
         record {
           at_row =
-              subst (λ (e : Key). IsRowOf (n / 2) e.0 xs) same (record {
+              subst (λ (e : ColumnKey). IsRowOf (n / 2) e.0 xs) same (record {
                 named = named;
                 is = number_row k.key xs n is;
               });
@@ -222,7 +65,7 @@ outline_left p m xs ys taken = ap nothing_left taken ∙ outline_taken p m xs
 abbrev pub HasRights : List Ace → Type 0
 HasRights xs = (b : ℕ) → has_bit all_rights b ≡ false → column xs b ≡ []
 
--- what the loop keeps
+-- what the loop keeps: what is left, that just the free keys are marked, and that what is left completes the list
 pub record Drains (whole : List Ace) (out : List Emitted) (ready : Marked) (xs : List Ace) : Type 0 where
   pub once : HasOnceColumns xs
   pub low : (b : ℕ) → 21 ≤ b → column xs b ≡ []
@@ -230,25 +73,25 @@ pub record Drains (whole : List Ace) (out : List Emitted) (ready : Marked) (xs :
   pub free : HoldsFree ready xs
   pub completes : Completes whole out xs
 
--- before the first turn
+-- before the first turn the whole list is left
 pub drain_starts : (xs : List Ace) (ready : Marked) → HasOnceColumns xs → ((b : ℕ) → 21 ≤ b → column xs b ≡ [])
     → HasRights xs → HoldsFree ready xs → Drains xs [] ready xs
 drain_starts xs ready once low rights free =
     record { once = once; low = low; rights = rights; free = free; completes = λ ns e. e }
 
 -- what is marked at the key that was popped is what is free there
-pub popped_bits : (old rest : Marked) (q : Key) (m : ℕ) (xs : List Ace) → HoldsFree old xs → Popped old q m rest
+pub popped_bits : (old rest : Marked) (q : ColumnKey) (m : ℕ) (xs : List Ace) → HoldsFree old xs → Popped old q m rest
     → (b : ℕ) → has_bit m b ≡ is_free (column xs b) q
 popped_bits old rest q m xs h p b = ap (λ v. has_bit v b) (sym p.is) ∙ h q b
 
 -- the bits of a marked key are among the first 21
-pub popped_low : (whole : List Ace) (out : List Emitted) (old rest : Marked) (q : Key) (m : ℕ) (xs : List Ace)
+pub popped_low : (whole : List Ace) (out : List Emitted) (old rest : Marked) (q : ColumnKey) (m : ℕ) (xs : List Ace)
     → Drains whole out old xs → Popped old q m rest → (b : ℕ) → 21 ≤ b → has_bit m b ≡ false
 popped_low whole out old rest q m xs d p b l =
     popped_bits old rest q m xs d.free p b ∙ ap (λ c. is_free c q) (d.low b l)
 
--- they are rights
-pub popped_mask : (old rest : Marked) (q : Key) (m : ℕ) (xs : List Ace) → HoldsFree old xs → HasRights xs
+-- the bits of the key that was popped are rights
+pub popped_mask : (old rest : Marked) (q : ColumnKey) (m : ℕ) (xs : List Ace) → HoldsFree old xs → HasRights xs
     → Popped old q m rest → IsMask m
 popped_mask old rest q m xs free rights p = mask_from_bits m (λ b has. go b has (has_bit all_rights b) refl)
   where
@@ -260,23 +103,23 @@ popped_mask old rest q m xs free rights p = mask_from_bits m (λ b has. go b has
         clash : true ≡ false → has_bit all_rights b ≡ true
         clash h = cc
 
--- and its principal is named
-pub popped_named : (whole : List Ace) (out : List Emitted) (old rest : Marked) (q : Key) (m : ℕ) (xs : List Ace)
+-- some who names the principal of the key that was popped
+pub popped_named : (whole : List Ace) (out : List Emitted) (old rest : Marked) (q : ColumnKey) (m : ℕ) (xs : List Ace)
     → Drains whole out old xs → Popped old q m rest → IsNamed q.0
 popped_named whole out old rest q m xs d p = go (some_below m 21)
   where
     go : ((b : ℕ) × (has_bit m b ≡ true)) ⊎ ((b : ℕ) → b < 21 → has_bit m b ≡ false) → IsNamed q.0
     go (inl (b, e)) =
         let s =
-        stands_free q.1 (is_user q.0) b xs q.0 (d.once b) refl
+        free_at q.1 (is_user q.0) b xs q.0 (d.once b) refl
         (sym (popped_bits old rest q m xs d.free p b) ∙ e) in
-        subst (λ (k : Key). IsNamed k.0) s.plain_key (here_named xs s.place)
+        subst (λ (k : ColumnKey). IsNamed k.0) s.plain_key (here_named xs s.place)
     go (inr f) =
         absurd (p.some (no_bits m (λ b. ⊎_elim (λ l. f b l) (λ l. popped_low whole out old rest q m xs d p b l)
         (cases_lt b 21))))
 
--- the key with its marked bits is what comes first
-pub steps : (whole : List Ace) (out : List Emitted) (old rest : Marked) (q : Key) (m : ℕ) (xs : List Ace)
+-- the key that was popped, with its bits, is the ACE that comes first
+pub steps : (whole : List Ace) (out : List Emitted) (old rest : Marked) (q : ColumnKey) (m : ℕ) (xs : List Ace)
     → Drains whole out old xs → Popped old q m rest
     → IsStep xs (emitted q m) (take_out q.0 m xs)
 steps whole out old rest q m xs d p = record {
@@ -296,8 +139,8 @@ steps whole out old rest q m xs d p = record {
     whole_key : ace_key (emitted q m) ≡ q
     whole_key = ap (λ v. (v, q.1)) named
 
--- what is marked is what is free, one turn later
-pub holds_on : (whole : List Ace) (out : List Emitted) (old rest next : Marked) (q : Key) (m : ℕ) (xs : List Ace)
+-- after a turn just the free keys are marked
+pub holds_on : (whole : List Ace) (out : List Emitted) (old rest next : Marked) (q : ColumnKey) (m : ℕ) (xs : List Ace)
     → Drains whole out old xs → Popped old q m rest → Frees q m (take_out q.0 m xs) rest next
     → HoldsFree next (take_out q.0 m xs)
 holds_on whole out old rest next q m xs d p f l b =
@@ -318,15 +161,15 @@ holds_on whole out old rest next q m xs d p f l b =
     gone : (b : ℕ) → has_bit (rest q) b ≡ false
     gone b = ap (λ v. has_bit v b) (p.after q ∙ rw (key_eq_itself q) refl) ∙ ap (λ v. v == 1) (bit_at-zero b)
 
-    others : (l : Key) → key_eq l q ≡ false → old l ≡ rest l
+    others : (l : ColumnKey) → key_eq l q ≡ false → old l ≡ rest l
     others l n = sym (p.after l ∙ rw n refl)
 
-    marked : (l : Key) (b : ℕ) → has_bit (rest l) b ≡ true → key_eq l q ≡ false
+    marked : (l : ColumnKey) (b : ℕ) → has_bit (rest l) b ≡ true → key_eq l q ≡ false
     marked l b h =
         false_from_ne_true _ (λ t. absurd
         (clash (sym h ∙ ap (λ v. has_bit (rest v) b) (key_eq_same l q t) ∙ gone b)))
 
-    sound : (l : Key) (b : ℕ)
+    sound : (l : ColumnKey) (b : ℕ)
         → (has_bit (rest l) b ≡ true) ⊎ (is_free (column (take_out q.0 m xs) b) l ≡ true)
         → is_free (column (take_out q.0 m xs) b) l ≡ true
     sound l b (inr h) = h
@@ -360,11 +203,11 @@ holds_on whole out old rest next q m xs d p f l b =
                     clash (sym equal ∙ apart)
 
     -- what was free before is marked still
-    before : (l : Key) (b : ℕ) → key_eq l q ≡ false → is_free (column xs b) l ≡ true
+    before : (l : ColumnKey) (b : ℕ) → key_eq l q ≡ false → is_free (column xs b) l ≡ true
         → has_bit (next l) b ≡ true
     before l b n h = f.grows.kept l b (ap (λ v. has_bit v b) (sym (others l n)) ∙ d.free l b ∙ h)
 
-    complete : (l : Key) (b : ℕ) → is_free (column (take_out q.0 m xs) b) l ≡ true
+    complete : (l : ColumnKey) (b : ℕ) → is_free (column (take_out q.0 m xs) b) l ≡ true
         → has_bit (next l) b ≡ true
     complete l b h = at (has_bit m b) refl
       where
@@ -408,8 +251,8 @@ holds_on whole out old rest next q m xs d p f l b =
                 (f.all l.0 b low e (one_is_other q.0 l.0 both.0 other)
                 (subst (λ v. is_free (column (take_out q.0 m xs) b) v ≡ true) (sym whole_pair) h))
 
--- a turn
-pub drain_on : (whole : List Ace) (out more : List Emitted) (old rest next : Marked) (q : Key) (m : ℕ)
+-- a turn keeps what the loop keeps
+pub drain_on : (whole : List Ace) (out more : List Emitted) (old rest next : Marked) (q : ColumnKey) (m : ℕ)
     (xs : List Ace) (a : Emitted) → Drains whole out old xs → Popped old q m rest → more ≡ out ++ a ∷ []
     → emitted_ace a ≡ emitted q m → Frees q m (take_out q.0 m xs) rest next
     → Drains whole more next (take_out q.0 m xs)
@@ -424,8 +267,8 @@ drain_on whole out more old rest next q m xs a d p is same f =
       completes = completes_more whole out more xs (take_out q.0 m xs) a is d.once step d.completes;
     }
 
--- a turn, by number: the outline stays
-pub drain_turn : (whole : List Ace) (out more : List Emitted) (old rest next : List ℕ) (row m : ℕ) (q : Key)
+-- a turn keeps what the loop keeps, with the bits by number
+pub drain_turn : (whole : List Ace) (out more : List Emitted) (old rest next : List ℕ) (row m : ℕ) (q : ColumnKey)
     (xs ys : List Ace) (a : Emitted) → Drains whole out (marks (nothing_left xs) old) xs → TakesBits xs old rest row q m
     → more ≡ out ++ a ∷ [] → emitted_ace a ≡ emitted q m → ys ≡ take_out q.0 m xs
     → Frees q m ys (marks (nothing_left ys) rest) (marks (nothing_left ys) next)
@@ -440,9 +283,9 @@ drain_turn whole out more old rest next row m q xs ys a d t is same taken f =
     (drain_on whole out more (marks (nothing_left xs) old) (marks (nothing_left xs) rest)
     (marks (nothing_left xs) next) q m xs a d t.popped is same frees))
 
--- without a marked key all is emitted
+-- when no key is marked, all is emitted
 pub drain_ends : (whole : List Ace) (out : List Emitted) (ready : Marked) (xs : List Ace) → Drains whole out ready xs
-    → ((k : Key) → ready k ≡ 0) → IsEmission whole (emitted_aces out)
+    → ((k : ColumnKey) → ready k ≡ 0) → IsEmission whole (emitted_aces out)
 drain_ends whole out ready xs d empty = completes_all whole out xs d.completes (λ b. go b (column xs b) refl)
   where
     go : (b : ℕ) (c : Column) → column xs b ≡ c → column xs b ≡ []
@@ -453,7 +296,7 @@ drain_ends whole out ready xs d empty = completes_all whole out xs d.completes (
         ap (λ v. has_bit v b) (empty k) ∙ ap (λ v. v == 1) (bit_at-zero b) in
         cc (d.free k b)
 
--- the columns together do not grow
+-- the columns have no more keys in all when bits are taken out
 pub count_kept : (n : ℕ) (p : Principal) (m : ℕ) (xs : List Ace) → count_left n (take_out p m xs) ≤ count_left n xs
 count_kept zero p m xs = omega arith
 count_kept (suc n) p m xs =
@@ -465,7 +308,7 @@ count_kept (suc n) p m xs =
     go true = without_no_longer p (column xs n)
     go false = omega arith
 
--- and shrink with one of them
+-- the columns have fewer keys in all if one of them has fewer
 pub count_falls : (n : ℕ) (p : Principal) (m : ℕ) (xs : List Ace) (b : ℕ) → b < n
     → length (column (take_out p m xs) b) < length (column xs b) → count_left n (take_out p m xs) < count_left n xs
 count_falls zero p m xs b l h = absurd (omega (arith, l))
@@ -488,8 +331,8 @@ count_falls (suc n) p m xs b l h = go (cases_eq b n) (count_falls n p m xs b)
         rw (column_taken n p m xs) (at (has_bit m n)) in
         omega (arith, here, ih below h)
 
--- each turn leaves less
-pub drain_falls : (whole : List Ace) (out : List Emitted) (old rest : Marked) (q : Key) (m : ℕ) (xs : List Ace)
+-- each turn leaves fewer keys
+pub drain_falls : (whole : List Ace) (out : List Emitted) (old rest : Marked) (q : ColumnKey) (m : ℕ) (xs : List Ace)
     → Drains whole out old xs → Popped old q m rest → count_left 21 (take_out q.0 m xs) < count_left 21 xs
 drain_falls whole out old rest q m xs d p = go (some_below m 21)
   where

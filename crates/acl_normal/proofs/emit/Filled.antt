@@ -1,19 +1,18 @@
 -- All that is free, bit by bit.
-use Rattle.acl_normal.proofs.Common.{[], Ace, Allow, ap, arith, bit_at-zero, Bool, cases_eq, cases_lt, column, Deny, Enters, false, Grows, has_bit, inl, inr, is_free, is_user, Key, Kind, List, Marked, Principal, refl, subst, sym, true, ℕ, ⊎_elim, ◌+◌, ◌<◌, ◌==◌, ◌∙◌, ◌≡◌, ◌≤◌, ◌⊎◌}
+use Rattle.acl_normal.proofs.Common.{Ace, Allow, Bool, ColumnKey, Deny, Enters, Grows, Kind, List, Marked, Principal, [], ap, arith, bit_at-zero, cases_eq, cases_lt, column, false, has_bit, inl, inr, is_free, is_user, refl, same_answers, subst, sym, true, ℕ, ⊎_elim, ◌+◌, ◌<◌, ◌==◌, ◌∙◌, ◌≡◌, ◌≤◌, ◌⊎◌}
 use Rattle.acl_normal.specs.internal.emit.Ready.{HoldsFree}
-use Rattle.acl_normal.proofs.unique.Realised.{same_answers}
 use Rattle.acl_normal.proofs.emit.NewlyFree.{grows_nothing, grows_on}
 
 -- what is free at the bits below a place is marked
 pub record Fills (xs : List Ace) (old new : Marked) (n : ℕ) : Type 0 where
   pub grows : Grows xs old new
-  pub all : (k : Key) (b : ℕ) → b < n → is_free (column xs b) k ≡ true → has_bit (new k) b ≡ true
+  pub all : (k : ColumnKey) (b : ℕ) → b < n → is_free (column xs b) k ≡ true → has_bit (new k) b ≡ true
 
--- below the first bit
+-- there are no bits below bit 0 at which a key could be free
 pub fills_nothing : (xs : List Ace) (old : Marked) → Fills xs old old 0
 fills_nothing xs old = record { grows = grows_nothing xs old; all = λ k b l. absurd (omega (arith, l)) }
 
--- one bit more
+-- if the free keys of both kinds and both classes were entered at bit n, all below n + 1 are marked
 pub fills_on : (xs : List Ace) (old new v w x y : Marked) (n : ℕ) → Fills xs old new n → Enters Deny false n xs new v
     → Enters Deny true n xs v w → Enters Allow false n xs w x → Enters Allow true n xs x y → Fills xs old y (n + 1)
 fills_on xs old new v w x y n f a b c d = record {
@@ -34,21 +33,21 @@ fills_on xs old new v w x y n f a b c d = record {
     here q Allow false e free = d.grows.kept (q, Allow) n (c.all q e free)
     here q Allow true e free = d.all q e free
 
-    go : (k : Key) (i : ℕ) → i < n + 1 → is_free (column xs i) k ≡ true → (i ≡ n) ⊎ (i ≡ n → ⊥)
+    go : (k : ColumnKey) (i : ℕ) → i < n + 1 → is_free (column xs i) k ≡ true → (i ≡ n) ⊎ (i ≡ n → ⊥)
         → has_bit (y k) i ≡ true
     go (q, j) i l free (inl e) =
         rw e (here q j (is_user q) refl (subst (λ v. is_free (column xs v) (q, j) ≡ true) e free))
     go k i l free (inr d) =
         all.kept k i (f.all k i (⊎_elim (λ g. g) (λ g. absurd (d (omega (arith, g, l)))) (cases_lt i n)) free)
 
--- all bits
-pub fills_all : (xs : List Ace) (old new : Marked) (n : ℕ) → Fills xs old new n → ((k : Key) → old k ≡ 0) → n ≡ 21
+-- after the last bit, what is marked is what is free
+pub fills_all : (xs : List Ace) (old new : Marked) (n : ℕ) → Fills xs old new n → ((k : ColumnKey) → old k ≡ 0) → n ≡ 21
     → ((b : ℕ) → 21 ≤ b → column xs b ≡ []) → HoldsFree new xs
 fills_all xs old new n f empty end low k b =
     same_answers (has_bit (new k) b) (is_free (column xs b) k) (λ h. sound k b (f.grows.sound k b h))
     (λ h. complete k b h (cases_lt b 21))
   where
-    sound : (k : Key) (b : ℕ) → (has_bit (old k) b ≡ true) ⊎ (is_free (column xs b) k ≡ true)
+    sound : (k : ColumnKey) (b : ℕ) → (has_bit (old k) b ≡ true) ⊎ (is_free (column xs b) k ≡ true)
         → is_free (column xs b) k ≡ true
     sound k b (inl h) =
         let none : has_bit (old k) b ≡ false =
@@ -56,7 +55,7 @@ fills_all xs old new n f empty end low k b =
         cc
     sound k b (inr h) = h
 
-    complete : (k : Key) (b : ℕ) → is_free (column xs b) k ≡ true → (b < 21) ⊎ (21 ≤ b)
+    complete : (k : ColumnKey) (b : ℕ) → is_free (column xs b) k ≡ true → (b < 21) ⊎ (21 ≤ b)
         → has_bit (new k) b ≡ true
     complete k b h (inl l) = f.all k b (subst (λ v. b < v) (sym end) l) h
     complete k b h (inr l) =

@@ -1,5 +1,5 @@
 -- The heap of the numbers that have bits.
-use Rattle.acl_normal.proofs.Common.{[], ap, arith, cases_eq, cases_lt, cond, eq-eqb, eqb-true, false, false_from_ne_true, get_or-set_other, get_or-set_same, inl, inr, is_lt, length, List, lt-ltb, nat_cmp, refl, slice_index_or, slice_set, subst, suc, sym, true, ℕ, ◌+◌, ◌<◌, ◌==◌, ◌∙◌, ◌∷◌, ◌≡◌, ◌≢◌, ◌≤◌, ◌⊎◌}
+use Rattle.acl_normal.proofs.Common.{[], ap, arith, cases_eq, cases_lt, cond, eq-eqb, false, get_or-set_other, get_or-set_same, inl, inr, is_lt, length, List, lt-ltb, nat_cmp, refl, slice_index_or, slice_set, subst, suc, sym, true, ℕ, ◌+◌, ◌<◌, ◌==◌, ◌∙◌, ◌∷◌, ◌≡◌, ◌≢◌, ◌≤◌, ◌⊎◌, ne_eqb}
 use Rattle.std.specs.BinaryHeap.{IsUpperBound, KeepsHeap, PopsGreatest}
 use Rattle.std.specs.List.Sorted.{IsPermutation}
 use Rattle.std.specs.declared.cmp.Reverse.{Reverse}
@@ -8,52 +8,45 @@ use Rattle.std.proofs.lemmas.List.Sums.{sum_by-cons}
 use Rattle.acl_normal.specs.internal.emit.Heaped.{backwards, times, IsHeapOf}
 use Rattle.acl_normal.proofs.emit.Marks.{number_within}
 
--- one number more in the heap
+-- one number more in the heap is in it once more
 times_more : (m : ℕ) (r : Reverse ℕ) (heap : List (Reverse ℕ)) → times m (r ∷ heap) ≡ cond (r.0 == m) 1 0 + times m heap
 times_more m r heap = sum_by-cons (λ r. cond (r.0 == m) 1 0) r heap
 
--- in any order
+-- a heap in another order has each number as often
 times_moved : (m : ℕ) (xs ys : List (Reverse ℕ)) → IsPermutation xs ys → times m ys ≡ times m xs
 times_moved m xs ys p = sum_by-IsPermutation (λ r. cond (r.0 == m) 1 0) xs ys p
 
-same_number : (n m : ℕ) → m ≡ n → (n == m) ≡ true
-same_number n m e = eq-eqb n m (sym e)
-
-other_number : (n m : ℕ) → (m ≡ n → ⊥) → (n == m) ≡ false
-other_number n m d = false_from_ne_true _ (λ t. absurd (d (sym (eqb-true n m t))))
-
-some_is : (v : ℕ) → v ≢ 0 → (v == 0) ≡ false
-some_is v some = false_from_ne_true _ (λ t. absurd (some (eqb-true v 0 t)))
-
+-- no more than n is n
 none_more : (n : ℕ) → 0 + n ≡ n
 none_more n = omega arith
 
+-- one more than n is the number behind n
 one_more : (n : ℕ) → 1 + n ≡ suc n
 one_more n = omega arith
 
--- what stands in the heap has bits
+-- a number that is in the heap has bits
 pub counted_some : (bits : List ℕ) (heap : List (Reverse ℕ)) (n k : ℕ) → IsHeapOf bits heap → times n heap ≡ suc k
     → slice_index_or bits n 0 ≢ 0
 counted_some bits heap n k h is none =
     let no : times n heap ≡ 0 = h.once n ∙ rw none refl in
     cc
 
--- bits of a number that has some already
+-- the heap stays that of the bits when a number that has some bits gets others
 pub heap_marked : (bits new : List ℕ) (heap : List (Reverse ℕ)) (n v : ℕ) → IsHeapOf bits heap
     → slice_index_or bits n 0 ≢ 0 → v ≢ 0 → new ≡ slice_set bits n v → IsHeapOf new heap
 heap_marked bits new heap n v h some full set = record { order = h.order; once = λ m. go m (cases_eq m n) }
   where
     go : (m : ℕ) → (m ≡ n) ⊎ (m ≡ n → ⊥) → times m heap ≡ cond (slice_index_or new m 0 == 0) 0 1
     go m (inl e) =
-        let was : times n heap ≡ 1 = h.once n ∙ ap (λ t. cond t 0 1) (some_is (slice_index_or bits n 0) some) in
+        let was : times n heap ≡ 1 = h.once n ∙ ap (λ t. cond t 0 1) (ne_eqb (slice_index_or bits n 0) 0 some) in
         let is : slice_index_or new n 0 ≡ v =
         ap (λ w. slice_index_or w n 0) set ∙ get_or-set_same bits n v 0 (number_within bits n some) in
-        rw (e, is, some_is v full) was
+        rw (e, is, ne_eqb v 0 full) was
     go m (inr d) =
         h.once m ∙ ap (λ w. cond (w == 0) 0 1)
         (sym (get_or-set_other bits n m v 0 d) ∙ ap (λ w. slice_index_or w m 0) (sym set))
 
--- the first bits of a number
+-- a number that gets its first bits is pushed into the heap
 pub heap_pushed : (bits new : List ℕ) (heap next : List (Reverse ℕ)) (r : Reverse ℕ) (n v : ℕ) → IsHeapOf bits heap
     → slice_index_or bits n 0 ≡ 0 → n < length bits → r.0 ≡ n → IsPermutation (r ∷ heap) next
     → KeepsHeap backwards heap next → v ≢ 0 → new ≡ slice_set bits n v → IsHeapOf new next
@@ -68,12 +61,12 @@ heap_pushed bits new heap next r n v h none within is moved keeps full set = rec
         let was : times m heap ≡ 0 = ap (λ w. times w heap) e ∙ h.once n ∙ rw none refl in
         let now : slice_index_or new m 0 ≡ v =
         ap (λ w. slice_index_or new w 0) e ∙ ap (λ w. slice_index_or w n 0) set ∙ get_or-set_same bits n v 0 within in
-        rw (is, same_number n m e, was, now, some_is v full) refl
+        rw (is, eq-eqb n m (sym e), was, now, ne_eqb v 0 full) refl
     go m (inr d) =
-        rw (is, other_number n m d) (none_more (times m heap) ∙ h.once m ∙ ap (λ w. cond (w == 0) 0 1)
+        rw (is, ne_eqb n m (λ e. d (sym e))) (none_more (times m heap) ∙ h.once m ∙ ap (λ w. cond (w == 0) 0 1)
         (sym (get_or-set_other bits n m v 0 d) ∙ ap (λ w. slice_index_or w m 0) (sym set)))
 
--- what is popped stood in the heap
+-- each number is in the heap as often as in the rest, and the popped one once more
 popped_times : (heap rest : List (Reverse ℕ)) (r : Reverse ℕ) (n m : ℕ) → r.0 ≡ n → IsPermutation heap (r ∷ rest)
     → times m heap ≡ cond (n == m) 1 0 + times m rest
 popped_times heap rest r n m is moved =
@@ -85,9 +78,9 @@ pub popped_some : (bits : List ℕ) (heap rest : List (Reverse ℕ)) (r : Revers
     → IsPermutation heap (r ∷ rest) → slice_index_or bits n 0 ≢ 0
 popped_some bits heap rest r n h is moved =
     counted_some bits heap n (times n rest) h
-    (popped_times heap rest r n n is moved ∙ rw (same_number n n refl) (one_more (times n rest)))
+    (popped_times heap rest r n n is moved ∙ rw (eq-eqb n n refl) (one_more (times n rest)))
 
--- and afterwards none
+-- the rest is the heap of the bits when the number that is popped has none any more
 pub heap_popped : (bits new : List ℕ) (heap rest : List (Reverse ℕ)) (r : Reverse ℕ) (n : ℕ) → IsHeapOf bits heap
     → r.0 ≡ n → IsPermutation heap (r ∷ rest) → PopsGreatest backwards heap r rest → new ≡ slice_set bits n 0
     → IsHeapOf new rest
@@ -103,18 +96,19 @@ heap_popped bits new heap rest r n h is moved pops set = record {
         → times m rest ≡ cond (slice_index_or new m 0 == 0) 0 1
     go m (inl e) count =
         let was : times m heap ≡ 1 =
-        ap (λ w. times w heap) e ∙ h.once n ∙ ap (λ t. cond t 0 1) (some_is (slice_index_or bits n 0) some) in
+        ap (λ w. times w heap) e ∙ h.once n ∙ ap (λ t. cond t 0 1) (ne_eqb (slice_index_or bits n 0) 0 some) in
         let now : slice_index_or new m 0 ≡ 0 =
         ap (λ w. slice_index_or new w 0) e ∙ ap (λ w. slice_index_or w n 0) set
         ∙ get_or-set_same bits n 0 0 (number_within bits n some) in
-        let one : times m heap ≡ 1 + times m rest = count ∙ rw (same_number n m e) refl in
+        let one : times m heap ≡ 1 + times m rest = count ∙ rw (eq-eqb n m (sym e)) refl in
         let none : times m rest ≡ 0 = omega (arith, was, one) in
         rw now none
     go m (inr d) count =
-        let same : times m heap ≡ times m rest = count ∙ rw (other_number n m d) (none_more (times m rest)) in
+        let same : times m heap ≡ times m rest = count ∙ rw (ne_eqb n m (λ e. d (sym e))) (none_more (times m rest)) in
         sym same ∙ h.once m ∙ ap (λ w. cond (w == 0) 0 1)
         (sym (get_or-set_other bits n m 0 0 d) ∙ ap (λ w. slice_index_or w m 0) (sym set))
 
+-- a number that is not less than another is at least that
 not_less : (m n : ℕ) → is_lt (nat_cmp m n) ≡ false → n ≤ m
 not_less m n h = go (cases_lt m n)
   where
@@ -132,7 +126,7 @@ counted_least r (s ∷ heap) m above some = go (cases_eq m s.0) (counted_least r
   where
     go : (m ≡ s.0) ⊎ (m ≡ s.0 → ⊥) → (times m heap ≢ 0 → r.0 ≤ m) → r.0 ≤ m
     go (inl e) ih = subst (λ w. r.0 ≤ w) (sym e) (not_less s.0 r.0 above.0)
-    go (inr d) ih = ih (λ none. some (times_more m s heap ∙ rw (other_number s.0 m d, none) refl))
+    go (inr d) ih = ih (λ none. some (times_more m s heap ∙ rw (ne_eqb s.0 m (λ e. d (sym e)), none) refl))
 
 -- no number that has bits is below the one that is popped
 pub popped_least : (bits : List ℕ) (heap rest : List (Reverse ℕ)) (r : Reverse ℕ) (n m : ℕ) → IsHeapOf bits heap
@@ -142,5 +136,5 @@ popped_least bits heap rest r n m h is pops some =
   where
     counted : times m heap ≢ 0
     counted none =
-        let one : times m heap ≡ 1 = h.once m ∙ ap (λ t. cond t 0 1) (some_is (slice_index_or bits m 0) some) in
+        let one : times m heap ≡ 1 = h.once m ∙ ap (λ t. cond t 0 1) (ne_eqb (slice_index_or bits m 0) 0 some) in
         cc

@@ -1,32 +1,32 @@
 -- What remains of a list, by its fields.
-use Rattle.acl_normal.proofs.Common.{Ace, AceRef, aces_in, all_rights, ap, AreRowNumbers, arith, bit_and, mask_numbers, column, Inside, IsRemaining, IsRowOf, IsTidy, key_here, length, List, Mask, mask_here, masks_left, nothing_left, Principal, remaining_of, row_of, slice_index_or, slice_set, subst, sym, take_out, vec_len, with_masks, without, ℕ, ◌<◌, ◌^◌, ◌∙◌, ◌≡◌}
+use Rattle.acl_normal.proofs.Common.{Ace, AceRef, aces_in, all_rights, ap, AreRowNumbers, arith, bit_and, mask_numbers, column, Inside, IsRemaining, IsRowOf, IsTidy, key_here, length, List, Mask, mask_here, masks_left, nothing_left, Principal, remaining_of, row_of, slice_index_or, slice_set, subst, sym, take_out, vec_len, with_masks, without, ℕ, ◌<◌, ◌^◌, ◌∙◌, ◌≡◌, get_or_default}
 use Rattle.std.specs.Vec.{with_item}
 use Rattle.acl_normal.specs.internal.rows.Remaining.{IsNumbered}
-use Rattle.acl_normal.proofs.unique.Bits.{bits_length, bits_set, bits_within}
 use Rattle.acl_normal.proofs.emit.RemainingLemmas.{all_left, left_at, length_left, mask_shown, row_taken}
-use Rattle.acl_normal.proofs.rows.BitTaken.{same_default}
 use Rattle.acl_normal.proofs.rows.Quiet.{tidy_taken}
-use Rattle.acl_normal.proofs.rows.Rows.{named_here, order_alike, outline_taken, row_below, row_same, rows_alike}
+use Rattle.acl_normal.proofs.rows.Rows.{named_here, row_below, row_same}
 use Rattle.acl_normal.proofs.rows.TakeOut.{none_taken}
 use Rattle.acl_normal.proofs.unique.Outline.{length_shown, outline_shown}
+use Rattle.acl_normal.proofs.rows.MaskNumbers.{bits_length, bits_set, bits_within}
+use Rattle.acl_normal.proofs.rows.RowsAlike.{order_alike, outline_taken, rows_alike}
 
--- a mask for each ACE
+-- there are as many masks as ACEs
 masks_count : (s : Inside) → IsRemaining s → length (mask_numbers s.masks.items) ≡ length s.aces.items
 masks_count s right = bits_length s.masks.items ∙ omega (arith, right.masks, s.masks.ok)
 
--- as many are left as there are
+-- what remains has as many ACEs as the list
 pub length_remaining : (s : Inside) → IsRemaining s → length (remaining_of s) ≡ length s.aces.items
 length_remaining s right =
     length_shown s.aces.items _
     (length_left (mask_numbers s.masks.items) s.rows.items (mask_numbers s.left.items) ∙ masks_count s right)
 
--- the places are shown with the outline that is left
+-- what remains has the outline of the ACEs
 pub outline_of : (s : Inside) → IsRemaining s → nothing_left (remaining_of s) ≡ nothing_left (aces_in s.aces.items)
 outline_of s right =
     outline_shown s.aces.items _
     (length_left (mask_numbers s.masks.items) s.rows.items (mask_numbers s.left.items) ∙ masks_count s right)
 
--- the row of a place is one of those of which something is left
+-- the row of a place is one of the rows for which a mask is kept
 pub row_of_place : (s : Inside) (i : ℕ) → IsRemaining s → i < length (remaining_of s)
     → slice_index_or s.rows.items i 0 < length s.left.items
 row_of_place s i right l =
@@ -34,27 +34,27 @@ row_of_place s i right l =
     let below = row_below (key_here xs i).0 xs (named_here xs i l) in
     omega (arith, right.list.rows.at i l, below, length_remaining s right, right.left, s.left.ok)
 
--- and so is that of whom an ACE names
+-- the row of a principal that is named is one of the rows for which a mask is kept
 pub row_of_named : (s : Inside) (row : ℕ) (p : Principal) → IsRemaining s → IsRowOf row p (remaining_of s)
     → row < length s.left.items
 row_of_named s row p right at_row =
     let below = row_below p (remaining_of s) at_row.named in
     omega (arith, below, at_row.is, length_remaining s right, right.left, s.left.ok)
 
--- the row that indexing gives
+-- the row that indexing gives is that of the place
 pub row_there : (s : Inside) (i d : ℕ) → IsRemaining s → i < length (remaining_of s)
     → slice_index_or s.rows.items i d ≡ slice_index_or s.rows.items i 0
-row_there s i d right l = same_default s.rows.items i d 0 (omega (arith, l, right.list.rows.count))
+row_there s i d right l = get_or_default s.rows.items i d 0 (omega (arith, l, right.list.rows.count))
 
--- and the place that it gives of the order, which is one of the list
+-- the place that indexing gives in the order is one of the list
 pub order_there : (s : Inside) (i d n : ℕ) → IsRemaining s → i < length (remaining_of s)
     → n ≡ slice_index_or s.order.items i d → (n ≡ slice_index_or s.order.items i 0) × (n < length (remaining_of s))
 order_there s i d n right l is = (same, omega (arith, same, right.list.order.within i l))
   where
     same : n ≡ slice_index_or s.order.items i 0
-    same = is ∙ same_default s.order.items i d 0 (omega (arith, l, right.list.order.count))
+    same = is ∙ get_or_default s.order.items i d 0 (omega (arith, l, right.list.order.count))
 
--- the mask that is left at a place
+-- the mask that remains at a place is what its row has left of the mask there
 pub mask_remaining : (s : Inside) (i : ℕ) → IsRemaining s → i < length (remaining_of s)
     → mask_here (remaining_of s) i
     ≡ bit_and (slice_index_or (mask_numbers s.masks.items) i 0)
@@ -66,7 +66,7 @@ mask_remaining s i right l =
     (omega (arith, right.list.rows.count, length_remaining s right, masks_count s right))
     (omega (arith, l, length_remaining s right, masks_count s right))
 
--- the list, where bits of a row are left out
+-- if a row leaves out bits, they are taken out of its principal
 pub taken_view : (s : Inside) (row m : ℕ) (p : Principal) → IsRemaining s → IsRowOf row p (remaining_of s)
     → with_masks s.aces.items (masks_left (mask_numbers s.masks.items) s.rows.items
     (slice_set (mask_numbers s.left.items) row (without (slice_index_or (mask_numbers s.left.items) row 0) m)))
@@ -82,7 +82,7 @@ taken_view s row m p right at_row =
     xs : List Ace
     xs = remaining_of s
 
--- what is left is right then
+-- the fields are right after a row leaves out bits
 pub taken_right : (s : Inside) (row m : ℕ) (mask : Mask) (p : Principal) → IsRemaining s
     → IsRowOf row p (remaining_of s)
     → mask.bits ≡ without (slice_index_or (mask_numbers s.left.items) row 0) m
@@ -122,7 +122,7 @@ taken_right s row m mask p right at_row is = record {
 
 -- ---- all is left
 
--- before anything was emitted the masks are all that is left
+-- if each row has all rights left, all masks remain
 pub all_remains : (aces : List AceRef) (masks : List Mask) (rows left : List ℕ) → length masks ≡ length aces
     → length left ≡ length aces → AreRowNumbers (with_masks aces (mask_numbers masks)) rows
     → ((i : ℕ) → i < length left → slice_index_or left i 0 ≡ all_rights)
@@ -149,7 +149,7 @@ all_remains aces masks rows left e f numbers full =
         ap (bit_and (slice_index_or (mask_numbers masks) i 0)) (full (slice_index_or rows i 0) row)
         ∙ bits_within masks i (omega (arith, l, bits_length masks))
 
--- the list begins right
+-- the fields of a list from which nothing was emitted yet are right
 pub begins_right : (s : Inside) → length s.aces.items < 2 ^ 32 → vec_len s.masks ≡ length s.aces.items
     → vec_len s.left ≡ length s.aces.items
     → IsNumbered (with_masks s.aces.items (mask_numbers s.masks.items)) s.rows.items s.order.items

@@ -1,52 +1,36 @@
 -- The keys and bits that are marked as free, by number.
-use Rattle.acl_normal.proofs.Common.{Ace, Allow, and_from, and_parts, ap, arith, bit_at-zero, bit_or, Bool, cases_eq, cases_lt, compare_keys, cond, Deny, Equal, false, FitsKeys, get_or-replicate, get_or-set_other, get_or-set_same, Greater, has_bit, has_bit-or, inl, inr, is_le, is_principal_of, IsRowOf, Key, key_eq, key_number, Kind, kind_eq, kind_rank, length, length-replicate, length-set, Less, List, marks, nat_cmp, nothing_left, Ordering, principal_cmp, principal_eq, principal_exact, principal_order, refl, replicate, row_of, slice_index_or, slice_set, subst, sym, true, ℕ, ◌%◌, ◌&&◌, ◌*◌, ◌+◌, ◌/◌, ◌<◌, ◌==◌, ◌^◌, ◌||◌, ◌∙◌, ◌≡◌, ◌≢◌, ◌≤◌, ◌⊎◌}
+use Rattle.acl_normal.proofs.Common.{Ace, Allow, Bool, ColumnKey, Deny, Equal, FitsKeys, Greater, IsRowOf, Kind, Less, List, Ordering, ap, arith, bit_at-zero, bit_or, cases_eq, cases_lt, compare_keys, cond, false, get_or-replicate, get_or-set_other, get_or-set_same, has_bit, has_bit-or, inl, inr, is_le, is_principal_of, key_eq, key_number, kind_rank, length, length-replicate, length-set, marks, nat_cmp, nothing_left, principal_cmp, principal_exact, principal_order, refl, replicate, row_of, slice_index_or, slice_set, subst, sym, true, ℕ, ◌%◌, ◌&&◌, ◌*◌, ◌+◌, ◌/◌, ◌<◌, ◌==◌, ◌^◌, ◌||◌, ◌∙◌, ◌≡◌, ◌≢◌, ◌≤◌, ◌⊎◌, one_bit}
 use Rattle.std.proofs.lemmas.List.{get_or_past}
-use Rattle.acl_normal.specs.internal.emit.Ready.{IsKeyNumber, AddsMark}
-use Rattle.acl_normal.proofs.unique.Names.{principal_eq_same, principal_eq_itself}
-use Rattle.acl_normal.proofs.unique.Free.{kind_eq_same, kind_eq_itself}
-use Rattle.acl_normal.proofs.unique.Bits.{has_power}
-use Rattle.acl_normal.proofs.rows.BitTaken.{power_is}
-use Rattle.acl_normal.proofs.rows.Rows.{named_outline, row_below, row_less, row_outline, row_same}
-
--- keys that are told to be the same are
-pub key_eq_same : (k l : Key) → key_eq k l ≡ true → k ≡ l
-key_eq_same k l h =
-    let both = and_parts (principal_eq k.0 l.0) (kind_eq k.1 l.1) h in
-    ap (λ v. (v, k.1)) (principal_eq_same k.0 l.0 both.0) ∙ ap (λ v. (l.0, v)) (kind_eq_same k.1 l.1 both.1)
-
--- a key is the same as itself
-pub key_eq_itself : (k : Key) → key_eq k k ≡ true
-key_eq_itself k = and_from (principal_eq k.0 k.0) (kind_eq k.1 k.1) (principal_eq_itself k.0) (kind_eq_itself k.1)
+use Rattle.acl_normal.specs.internal.emit.Ready.{AddsMark, IsKeyNumber}
+use Rattle.acl_normal.proofs.unique.Names.{key_eq_itself, key_eq_same}
+use Rattle.acl_normal.proofs.unique.Bits.{power_is}
+use Rattle.acl_normal.proofs.rows.Rows.{row_below, row_less, row_same}
+use Rattle.acl_perm.proofs.Orders.{same_kind}
+use Rattle.acl_normal.proofs.rows.RowsAlike.{named_outline, row_outline}
 
 -- ---- numbers of keys
 
--- there are two kinds
+-- the rank of a kind is 0 or 1
 pub rank_below : (k : Kind) → kind_rank k < 2
 rank_below Deny = omega arith
 rank_below Allow = omega arith
 
-rank_same : (j k : Kind) → kind_rank j ≡ kind_rank k → j ≡ k
-rank_same Deny Deny h = refl
-rank_same Deny Allow h = cc
-rank_same Allow Deny h = cc
-rank_same Allow Allow h = refl
-
--- a number is that of one key alone
-pub number_same : (k l : Key) (xs : List Ace) → is_principal_of k.0 xs ≡ true → is_principal_of l.0 xs ≡ true
+-- two keys of principals that the list names have different numbers, unless they are equal
+pub number_same : (k l : ColumnKey) (xs : List Ace) → is_principal_of k.0 xs ≡ true → is_principal_of l.0 xs ≡ true
     → key_number k xs ≡ key_number l xs → k ≡ l
 number_same k l xs h i e =
     let rows : row_of k.0 xs ≡ row_of l.0 xs = omega (arith, e, rank_below k.1, rank_below l.1) in
     let kinds : kind_rank k.1 ≡ kind_rank l.1 = omega (arith, e, rows) in
-    ap (λ v. (v, k.1)) (row_same k.0 l.0 xs h i rows) ∙ ap (λ v. (l.0, v)) (rank_same k.1 l.1 kinds)
+    ap (λ v. (v, k.1)) (row_same k.0 l.0 xs h i rows) ∙ ap (λ v. (l.0, v)) (same_kind k.1 l.1 kinds)
 
--- what twice a row and a kind come to
-pub record IsNumberOf (k : Key) (xs : List Ace) (number : ℕ) : Type 0 where
+-- the number of a key whose principal the list names, below twice the number of its ACEs
+pub record IsNumberOf (k : ColumnKey) (xs : List Ace) (number : ℕ) : Type 0 where
   pub below : number < 2 * length xs
   pub named : is_principal_of k.0 (nothing_left xs) ≡ true
   pub is : number ≡ key_number k (nothing_left xs)
 
--- the number of a key, whatever masks there are
-pub number_at : (k : Key) (xs : List Ace) (row rank : ℕ) → IsRowOf row k.0 xs → rank ≡ kind_rank k.1
+-- twice a row and the rank of a kind are the number of a key, whatever the masks are
+pub number_at : (k : ColumnKey) (xs : List Ace) (row rank : ℕ) → IsRowOf row k.0 xs → rank ≡ kind_rank k.1
     → IsNumberOf k xs (2 * row + rank)
 number_at k xs row rank r is = record {
   below = omega (arith, row_below k.0 xs r.named, r.is, is, rank_below k.1);
@@ -55,15 +39,15 @@ number_at k xs row rank r is = record {
 }
 
 -- half of a number is the row
-pub number_row : (k : Key) (xs : List Ace) (n : ℕ) → n ≡ key_number k xs → n / 2 ≡ row_of k.0 xs
+pub number_row : (k : ColumnKey) (xs : List Ace) (n : ℕ) → n ≡ key_number k xs → n / 2 ≡ row_of k.0 xs
 number_row k xs n is = omega (arith, is, rank_below k.1)
 
--- and what is over is the kind
-pub number_rank : (k : Key) (xs : List Ace) (n : ℕ) → n ≡ key_number k xs → n % 2 ≡ kind_rank k.1
+-- the remainder of the number of a key by two is the rank of its kind
+pub number_rank : (k : ColumnKey) (xs : List Ace) (n : ℕ) → n ≡ key_number k xs → n % 2 ≡ kind_rank k.1
 number_rank k xs n is = omega (arith, is, rank_below k.1)
 
--- numbers rise with the keys
-pub number_order : (k l : Key) (xs : List Ace) → is_principal_of k.0 xs ≡ true → is_principal_of l.0 xs ≡ true
+-- a key whose number is at most that of another is at most that key
+pub number_order : (k l : ColumnKey) (xs : List Ace) → is_principal_of k.0 xs ≡ true → is_principal_of l.0 xs ≡ true
     → key_number k xs ≤ key_number l xs → is_le (compare_keys k l) ≡ true
 number_order k l xs h i le = go (principal_cmp k.0 l.0) (principal_cmp l.0 k.0) refl refl
   where
@@ -92,13 +76,13 @@ number_order k l xs h i le = go (principal_cmp k.0 l.0) (principal_cmp l.0 k.0) 
 
 -- ---- what is marked
 
--- the bits of a key whose principal is named
-pub mark_named : (k : Key) (xs : List Ace) (bits : List ℕ) → is_principal_of k.0 xs ≡ true
+-- the marked bits of a key whose principal is named are those at its number
+pub mark_named : (k : ColumnKey) (xs : List Ace) (bits : List ℕ) → is_principal_of k.0 xs ≡ true
     → marks xs bits k ≡ slice_index_or bits (key_number k xs) 0
 mark_named k xs bits h = rw h refl
 
--- one key alone has other bits where those of its number were written
-pub mark_written : (xs : List Ace) (old new : List ℕ) (n v : ℕ) (k l : Key) → is_principal_of k.0 xs ≡ true
+-- if bits are written at the number of a key, they are marked at that key and no other changes
+pub mark_written : (xs : List Ace) (old new : List ℕ) (n v : ℕ) (k l : ColumnKey) → is_principal_of k.0 xs ≡ true
     → n ≡ key_number k xs → n < length old → new ≡ slice_set old n v
     → marks xs new l ≡ cond (key_eq l k) v (marks xs old l)
 mark_written xs old new n v k l named is within set = go (is_principal_of l.0 xs) refl (key_eq l k) refl
@@ -108,7 +92,7 @@ mark_written xs old new n v k l named is within set = go (is_principal_of l.0 xs
     go s e true f =
         let same : k ≡ l = sym (key_eq_same l k f) in
         let here : n ≡ key_number l xs = is ∙ ap (λ w. key_number w xs) same in
-        let its : is_principal_of l.0 xs ≡ true = ap (λ (w : Key). is_principal_of w.0 xs) (sym same) ∙ named in
+        let its : is_principal_of l.0 xs ≡ true = ap (λ (w : ColumnKey). is_principal_of w.0 xs) (sym same) ∙ named in
         rw f (mark_named l xs new its ∙ ap (λ w. slice_index_or w (key_number l xs) 0) set
         ∙ ap (λ w. slice_index_or (slice_set old n v) w 0) (sym here) ∙ get_or-set_same old n v 0 within)
     go true e false f =
@@ -122,7 +106,7 @@ mark_written xs old new n v k l named is within set = go (is_principal_of l.0 xs
             cc
     go false e false f = rw (f, e) refl
 
--- bits of a key whose principal is named fit still
+-- bits stay fit when some are written at the number of a key
 pub fits_written : (xs : List Ace) (old new : List ℕ) (n v : ℕ) → FitsKeys xs old → IsKeyNumber xs n
     → new ≡ slice_set old n v → FitsKeys xs new
 fits_written xs old new n v f k set = record {
@@ -135,7 +119,7 @@ fits_written xs old new n v f k set = record {
     go m some (inr d) =
         f.sound m (λ none. some (ap (λ w. slice_index_or w m 0) set ∙ get_or-set_other old n m v 0 d ∙ none))
 
--- a number with bits is one of the list
+-- a number that has bits is within the list of bits
 pub number_within : (bits : List ℕ) (n : ℕ) → slice_index_or bits n 0 ≢ 0 → n < length bits
 number_within bits n some = go (cases_lt n (length bits))
   where
@@ -143,7 +127,7 @@ number_within bits n some = go (cases_lt n (length bits))
     go (inl l) = l
     go (inr l) = absurd (some (get_or_past bits n 0 l))
 
--- zeros are zeros
+-- a list of zeros is zero at each number
 pub zero_at : (count n : ℕ) → slice_index_or {A = ℕ} (replicate count 0) n 0 ≡ 0
 zero_at count n = go (cases_lt n count)
   where
@@ -151,15 +135,15 @@ zero_at count n = go (cases_lt n count)
     go (inl l) = get_or-replicate count n 0 0 l
     go (inr l) = get_or_past (replicate count 0) n 0 (omega (arith, l, length-replicate {A = ℕ} count 0))
 
--- no bits fit
+-- a list of zeros with a number for each key is fit
 pub fits_zeros : (xs : List Ace) (count : ℕ) → count ≡ 2 * length xs → FitsKeys xs (replicate count 0)
 fits_zeros xs count is = record {
   count = length-replicate count 0 ∙ is;
   sound = λ n some. absurd (some (zero_at count n));
 }
 
--- and mark none
-pub nothing_marked : (xs : List Ace) (bits : List ℕ) → ((n : ℕ) → slice_index_or bits n 0 ≡ 0) → (k : Key)
+-- if each number has no bits, no key is marked
+pub nothing_marked : (xs : List Ace) (bits : List ℕ) → ((n : ℕ) → slice_index_or bits n 0 ≡ 0) → (k : ColumnKey)
     → marks xs bits k ≡ 0
 nothing_marked xs bits none k = go (is_principal_of k.0 xs) refl
   where
@@ -167,8 +151,8 @@ nothing_marked xs bits none k = go (is_principal_of k.0 xs) refl
     go true e = rw e (none (key_number k xs))
     go false e = rw e refl
 
--- one bit more of a key
-pub adds : (xs : List Ace) (old new : List ℕ) (n bit : ℕ) (k : Key) → is_principal_of k.0 xs ≡ true
+-- if a bit is added at the number of a key, it is marked at that key
+pub adds : (xs : List Ace) (old new : List ℕ) (n bit : ℕ) (k : ColumnKey) → is_principal_of k.0 xs ≡ true
     → n ≡ key_number k xs → n < length old
     → new ≡ slice_set old n (bit_or (slice_index_or old n 0) (2 ^ bit)) → AddsMark k bit (marks xs old) (marks xs new)
 adds xs old new n bit k named is within set = record {
@@ -185,7 +169,7 @@ adds xs old new n bit k named is within set = record {
     other true = refl
     other false = refl
 
-    go : (l : Key) (b : ℕ) (t : Bool) → key_eq l k ≡ t
+    go : (l : ColumnKey) (b : ℕ) (t : Bool) → key_eq l k ≡ t
         → has_bit (cond (key_eq l k) (bit_or (slice_index_or old n 0) (2 ^ bit)) (marks xs old l)) b
         ≡ (has_bit (marks xs old l) b || (key_eq l k && (b == bit)))
     go l b true e =
@@ -194,16 +178,16 @@ adds xs old new n bit k named is within set = record {
         ∙ ap (λ v. has_bit (slice_index_or old n 0) b || v) (power_is bit b))
     go l b false e = rw e (other (has_bit (marks xs old l) b))
 
--- a mask with a bit is some
+-- a mask that has a bit is not zero
 pub some_bits : (m b : ℕ) → has_bit m b ≡ true → m ≢ 0
 some_bits m b h zero =
     let none : has_bit m b ≡ false = ap (λ v. has_bit v b) zero ∙ ap (λ v. v == 1) (bit_at-zero b) in
     cc
 
--- with a bit more it is
+-- a mask to which a bit is added is not zero
 pub added_some : (m bit : ℕ) → bit_or m (2 ^ bit) ≢ 0
 added_some m bit =
-    some_bits (bit_or m (2 ^ bit)) bit (has_bit-or m (2 ^ bit) bit ∙ rw (has_power bit) (right (has_bit m bit)))
+    some_bits (bit_or m (2 ^ bit)) bit (has_bit-or m (2 ^ bit) bit ∙ rw (one_bit bit) (right (has_bit m bit)))
   where
     right : (t : Bool) → (t || true) ≡ true
     right true = refl

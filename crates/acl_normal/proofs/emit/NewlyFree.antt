@@ -1,9 +1,9 @@
 -- What becomes free when bits of a key are taken out.
-use Rattle.acl_normal.proofs.Common.{Ace, ap, arith, Bool, cases_eq, cases_lt, column, Enters, false, Grows, has_bit, inl, inr, is_free, is_user, Key, List, Marked, other_kind, Principal, refl, subst, sym, true, ℕ, ⊎_elim, ◌&&◌, ◌+◌, ◌<◌, ◌∙◌, ◌≡◌, ◌≤◌, ◌⊎◌}
+use Rattle.acl_normal.proofs.Common.{Ace, Bool, ColumnKey, Enters, Grows, List, Marked, Principal, ap, arith, cases_eq, cases_lt, column, false, has_bit, inl, inr, is_free, is_user, other_kind, refl, subst, sym, true, ℕ, ⊎_elim, ◌&&◌, ◌+◌, ◌<◌, ◌∙◌, ◌≡◌, ◌≤◌, ◌⊎◌}
 use Rattle.acl_normal.specs.internal.emit.Ready.{Frees}
 
--- what `Frees` says, of the bits below a place
-pub record FreesBelow (k : Key) (bits : ℕ) (xs : List Ace) (old new : Marked) (n : ℕ) : Type 0 where
+-- what `Frees` says, of the bits below a number
+pub record FreesBelow (k : ColumnKey) (bits : ℕ) (xs : List Ace) (old new : Marked) (n : ℕ) : Type 0 where
   pub grows : Grows xs old new
   pub all : (q : Principal) (b : ℕ) → b < n → has_bit bits b ≡ true → (is_user k.0 && is_user q) ≡ false
       → is_free (column xs b) (q, other_kind k.1) ≡ true → has_bit (new (q, other_kind k.1)) b ≡ true
@@ -12,19 +12,19 @@ pub record FreesBelow (k : Key) (bits : ℕ) (xs : List Ace) (old new : Marked) 
 pub grows_nothing : (xs : List Ace) (old : Marked) → Grows xs old old
 grows_nothing xs old = record { kept = λ l i h. h; sound = λ l i h. inl h }
 
--- what grows twice grows
+-- if only free bits were added in each of two steps, only free bits were added in both together
 pub grows_on : (xs : List Ace) (x y z : Marked) → Grows xs x y → Grows xs y z → Grows xs x z
 grows_on xs x y z g h = record {
   kept = λ l b e. h.kept l b (g.kept l b e);
   sound = λ l b e. ⊎_elim (λ f. g.sound l b f) (λ f. inr f) (h.sound l b e);
 }
 
--- at no bit all are there
-pub frees_nothing : (k : Key) (bits : ℕ) (xs : List Ace) (old : Marked) → FreesBelow k bits xs old old 0
+-- there are no bits below bit 0 at which a key could become free
+pub frees_nothing : (k : ColumnKey) (bits : ℕ) (xs : List Ace) (old : Marked) → FreesBelow k bits xs old old 0
 frees_nothing k bits xs old = record { grows = grows_nothing xs old; all = λ q b l. absurd (omega (arith, l)) }
 
--- a bit that is not taken out frees none
-pub frees_on_absent : (k : Key) (bits : ℕ) (xs : List Ace) (old new : Marked) (n : ℕ)
+-- if bit n was not taken out, no key becomes free at it
+pub frees_on_absent : (k : ColumnKey) (bits : ℕ) (xs : List Ace) (old new : Marked) (n : ℕ)
     → FreesBelow k bits xs old new n → has_bit bits n ≡ false → FreesBelow k bits xs old new (n + 1)
 frees_on_absent k bits xs old new n f none = record {
   grows = f.grows;
@@ -41,9 +41,9 @@ frees_on_absent k bits xs old new n f none = record {
     go q b l has class free (inr d) =
         f.all q b (⊎_elim (λ g. g) (λ g. absurd (d (omega (arith, g, l)))) (cases_lt b n)) has class free
 
--- both classes were walked, or the users need none
-pub frees_on : (k : Key) (bits : ℕ) (xs : List Ace) (old new next : Marked) (n : ℕ) → FreesBelow k bits xs old new n
-    → Grows xs new next
+-- if the keys that are free at bit n are marked, those at the bits below n + 1 are
+pub frees_on : (k : ColumnKey) (bits : ℕ) (xs : List Ace) (old new next : Marked) (n : ℕ)
+    → FreesBelow k bits xs old new n → Grows xs new next
     → ((q : Principal) → (is_user k.0 && is_user q) ≡ false → is_free (column xs n) (q, other_kind k.1) ≡ true
     → has_bit (next (q, other_kind k.1)) n ≡ true)
     → FreesBelow k bits xs old next (n + 1)
@@ -61,15 +61,15 @@ frees_on k bits xs old new next n f g here = record {
         g.kept (q, other_kind k.1) b (f.all q b
         (⊎_elim (λ g. g) (λ g. absurd (d (omega (arith, g, l)))) (cases_lt b n)) has class free)
 
--- of a user name: the others alone
-pub frees_on_user : (k : Key) (bits : ℕ) (xs : List Ace) (old new next : Marked) (n : ℕ)
+-- at bit n only keys of others become free if the key that was taken out is of a user
+pub frees_on_user : (k : ColumnKey) (bits : ℕ) (xs : List Ace) (old new next : Marked) (n : ℕ)
     → FreesBelow k bits xs old new n → is_user k.0 ≡ true → Enters (other_kind k.1) false n xs new next
     → FreesBelow k bits xs old next (n + 1)
 frees_on_user k bits xs old new next n f user e =
     frees_on k bits xs old new next n f e.grows (λ q class free. e.all q (rw user at class) free)
 
--- at one bit more, where the key is no user: both classes were entered
-pub frees_on_other : (k : Key) (bits : ℕ) (xs : List Ace) (old new mid next : Marked) (n : ℕ)
+-- at bit n keys of both classes become free if the key that was taken out is of no user
+pub frees_on_other : (k : ColumnKey) (bits : ℕ) (xs : List Ace) (old new mid next : Marked) (n : ℕ)
     → FreesBelow k bits xs old new n → Enters (other_kind k.1) false n xs new mid
     → Enters (other_kind k.1) true n xs mid next → FreesBelow k bits xs old next (n + 1)
 frees_on_other k bits xs old new mid next n f e g =
@@ -81,7 +81,7 @@ frees_on_other k bits xs old new mid next n f e g =
     go q free true u = g.all q u free
     go q free false u = g.grows.kept (q, other_kind k.1) n (e.all q u free)
 
--- at all bits
-pub frees_all : (k : Key) (bits : ℕ) (xs : List Ace) (old new : Marked) (n : ℕ) → FreesBelow k bits xs old new n
+-- after the last bit all keys that become free are marked
+pub frees_all : (k : ColumnKey) (bits : ℕ) (xs : List Ace) (old new : Marked) (n : ℕ) → FreesBelow k bits xs old new n
     → 21 ≤ n → Frees k bits xs old new
 frees_all k bits xs old new n f l = record { grows = f.grows; all = λ q b h. f.all q b (omega (arith, h, l)) }

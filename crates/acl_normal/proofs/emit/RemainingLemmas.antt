@@ -1,25 +1,25 @@
 -- What remains of a list while it is emitted: masks by place of which masks by row leave a part, and queues of places.
 use Rattle.acl_normal.proofs.Common.{[], Ace, AceRef, and_parts, ap, arith, bit_and, Bool, cases_eq, counts, false, false_from_ne_true, get_or-set_other, get_or-set_same, has_bit, has_bit-without, inl, inr, is_at, is_inherit_only, is_waiting, IsQueue, IsQuiet, key_here, Kind, length, List, list_any, mask_here, masks_left, nat_cmp, not, or_cases, or_right, Principal, principal_eq, principal_of, refl, slice_index_or, slice_set, subst, suc, sym, take_out, true, waits, waits_before, with_masks, without, without_bits, zero, ℕ, ⊎_elim, ◌&&◌, ◌<◌, ◌∙◌, ◌∷◌, ◌≡◌, ◌≤◌, ◌⊎◌, ace, has_bit-and}
 use Rattle.std.proofs.lemmas.Map.Keys.{sorted_head, sorted_tail}
-use Rattle.acl_normal.proofs.emit.Walk.{head_in, later_than}
-use Rattle.acl_normal.proofs.rows.BitTaken.{is_eq_same}
-use Rattle.acl_normal.proofs.rows.Rows.{outline_taken}
 use Rattle.acl_normal.proofs.rows.TakeOut.{waiting_left}
 use Rattle.acl_normal.proofs.rows.Waits.{before_none}
 use Rattle.acl_normal.proofs.rows.ByPlace.{masked}
 use Rattle.acl_normal.proofs.unique.Bits.{masks_same, no_bits_of_zero}
 use Rattle.acl_normal.proofs.unique.Names.{principal_eq_same, principal_eq_itself}
 use Rattle.acl_normal.proofs.unique.Outline.{length_alike}
+use Rattle.acl_normal.proofs.rows.Slots.{is_eq_same}
+use Rattle.acl_normal.proofs.rows.PlaceLists.{front_in, later_than}
+use Rattle.acl_normal.proofs.rows.RowsAlike.{outline_taken}
 
 -- ---- masks
 
--- a mask is left at each place
+-- what is left of masks has as many masks
 pub length_left : (masks rows left : List ℕ) → length (masks_left masks rows left) ≡ length masks
 length_left [] rows left = refl
 length_left (m ∷ masks) [] left = refl
 length_left (m ∷ masks) (r ∷ rows) left = ap suc (length_left masks rows left)
 
--- that of the place without what has left its row
+-- the mask that is left at a place is what its row has left of the mask there
 pub left_at : (masks rows left : List ℕ) (i : ℕ) → length rows ≡ length masks → i < length masks
     → slice_index_or (masks_left masks rows left) i 0
     ≡ bit_and (slice_index_or masks i 0) (slice_index_or left (slice_index_or rows i 0) 0)
@@ -37,7 +37,7 @@ mask_shown (a ∷ aces) [] i e = absurd (omega (arith, e))
 mask_shown (a ∷ aces) (m ∷ masks) zero e = refl
 mask_shown (a ∷ aces) (m ∷ masks) (suc i) e = mask_shown aces masks i (omega (arith, e))
 
--- where each row has its numbers, all that has the bits of the masks is left
+-- if each row has all bits of its masks left, all masks are left
 pub all_left : (masks rows left : List ℕ) → length rows ≡ length masks
     → ((i : ℕ) → i < length masks → bit_and (slice_index_or masks i 0) (slice_index_or left (slice_index_or rows i 0) 0)
     ≡ slice_index_or masks i 0)
@@ -48,7 +48,7 @@ all_left (m ∷ masks) (r ∷ rows) left e h =
     ap (λ v. v ∷ masks_left masks rows left) (h 0 (omega arith))
     ∙ ap (λ v. m ∷ v) (all_left masks rows left (omega (arith, e)) (λ i l. h (suc i) (omega (arith, l))))
 
--- bits leave a mask and its row alike
+-- to take bits out of what a row has left takes them out of its masks
 and_without : (m l n : ℕ) → bit_and m (without l n) ≡ without (bit_and m l) n
 and_without m l n =
     masks_same _ _ (λ b. has_bit-and m (without l n) b ∙ ap (λ t. has_bit m b && t) (has_bit-without l n b)
@@ -60,11 +60,12 @@ and_without m l n =
     bools true t u = refl
     bools false t u = refl
 
+-- the empty set without some bits is empty
 nothing_without : (n : ℕ) → without 0 n ≡ 0
 nothing_without n =
     masks_same _ _ (λ b. has_bit-without 0 n b ∙ rw (no_bits_of_zero b) refl)
 
--- without bits of a row, the list is without bits of its principal
+-- if a row leaves out bits, the list is without these bits of its principal
 pub row_taken : (p : Principal) (m row : ℕ) (aces : List AceRef) (masks rows left : List ℕ) → row < length left
     → length rows ≡ length masks → IsQuiet (with_masks aces (masks_left masks rows left))
     → ((i : ℕ) → i < length (with_masks aces (masks_left masks rows left)) → slice_index_or rows i 0 ≡ row
@@ -114,7 +115,7 @@ row_taken p m row (x ∷ aces) (n ∷ masks) (r ∷ rows) left l e quiet there b
 
 -- ---- queues
 
--- what waits has the bit
+-- a place that waits with a bit has the bit
 pub waits_has : (k : Kind) (u : Bool) (b : ℕ) (xs : List Ace) (i : ℕ) → waits k u b xs i ≡ true
     → has_bit (mask_here xs i) b ≡ true
 waits_has k u b [] i h = cc
@@ -124,7 +125,7 @@ waits_has k u b (a ∷ xs) zero h =
     both.0
 waits_has k u b (a ∷ xs) (suc i) h = waits_has k u b xs i h
 
--- what waits when bits left has waited before
+-- a place that waits after bits were taken out has waited before
 pub waited : (k : Kind) (u : Bool) (b : ℕ) (p : Principal) (m : ℕ) (xs : List Ace) (i : ℕ)
     → waits k u b (take_out p m xs) i ≡ true → waits k u b xs i ≡ true
 waited k u b p m [] i h = h
@@ -133,7 +134,7 @@ waited k u b p m (a ∷ xs) zero h =
     parts.0
 waited k u b p m (a ∷ xs) (suc i) h = waited k u b p m xs i h
 
--- where just what has the bit waits, it does so when bits left
+-- a place that waits if and only if it has the bit does so after bits were taken out
 pub listed_taken : (k : Kind) (u : Bool) (b : ℕ) (p : Principal) (m : ℕ) (xs : List Ace) (i : ℕ)
     → waits k u b xs i ≡ has_bit (mask_here xs i) b
     → waits k u b (take_out p m xs) i ≡ has_bit (mask_here (take_out p m xs) i) b
@@ -151,7 +152,7 @@ listed_taken k u b p m (a ∷ xs) zero h = go (principal_eq (principal_of a) p) 
     go false e t f = rw e h
 listed_taken k u b p m (a ∷ xs) (suc i) h = listed_taken k u b p m xs i h
 
--- a queue is one when bits left
+-- a queue of a list is a queue of what is left of the list
 pub queue_taken : (k : Kind) (u : Bool) (b : ℕ) (p : Principal) (m : ℕ) (xs : List Ace) (places : List ℕ)
     → IsQueue k u b xs places → IsQueue k u b (take_out p m xs) places
 queue_taken k u b p m xs places q = record {
@@ -178,7 +179,7 @@ queue_on k u b xs place places q none = record {
         let lacks : has_bit (mask_here xs i) b ≡ false = ap (λ v. has_bit (mask_here xs v) b) e ∙ none in
         cc
 
--- of an empty queue none waits
+-- if the queue has no place, no place waits
 pub queue_empty : (k : Kind) (u : Bool) (b : ℕ) (xs : List Ace) (i : ℕ) → IsQueue k u b xs []
     → waits_before k u b xs i ≡ false
 queue_empty k u b xs i q = before_none k u b xs i (λ j l. false_from_ne_true _ (λ t. clash (q.all j t)))
@@ -186,7 +187,7 @@ queue_empty k u b xs i q = before_none k u b xs i (λ j l. false_from_ne_true _ 
     clash : false ≡ true → ⊥
     clash e = cc
 
--- none that waits stands before the first of a queue
+-- no place that waits is before the first place of a queue
 pub queue_before : (k : Kind) (u : Bool) (b : ℕ) (xs : List Ace) (place : ℕ) (places : List ℕ) (i : ℕ)
     → IsQueue k u b xs (place ∷ places) → i ≤ place → waits_before k u b xs i ≡ false
 queue_before k u b xs place places i q up =
@@ -200,15 +201,15 @@ queue_before k u b xs place places i q up =
     later : (j : ℕ) → j < i → place ≤ j → ⊥
     later j l h = omega (arith, l, h, up)
 
--- and the first waits, if it has the bit
+-- the first place of a queue waits if it has the bit
 pub queue_first : (k : Kind) (u : Bool) (b : ℕ) (xs : List Ace) (place : ℕ) (places : List ℕ)
     → IsQueue k u b xs (place ∷ places) → has_bit (mask_here xs place) b ≡ true → waits k u b xs place ≡ true
 queue_first k u b xs place places q has =
-    q.listed place (head_in place places)
+    q.listed place (front_in place places)
     ∙ has
 
--- the places of a queue are of the list
+-- the first place of a queue is one of the list
 pub queue_within : (k : Kind) (u : Bool) (b : ℕ) (xs : List Ace) (place : ℕ) (places : List ℕ)
     → IsQueue k u b xs (place ∷ places) → place < length xs
 queue_within k u b xs place places q =
-    q.within place (head_in place places)
+    q.within place (front_in place places)

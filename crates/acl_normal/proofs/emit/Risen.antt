@@ -1,5 +1,5 @@
 -- The numbers of the keys show whether they rise, and the list without its empty ACEs is made place by place.
-use Rattle.acl_normal.proofs.Common.{[], Ace, ace_key, AceRef, all_cleared, AllByRecursion, ap, AreRowNumbers, arith, mask_numbers, Bool, cases_lt, cleared, compare_keys, drop, eqb-false, Equal, false, full, Greater, HasRisen, inl, inr, is_le, is_principal_of, IsAccepted, IsNormalFormOf, IsReducedOf, Key, key_here, key_number, key_order, key_record, kind_rank, left, length, Less, List, map-append, Mask, mask_here, ne_eqb, Ordering, refl, slice_index_or, subst, suc, sym, take, take_all, take_more, true, with_masks, zero, ℕ, ⊎_elim, ◌*◌, ◌++◌, ◌+◌, ◌<◌, ◌==◌, ◌∙◌, ◌∷◌, ◌≡◌, ◌≢◌, ◌≤◌, ◌⊎◌}
+use Rattle.acl_normal.proofs.Common.{Ace, AceRef, AllByRecursion, AreRowNumbers, Bool, ColumnKey, Equal, Greater, HasRisen, IsAccepted, IsNormalFormOf, IsReducedOf, Less, List, Mask, Ordering, [], ace_key, all_cleared, ap, arith, cleared, compare_keys, drop, eqb-false, false, full, is_le, is_principal_of, key_here, key_number, key_order, key_record, kind_rank, left, length, map-append, mask_here, mask_numbers, ne_eqb, refl, slice_index_or, subst, suc, sym, take, take_all, take_more, true, with_masks, zero, ℕ, ⊎_elim, ◌*◌, ◌++◌, ◌+◌, ◌<◌, ◌==◌, ◌∙◌, ◌∷◌, ◌≡◌, ◌≢◌, ◌≤◌}
 use Rattle.acl_nfs4.proofs.Exports.{front_accepted}
 use Rattle.acl_eval.proofs.Children.{moved}
 use Rattle.acl_normal.specs.internal.emit.Rising.{IsRising}
@@ -8,12 +8,13 @@ use Rattle.acl_normal.proofs.emit.RisingKeys.{rising_form}
 use Rattle.acl_normal.proofs.rows.BitsTaken.{key_there}
 use Rattle.acl_normal.proofs.rows.Rows.{named_here, row_below}
 use Rattle.acl_normal.proofs.rows.ByPlace.{mask_there}
-use Rattle.acl_normal.proofs.unique.Bits.{bits_at}
 use Rattle.acl_normal.proofs.unique.Outline.{masked_count}
 use Rattle.acl_normal.proofs.unique.Taken.{form_of_reduced}
+use Rattle.acl_normal.proofs.Each.{before_or_at, split_there}
+use Rattle.acl_normal.proofs.rows.MaskNumbers.{bits_at}
 
--- numbers that rise are those of keys that rise
-number_less : (k l : Key) (xs : List Ace) → is_principal_of k.0 xs ≡ true → is_principal_of l.0 xs ≡ true
+-- keys whose numbers rise rise
+number_less : (k l : ColumnKey) (xs : List Ace) → is_principal_of k.0 xs ≡ true → is_principal_of l.0 xs ≡ true
     → key_number k xs < key_number l xs → compare_keys k l ≡ Less
 number_less k l xs h i less = go (compare_keys k l) refl
   where
@@ -30,8 +31,8 @@ number_less k l xs h i less = go (compare_keys k l) refl
         let no : is_le Greater ≡ true = ap is_le (sym e) ∙ le in
         absurd (cc)
 
--- what holds of the keys with a mask, by place, holds of the list without its empty ACEs
-all_left : (P : Key → Type 0) (xs : List Ace)
+-- what holds of the key at each place with a mask holds of the keys without the empty ACEs
+all_left : (P : ColumnKey → Type 0) (xs : List Ace)
     → ((j : ℕ) → j < length xs → mask_here xs j ≢ 0 → P (key_here xs j))
     → AllByRecursion (λ a. P (ace_key a)) (left xs)
 all_left P [] h = tt
@@ -42,7 +43,7 @@ all_left P (a ∷ xs) h = go (a.mask == 0) refl (all_left P xs (λ j l some. h (
     go true e rest = rw e rest
     go false e rest = rw e (h 0 (omega arith) (eqb-false a.mask 0 e), rest)
 
--- keys that rise place by place are those of a rising list
+-- if the keys with a mask rise place by place, the list without its empty ACEs rises
 rises_from : (whole xs : List Ace) → ((i : ℕ) → i < length xs → is_principal_of (key_here xs i).0 whole ≡ true)
     → ((i j : ℕ) → i < j → j < length xs → mask_here xs i ≢ 0 → mask_here xs j ≢ 0
     → key_number (key_here xs i) whole < key_number (key_here xs j) whole)
@@ -66,42 +67,38 @@ rises_from whole (a ∷ xs) named rise =
 
 -- ---- the look
 
--- what is below the next place is before this one, or this one
-before_or_here : (i place : ℕ) → i < place + 1 → (i < place) ⊎ (i ≡ place)
-before_or_here i place l = ⊎_elim inl (λ (g : place ≤ i). inr (omega (arith, l, g))) (cases_lt i place)
-
--- a place with no mask is passed
+-- a place with an empty mask is passed
 pub risen_past : (xs : List Ace) (place bound : ℕ) → mask_here xs place ≡ 0 → HasRisen xs place bound
     → HasRisen xs (place + 1) bound
 risen_past xs place bound none h = record {
   rising = λ i j less l some more. ⊎_elim (λ (s : j < place). h.rising i j less s some more)
-      (λ (e : j ≡ place). absurd (more (ap (mask_here xs) e ∙ none))) (before_or_here j place l);
+      (λ (e : j ≡ place). absurd (more (ap (mask_here xs) e ∙ none))) (before_or_at j place l);
   below = λ i l some. ⊎_elim (λ (s : i < place). h.below i s some)
-      (λ (e : i ≡ place). absurd (some (ap (mask_here xs) e ∙ none))) (before_or_here i place l);
+      (λ (e : i ≡ place). absurd (some (ap (mask_here xs) e ∙ none))) (before_or_at i place l);
 }
 
--- a place with a mask whose number is no less than the bound
+-- a place whose number is at least the bound may have a mask, and its number is below the next bound
 pub risen_more : (xs : List Ace) (place bound number : ℕ) → number ≡ key_number (key_here xs place) xs
     → bound ≤ number → HasRisen xs place bound → HasRisen xs (place + 1) (number + 1)
 risen_more xs place bound number is least h = record {
   rising = λ i j less l some more. ⊎_elim (λ (s : j < place). h.rising i j less s some more)
       (λ (e : j ≡ place). subst (λ v. key_number (key_here xs i) xs < key_number (key_here xs v) xs) (sym e)
-      (omega (arith, is, least, h.below i (omega (arith, less, e)) some))) (before_or_here j place l);
+      (omega (arith, is, least, h.below i (omega (arith, less, e)) some))) (before_or_at j place l);
   below = λ i l some. ⊎_elim
       (λ (s : i < place).
       let under = h.below i s some in
       omega (arith, under, least))
       (λ (e : i ≡ place). subst (λ v. key_number (key_here xs v) xs < number + 1) (sym e) (omega (arith, is)))
-      (before_or_here i place l);
+      (before_or_at i place l);
 }
 
--- at the end all have
+-- after the last place, the list without its empty ACEs rises
 pub all_risen : (xs : List Ace) (place bound : ℕ) → length xs ≤ place → HasRisen xs place bound → IsRising (left xs)
 all_risen xs place bound end h =
     rises_from xs xs (λ i l. named_here xs i l)
     (λ i j less l some more. h.rising i j less (omega (arith, l, end)) some more)
 
--- twice the row of an ACE and its kind are the number of its key
+-- twice the row of a place and the rank of its kind are the number of its key
 pub number_there : (aces : List AceRef) (masks rows : List ℕ) (i : ℕ) (x : AceRef) (rank : ℕ)
     → AreRowNumbers (with_masks aces masks) rows → i < length (with_masks aces masks)
     → x ≡ slice_index_or aces i x → rank ≡ kind_rank x.kind
@@ -113,7 +110,7 @@ number_there aces masks rows i x rank numbers within is of_kind =
     let row = numbers.at i within in
     omega (arith, of_kind, kind, row)
 
--- which is no more than twice the number of ACEs
+-- twice the row of a place, and two more, are at most twice the number of ACEs
 pub number_few : (xs : List Ace) (rows : List ℕ) (i : ℕ) → AreRowNumbers xs rows → i < length xs
     → 2 * slice_index_or rows i 0 + 2 ≤ 2 * length xs
 number_few xs rows i numbers within =
@@ -123,12 +120,12 @@ number_few xs rows i numbers within =
 
 -- ---- a place of the ACEs and the masks of the code
 
--- the row of a place is there, and it is small
+-- the row of a place is there, and twice the row, and two more, are at most twice the number of ACEs
 pub record HasRow (count place : ℕ) (rows : List ℕ) : Type 0 where
   pub there : place < length rows
   pub few : 2 * slice_index_or rows place 0 + 2 ≤ 2 * count
 
--- the row of a place of a list in memory is there, and it is small
+-- the row of a place of a list in memory is there and small
 pub has_row : (aces : List AceRef) (masks : List Mask) (rows : List ℕ) (place : ℕ) → length masks ≡ length aces
     → AreRowNumbers (with_masks aces (mask_numbers masks)) rows → place < length aces → HasRow (length aces) place rows
 has_row aces masks rows place same numbers l =
@@ -139,7 +136,7 @@ has_row aces masks rows place same numbers l =
       few = omega (arith, count, number_few (with_masks aces (mask_numbers masks)) rows place numbers within);
     }
 
--- the mask of a place
+-- the code's mask at a place is the mask there
 pub mask_of : (aces : List AceRef) (masks : List Mask) (place : ℕ) (m : Mask) → length masks ≡ length aces
     → place < length aces → m ≡ slice_index_or masks place m
     → mask_here (with_masks aces (mask_numbers masks)) place ≡ m.bits
@@ -149,6 +146,7 @@ mask_of aces masks place m same l is =
 
 -- ---- the list without its empty ACEs, place by place
 
+-- what is left of two lists together is what is left of each
 left_append : (xs ys : List Ace) → left (xs ++ ys) ≡ left xs ++ left ys
 left_append [] ys = refl
 left_append (a ∷ xs) ys = go (a.mask == 0) refl (left_append xs ys)
@@ -158,20 +156,15 @@ left_append (a ∷ xs) ys = go (a.mask == 0) refl (left_append xs ys)
     go true e ih = rw e ih
     go false e ih = rw e (ap (λ v. a ∷ v) ih)
 
--- a list, split at a place
-split_there : (xs : List Ace) (i : ℕ) (d : Ace) → i < length xs
-    → xs ≡ take i xs ++ slice_index_or xs i d ∷ drop (suc i) xs
-split_there [] i d l = absurd (omega (arith, l))
-split_there (a ∷ xs) zero d l = refl
-split_there (a ∷ xs) (suc i) d l = ap (λ v. a ∷ v) (split_there xs i d (omega (arith, l)))
-
+-- an ACE with a mask is left
 one_left : (e : Ace) → e.mask ≢ 0 → left (e ∷ []) ≡ e ∷ []
 one_left e some = rw (ne_eqb e.mask 0 some) refl
 
+-- an ACE with an empty mask is not left
 none_left : (e : Ace) → e.mask ≡ 0 → left (e ∷ []) ≡ []
 none_left e none = rw none refl
 
--- the ACE of a place, as the code shows it
+-- the ACE at a place of the shown list has the fields of the code's ACE and the mask there
 pub shown_there : (aces : List AceRef) (masks : List ℕ) (i : ℕ) (d : Ace) (x : AceRef) (m : ℕ)
     → i < length (with_masks aces masks)
     → slice_index_or (with_masks aces masks) i d ≡ record {
@@ -185,11 +178,11 @@ shown_there (a ∷ aces) [] i d x m l = absurd (omega arith)
 shown_there (a ∷ aces) (n ∷ masks) zero d x m l = refl
 shown_there (a ∷ aces) (n ∷ masks) (suc i) d x m l = shown_there aces masks i d x m (omega arith)
 
--- the ACE with a mask, as a list shows it
+-- the code's ACE with a mask
 abbrev pub shown : AceRef → Mask → Ace
 shown a m = record { kind = a.kind; flags = a.flags.bits; mask = m.bits; who = a.who.now }
 
--- and at a place
+-- the ACE at a place of the shown list is the code's ACE with the mask there
 pub shown_at : (aces : List AceRef) (masks : List Mask) (i : ℕ) (x : AceRef) (m : Mask) → i < length masks
     → i < length (with_masks aces (mask_numbers masks)) → x ≡ slice_index_or aces i x → m ≡ slice_index_or masks i m
     → slice_index_or (with_masks aces (mask_numbers masks)) i (shown x m) ≡ shown x m
@@ -204,27 +197,27 @@ shown_at aces masks i x m within inside is of_mask =
     ∙ ap (λ (n : ℕ). record { kind = x.kind; flags = x.flags.bits; mask = n; who = x.who.now })
     (bits_at masks i m.bits m within of_mask)
 
--- the list so far takes the ACE of the next place
+-- the cleared list of the places before the next one is accepted with the next ACE
 pub next_cleared : (xs : List Ace) (i : ℕ) (e : Ace) (list : List Ace) → IsAccepted full (all_cleared (left xs))
     → i < length xs → slice_index_or xs i e ≡ e → e.mask ≢ 0 → list ≡ all_cleared (left (take i xs))
     → IsAccepted full (list ++ cleared e ∷ [])
 next_cleared xs i e list ok l is some so =
-    front_accepted full (list ++ cleared e ∷ []) (all_cleared (left (drop (suc i) xs)))
-    (subst (IsAccepted full) (whole ∙ sym (moved list (all_cleared (left (drop (suc i) xs))) (cleared e))) ok)
+    front_accepted full (list ++ cleared e ∷ []) (all_cleared (left (drop (i + 1) xs)))
+    (subst (IsAccepted full) (whole ∙ sym (moved list (all_cleared (left (drop (i + 1) xs))) (cleared e))) ok)
   where
-    full_here : left (e ∷ drop (suc i) xs) ≡ e ∷ left (drop (suc i) xs)
+    full_here : left (e ∷ drop (i + 1) xs) ≡ e ∷ left (drop (i + 1) xs)
     full_here = rw (ne_eqb e.mask 0 some) refl
 
-    whole : all_cleared (left xs) ≡ list ++ cleared e ∷ all_cleared (left (drop (suc i) xs))
+    whole : all_cleared (left xs) ≡ list ++ cleared e ∷ all_cleared (left (drop (i + 1) xs))
     whole =
         ap (λ v. all_cleared (left v)) (split_there xs i e l)
-        ∙ ap (λ v. all_cleared (left (take i xs ++ v ∷ drop (suc i) xs))) is
-        ∙ ap all_cleared (left_append (take i xs) (e ∷ drop (suc i) xs))
+        ∙ ap (λ v. all_cleared (left (take i xs ++ v ∷ drop (i + 1) xs))) is
+        ∙ ap all_cleared (left_append (take i xs) (e ∷ drop (i + 1) xs))
         ∙ ap (λ v. all_cleared (left (take i xs) ++ v)) full_here
-        ∙ map-append cleared (left (take i xs)) (e ∷ left (drop (suc i) xs))
-        ∙ ap (λ v. v ++ cleared e ∷ all_cleared (left (drop (suc i) xs))) (sym so)
+        ∙ map-append cleared (left (take i xs)) (e ∷ left (drop (i + 1) xs))
+        ∙ ap (λ v. v ++ cleared e ∷ all_cleared (left (drop (i + 1) xs))) (sym so)
 
--- and has it then
+-- with the next ACE, the cleared list is that of one place more
 pub cleared_more : (xs : List Ace) (i : ℕ) (e : Ace) (list new : List Ace) → i < length xs
     → slice_index_or xs i e ≡ e → e.mask ≢ 0 → list ≡ all_cleared (left (take i xs)) → new ≡ list ++ cleared e ∷ []
     → new ≡ all_cleared (left (take (i + 1) xs))
@@ -236,7 +229,7 @@ cleared_more xs i e list new l is some so more =
     ∙ ap (λ v. all_cleared (left (take i xs ++ v ∷ []))) (sym is)
     ∙ sym (ap (λ v. all_cleared (left v)) (take_more xs i e l))
 
--- a place without a mask adds none
+-- a place with an empty mask adds nothing to what is left
 past_left : (xs : List Ace) (i : ℕ) → i < length xs → mask_here xs i ≡ 0 → left (take (suc i) xs) ≡ left (take i xs)
 past_left [] i l none = absurd (omega (arith, l))
 past_left (a ∷ xs) zero l none = none_left a none
@@ -247,14 +240,14 @@ past_left (a ∷ xs) (suc i) l none = go (a.mask == 0) refl (past_left xs i (ome
     go true e ih = rw e ih
     go false e ih = rw e (ap (λ v. a ∷ v) ih)
 
--- so the list is the same
+-- after a place with an empty mask, the cleared list is that of one place more
 pub cleared_past : (xs : List Ace) (i : ℕ) (list : List Ace) → i < length xs → mask_here xs i ≡ 0
     → list ≡ all_cleared (left (take i xs)) → list ≡ all_cleared (left (take (i + 1) xs))
 cleared_past xs i list l none so =
     let next : suc i ≡ i + 1 = omega arith in
     subst (λ n. list ≡ all_cleared (left (take n xs))) next (so ∙ ap all_cleared (sym (past_left xs i l none)))
 
--- at the end it has all
+-- after the last place, the cleared list is that of the whole list
 pub all_places : (xs : List Ace) (i : ℕ) (list : List Ace) → length xs ≤ i → list ≡ all_cleared (left (take i xs))
     → list ≡ all_cleared (left xs)
 all_places xs i list end so = so ∙ ap (λ v. all_cleared (left v)) (take_all i xs end)

@@ -1,40 +1,16 @@
--- A list whose keys rise stands in the order of its normal form.
-use Rattle.acl_normal.proofs.Common.{[], Ace, ace_key, all_cleared, all_rights, AllByRecursion, and_parts, ap, Bool, bytes_eq, cleared, column, compare_keys, conflicts, counts, eqb-false, Equal, everyone_name, false, false_from_ne_true, flags_for, group_name, has_bit, HasNoEmptyMask, HasNormalFlags, HasOnceColumns, identifier_group, is_free, is_le, IsAlike, IsEmission, IsIrreducibleList, IsNormal, IsOnce, IsQuiet, Key, key_order, key_record, kind_eq, left, Less, List, not, or_cases, owner_name, principal_eq, principal_of, refl, SameGrants, subst, sym, true, ℕ, ⊎_elim, ◌&&◌, ◌==◌, ◌∙◌, ◌∷◌, ◌≡◌}
+-- A list whose keys rise is in the order of its normal form.
+use Rattle.acl_normal.proofs.Common.{Ace, AllByRecursion, Bool, ColumnKey, Equal, HasNoEmptyMask, HasNormalFlags, HasOnceColumns, IsAlike, IsEmission, IsIrreducibleList, IsNormal, IsOnce, IsQuiet, Less, List, SameGrants, [], ace_key, all_cleared, all_rights, and_parts, ap, bytes_eq, cleared, column, compare_keys, conflicts, eqb-false, everyone_name, false, false_from_ne_true, flags_for, group_name, has_bit, identifier_group, is_free, is_le, kind_eq, left, not, or_cases, owner_name, principal_eq, principal_of, refl, subst, sym, true, ℕ, ⊎_elim, ◌&&◌, ◌==◌, ◌∙◌, ◌∷◌, ◌≡◌}
 use Rattle.std.specs.List.Sorted.{IsStrictlySortedBy}
 use Rattle.acl_normal.specs.Normal.{IsOrdered}
 use Rattle.acl_normal.specs.internal.emit.Rising.{IsRising}
-use Rattle.acl_normal.proofs.unique.Names.{principal_eq_same}
-use Rattle.acl_normal.proofs.unique.Free.{kind_eq_same}
-use Rattle.acl_normal.proofs.unique.Unique.{column_with, column_lacking, head_is_free}
-use Rattle.acl_normal.proofs.unique.Columns.{column_has, column_lacks}
+use Rattle.acl_normal.proofs.unique.Names.{kind_eq_same, principal_eq_same}
+use Rattle.acl_normal.proofs.unique.Free.{free_among, head_is_free}
+use Rattle.acl_normal.proofs.unique.Columns.{column_has, column_lacking, column_lacks, column_with}
 use Rattle.acl_normal.proofs.unique.Normal.{counts_mask}
-use Rattle.acl_normal.proofs.emit.Leaving.{column_left, left_normal}
+use Rattle.acl_normal.proofs.emit.Leaving.{column_left, left_normal, quiet_left}
+use Rattle.acl_normal.proofs.unique.Keys.{key_itself}
 
--- a free key of a column is that of an ACE of the list
-free_of_list : (P : Key → Type 0) (b : ℕ) (xs : List Ace) (e : Key) → AllByRecursion (λ a. P (ace_key a)) xs
-    → is_free (column xs b) e ≡ true → P e
-free_of_list P b [] e all free = cc
-free_of_list P b (a ∷ xs) e all free = go (counts b a) refl (free_of_list P b xs e all.1)
-  where
-    go : (t : Bool) → counts b a ≡ t → (is_free (column xs b) e ≡ true → P e) → P e
-    go false h ih = ih (subst (λ c. is_free c e ≡ true) (column_lacks b a xs h) free)
-    go true h ih = ⊎_elim
-        (λ (f : (principal_eq (principal_of a) e.0 && kind_eq a.kind e.1) ≡ true).
-        let both = and_parts (principal_eq (principal_of a) e.0) (kind_eq a.kind e.1) f in
-        let who = principal_eq_same (principal_of a) e.0 both.0 in
-        let kind = kind_eq_same a.kind e.1 both.1 in
-        let same : ace_key a ≡ e = λ i. (who i, kind i) in
-        subst P same all.0)
-        (λ (f : (not (conflicts (ace_key a) e) && is_free (column xs b) e) ≡ true).
-        ih (and_parts (not (conflicts (ace_key a) e)) (is_free (column xs b) e) f).1)
-        (or_cases (principal_eq (principal_of a) e.0 && kind_eq a.kind e.1)
-        (not (conflicts (ace_key a) e) && is_free (column xs b) e)
-        (subst (λ c. is_free c e ≡ true) (column_has b a xs h) free))
-
-key_itself : (k : Key) → compare_keys k k ≡ Equal
-key_itself k = (key_order.equal (key_record k) (key_record k)).1 refl
-
--- a list whose keys rise, with normal flags, is in order
+-- a list whose keys rise, with normal flags, is in the order of a normal form
 pub rising_ordered : (xs : List Ace) → HasNormalFlags xs → IsRising xs → IsOrdered xs
 unfolding IsStrictlySortedBy
 rising_ordered [] flags rising = tt
@@ -44,13 +20,13 @@ rising_ordered (a ∷ xs) flags rising = (
   rising_ordered xs flags.1 rising.1,
 )
   where
-    behind : (e : Key) (b : ℕ) → is_free (column xs b) e ≡ true → compare_keys (ace_key a) e ≡ Less
-    behind e b free = free_of_list (λ k. compare_keys (ace_key a) k ≡ Less) b xs e rising.0 free
+    behind : (e : ColumnKey) (b : ℕ) → is_free (column xs b) e ≡ true → compare_keys (ace_key a) e ≡ Less
+    behind e b free = free_among (λ k. compare_keys (ace_key a) k ≡ Less) xs b e rising.0 free
 
-    at_most : (e : Key) (b : ℕ) → is_free (column xs b) e ≡ true → is_le (compare_keys (ace_key a) e) ≡ true
+    at_most : (e : ColumnKey) (b : ℕ) → is_free (column xs b) e ≡ true → is_le (compare_keys (ace_key a) e) ≡ true
     at_most e b free = ap (λ o. is_le o) (behind e b free)
 
-    least : (e : Key) (b : ℕ) (t : Bool) → has_bit a.mask b ≡ t → is_free (column (a ∷ xs) b) e ≡ true
+    least : (e : ColumnKey) (b : ℕ) (t : Bool) → has_bit a.mask b ≡ t → is_free (column (a ∷ xs) b) e ≡ true
         → is_le (compare_keys (ace_key a) e) ≡ true
     least e b false h free = at_most e b (subst (λ c. is_free c e ≡ true) (column_lacking b a xs flags.0 h) free)
     least e b true h free = ⊎_elim
@@ -79,7 +55,7 @@ rising_ordered (a ∷ xs) flags rising = (
 
 -- ---- with the flags cleared
 
--- whom a principal's who names does not change with the flags that the principal needs
+-- an ACE with cleared flags has the principal that it had
 pub named_again : (a : Ace) → principal_of (cleared a) ≡ principal_of a
 named_again a = go (bytes_eq a.who owner_name) refl (bytes_eq a.who group_name) refl (bytes_eq a.who everyone_name)
     refl (has_bit a.flags identifier_group) refl
@@ -93,9 +69,11 @@ named_again a = go (bytes_eq a.who owner_name) refl (bytes_eq a.who group_name) 
     go false h false i false j true k = rw (h, i, j, k) refl
     go false h false i false j false k = rw (h, i, j, k) refl
 
+-- an ACE with cleared flags has the key that it had
 cleared_key : (a : Ace) → ace_key (cleared a) ≡ ace_key a
 cleared_key a = ap (λ p. (p, a.kind)) (named_again a)
 
+-- an ACE with cleared flags has the flags that its principal needs
 cleared_flags : (a : Ace) → (cleared a).flags ≡ flags_for (principal_of (cleared a))
 cleared_flags a = ap flags_for (sym (named_again a))
 
@@ -115,16 +93,19 @@ column_cleared b (a ∷ xs) quiet = go (has_bit a.mask b) refl (column_cleared b
         ∙ ih
         ∙ sym (column_lacks b a xs (counts_mask b a quiet.0 ∙ h))
 
+-- a list with cleared flags has normal flags
 normal_flags : (xs : List Ace) → HasNormalFlags (all_cleared xs)
 normal_flags [] = tt
 normal_flags (a ∷ xs) = (cleared_flags a, normal_flags xs)
 
-rising_behind : (k : Key) (xs : List Ace) → AllByRecursion (λ a. compare_keys k (ace_key a) ≡ Less) xs
+-- a key less than each key of a list is less than each with cleared flags
+rising_behind : (k : ColumnKey) (xs : List Ace) → AllByRecursion (λ a. compare_keys k (ace_key a) ≡ Less) xs
     → AllByRecursion (λ a. compare_keys k (ace_key a) ≡ Less) (all_cleared xs)
 rising_behind k [] h = tt
 rising_behind k (a ∷ xs) h =
     (ap (λ e. compare_keys k e) (cleared_key a) ∙ h.0, rising_behind k xs h.1)
 
+-- a list whose keys rise does so with cleared flags
 rising_cleared : (xs : List Ace) → IsRising xs → IsRising (all_cleared xs)
 unfolding IsStrictlySortedBy
 rising_cleared [] h = tt
@@ -134,6 +115,7 @@ rising_cleared (a ∷ xs) h = (
   rising_cleared xs h.1,
 )
 
+-- what is left of a list has no empty mask, with cleared flags too
 masks_left : (xs : List Ace) → HasNoEmptyMask (all_cleared (left xs))
 masks_left [] = tt
 masks_left (a ∷ xs) = go (a.mask == 0) refl (masks_left xs)
@@ -143,15 +125,7 @@ masks_left (a ∷ xs) = go (a.mask == 0) refl (masks_left xs)
     go true h ih = rw h ih
     go false h ih = rw h (eqb-false a.mask 0 h, ih)
 
-quiet_left : (xs : List Ace) → IsQuiet xs → IsQuiet (left xs)
-quiet_left [] h = tt
-quiet_left (a ∷ xs) h = go (a.mask == 0) refl (quiet_left xs h.1)
-  where
-    go : (t : Bool) → (a.mask == 0) ≡ t → IsQuiet (left xs) → IsQuiet (left (a ∷ xs))
-    go true e ih = rw e ih
-    go false e ih = rw e (h.0, ih)
-
--- where the keys of which something is left rise, that is what is emitted, with the flags cleared
+-- if the keys of what is left rise, what is left is what is emitted, with cleared flags
 pub rising_emission : (xs : List Ace) → HasOnceColumns xs → IsQuiet xs → IsRising (left xs)
     → IsEmission xs (all_cleared (left xs))
 rising_emission xs once quiet rising = record {
@@ -166,7 +140,7 @@ rising_emission xs once quiet rising = record {
     same : (b : ℕ) → column (all_cleared (left xs)) b ≡ column xs b
     same b = column_cleared b (left xs) (quiet_left xs quiet) ∙ column_left b xs
 
--- and it is the normal form of an irreducible list
+-- what is left of an irreducible list is normal, with cleared flags, and grants the same, if its keys rise
 pub rising_form : (xs : List Ace) → IsIrreducibleList (left xs) → HasOnceColumns xs → IsQuiet xs
     → IsRising (left xs) → IsNormal (all_cleared (left xs)) × SameGrants all_rights xs (all_cleared (left xs))
 rising_form xs irr once quiet rising = left_normal xs (all_cleared (left xs)) irr (rising_emission xs once quiet rising)

@@ -6,7 +6,7 @@ use Rattle.acl_normal.proofs.unique.FirstAndRest.{emission_step}
 abbrev pub Completes : List Ace → List Emitted → List Ace → Type 0
 Completes whole out left = (ns : List Ace) → IsEmission left ns → IsEmission whole (emitted_aces out ++ ns)
 
--- one ACE more
+-- if the next ACE was emitted, every completion of what is left still completes the whole
 pub completes_more : (whole : List Ace) (out new : List Emitted) (left rest : List Ace) (a : Emitted)
     → new ≡ out ++ a ∷ [] → HasOnceColumns left → IsStep left (emitted_ace a) rest → Completes whole out left
     → Completes whole new rest
@@ -17,7 +17,7 @@ completes_more whole out new left rest a is once step h ns e =
     ∙ append_assoc (emitted_aces out) (emitted_ace a ∷ []) ns in
     subst (λ v. IsEmission whole v) (sym same) more
 
--- of an empty list nothing is emitted
+-- nothing is emitted of a list with empty columns
 pub nothing_completes : (left : List Ace) → HasEmptyColumns left → IsEmission left []
 nothing_completes left h = record {
   alike = λ b p q o. rw (h b) refl;
@@ -27,7 +27,7 @@ nothing_completes left h = record {
   masks = tt;
 }
 
--- at the end all is emitted
+-- when nothing is left, what was emitted is emitted of the whole
 pub completes_all : (whole : List Ace) (out : List Emitted) (left : List Ace) → Completes whole out left
     → HasEmptyColumns left → IsEmission whole (emitted_aces out)
 completes_all whole out left h empty =

@@ -1,22 +1,16 @@
 -- A walk over the places of a queue: those that wait before the first that is blocked are free.
-use Rattle.acl_normal.proofs.Common.{[], Ace, AllByRecursion, Allow, and_from, and_parts, ap, arith, Bool, cases_eq, column, counts, Deny, Enters, eq-eqb, eqb-true, false, false_from_ne_true, first_at, Grows, has_bit, inl, inr, is_at, is_blocked, is_free, is_le, is_user, is_waiting, IsOnce, IsQueue, Key, key_eq, key_here, Kind, kind_eq, length, Less, List, list_any, Marked, mask_here, nat_cmp, None, not, Option, or_cases, or_left, or_right, other_kind, Principal, principal_eq, principal_of, refl, same_class, Some, subst, suc, sym, true, waits, waits_before, zero, ℕ, ⊎_elim, ◌&&◌, ◌<◌, ◌==◌, ◌∙◌, ◌∷◌, ◌≡◌, ◌≤◌, ◌⊎◌}
+use Rattle.acl_normal.proofs.Common.{Ace, Allow, Bool, ColumnKey, Deny, Enters, Grows, IsOnce, IsQueue, Kind, List, Marked, None, Option, Principal, Some, [], and_from, and_parts, ap, arith, cases_eq, column, eq-eqb, eqb-true, false, false_from_ne_true, first_at, has_bit, inl, inr, is_at, is_blocked, is_free, is_user, is_waiting, key_eq, key_here, length, list_any, mask_here, nat_cmp, not, or_cases, or_left, or_right, other_kind, refl, subst, suc, sym, true, waits, waits_before, zero, ℕ, ⊎_elim, ◌&&◌, ◌<◌, ◌==◌, ◌∙◌, ◌∷◌, ◌≡◌, ◌≤◌, ◌⊎◌}
 use Rattle.std.specs.List.Sorted.{IsStrictlySortedBy}
-use Rattle.std.proofs.lemmas.Map.Keys.{sorted_head, sorted_tail, le_from_is_le}
+use Rattle.std.proofs.lemmas.Map.Keys.{sorted_head, sorted_tail}
 use Rattle.acl_normal.specs.internal.emit.Ready.{AddsMark}
-use Rattle.acl_normal.proofs.unique.Names.{principal_eq_same, principal_eq_itself}
-use Rattle.acl_normal.proofs.unique.Free.{kind_eq_same, kind_eq_itself}
-use Rattle.acl_normal.proofs.rows.TakeOut.{IsHere, IsThere, first_cases, none_behind, once_rest, waits_first}
-use Rattle.acl_normal.proofs.rows.BitTaken.{class_same, is_eq_itself, is_eq_same, same_class_itself}
+use Rattle.acl_normal.proofs.unique.Names.{key_eq_itself, key_eq_same, kind_eq_itself}
 use Rattle.acl_normal.proofs.rows.FreeByPlaces.{free_at_first, none_free}
-use Rattle.acl_normal.proofs.emit.Marks.{key_eq_same, key_eq_itself}
+use Rattle.acl_normal.proofs.rows.Slots.{is_eq_same, same_class_itself}
+use Rattle.acl_normal.proofs.rows.WaitingKeys.{key_at, key_from_first}
+use Rattle.acl_normal.proofs.rows.PlaceLists.{front_in, later_than}
+use Rattle.acl_normal.proofs.rows.FirstAces.{waits_first}
 
--- a place that waits is one of the list
-pub waits_within : (k : Kind) (u : Bool) (b : ℕ) (xs : List Ace) (i : ℕ) → waits k u b xs i ≡ true → i < length xs
-waits_within k u b [] i h = cc
-waits_within k u b (a ∷ xs) zero h = omega arith
-waits_within k u b (a ∷ xs) (suc i) h = omega (arith, waits_within k u b xs i h)
-
--- what waits before a place waits before later ones
+-- if a place waits before another, one waits before each later place
 pub before_mono : (k : Kind) (u : Bool) (b : ℕ) (xs : List Ace) (i l : ℕ) → i ≤ l → waits_before k u b xs i ≡ true
     → waits_before k u b xs l ≡ true
 before_mono k u b [] i l h w = w
@@ -27,7 +21,7 @@ before_mono k u b (a ∷ xs) (suc i) (suc l) h w =
     (λ e. or_right (is_waiting k u b a) (waits_before k u b xs l) (before_mono k u b xs i l (omega arith) e))
     (or_cases (is_waiting k u b a) (waits_before k u b xs i) w)
 
--- what is blocked stays blocked further on
+-- if a place is blocked, each later place is
 pub blocked_mono : (k : Kind) (u : Bool) (b : ℕ) (xs : List Ace) (i l : ℕ) → i ≤ l → is_blocked k u b xs i ≡ true
     → is_blocked k u b xs l ≡ true
 blocked_mono k u b xs i l h w =
@@ -43,81 +37,32 @@ blocked_mono k u b xs i l h w =
     both (e, f) =
         and_from (not u) (waits_before (other_kind k) true b xs l) e (before_mono (other_kind k) true b xs i l h f)
 
--- what waits at a place, in a column with each principal once
-pub record StandsAt (k : Kind) (u : Bool) (b : ℕ) (xs : List Ace) (i : ℕ) : Type 0 where
-  pub first : first_at b (key_here xs i).0 xs ≡ Some (k, i)
-  pub class : is_user (key_here xs i).0 ≡ u
-  pub kind : (key_here xs i).1 ≡ k
-
--- a place that waits is where its principal stands first
-pub stands_at : (k : Kind) (u : Bool) (b : ℕ) (xs : List Ace) (i : ℕ) → IsOnce (column xs b) → waits k u b xs i ≡ true
-    → StandsAt k u b xs i
-stands_at k u b [] i once w = cc
-stands_at k u b (a ∷ xs) zero once w =
-    let both = and_parts (counts b a) (kind_eq a.kind k && same_class (is_user (principal_of a)) u) w in
-    let rest = and_parts (kind_eq a.kind k) (same_class (is_user (principal_of a)) u) both.1 in
-    let kind = kind_eq_same a.kind k rest.0 in
-    record {
-      first = rw (both.0, principal_eq_itself (principal_of a)) (ap (λ v. Some (v, 0)) kind);
-      class = class_same (is_user (principal_of a)) u rest.1;
-      kind = kind;
-    }
-stands_at k u b (a ∷ xs) (suc i) once w =
-    go (stands_at k u b xs i (once_rest b a xs once) w)
-    (counts b a && principal_eq (principal_of a) (key_here xs i).0) refl
-  where
-    go : StandsAt k u b xs i → (t : Bool) → (counts b a && principal_eq (principal_of a) (key_here xs i).0) ≡ t
-        → StandsAt k u b (a ∷ xs) (suc i)
-    go s false e = record { first = rw (e, s.first) refl; class = s.class; kind = s.kind }
-    go s true e =
-        let both = and_parts (counts b a) (principal_eq (principal_of a) (key_here xs i).0) e in
-        let none =
-        none_behind b (key_here xs i).0 a xs a.kind 0 once
-        (record { counts = both.0; same = both.1; kind = refl; place = refl }) in
-        absurd (clash (sym none ∙ s.first))
-      where
-        clash : ◌≡◌ {A = Option (Kind × ℕ)} None (Some (k, i)) → ⊥
-        clash h = cc
-
--- the key of what stands first
-pub key_from_first : (b : ℕ) (q : Principal) (xs : List Ace) (j : Kind) (i : ℕ) → first_at b q xs ≡ Some (j, i)
-    → key_here xs i ≡ (q, j)
-key_from_first b q [] j i h = cc
-key_from_first b q (a ∷ xs) j i h = go (first_cases b q a xs j i h) (key_from_first b q xs j)
-  where
-    go : IsHere b q a j i ⊎ IsThere b q a xs j i
-        → ((i : ℕ) → first_at b q xs ≡ Some (j, i) → key_here xs i ≡ (q, j)) → key_here (a ∷ xs) i ≡ (q, j)
-    go (inl here) ih =
-        rw here.place (ap (λ v. (v, a.kind)) (principal_eq_same (principal_of a) q here.same)
-        ∙ ap (λ v. (q, v)) here.kind)
-    go (inr there) ih = rw there.place (ih there.before there.first)
-
--- what is not blocked is free
+-- the key at a place that waits and is not blocked is free
 pub clear_is_free : (k : Kind) (u : Bool) (b : ℕ) (xs : List Ace) (i : ℕ) → IsOnce (column xs b)
     → waits k u b xs i ≡ true → is_blocked k u b xs i ≡ false → is_free (column xs b) (key_here xs i) ≡ true
 clear_is_free k u b xs i once w clear =
-    let s = stands_at k u b xs i once w in
+    let s = key_at k u b xs i once w in
     let free = free_at_first b (key_here xs i).0 xs k i once s.first in
     let is : is_free (column xs b) ((key_here xs i).0, k) ≡ true = free.0 ∙ rw (s.class, clear) refl in
     subst (λ v. is_free (column xs b) ((key_here xs i).0, v) ≡ true) (sym s.kind) is
 
--- where a free key stands
-pub record StandsFree (k : Kind) (u : Bool) (b : ℕ) (xs : List Ace) (q : Principal) : Type 0 where
+-- a place that waits and is not blocked, whose key has the principal and the kind
+pub record FreeAt (k : Kind) (u : Bool) (b : ℕ) (xs : List Ace) (q : Principal) : Type 0 where
   pub place : ℕ
   pub waits : waits k u b xs place ≡ true
   pub clear : is_blocked k u b xs place ≡ false
   pub plain_key : key_here xs place ≡ (q, k)
 
--- a free key waits at a place
-pub stands_free : (k : Kind) (u : Bool) (b : ℕ) (xs : List Ace) (q : Principal) → IsOnce (column xs b) → is_user q ≡ u
-    → is_free (column xs b) (q, k) ≡ true → StandsFree k u b xs q
-stands_free k u b xs q once class free = go (first_at b q xs) refl
+-- a free key is at a place that waits and is not blocked
+pub free_at : (k : Kind) (u : Bool) (b : ℕ) (xs : List Ace) (q : Principal) → IsOnce (column xs b) → is_user q ≡ u
+    → is_free (column xs b) (q, k) ≡ true → FreeAt k u b xs q
+free_at k u b xs q once class free = go (first_at b q xs) refl
   where
     not_true : (t : Bool) → true ≡ not t → t ≡ false
     not_true true h = h
     not_true false h = refl
 
-    at : (j : Kind) (i : ℕ) → first_at b q xs ≡ Some (j, i) → j ≡ k → StandsFree k u b xs q
+    at : (j : Kind) (i : ℕ) → first_at b q xs ≡ Some (j, i) → j ≡ k → FreeAt k u b xs q
     at j i e same =
         let here = subst (λ v. first_at b q xs ≡ Some (v, i)) same e in
         let value = free_at_first b q xs k i once here in
@@ -138,27 +83,27 @@ stands_free k u b xs q once class free = go (first_at b q xs) refl
         by Deny Allow n f = cc
         by Allow Deny n f = cc
 
-    go : (o : Option (Kind × ℕ)) → first_at b q xs ≡ o → StandsFree k u b xs q
+    go : (o : Option (Kind × ℕ)) → first_at b q xs ≡ o → FreeAt k u b xs q
     go None e = absurd (clash (none_free b q k xs e))
       where
         clash : is_free (column xs b) (q, k) ≡ false → ⊥
         clash h = cc
     go (Some (j, i)) e = at j i e (kinds j (free_at_first b q xs j i once e).1)
 
--- where no place is in the queue, nothing is free
+-- if the queue has no place, no key of its kind and class is free
 pub nothing_waits : (k : Kind) (u : Bool) (b : ℕ) (xs : List Ace) (places : List ℕ) (old : Marked)
     → IsOnce (column xs b) → IsQueue k u b xs places → places ≡ [] → Enters k u b xs old old
 nothing_waits k u b xs places old once queue e = record {
   grows = record { kept = λ l i h. h; sound = λ l i h. inl h };
-  all = λ q class free. absurd (clash q (stands_free k u b xs q once class free));
+  all = λ q class free. absurd (clash q (free_at k u b xs q once class free));
 }
   where
-    clash : (q : Principal) → StandsFree k u b xs q → ⊥
+    clash : (q : Principal) → FreeAt k u b xs q → ⊥
     clash q s =
         let there = ap (list_any (is_at (nat_cmp s.place))) (sym e) ∙ queue.all s.place s.waits in
         cc there
 
--- the walk over the places of a queue, in order
+-- the walk over a queue: only free keys were marked, and each place that waits is in the rest or has its key marked
 pub record Walks (k : Kind) (u : Bool) (b : ℕ) (xs : List Ace) (rest : List ℕ) (old new : Marked) : Type 0 where
   pub grows : Grows xs old new
   pub sorted : IsStrictlySortedBy nat_cmp rest
@@ -167,43 +112,25 @@ pub record Walks (k : Kind) (u : Bool) (b : ℕ) (xs : List Ace) (rest : List �
   pub covers : (i : ℕ) → waits k u b xs i ≡ true → list_any (is_at (nat_cmp i)) rest ≡ false
       → has_bit (new (key_here xs i)) b ≡ true
 
--- before the first place
-pub walk_starts : (k : Kind) (u : Bool) (b : ℕ) (xs : List Ace) (places : List ℕ) (old : Marked)
-    → IsQueue k u b xs places → Walks k u b xs places old old
-walk_starts k u b xs places old queue = record {
-  grows = record { kept = λ l i h. h; sound = λ l i h. inl h };
-  sorted = queue.sorted;
-  within = queue.within;
-  listed = queue.listed;
-  covers = λ i h out. absurd (clash i h out);
-}
-  where
-    clash : (i : ℕ) → waits k u b xs i ≡ true → list_any (is_at (nat_cmp i)) places ≡ false → ⊥
-    clash i h out = cc (queue.all i h)
-
--- the first of a list is in it
-pub head_in : (i : ℕ) (rest : List ℕ) → list_any (is_at (nat_cmp i)) (i ∷ rest) ≡ true
-head_in i rest = or_left (is_at (nat_cmp i) i) (list_any (is_at (nat_cmp i)) rest) (is_eq_itself i)
-
--- the next place is one of the list
+-- the place that the walk has reached is one of the list
 pub head_within : (k : Kind) (u : Bool) (b : ℕ) (xs : List Ace) (i : ℕ) (all rest : List ℕ) (old new : Marked)
     → Walks k u b xs all old new → all ≡ i ∷ rest → i < length xs
-head_within k u b xs i all rest old new w e = w.within i (ap (list_any (is_at (nat_cmp i))) e ∙ head_in i rest)
+head_within k u b xs i all rest old new w e = w.within i (ap (list_any (is_at (nat_cmp i))) e ∙ front_in i rest)
 
--- it waits where its mask has the bit
+-- the place that the walk has reached waits if its mask has the bit
 pub head_waits : (k : Kind) (u : Bool) (b : ℕ) (xs : List Ace) (i : ℕ) (all rest : List ℕ) (old new : Marked)
     → Walks k u b xs all old new → all ≡ i ∷ rest → has_bit (mask_here xs i) b ≡ true → waits k u b xs i ≡ true
 head_waits k u b xs i all rest old new w e has =
-    w.listed i (ap (list_any (is_at (nat_cmp i))) e ∙ head_in i rest) ∙ has
+    w.listed i (ap (list_any (is_at (nat_cmp i))) e ∙ front_in i rest) ∙ has
 
--- and is then of the kind
+-- the place that the walk has reached is of the kind if its mask has the bit
 pub head_kind : (k : Kind) (u : Bool) (b : ℕ) (xs : List Ace) (i : ℕ) (all rest : List ℕ) (old new : Marked)
     → IsOnce (column xs b) → Walks k u b xs all old new → all ≡ i ∷ rest → has_bit (mask_here xs i) b ≡ true
     → (key_here xs i).1 ≡ k
 head_kind k u b xs i all rest old new once w e has =
-    (stands_at k u b xs i once (head_waits k u b xs i all rest old new w e has)).kind
+    (key_at k u b xs i once (head_waits k u b xs i all rest old new w e has)).kind
 
--- a place that does not wait any more
+-- the walk goes on behind a place whose mask lacks the bit
 pub walk_past : (k : Kind) (u : Bool) (b : ℕ) (xs : List Ace) (i : ℕ) (all rest : List ℕ) (old new : Marked)
     → Walks k u b xs all old new → all ≡ i ∷ rest → has_bit (mask_here xs i) b ≡ false
     → Walks k u b xs rest old new
@@ -219,7 +146,7 @@ walk_past k u b xs i all rest old new before is lacks = go (subst (λ v. Walks k
     }
       where
         none : waits k u b xs i ≡ false
-        none = w.listed i (head_in i rest) ∙ lacks
+        none = w.listed i (front_in i rest) ∙ lacks
 
         covers : (j : ℕ) → waits k u b xs j ≡ true → list_any (is_at (nat_cmp j)) rest ≡ false → (j ≡ i) ⊎ (j ≡ i → ⊥)
             → has_bit (new (key_here xs j)) b ≡ true
@@ -231,7 +158,7 @@ walk_past k u b xs i all rest old new before is lacks = go (subst (λ v. Walks k
             let apart : is_at (nat_cmp j) i ≡ false = false_from_ne_true _ (λ t. n (is_eq_same j i t)) in
             w.covers j h (rw (apart, gone) refl)
 
--- a place that is clear
+-- the walk goes on behind a place that is not blocked, when its key was marked
 pub walk_on : (k : Kind) (u : Bool) (b : ℕ) (xs : List Ace) (i : ℕ) (all rest : List ℕ) (old new more : Marked)
     → IsOnce (column xs b) → Walks k u b xs all old new → all ≡ i ∷ rest → is_blocked k u b xs i ≡ false
     → has_bit (mask_here xs i) b ≡ true → AddsMark (key_here xs i) b new more → Walks k u b xs rest old more
@@ -240,7 +167,7 @@ walk_on k u b xs i all rest old new more once before is clear has adds =
   where
     go : Walks k u b xs (i ∷ rest) old new → Walks k u b xs rest old more
     go w =
-        let here = w.listed i (head_in i rest) ∙ has in
+        let here = w.listed i (front_in i rest) ∙ has in
         record {
           grows = record {
             kept =
@@ -256,7 +183,7 @@ walk_on k u b xs i all rest old new more once before is clear has adds =
           covers = λ j h gone. covers j h gone (cases_eq j i);
         }
       where
-        sound : (l : Key) (c : ℕ) → waits k u b xs i ≡ true
+        sound : (l : ColumnKey) (c : ℕ) → waits k u b xs i ≡ true
             → (has_bit (new l) c ≡ true) ⊎ ((key_eq l (key_here xs i) && (c == b)) ≡ true)
             → (has_bit (old l) c ≡ true) ⊎ (is_free (column xs c) l ≡ true)
         sound l c here (inl h) = w.grows.sound l c h
@@ -279,16 +206,16 @@ walk_on k u b xs i all rest old new more once before is clear has adds =
             adds.bits (key_here xs j) b ∙ or_left (has_bit (new (key_here xs j)) b)
             (key_eq (key_here xs j) (key_here xs i) && (b == b)) (w.covers j h out)
 
--- all that is free has been passed
+-- when each place of the rest is blocked, all free keys of the kind and the class are marked
 pub walk_ends : (k : Kind) (u : Bool) (b : ℕ) (xs : List Ace) (rest : List ℕ) (old new : Marked)
     → IsOnce (column xs b) → Walks k u b xs rest old new
     → ((i : ℕ) → list_any (is_at (nat_cmp i)) rest ≡ true → is_blocked k u b xs i ≡ true) → Enters k u b xs old new
 walk_ends k u b xs rest old new once w blocked = record {
   grows = w.grows;
-  all = λ q class free. found q (stands_free k u b xs q once class free);
+  all = λ q class free. found q (free_at k u b xs q once class free);
 }
   where
-    found : (q : Principal) → StandsFree k u b xs q → has_bit (new (q, k)) b ≡ true
+    found : (q : Principal) → FreeAt k u b xs q → has_bit (new (q, k)) b ≡ true
     found q s =
         let out : list_any (is_at (nat_cmp s.place)) rest ≡ false =
         false_from_ne_true _ (λ t. absurd (clash (blocked s.place t))) in
@@ -297,21 +224,7 @@ walk_ends k u b xs rest old new once w blocked = record {
         clash : is_blocked k u b xs s.place ≡ true → ⊥
         clash h = cc (s.clear)
 
-less_le : (i j : ℕ) → nat_cmp i j ≡ Less → i ≤ j
-less_le i j h = le_from_is_le i j (ap is_le h)
-
--- the later places of a list in order
-pub later_than : (i l : ℕ) (rest : List ℕ) → AllByRecursion (λ y. nat_cmp i y ≡ Less) rest
-    → list_any (is_at (nat_cmp l)) rest ≡ true → i ≤ l
-later_than i l [] a h = cc
-later_than i l (j ∷ rest) a h =
-    ⊎_elim (λ e. here (is_eq_same l j e)) (λ e. later_than i l rest a.1 e)
-    (or_cases (is_at (nat_cmp l) j) (list_any (is_at (nat_cmp l)) rest) h)
-  where
-    here : l ≡ j → i ≤ l
-    here e = subst (λ v. i ≤ v) (sym e) (less_le i j a.0)
-
--- the first that is blocked ends it
+-- the walk ends at the first place that is blocked
 pub walk_stops : (k : Kind) (u : Bool) (b : ℕ) (xs : List Ace) (i : ℕ) (all rest : List ℕ) (old new : Marked)
     → IsOnce (column xs b) → Walks k u b xs all old new → all ≡ i ∷ rest → is_blocked k u b xs i ≡ true
     → Enters k u b xs old new
@@ -329,7 +242,7 @@ walk_stops k u b xs i all rest old new once before is stop =
         here : l ≡ i → i ≤ l
         here e = omega (arith, e)
 
--- and so does the end
+-- the walk ends behind the last place
 pub walk_done : (k : Kind) (u : Bool) (b : ℕ) (xs : List Ace) (all : List ℕ) (old new : Marked) → IsOnce (column xs b)
     → Walks k u b xs all old new → all ≡ [] → Enters k u b xs old new
 walk_done k u b xs all old new once before is =

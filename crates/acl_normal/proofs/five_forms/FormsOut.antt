@@ -8,26 +8,26 @@ use Rattle.acl_normal.proofs.Common.{Ace, spelling}
 use Rattle.acl_normal.specs.FiveForms.{five_lists, five_spellings}
 use Rattle.acl_normal.specs.declared.five_forms.FiveForms.{FiveForms}
 
--- the bytes of some lists
+-- the bytes of some lists, one behind the other
 abbrev pub spellings : List (List Ace) → List ℕ
 spellings lists = flat_map spelling lists
 
--- of some bytes so many are out, and the lists that are left follow them
+-- of some bytes the first ones are out, and the bytes of some lists follow them
 abbrev pub AreLeft : Option (List ℕ) → Option (List ℕ) → ℕ → List ℕ → List (List Ace) → Type 0
 AreLeft held holds done whole lists = IsOut 0 done held holds whole (spellings lists)
 
--- at first all are left
+-- before the first list all lists are left
 pub all_left : (held : Option (List ℕ)) (lists : List (List Ace)) → AreLeft held held 0 (spellings lists) lists
 all_left held lists = out_none 0 held (spellings lists) (spellings lists) refl
 
--- one more list is out
+-- when the first list that is left was written, the lists behind it are left
 pub one_out : (a b c : Option (List ℕ)) (done count : ℕ) (whole : List ℕ) (list : List Ace) (lists : List (List Ace))
     → AreLeft a b done whole (list ∷ lists) → WritesFrom b c done (spelling list) (Ok count)
     → AreLeft a c count whole lists
 one_out a b c done count whole list lists h said =
     out_more 0 done count a b c whole (spellings (list ∷ lists)) (spelling list) (spellings lists) h refl said.0 said.1
 
--- a list was cut
+-- if the first list that is left was cut, the bytes were cut there
 pub cut_out : (a b c : Option (List ℕ)) (done : ℕ) (fault : WriteFault) (whole : List ℕ) (list : List Ace)
     (lists : List (List Ace)) → AreLeft a b done whole (list ∷ lists)
     → WritesFrom b c done (spelling list) (Err fault) → WritesFrom a c 0 whole (Err fault)
@@ -35,7 +35,7 @@ cut_out a b c done fault whole list lists h said =
     out_cut 0 done fault.written a b c whole (spellings (list ∷ lists)) (spelling list) (spellings lists) h refl said.0
     said.1 said.2
 
--- the last list is out, or was cut
+-- when the last list was written, all bytes are out, and if it was cut, they were cut there
 pub last_out : (a b c : Option (List ℕ)) (done : ℕ) (whole : List ℕ) (list : List Ace) (r : Result ℕ WriteFault)
     → AreLeft a b done whole (list ∷ []) → WritesFrom b c done (spelling list) r → WritesFrom a c 0 whole r
 last_out a b c done whole list (Ok count) h said =
@@ -44,36 +44,36 @@ last_out a b c done whole list (Err fault) h said = cut_out a b c done fault who
 
 -- ---- the five normal forms
 
--- the list behind the fourth
+-- the list behind the fourth one
 abbrev pub after_inner_file : FiveForms → List (List Ace)
 after_inner_file f = f.directory_in_directory ∷ []
 
--- those behind the third
+-- the lists behind the third one
 abbrev pub after_directory : FiveForms → List (List Ace)
 after_directory f = f.file_in_directory ∷ after_inner_file f
 
--- those behind the second
+-- the lists behind the second one
 abbrev pub after_file : FiveForms → List (List Ace)
 after_file f = f.directory ∷ after_directory f
 
--- those behind the first
+-- the lists behind the first one
 abbrev pub after_object : FiveForms → List (List Ace)
 after_object f = f.file ∷ after_file f
 
--- the first is out
+-- after the first list, the lists behind it are left
 pub object_out : (f : FiveForms) (a b : Option (List ℕ)) (count : ℕ) → WritesFrom a b 0 (spelling f.object) (Ok count)
     → AreLeft a b count (five_spellings f) (after_object f)
 object_out f a b count said =
     one_out a a b 0 count (five_spellings f) f.object (after_object f) (all_left a (five_lists f)) said
 
--- then the second
+-- after the second list, the lists behind it are left
 pub file_out : (f : FiveForms) (a b c : Option (List ℕ)) (first count : ℕ)
     → WritesFrom a b 0 (spelling f.object) (Ok first) → WritesFrom b c first (spelling f.file) (Ok count)
     → AreLeft a c count (five_spellings f) (after_file f)
 file_out f a b c first count object said =
     one_out a b c first count (five_spellings f) f.file (after_file f) (object_out f a b first object) said
 
--- then the third
+-- after the third list, the lists behind it are left
 pub directory_out : (f : FiveForms) (a b c d : Option (List ℕ)) (first second count : ℕ)
     → WritesFrom a b 0 (spelling f.object) (Ok first) → WritesFrom b c first (spelling f.file) (Ok second)
     → WritesFrom c d second (spelling f.directory) (Ok count)

@@ -7,15 +7,15 @@ use Rattle.acl_nfs4.specs.Limits.{most_weight}
 use Rattle.acl_nfs4.proofs.Exports.{each_push}
 use Rattle.acl_normal.proofs.unique.Names.{overlaps_itself}
 use Rattle.acl_normal.proofs.unique.Free.{ahead_from_free}
-use Rattle.acl_normal.proofs.unique.ListColumns.{column-append}
-use Rattle.acl_normal.proofs.unique.Unique.{column_with, column_lacking}
 use Rattle.acl_normal.proofs.unique.Normal.{quiet_flags}
 use Rattle.acl_normal.proofs.unique.FirstAndRest.{emission_step, once_left}
 use Rattle.acl_normal.proofs.unique.Accepted.{each_mask}
 use Rattle.acl_normal.proofs.unique.Weights.{column_above, count_less, length_under, weight_under}
-use Rattle.acl_normal.proofs.plain.Candidates.{each_more, least_free}
+use Rattle.acl_normal.proofs.plain.Candidates.{least_free}
+use Rattle.acl_normal.proofs.Each.{all_append}
+use Rattle.acl_normal.proofs.unique.Columns.{column-append, column_with, column_lacking}
 
--- of a list, what has come and what is left
+-- what has come of a list first, and what is left
 pub record Emitting (whole out left : List Ace) : Type 0 where
   pub once : HasOnceColumns left
   pub completes : (more : List Ace) → IsEmission left more → IsEmission whole (out ++ more)
@@ -27,7 +27,7 @@ pub record Emitting (whole out left : List Ace) : Type 0 where
 
 -- ---- one step
 
--- what of one list is left when an ACE has come
+-- what is left of a list when one ACE has come
 pub record Taken (left : List Ace) (a : Ace) (rest : List Ace) : Type 0 where
   pub taken : (bit : ℕ) → has_bit a.mask bit ≡ true
       → column rest bit ≡ without_principal (principal_of a) (column left bit)
@@ -35,6 +35,7 @@ pub record Taken (left : List Ace) (a : Ace) (rest : List Ace) : Type 0 where
   pub profiles : KeepsProfiles left rest
 
 module _ (left rest : List Ace) (a : Ace) (least : IsLeastCandidate left left a) (t : Taken left a rest) where
+  -- the least candidate is the ACE that comes first
   step : IsStep left a rest
   step = record {
     flags = least.candidate.flags;
@@ -45,6 +46,7 @@ module _ (left rest : List Ace) (a : Ace) (least : IsLeastCandidate left left a)
     kept = t.untouched;
   }
 
+  -- at each bit of the ACE, fewer keys are left
   fewer_at : (bit : ℕ) → has_bit a.mask bit ≡ true → length (column rest bit) < length (column left bit)
   fewer_at bit has =
       let free : is_free (column left bit) (ace_key a) ≡ true = sym (least.candidate.all bit) ∙ has in
@@ -53,6 +55,7 @@ module _ (left rest : List Ace) (a : Ace) (least : IsLeastCandidate left left a)
       (ahead_from_free (column left bit) p a.kind free p (overlaps_itself p)) in
       omega (arith, less, ap length (t.taken bit has))
 
+  -- at each bit, the ACE has at most the keys that are not left any more
   one_more : (bit : ℕ) → length (column (a ∷ []) bit) + length (column rest bit) ≤ length (column left bit)
   one_more bit = go (has_bit a.mask bit) refl
     where
@@ -62,7 +65,7 @@ module _ (left rest : List Ace) (a : Ace) (least : IsLeastCandidate left left a)
       go false e =
           omega (arith, ap length (t.untouched bit e), ap length (column_lacking bit a [] least.candidate.flags e))
 
-  -- fewer entries are left
+  -- fewer keys are left in all
   pub fewer_left : AllByRecursion (IsAce full) left → count_left 32 rest < count_left 32 left
   fewer_left each =
       let within = least.within full each in
@@ -77,7 +80,7 @@ module _ (left rest : List Ace) (a : Ace) (least : IsLeastCandidate left left a)
             absurd (false≢true (sym (ap (λ c. is_free c (ace_key a)) none) ∙ (sym (least.candidate.all k) ∙ has)))
       ]
 
-  -- one more ACE has come, and the rest is left
+  -- when the ACE has come, what has come and what is left still make up the whole
   pub emitting_more : (whole out : List Ace) → Emitting whole out left → Emitting whole (out ++ a ∷ []) rest
   emitting_more whole out h = record {
     once = once_left left rest a h.once step;
@@ -91,11 +94,11 @@ module _ (left rest : List Ace) (a : Ace) (least : IsLeastCandidate left left a)
     );
     taken = λ p each. each_push p out a (h.taken p each) (least.within p (h.kept p each));
     kept = λ p each. t.profiles p (h.kept p each);
-    full = each_more (λ a. a.mask ≢ 0) out a h.full least.candidate.mask;
-    flags = each_more (λ a. a.flags ≡ flags_for (principal_of a)) out a h.flags least.candidate.flags;
+    full = all_append (λ a. a.mask ≢ 0) out (a ∷ []) h.full (least.candidate.mask, tt);
+    flags = all_append (λ a. a.flags ≡ flags_for (principal_of a)) out (a ∷ []) h.flags (least.candidate.flags, tt);
   }
 
--- where nothing is left, what has come is all
+-- when nothing is left, what has come is what is emitted of the whole
 pub emitting_all : (whole out left : List Ace) → HasEmptyColumns left → Emitting whole out left → IsEmission whole out
 emitting_all whole out left empty h =
     subst (IsEmission whole) (append-nil out) (h.completes [] (record {
@@ -111,8 +114,9 @@ pub coming_accepted : (left : List Ace) (a : Ace) → IsLeastCandidate left left
     → AllByRecursion (IsAce full) whole → count_left 32 whole ≤ most_weight → Emitting whole out left
     → IsAccepted full (out ++ a ∷ [])
 coming_accepted left a least whole out each small h =
-    let out_full = each_more (λ a. a.mask ≢ 0) out a h.full least.candidate.mask in
-    let out_flags = each_more (λ a. a.flags ≡ flags_for (principal_of a)) out a h.flags least.candidate.flags in
+    let out_full = all_append (λ a. a.mask ≢ 0) out (a ∷ []) h.full (least.candidate.mask, tt) in
+    let out_flags =
+    all_append (λ a. a.flags ≡ flags_for (principal_of a)) out (a ∷ []) h.flags (least.candidate.flags, tt) in
     let out_each = each_push full out a (h.taken full each) (least.within full (h.kept full each)) in
     let heavy = weight_under whole (out ++ a ∷ []) (quiet_flags (out ++ a ∷ []) out_flags)
     (each_mask (out ++ a ∷ []) out_each)

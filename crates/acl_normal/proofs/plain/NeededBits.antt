@@ -1,28 +1,28 @@
 -- The second pass of the plain reduction: bits that aren't needed go.
 use Rattle.std.proofs.Common.{◌≡◌, ℕ, ◌+◌, ◌<◌, List, [], ◌∷◌, ◌++◌, length, drop}
 use Rattle.acl_normal.proofs.Common.{Ace, ace, ace_key, AceRef, aces_in, Allow, ap, append_assoc, arith, Column, column, default, default_at, drop_more, has_bit, is_inherit_only, is_needed, Kind, kind_eq, needed_keys, principal_of, slice_index_or, sym, ◌&&◌, ◌∙◌}
-use Rattle.acl_normal.proofs.unique.ListColumns.{column-append}
 use Rattle.acl_normal.proofs.plain.Passes.{Marks, list_of-append}
+use Rattle.acl_normal.proofs.unique.Columns.{column-append}
 
 -- the default, by the set of the bits that it allows
 pub default_is : (allowed bit : ℕ) (c : Column) → has_bit allowed bit ≡ kind_eq (default c) Allow
     → default_at allowed bit ≡ default c
 default_is allowed bit c is = grind arith
 
--- an ACE with its bits that are needed before a column
+-- the keys of an ACE with its needed bits, before the needed keys of a column, are the needed keys of both
 one_needed : (y r : Ace) (d : Kind) (c : Column) (bit : ℕ) → ace_key r ≡ ace_key y
     → is_inherit_only r ≡ is_inherit_only y
     → has_bit r.mask bit ≡ (has_bit y.mask bit && is_needed d (principal_of y) y.kind c)
     → column (r ∷ []) bit ++ needed_keys d c ≡ needed_keys d (column (y ∷ []) bit ++ c)
 one_needed y r d c bit entry part bits = grind arith
 
--- the list of the ACEs from a place on
+-- the ACEs from a place on are the one at the place and those behind it
 pub list_of-from : (xs : List AceRef) (x : AceRef) (i : ℕ) → i < length xs → x ≡ slice_index_or xs i x
     → aces_in (drop i xs) ≡ ace x ∷ aces_in (drop (i + 1) xs)
 list_of-from xs x i lt is =
     ap aces_in (drop_more xs i x lt) ∙ ap (λ y. ace y ∷ aces_in (drop (i + 1) xs)) (sym is)
 
--- one more ACE
+-- with the needed bits of the next ACE, the needed keys of a column are still those of the whole
 pub needed_more : (xs : List AceRef) (y : AceRef) (kept : List AceRef) (r : AceRef) (i allowed : ℕ) → i < length xs
     → y ≡ slice_index_or xs i y → ace_key (ace r) ≡ ace_key (ace y)
     → is_inherit_only (ace r) ≡ is_inherit_only (ace y)

@@ -21,21 +21,22 @@ form_from source result accepted normal grants shorter kept =
     (weight_falls source result (quiet_flags result normal.flags) (each_mask result (kept full accepted.each)) shorter)
     kept
 
--- each principal once
+-- the plain reduction of a list has each principal at most once at each bit
 pub reduced_columns : (source needed : List Ace) → IsPlainReduction source needed → HasOnceColumns needed
 reduced_columns source needed h bit = subst IsOnce (sym (h.columns bit)) (reduced_once (column source bit))
 
+-- the plain reduction of a list has no more keys at a bit than the list
 reduced_fewer : (source needed : List Ace) → IsPlainReduction source needed → (bit : ℕ)
     → length (column needed bit) ≤ length (column source bit)
 reduced_fewer source needed h bit = omega (arith, ap length (h.columns bit), reduced_shorter (column source bit))
 
--- no more keys than an accepted list may have
+-- the plain reduction of an accepted list has no more keys in all than an accepted list may have
 pub reduced_small : (source needed : List Ace) → IsAccepted full source → IsPlainReduction source needed
     → count_left 32 needed ≤ most_weight
 reduced_small source needed accepted h =
     omega (arith, count_falls 32 source needed (reduced_fewer source needed h), count_within 32 source, accepted.weight)
 
--- what is emitted of it is the normal form
+-- what is emitted of the plain reduction of a list is its normal form
 pub reduced_form : (source needed result : List Ace) → IsAccepted full source → IsPlainReduction source needed
     → IsEmission needed result → ((bit : ℕ) → length (column result bit) ≤ length (column needed bit))
     → KeepsProfiles needed result → IsNormalFormOf source result
@@ -46,7 +47,7 @@ reduced_form source needed result accepted h emission shorter kept =
     form_from source result accepted both.0 both.1
     (λ bit. omega (arith, shorter bit, reduced_fewer source needed h bit)) (λ p within. kept p (h.profiles p within))
 
--- the two passes make the plain reduction, where the second answers
+-- if the second pass returns a list, this is the plain reduction
 pub passes_reduce : {V E : Type 0} (list : V → List Ace) (source aces reached lent : List Ace) (answer : Result V E)
     → aces ≡ source → ((bit : ℕ) → column reached bit ≡ unshadowed [] (column aces bit)) → KeepsProfiles aces reached
     → lent ≡ reached
@@ -63,7 +64,7 @@ passes_reduce list source aces reached lent (Ok v) same first kept loan second k
 }
 passes_reduce list source aces reached lent (Err fault) same first kept loan second kept_again = tt
 
--- an answer that is emitted of the reduction is the normal form, where it is Ok
+-- if what is emitted of the plain reduction is returned, it is the normal form
 pub emitted_form : {E : Type 0} (source needed : List Ace) (answer : Result (List Ace) E) → IsAccepted full source
     → IsPlainReduction source needed → IfOk answer (IsEmission needed)
     → IfOk answer (λ list. (bit : ℕ) → length (column list bit) ≤ length (column needed bit))
@@ -72,7 +73,7 @@ emitted_form source needed (Ok list) accepted h emission shorter kept =
     reduced_form source needed list accepted h emission shorter kept
 emitted_form source needed (Err fault) accepted h emission shorter kept = tt
 
--- the ACEs of the reduction are ones of the whole profile
+-- the ACEs of the plain reduction of an accepted list are ACEs of the whole profile
 pub reduced_each : (source needed : List Ace) → IsAccepted full source → IsPlainReduction source needed
     → AllByRecursion (IsAce full) needed
 reduced_each source needed accepted h = h.profiles full accepted.each

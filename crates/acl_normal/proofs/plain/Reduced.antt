@@ -1,88 +1,29 @@
 -- The plain reduction of a column decides alike, and is settled.
-use Rattle.acl_normal.proofs.Common.{[], Allow, and_parts, ap, arith, Bool, Column, default, Deny, everyone, false, first_kind, has_opposite, inl, inr, is_either, is_needed, IsOnce, Kind, kind_eq, may_overlap, needed_keys, None, not, Option, or_cases, or_from, or_left, Principal, principal_eq, reduced, refl, Some, subst, sym, true, unshadowed, unwrap_or, verdict, ◌&&◌, ◌++◌, ◌∙◌, ◌∷◌, ◌≡◌, ◌⊎◌}
-use Rattle.acl_normal.proofs.unique.Names.{principal_eq_same, either_first, either_second, either_within}
-use Rattle.acl_normal.proofs.unique.FirstKind.{IsClique, none_within, append_none, append_some}
+use Rattle.acl_normal.proofs.Common.{[], Allow, and_parts, ap, arith, Bool, Column, default, Deny, everyone, false, first_kind, has_opposite, inl, inr, is_either, is_needed, IsOnce, Kind, kind_eq, may_overlap, needed_keys, None, not, Option, or_cases, or_from, or_left, Principal, principal_eq, reduced, refl, Some, subst, sym, true, unshadowed, unwrap_or, verdict, ◌&&◌, ◌∙◌, ◌∷◌, ◌≡◌, ◌⊎◌, same_Some}
+use Rattle.acl_normal.proofs.unique.Names.{principal_eq_same, either_first, either_within, kind_eq_same, kind_eq_itself}
+use Rattle.acl_normal.proofs.unique.FirstKind.{IsClique, none_within}
 use Rattle.acl_normal.proofs.unique.Irreducible.{IsClean}
-use Rattle.acl_normal.proofs.unique.Free.{kind_eq_same, kind_eq_itself, some_same, once_from_clean}
+use Rattle.acl_normal.proofs.unique.Free.{once_from_clean}
 use Rattle.acl_normal.proofs.unique.Settled.{opposite, everyone_for, IsWitness, IsSettled}
+use Rattle.acl_normal.proofs.plain.Unshadowed.{same_unshadowed, unshadowed_clean}
 
--- the shadowed keys decide nothing
-pub same_unshadowed : (m : Principal → Bool) (before c : Column) → m everyone ≡ true → first_kind m before ≡ None
-    → first_kind m (unshadowed before c) ≡ first_kind m c
-same_unshadowed m before [] e none = refl
-same_unshadowed m before ((p, k) ∷ c) e none =
-    grind (
-      arith,
-      same_unshadowed m (before ++ (p, k) ∷ []) c e,
-      none_within m (is_either p everyone) before none,
-      either_within m p everyone,
-      append_none m before ((p, k) ∷ []) none,
-    )
-
--- what a key before has, or everyone, is kept no more
-shadowed_lacks : (x : Principal) (j : Kind) (before c : Column) → first_kind (is_either x everyone) before ≡ Some j
-    → first_kind (is_either x x) (unshadowed before c) ≡ None
-shadowed_lacks x j before [] h = refl
-shadowed_lacks x j before ((p, k) ∷ c) h =
-    grind (
-      arith,
-      shadowed_lacks x j (before ++ (p, k) ∷ []) c,
-      append_some (is_either x everyone) before ((p, k) ∷ []) j h,
-      same,
-    )
-  where
-    same : principal_eq p x ≡ true → first_kind (is_either p everyone) before ≡ Some j
-    same e = subst (λ v. first_kind (is_either v everyone) before ≡ Some j) (sym (principal_eq_same p x e)) h
-
-shadowed_nothing : (j : Kind) (before c : Column) → first_kind (is_either everyone everyone) before ≡ Some j
-    → unshadowed before c ≡ []
-shadowed_nothing j before [] h = refl
-shadowed_nothing j before ((p, k) ∷ c) h =
-    grind (
-      arith,
-      shadowed_nothing j (before ++ (p, k) ∷ []) c
-          (append_some (is_either everyone everyone) before ((p, k) ∷ []) j h),
-      λ (none : first_kind (is_either p everyone) before ≡ None).
-          none_within (is_either p everyone) (is_either everyone everyone) before none
-          (either_within (is_either p everyone) everyone everyone (either_second p everyone)
-          (either_second p everyone)),
-    )
-
-unshadowed_clean : (before c : Column) → IsClean (unshadowed before c)
-unshadowed_clean before [] = tt
-unshadowed_clean before ((p, k) ∷ c) =
-    go (first_kind (is_either p everyone) before) refl (unshadowed_clean (before ++ (p, k) ∷ []) c)
-  where
-    go : (o : Option Kind) → first_kind (is_either p everyone) before ≡ o
-        → IsClean (unshadowed (before ++ (p, k) ∷ []) c) → IsClean (unshadowed before ((p, k) ∷ c))
-    go (Some i) e ih = rw e ih
-    go None e ih =
-        let here : first_kind (is_either p everyone) (before ++ (p, k) ∷ []) ≡ Some k =
-        append_none (is_either p everyone) before ((p, k) ∷ []) e ∙ rw (either_first p everyone) refl in
-        rw e (shadowed_lacks p k (before ++ (p, k) ∷ []) c here, last here, ih)
-      where
-        last : first_kind (is_either p everyone) (before ++ (p, k) ∷ []) ≡ Some k → principal_eq p everyone ≡ true
-            → unshadowed (before ++ (p, k) ∷ []) c ≡ []
-        last here same =
-            shadowed_nothing k (before ++ (p, k) ∷ []) c
-            (subst (λ v. first_kind (is_either v everyone) (before ++ (p, k) ∷ []) ≡ Some k)
-            (principal_eq_same p everyone same) here)
-
+-- a test that passes no key passes no needed key
 none_needed : (m : Principal → Bool) (d : Kind) (c : Column) → first_kind m c ≡ None
     → first_kind m (needed_keys d c) ≡ None
 none_needed m d [] h = refl
 none_needed m d ((p, k) ∷ c) h = grind (arith, none_needed m d c)
 
+-- the needed keys of a clean column are a clean column
 needed_clean : (d : Kind) (c : Column) → IsClean c → IsClean (needed_keys d c)
 needed_clean d [] h = tt
 needed_clean d ((p, k) ∷ c) h = grind (arith, needed_clean d c h.2, h.1, none_needed (is_either p p) d c h.0)
 
--- the default stays in the rest of a clean column
+-- a clean column without its first key has the same default, if the key is not everyone's
 default_rest : (p : Principal) (k : Kind) (c : Column) → principal_eq p everyone ≡ false
     → default ((p, k) ∷ c) ≡ default c
 default_rest p k c e = grind arith
 
--- where nothing of another kind may_overlap, the first that matches beside p has the default
+-- if no key of another kind overlaps with a principal, whoever it matches gets the default
 no_opposite : (m : Principal → Bool) (d : Kind) (p : Principal) (c : Column) → IsClique m → m everyone ≡ true
     → m p ≡ true → default c ≡ d → has_opposite d p c ≡ false → verdict m c ≡ d
 no_opposite m d p c q e at h none = go (first_kind m c) refl
@@ -97,6 +38,7 @@ no_opposite m d p c q e at h none = go (first_kind m c) refl
         let nobody = none_within m (is_either everyone everyone) c i (either_within m everyone everyone e e) in
         ap (λ o. unwrap_or o Deny) i ∙ sym (ap (λ o. unwrap_or o Deny) nobody) ∙ h
 
+-- if the needed keys of a column decide as the column, they do with one key in front
 needed_step : (m : Principal → Bool) (d : Kind) (p : Principal) (k : Kind) (c : Column) → m everyone ≡ true
     → (principal_eq p everyone ≡ true → c ≡ []) → default ((p, k) ∷ c) ≡ d
     → (default c ≡ d → verdict m (needed_keys d c) ≡ verdict m c)
@@ -111,30 +53,32 @@ same_needed m d [] q e clean h = refl
 same_needed m d ((p, k) ∷ c) q e clean h =
     needed_step m d p k c e clean.1 h (same_needed m d c q e clean.2) (no_opposite m d p c q e)
 
+-- the needed keys of a clean column allow everyone by name if the default is to allow, and else lack everyone
 needed_everyone_is : (d : Kind) (c : Column) → IsClean c → default c ≡ d
     → first_kind (is_either everyone everyone) (needed_keys d c) ≡ everyone_for d
 needed_everyone_is d [] clean h = ap everyone_for h
 needed_everyone_is d ((p, k) ∷ c) clean h = grind (arith, needed_everyone_is d c clean.2, clean.1)
 
--- in a clean column everyone stands last
+-- in a clean column the key of a principal comes before that of everyone
 everyone_last : (c : Column) (p : Principal) (k : Kind) → IsClean c → principal_eq p everyone ≡ false
     → first_kind (is_either p p) c ≡ Some k → first_kind (is_either p everyone) c ≡ Some k
 everyone_last [] p k clean e h = cc
 everyone_last ((x, j) ∷ c) p k clean e h = grind (arith, everyone_last c p k clean.2 e, clean.1)
 
--- a key of the other kind that may_overlap and stays
+-- another principal overlaps with p and has a key of the other kind, which is needed
 pub record IsOther (d : Kind) (p : Principal) (c : Column) (q : Principal) : Type 0 where
   pub not_everyone : principal_eq q everyone ≡ false
   pub overlap : may_overlap p q ≡ true
   pub source : first_kind (is_either q q) c ≡ Some (opposite d)
   pub kind : first_kind (is_either q q) (needed_keys d c) ≡ Some (opposite d)
 
+-- which needed key of two principals comes first is the same behind a key of a third
 kept_behind : (d : Kind) (p q x : Principal) (j : Kind) (c : Column) (i : Kind) → principal_eq x p ≡ false
     → principal_eq x q ≡ false → first_kind (is_either p q) (needed_keys d c) ≡ Some i
     → first_kind (is_either p q) (needed_keys d ((x, j) ∷ c)) ≡ Some i
 kept_behind d p q x j c i e f h = grind arith
 
--- a key in front of others leaves what comes after it
+-- another principal with such a key still has it behind a key of a third
 other_behind : (d : Kind) (p : Principal) (c : Column) (q x : Principal) (j : Kind) → principal_eq x q ≡ false
     → IsOther d p c q → IsOther d p ((x, j) ∷ c) q
 other_behind d p c q x j f h = record {
@@ -148,11 +92,12 @@ other_behind d p c q x j f h = record {
     skip : is_either q q x ≡ false
     skip = or_from _ _ f f
 
--- a key of another principal, since the column has each once
+-- a principal that a column lacks is not one that it has
 apart : (x q : Principal) (c : Column) (k : Kind) → first_kind (is_either x x) c ≡ None
     → first_kind (is_either q q) c ≡ Some k → principal_eq x q ≡ false
 apart x q c k none has = grind (arith, principal_eq_same x q)
 
+-- if a clean column has an opposite key, a needed key of another principal is one
 find_other : (d : Kind) (p : Principal) (c : Column) → IsClean c → default c ≡ d → has_opposite d p c ≡ true
     → (q : Principal) × IsOther d p c q
 find_other d p [] clean h has = cc
@@ -196,16 +141,19 @@ find_other d p ((x, j) ∷ c) clean h has =
         behind : (q : Principal) × IsOther d p c q → (q : Principal) × IsOther d p ((x, j) ∷ c) q
         behind (q, o) = (q, other_behind d p c q x j (apart x q c (opposite d) clean.0 o.source) o)
 
+-- a needed key of a principal is needed without the key of another in front
 kept_before : (d : Kind) (p x : Principal) (j : Kind) (c : Column) → principal_eq x p ≡ false
     → first_kind (is_either p p) (needed_keys d ((x, j) ∷ c)) ≡ Some d
     → first_kind (is_either p p) (needed_keys d c) ≡ Some d
 kept_before d p x j c e h = grind arith
 
+-- a key of the default kind that is needed has an opposite key behind it
 needs_opposite : (d : Kind) (p x : Principal) (j : Kind) (c : Column) → principal_eq x p ≡ true
     → principal_eq x everyone ≡ false → is_needed d x j c ≡ true
     → first_kind (is_either p p) (needed_keys d ((x, j) ∷ c)) ≡ Some d → has_opposite d x c ≡ true
 needs_opposite d p x j c e f n h = grind (arith, kind_eq_itself d)
 
+-- a needed key of the default kind has a needed key of the other kind behind it that overlaps
 find_witness : (d : Kind) (p : Principal) (c : Column) → IsClean c → default c ≡ d → principal_eq p everyone ≡ false
     → first_kind (is_either p p) (needed_keys d c) ≡ Some d
     → (q : Principal) × IsOther d p c q × (first_kind (is_either p q) (needed_keys d c) ≡ Some d)
@@ -263,7 +211,7 @@ find_witness d p ((x, j) ∷ c) clean h ne has =
         kind =
             let step : first_kind (is_either p p) ((x, j) ∷ needed_keys d c) ≡ Some d = rw f at has in
             let step' : Some j ≡ Some d = rw at_x at step in
-            some_same step'
+            same_Some _ _ step'
 
         opp : has_opposite d p c ≡ true
         opp = subst (λ v. has_opposite d v c ≡ true) same (needs_opposite d p x j c e not_all f has)
@@ -278,7 +226,7 @@ find_witness d p ((x, j) ∷ c) clean h ne has =
               (rw (or_left (principal_eq x p) (principal_eq x q) e) (ap Some kind)),
         )
 
--- what is left of a clean column is settled
+-- the needed keys of a clean column are settled
 needed_settled : (d : Kind) (c : Column) → IsClean c → default c ≡ d → IsSettled (needed_keys d c) d
 needed_settled d c clean h = record {
   everyone_is = needed_everyone_is d c clean h;
@@ -314,11 +262,7 @@ same_reduced m c q e =
 pub reduced_settled : (c : Column) → IsSettled (reduced c) (default (unshadowed [] c))
 reduced_settled c = needed_settled (default (unshadowed [] c)) (unshadowed [] c) (unshadowed_clean [] c) refl
 
--- each principal stands once in a reduced column
+-- a reduced column has each principal at most once
 pub reduced_once : (c : Column) → IsOnce (reduced c)
 reduced_once c =
     once_from_clean (reduced c) (needed_clean (default (unshadowed [] c)) (unshadowed [] c) (unshadowed_clean [] c))
-
--- and in a column without what is shadowed
-pub unshadowed_once : (c : Column) → IsOnce (unshadowed [] c)
-unshadowed_once c = once_from_clean (unshadowed [] c) (unshadowed_clean [] c)

@@ -1,47 +1,18 @@
 -- The masks of the first ACEs of a list, place by place.
-use Rattle.acl_normal.proofs.Common.{[], Ace, ace, ace_key, AceRef, aces_in, add-one, ap, append-nil, AreRowNumbers, arith, bit_or, Bool, Column, column, cond, counts, everyone, false, first_at, first_kind, full, get_or-replicate, get_or-set_other, get_or-set_same, has_bit, has_bit-or, is_either, is_inherit_only, is_principal_of, is_none, is_some, IsAccepted, IsDifference, IsOnce, IsQuiet, IsTidy, KeepsFirsts, Key, Kind, length, length-append, length-replicate, length-set, length-take-le, List, None, nothing_left, Option, Principal, principal_eq, principal_of, refl, replicate, row_of, slice_index_or, slice_set, Some, subst, suc, sym, take, take_all, take_more, true, unshadowed, with_masks, ℕ, ◌&&◌, ◌++◌, ◌+◌, ◌<◌, ◌||◌, ◌∙◌, ◌∷◌, ◌≡◌, ◌≤◌, mask_numbers, Mask}
+use Rattle.acl_normal.proofs.Common.{Ace, AceRef, AreRowNumbers, Bool, IsAccepted, IsDifference, IsOnce, IsQuiet, IsTidy, KeepsFirsts, Kind, List, Mask, None, Option, Principal, Some, [], ace, ace_key, aces_in, add-one, ap, append-nil, arith, bit_or, column, counts, everyone, false, first_at, first_kind, full, get_or-replicate, get_or-set_other, get_or-set_same, has_bit, has_bit-or, is_either, is_inherit_only, is_none, is_principal_of, is_some, length, length-append, length-replicate, length-set, length-take-le, mask_numbers, nothing_left, principal_eq, principal_of, refl, replicate, row_of, slice_index_or, slice_set, subst, suc, sym, take, take_all, take_more, true, unshadowed, with_masks, ℕ, ◌&&◌, ◌++◌, ◌+◌, ◌<◌, ◌||◌, ◌∙◌, ◌∷◌, ◌≡◌, ◌≤◌}
 use Rattle.acl_normal.specs.internal.Reduced.{IsThinned}
 use Rattle.acl_normal.proofs.unique.Accepted.{accepted_masks}
-use Rattle.acl_normal.proofs.unique.Bits.{no_bits, no_bits_of_zero, no_right, bits_length, bits_at, bits_push, bits_set}
-use Rattle.acl_normal.proofs.unique.Columns.{column_first}
+use Rattle.acl_normal.proofs.unique.Bits.{no_bits, no_bits_of_zero, no_right}
 use Rattle.acl_normal.proofs.unique.FirstKind.{none_within}
-use Rattle.acl_normal.proofs.reduce.FirstRows.{column_more, first_there, none_from, none_is, some_either, unshadowed_push}
+use Rattle.acl_normal.proofs.reduce.FirstRows.{column_more, column_push, first_behind, first_front, first_there, none_from, none_is, some_either, some_push, unshadowed_push}
 use Rattle.acl_normal.proofs.rows.ByPlace.{index_is, key_at_index, length_of, masked, masks_none, masks_push}
-use Rattle.acl_normal.proofs.unique.ListColumns.{column-append}
-use Rattle.acl_normal.proofs.unique.Names.{either_first, either_second, principal_eq_itself, principal_eq_same, either_within}
+use Rattle.acl_normal.proofs.unique.Names.{either_first, either_second, either_within, principal_eq_itself, principal_eq_same}
 use Rattle.acl_normal.proofs.unique.Outline.{length_alike, nothing_append}
-use Rattle.acl_normal.proofs.plain.Reduced.{same_unshadowed, unshadowed_once}
 use Rattle.acl_normal.proofs.reduce.Reducing.{no_column}
 use Rattle.acl_normal.proofs.rows.Rows.{named_here, row_below, row_same}
-use Rattle.acl_normal.proofs.rows.TakeOut.{absent_first, none_cases}
-
--- ---- one ACE behind a list
-
--- the column with it
-pub column_push : (b : ℕ) (xs : List Ace) (a : Ace)
-    → column (xs ++ a ∷ []) b ≡ column xs b ++ cond (counts b a) (ace_key a ∷ []) []
-column_push b xs a = column-append b xs (a ∷ []) ∙ ap (λ v. column xs b ++ v) (column_first b a [])
-
--- what stands first before it stands first with it
-first_front : (b : ℕ) (p : Principal) (xs ys : List Ace) (e : Kind × ℕ) → first_at b p xs ≡ Some e
-    → first_at b p (xs ++ ys) ≡ Some e
-first_front b p [] ys e h = cc
-first_front b p (x ∷ xs) ys e h = grind (arith, first_front b p xs ys)
-
--- and where none does, it may
-first_behind : (b : ℕ) (p : Principal) (xs : List Ace) (a : Ace) → first_at b p xs ≡ None
-    → first_at b p (xs ++ a ∷ [])
-    ≡ cond (counts b a && principal_eq (principal_of a) p) (Some (a.kind, length xs)) None
-first_behind b p [] a h = refl
-first_behind b p (x ∷ xs) a h =
-    let both = none_cases b p x xs h in
-    grind (arith, both.0, first_behind b p xs a both.1)
-
--- whether one more key is the first of some principals
-some_push : (m : Principal → Bool) (c : Column) (k : Key) (t : Bool)
-    → is_some (first_kind m (c ++ cond t (k ∷ []) [])) ≡ (is_some (first_kind m c) || (t && m k.0))
-some_push m [] k t = grind arith
-some_push m ((q, j) ∷ c) k t = grind (arith, some_push m c k t)
+use Rattle.acl_normal.proofs.rows.MaskNumbers.{bits_at, bits_length, bits_push, bits_set}
+use Rattle.acl_normal.proofs.plain.Unshadowed.{same_unshadowed, unshadowed_once}
+use Rattle.acl_normal.proofs.rows.FirstAces.{absent_first}
 
 -- ---- the list, place by place
 
@@ -52,12 +23,12 @@ pub record FirstsTo (whole : List Ace) (n : ℕ) (xs : List Ace) : Type 0 where
   pub quiet : IsQuiet xs
   pub firsts : KeepsFirsts whole xs
 
--- what it has at the end
+-- what the loop has at the end: the first ACEs of the whole list
 pub record FirstsAre (whole xs : List Ace) : Type 0 where
   pub outline : nothing_left xs ≡ nothing_left whole
   pub columns : (b : ℕ) → column xs b ≡ unshadowed [] (column whole b)
 
--- before the first place
+-- before the first place no ACE is there
 pub firsts_to_start : (whole : List Ace) → FirstsTo whole 0 []
 firsts_to_start whole = record {
   outline = refl;
@@ -66,21 +37,22 @@ firsts_to_start whole = record {
   firsts = λ b p k i h. cc;
 }
 
--- the mask has the bits with which the ACE takes part and that none has before, of its principal or of everyone
+-- the mask has the bits with which the ACE takes part and that no ACE before has for its principal or for everyone
 abbrev pub IsFresh : List Ace → Ace → ℕ → Type 0
 IsFresh xs a m = (b : ℕ)
     → has_bit m b ≡ (counts b a && is_none (first_kind (is_either (principal_of a) everyone) (column xs b)))
 
--- it takes part with all of them
+-- an ACE takes part with all of its fresh bits
 fresh_counts : (xs : List Ace) (a : Ace) (m b : ℕ) → IsFresh xs a m → counts b (masked a m) ≡ has_bit m b
 fresh_counts xs a m b f = grind (arith, f b)
 
+-- a quiet list with one ACE more, which takes part or has no bit, is quiet
 quiet_push : (xs : List Ace) (a : Ace) → IsQuiet xs → (is_inherit_only a ≡ true → a.mask ≡ 0)
     → IsQuiet (xs ++ a ∷ [])
 quiet_push [] a q h = (h, tt)
 quiet_push (x ∷ xs) a q h = (q.0, quiet_push xs a q.1 h)
 
--- one place more
+-- with the fresh bits of the next ACE, the first ACEs are those of one place more
 pub firsts_to_more : (whole : List Ace) (n : ℕ) (xs : List Ace) (a : Ace) (m : ℕ) → FirstsTo whole n xs
     → n < length whole → slice_index_or whole n a ≡ a → IsFresh xs a m
     → FirstsTo whole (suc n) (xs ++ masked a m ∷ [])
@@ -142,7 +114,7 @@ firsts_to_more whole n xs a m f l is fresh = record {
           first_there b p n whole a l is,
         )
 
--- after the last place
+-- after the last place the first ACEs are those of the whole list
 pub firsts_to_all : (whole : List Ace) (n : ℕ) (xs : List Ace) → FirstsTo whole n xs → length whole ≤ n
     → FirstsAre whole xs
 firsts_to_all whole n xs f l = record {
@@ -161,14 +133,14 @@ firsts_tidy whole xs accepted quiet columns = record {
 
 -- ---- which bits are seen
 
--- what the loop knows: the bits of each row, and those of everyone
+-- what the loop knows: the bits that each row has had, and those that everyone has had
 pub record HoldsSeen (whole : List Ace) (seen : List ℕ) (all : ℕ) (xs : List Ace) : Type 0 where
   pub count : length seen ≡ length whole
   pub rows : (p : Principal) → is_principal_of p whole ≡ true → (b : ℕ)
       → has_bit (slice_index_or seen (row_of p whole) 0) b ≡ is_some (first_kind (is_either p p) (column xs b))
   pub everyone : (b : ℕ) → has_bit all b ≡ is_some (first_kind (is_either everyone everyone) (column xs b))
 
--- before the first place
+-- before the first place no row has had a bit
 pub seen_start : (whole : List Ace) (seen : List ℕ) → seen ≡ replicate (length whole) 0 → HoldsSeen whole seen 0 []
 seen_start whole seen is = record {
   count = ap length is ∙ length-replicate (length whole) 0;
@@ -179,7 +151,7 @@ seen_start whole seen is = record {
   everyone = λ b. no_bits_of_zero b;
 }
 
--- the bits that are new, by what was seen
+-- the fresh bits of an ACE are those with which it takes part and that neither its row nor everyone has had
 pub fresh_is : (whole : List Ace) (seen : List ℕ) (all : ℕ) (xs : List Ace) (a : Ace) (active m : ℕ)
     → HoldsSeen whole seen all xs → is_principal_of (principal_of a) whole ≡ true
     → ((b : ℕ) → has_bit active b ≡ counts b a)
@@ -196,7 +168,7 @@ fresh_is whole seen all xs a active m s named act is b =
       none_is (first_kind (is_either (principal_of a) everyone) (column xs b)),
     )
 
--- one ACE more is seen
+-- with the fresh bits of one ACE more, the bits that its row has had are known again
 pub seen_more : (whole : List Ace) (seen : List ℕ) (all all' : ℕ) (xs : List Ace) (a : Ace) (m : ℕ)
     → HoldsSeen whole seen all xs → is_principal_of (principal_of a) whole ≡ true → IsFresh xs a m
     → ((b : ℕ) → has_bit all' b ≡ (has_bit all b || (has_bit m b && principal_eq (principal_of a) everyone)))
@@ -254,19 +226,19 @@ seen_more whole seen all all' xs a m s named fresh is = record {
 
 -- ---- rows by place
 
--- the row of whom the ACE at a place names
+-- the row of a place is that of the principal of the ACE there
 pub row_here : (whole : List Ace) (rows : List ℕ) (i : ℕ) (a : Ace) → AreRowNumbers whole rows → i < length whole
     → slice_index_or whole i a ≡ a → slice_index_or rows i 0 ≡ row_of (principal_of a) whole
 row_here whole rows i a r l is =
     r.at i l ∙ ap (λ k. row_of k.0 whole) (key_at_index whole i a l ∙ ap ace_key is)
 
--- who is named
+-- a list names the principal of the ACE at a place
 pub named_there : (whole : List Ace) (i : ℕ) (a : Ace) → i < length whole → slice_index_or whole i a ≡ a
     → is_principal_of (principal_of a) whole ≡ true
 named_there whole i a l is =
     ap (λ k. is_principal_of k.0 whole) (sym (key_at_index whole i a l ∙ ap ace_key is)) ∙ named_here whole i l
 
--- the row of the ACE at a place is one of those that are seen
+-- the row of a place is one of those of which the bits are known
 pub row_seen : (aces : List AceRef) (rows : List ℕ) (seen : List Mask) (place all : ℕ) (xs : List Ace) (x : AceRef)
     → AreRowNumbers (aces_in aces) rows → place < length aces → x ≡ slice_index_or aces place x
     → HoldsSeen (aces_in aces) (mask_numbers seen) all xs → slice_index_or rows place 0 < length seen
@@ -283,13 +255,13 @@ row_seen aces rows seen place all xs x r l is holds =
 
 -- ---- the loop
 
--- what it keeps: the masks of the places that are done, and the bits that are seen in them
+-- what the loop keeps: the masks of the places that are done, and the bits that were seen in them
 pub record Reaches (aces : List AceRef) (place : ℕ) (masks seen : List ℕ) (all : ℕ) : Type 0 where
   pub count : length masks ≡ place
   pub firsts : FirstsTo (aces_in aces) place (with_masks aces masks)
   pub holds : HoldsSeen (aces_in aces) seen all (with_masks aces masks)
 
--- before the first place
+-- before the first place there is no mask, and no bit was seen
 pub reaches_none : (aces : List AceRef) (masks seen : List ℕ) → masks ≡ [] → seen ≡ replicate (length aces) 0
     → Reaches aces 0 masks seen 0
 reaches_none aces masks seen no_mask zeros = record {
@@ -303,7 +275,7 @@ reaches_none aces masks seen no_mask zeros = record {
     none : with_masks aces masks ≡ []
     none = ap (with_masks aces) no_mask ∙ masks_none aces
 
--- the ACE at the next place, what was seen in its row before and after, and what takes part of it and is new
+-- the ACE at the next place, what its row has had before and after it, and its fresh bits
 pub record IsNext (aces : List AceRef) (rows : List ℕ) (place : ℕ) (seen : List Mask) (all : ℕ) (x : AceRef)
     (here both fresh : Mask) : Type 0 where
   pub numbers : AreRowNumbers (aces_in aces) rows
@@ -315,7 +287,7 @@ pub record IsNext (aces : List AceRef) (rows : List ℕ) (place : ℕ) (seen : L
   pub new : IsDifference active (bit_or here.bits all) fresh.bits
   pub together : both.bits ≡ bit_or here.bits fresh.bits
 
--- one place more
+-- with the fresh bits of the next ACE, one place more is done
 pub reaches_more : (aces : List AceRef) (rows : List ℕ) (place : ℕ) (masks seen : List Mask) (all all' : ℕ) (x : AceRef)
     (here both fresh : Mask) → Reaches aces place (mask_numbers masks) (mask_numbers seen) all
     → IsNext aces rows place seen all x here both fresh
@@ -381,13 +353,13 @@ reaches_more aces rows place masks seen all all' x here both fresh r next of_all
         ∙ masks_push aces (mask_numbers masks) x fresh.bits (omega (arith, r.count, next.below))
         (next.is ∙ ap (λ n. slice_index_or aces n x) (sym r.count))
 
--- after the last place
+-- after the last place the masks are those of the first ACEs
 pub reaches_all : (aces : List AceRef) (place : ℕ) (masks seen : List ℕ) (all : ℕ)
     → Reaches aces place masks seen all → length aces ≤ place → FirstsAre (aces_in aces) (with_masks aces masks)
 reaches_all aces place masks seen all r past =
     firsts_to_all (aces_in aces) place _ r.firsts (omega (arith, length_of aces, past))
 
--- these are the list without the bits that an earlier ACE has
+-- after the last place the ACEs with these masks are the list with fewer bits
 pub reaches_thinned : (aces : List AceRef) (place : ℕ) (masks seen : List ℕ) (all : ℕ) → IsAccepted full (aces_in aces)
     → Reaches aces place masks seen all → length aces ≤ place → IsThinned (aces_in aces) (with_masks aces masks)
 reaches_thinned aces place masks seen all accepted r past =

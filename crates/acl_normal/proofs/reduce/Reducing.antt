@@ -1,6 +1,5 @@
 -- A list with reduced columns is irreducible and grants the same.
-use Rattle.acl_normal.proofs.Common.{[], Ace, all_rights, ap, arith, cases_lt, column, default, false, full, has_bit, HasMasks, HasNames, HasNoEmptyMask, IsAccepted, IsIrreducible, IsIrreducibleList, IsNormal, IsQuiet, IsTidy, left, List, matches, needed_keys, nothing_left, reduced, refl, SameGrants, subst, sym, unshadowed, verdict, ℕ, ⊎_elim, ◌<◌, ◌∙◌, ◌∷◌, ◌≡◌}
-use mathlib.Core.Logic.Iff.{symm, trans}
+use Rattle.acl_normal.proofs.Common.{[], Ace, all_rights, ap, arith, cases_lt, column, default, false, full, has_bit, HasMasks, HasNames, HasNoEmptyMask, IsAccepted, IsIrreducible, IsIrreducibleList, IsNormal, IsTidy, left, List, matches, needed_keys, nothing_left, reduced, refl, SameGrants, subst, sym, unshadowed, verdict, ℕ, ⊎_elim, ◌<◌, ◌∙◌, ◌∷◌, ◌≡◌, equivalence}
 use Rattle.acl_normal.proofs.unique.Accepted.{accepted_masks, accepted_names}
 use Rattle.acl_normal.proofs.unique.ListColumns.{names_in_column, same_grants_from_columns}
 use Rattle.acl_normal.proofs.unique.FirstKind.{clique_of}
@@ -8,11 +7,11 @@ use Rattle.acl_normal.proofs.unique.Normal.{irreducible_list}
 use Rattle.acl_normal.proofs.plain.Reduced.{same_reduced, reduced_settled}
 use Rattle.acl_normal.proofs.unique.Settled.{IsSettled, settled_irreducible}
 use Rattle.acl_normal.proofs.unique.Unique.{unique}
-use Rattle.acl_normal.proofs.emit.Leaving.{column_left, masks_of_quiet}
+use Rattle.acl_normal.proofs.emit.Leaving.{column_left, masks_of_quiet, quiet_left}
 use Rattle.acl_normal.proofs.unique.Columns.{column_first}
 use Rattle.acl_normal.proofs.unique.Bits.{below}
 
--- two passes that reduce each column
+-- the first pass and then the second one reduce the column of each right
 pub reduces : (xs ys zs : List Ace) → ((b : ℕ) → b < 21 → column ys b ≡ unshadowed [] (column xs b))
     → ((b : ℕ) → b < 21 → column zs b ≡ needed_keys (default (column ys b)) (column ys b)) → (b : ℕ) → b < 21
     → column zs b ≡ reduced (column xs b)
@@ -20,14 +19,17 @@ reduces xs ys zs f g b h = g b h ∙ ap (λ c. needed_keys (default c) c) (f b h
 
 -- ---- what the outline keeps
 
+-- the outline of a list with names has names
 names_on : (xs : List Ace) → HasNames xs → HasNames (nothing_left xs)
 names_on [] h = tt
 names_on (a ∷ xs) h = (h.0, names_on xs h.1)
 
+-- a list whose outline has names has names
 names_back : (xs : List Ace) → HasNames (nothing_left xs) → HasNames xs
 names_back [] h = tt
 names_back (a ∷ xs) h = (h.0, names_back xs h.1)
 
+-- a list with the outline of a list with names has names
 names_kept : (xs ys : List Ace) → nothing_left ys ≡ nothing_left xs → HasNames xs → HasNames ys
 names_kept xs ys e h = names_back ys (subst HasNames (sym e) (names_on xs h))
 
@@ -40,21 +42,19 @@ no_column b (a ∷ xs) h out = grind (arith, no_column b xs h.1 out, h.0 b, colu
 
 -- ---- without the empty keys
 
+-- what is left of a list has no empty mask
 full_left : (xs : List Ace) → HasNoEmptyMask (left xs)
 full_left [] = tt
 full_left (a ∷ xs) = grind (arith, full_left xs)
 
-quiet_left : (xs : List Ace) → IsQuiet xs → IsQuiet (left xs)
-quiet_left [] q = tt
-quiet_left (a ∷ xs) q = grind (arith, quiet_left xs q.1, q.0)
-
 -- ---- a list with reduced columns
 
+-- the empty column is irreducible
 nothing_irreducible : IsIrreducible []
 nothing_irreducible [] e after is same = cc
 nothing_irreducible (f ∷ before) e after is same = cc
 
--- the list with reduced columns, at the places of the source
+-- a list with the outline of its source, and with each column reduced
 pub record IsReduction (xs ys : List Ace) : Type 0 where
   pub outline : nothing_left ys ≡ nothing_left xs
   pub columns : (b : ℕ) → b < 21 → column ys b ≡ reduced (column xs b)
@@ -62,7 +62,7 @@ pub record IsReduction (xs ys : List Ace) : Type 0 where
   pub masks : HasMasks xs
   pub tidy : IsTidy ys
 
--- so it is after two passes over an accepted list
+-- the two passes over an accepted list make a reduction
 pub two_passes : (xs ys zs : List Ace) → IsAccepted full xs → nothing_left ys ≡ nothing_left xs
     → ((b : ℕ) → column ys b ≡ unshadowed [] (column xs b)) → nothing_left zs ≡ nothing_left ys → IsTidy zs
     → ((b : ℕ) → b < 21 → column zs b ≡ needed_keys (default (column ys b)) (column ys b)) → IsReduction xs zs
@@ -74,13 +74,13 @@ two_passes xs ys zs accepted e f g tidy h = record {
   tidy = tidy;
 }
 
--- it has no bit that is no right
+-- a reduction has no bit that is not a right
 pub reduction_rights : (xs ys : List Ace) → IsReduction xs ys → (b : ℕ) → has_bit all_rights b ≡ false
     → column ys b ≡ []
 reduction_rights xs ys r b out =
     ⊎_elim (λ l. r.columns b l ∙ ap reduced (no_column b xs r.masks out)) (λ l. r.tidy.low b l) (cases_lt b 21)
 
--- what is left of it is irreducible
+-- a reduction without its empty ACEs is irreducible
 pub reduction_irreducible : (xs ys : List Ace) → IsReduction xs ys → IsIrreducibleList (left ys)
 reduction_irreducible xs ys r =
     irreducible_list (left ys) (full_left ys)
@@ -97,7 +97,7 @@ reduction_irreducible xs ys r =
         (λ l. subst IsIrreducible (sym (r.tidy.low b l)) nothing_irreducible)
         (cases_lt b 21)
 
--- it grants the same
+-- a list with reduced columns grants the same
 pub reduction_grants : (xs ys : List Ace) → ((b : ℕ) → b < 21 → column ys b ≡ reduced (column xs b))
     → SameGrants all_rights xs ys
 reduction_grants xs ys columns = same_grants_from_columns xs ys (λ b inside s valid.
@@ -106,16 +106,8 @@ reduction_grants xs ys columns = same_grants_from_columns xs ys (λ b inside s v
 
 -- ---- the normal form is the only normal list with the grants
 
--- granting the same goes on
-pub grants_through : (xs ys zs : List Ace) → SameGrants all_rights xs ys → SameGrants all_rights ys zs
-    → SameGrants all_rights xs zs
-grants_through xs ys zs f g s valid request within = trans (f s valid request within) (g s valid request within)
-
--- and turns round
-pub grants_back : (xs ys : List Ace) → SameGrants all_rights xs ys → SameGrants all_rights ys xs
-grants_back xs ys f s valid request within = symm (f s valid request within)
-
 -- the normal form is the only normal list that grants the same
 pub only_one : (xs ns ms : List Ace) → IsNormal ns → SameGrants all_rights xs ns → IsNormal ms
     → SameGrants all_rights xs ms → ms ≡ ns
-only_one xs ns ms n f m g = unique ms ns m n (grants_through ms xs ns (grants_back xs ms g) f)
+only_one xs ns ms n f m g =
+    unique ms ns m n ((equivalence all_rights).transitive ms xs ns ((equivalence all_rights).symmetric xs ms g) f)

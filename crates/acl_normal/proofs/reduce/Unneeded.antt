@@ -1,32 +1,29 @@
 -- The needless bits dropped, from the last ACE to the first.
-use Rattle.acl_normal.proofs.Common.{[], Ace, ace, ace_key, AceRef, and_parts, ap, arith, Bool, Column, column, counts, default, default_at, drop, false, first_at, first_kind, get_or-set_other, get_or-set_same, has_bit, has_bit-without, has_opposite, HasOnceColumns, is_either, is_inherit_only, is_needed, is_user, IsOnce, IsTidy, KeepsFirsts, Key, Kind, length, length-set, List, mask_here, may_overlap, needed_keys, None, not, other_kind, Principal, principal_eq, principal_here, principal_of, refl, slice_index_or, slice_set, Some, subst, suc, sym, take_out, true, with_masks, without, without_bits, zero, ℕ, ⊎_elim, ◌&&◌, ◌+◌, ◌-◌, ◌<◌, ◌||◌, ◌∙◌, ◌∷◌, ◌≡◌, ◌≤◌, kind_eq, same_class}
+use Rattle.acl_normal.proofs.Common.{Ace, AceRef, Bool, Column, ColumnKey, HasOnceColumns, IsOnce, IsTidy, KeepsFirsts, Kind, List, None, Principal, Some, [], ace, ace_key, and_parts, ap, arith, column, counts, default, default_at, drop, false, first_at, first_kind, get_or-set_other, get_or-set_same, has_bit, has_bit-without, has_opposite, is_either, is_inherit_only, is_needed, is_user, kind_eq, length, length-set, mask_here, needed_keys, not, other_kind, principal_eq, principal_here, principal_of, refl, same_class, slice_index_or, slice_set, subst, suc, sym, take_out, true, with_masks, without, without_bits, zero, ℕ, ⊎_elim, ◌&&◌, ◌-◌, ◌<◌, ◌||◌, ◌∙◌, ◌∷◌, ◌≡◌}
 use Rattle.std.proofs.lemmas.List.{drop-set-lt}
 use Rattle.acl_normal.specs.declared.reduce.needless.Later.{Later}
 use Rattle.acl_normal.specs.internal.Needed.{is_kept, is_of_kind_and_class, later_mask, opposes, some_of}
 use Rattle.acl_normal.proofs.unique.Bits.{masks_same}
 use Rattle.acl_normal.proofs.unique.Columns.{column_first, column_has}
-use Rattle.acl_normal.proofs.unique.Names.{bytes_eq_turned, principal_eq_same}
+use Rattle.acl_normal.proofs.unique.Names.{principal_eq_same, principal_eq_turned}
 use Rattle.acl_normal.proofs.unique.Normal.{counts_mask}
 use Rattle.acl_normal.proofs.unique.Outline.{length_shown}
 use Rattle.acl_normal.proofs.rows.ByPlace.{mask_there, masked, masked_at, masks_none, quiet_index}
 use Rattle.acl_normal.proofs.rows.FirstPlaces.{first_by_place, first_here}
 use Rattle.acl_normal.proofs.rows.Quiet.{tidy_taken}
-use Rattle.acl_normal.proofs.rows.TakeOut.{first_cases, first_gone, first_kept, IsHere, IsThere, none_behind, once_rest, take_absent, without_absent_bits}
+use Rattle.acl_normal.proofs.rows.TakeOut.{first_gone, first_kept, take_absent, without_absent_bits}
+use Rattle.acl_normal.proofs.rows.FirstAces.{IsHere, IsThere, first_cases, none_behind, once_rest}
+use Rattle.acl_normal.proofs.rows.FreeByPlaces.{not_kind, overlap_by_class}
 
 -- ---- what opposes a key
 
-overlap_is : (p q : Principal) → principal_eq q p ≡ false → may_overlap p q ≡ not (is_user p && is_user q)
-overlap_is p q h = grind (arith, bytes_eq_turned)
-
-not_kind : (j d : Kind) → not (kind_eq j d) ≡ kind_eq j (other_kind d)
-not_kind j d = grind arith
-
+-- an opposite key of a column is the first one, or one of the rest, of others or of users
 opposite_bools : (up uq k x y : Bool)
     → ((not (up && uq) && k) || (x || (not up && y)))
     ≡ (((k && same_class uq false) || x) || (not up && ((k && same_class uq true) || y)))
 opposite_bools up uq k x y = grind arith
 
--- for a principal that stands not in a column: the two classes of its other kind
+-- if a column lacks a principal, an opposite key is one of the other kind in a class that overlaps
 opposite_is : (d : Kind) (p : Principal) (c : Column) → first_kind (is_either p p) c ≡ None
     → has_opposite d p c ≡ (some_of (other_kind d) false c || (not (is_user p) && some_of (other_kind d) true c))
 opposite_is d p [] h = grind arith
@@ -39,11 +36,11 @@ opposite_is d p ((q, j) ∷ c) h = go (principal_eq q p) refl (opposite_is d p c
         || (not (is_user p) && some_of (other_kind d) true ((q, j) ∷ c)))
     go true e ih = cc (rw e at h)
     go false e ih =
-        rw (overlap_is p q e, not_kind j d, ih (rw e at h))
+        rw (overlap_by_class p q (principal_eq_turned p q ∙ e), not_kind j d, ih (rw e at h))
         (opposite_bools (is_user p) (is_user q) (kind_eq j (other_kind d)) (some_of (other_kind d) false c)
         (some_of (other_kind d) true c))
 
--- what the masks say of a key is whether it is needed
+-- if a column lacks a principal, what the masks say of a key is whether it is needed
 kept_is : (d k : Kind) (p : Principal) (c : Column) (o : Bool) → first_kind (is_either p p) c ≡ None
     → o ≡ (some_of (other_kind k) false c || (not (is_user p) && some_of (other_kind k) true c))
     → is_kept d (p, k) o ≡ is_needed d p k c
@@ -51,25 +48,26 @@ kept_is d k p c o h is = grind (arith, opposite_is d p c h)
 
 -- ---- one key more is dealt with
 
--- the bits of a key that the masks of later keys and of what everyone is allowed call needless
-abbrev pub AreNeedless : ℕ → Later → Key → ℕ → ℕ → Type 0
+-- the bits of a mask for which the masks of later keys and of what everyone is allowed say that the key is not needed
+abbrev pub AreNeedless : ℕ → Later → ColumnKey → ℕ → ℕ → Type 0
 AreNeedless allowed l key mask m = (b : ℕ)
     → has_bit m b ≡ (has_bit mask b && not (is_kept (default_at allowed b) key (opposes l key b)))
 
--- the masks tell what later keys there are
+-- the masks show which later keys there are
 abbrev pub AreLater : Later → List Ace → Type 0
 AreLater l xs = (k : Kind) (users : Bool) (b : ℕ) → has_bit (later_mask l k users) b ≡ some_of k users (column xs b)
 
--- they are those before, with the bits of one more key
-abbrev pub IsWith : Later → Key → ℕ → Later → Type 0
+-- masks of later keys, with the bits of one more key
+abbrev pub IsWith : Later → ColumnKey → ℕ → Later → Type 0
 IsWith l key mask l' = (k : Kind) (users : Bool) (b : ℕ) → has_bit (later_mask l' k users) b
     ≡ (has_bit (later_mask l k users) b || (is_of_kind_and_class k users key && has_bit mask b))
 
+-- a bit is left where it counts and is needed
 left_bools : (x p m k n : Bool) → (x && p) ≡ x → m ≡ (x && not k) → ((x && p) ≡ true → k ≡ n)
     → ((x && not m) && p) ≡ ((x && p) && n)
 left_bools x p m k n e f g = grind arith
 
--- the column with one ACE more that is dealt with
+-- an ACE without its needless bits, before the needed keys behind it, has the needed keys of both
 needed_here : (b allowed : ℕ) (l : Later) (a : Ace) (m : ℕ) (tail back : List Ace)
     → (is_inherit_only a ≡ true → a.mask ≡ 0) → IsOnce (column (a ∷ back) b) → AreLater l back
     → AreNeedless allowed l (ace_key a) a.mask m
@@ -102,7 +100,7 @@ needed_here b allowed l a m tail back quiet once later needless ih =
         (is_kept d (ace_key a) (opposes l (ace_key a) b)) (is_needed d (principal_of a) a.kind (column back b))
         (counts_mask b a quiet) (needless b) kept)
 
--- the masks with one ACE more
+-- with the bits of an ACE, the masks show which keys there are from that ACE on
 later_more : (l l' : Later) (a : Ace) (back : List Ace) → (is_inherit_only a ≡ true → a.mask ≡ 0)
     → AreLater l back → IsWith l (ace_key a) a.mask l' → AreLater l' (a ∷ back)
 later_more l l' a back quiet later more k users b =
@@ -110,7 +108,7 @@ later_more l l' a back quiet later more k users b =
 
 -- ---- bits are cleared in one mask
 
--- bits cleared in the mask at a place are taken out of the list, where the first key that has one is there
+-- to clear bits in a mask takes them out of a principal, if the principal's first ACE with each is there
 cleared_there : (p : Principal) (m : ℕ) (aces : List AceRef) (masks : List ℕ) (i : ℕ)
     → HasOnceColumns (with_masks aces masks)
     → ((b : ℕ) → has_bit m b ≡ true → (j : Kind) × (first_at b p (with_masks aces masks) ≡ Some (j, i)))
@@ -173,7 +171,7 @@ cleared_there p m (x ∷ aces) (n ∷ masks) (suc i) once first =
           (λ (t : IsThere b p a tail f.0 (suc i)). t) (first_cases b p a tail f.0 (suc i) f.1),
     )
 
--- to take bits of a principal out changes the place of none
+-- to take bits of a principal out moves the first ACE of none
 taken_firsts : (p : Principal) (m : ℕ) (xs : List Ace) → KeepsFirsts xs (take_out p m xs)
 taken_firsts p m xs b q k i h = grind (arith, first_kept b p q m xs, first_gone b p m xs, principal_eq_same p q)
 
@@ -183,7 +181,7 @@ taken_firsts p m xs b q k i h = grind (arith, first_kept b p q m xs, first_gone 
 abbrev pub shown_from : List AceRef → List ℕ → ℕ → List Ace
 shown_from aces masks i = with_masks (drop i aces) (drop i masks)
 
--- the ACE at the place, and those behind it
+-- the ACEs from a place on are the one there with its mask, and those behind it
 shown_next : (aces : List AceRef) (masks : List ℕ) (i : ℕ) (x : AceRef) → i < length aces → length masks ≡ length aces
     → x ≡ slice_index_or aces i x
     → shown_from aces masks i ≡ masked (ace x) (slice_index_or masks i 0) ∷ shown_from aces masks (suc i)
@@ -193,7 +191,7 @@ shown_next (y ∷ aces) (n ∷ masks) zero x l e is = ap (λ v. masked (ace v) n
 shown_next (y ∷ aces) (n ∷ masks) (suc i) x l e is =
     shown_next aces masks i x (omega (arith, l)) (omega (arith, e)) is
 
--- they have each principal once, if the whole list has
+-- the ACEs from a place on have each principal once, if the whole list has
 once_from : (aces : List AceRef) (masks : List ℕ) (i b : ℕ) → IsOnce (column (with_masks aces masks) b)
     → IsOnce (column (shown_from aces masks i) b)
 once_from aces masks zero b h = h
@@ -209,9 +207,9 @@ pub record Drops (aces : List AceRef) (given masks : List ℕ) (i : ℕ) (l : La
       ≡ needed_keys (default (column (with_masks aces given) b)) (column (shown_from aces given i) b)
   pub later : AreLater l (shown_from aces given i)
 
--- what the loop keeps, when so many keys are dealt with
-pub record Dropping (aces : List AceRef) (given masks : List ℕ) (done : ℕ) (l : Later) : Type 0 where
-  pub drops : Drops aces given masks (length aces - done) l
+-- what the loop keeps, when the keys from a place on are dealt with
+pub record Dropping (aces : List AceRef) (given masks : List ℕ) (place : ℕ) (l : Later) : Type 0 where
+  pub drops : Drops aces given masks place l
   pub tidy : IsTidy (with_masks aces masks)
   pub firsts : KeepsFirsts (with_masks aces given) (with_masks aces masks)
 
@@ -230,6 +228,7 @@ pub record IsTurn (aces : List AceRef) (given masks : List ℕ) (place allowed m
 abbrev pub clear_at : List ℕ → ℕ → ℕ → List ℕ
 clear_at masks place m = slice_set masks place (without (slice_index_or masks place 0) m)
 
+-- when the needless bits of a place are cleared, the keys from that place on are dealt with
 drops_more : (aces : List AceRef) (given masks : List ℕ) (place allowed m : ℕ) (x : AceRef) (l l' : Later)
     → IsTidy (with_masks aces given) → IsTidy (with_masks aces masks) → Drops aces given masks (suc place) l
     → IsTurn aces given masks place allowed m x l l' → Drops aces given (clear_at masks place m) place l'
@@ -275,28 +274,16 @@ drops_more aces given masks place allowed m x l l' whole tidy d t = record {
         quiet_index (with_masks aces masks) place a tidy.quiet
         (omega (arith, t.within, length_shown aces masks t.count)) (masked_at aces masks place x t.within t.count t.is)
 
--- a turn of the loop
-pub dropping_more : (aces : List AceRef) (given masks : List ℕ) (done allowed m : ℕ) (x : AceRef) (l l' : Later)
-    → IsTidy (with_masks aces given) → done < length aces → Dropping aces given masks done l
-    → IsTurn aces given masks (length aces - 1 - done) allowed m x l l'
-    → Dropping aces given (clear_at masks (length aces - 1 - done) m) (done + 1) l'
-dropping_more aces given masks done allowed m x l l' whole low d t = record {
-  drops = subst (λ i. Drops aces given (clear_at masks place m) i l') next
-      (drops_more aces given masks place allowed m x l l' whole d.tidy
-      (subst (λ i. Drops aces given masks i l) this d.drops) t);
+-- a turn keeps what the loop keeps
+pub dropping_more : (aces : List AceRef) (given masks : List ℕ) (place allowed m : ℕ) (x : AceRef) (l l' : Later)
+    → IsTidy (with_masks aces given) → Dropping aces given masks (suc place) l
+    → IsTurn aces given masks place allowed m x l l' → Dropping aces given (clear_at masks place m) place l'
+dropping_more aces given masks place allowed m x l l' whole d t = record {
+  drops = drops_more aces given masks place allowed m x l l' whole d.tidy d.drops t;
   tidy = subst IsTidy (sym taken) (tidy_taken p m shown d.tidy);
   firsts = λ b q k i h. d.firsts b q k i (taken_firsts p m shown b q k i (ap (first_at b q) (sym taken) ∙ h));
 }
   where
-    place : ℕ
-    place = length aces - 1 - done
-
-    this : length aces - done ≡ suc place
-    this = omega (arith, low)
-
-    next : place ≡ length aces - (done + 1)
-    next = omega (arith, low)
-
     shown : List Ace
     shown = with_masks aces masks
 
@@ -319,14 +306,12 @@ dropping_more aces given masks done allowed m x l l' whole low d t = record {
               d.tidy.quiet (has b h) inside),
         ))
 
--- after the last turn
-pub dropping_end : (aces : List AceRef) (given masks : List ℕ) (done : ℕ) (l : Later)
-    → Dropping aces given masks done l → length aces ≤ done → (b : ℕ) → column (with_masks aces masks) b
+-- after the last turn each column has just its needed keys
+pub dropping_end : (aces : List AceRef) (given masks : List ℕ) (l : Later) → Dropping aces given masks 0 l
+    → (b : ℕ) → column (with_masks aces masks) b
     ≡ needed_keys (default (column (with_masks aces given) b)) (column (with_masks aces given) b)
-dropping_end aces given masks done l d past b =
-    let none : length aces - done ≡ 0 = omega (arith, past) in
-    (subst (λ i. Drops aces given masks i l) none d.drops).columns b
+dropping_end aces given masks l d b = d.drops.columns b
 
--- what stands first stays first twice
+-- a list that keeps the first ACEs of one that keeps those of a third keeps those of the third
 pub firsts_through : (xs ys zs : List Ace) → KeepsFirsts xs ys → KeepsFirsts ys zs → KeepsFirsts xs zs
 firsts_through xs ys zs f g b p k i h = f b p k i (g b p k i h)

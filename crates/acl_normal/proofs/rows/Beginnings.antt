@@ -6,29 +6,25 @@ use Rattle.acl_normal.specs.internal.rows.Heads.{AllBegin, IsHeadOf, is_whole}
 use Rattle.acl_normal.specs.internal.rows.RowNumbers.{AreHeaded, DoHeadsTell, tail_here}
 use Rattle.acl_normal.proofs.rows.HeadOrder.{lesser_head, ranks_alike, whole_same}
 use Rattle.acl_normal.proofs.Whoms.{compared_by_whos}
-use Rattle.acl_normal.proofs.rows.RowNumbers.{named_in}
+use Rattle.acl_normal.proofs.rows.ByPlace.{named_in}
+use Rattle.std.proofs.lemmas.List.{length-take}
 
--- the first bytes of the first bytes
+-- the first bytes of the first bytes are the first bytes
 take_within : (k n : ℕ) (xs : List ℕ) → k ≤ n → take k (take n xs) ≡ take k xs
 take_within zero n xs l = refl
 take_within (suc k) zero xs l = absurd (omega (arith, l))
 take_within (suc k) (suc n) [] l = refl
 take_within (suc k) (suc n) (x ∷ xs) l = ap (λ v. x ∷ v) (take_within k n xs (omega (arith, l)))
 
-take_length : (k : ℕ) (xs : List ℕ) → length (take k xs) ≤ length xs
-take_length zero xs = omega arith
-take_length (suc k) [] = omega arith
-take_length (suc k) (x ∷ xs) = omega (arith, take_length k xs)
-
--- a name begins with less, too
+-- a name that begins with some bytes begins with the first of these bytes
 begins_shorter : (start less : List ℕ) (p : Principal) → less ≡ take (length less) start → BeginsWith start p
     → BeginsWith less p
 begins_shorter start less p e h name n =
     e ∙ ap (take (length less)) (h name n)
     ∙ take_within (length less) (length start) name
-    (omega (arith, ap length e, take_length (length less) start))
+    (omega (arith, ap length e, length-take (length less) start))
 
--- one ACE more
+-- if the next name and those before begin with the shorter bytes, all names up to the next one do
 pub begin_more : (aces : List AceRef) (start less : List ℕ) (i : ℕ) (a : AceRef) → i < length aces
     → a ≡ slice_index_or aces i a → less ≡ take (length less) start → BeginsWith less (principal_of (ace a))
     → ((k : ℕ) → k < i → BeginsWith start (principal_here (aces_in aces) k))
@@ -46,7 +42,7 @@ pub record IsHeaded (common : ℕ) (xs : List Ace) (n : HeadedPlace) : Type 0 wh
   pub within : n.place < length xs
   pub head : IsHeadOf common n.head (principal_here xs n.place)
 
--- heads of what is behind a common beginning tell
+-- heads of the names behind a common beginning show the order of the places
 pub heads_tell : (start : List ℕ) (xs : List Ace) (places : List HeadedPlace) → AllBegin start xs
     → All (IsHeaded (length start) xs) places → DoHeadsTell xs places
 heads_tell start xs places begin h = record {
@@ -74,7 +70,7 @@ heads_tell start xs places begin h = record {
     is : (n : HeadedPlace) → Contains places n → IsHeaded (length start) xs n
     is n c = subst (IsHeaded (length start) xs) c.2 (h c.0 n c.1)
 
--- the place of an ACE of the code, and the head of whom it names
+-- the place of an ACE and the head of its principal make a headed place
 pub headed_here : (common : ℕ) (aces : List AceRef) (i : ℕ) (a : AceRef) (head : ℕ) {p : Principal} → i < length aces
     → a ≡ slice_index_or aces i a → p ≡ principal_of (ace a) → IsHeadOf common head p
     → IsHeaded common (aces_in aces) (record { head = head; place = i })
@@ -83,7 +79,7 @@ headed_here common aces i a head l here whom is = record {
   head = subst (IsHeadOf common head) (whom ∙ named_in aces i a l here) is;
 }
 
--- all places, with their heads
+-- after the last place, all places have their heads
 pub headed_all : (start : List ℕ) (aces : List AceRef) (places : List HeadedPlace) (i : ℕ) → length aces ≤ i
     → AllBegin start (aces_in aces)
     → map (named_at (aces_in aces)) places ≡ named_from 0 (aces_in (take i aces))

@@ -1,71 +1,27 @@
 -- One bit of a principal taken out of the rows.
-use Rattle.acl_normal.proofs.Common.{[], and_parts, ap, arith, Bool, cases_eq, cond, eq-eqb, Equal, false, false_from_ne_true, first_at, get_or-set_other, get_or-set_same, has_bit, is_at, is_eq, is_user, Kind, kind_eq, length, List, list_any, nat_cmp, nat_cmp_is, ne_eqb, Principal, refl, same_class, slice_index_or, slice_set, slot_of, Some, suc, sym, take_out, true, waits, zero, ℕ, ⊎_elim, ◌&&◌, ◌<◌, ◌==◌, ◌^◌, ◌∙◌, ◌∷◌, ◌≡◌, ◌≢◌}
-use Rattle.std.specs.Cmp.{Equal-is}
+use Rattle.acl_normal.proofs.Common.{and_parts, ap, arith, Bool, cases_eq, cond, false, false_from_ne_true, first_at, get_or-set_other, get_or-set_same, is_at, is_user, Kind, kind_eq, length, List, list_any, nat_cmp, ne_eqb, Principal, refl, same_class, slice_index_or, slice_set, slot_of, Some, sym, take_out, true, waits, ℕ, ⊎_elim, ◌&&◌, ◌<◌, ◌^◌, ◌∙◌, ◌≡◌, ◌≢◌, one_bit}
 use Rattle.std.specs.Vec.{with_item}
 use Rattle.std.specs.declared.collections.BTreeSet.{BTreeSet}
 use Rattle.std.proofs.Common.{Global}
 use Rattle.acl_normal.specs.declared.merged.MergedRows.TheInside.{Inside}
 use Rattle.acl_normal.specs.internal.rows.Merged.{IsMerged}
 use Rattle.acl_normal.specs.internal.rows.Waiting.{NoPlaces}
-use Rattle.acl_normal.proofs.unique.Free.{kind_eq_same}
-use Rattle.acl_normal.proofs.unique.Bits.{has_power, power_has}
-use Rattle.std.proofs.lemmas.Map.Lookups.{exact_unsigned}
-use Rattle.acl_normal.proofs.rows.TakeOut.{waits_kept, waits_gone, waits_apart, waits_first, none_taken, once_taken}
+use Rattle.acl_normal.proofs.unique.Bits.{power_is}
+use Rattle.acl_normal.proofs.rows.TakeOut.{waits_kept, waits_gone, waits_apart, none_taken, once_taken}
+use Rattle.acl_normal.proofs.unique.Names.{kind_eq_same}
+use Rattle.acl_normal.proofs.rows.Slots.{slot_below, slot_same, class_same, is_eq_itself, is_eq_same}
+use Rattle.acl_normal.proofs.rows.FirstAces.{waits_first}
 
--- within the list the default plays no part
-pub same_default : {A : Type 0} (xs : List A) (i : ℕ) (d e : A) → i < length xs
-    → slice_index_or xs i d ≡ slice_index_or xs i e
-same_default [] i d e h = absurd (omega arith)
-same_default (x ∷ xs) zero d e h = refl
-same_default (x ∷ xs) (suc i) d e h = same_default xs i d e (omega arith)
-
--- a slot is one of 84
-pub slot_below : (k : Kind) (u : Bool) (b : ℕ) → b < 21 → slot_of k u b < 84
-slot_below k u b h = grind arith
-
--- a slot tells its kind, class and bit
-pub slot_same : (k j : Kind) (u v : Bool) (b c : ℕ) → slot_of k u b ≡ slot_of j v c → (k ≡ j) × (u ≡ v) × (b ≡ c)
-slot_same k j u v b c h = (grind arith, grind arith, grind arith)
-
--- classes that are told to be the same are
-pub class_same : (u v : Bool) → same_class u v ≡ true → u ≡ v
-class_same true true h = refl
-class_same false false h = refl
-class_same _ _ h = cc
-
--- a class is the same as itself
-pub same_class_itself : (v : Bool) → same_class v v ≡ true
-same_class_itself true = refl
-same_class_itself false = refl
-
--- a power of two has its one bit
-pub power_is : (b i : ℕ) → has_bit (2 ^ b) i ≡ (i == b)
-power_is b i = ⊎_elim (λ e. here e) (λ n. there n) (cases_eq i b)
-  where
-    here : i ≡ b → has_bit (2 ^ b) i ≡ (i == b)
-    here e = ap (has_bit (2 ^ b)) e ∙ has_power b ∙ sym (eq-eqb i b e)
-
-    there : (i ≡ b → ⊥) → has_bit (2 ^ b) i ≡ (i == b)
-    there n = false_from_ne_true _ (λ t. n (power_has b i t)) ∙ sym (ne_eqb i b n)
-
--- a place is found at itself
-pub is_eq_itself : (i : ℕ) → is_eq (nat_cmp i i) ≡ true
-is_eq_itself i = ap is_eq (sym (nat_cmp_is i i Equal refl))
-
--- a place that is found is the same
-pub is_eq_same : (i l : ℕ) → is_eq (nat_cmp i l) ≡ true → i ≡ l
-is_eq_same i l t = exact_unsigned i l ((Equal-is (nat_cmp i l)).0 t)
-
--- what the removal of a place leaves
+-- the new places are the old ones without one
 abbrev pub Without : ℕ → List ℕ → List ℕ → Type 0
 Without i old new =
     (q : ℕ) → list_any (is_at (nat_cmp q)) new ≡ cond (is_at (nat_cmp i) q) false (list_any (is_at (nat_cmp q)) old)
 
--- a place that was removed is no more
+-- a place that was removed is not there any more
 pub removed_here : (i : ℕ) (old new : List ℕ) → Without i old new → list_any (is_at (nat_cmp i)) new ≡ false
 removed_here i old new h = h i ∙ rw (is_eq_itself i) refl
 
--- and the others are
+-- each other place is there as before
 pub removed_apart : (i l : ℕ) (old new : List ℕ) → Without i old new → l ≢ i
     → list_any (is_at (nat_cmp l)) new ≡ list_any (is_at (nat_cmp l)) old
 removed_apart i l old new h n =
@@ -103,7 +59,7 @@ emit_right s p b j i set right low first less = record {
         here : l ≡ i → list_any (is_at (nat_cmp l)) set.keys ≡ waits j (is_user p) b (take_out p (2 ^ b) s.rest) l
         here e =
             rw e (removed_here i _ set.keys less
-            ∙ sym (waits_gone j (is_user p) b p (2 ^ b) s.rest j i (has_power b) first))
+            ∙ sym (waits_gone j (is_user p) b p (2 ^ b) s.rest j i (one_bit b) first))
 
         there : (l ≡ i → ⊥)
             → list_any (is_at (nat_cmp l)) set.keys ≡ waits j (is_user p) b (take_out p (2 ^ b) s.rest) l
@@ -130,7 +86,7 @@ emit_right s p b j i set right low first less = record {
 
             here : l ≡ i → waits k u b (take_out p (2 ^ b) s.rest) l ≡ waits k u b s.rest l
             here f =
-                rw f (waits_gone k u b p (2 ^ b) s.rest j i (has_power b) first
+                rw f (waits_gone k u b p (2 ^ b) s.rest j i (one_bit b) first
                 ∙ sym (waits_first k u b p s.rest j i first ∙ differs))
 
     places : (k : Kind) (u : Bool) (c l : ℕ) → c < 21

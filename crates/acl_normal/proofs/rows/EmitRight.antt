@@ -2,13 +2,14 @@
 use Rattle.std.specs.Vec.{with_item}
 use Rattle.std.specs.declared.collections.BTreeSet.{BTreeSet}
 use Rattle.std.proofs.Common.{◌≡◌, ◌<◌, ◌^◌, Global}
-use Rattle.acl_normal.proofs.Common.{Ace, ap, arith, Bool, first_at, has_bit, is_user, Kind, length, List, Principal, slice_index_or, slot_of, Some, subst, take_out, true, ℕ, ◌∙◌}
+use Rattle.acl_normal.proofs.Common.{Ace, ap, arith, Bool, first_at, has_bit, is_user, Kind, length, List, Principal, slice_index_or, slot_of, Some, subst, take_out, true, ℕ, ◌∙◌, get_or_default}
 use Rattle.acl_perm.specs.Bits.{all_rights}
 use Rattle.acl_normal.specs.internal.rows.Merged.{IsMerged}
 use Rattle.acl_normal.specs.internal.rows.Waiting.{NoPlaces}
 use Rattle.acl_normal.specs.declared.merged.MergedRows.TheInside.{Inside}
-use Rattle.acl_normal.proofs.rows.BitTaken.{emit_right, same_default, slot_below, Without}
-use Rattle.acl_normal.proofs.rows.TakeOut.{right_there}
+use Rattle.acl_normal.proofs.rows.BitTaken.{emit_right, Without}
+use Rattle.acl_normal.proofs.rows.Slots.{slot_below}
+use Rattle.acl_normal.proofs.rows.FirstAces.{right_there}
 
 -- what is left of a principal, and its set, stay merged rows
 pub emit_right_at : (s : Inside) (p : Principal) (b m : ℕ) (j : Kind) (u : Bool) (i slot : ℕ)
@@ -26,7 +27,7 @@ emit_right_at s p b m j u i slot old set d rest right low first user is here les
     below = omega (arith, at, slot_below j (is_user p) b low, s.waiting.ok, right.sets)
 
     there : old ≡ slice_index_or s.waiting.items (slot_of j (is_user p) b) NoPlaces
-    there = here ∙ same_default s.waiting.items slot d NoPlaces below
+    there = here ∙ get_or_default s.waiting.items slot d NoPlaces below
         ∙ ap (λ v. slice_index_or s.waiting.items v NoPlaces) at
 
     left : rest ≡ take_out p (2 ^ b) s.rest

@@ -1,11 +1,12 @@
--- Where each right of a principal stands: the place of its first ACE with the right.
-use Rattle.acl_normal.proofs.Common.{[], Ace, and_from, and_parts, ap, AreRowNumbers, arith, cases_lt, column, counts, false, first_at, first_place_of, has_bit, is_le, is_user, IsByPrincipal, IsOnce, IsQuiet, IsRowOf, Key, key_here, Kind, kind_eq, length, List, mask_here, None, Option, option_map, Principal, principal_cmp, principal_exact, principal_here, principal_of, principal_order, refl, row_of, same_class, same_Some, slice_index_or, Some, subst, suc, sym, true, waits, zero, ℕ, ⊎_elim, ◌&&◌, ◌<◌, ◌∙◌, ◌∷◌, ◌≡◌, ◌≤◌}
-use Rattle.acl_normal.proofs.emit.Walk.{key_from_first, stands_at}
-use Rattle.acl_normal.proofs.rows.BitTaken.{same_class_itself}
+-- Where each right of a principal is: the place of its first ACE with the right.
+use Rattle.acl_normal.proofs.Common.{Ace, AreRowNumbers, ColumnKey, IsByPrincipal, IsOnce, IsQuiet, IsRowOf, Kind, List, None, Option, Principal, Some, [], and_from, and_parts, ap, arith, cases_lt, column, counts, false, first_at, first_place_of, has_bit, is_le, is_user, key_here, kind_eq, length, mask_here, option_map, principal_cmp, principal_exact, principal_here, principal_of, principal_order, refl, row_of, same_Some, same_class, slice_index_or, subst, suc, sym, true, waits, zero, ℕ, ⊎_elim, ◌&&◌, ◌<◌, ◌∙◌, ◌∷◌, ◌≡◌, ◌≤◌}
 use Rattle.acl_normal.proofs.rows.Rows.{named_here, row_same}
-use Rattle.acl_normal.proofs.rows.TakeOut.{IsHere, IsThere, first_cases}
 use Rattle.acl_normal.proofs.unique.Normal.{counts_mask}
-use Rattle.acl_normal.proofs.unique.Free.{kind_eq_itself}
+use Rattle.acl_normal.proofs.unique.Bits.{no_bits_of_zero}
+use Rattle.acl_normal.proofs.unique.Names.{kind_eq_itself}
+use Rattle.acl_normal.proofs.rows.Slots.{same_class_itself}
+use Rattle.acl_normal.proofs.rows.WaitingKeys.{key_at, key_from_first}
+use Rattle.acl_normal.proofs.rows.FirstAces.{IsHere, IsThere, first_cases}
 
 -- the first ACE of a principal with the bit has the kind of the ACE at its place
 pub first_by_place : (b : ℕ) (p : Principal) (xs : List Ace) (i : ℕ) → first_place_of b p xs ≡ Some i
@@ -16,10 +17,10 @@ first_by_place b p xs i h = go (first_at b p xs) refl
     go None e = cc (rw e at h)
     go (Some (j, l)) e =
         let same : l ≡ i = same_Some l i (rw e at h) in
-        let kind : (key_here xs l).1 ≡ j = ap (λ (k : Key). k.1) (key_from_first b p xs j l e) in
+        let kind : (key_here xs l).1 ≡ j = ap (λ (k : ColumnKey). k.1) (key_from_first b p xs j l e) in
         e ∙ ap (λ v. Some (v, l)) (sym kind) ∙ ap (λ v. Some ((key_here xs v).1, v)) same
 
--- which is one of the list
+-- the place of a principal's first ACE is one of the list
 pub first_in : (b : ℕ) (p : Principal) (xs : List Ace) (e : Kind × ℕ) → first_at b p xs ≡ Some e → e.1 < length xs
 first_in b p [] e h = cc
 first_in b p (a ∷ xs) (j, i) h = ⊎_elim
@@ -27,29 +28,32 @@ first_in b p (a ∷ xs) (j, i) h = ⊎_elim
     (λ (there : IsThere b p a xs j i). omega (arith, there.place, first_in b p xs (j, there.before) there.first))
     (first_cases b p a xs j i h)
 
--- without a place there is no such ACE
+-- if there is no first place, there is no first ACE
 pub first_by_none : (b : ℕ) (p : Principal) (xs : List Ace) → first_place_of b p xs ≡ None → first_at b p xs ≡ None
 first_by_none b p xs h = grind arith
 
--- what has the bit waits in its kind and class
-waits_here : (b : ℕ) (xs : List Ace) (i : ℕ) → IsQuiet xs → has_bit (mask_here xs i) b ≡ true → i < length xs
-    → waits (key_here xs i).1 (is_user (key_here xs i).0) b xs i ≡ true
-waits_here b [] i quiet has l = absurd (omega (arith, l))
-waits_here b (a ∷ xs) zero quiet has l =
+-- an ACE of a quiet list that has the bit waits in its kind and class
+pub waits_here : (b : ℕ) (xs : List Ace) (i : ℕ) → IsQuiet xs → has_bit (mask_here xs i) b ≡ true
+    → waits ((key_here xs i).1) (is_user ((key_here xs i).0)) b xs i ≡ true
+waits_here b [] i quiet h = absurd (clash (sym h ∙ no_bits_of_zero b))
+  where
+    clash : true ≡ false → ⊥
+    clash e = cc
+waits_here b (a ∷ xs) zero quiet h =
     and_from (counts b a) (kind_eq a.kind a.kind && same_class (is_user (principal_of a)) (is_user (principal_of a)))
-    (counts_mask b a quiet.0 ∙ has)
+    (counts_mask b a quiet.0 ∙ h)
     (and_from (kind_eq a.kind a.kind) (same_class (is_user (principal_of a)) (is_user (principal_of a)))
     (kind_eq_itself a.kind) (same_class_itself (is_user (principal_of a))))
-waits_here b (a ∷ xs) (suc i) quiet has l = waits_here b xs i quiet.1 has (omega (arith, l))
+waits_here b (a ∷ xs) (suc i) quiet h = waits_here b xs i quiet.1 h
 
--- and is the first of its principal, in a column with each principal once
+-- an ACE that has the bit is the first of its principal, in a column with each principal once
 pub first_here : (b : ℕ) (xs : List Ace) (i : ℕ) → IsOnce (column xs b) → IsQuiet xs → has_bit (mask_here xs i) b ≡ true
     → i < length xs → first_place_of b (principal_here xs i) xs ≡ Some i
 first_here b xs i once quiet has l =
-    ap (option_map (λ (e : Kind × ℕ). e.1)) (stands_at (key_here xs i).1 (is_user (key_here xs i).0) b xs i once
-    (waits_here b xs i quiet has l)).first
+    ap (option_map (λ (e : Kind × ℕ). e.1)) (key_at (key_here xs i).1 (is_user (key_here xs i).0) b xs i once
+    (waits_here b xs i quiet has)).first
 
--- what stands first has the bit
+-- the first ACE of a principal with the bit has it
 pub has_first : (b : ℕ) (p : Principal) (xs : List Ace) (j : Kind) (i : ℕ) → first_at b p xs ≡ Some (j, i)
     → has_bit (mask_here xs i) b ≡ true
 has_first b p [] j i h = cc
@@ -58,18 +62,18 @@ has_first b p (a ∷ xs) j i h = ⊎_elim
     (λ (there : IsThere b p a xs j i). rw there.place (has_first b p xs j there.before there.first))
     (first_cases b p a xs j i h)
 
--- the ACE at a place that is first of a principal names it
+-- the ACE at the first place of a principal names it
 pub named_there : (b : ℕ) (p : Principal) (xs : List Ace) (i : ℕ) → first_place_of b p xs ≡ Some i
     → principal_here xs i ≡ p
-named_there b p xs i h = ap (λ (k : Key). k.0) (key_from_first b p xs _ i (first_by_place b p xs i h))
+named_there b p xs i h = ap (λ (k : ColumnKey). k.0) (key_from_first b p xs _ i (first_by_place b p xs i h))
 
 -- ---- the places of a row, in the order of the principals
 
--- who stands no higher than another and no lower is the same
+-- of two different principals not each is at most the other
 both_le : (a b : Principal) → is_le (principal_cmp a b) ≡ true → is_le (principal_cmp b a) ≡ true → a ≡ b
 both_le a b h l = grind (arith, principal_order.reversed a b, principal_exact a b)
 
--- between two places of a principal all are of it
+-- each place between two of one principal, in the order, is of that principal
 between : (p : Principal) (xs : List Ace) (order : List ℕ) (i j k : ℕ) → IsByPrincipal xs order → i ≤ j → j ≤ k
     → k < length xs → principal_here xs (slice_index_or order i 0) ≡ p
     → principal_here xs (slice_index_or order k 0) ≡ p → principal_here xs (slice_index_or order j 0) ≡ p
@@ -85,7 +89,7 @@ abbrev pub ArePassed : ℕ → List Ace → List ℕ → ℕ → ℕ → Type 0
 ArePassed b xs order from to =
     (j : ℕ) → from ≤ j → j < to → has_bit (mask_here xs (slice_index_or order j 0)) b ≡ false
 
--- where none of the places of a row had the bit up to one of another row, or to the last, its principal has none
+-- if no place of a row has the bit, the principal of the row has no ACE with it
 pub row_passed : (b : ℕ) (xs : List Ace) (rows order : List ℕ) (row to : ℕ) (p : Principal) → AreRowNumbers xs rows
     → IsByPrincipal xs order → IsRowOf row p xs → row ≤ to → ArePassed b xs order row to
     → (to < length xs → slice_index_or rows (slice_index_or order to 0) 0 ≡ row → ⊥) → first_place_of b p xs ≡ None
@@ -112,7 +116,7 @@ row_passed b xs rows order row to p numbers by at from passed other = go (first_
         clash : true ≡ false → ⊥
         clash t = cc
 
--- a place of the row that has the bit is that of its principal's first ACE with it
+-- a place of a row that has the bit is the first place of the row's principal with it
 pub row_has : (b : ℕ) (xs : List Ace) (rows : List ℕ) (row i : ℕ) (p : Principal) → AreRowNumbers xs rows
     → IsRowOf row p xs → IsOnce (column xs b) → IsQuiet xs → i < length xs → slice_index_or rows i 0 ≡ row
     → has_bit (mask_here xs i) b ≡ true → first_place_of b p xs ≡ Some i

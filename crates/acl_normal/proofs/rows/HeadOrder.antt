@@ -8,19 +8,25 @@ use Rattle.acl_perm.specs.Order.{principal_rank}
 use Rattle.acl_perm.specs.declared.principal.Principal.{Principal as PrincipalRef}
 use Rattle.acl_nfs4.specs.internal.Progress.{IsBytes}
 use Rattle.acl_normal.specs.internal.rows.Heads.{HasHead, IsHeadOf, count_to, head_from, is_whole, principal_head}
+use Rattle.acl_nfs4.proofs.Exports.{IsBytes-drop}
 
+-- a number that is less than another is less in the order
 less : (x y : ℕ) → x < y → nat_cmp x y ≡ Less
 less x y l = sym (nat_cmp_is x y Less l)
 
+-- equal numbers are equal in the order
 equal : (x y : ℕ) → x ≡ y → nat_cmp x y ≡ Equal
 equal x y e = sym (nat_cmp_is x y Equal e)
 
+-- a number that is greater than another is greater in the order
 greater : (x y : ℕ) → y < x → nat_cmp x y ≡ Greater
 greater x y l = sym (nat_cmp_is x y Greater l)
 
+-- bytes without the first one are bytes
 tail_bytes : (b : ℕ) (xs : List ℕ) → IsBytes (b ∷ xs) → IsBytes xs
 tail_bytes b xs h i = h (suc i)
 
+-- the empty list is one of bytes
 no_bytes : IsBytes []
 no_bytes i = omega arith
 
@@ -30,12 +36,12 @@ count_most zero xs = omega arith
 count_most (suc n) [] = omega arith
 count_most (suc n) (b ∷ xs) = omega (arith, count_most n xs)
 
--- the count stands in the lowest byte
+-- the lowest byte of a head is the count
 count_lowest : (n m c : ℕ) (xs : List ℕ) → c < 256 → head_from m n xs c % 256 ≡ c
 count_lowest zero m c xs l = omega (arith, l)
 count_lowest (suc n) m c xs l = count_lowest n (m * 256 + get_or xs 0 0) c (drop 1 xs) l
 
--- what stands before decides
+-- the number before the bytes decides which of two heads is less
 before_decides : (n m k c d : ℕ) (xs ys : List ℕ) → c < 256 → IsBytes xs → m < k
     → head_from m n xs c < head_from k n ys d
 before_decides zero m k c d xs ys u h l = omega (arith, u, l)
@@ -47,7 +53,7 @@ before_decides (suc n) m k c d xs ys u h l =
     rest [] h = h
     rest (b ∷ xs) h = tail_bytes b xs h
 
--- nothing comes before any bytes
+-- the head of no bytes is at most the head of any bytes with the same number before
 nothing_first : (n m c d : ℕ) (ys : List ℕ) → c ≤ d → c < 256 → head_from m n [] c ≤ head_from m n ys d
 nothing_first zero m c d ys l u = omega (arith, l)
 nothing_first (suc n) m c d ys l u = go (nothing_first n (m * 256 + 0) c d (drop 1 ys) l u) (get_or ys 0 0) refl
@@ -79,7 +85,7 @@ agrees m k o below above =
     compare m k (λ l. rw (less m k l) (sym (below l))) (λ l. rw (greater m k l) (sym (above l)))
     (λ e. rw (equal m k e) refl)
 
--- heads that follow what stands before them, and agree with the rest where that is the same
+-- heads that follow the bytes before them, and agree with the rest where these are equal
 decided : (b c m k : ℕ) (rest : Ordering) → (b < c → m < k) → (c < b → k < m) → (b ≡ c → Agrees m k rest)
     → Agrees m k (ordering_then (nat_cmp b c) rest)
 decided b c m k rest below above same =
@@ -88,14 +94,14 @@ decided b c m k rest below above same =
     (λ l. rw (greater b c l) (agrees m k Greater (λ h. absurd (omega (arith, h, above l))) (λ h. refl)))
     (λ e. rw (equal b c e) (same e))
 
--- the counts of two names, of which so many bytes stand before
+-- the counts of two names, of which so many bytes were passed
 record AreCounts (n before c d : ℕ) (xs ys : List ℕ) : Type 0 where
   first : c ≡ before + count_to (suc n) xs
   second : d ≡ before + count_to (suc n) ys
   low : c < 256
   also : d < 256
 
--- and of what is behind a byte more
+-- the counts of two names are those of what is behind one byte more
 counts_on : (n before c d b e : ℕ) (xs ys : List ℕ) → AreCounts (suc n) before c d (b ∷ xs) (e ∷ ys)
     → AreCounts n (before + 1) c d xs ys
 counts_on n before c d b e xs ys h = record {
@@ -105,7 +111,7 @@ counts_on n before c d b e xs ys h = record {
   also = h.also;
 }
 
--- behind equal bytes the names decide
+-- behind equal bytes, the heads never say other than the names
 names_agree : (n before m k c d : ℕ) (xs ys : List ℕ) → AreCounts n before c d xs ys → IsBytes xs → IsBytes ys → m ≡ k
     → Agrees (head_from m n xs c) (head_from k n ys d) (slice_cmp nat_cmp xs ys)
 names_agree zero before m k c d [] [] h f g e =
@@ -165,7 +171,7 @@ names_same (suc n) before m k c (x ∷ xs) (y ∷ ys) h w f g e is =
     ∙ names_same n (before + 1) (m * 256 + x) (k * 256 + y) c xs ys (counts_on n before c c x y xs ys h)
     (omega (arith, w)) (tail_bytes x xs f) (tail_bytes y ys g) (omega (arith, e, l)) is)
 
--- bytes that are the same decide nothing
+-- names with equal first bytes are ordered as what is behind these bytes
 compared_behind : (c : ℕ) (xs ys : List ℕ) → take c xs ≡ take c ys
     → slice_cmp nat_cmp (drop c xs) (drop c ys) ≡ slice_cmp nat_cmp xs ys
 compared_behind zero xs ys e = refl
@@ -176,19 +182,15 @@ compared_behind (suc c) (x ∷ xs) (y ∷ ys) e =
     compared_behind c xs ys (ap (drop 1) e)
     ∙ sym (ap (λ o. ordering_then o (slice_cmp nat_cmp xs ys)) (equal x y (ap (λ v. get_or v 0 0) e)))
 
--- what is behind some bytes are bytes
-bytes_behind : (c : ℕ) (xs : List ℕ) → IsBytes xs → IsBytes (drop c xs)
-bytes_behind zero xs h = h
-bytes_behind (suc c) [] h = h
-bytes_behind (suc c) (x ∷ xs) h = bytes_behind c xs (tail_bytes x xs h)
-
--- the bytes of a name behind the first ones, and how many they are
+-- the bytes of a name behind the first ones
 abbrev rest_of : ℕ → Principal → List ℕ
 rest_of c p = drop c (principal_name p)
 
+-- how many bytes of a name are behind the first ones, where 7 is for more
 abbrev count_of : ℕ → Principal → ℕ
 count_of c p = count_to 7 (rest_of c p)
 
+-- the counts of two names are those of their bytes behind the first ones
 counts_of : (c : ℕ) (p q : Principal) → AreCounts 6 0 (count_of c p) (count_of c q) (rest_of c p) (rest_of c q)
 counts_of c p q = record {
   first = omega arith;
@@ -197,12 +199,12 @@ counts_of c p q = record {
   also = omega (arith, count_most 7 (rest_of c q));
 }
 
--- a lesser rank is of a lesser head
+-- the principal with the lesser rank has the lesser head
 rank_decides : (c : ℕ) (p q : Principal) → IsBytes (principal_name p) → principal_rank p < principal_rank q
     → principal_head c p < principal_head c q
 rank_decides c p q bytes l =
     before_decides 6 (principal_rank p) (principal_rank q) (count_of c p) (count_of c q) (rest_of c p) (rest_of c q)
-    (counts_of c p q).low (bytes_behind c (principal_name p) bytes) l
+    (counts_of c p q).low (IsBytes-drop c (principal_name p) bytes) l
 
 -- the heads never say other than the principals, where names of one rank begin alike
 heads_agree : (c m k : ℕ) (p q : Principal) → IsHeadOf c m p → IsHeadOf c k q
@@ -216,9 +218,9 @@ heads_agree c m k p q f g alike =
     (λ e. subst (Agrees (principal_head c p) (principal_head c q))
     (compared_behind c (principal_name p) (principal_name q) (alike e))
     (names_agree 6 0 (principal_rank p) (principal_rank q) (count_of c p) (count_of c q) (rest_of c p) (rest_of c q)
-    (counts_of c p q) (bytes_behind c (principal_name p) f.bytes) (bytes_behind c (principal_name q) g.bytes) e)))
+    (counts_of c p q) (IsBytes-drop c (principal_name p) f.bytes) (IsBytes-drop c (principal_name q) g.bytes) e)))
 
--- unlike heads decide
+-- if the heads of two principals differ, the principals are in the order of the heads
 pub compared_as : (p q : PrincipalRef) (m k : ℕ) (answer : Ordering) → HasHead m p → HasHead k q
     → answer ≡ nat_cmp m k → (m ≡ k → ⊥) → answer ≡ principal_cmp (principal p) (principal q)
 compared_as p q m k answer f g e unlike = e ∙ go (nat_cmp m k) refl ∙ whole
@@ -234,7 +236,7 @@ compared_as p q m k answer f g e unlike = e ∙ go (nat_cmp m k) refl ∙ whole
     go Equal is = absurd (unlike (exact_unsigned m k is))
     go Greater is = refl
 
--- names that begin with the same bytes have the same beginning
+-- names of one rank that begin with the same bytes have equal first bytes
 begin_alike : (start : List ℕ) (p q : Principal) → BeginsWith start p → BeginsWith start q
     → principal_rank p ≡ principal_rank q
     → take (length start) (principal_name p) ≡ take (length start) (principal_name q)
@@ -245,14 +247,14 @@ begin_alike start group group h l e = refl
 begin_alike start everyone everyone h l e = refl
 begin_alike start _ _ h l e = absurd (omega (arith, e))
 
--- a lesser head is of a lesser principal
+-- the principal with the lesser head is the lesser one
 pub lesser_head : (start : List ℕ) (m k : ℕ) (p q : Principal) → IsHeadOf (length start) m p
     → IsHeadOf (length start) k q → BeginsWith start p → BeginsWith start q → m < k → principal_cmp p q ≡ Less
 lesser_head start m k p q f g h l below =
     sym (heads_agree (length start) m k p q f g (begin_alike start p q h l))
     ∙ ap (λ o. ordering_then o (principal_cmp p q)) (less m k below)
 
--- the same heads are of one rank
+-- principals with the same head have one rank
 pub ranks_alike : (c m k : ℕ) (p q : Principal) → IsHeadOf c m p → IsHeadOf c k q → m ≡ k
     → principal_rank p ≡ principal_rank q
 ranks_alike c m k p q f g e =
@@ -261,7 +263,7 @@ ranks_alike c m k p q f g e =
     (λ l. absurd (omega (arith, e, f.is, g.is, rank_decides c q p g.bytes l)))
     (λ e. e)
 
--- the same heads, with the whole names, are of one principal
+-- two principals with the same head, which has the whole name, are equal in the order
 pub whole_same : (start : List ℕ) (m k : ℕ) (p q : Principal) → IsHeadOf (length start) m p
     → IsHeadOf (length start) k q → BeginsWith start p → BeginsWith start q → m ≡ k → is_whole m ≡ true
     → principal_cmp p q ≡ Equal
@@ -272,7 +274,7 @@ whole_same start m k p q f g h l e whole =
     ∙ names_same 6 0 (principal_rank p) (principal_rank q) (count_of c p) (rest_of c p) (rest_of c q)
     (subst (λ v. AreCounts 6 0 (count_of c p) v (rest_of c p) (rest_of c q)) (sym count) (counts_of c p q))
     (omega (arith, ltb-true (m % 256) 7 whole, ap (λ v. v % 256) f.is, first))
-    (bytes_behind c (principal_name p) f.bytes) (bytes_behind c (principal_name q) g.bytes) ranks
+    (IsBytes-drop c (principal_name p) f.bytes) (IsBytes-drop c (principal_name q) g.bytes) ranks
     (sym f.is ∙ e ∙ g.is ∙ ap (head_from (principal_rank q) 6 (rest_of c q)) (sym count))
   where
     c : ℕ

@@ -1,6 +1,6 @@
 -- What the public calls on merged rows say, from what those on one bit say.
-use Rattle.std.proofs.Common.{◌≡◌, ℕ, ◌+◌, ◌<◌, ◌≤◌, Bool, true, false, List, refl}
-use Rattle.acl_normal.proofs.Common.{Ace, Allow, ap, arith, bits_from_mask, cases_eq, column, Deny, false_from_ne_true, has_bit, IfNone, IfSome, inl, inr, is_free, IsMask, IsTrue, Kind, None, Option, option_map, Principal, Some, subst, ⊎_elim, ◌||◌, ◌↔◌, ◌∙◌, or_cases, ◌⊎◌}
+use Rattle.std.proofs.Common.{◌≡◌, ℕ, ◌+◌, ◌<◌, ◌≤◌, Bool, true, false, List}
+use Rattle.acl_normal.proofs.Common.{Ace, Allow, ap, arith, bits_from_mask, cases_eq, column, Deny, false_from_ne_true, has_bit, IfNone, IfSome, is_free, IsMask, IsTrue, Kind, None, Option, option_map, Principal, Some, subst, ⊎_elim, ◌||◌, ◌↔◌, ◌∙◌}
 use Rattle.acl_perm.specs.declared.bit.Bit.{Bit}
 use Rattle.acl_normal.specs.Left.{HasFree, IsLowest}
 use Rattle.acl_normal.specs.internal.NextRight.{IsNextRight, LacksFrom}
@@ -20,33 +20,23 @@ no_right_above bits is b l = false_from_ne_true _ (λ h. absurd (omega (arith, l
 abbrev pub free_either : List Ace → Principal → ℕ → Bool
 free_either list p b = is_free (column list b) (p, Deny) || is_free (column list b) (p, Allow)
 
--- none of the bits below a place is free
+-- at none of the bits below n that the set has is the principal free
 abbrev pub NoneFree : List Ace → Principal → ℕ → ℕ → Type 0
 NoneFree list p bits n = (b : ℕ) → b < n → has_bit bits b ≡ true → free_either list p b ≡ false
 
--- one more that isn't free
+-- if the principal is not free at bit n, it is free at none of the bits below n + 1
 pub none_free_more : (list : List Ace) (p : Principal) (bits n : ℕ) → NoneFree list p bits n
     → (has_bit bits n ≡ true → free_either list p n ≡ false) → NoneFree list p bits (n + 1)
 none_free_more list p bits n before here b l h = ⊎_elim
     (λ (e : b ≡ n). ap (free_either list p) e ∙ here (subst (λ v. has_bit bits v ≡ true) e h))
     (λ (other : b ≡ n → ⊥). before b (grind arith) h) (cases_eq b n)
 
--- a bit that is not asked for
+-- if the set lacks bit n, the principal is free at none of its bits below n + 1
 pub none_free_absent : (list : List Ace) (p : Principal) (bits n : ℕ) → NoneFree list p bits n
     → has_bit bits n ≡ false → NoneFree list p bits (n + 1)
 none_free_absent list p bits n before lacks = none_free_more list p bits n before (λ has. cc)
 
--- a bit that is free
-pub free_there : (list : List Ace) (p : Principal) (bits b : ℕ) → has_bit bits b ≡ true
-    → free_either list p b ≡ true → IsTrue true ↔ HasFree list p bits
-free_there list p bits b has free = (λ t. either (or_cases _ _ free), λ h. refl)
-  where
-    either : (is_free (column list b) (p, Deny) ≡ true) ⊎ (is_free (column list b) (p, Allow) ≡ true)
-        → HasFree list p bits
-    either (inl e) = (b, Deny, has, e)
-    either (inr e) = (b, Allow, has, e)
-
--- where none is, there is none
+-- a principal that is free at none of the first 21 bits of a set of rights is free at none of the set
 pub free_nowhere : (list : List Ace) (p : Principal) (bits : ℕ) → IsMask bits → NoneFree list p bits 21
     → IsTrue false ↔ HasFree list p bits
 free_nowhere list p bits is none = (λ t. absurd cc, λ (b, kind, has, free). absurd (clash b kind has free))

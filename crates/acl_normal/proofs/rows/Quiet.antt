@@ -2,7 +2,7 @@
 use Rattle.acl_normal.proofs.Common.{[], Ace, and_parts, Bool, false, is_inherit_only, IsQuiet, IsTidy, List, not, Principal, principal_eq, principal_of, refl, take_out, true, without_bits, ℕ, ◌&&◌, ◌∷◌, ◌≡◌}
 use Rattle.acl_normal.proofs.rows.TakeOut.{low_taken, once_taken}
 
--- after bits were taken out
+-- a quiet list stays quiet when bits are taken out
 pub quiet_taken : (p : Principal) (m : ℕ) (xs : List Ace) → IsQuiet xs → IsQuiet (take_out p m xs)
 quiet_taken p m [] h = tt
 quiet_taken p m (a ∷ xs) h =
@@ -16,7 +16,7 @@ quiet_taken p m (a ∷ xs) h =
         clash : {A : Type 0} → is_inherit_only a ≡ true → not (is_inherit_only a) ≡ true → A
         clash i n = cc (rw i at n)
 
--- a tidy list stays tidy
+-- a tidy list stays tidy when bits are taken out
 pub tidy_taken : (p : Principal) (m : ℕ) (xs : List Ace) → IsTidy xs → IsTidy (take_out p m xs)
 tidy_taken p m xs tidy = record {
   once = once_taken p m xs tidy.once;

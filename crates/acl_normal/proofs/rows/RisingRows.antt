@@ -1,9 +1,10 @@
--- Rows of ACEs whose principals do not fall, told ACE by ACE.
+-- Rows of ACEs whose principals do not fall, made ACE by ACE.
 use Rattle.acl_normal.proofs.Common.{[], Ace, ace, AceRef, aces_in, ap, AreRowNumbers, arith, cases_lt, cond, Equal, false, false_from_ne_true, get_or-append_seam, get_or_append_left, Greater, inl, inr, is_lt, IsByPrincipal, length, length-append, length-map, length-take-le, List, map, map-append, named_from, ordering_reverse, Principal, principal_cmp, principal_exact, principal_here, principal_of, principal_order, refl, row_of, slice_index_or, subst, suc, sym, take, take_more, true, zero, ℕ, ◌++◌, ◌+◌, ◌<◌, ◌∙◌, ◌∷◌, ◌≡◌, ◌≤◌, ◌⊎◌}
 use Rattle.std.specs.List.{range_with_len}
 use Rattle.std.proofs.lemmas.List.Sorted.{IsPermutation-refl}
 use Rattle.acl_normal.specs.internal.rows.RowNumbers.{DoNotFall}
-use Rattle.acl_normal.proofs.rows.RowNumbers.{le_then_less, named_length, named_place, places_by_principal}
+use Rattle.acl_normal.proofs.rows.SortedNames.{le_then_less, named_length, named_place}
+use Rattle.acl_normal.proofs.rows.SortedPlaces.{places_by_principal}
 use Rattle.acl_normal.proofs.rows.Rows.{not_below}
 
 -- the principals so far do not fall, these are their rows, and none is above the last, whose row this is
@@ -13,25 +14,26 @@ pub record AreRisingTo (xs : List Ace) (numbers : List ℕ) (now : ℕ) (last : 
   pub top : (k : ℕ) → k < length xs → is_lt (principal_cmp last (principal_here xs k)) ≡ false
   pub row : now ≡ row_of last xs
 
--- whom the ACEs name, with one more behind them
+-- the ACEs of a list name the same principals with one ACE more behind them
 here_before : (xs : List Ace) (a : Ace) (k : ℕ) → k < length xs
     → principal_here (xs ++ a ∷ []) k ≡ principal_here xs k
 here_before [] a k l = absurd (omega (arith, l))
 here_before (b ∷ xs) a zero l = refl
 here_before (b ∷ xs) a (suc k) l = here_before xs a k (omega (arith, l))
 
+-- one ACE more behind a list is at the place of its length
 here_last : (xs : List Ace) (a : Ace) → principal_here (xs ++ a ∷ []) (length xs) ≡ principal_of a
 here_last [] a = refl
 here_last (b ∷ xs) a = here_last xs a
 
--- an ACE that names no lower principal moves no row
+-- the row of a principal stays the same with one ACE more that names no lower one
 row_kept : (q : Principal) (xs : List Ace) (a : Ace) → is_lt (principal_cmp (principal_of a) q) ≡ false
     → row_of q (xs ++ a ∷ []) ≡ row_of q xs
 row_kept q [] a h = rw h refl
 row_kept q (b ∷ xs) a h =
     ap (λ n. cond (is_lt (principal_cmp (principal_of b) q)) (suc n) n) (row_kept q xs a h)
 
--- who is above all comes behind all
+-- the row of a principal above all of a list is the number of its ACEs
 row_behind : (p : Principal) (xs : List Ace)
     → ((k : ℕ) → k < length xs → is_lt (principal_cmp (principal_here xs k) p) ≡ true) → row_of p xs ≡ length xs
 row_behind p [] h = refl
@@ -39,17 +41,17 @@ row_behind p (b ∷ xs) h =
     rw (h 0 (omega arith)) (ap suc (row_behind p xs (λ k l. h (suc k) (omega (arith, l)))))
 
 module _ (xs : List Ace) (rows : List ℕ) (row : ℕ) (last : Principal) (r : AreRisingTo xs rows row last) where
-  -- who is the last has its row
+  -- a principal that is equal to the last one has its row
   pub row_again : (p : Principal) → principal_cmp p last ≡ Equal → row ≡ row_of p xs
   row_again p e = r.row ∙ ap (λ v. row_of v xs) (sym (principal_exact p last e))
 
-  -- who is above the last comes behind all
+  -- a principal above the last one has the number of ACEs as its row
   pub row_next : (p : Principal) → principal_cmp p last ≡ Greater → length xs ≡ row_of p xs
   row_next p e =
       sym (row_behind p xs (λ k l. le_then_less (principal_here xs k) last p (r.top k l)
       (ap is_lt (principal_order.reversed p last ∙ ap ordering_reverse e))))
 
-  -- one ACE more
+  -- the rows with that of one ACE more, which names no lower principal, are those of the list with that ACE
   pub rising_more : (a : Ace) (now : ℕ) → is_lt (principal_cmp (principal_of a) last) ≡ false
       → now ≡ row_of (principal_of a) xs → AreRisingTo (xs ++ a ∷ []) (rows ++ now ∷ []) now (principal_of a)
   rising_more a now h is = record {
@@ -103,7 +105,7 @@ module _ (xs : List Ace) (rows : List ℕ) (row : ℕ) (last : Principal) (r : A
           ∙ sym (row_kept (principal_of a) xs a (not_below (principal_of a)))
           ∙ ap (λ p. row_of p more) (sym (ap (principal_here more) (this k l u) ∙ here_last xs a))
 
--- one ACE more of the code
+-- the rows with that of the next ACE, which names no lower principal, are those of one place more
 pub rising_push : (aces : List AceRef) (rows new : List ℕ) (row now i : ℕ) (last next : Principal) (b : AceRef)
     → i < length aces → b ≡ slice_index_or aces i b → next ≡ principal_of (ace b) → new ≡ rows ++ now ∷ []
     → AreRisingTo (aces_in (take i aces)) rows row last → is_lt (principal_cmp next last) ≡ false
@@ -131,7 +133,7 @@ rising_push aces rows new row now i last next b l here whom e r h is =
 pub length_so_far : (aces : List AceRef) (i : ℕ) → i ≤ length aces → length (aces_in (take i aces)) ≡ i
 length_so_far aces i l = length-map (take i aces) ace ∙ length-take-le i aces l
 
--- places that do not fall are in the order of the principals as they come
+-- the places of ACEs whose principals do not fall are in the order of the principals as they are
 pub in_turn : (xs : List Ace) → DoNotFall xs → IsByPrincipal xs (range_with_len 0 (length xs))
 in_turn xs h =
     subst (IsByPrincipal xs) (seconds 0 xs)

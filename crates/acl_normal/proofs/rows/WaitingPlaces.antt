@@ -1,16 +1,16 @@
 -- Sets of the places that wait.
-use Rattle.acl_normal.proofs.Common.{[], Ace, AceRef, ace, and_parts, ap, arith, Bool, cases_eq, cond, false, false_from_ne_true, get_or-set_other, get_or-set_same, has_bit, is_at, is_user, is_waiting, IsQuiet, Kind, kind_eq, length, length-set, length-take-le, List, list_any, nat_cmp, principal_of, refl, same_class, slice_index_or, slice_set, slot_of, subst, suc, sym, take, take_more, true, waits, with_masks, zero, ℕ, ⊎_elim, ◌&&◌, ◌++◌, ◌+◌, ◌<◌, ◌||◌, ◌∙◌, ◌∷◌, ◌≡◌, ◌≢◌, ◌≤◌}
+use Rattle.acl_normal.proofs.Common.{[], Ace, AceRef, ace, and_parts, ap, arith, Bool, cases_eq, cond, false, false_from_ne_true, get_or-set_other, get_or-set_same, has_bit, is_at, is_user, is_waiting, IsQuiet, Kind, kind_eq, length, length-set, length-take-le, List, list_any, nat_cmp, principal_of, refl, same_class, slice_index_or, slice_set, slot_of, subst, suc, sym, take, take_more, true, waits, with_masks, zero, ℕ, ⊎_elim, ◌&&◌, ◌++◌, ◌+◌, ◌<◌, ◌||◌, ◌∙◌, ◌∷◌, ◌≡◌, ◌≢◌, ◌≤◌, get_or_default}
 use Rattle.std.specs.declared.collections.BTreeSet.{BTreeSet}
 use Rattle.std.proofs.Common.{Global}
 use Rattle.acl_normal.specs.internal.Places.{bit_count, slot_count}
 use Rattle.acl_normal.specs.internal.rows.Waiting.{has_place, HoldWaiting, NoPlaces, PutsBelow}
-use Rattle.acl_normal.proofs.rows.BitTaken.{class_same, is_eq_itself, is_eq_same, same_class_itself, same_default, slot_below, slot_same}
 use Rattle.acl_normal.proofs.rows.ByPlace.{masked, masked_at, quiet_index}
-use Rattle.acl_normal.proofs.unique.Free.{kind_eq_itself, kind_eq_same}
 use Rattle.acl_normal.proofs.unique.Normal.{counts_mask}
 use Rattle.acl_normal.proofs.unique.Outline.{length_shown}
+use Rattle.acl_normal.proofs.unique.Names.{kind_eq_itself, kind_eq_same}
+use Rattle.acl_normal.proofs.rows.Slots.{class_same, is_eq_itself, is_eq_same, same_class_itself, slot_below, slot_same}
 
--- a place that was put into no set yet
+-- before bit 0 the place was put into no set
 pub puts_none : (place : ℕ) (kind : Kind) (users : Bool) (mask : ℕ) (sets : List (BTreeSet ℕ Global))
     → length sets ≡ slot_count → PutsBelow place kind users mask 0 sets sets
 puts_none place kind users mask sets count = record {
@@ -19,7 +19,7 @@ puts_none place kind users mask sets count = record {
   above = λ k u b i l. refl;
 }
 
--- a bit that the mask lacks
+-- if the mask lacks bit n, the place was put into the sets of its bits below n + 1
 pub puts_absent : (place : ℕ) (kind : Kind) (users : Bool) (mask : ℕ) (old new : List (BTreeSet ℕ Global)) (n : ℕ)
     → PutsBelow place kind users mask n old new → has_bit mask n ≡ false
     → PutsBelow place kind users mask (n + 1) old new
@@ -31,7 +31,7 @@ puts_absent place kind users mask old new n before lacks = record {
   above = λ k u b i l. before.above k u b i (omega (arith, l));
 }
 
--- a bit that the mask has, where the place was inserted into its set
+-- if the place was put into the set of bit n, it was put into those of the bits below n + 1
 pub puts_more : (place : ℕ) (kind : Kind) (users : Bool) (mask : ℕ) (old sets : List (BTreeSet ℕ Global)) (n slot : ℕ)
     (got set d : BTreeSet ℕ Global) → PutsBelow place kind users mask n old sets → has_bit mask n ≡ true
     → n < bit_count → slot ≡ slot_of kind users n → got ≡ slice_index_or sets slot d
@@ -65,7 +65,7 @@ puts_more place kind users mask old sets n slot got set d before has low is here
         ∙ ap (λ v. list_any (is_at (nat_cmp i)) v.keys) (get_or-set_same sets slot set NoPlaces within)
         ∙ put i
         ∙ ap (λ v. cond (is_at (nat_cmp place) i) true (list_any (is_at (nat_cmp i)) v.keys))
-        (here ∙ same_default sets slot d NoPlaces within)
+        (here ∙ get_or_default sets slot d NoPlaces within)
         ∙ ap (λ v. cond (is_at (nat_cmp place) i) true (has_place sets v i)) is
         ∙ ap (λ v. cond (is_at (nat_cmp place) i) true v) (before.above kind users n i (omega arith))
         ∙ rw (parts.0, parts.1, parts.2, has, kind_eq_itself kind, same_class_itself users) refl
@@ -87,6 +87,7 @@ puts_more place kind users mask old sets n slot got set d before has low is here
             (has_place old (slot_of k u b) i)
         at e = before.above k u b i (omega (arith, e)) ∙ grind (arith, differs e)
 
+-- two places are the same if and only if the places after them are
 same_next : (i n : ℕ) → is_at (nat_cmp (suc i)) (suc n) ≡ is_at (nat_cmp i) n
 same_next i n = ⊎_elim
     (λ e. ap (λ v. is_at (nat_cmp (suc v)) (suc n)) e ∙ is_eq_itself (suc n) ∙ sym (is_eq_itself n)
@@ -97,7 +98,7 @@ same_next i n = ⊎_elim
     suc_same : suc i ≡ suc n → i ≡ n
     suc_same e = omega (arith, e)
 
--- one ACE more
+-- with one ACE more behind a list the same places wait, and the last if that ACE does
 waits_more : (k : Kind) (u : Bool) (b : ℕ) (xs : List Ace) (a : Ace) (i : ℕ)
     → waits k u b (xs ++ a ∷ []) i ≡ (waits k u b xs i || (is_at (nat_cmp (length xs)) i && is_waiting k u b a))
 waits_more k u b [] a zero = refl
@@ -116,7 +117,7 @@ waits_more k u b (x ∷ xs) a zero =
 waits_more k u b (x ∷ xs) a (suc i) =
     waits_more k u b xs a i ∙ ap (λ t. waits k u b xs i || (t && is_waiting k u b a)) (sym (same_next (length xs) i))
 
--- the sets with the next place
+-- when the next place was put into its sets, they have the places that wait of one ACE more
 pub holds_next : (aces : List AceRef) (masks : List ℕ) (place m : ℕ) (x : AceRef) (users : Bool)
     (old new : List (BTreeSet ℕ Global)) → IsQuiet (with_masks aces masks) → length masks ≡ length aces
     → place < length aces → x ≡ slice_index_or aces place x → slice_index_or masks place 0 ≡ m

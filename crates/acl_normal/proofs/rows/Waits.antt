@@ -4,7 +4,7 @@ use Rattle.std.specs.Ordering.{is_gt}
 use Rattle.std.proofs.lemmas.Map.Keys.{le_from_is_le}
 use Rattle.acl_normal.proofs.unique.Columns.{column_first}
 
--- none before, if none of the lesser places waits
+-- no place waits before a place if none of the lesser places does
 pub before_none : (k : Kind) (u : Bool) (b : ℕ) (xs : List Ace) (i : ℕ) → ((j : ℕ) → j < i → waits k u b xs j ≡ false)
     → waits_before k u b xs i ≡ false
 before_none k u b [] i h = refl
@@ -12,7 +12,7 @@ before_none k u b (a ∷ xs) zero h = refl
 before_none k u b (a ∷ xs) (suc i) h =
     grind (arith, h 0, before_none k u b xs i (λ j l. h (suc j) (omega arith)))
 
--- some before, if one of them does
+-- a place waits before a place if one of the lesser places does
 pub before_some : (k : Kind) (u : Bool) (b : ℕ) (xs : List Ace) (i j : ℕ) → j < i → waits k u b xs j ≡ true
     → waits_before k u b xs i ≡ true
 before_some k u b [] i j l h = cc
@@ -21,11 +21,11 @@ before_some k u b (a ∷ xs) (suc i) zero l h = or_left (is_waiting k u b a) (wa
 before_some k u b (a ∷ xs) (suc i) (suc j) l h =
     or_right (is_waiting k u b a) (waits_before k u b xs i) (before_some k u b xs i j (omega arith) h)
 
--- what is not after another comes at or before it
+-- what is not after another is before it or equal to it
 not_after : (o : Ordering) → is_gt o ≡ false → is_le o ≡ true
 not_after o h = grind arith
 
--- none before the least of the places that wait
+-- no place waits before the least of the places that wait
 pub before_least : (k : Kind) (u : Bool) (b : ℕ) (xs : List Ace) (places : List ℕ) (least i : ℕ)
     → ((j : ℕ) → list_any (is_at (nat_cmp j)) places ≡ waits k u b xs j)
     → ((j : ℕ) → list_any (is_at (nat_cmp j)) places ≡ true → is_gt (nat_cmp least j) ≡ false) → i ≤ least
@@ -37,7 +37,7 @@ before_least k u b xs places least i has low l =
     clash : (j : ℕ) → j < i → least ≤ j → ⊥
     clash j h e = omega (arith, h, e, l)
 
--- none where there are no places
+-- no place waits before any if there are no places that wait
 pub before_empty : (k : Kind) (u : Bool) (b : ℕ) (xs : List Ace) (places : List ℕ) (i : ℕ)
     → ((j : ℕ) → list_any (is_at (nat_cmp j)) places ≡ waits k u b xs j) → places ≡ [] → waits_before k u b xs i ≡ false
 before_empty k u b xs places i has none =

@@ -16,6 +16,7 @@ use Rattle.acl_nfs4.proofs.Exports.{who_bounds}
 abbrev AreBytes : List ℕ → Type 0
 AreBytes bs = AllByRecursion (λ b. b < 256) bs
 
+-- the encoding of a number below 1114112 is bytes
 encoded_bytes : (c : ℕ) → c < 1114112 → AreBytes (encode c)
 unfolding encode
 encoded_bytes c lt = go (nat_lt c 128) refl (nat_lt c 2048) refl (nat_lt c 65536) refl
@@ -30,12 +31,14 @@ encoded_bytes c lt = go (nat_lt c 128) refl (nat_lt c 2048) refl (nat_lt c 65536
     go false e false f true g = rw (e, f, g) (let h = ltb-true c 65536 g in omega arith, (next (c / 64), (next c, tt)))
     go false e false f false g = rw (e, f, g) (omega arith, (next (c / 4096), (next (c / 64), (next c, tt))))
 
+-- a scalar value is below 1114112
 scalar_below : (c : ℕ) → scalar c ≡ true → c < 1114112
 scalar_below c h = elim (scalar_cases c h) [
   | inl low ↦ omega arith
   | inr high ↦ high.1
 ]
 
+-- the encodings of scalar values are bytes
 encodes_bytes : (cs : List ℕ) → scalars cs ≡ true → AreBytes (encodes cs)
 encodes_bytes [] h = tt
 encodes_bytes (c ∷ cs) h =
@@ -43,11 +46,13 @@ encodes_bytes (c ∷ cs) h =
     all_append (λ b. b < 256) (encode c) (encodes cs) (encoded_bytes c (scalar_below c parts.0))
     (encodes_bytes cs parts.1)
 
+-- UTF-8 is bytes
 utf8_bytes : (bs : List ℕ) → is_utf8 bs ≡ true → AreBytes bs
 utf8_bytes bs h =
     let text = IsUtf8-from_is_utf8 bs h in
     subst AreBytes text.1.1 (encodes_bytes text.0 text.1.0)
 
+-- if two tests in turn find no fault, the value passes the second one
 passes : {A : Type 0} (a u : Bool) (x y : A) (r : Option A)
     → (if a then Some x else (if not u then Some y else r)) ≡ None → u ≡ true
 passes a u x y r h = grind arith
@@ -60,7 +65,7 @@ who_name who is = (
       (utf8_bytes who (passes (is_no_who_len (length who)) (is_utf8 who) _ _ _ is)),
 )
 
--- and so is the name of the principal of an ACE
+-- the principal of an ACE has a name that a situation may have, if it is a user or a group
 pub ace_name : (a : Ace) → IsWho a.who → HasName (principal_of a)
 ace_name a is = named (who_name a.who is)
   where
@@ -69,7 +74,7 @@ ace_name a is = named (who_name a.who is)
 
 -- ---- each of a list
 
--- the names of ACEs are names
+-- the principals of ACEs have such names
 pub each_name : (p : Profile) (list : List Ace) → AllByRecursion (IsAce p) list → HasNames list
 each_name p [] h = tt
 each_name p (a ∷ list) h = (ace_name a h.0.who, each_name p list h.1)

@@ -1,17 +1,17 @@
 -- What comes first of a list, and what is emitted of the rest.
-use Rattle.acl_normal.proofs.Common.{[], Ace, ace_key, ap, arith, Bool, Column, column, false, first_kind, has_bit, HasOnceColumns, is_either, is_free, IsAlike, IsEmission, IsOnce, IsStep, Key, Kind, List, may_overlap, None, Principal, principal_of, refl, Some, subst, sym, true, without_principal, ℕ, ⊎_elim, ◌∙◌, ◌∷◌, ◌≡◌}
+use Rattle.acl_normal.proofs.Common.{Ace, Bool, Column, ColumnKey, HasOnceColumns, IsAlike, IsEmission, IsOnce, IsStep, Kind, List, Principal, Some, ace_key, ap, arith, column, false, first_kind, has_bit, is_either, is_free, may_overlap, principal_of, refl, subst, sym, true, without_principal, ℕ, ⊎_elim, ◌∙◌, ◌∷◌, ◌≡◌}
 use Rattle.acl_normal.proofs.unique.Names.{overlaps_back, overlaps_itself}
 use Rattle.acl_normal.proofs.unique.FirstKind.{first_kind_same}
 use Rattle.acl_normal.proofs.unique.Irreducible.{either_is}
-use Rattle.acl_normal.proofs.unique.Shorter.{without_other}
+use Rattle.acl_normal.proofs.unique.Shorter.{lacks_principal, once_without, without_other}
 use Rattle.acl_normal.proofs.unique.Free.{ahead_from_free, same_free, skip_head}
-use Rattle.acl_normal.proofs.unique.Unique.{column_with, column_lacking}
+use Rattle.acl_normal.proofs.unique.Columns.{column_lacking, column_with}
 
 -- the order of two principals plays no part in what comes first
 pub either_swap : (p q : Principal) (c : Column) → first_kind (is_either p q) c ≡ first_kind (is_either q p) c
 either_swap p q c = first_kind_same (is_either p q) (is_either q p) c (λ z. grind arith)
 
--- a free key may stand first
+-- a free key may be moved to the front of a column
 move_front : (c d : Column) (p : Principal) (k : Kind) → is_free c (p, k) ≡ true → IsAlike (without_principal p c) d
     → IsAlike c ((p, k) ∷ d)
 move_front c d p k free a x y o = go (is_either x y p) refl
@@ -29,11 +29,6 @@ move_front c d p k free a x y o = go (is_either x y p) refl
         (ahead x (subst (λ v. may_overlap v x ≡ true) (sym f) (overlaps_back x y o))))
         (either_is x y p e) in
         found ∙ rw e refl
-
--- without a principal, a column lacks it
-pub lacks_principal : (p : Principal) (c : Column) → first_kind (is_either p p) (without_principal p c) ≡ None
-lacks_principal p [] = refl
-lacks_principal p ((q, j) ∷ c) = grind (arith, lacks_principal p c)
 
 -- what comes first of a list, before what is emitted of the rest, is emitted of the list
 pub emission_step : (xs rest ns : List Ace) (a : Ace) → ((b : ℕ) → IsOnce (column xs b)) → IsStep xs a rest
@@ -75,21 +70,10 @@ emission_step xs rest ns a once step h = record {
     once' : (b : ℕ) → IsOnce (column (a ∷ ns) b)
     once' b = once_at b (has_bit a.mask b) refl
 
-    same : (k : Key) (b : ℕ) → is_free (column xs b) k ≡ is_free (column (a ∷ ns) b) k
+    same : (k : ColumnKey) (b : ℕ) → is_free (column xs b) k ≡ is_free (column (a ∷ ns) b) k
     same k b = same_free (column xs b) (column (a ∷ ns) b) k (once b) (once' b) (alike b)
 
--- what finds nothing finds nothing without a principal
-none_without : (m : Principal → Bool) (p : Principal) (c : Column) → first_kind m c ≡ None
-    → first_kind m (without_principal p c) ≡ None
-none_without m p [] h = refl
-none_without m p ((q, j) ∷ c) h = grind (arith, none_without m p c)
-
--- without a principal, each other still stands once
-pub once_without : (p : Principal) (c : Column) → IsOnce c → IsOnce (without_principal p c)
-once_without p [] h = tt
-once_without p ((q, j) ∷ c) h = grind (arith, once_without p c h.1, none_without (is_either q q) p c h.0)
-
--- each principal stands once in what is left too
+-- what is left of a list has each principal once at each bit
 pub once_left : (xs rest : List Ace) (a : Ace) → HasOnceColumns xs → IsStep xs a rest → HasOnceColumns rest
 once_left xs rest a once step b = go (has_bit a.mask b) refl
   where

@@ -1,7 +1,9 @@
 -- The first key of a column that passes a test.
 use Rattle.acl_normal.proofs.Common.{[], AllByRecursion, ap, arith, Bool, Column, Deny, everyone, false, first_kind, is_either, is_either_or_everyone, IsAlike, Kind, matches, may_overlap, None, Option, Principal, refl, Situation, Some, sym, true, unwrap_or, verdict, ◌++◌, ◌∙◌, ◌∷◌, ◌≡◌}
 use Rattle.acl_normal.proofs.Each.{at_split}
-use Rattle.acl_normal.proofs.unique.Names.{either_first, either_or_everyone_within, either_second, either_within, matches_overlap, or_everyone_first, or_everyone_second}
+use Rattle.acl_normal.proofs.unique.Names.{either_first, either_or_everyone_within, either_second, either_within, or_everyone_first, or_everyone_second}
+use Rattle.acl_normal.proofs.unique.Columns.{HasOnly}
+use Rattle.acl_perm.proofs.Meetings.{overlap_is}
 
 -- the first test passes only where the second does
 abbrev pub IsWithin : (Principal → Bool) → (Principal → Bool) → Type 0
@@ -12,12 +14,12 @@ pub none_within : (m n : Principal → Bool) (c : Column) → first_kind m c ≡
 none_within m n [] h w = refl
 none_within m n ((p, k) ∷ c) h w = grind (arith, none_within m n c, w p)
 
--- where the first part has none, the second part decides
+-- if the first column has no key that passes, the second one decides
 pub append_none : (m : Principal → Bool) (l r : Column) → first_kind m l ≡ None → first_kind m (l ++ r) ≡ first_kind m r
 append_none m [] r h = refl
 append_none m ((p, k) ∷ l) r h = grind (arith, append_none m l r)
 
--- where the first part has one, it decides
+-- if the first column has a key that passes, it decides
 pub append_some : (m : Principal → Bool) (l r : Column) (k : Kind) → first_kind m l ≡ Some k
     → first_kind m (l ++ r) ≡ Some k
 append_some m [] r k h = cc
@@ -43,7 +45,7 @@ pub record SplitsAt (m : Principal → Bool) (c : Column) (k : Kind) : Type 0 wh
   pub none : first_kind m before ≡ None
   pub passes : m principal ≡ true
 
--- what a test finds stands at a place, with none before it
+-- the first key that passes a test is at a place, and no key before it passes
 pub splits_at : (m : Principal → Bool) (c : Column) (k : Kind) → first_kind m c ≡ Some k → SplitsAt m c k
 splits_at m [] k h = cc
 splits_at m ((p, j) ∷ c) k h = go (m p) refl (splits_at m c k)
@@ -75,10 +77,6 @@ first_within m n c k s h w =
 abbrev pub IsClique : (Principal → Bool) → Type 0
 IsClique m = (p q : Principal) → m p ≡ true → m q ≡ true → may_overlap p q ≡ true
 
--- P holds of each principal of the column
-abbrev pub HasOnly : (Principal → Type 0) → Column → Type 0
-HasOnly P c = AllByRecursion (λ e. P e.0) c
-
 -- of each two principals that m passes, the test of these two passes both, and only what m passes
 pub record Narrows (test : Principal → Principal → Principal → Bool) (m : Principal → Bool) : Type 0 where
   pub within : (p q : Principal) → m p ≡ true → m q ≡ true → IsWithin (test p q) m
@@ -87,12 +85,12 @@ pub record Narrows (test : Principal → Principal → Principal → Bool) (m : 
 
 module _ {X : Type 0} (f : Option Kind → X) (test : Principal → Principal → Principal → Bool) (m : Principal → Bool)
     (n : Narrows test m) (P : Principal → Type 0) where
-  -- what columns say at each two of their principals that the test passes
+  -- the columns agree at each two of their principals that the test passes
   abbrev pub AgreeAtOwn : Column → Column → Type 0
   AgreeAtOwn c d = (p q : Principal) → P p → P q → m p ≡ true → m q ≡ true
       → f (first_kind (test p q) c) ≡ f (first_kind (test p q) d)
 
-  -- where one of them has a key that passes and the other has none, its own principal is such a pair
+  -- columns that agree at their own pairs agree if only the first of them has a key that passes
   one_found : (c d : Column) (k : Kind) → HasOnly P c → AgreeAtOwn c d → first_kind m c ≡ Some k
       → first_kind m d ≡ None → f (first_kind m c) ≡ f (first_kind m d)
   one_found c d k only a h i =
@@ -123,9 +121,9 @@ module _ {X : Type 0} (f : Option Kind → X) (test : Principal → Principal �
 
 -- principals that match in one situation overlap
 pub clique_of : (s : Situation) → IsClique (matches s)
-clique_of s p q h i = matches_overlap s p q h i
+clique_of s p q h i = (overlap_is p q).1 (s, h, i)
 
--- alike columns have the same first key among principals that all overlap
+-- alike columns have the same first kind among principals that all overlap
 pub alike_agree : (m : Principal → Bool) (c d : Column) → IsClique m → IsAlike c d → first_kind m c ≡ first_kind m d
 alike_agree m c d q a =
     own_pairs_agree (λ o. o) is_either m

@@ -13,10 +13,11 @@ use Rattle.acl_normal.proofs.unique.Profiles.{same_within}
 
 -- ---- what is accepted
 
--- a list and its form at a path
+-- the list is the normal form of the source at a path
 abbrev FormAt : List Ace → Path → List Ace → Type 0
 FormAt source path form = IsNormalFormOf (at source path) form
 
+-- a list that is accepted under a profile fits it
 fits_of : (p : Profile) (list : List Ace) → IsProfile p → IsAccepted p list → Fits p list
 fits_of p list is taken = ((accepted_where_it_fits p list is).0 taken).1
 
@@ -26,7 +27,7 @@ pub accepted_at : (p : Profile) (source form : List Ace) (path : Path) → IsPro
 accepted_at p source form path is taken h = (accepted_where_it_fits p form is).1
     (h.accepted, form_fits p source form path (fits_of p source is taken) h)
 
--- and so are the five
+-- the five forms are accepted under each profile under which the list is
 pub all_accepted : (p : Profile) (source : List Ace) (forms : FiveForms) → IsProfile p → IsAccepted p source
     → AreFormsOf source forms → AreAccepted p forms
 all_accepted p source forms is taken h = record {
@@ -54,7 +55,7 @@ forms_from source file directory forms f d a b c e i = record {
 
 -- ---- equal forms
 
--- forms at a path are equal exactly if the lists grant the same there
+-- forms at a path are equal if and only if the lists grant the same there
 equal_at : (p : Profile) (source other form other_form : List Ace) (path : Path) → IsProfile p → IsAccepted p source
     → IsAccepted p other → FormAt source path form → FormAt other path other_form
     → (form ≡ other_form) ↔ SameAt p.masks source other path
@@ -74,6 +75,7 @@ equal_at p source other form other_form path is taken taken_other h k = (
     within = same_within (with_inherit_only p) (at source path) (at other path) (wider_is p is)
         (fits_at p source path (fits_of p source is taken)) (fits_at p other path (fits_of p other is taken_other))
 
+-- five forms are equal to five others if each is equal to the other at its path
 five_equal : (forms other : FiveForms) → forms.object ≡ other.object → forms.file ≡ other.file
     → forms.directory ≡ other.directory → forms.file_in_directory ≡ other.file_in_directory
     → forms.directory_in_directory ≡ other.directory_in_directory → forms ≡ other
@@ -85,7 +87,7 @@ five_equal forms other a b c d e = λ i. record {
   directory_in_directory = e i;
 }
 
--- the five are equal exactly if the lists grant the same at every path
+-- the five are equal if and only if the lists grant the same at every path
 pub five_tell : (p : Profile) (source other : List Ace) (forms other_forms : FiveForms) → IsProfile p
     → IsAccepted p source → AreFormsOf source forms → IsAccepted p other → AreFormsOf other other_forms
     → (forms ≡ other_forms) ↔ SameAtEveryPath p.masks source other
@@ -121,7 +123,7 @@ five_tell p source other forms other_forms is taken h taken_other k = (
 
 -- ---- equal bytes
 
--- a list that a text begins with, and what stands behind it
+-- accepted lists with which equal bytes begin are equal, and so are the bytes behind them
 first_of_both : (p : Profile) (list other : List Ace) (rest other_rest : List ℕ) → IsProfile p → IsAccepted p list
     → IsAccepted p other → spelling list ++ rest ≡ spelling other ++ other_rest
     → (list ≡ other) × (rest ≡ other_rest)
@@ -131,7 +133,7 @@ first_of_both p list other rest other_rest is taken taken_other e =
     let behind = subst (λ l. spelling l ++ rest ≡ spelling other ++ other_rest) same e in
     (same, append_cancel_left (spelling other) rest other_rest behind)
 
--- five accepted lists have the bytes of five others, one behind the other, exactly if they are these
+-- five accepted lists and five others have equal bytes together if and only if they are equal
 pub five_written : (p : Profile) (forms other : FiveForms) → IsProfile p → AreAccepted p forms → AreAccepted p other
     → (five_spellings forms ≡ five_spellings other) ↔ (forms ≡ other)
 five_written p forms other is h k = (
@@ -161,7 +163,7 @@ five_written p forms other is h k = (
     behind_object : FiveForms → List ℕ
     behind_object f = spelling f.file ++ behind_file f
 
--- as are five pairs of spellings
+-- five accepted lists have the spellings of five others, each at its path, if and only if they are equal
 five_spelled : (p : Profile) (forms other : FiveForms) → IsProfile p → AreAccepted p forms → AreAccepted p other
     → AreSpelledAlike forms other ↔ (forms ≡ other)
 five_spelled p forms other is h k = (
@@ -177,7 +179,7 @@ five_spelled p forms other is h k = (
   },
 )
 
--- so the spellings of the forms tell what the forms do, pair by pair
+-- the five forms have equal spellings, each at its path, if and only if the lists grant the same at every path
 pub spelled_tell : (p : Profile) (source other : List Ace) (forms other_forms : FiveForms) → IsProfile p
     → IsAccepted p source → AreFormsOf source forms → IsAccepted p other → AreFormsOf other other_forms
     → AreSpelledAlike forms other_forms ↔ SameAtEveryPath p.masks source other
@@ -187,7 +189,7 @@ spelled_tell p source other forms other_forms is taken h taken_other k =
     let tell = five_tell p source other forms other_forms is taken h taken_other k in
     (λ same. tell.0 (bytes.0 same), λ same. bytes.1 (tell.1 same))
 
--- and one behind the other
+-- the five forms have equal bytes together if and only if the lists grant the same at every path
 pub joined_tell : (p : Profile) (source other : List Ace) (forms other_forms : FiveForms) → IsProfile p
     → IsAccepted p source → AreFormsOf source forms → IsAccepted p other → AreFormsOf other other_forms
     → (five_spellings forms ≡ five_spellings other_forms) ↔ SameAtEveryPath p.masks source other

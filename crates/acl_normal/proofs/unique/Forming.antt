@@ -1,22 +1,23 @@
 -- What makes a normal list the normal form of an accepted one: that its keys are keys of the source.
 use Rattle.acl_normal.proofs.unique.Normal.{quiet_flags}
-use Rattle.std.proofs.Common.{◌≡◌, ℕ, ◌≤◌, ◌<◌, true, false, List, [], ◌∷◌, ◌++◌}
-use Rattle.acl_normal.proofs.Common.{Ace, ace_key, all_rights, and_parts, ap, arith, Column, column, false_from_ne_true, fits_of, flags_for, full, Has, has_bit, has_bit-and, HasMasks, inl, inr, IsAccepted, IsAce, IsNormal, IsNormalFormOf, IsSubset, IsWithin, KeepsProfiles, Key, principal_of, SameGrants, subst, sym, weight, who_for, ◌∙◌, ◌≢◌}
+use Rattle.std.proofs.Common.{List, [], false, true, ℕ, ◌++◌, ◌<◌, ◌∷◌, ◌≡◌, ◌≤◌}
+use Rattle.acl_normal.proofs.Common.{Ace, Column, ColumnKey, Has, HasMasks, IsAccepted, IsAce, IsNormal, IsNormalFormOf, IsSubset, IsWithin, KeepsProfiles, SameGrants, ace_key, all_rights, and_parts, ap, arith, column, false_from_ne_true, fits_of, flags_for, full, has_bit, has_bit-and, inl, inr, principal_of, subst, sym, weight, who_for, ◌∙◌, ◌≢◌}
 use Rattle.acl_normal.proofs.Each.{at_split, from_splits}
 use Rattle.acl_nfs4.specs.Who.{IsWho}
 use Rattle.acl_nfs4.proofs.Exports.{each_of}
-use Rattle.acl_normal.proofs.unique.Bits.{below, no_bits}
-use Rattle.acl_normal.proofs.emit.Drained.{some_below}
+use Rattle.acl_normal.proofs.unique.Bits.{below, no_bits, some_below}
 use Rattle.acl_normal.proofs.emit.Leaving.{masks_of_quiet}
-use Rattle.acl_normal.proofs.unique.ListColumns.{column-append, comes_from, no_other_bits}
+use Rattle.acl_normal.proofs.unique.ListColumns.{comes_from}
 use Rattle.acl_normal.proofs.unique.Weights.{length_under}
 use Rattle.acl_normal.proofs.unique.Kept.{within_from}
 use Rattle.acl_normal.proofs.plain.Candidates.{naming_within}
 use Rattle.acl_normal.proofs.reduce.Reducing.{only_one}
-use Rattle.acl_normal.proofs.unique.Unique.{who_is, column_with}
+use Rattle.acl_normal.proofs.Whoms.{who_is}
+use Rattle.acl_normal.proofs.unique.Columns.{column-append, column_with}
+use Rattle.acl_normal.proofs.unique.IrreducibleLists.{no_other_bits}
 
 -- the ACE of a list that is a key of a column
-pub record IsSource (b : ℕ) (xs : List Ace) (e : Key) : Type 0 where
+pub record IsSource (b : ℕ) (xs : List Ace) (e : ColumnKey) : Type 0 where
   pub before : List Ace
   pub item : Ace
   pub after : List Ace
@@ -25,11 +26,11 @@ pub record IsSource (b : ℕ) (xs : List Ace) (e : Key) : Type 0 where
   pub entry : ace_key item ≡ e
 
 -- columns that are the same begin with the same key, and go on the same
-pub first_same : (e f : Key) (c d : Column) → e ∷ c ≡ f ∷ d → (e ≡ f) × (c ≡ d)
+pub first_same : (e f : ColumnKey) (c d : Column) → e ∷ c ≡ f ∷ d → (e ≡ f) × (c ≡ d)
 first_same e f c d h = (cc, cc)
 
 -- a key of a column is an ACE of the list
-pub source_of : (b : ℕ) (xs : List Ace) (e : Key) → Has (column xs b) e → IsSource b xs e
+pub source_of : (b : ℕ) (xs : List Ace) (e : ColumnKey) → Has (column xs b) e → IsSource b xs e
 source_of b xs e h = let s = comes_from b xs h.before e h.after h.is in
     record { before = s.before; item = s.ace; after = s.after; is = s.is; has = s.has; entry = s.entry }
 
@@ -40,8 +41,9 @@ pub record IsTaken (source result : List Ace) : Type 0 where
   pub normal : IsNormal result
   pub grants : SameGrants all_rights source result
   pub lighter : weight result ≤ weight source
-  pub comes : (b : ℕ) (e : Key) → Has (column result b) e → Has (column source b) e
+  pub comes : (b : ℕ) (e : ColumnKey) → Has (column result b) e → Has (column source b) e
 
+-- a normal list has only rights
 masks_of : (xs : List Ace) → IsNormal xs → HasMasks xs
 masks_of xs n = masks_of_quiet xs (quiet_flags xs n.flags) (λ b out. no_other_bits xs b n.irreducible out)
 
@@ -57,7 +59,7 @@ bit_source source xs l a r b t is has = source_of b source (ace_key a) (t.comes 
     flags : a.flags ≡ flags_for (principal_of a)
     flags = at_split (λ v. v.flags ≡ flags_for (principal_of v)) xs l a r is t.normal.flags
 
--- and each ACE of the result has some bit
+-- each ACE of the result has some bit, and the source has an ACE with its key and that bit
 own_source : (source xs l : List Ace) (a : Ace) (r : List Ace) → IsTaken source xs → xs ≡ l ++ a ∷ r
     → (b : ℕ) × IsSource b source (ace_key a)
 own_source source xs l a r t is = elim (some_below a.mask 21) [
@@ -72,15 +74,16 @@ own_source source xs l a r t is = elim (some_below a.mask 21) [
     clash : false ≡ true → ⊥
     clash h = cc
 
+-- ACEs with one key have one who
 same_who : (a s : Ace) → ace_key s ≡ ace_key a → a.who ≡ s.who
 same_who a s e = sym (who_is a) ∙ ap (λ k. who_for k.0) (sym e) ∙ who_is s
 
--- and its bits are bits of that
+-- a bit of a set that is within another is one of the other
 bits_within : (set n b : ℕ) → IsWithin set n → has_bit n b ≡ true → has_bit set b ≡ true
 bits_within set n b is h =
     (and_parts (has_bit n b) (has_bit set b) (sym (has_bit-and n set b) ∙ ap (λ v. has_bit v b) is ∙ h)).1
 
--- the result is within what the source is within
+-- the result is within each profile that the source is within
 taken_kept : (source xs : List Ace) → IsTaken source xs → KeepsProfiles source xs
 taken_kept source xs t p h = from_splits (IsAce p) xs (λ l a r is.
     let (b, s) = own_source source xs l a r t is in
@@ -116,7 +119,7 @@ form_of source result accepted normal grants light kept = record {
   itself = λ n. sym (only_one source result source normal grants n (λ s valid request within. ((λ g. g), (λ g. g))));
 }
 
--- so it is the normal form
+-- a normal list that grants the same, is no heavier, and has keys of the source alone is its normal form
 pub form_from : (source xs : List Ace) → IsTaken source xs → IsAccepted full source → IsNormalFormOf source xs
 form_from source xs t ok = form_of source xs ok t.normal t.grants t.lighter (taken_kept source xs t)
 

@@ -5,8 +5,7 @@ use Rattle.acl_normal.proofs.unique.FirstKind.{alike_agree, clique_of}
 use Rattle.acl_normal.proofs.unique.Irreducible.{clean}
 use Rattle.acl_normal.proofs.unique.Free.{alike_lacking, once_from_clean}
 use Rattle.acl_normal.proofs.unique.SameOrder.{once_has, has_once}
-use Rattle.acl_normal.proofs.unique.FirstAndRest.{lacks_principal}
-use Rattle.acl_normal.proofs.unique.Shorter.{without_key, without_other}
+use Rattle.acl_normal.proofs.unique.Shorter.{without_key, without_other, lacks_principal}
 
 -- alike columns are alike without a principal
 pub alike_without : (p : Principal) (c d : Column) → IsAlike c d

@@ -1,9 +1,9 @@
 -- What an irreducible column looks like.
-use Rattle.acl_normal.proofs.Common.{[], Allow, ap, append_assoc, arith, Bool, Column, Deny, everyone, false, first_kind, is_either, is_either_or_everyone, IsIrreducible, IsOnce, IsSituation, Kind, matches, None, Option, Principal, principal_eq, refl, Situation, Some, subst, sym, true, verdict, ◌++◌, ◌∙◌, ◌∷◌, ◌≡◌, ◌⊎◌}
+use Rattle.acl_normal.proofs.Common.{[], Allow, ap, append_assoc, arith, Bool, Column, Deny, everyone, false, first_kind, is_either, is_either_or_everyone, IsIrreducible, IsOnce, IsSituation, Kind, matches, None, Option, Principal, principal_eq, refl, Situation, Some, subst, sym, true, verdict, ◌++◌, ◌∙◌, ◌∷◌, ◌≡◌, ◌⊎◌, same_Some}
 use Rattle.acl_normal.proofs.unique.Names.{principal_eq_same}
 use Rattle.acl_normal.proofs.unique.FirstKind.{splits_at}
 
--- to take out a key changes nothing where what comes after it decides alike
+-- a column decides the same without a key if what comes after the key decides so
 without_key : (m : Principal → Bool) (l r : Column) (p : Principal) (k : Kind)
     → (first_kind m l ≡ None → m p ≡ true → verdict m r ≡ k) → verdict m (l ++ (p, k) ∷ r) ≡ verdict m (l ++ r)
 without_key m [] r p k h = grind arith
@@ -20,6 +20,7 @@ pub not_needless : (c l r : Column) (p : Principal) (k : Kind) → IsIrreducible
 not_needless c l r p k irr is h =
     irr l (p, k) r is (λ s valid. ap (λ x. verdict (matches s) x) is ∙ without_key (matches s) l r p k (h s valid))
 
+-- a test that finds nothing in two columns together finds nothing in the second
 none_right : (m : Principal → Bool) (l r : Column) → first_kind m (l ++ r) ≡ None → first_kind m r ≡ None
 none_right m [] r h = h
 none_right m ((p, k) ∷ l) r h = grind (arith, none_right m l r)
@@ -34,7 +35,7 @@ shadowed c l r t p q k j irr is over =
     let here : matches s p ≡ true = over s at in
     absurd (grind arith))
 
--- no principal twice, and nothing after everyone
+-- no principal is twice in the column, and nothing is after everyone
 abbrev pub IsClean : Column → Type 0
 IsClean [] = Unit {0}
 IsClean ((p, k) ∷ r) = (first_kind (is_either p p) r ≡ None) × (principal_eq p everyone ≡ true → r ≡ []) × IsClean r
@@ -80,11 +81,24 @@ pub once_from_clean : (c : Column) → IsClean c → IsOnce c
 once_from_clean [] h = tt
 once_from_clean ((p, k) ∷ r) h = (h.0, once_from_clean r h.2)
 
--- everyone stands last, so that the first of two principals decides
+-- in a clean column the first of two principals decides, since everyone comes last
 pub first_decides : (p q : Principal) (c : Column) (k : Kind) → IsClean c → first_kind (is_either p q) c ≡ Some k
     → verdict (is_either_or_everyone p q) c ≡ k
 first_decides p q [] k clean h = cc
-first_decides p q ((x, j) ∷ r) k clean h = grind (arith, first_decides p q r k clean.2, clean.1)
+first_decides p q ((x, j) ∷ r) k clean h =
+    go (is_either p q x) (principal_eq x everyone) refl refl h (first_decides p q r k clean.2)
+  where
+    go : (e t : Bool) → is_either p q x ≡ e → principal_eq x everyone ≡ t
+        → first_kind (is_either p q) ((x, j) ∷ r) ≡ Some k
+        → (first_kind (is_either p q) r ≡ Some k → verdict (is_either_or_everyone p q) r ≡ k)
+        → verdict (is_either_or_everyone p q) ((x, j) ∷ r) ≡ k
+    go true t e f some ih = rw e (same_Some j k (rw e at some))
+    go false true e f some ih =
+        absurd (nothing (subst (λ v. first_kind (is_either p q) v ≡ Some k) (clean.1 f) (rw e at some)))
+      where
+        nothing : ◌≡◌ {A = Option Kind} None (Some k) → ⊥
+        nothing g = cc
+    go false false e f some ih = rw (e, f) (ih (rw e at some))
 
 -- tests that differ at one principal alone, which the column lacks, find the same
 pub first_kind_without : (m n : Principal → Bool) (x : Principal) (c : Column) → first_kind (is_either x x) c ≡ None
@@ -98,13 +112,13 @@ pub alone : (p q : Principal) (c : Column) → first_kind (is_either p p) c ≡ 
 alone p q [] none = refl
 alone p q ((x, j) ∷ c) none = grind (arith, alone p q c)
 
--- and where it lacks the second, the first
+-- of two principals, if the column lacks the second, the first alone decides
 pub alone_first : (p q : Principal) (c : Column) → first_kind (is_either q q) c ≡ None
     → first_kind (is_either p q) c ≡ first_kind (is_either p p) c
 alone_first p q [] none = refl
 alone_first p q ((x, j) ∷ c) none = grind (arith, alone_first p q c)
 
--- what lacks a principal lacks what is told to be the same
+-- a column that lacks a principal lacks each that passes the test for the same principal
 pub lacks_same : (p x : Principal) (c : Column) → first_kind (is_either p p) c ≡ None → principal_eq p x ≡ true
     → first_kind (is_either x x) c ≡ None
 lacks_same p x c none e = subst (λ v. first_kind (is_either v v) c ≡ None) (principal_eq_same p x e) none

@@ -1,6 +1,6 @@
 -- ACEs with fewer bits stay within what the list is within.
-use Rattle.std.proofs.Common.{◌≡◌, ℕ, ◌<◌, Bool, true, List, [], ◌∷◌, ◌++◌, length}
-use Rattle.acl_normal.proofs.Common.{Ace, ace, AceRef, aces_in, ap, arith, get_or-map, has_bit, has_bit-and, IsAce, IsDifference, IsWithin, KeepsProfiles, length-map, no_ace, not, Profile, same_set, slice_index_or, subst, sym, ◌&&◌, ◌∙◌}
+use Rattle.std.proofs.Common.{◌≡◌, ℕ, ◌<◌, true, List, [], ◌∷◌, ◌++◌, length}
+use Rattle.acl_normal.proofs.Common.{Ace, ace, AceRef, aces_in, ap, arith, get_or-map, has_bit, has_bit-and, IsAce, IsDifference, IsWithin, KeepsProfiles, length-map, no_ace, not, Profile, same_set, slice_index_or, subst, sym, ◌∙◌, and_parts}
 use Rattle.acl_nfs4.proofs.Exports.{each_push}
 use Rattle.acl_normal.proofs.Each.{all_at}
 use Rattle.acl_normal.specs.internal.Passes.{IsWithinAs}
@@ -10,23 +10,17 @@ use Rattle.acl_normal.proofs.plain.Passes.{list_of-append}
 pub within_from : (set m : ℕ) → ((k : ℕ) → has_bit m k ≡ true → has_bit set k ≡ true) → IsWithin set m
 within_from set m inside = same_set _ _ (λ k. grind (arith, has_bit-and m set k, inside k))
 
-second_true : (a b : Bool) → a ≡ true → (a && b) ≡ a → b ≡ true
-second_true a b e h = grind arith
-
--- so is a set with fewer bits than one that is within the other
+-- a set with fewer bits than one that is within another set is within that set
 pub within_fewer : (set m n : ℕ) → IsWithin set n → ((k : ℕ) → has_bit m k ≡ true → has_bit n k ≡ true) → IsWithin set m
 within_fewer set m n is fewer = within_from set m (λ k h.
-    second_true (has_bit n k) (has_bit set k) (fewer k h) (sym (has_bit-and n set k) ∙ ap (λ (v : ℕ). has_bit v k) is))
+    (and_parts (has_bit n k) (has_bit set k)
+    (sym (has_bit-and n set k) ∙ ap (λ (v : ℕ). has_bit v k) is ∙ fewer k h)).1)
 
--- the first of two that hold together
-pub front_true : (a b : Bool) → (a && b) ≡ true → a ≡ true
-front_true a b e = grind arith
-
--- a difference has no other bits
+-- the difference of two sets has only bits of the first
 pub difference_fewer : (m n d : ℕ) → IsDifference m n d → (k : ℕ) → has_bit d k ≡ true → has_bit m k ≡ true
-difference_fewer m n d is k h = front_true (has_bit m k) (not (has_bit n k)) (sym (is k) ∙ h)
+difference_fewer m n d is k h = (and_parts (has_bit m k) (not (has_bit n k)) (sym (is k) ∙ h)).0
 
--- an ACE with fewer bits
+-- an ACE with fewer bits is an ACE of the profile, if the ACE is
 pub fewer_bits : (p : Profile) (a r : Ace) → r.flags ≡ a.flags → r.who ≡ a.who
     → ((k : ℕ) → has_bit r.mask k ≡ true → has_bit a.mask k ≡ true) → IsAce p a → IsAce p r
 fewer_bits p a r flags who fewer h = record {

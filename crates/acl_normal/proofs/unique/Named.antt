@@ -8,23 +8,25 @@ use Rattle.acl_normal.proofs.Each.{from_splits}
 use Rattle.acl_normal.proofs.unique.Names.{bytes_eq_same}
 use Rattle.acl_normal.proofs.unique.Irreducible.{not_needless}
 
--- each number is a byte
+-- each number is a byte, as a test
 abbrev pub are_bytes : List ℕ → Bool
 are_bytes [] = true
 are_bytes (b ∷ a) = nat_lt b 256 && are_bytes a
 
+-- the test for bytes of which there are some decides what is a name
 Decides-is_name : (a : List ℕ) → Decides (nat_lt 0 (length a) && are_bytes a) (IsName a)
 Decides-is_name a =
     Decides-and (nat_lt 0 (length a)) (are_bytes a) (Decides-ltb 0 (length a))
     (Decides-by_and (λ b. nat_lt b 256) (λ b. b < 256) are_bytes (λ b. Decides-ltb b 256) refl (λ _ _. refl) a)
 
+-- one of some names is a name
 one_of_names : (a : List ℕ) (names : List (List ℕ)) → AllByRecursion IsName names → is_one_of a names ≡ true → IsName a
 one_of_names a [] h i = absurd (cc)
 one_of_names a (x ∷ names) h i =
     ⊎_elim (λ e. subst (λ v. IsName v) (sym (bytes_eq_same a x e)) h.0) (λ e. one_of_names a names h.1 e)
     (or_cases (bytes_eq a x) (is_one_of a names) i)
 
--- what can't lack being a name is one
+-- if it can't be that some bytes are no name, they are a name
 name_unless : (a : List ℕ) → ((IsName a → ⊥) → ⊥) → IsName a
 name_unless a h = go (nat_lt 0 (length a) && are_bytes a) refl
   where

@@ -1,23 +1,19 @@
--- When two principals are the same, and when they overlap.
-use Rattle.acl_normal.proofs.Common.{ap, arith, Bool, bytes_eq, everyone, group, group_named, is_either, is_either_or_everyone, List, matches, may_overlap, or_left, or_right, owner, Principal, principal_eq, refl, Situation, sym, true, user, ℕ, ◌≡◌, Column, longest, map}
+-- When two principals, two kinds or two keys are the same, and when two principals overlap.
+use Rattle.acl_normal.proofs.Common.{Bool, Column, ColumnKey, Kind, List, Principal, and_from, and_parts, ap, arith, bytes_eq, everyone, group, group_named, is_either, is_either_or_everyone, key_eq, kind_eq, longest, map, may_overlap, or_left, or_right, owner, principal_eq, refl, same_answers, subst, sym, true, user, ℕ, ◌∙◌, ◌≡◌}
 use Rattle.std.proofs.lemmas.Slice.Eq.{bytes_eq-Decides}
-use Rattle.acl_perm.proofs.Meetings.{overlap_is}
-use Rattle.acl_perm.proofs.Bools.{same_answers}
+-- a name is equal to itself
+pub use Rattle.acl_perm.proofs.Meetings.{itself as bytes_eq_itself}
 use Rattle.acl_perm.specs.Principal.{is_everyone}
 
 -- the number of bytes of the longest name in a column
 abbrev pub longest_name : Column → ℕ
 longest_name c = longest (map (λ e. e.0) c)
 
--- the test for everyone is that for the same principal
+-- the test for everyone is the test for the same principal as everyone
 pub everyone_test : (p : Principal) → is_everyone p ≡ principal_eq p everyone
 everyone_test p = grind arith
 
--- a name is the same as itself
-pub bytes_eq_itself : (a : List ℕ) → bytes_eq a a ≡ true
-bytes_eq_itself a = (bytes_eq-Decides a a).1 refl
-
--- names that are told to be the same are
+-- names that pass the test for the same bytes are equal
 pub bytes_eq_same : (a b : List ℕ) → bytes_eq a b ≡ true → a ≡ b
 bytes_eq_same a b = (bytes_eq-Decides a b).0
 
@@ -31,7 +27,7 @@ bytes_eq_turned a b = same_answers (bytes_eq a b) (bytes_eq b a)
 pub principal_eq_itself : (p : Principal) → principal_eq p p ≡ true
 principal_eq_itself p = grind (arith, bytes_eq_itself)
 
--- principals that are told to be the same are
+-- principals that pass the test for the same principal are equal
 pub principal_eq_same : (p q : Principal) → principal_eq p q ≡ true → p ≡ q
 principal_eq_same owner owner h = refl
 principal_eq_same (user a) (user b) h = ap user (bytes_eq_same a b h)
@@ -40,28 +36,29 @@ principal_eq_same (group_named a) (group_named b) h = ap group_named (bytes_eq_s
 principal_eq_same everyone everyone h = refl
 principal_eq_same _ _ h = cc
 
+-- two principals are compared alike either way round
+pub principal_eq_turned : (p q : Principal) → principal_eq p q ≡ principal_eq q p
+principal_eq_turned p q = same_answers (principal_eq p q) (principal_eq q p)
+    (λ h. subst (λ v. principal_eq v p ≡ true) (principal_eq_same p q h) (principal_eq_itself p))
+    (λ h. subst (λ v. principal_eq v q ≡ true) (principal_eq_same q p h) (principal_eq_itself q))
+
 -- a principal overlaps itself
 pub overlaps_itself : (p : Principal) → may_overlap p p ≡ true
 overlaps_itself p = grind (arith, bytes_eq_itself)
 
--- everyone overlaps all
+-- each principal overlaps with everyone
 pub overlaps_everyone : (p : Principal) → may_overlap p everyone ≡ true
 overlaps_everyone p = grind arith
 
--- who overlaps is overlapped
+-- if a principal overlaps with another, the other overlaps with it
 pub overlaps_back : (p q : Principal) → may_overlap p q ≡ true → may_overlap q p ≡ true
 overlaps_back p q h = grind (arith, bytes_eq_turned)
-
--- two principals that match in one situation overlap
-pub matches_overlap : (s : Situation) (p q : Principal) → matches s p ≡ true → matches s q ≡ true
-    → may_overlap p q ≡ true
-matches_overlap s p q h i = (overlap_is p q).1 (s, h, i)
 
 -- the first of two is one of them
 pub either_first : (p q : Principal) → is_either p q p ≡ true
 either_first p q = or_left _ _ (principal_eq_itself p)
 
--- and so is the second
+-- the second of two is one of them
 pub either_second : (p q : Principal) → is_either p q q ≡ true
 either_second p q = or_right _ _ (principal_eq_itself q)
 
@@ -79,6 +76,24 @@ either_or_everyone_within m p q hp hq he x h = grind (arith, principal_eq_same)
 pub or_everyone_first : (p q : Principal) → is_either_or_everyone p q p ≡ true
 or_everyone_first p q = or_left (is_either p q p) _ (either_first p q)
 
--- and so is the second
+-- the second of two principals is one of these two or everyone
 pub or_everyone_second : (p q : Principal) → is_either_or_everyone p q q ≡ true
 or_everyone_second p q = or_left (is_either p q q) _ (either_second p q)
+
+-- kinds that pass the test for the same kind are equal
+pub kind_eq_same : (j k : Kind) → kind_eq j k ≡ true → j ≡ k
+kind_eq_same j k h = grind arith
+
+-- a kind is the same as itself
+pub kind_eq_itself : (j : Kind) → kind_eq j j ≡ true
+kind_eq_itself j = grind arith
+
+-- keys that pass the test for the same key are equal
+pub key_eq_same : (k l : ColumnKey) → key_eq k l ≡ true → k ≡ l
+key_eq_same k l h =
+    let both = and_parts (principal_eq k.0 l.0) (kind_eq k.1 l.1) h in
+    ap (λ v. (v, k.1)) (principal_eq_same k.0 l.0 both.0) ∙ ap (λ v. (l.0, v)) (kind_eq_same k.1 l.1 both.1)
+
+-- a key is the same as itself
+pub key_eq_itself : (k : ColumnKey) → key_eq k k ≡ true
+key_eq_itself k = and_from (principal_eq k.0 k.0) (kind_eq k.1 k.1) (principal_eq_itself k.0) (kind_eq_itself k.1)

@@ -4,15 +4,16 @@ use mathlib.Core.Logic.Iff.{trans}
 use Rattle.acl_normal.proofs.Each.{at_split, from_splits}
 use Rattle.acl_normal.proofs.unique.Names.{overlaps_itself, either_first}
 use Rattle.acl_normal.proofs.unique.FirstKind.{alike_agree, clique_of, only_at}
-use Rattle.acl_normal.proofs.unique.ListColumns.{column-append, column_without, irreducible_column, same_grants_from_columns, same_verdicts, names_in_column}
-use Rattle.acl_normal.proofs.unique.Unique.{no_inherit_only}
+use Rattle.acl_normal.proofs.unique.ListColumns.{column_without, same_grants_from_columns, same_verdicts, names_in_column}
 use Rattle.acl_normal.proofs.unique.SameOrder.{has_once}
 use Rattle.acl_normal.proofs.unique.Shorter.{first_kind_after}
 use Rattle.acl_normal.proofs.unique.Settled.{settled_alike, settled_irreducible}
 use Rattle.acl_normal.proofs.unique.Invariant.{irreducible_alike, same_by_alike}
 use Rattle.acl_normal.proofs.plain.Reduced.{same_reduced, reduced_settled}
+use Rattle.acl_normal.proofs.unique.Columns.{column-append, no_inherit_only}
+use Rattle.acl_normal.proofs.unique.IrreducibleLists.{irreducible_column}
 
--- the principals of a column that is alike another are among those of the other
+-- the principals of a column have names if those of an alike column have
 named_alike : (c d : Column) → HaveNames c → IsAlike c d → HaveNames d
 named_alike c d names a =
     from_splits (λ e. HasName e.0) d (λ l e r is. at l e.0 e.1 r is (first_kind (is_either e.0 e.0) d) refl)
@@ -30,7 +31,7 @@ pub quiet_at : (l : List Ace) (a : Ace) (r : List Ace) → IsQuiet (l ++ a ∷ r
 quiet_at [] a r h = h.0
 quiet_at (b ∷ l) a r h = quiet_at l a r h.1
 
--- with normal flags each key takes part
+-- a list with normal flags is quiet
 pub quiet_flags : (xs : List Ace) → HasNormalFlags xs → IsQuiet xs
 quiet_flags [] h = tt
 quiet_flags (a ∷ xs) h =
@@ -39,12 +40,12 @@ quiet_flags (a ∷ xs) h =
     clash : true ≡ false → a.mask ≡ 0
     clash e = cc
 
--- in such a list a key with a bit takes part with it
+-- an ACE that takes part or has no bit counts at each bit that it has
 pub counts_mask : (b : ℕ) (a : Ace) → (is_inherit_only a ≡ true → a.mask ≡ 0)
     → (has_bit a.mask b && not (is_inherit_only a)) ≡ has_bit a.mask b
 counts_mask b a h = grind (arith, bit_at-zero b)
 
--- an ACE of a quiet list is a key of the column of each of its bits
+-- an ACE that takes part or has no bit is a key of the column of each of its bits
 pub column_quiet : (b : ℕ) (a : Ace) (xs : List Ace) → (is_inherit_only a ≡ true → a.mask ≡ 0)
     → has_bit a.mask b ≡ true → column (a ∷ xs) b ≡ ace_key a ∷ column xs b
 column_quiet b a xs h has = rw (counts_mask b a h ∙ has) refl

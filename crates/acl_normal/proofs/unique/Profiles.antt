@@ -5,6 +5,7 @@ use Rattle.acl_eval.specs.Grant.{grants_bit}
 use Rattle.acl_eval.proofs.Same.{by_columns}
 use Rattle.acl_normal.proofs.unique.Columns.{column_lacks}
 
+-- a set within one that lacks a bit lacks the bit
 lacks_bit : (set n k : ℕ) → IsWithin set n → has_bit set k ≡ false → has_bit n k ≡ false
 lacks_bit set n k is h = grind (arith, ap (λ (m : ℕ). has_bit m k) is, has_bit-and n set k)
 
@@ -15,12 +16,12 @@ column_outside p [] bit h out = refl
 column_outside p (a ∷ list) bit h out =
     column_lacks bit a list (rw (lacks_bit p.masks a.mask bit h.0.1 out) refl) ∙ column_outside p list bit h.1 out
 
--- such a list denies what is outside
+-- a list that fits a profile denies each bit outside it
 pub denied_outside : (p : Profile) (list : List Ace) (s : Situation) (bit : ℕ) → Fits p list
     → has_bit p.masks bit ≡ false → grants_bit list s bit ≡ false
 denied_outside p list s bit h out = ap (λ c. is_allow (verdict (matches s) c)) (column_outside p list bit h out)
 
--- lists that fit a profile grant the same rights of it exactly if they grant the same rights
+-- lists that fit a profile grant the same rights of it if and only if they grant the same rights
 pub same_within : (p : Profile) (list other : List Ace) → IsProfile p → Fits p list → Fits p other
     → SameGrants p.masks list other ↔ SameGrants all_rights list other
 same_within p list other is fits fits_other = (

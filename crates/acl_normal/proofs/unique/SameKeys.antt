@@ -2,11 +2,12 @@
 use Rattle.acl_normal.proofs.Common.{ap, arith, Bool, Column, cond, Deny, everyone, false, first_kind, HasName, HaveNames, is_either, is_either_or_everyone, IsAlike, IsIrreducible, Kind, matches, may_overlap, None, Option, Principal, principal_eq, refl, SameVerdicts, Some, subst, sym, true, unwrap_or, verdict, without_principal, ◌++◌, ◌∙◌, ◌∷◌, ◌≡◌}
 use Rattle.acl_normal.proofs.unique.Names.{principal_eq_same, either_first, either_second, either_within, overlaps_itself, overlaps_back, overlaps_everyone}
 use Rattle.acl_normal.proofs.unique.FirstKind.{AgreeWhere, IsWithin, SplitsAt, append_none, clique_of, cliques_agree, first_kind_same, first_within, none_within, only_at, splits_at}
-use Rattle.acl_normal.proofs.unique.Realised.{cond_holds, pairs_from_situations}
+use Rattle.acl_normal.proofs.unique.Realised.{pairs_from_situations}
 use Rattle.acl_normal.proofs.unique.Irreducible.{allows_everyone, clean, either_is, first_decides, first_kind_without, once_from_clean}
 use Rattle.acl_normal.proofs.unique.Shorter.{names_without, without_key, without_other}
+use Rattle.acl_normal.proofs.Each.{cond_holds}
 
--- a test that doesn't pass what the column has alone
+-- a test that passes no key up to a principal finds what is behind it
 pub skip_to : (n : Principal → Bool) (l r : Column) (x : Principal) (k : Kind) → first_kind n l ≡ None → n x ≡ false
     → first_kind n (l ++ (x, k) ∷ r) ≡ first_kind n r
 skip_to n l r x k none skip = append_none n l ((x, k) ∷ r) none ∙ rw skip refl
@@ -20,19 +21,21 @@ stop_at n l r x k none at = append_none n l ((x, k) ∷ r) none ∙ rw at refl
 abbrev off : Principal → Principal → Principal
 off x p = cond (principal_eq x p) everyone p
 
+-- two principals that overlap do so with everyone in the place of x
 off_overlap : (x p q : Principal) → may_overlap p q ≡ true → may_overlap (off x p) (off x q) ≡ true
 off_overlap x p q o = grind (arith, overlaps_everyone p)
 
--- x apart, two principals and everyone are the same without it
+-- for each principal but x, two principals and everyone are the same with everyone in the place of x
 off_is : (x p q z : Principal) → principal_eq z x ≡ false
     → is_either_or_everyone p q z ≡ is_either_or_everyone (off x p) (off x q) z
 off_is x p q z e = grind (arith, principal_eq_same x p, principal_eq_same x q)
 
+-- two principals and everyone, with everyone in the place of x, are not x
 off_misses : (x p q : Principal) → principal_eq x everyone ≡ false
     → is_either_or_everyone (off x p) (off x q) x ≡ false
 off_misses x p q n = grind arith
 
--- where an alike-deciding column lacks a principal, the column decides as without it
+-- if one of two columns that decide alike lacks a principal, the other decides alike without it
 lost_agrees : (c d : Column) (x : Principal) → principal_eq x everyone ≡ false → AgreeWhere HasName c d
     → first_kind (is_either x x) d ≡ None → AgreeWhere HasName c (without_principal x c)
 lost_agrees c d x n agree missing p q np nq o =
@@ -44,7 +47,7 @@ lost_agrees c d x n agree missing p q np nq o =
     ∙ sym (ap (λ o. unwrap_or o Deny)
     (without_other (is_either_or_everyone p q) m x c (off_misses x p q n) (off_is x p q)))
 
--- and everyone isn't absent either
+-- if an irreducible column has a key of everyone, a column that decides alike has one
 everyone_lost : (c d : Column) (k : Kind) → IsIrreducible c → AgreeWhere HasName c d
     → first_kind (is_either everyone everyone) c ≡ Some k → first_kind (is_either everyone everyone) d ≡ None → ⊥
 everyone_lost c d k irr agree h i =
@@ -55,7 +58,7 @@ everyone_lost c d k irr agree h i =
     let same = agree everyone everyone tt tt refl in
     cc
 
--- what comes first in an irreducible column isn't absent from another that decides alike
+-- if an irreducible column has a key of one of two principals, a column that decides alike has one
 present : (c d : Column) (p q : Principal) (k : Kind) → IsIrreducible c → HaveNames c → AgreeWhere HasName c d
     → first_kind (is_either p q) c ≡ Some k → first_kind (is_either p q) d ≡ None → ⊥
 present c d p q k irr names agree h i = go (splits_at (is_either p q) c k h)
@@ -83,6 +86,7 @@ present c d p q k irr names agree h i = go (splits_at (is_either p q) c k h)
             (names_without HasName x c names) (lost_agrees c d x e agree missing)
             ∙ ap (verdict (matches v)) (without_key c s.before s.after x k (once_from_clean c (clean c irr)) s.is))
 
+-- each two of two principals that overlap do so
 either_overlap : (p q : Principal) → may_overlap p q ≡ true → (x y : Principal) → is_either p q x ≡ true
     → is_either p q y ≡ true → may_overlap x y ≡ true
 either_overlap p q o x y h i =

@@ -1,13 +1,13 @@
 -- Irreducible lists that grant the same: the same bits, in the same order.
-use Rattle.acl_normal.proofs.Common.{[], Ace, all_rights, and_parts, ap, append_assoc, arith, Bool, Column, column, conflicts, false, false_from_ne_true, first_kind, Has, is_either, IsAlike, IsIrreducibleList, IsOnce, Key, Kind, kind_eq, List, may_overlap, None, not, or_right, Principal, principal_eq, refl, SameGrants, Some, subst, sym, true, ℕ, ⊎_elim, ◌++◌, ◌∙◌, ◌∷◌, ◌≡◌}
+use Rattle.acl_normal.proofs.Common.{Ace, Bool, Column, ColumnKey, Has, IsAlike, IsIrreducibleList, IsOnce, Kind, List, None, Principal, SameGrants, Some, [], all_rights, and_parts, ap, append_assoc, arith, column, conflicts, false, false_from_ne_true, first_kind, is_either, kind_eq, may_overlap, not, or_right, principal_eq, refl, same_Some, subst, sym, true, ℕ, ⊎_elim, ◌++◌, ◌∙◌, ◌∷◌, ◌≡◌}
 use Rattle.acl_normal.specs.Laws.{Precedes}
-use Rattle.acl_normal.proofs.unique.Names.{principal_eq_itself, either_first, overlaps_itself}
-use Rattle.acl_normal.proofs.unique.FirstKind.{SplitsAt, splits_at, none_within}
+use Rattle.acl_normal.proofs.unique.Names.{either_first, kind_eq_itself, overlaps_itself, principal_eq_itself}
+use Rattle.acl_normal.proofs.unique.FirstKind.{SplitsAt, none_within, splits_at}
 use Rattle.acl_normal.proofs.unique.Irreducible.{clean, either_is, either_same}
 use Rattle.acl_normal.proofs.unique.Shorter.{once_before}
-use Rattle.acl_normal.proofs.unique.Free.{once_from_clean, kind_eq_itself, some_same}
+use Rattle.acl_normal.proofs.unique.Free.{once_from_clean}
 use Rattle.acl_normal.proofs.unique.SameKeys.{skip_to, stop_at}
-use Rattle.acl_normal.proofs.unique.ListColumns.{irreducible_column, alike_columns}
+use Rattle.acl_normal.proofs.unique.IrreducibleLists.{alike_columns, irreducible_column}
 
 -- a key of a column without repetition is the first of its principal
 pub once_has : (c : Column) (p : Principal) (k : Kind) → IsOnce c → Has c (p, k) → first_kind (is_either p p) c ≡ Some k
@@ -24,24 +24,28 @@ has_once c p k h =
 
 -- irreducible lists that grant the same have the same bits with the same kinds
 pub same_bits : (xs ys : List Ace) → IsIrreducibleList xs → IsIrreducibleList ys → SameGrants all_rights xs ys
-    → (b : ℕ) (e : Key) → Has (column xs b) e → Has (column ys b) e
+    → (b : ℕ) (e : ColumnKey) → Has (column xs b) e → Has (column ys b) e
 same_bits xs ys ix iy same b e h =
     has_once (column ys b) e.0 e.1
     (sym (alike_columns xs ys ix iy same b e.0 e.0 (overlaps_itself e.0))
     ∙ once_has (column xs b) e.0 e.1 (once_from_clean _ (clean _ (irreducible_column xs b ix))) h)
 
+-- a test that finds nothing in two columns together finds nothing in the first
 none_left : (m : Principal → Bool) (l r : Column) → first_kind m (l ++ r) ≡ None → first_kind m l ≡ None
 none_left m [] r h = refl
 none_left m ((p, k) ∷ l) r h = grind (arith, none_left m l r)
 
+-- a column that lacks each of two principals lacks both
 neither : (p q : Principal) (c : Column) → first_kind (is_either p p) c ≡ None → first_kind (is_either q q) c ≡ None
     → first_kind (is_either p q) c ≡ None
 neither p q [] np nq = refl
 neither p q ((x, j) ∷ c) np nq = grind (arith, neither p q c)
 
+-- keys that conflict do not have one kind
 conflict_kinds : (p q : Principal) (k j : Kind) → conflicts (p, k) (q, j) ≡ true → k ≡ j → ⊥
 conflict_kinds p q k j h e = grind (arith, kind_eq_itself)
 
+-- if two keys conflict, the one that comes first in a column does in an alike column
 precedes_alike : (c d : Column) (p q : Principal) (k j : Kind) → IsOnce c → IsOnce d → IsAlike c d
     → conflicts (p, k) (q, j) ≡ true → Precedes c (p, k) (q, j) → Precedes d (p, k) (q, j)
 precedes_alike c d p q k j oc od a conflict h = go (splits_at (is_either p q) d k in_d)
@@ -78,7 +82,7 @@ precedes_alike c d p q k j oc od a conflict h = go (splits_at (is_either p q) d 
 
     apart : p ≡ q → ⊥
     apart e =
-        conflict_kinds p q k j conflict (some_same (sym p_in_d ∙ ap (λ v. first_kind (is_either v v) d) e ∙ q_in_d))
+        conflict_kinds p q k j conflict (same_Some _ _ (sym p_in_d ∙ ap (λ v. first_kind (is_either v v) d) e ∙ q_in_d))
 
     after_p : (s : SplitsAt (is_either p q) d k) → s.principal ≡ p → Precedes d (p, k) (q, j)
     after_p s e =
@@ -116,11 +120,11 @@ precedes_alike c d p q k j oc od a conflict h = go (splits_at (is_either p q) d 
               is = s.is
                   ∙ ap (λ v. s.before ++ (v, k) ∷ s.after) e;
             }) in
-            conflict_kinds p q k j conflict (some_same (sym k_at_q ∙ q_in_d))
+            conflict_kinds p q k j conflict (same_Some _ _ (sym k_at_q ∙ q_in_d))
 
--- and those that conflict in the same order
+-- irreducible lists that grant the same have the keys that conflict in the same order
 pub same_order : (xs ys : List Ace) → IsIrreducibleList xs → IsIrreducibleList ys → SameGrants all_rights xs ys
-    → (b : ℕ) (e f : Key) → conflicts e f ≡ true → Precedes (column xs b) e f → Precedes (column ys b) e f
+    → (b : ℕ) (e f : ColumnKey) → conflicts e f ≡ true → Precedes (column xs b) e f → Precedes (column ys b) e f
 same_order xs ys ix iy same b e f conflict h =
     precedes_alike (column xs b) (column ys b) e.0 f.0 e.1 f.1
     (once_from_clean _ (clean _ (irreducible_column xs b ix)))

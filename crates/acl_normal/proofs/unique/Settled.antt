@@ -1,7 +1,6 @@
 -- Settled columns, and that they are irreducible.
-use Rattle.acl_normal.proofs.Common.{[], Allow, ap, arith, Bool, Column, Deny, everyone, false, false_from_ne_true, first_kind, HasName, HaveNames, inl, inr, is_either, is_either_or_everyone, IsAlike, IsIrreducible, IsOnce, Kind, may_overlap, None, Option, Principal, principal_eq, refl, Some, subst, sym, true, unwrap_or, verdict, without_principal, ◌++◌, ◌||◌, ◌∙◌, ◌∷◌, ◌≡◌, ◌⊎◌}
+use Rattle.acl_normal.proofs.Common.{[], Allow, ap, arith, Bool, Column, Deny, everyone, false, false_from_ne_true, first_kind, HasName, HaveNames, inl, inr, is_either, is_either_or_everyone, IsAlike, IsIrreducible, IsOnce, Kind, may_overlap, None, Option, Principal, principal_eq, refl, Some, subst, sym, true, unwrap_or, verdict, without_principal, ◌++◌, ◌||◌, ◌∙◌, ◌∷◌, ◌≡◌, ◌⊎◌, same_Some}
 use Rattle.acl_normal.proofs.unique.Names.{principal_eq_same, overlaps_itself, overlaps_everyone}
-use Rattle.acl_normal.proofs.unique.Free.{some_same}
 use Rattle.acl_normal.proofs.unique.FirstKind.{first_kind_same, only_at}
 use Rattle.acl_normal.proofs.unique.Shorter.{without_key, without_other}
 use Rattle.acl_normal.proofs.unique.Irreducible.{first_kind_without}
@@ -18,7 +17,7 @@ abbrev pub everyone_for : Kind → Option Kind
 everyone_for Deny = None
 everyone_for Allow = Some Allow
 
--- why a key of the default kind is needed: a key of the other kind that may_overlap comes after it
+-- why a key of the default kind is needed: a key of the other kind that overlaps comes after it
 pub record IsWitness (c : Column) (d : Kind) (p q : Principal) : Type 0 where
   pub not_everyone : principal_eq q everyone ≡ false
   pub overlap : may_overlap p q ≡ true
@@ -58,7 +57,7 @@ both_allow : (m n : Principal → Bool) (c : Column) → first_kind m c ≡ Some
 both_allow m n [] h i = cc
 both_allow m n ((x, k) ∷ c) h i = grind (arith, both_allow m n c)
 
--- the kind of the default decides, with everyone
+-- if the first of two principals has the kind of the default, this kind decides with everyone
 default_decides : (p q : Principal) (c : Column) (d : Kind) → first_kind (is_either p q) c ≡ Some d
     → first_kind (is_either everyone everyone) c ≡ everyone_for d → verdict (is_either_or_everyone p q) c ≡ d
 default_decides p q c Deny h i = ap (λ o. unwrap_or o Deny) (first_kind_without (is_either_or_everyone p q)
@@ -67,7 +66,7 @@ default_decides p q c Allow h i = ap (λ o. unwrap_or o Deny) (first_kind_same (
     (λ z. is_either p q z || is_either everyone everyone z) c (λ z. grind arith))
     ∙ both_allow (is_either p q) (is_either everyone everyone) c h i
 
--- and the other kind decides, since everyone comes after a denial
+-- a key of the other kind decides with everyone, since everyone comes after a denial
 other_decides : (c : Column) (d : Kind) (q : Principal) → IsSettled c d
     → first_kind (is_either q q) c ≡ Some (opposite d) → verdict (is_either_or_everyone q q) c ≡ opposite d
 other_decides c Allow q s h = ap (λ o. unwrap_or o Deny)
@@ -81,13 +80,13 @@ without_first : (p q : Principal) (c : Column) → principal_eq p everyone ≡ f
 without_first p q c n o = ap (λ o. unwrap_or o Deny) (without_other (is_either_or_everyone p q)
     (is_either_or_everyone q q) p c (grind arith) (λ z e. grind arith))
 
--- without the only one, everyone does
+-- a column without a principal decides for the principal and everyone as everyone does
 without_one : (p : Principal) (c : Column) → principal_eq p everyone ≡ false
     → verdict (is_either_or_everyone p p) (without_principal p c) ≡ verdict (is_either everyone everyone) c
 without_one p c n = ap (λ o. unwrap_or o Deny) (without_other (is_either_or_everyone p p)
     (is_either everyone everyone) p c (grind arith) (λ z e. grind arith))
 
--- without everyone, nobody is allowed
+-- a column without everyone allows nobody by that name
 without_everyone : (c : Column)
     → verdict (is_either_or_everyone everyone everyone) (without_principal everyone c) ≡ Deny
 without_everyone [] = refl
@@ -100,13 +99,15 @@ everyone_allows : (c : Column) (d k : Kind) → first_kind (is_either everyone e
 everyone_allows c Deny k i h v = cc
 everyone_allows c Allow k i h v = let allowed = default_decides everyone everyone c Allow i i in cc
 
+-- the default of a settled column is the given kind
 settled_default : (c : Column) (d : Kind) → IsSettled c d → verdict (is_either everyone everyone) c ≡ d
 settled_default c d h = grind (arith, h.everyone_is)
 
--- one kind or the other, and never both
+-- a kind is equal to another or opposite to it
 pub two_kinds : (j k : Kind) → (j ≡ k) ⊎ (j ≡ opposite k)
 two_kinds j k = grind arith
 
+-- no kind is its own opposite
 kinds_clash : {P : Type 0} (k : Kind) → opposite k ≡ k → P
 kinds_clash k h = absurd (grind arith)
 
@@ -129,7 +130,7 @@ settled_irreducible c d once names s l (p, k) r is same = go (principal_eq p eve
     by_witness e f (q, w) =
         let has = has_once c q (opposite d) w.kind in
         let q_named = only_at HasName c has.before has.after q (opposite d) has.is names in
-        let apart : principal_eq p q ≡ false = false_from_ne_true _ (λ t. kinds_clash d (some_same (sym w.kind
+        let apart : principal_eq p q ≡ false = false_from_ne_true _ (λ t. kinds_clash d (same_Some _ _ (sym w.kind
         ∙ ap (λ v. first_kind (is_either v v) c) (sym (principal_eq_same p q t)) ∙ at_p ∙ ap Some f))) in
         kinds_clash d (sym (other_decides c d q s w.kind) ∙ sym (without_first p q c e apart)
         ∙ sym (agree q q_named w.overlap) ∙ default_decides p q c d w.after s.everyone_is)

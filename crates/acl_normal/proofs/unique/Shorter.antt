@@ -3,12 +3,12 @@ use Rattle.acl_normal.proofs.Common.{[], AllByRecursion, ap, arith, Bool, Column
 use Rattle.std.proofs.lemmas.Bool.{cond_both}
 use Rattle.acl_normal.proofs.unique.Names.{principal_eq_itself, principal_eq_same}
 
--- no column grows
+-- a column has no more keys without a principal
 pub without_no_longer : (p : Principal) (c : Column) → length (without_principal p c) ≤ length c
 without_no_longer p [] = omega arith
 without_no_longer p ((s, i) ∷ c) = grind (arith, without_no_longer p c)
 
--- one that loses a key is shorter
+-- a column has fewer keys without a principal of which it has one
 pub without_shorter : (p : Principal) (c : Column) (k : Kind) → first_kind (is_either p p) c ≡ Some k
     → length (without_principal p c) < length c
 without_shorter p [] k h = cc
@@ -28,7 +28,7 @@ pub first_kind_after : (m : Principal → Bool) (l : Column) (p : Principal) (k 
 first_kind_after m [] p k r h = grind arith
 first_kind_after m ((q, j) ∷ l) p k r h = grind (arith, first_kind_after m l p k r)
 
--- before its own key, and after it, a column without repetition lacks the principal
+-- before the key of a principal, a column without repetition lacks it
 pub once_before : (l : Column) (p : Principal) (k : Kind) (r : Column) → IsOnce (l ++ (p, k) ∷ r)
     → first_kind (is_either p p) l ≡ None
 once_before [] p k r h = refl
@@ -41,17 +41,18 @@ once_before ((q, j) ∷ l) p k r h =
       principal_eq_itself,
     )
 
--- behind its own key a column without repetition lacks the principal
+-- behind the key of a principal, a column without repetition lacks it
 pub once_after : (l : Column) (p : Principal) (k : Kind) (r : Column) → IsOnce (l ++ (p, k) ∷ r)
     → first_kind (is_either p p) r ≡ None
 once_after [] p k r h = h.0
 once_after ((q, j) ∷ l) p k r h = once_after l p k r h.1
 
--- a column without p is itself where it lacks p
+-- a column that lacks a principal stays as it is without it
 pub without_absent : (p : Principal) (c : Column) → first_kind (is_either p p) c ≡ None → without_principal p c ≡ c
 without_absent p [] h = refl
 without_absent p ((q, j) ∷ c) h = grind (arith, without_absent p c)
 
+-- a column with one key of a principal is without it what is before the key and what is behind it
 without_split : (l : Column) (p : Principal) (k : Kind) (r : Column) → first_kind (is_either p p) l ≡ None
     → first_kind (is_either p p) r ≡ None → without_principal p (l ++ (p, k) ∷ r) ≡ l ++ r
 without_split [] p k r h i = grind (arith, principal_eq_itself, without_absent p r i)
@@ -65,9 +66,25 @@ without_key c l r p k once is =
     let h = subst (λ v. IsOnce v) is once in
     ap (without_principal p) is ∙ without_split l p k r (once_before l p k r h) (once_after l p k r h)
 
--- what holds of each principal holds of the others
+-- what holds of each principal of a column holds of each without one of them
 pub names_without : (P : Principal → Type 0) (x : Principal) (c : Column) → AllByRecursion (λ e. P e.0) c
     → AllByRecursion (λ e. P e.0) (without_principal x c)
 names_without P x [] h = tt
 names_without P x ((q, j) ∷ c) h = cond_both (principal_eq q x) _ _ (AllByRecursion (λ e. P e.0))
     (λ e. names_without P x c h.1) (λ e. (h.0, names_without P x c h.1))
+
+-- without a principal, a column lacks it
+pub lacks_principal : (p : Principal) (c : Column) → first_kind (is_either p p) (without_principal p c) ≡ None
+lacks_principal p [] = refl
+lacks_principal p ((q, j) ∷ c) = grind (arith, lacks_principal p c)
+
+-- a test that finds no key finds none without a principal
+pub none_without : (m : Principal → Bool) (p : Principal) (c : Column) → first_kind m c ≡ None
+    → first_kind m (without_principal p c) ≡ None
+none_without m p [] h = refl
+none_without m p ((q, j) ∷ c) h = grind (arith, none_without m p c)
+
+-- a column without a principal has each other still once
+pub once_without : (p : Principal) (c : Column) → IsOnce c → IsOnce (without_principal p c)
+once_without p [] h = tt
+once_without p ((q, j) ∷ c) h = grind (arith, once_without p c h.1, none_without (is_either q q) p c h.0)

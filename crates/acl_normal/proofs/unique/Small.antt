@@ -1,8 +1,10 @@
 -- Small situations suffice to compare columns.
-use Rattle.acl_normal.proofs.Common.{[], ap, arith, Bool, Column, Deny, Equal, everyone, false, false≢true, Greater, inl, inr, is_among, is_either_or_everyone, length, Less, List, matches, may_overlap, or_cases, or_left, Ordering, ordering_reverse, Principal, principal_cmp, principal_eq, principal_exact, principal_name, principal_total, refl, SameVerdicts, small_situation, sym, true, unwrap_or, user, verdict, ℕ, ⊎_elim, ◌<◌, ◌∙◌, ◌∷◌, ◌≡◌, ◌⊎◌}
+use Rattle.acl_normal.proofs.Common.{[], ap, arith, Bool, Column, Deny, Equal, everyone, false, false≢true, Greater, inl, inr, is_among, is_either_or_everyone, length, Less, List, matches, may_overlap, or_cases, or_left, Ordering, Principal, principal_cmp, principal_eq, principal_exact, principal_name, refl, SameVerdicts, small_situation, sym, true, unwrap_or, user, verdict, ℕ, ⊎_elim, ◌<◌, ◌∙◌, ◌∷◌, ◌≡◌, ◌⊎◌}
 use Rattle.acl_normal.proofs.unique.Names.{principal_eq_same, overlaps_itself, overlaps_back, longest_name}
-use Rattle.acl_normal.proofs.unique.FirstKind.{HasOnly, clique_of, cliques_agree}
+use Rattle.acl_normal.proofs.unique.FirstKind.{clique_of, cliques_agree}
 use Rattle.acl_normal.proofs.unique.Realised.{AreShort, one_user, small_matches, first_kind_alike, HasOneUser, reorder}
+use Rattle.acl_normal.proofs.comparison.Ordered.{principal_greater}
+use Rattle.acl_normal.proofs.unique.Columns.{HasOnly}
 
 -- none, one, or two overlapping principals, the lesser first, of which P holds, everyone excepted
 pub data IsSmallSet (P : Principal → Type 0) : List Principal → Type 0 where
@@ -11,26 +13,25 @@ pub data IsSmallSet (P : Principal → Type 0) : List Principal → Type 0 where
   two : (p q : Principal) → P p → P q → principal_eq p everyone ≡ false → principal_eq q everyone ≡ false
       → may_overlap p q ≡ true → principal_cmp p q ≡ Less → IsSmallSet P (p ∷ q ∷ [])
 
--- of two principals one is the lesser
-pub principal_greater : (p q : Principal) → principal_cmp p q ≡ Greater → principal_cmp q p ≡ Less
-principal_greater p q h = principal_total.antisymm q p ∙ ap ordering_reverse h
-
--- which small set is two principals and everyone: none, the second, the first, or both the other way round
+-- if both of two principals are everyone, they and everyone are everyone alone
 nobody_else : (p q r : Principal) → p ≡ everyone → q ≡ everyone
     → is_among r (everyone ∷ []) ≡ is_either_or_everyone p q r
 nobody_else p q r e f = grind arith
 
+-- if the first of two principals is everyone, they and everyone are the second and everyone
 second_else : (p q r : Principal) → p ≡ everyone → is_among r (everyone ∷ q ∷ []) ≡ is_either_or_everyone p q r
 second_else p q r e = grind arith
 
+-- if the second of two principals is everyone or the first, they and everyone are the first and everyone
 first_else : (p q r : Principal) → (q ≡ everyone) ⊎ (q ≡ p)
     → is_among r (everyone ∷ p ∷ []) ≡ is_either_or_everyone p q r
 first_else p q r e = grind arith
 
+-- two principals and everyone are the same the other way round
 both_turned : (p q r : Principal) → is_among r (everyone ∷ q ∷ p ∷ []) ≡ is_either_or_everyone p q r
 both_turned p q r = grind arith
 
--- a small set that with everyone has just these two
+-- a small set that with everyone has exactly these two principals and everyone
 pub record Covers (P : Principal → Type 0) (p q : Principal) (n : ℕ) : Type 0 where
   pub set : List Principal
   pub small : IsSmallSet P set
@@ -38,6 +39,7 @@ pub record Covers (P : Principal → Type 0) (p q : Principal) (n : ℕ) : Type 
   pub one_user : HasOneUser set
   pub same : (r : Principal) → is_among r (everyone ∷ set) ≡ is_either_or_everyone p q r
 
+-- two principals that overlap have such a small set
 covers : (P : Principal → Type 0) (p q : Principal) (n : ℕ) → P p → P q → length (principal_name p) < n
     → length (principal_name q) < n → may_overlap p q ≡ true → Covers P p q n
 covers P p q n hp hq sp sq o = go (principal_eq p everyone) refl (principal_eq q everyone) refl (principal_cmp p q) refl

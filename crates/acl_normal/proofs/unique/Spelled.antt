@@ -1,4 +1,4 @@
--- Normal forms have equal spellings exactly if their sources grant the same.
+-- Normal forms have equal spellings if and only if their sources grant the same.
 use Rattle.std.proofs.Common.{◌≡◌, List, [], refl}
 use Rattle.acl_normal.proofs.Common.{Ace, ap, append-nil, equivalence, Fits, IsAccepted, IsEquivalence, IsNormalFormOf, IsProfile, Profile, SameGrants, spelling, subst, sym, ◌↔◌, ◌∙◌}
 use Rattle.acl_nfs4.proofs.Exports.{accepted_where_it_fits, one}
@@ -6,7 +6,7 @@ pub use Rattle.acl_normal.specs.Laws.{IsForm}
 use Rattle.acl_normal.proofs.unique.Unique.{unique}
 use Rattle.acl_normal.proofs.unique.Profiles.{same_within}
 
--- accepted lists with one spelling are one
+-- accepted lists with the same spelling are equal
 pub spelled_alike : (p : Profile) (list other : List Ace) → IsProfile p → IsAccepted p list → IsAccepted p other
     → spelling list ≡ spelling other → list ≡ other
 spelled_alike p list other is taken taken_other same =
@@ -14,7 +14,7 @@ spelled_alike p list other is taken taken_other same =
     (record { accepted = taken_other; spelled = refl })
     (append-nil (spelling list) ∙ same ∙ sym (append-nil (spelling other)))).0
 
--- the spellings of two such lists are equal exactly if their sources grant the same
+-- the spellings of two such lists are equal if and only if their sources grant the same
 pub forms_tell : (p : Profile) (a b n m : List Ace) → IsProfile p → IsForm p a n → IsForm p b m
     → (spelling n ≡ spelling m) ↔ SameGrants p.masks a b
 forms_tell p a b n m is f g = (

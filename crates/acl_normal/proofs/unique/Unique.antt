@@ -1,23 +1,17 @@
 -- Normal lists that grant the same are equal.
-use Rattle.acl_normal.proofs.Common.{[], Ace, ace_key, all_rights, and_from, ap, arith, Bool, Column, column, compare_keys, cond, false, false_from_ne_true, false≢true, first_kind, flags_for, has_bit, HasNoEmptyMask, HasNormalFlags, is_either, is_free, is_le, IsAlike, IsNormal, IsOnce, Key, List, None, or_left, Principal, principal_eq, principal_of, refl, same_set, SameGrants, Some, subst, sym, true, who_for, ℕ, ◌∙◌, ◌∷◌, ◌≡◌}
+use Rattle.acl_normal.proofs.Common.{Ace, Bool, HasNoEmptyMask, HasNormalFlags, IsAlike, IsNormal, IsOnce, List, None, Principal, SameGrants, Some, [], ace_key, all_rights, ap, arith, column, compare_keys, false, false_from_ne_true, false≢true, first_kind, flags_for, has_bit, is_either, is_free, is_le, principal_of, refl, same_set, subst, sym, true, who_for, ℕ, ◌∙◌, ◌∷◌, ◌≡◌}
 use Rattle.std.proofs.lemmas.Bool.{true_from_ne_false}
 use Rattle.acl_normal.specs.Normal.{IsOrdered}
-use Rattle.acl_normal.proofs.unique.Names.{bytes_eq_same, either_first, principal_eq_itself, overlaps_itself}
+use Rattle.acl_normal.proofs.unique.Names.{either_first, overlaps_itself}
 use Rattle.acl_normal.proofs.unique.Bits.{no_bits}
 use Rattle.acl_normal.proofs.unique.Irreducible.{clean}
-use Rattle.acl_normal.proofs.unique.Free.{once_from_clean, kind_eq_itself, same_free, alike_rest}
+use Rattle.acl_normal.proofs.unique.Free.{alike_rest, head_is_free, once_from_clean, same_free}
 use Rattle.acl_normal.proofs.unique.Keys.{key_antisymmetric}
-use Rattle.acl_normal.proofs.unique.ListColumns.{irreducible_column, alike_columns}
+use Rattle.acl_normal.proofs.Whoms.{who_is}
+use Rattle.acl_normal.proofs.unique.IrreducibleLists.{alike_columns, irreducible_column}
+use Rattle.acl_normal.proofs.unique.Columns.{column_lacking, column_with}
 
--- the who of an ACE is that of its principal
-pub who_is : (a : Ace) → who_for (principal_of a) ≡ a.who
-who_is a = grind (arith, bytes_eq_same a.who)
-
--- the flags that a principal needs have no INHERIT_ONLY
-pub no_inherit_only : (p : Principal) → has_bit (flags_for p) 3 ≡ false
-no_inherit_only p = grind arith
-
--- keys with normal flags, one key and one mask are one
+-- ACEs with normal flags, one key and one mask are equal
 aces_same : (a b : Ace) → a.flags ≡ flags_for (principal_of a) → b.flags ≡ flags_for (principal_of b)
     → ace_key a ≡ ace_key b → a.mask ≡ b.mask → a ≡ b
 aces_same a b fa fb keys masks =
@@ -27,32 +21,14 @@ aces_same a b fa fb keys masks =
     let whos : a.who ≡ b.who = sym (who_is a) ∙ ap (λ v. who_for v) principals ∙ who_is b in
     λ i. record { kind = kinds i; flags = flags i; mask = masks i; who = whos i }
 
--- the column of a list that begins with a key with normal flags
-column-cons : (b : ℕ) (a : Ace) (xs : List Ace) → a.flags ≡ flags_for (principal_of a)
-    → column (a ∷ xs) b ≡ cond (has_bit a.mask b) (ace_key a ∷ column xs b) (column xs b)
-column-cons b a xs flags = grind (arith, ap (λ v. has_bit v 3) flags, no_inherit_only (principal_of a))
-
--- an ACE with normal flags is the first key of the column of each of its bits
-pub column_with : (b : ℕ) (a : Ace) (xs : List Ace) → a.flags ≡ flags_for (principal_of a) → has_bit a.mask b ≡ true
-    → column (a ∷ xs) b ≡ ace_key a ∷ column xs b
-column_with b a xs flags has = column-cons b a xs flags ∙ rw has refl
-
--- and of no other
-pub column_lacking : (b : ℕ) (a : Ace) (xs : List Ace) → a.flags ≡ flags_for (principal_of a)
-    → has_bit a.mask b ≡ false → column (a ∷ xs) b ≡ column xs b
-column_lacking b a xs flags has = column-cons b a xs flags ∙ rw has refl
-
--- the first key of a column is free
-pub head_is_free : (k : Key) (c : Column) → is_free (k ∷ c) k ≡ true
-head_is_free k c = or_left _ _ (and_from (principal_eq k.0 k.0) _ (principal_eq_itself k.0) (kind_eq_itself k.1))
-
--- what holds of a list all of whose columns have each principal once
+-- each column has each principal once, and the list is in order, with normal flags and no empty mask
 pub record IsReady (xs : List Ace) : Type 0 where
   pub once : (b : ℕ) → IsOnce (column xs b)
   pub ordered : IsOrdered xs
   pub flags : HasNormalFlags xs
   pub masks : HasNoEmptyMask xs
 
+-- a list that is ready stays so without its first ACE
 ready_rest : (a : Ace) (xs : List Ace) → IsReady (a ∷ xs) → IsReady xs
 ready_rest a xs h = record {
   once = λ b. at b (has_bit a.mask b) refl;
@@ -129,6 +105,7 @@ one_order (a ∷ xs) (b ∷ ys) hx hy alike =
         (λ p q o. ap (first_kind (is_either p q)) (sym (column_with i a xs hx.flags.0 e)) ∙ alike i p q o
         ∙ ap (first_kind (is_either p q)) (column_with i b ys hy.flags.0 f ∙ ap (λ k. k ∷ column ys i) key))
 
+-- a normal list is ready
 ready : (xs : List Ace) → IsNormal xs → IsReady xs
 ready xs h = record {
   once = λ b. once_from_clean (column xs b) (clean (column xs b) (irreducible_column xs b h.irreducible));

@@ -4,11 +4,11 @@ use Rattle.std.specs.Prelude.{◌≡◌, Bool, true, ◌||◌, ◌∷◌, ◌++�
 use Rattle.acl_perm.specs.Principal.{Principal, everyone}
 use Rattle.acl_perm.specs.Overlap.{may_overlap}
 use Rattle.acl_eval.specs.Column.{Column, first_kind, SameVerdicts}
-use Rattle.acl_normal.specs.Keys.{Key, principal_eq}
+use Rattle.acl_normal.specs.Keys.{ColumnKey, principal_eq}
 
 -- without any of its keys the column would decide otherwise in some situation
 abbrev pub IsIrreducible : Column → Type 0
-IsIrreducible c = (before : Column) (e : Key) (after : Column) → c ≡ before ++ e ∷ after
+IsIrreducible c = (before : Column) (e : ColumnKey) (after : Column) → c ≡ before ++ e ∷ after
     → SameVerdicts c (before ++ after) → ⊥
 
 -- one of two principals

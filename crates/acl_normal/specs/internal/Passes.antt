@@ -10,11 +10,11 @@ use Rattle.acl_nfs4.specs.Spelling.{IsAce}
 use Rattle.acl_nfs4.specs.Who.{principal_of}
 use Rattle.acl_eval.specs.Column.{Column, column, first_kind}
 use Rattle.acl_normal.specs.internal.Alike.{is_either}
-use Rattle.acl_normal.specs.Keys.{Key, ace_key, compare_keys, conflicts}
+use Rattle.acl_normal.specs.Keys.{ColumnKey, ace_key, compare_keys, conflicts}
 use Rattle.acl_normal.specs.internal.Plain.{reduced}
 use Rattle.acl_normal.specs.Normal.{is_free, flags_for}
 
--- an ACE of the list that has the bit and takes part names the principal, or everyone
+-- an ACE of the list that has the right and takes part names the principal, or everyone
 abbrev pub is_shadowed : Principal → List Ace → ℕ → Bool
 is_shadowed p list bit = is_some (first_kind (is_either p everyone) (column list bit))
 
@@ -28,15 +28,15 @@ pub record IsPlainReduction (list needed : List Ace) : Type 0 where
   pub profiles : KeepsProfiles list needed
 
 -- a key before the given one conflicts with it
-abbrev pub conflicts_before : Column → Key → Bool
+abbrev pub conflicts_before : Column → ColumnKey → Bool
 conflicts_before [] e = false
 conflicts_before (first ∷ c) e = conflicts first e || conflicts_before c e
 
--- at no bit is the key of the ACE free in the list
+-- the key of the ACE is free on no right in the list
 abbrev pub IsNowhereFree : List Ace → Ace → Type 0
 IsNowhereFree list a = (bit : ℕ) → is_free (column list bit) (ace_key a) ≡ false
 
--- the ACE may come first of the list: with normal flags, it has all bits at which its key is free, and these are some
+-- the ACE may come first: it has normal flags, and at least one right and all rights on which its key is free
 pub record IsCandidate (list : List Ace) (a : Ace) : Type 0 where
   pub flags : a.flags ≡ flags_for (principal_of a)
   pub mask : a.mask ≢ 0

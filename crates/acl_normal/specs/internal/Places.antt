@@ -7,7 +7,7 @@ use Rattle.acl_perm.specs.declared.kind.Kind.TheVariants.{Deny, Allow}
 use Rattle.std.specs.Str.{bytes_eq}
 use Rattle.acl_nfs4.specs.Ace.{Ace}
 use Rattle.acl_nfs4.specs.Who.{owner_name, group_name, everyone_name}
-use Rattle.acl_normal.specs.Keys.{Key, ace_key}
+use Rattle.acl_normal.specs.Keys.{ColumnKey, ace_key}
 use Rattle.acl_normal.specs.Places.{is_waiting}
 
 -- the principal of a who, with IDENTIFIER_GROUP or without it
@@ -29,7 +29,7 @@ is_blocked k of_user b xs i =
     waits_before (other_kind k) false b xs i || (not of_user && waits_before (other_kind k) true b xs i)
 
 -- the key of the ACE at a place
-abbrev pub key_here : List Ace → ℕ → Key
+abbrev pub key_here : List Ace → ℕ → ColumnKey
 key_here [] i = (everyone, Deny)
 key_here (a ∷ xs) zero = ace_key a
 key_here (a ∷ xs) (suc i) = key_here xs i
@@ -42,15 +42,15 @@ principal_here xs i = (key_here xs i).0
 abbrev pub kind_here : List Ace → ℕ → Kind
 kind_here xs i = (key_here xs i).1
 
--- a right is a bit below this
+-- the bit of each right is below this number
 abbrev pub bit_count : ℕ
 bit_count = 21
 
--- one set of places for each kind, class and bit
+-- one set of places for each kind, class and right
 abbrev pub slot_count : ℕ
 slot_count = 84
 
--- the set of a kind, a class and a bit
+-- the set of a kind, a class and a right
 abbrev pub slot_of : Kind → Bool → ℕ → ℕ
 slot_of Deny false b = 4 * b + 0 + 0
 slot_of Deny true b = 4 * b + 0 + 1

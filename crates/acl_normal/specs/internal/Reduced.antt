@@ -1,4 +1,4 @@
--- What is left of a list after bits that play no part are removed (this library's own).
+-- What is left of a list after rights that play no part are removed (this library's own).
 use Rattle.std.specs.Prelude.{◌≡◌, ℕ, ◌<◌, false, List, []}
 use Rattle.acl_perm.specs.Bits.{all_rights, has_bit}
 use Rattle.acl_eval.specs.Column.{column}
@@ -13,13 +13,13 @@ use Rattle.acl_normal.specs.Normal.{IsIrreducibleList}
 use Rattle.acl_normal.specs.Places.{nothing_left}
 use Rattle.acl_normal.specs.internal.Plain.{reduced}
 
--- the list is its source with fewer bits: what is first for a principal is first there too
+-- the list is its source with fewer rights: what is first for a principal is first there too
 pub record IsThinned (source list : List Ace) : Type 0 where
   pub outline : nothing_left list ≡ nothing_left source
   pub tidy : IsTidy list
   pub firsts : KeepsFirsts source list
 
--- the source is accepted, and the list is the source without the bits that no situation needs
+-- the source is accepted, and the list is the source without the rights that no situation needs
 pub record IsReducedOf (source list : List Ace) : Type 0 where
   pub accepted : IsAccepted full source
   pub thinned : IsThinned source list

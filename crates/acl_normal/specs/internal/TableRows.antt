@@ -1,4 +1,4 @@
--- How the rows of the table of one bit come about (this library's own).
+-- How the rows of the table of one right come about (this library's own).
 use Rattle.std.specs.Prelude.{◌≡◌, true, ℕ, List, [], ◌∷◌, ◌++◌, map, slice_index_or, Some}
 use Rattle.acl_perm.specs.Principal.{Principal}
 use Rattle.acl_nfs4.specs.Ace.{Ace}
@@ -10,17 +10,17 @@ use Rattle.acl_normal.specs.Normal.{counts}
 use Rattle.acl_normal.specs.declared.bit_table.BorrowedRow.{BorrowedRow}
 use Rattle.acl_normal.specs.Tables.{with_bit, of_borrowed, AreRows}
 
--- by row, the place of the first ACE of the principal that has the bit, where one has it
+-- by row, the place of the first ACE of the principal that has the right, where one has it
 abbrev pub HasFirstPlaces : ℕ → List Ace → List ℕ → Type 0
 HasFirstPlaces bit list places = (row : ℕ) (p : Principal) (place : ℕ) → IsRowOf row p list
     → first_place_of bit p list ≡ Some place → slice_index_or places row 0 ≡ place
 
--- where the ACE has the bit, its key is in the list
+-- where the ACE has the right, its key is in the list
 abbrev pub HasKey : ℕ → List Ace → Ace → Type 0
 HasKey bit list a =
     counts bit a ≡ true → first_kind (is_either (principal_of a) (principal_of a)) (column list bit) ≡ Some a.kind
 
--- the row of an ACE was added, where it has the bit
+-- the row of an ACE was added, where it has the right
 abbrev pub AddsRow : ℕ → List Ace → Ace → List BorrowedRow → List BorrowedRow → Type 0
 AddsRow bit source a old new = (list : List Ace) → AreRows bit source list (map of_borrowed old)
     → AreRows bit source (list ++ with_bit bit (a ∷ [])) (map of_borrowed new)

@@ -10,7 +10,7 @@ use Rattle.acl_normal.specs.SmallSituations.{HasName}
 use Rattle.acl_normal.specs.internal.emit.Emissions.{HasOnceColumns}
 use Rattle.acl_normal.specs.Normal.{is_inherit_only}
 
--- an ACE that takes no part has no bit
+-- an ACE that takes no part has no right
 abbrev pub IsQuiet : List Ace → Type 0
 IsQuiet list = AllByRecursion (λ a. is_inherit_only a ≡ true → a.mask ≡ 0) list
 

@@ -4,11 +4,11 @@
 pub mod Emissions
 -- an ACE of a normal form as it is made
 pub mod Emitted
--- how the fields of the numbers of ready keys relate to their bits
+-- how the heap of the numbers of ready keys relates to their marked rights
 pub mod Heaped
 -- queues of the places that wait, as chains of links
 pub mod Queues
--- the keys that have a free bit, by number
+-- the keys that have a free right, by number
 pub mod Ready
 -- lists whose keys rise
 pub mod Rising

@@ -8,7 +8,7 @@ use super::standing::Whom;
 use acl_nfs4::AceRef;
 use acl_perm::{Kind, Mask};
 
-/// What an ACE says on some rights: of whom it speaks, and whether it allows or denies them.
+/// What an ACE says about some rights: whom it names, and whether it allows or denies them.
 #[derive(Clone, Copy)]
 struct Statement {
     whom: Whom,
@@ -16,9 +16,9 @@ struct Statement {
     rights: Mask,
 }
 
-/// Returns the rights past which two lists have the same ACEs in the same order. Both lists are walked together: where
-/// their next ACEs say different things, the rights of these two are apart, and ACEs with no other right are passed
-/// over.
+/// Returns the rights on which two lists may differ: for every other right, both have the same ACEs in the same order.
+/// The lists are read together. If their next ACEs say different things, the rights of both ACEs are returned, and
+/// later ACEs that have no other right are skipped.
 pub(crate) fn rights_apart(
     list: &[AceRef<'_>],
     whoms: &[Whom],
@@ -55,7 +55,7 @@ pub(crate) fn rights_apart(
         .union(rights_of(&other[there..]))
 }
 
-// Whether two ACEs say the same of the same.
+// Whether two ACEs allow the same rights to the same principal, or deny them.
 fn say_the_same(own: Statement, theirs: Statement) -> bool
     ensures { result ≡ say_the_same own theirs }
 {
@@ -64,7 +64,7 @@ fn say_the_same(own: Statement, theirs: Statement) -> bool
         && own.whom.is_same(theirs.whom)
 }
 
-// What an ACE says on all rights but some.
+// What an ACE says about all rights except those that are apart.
 fn open_statement(item: &AceRef<'_>, whom: Whom, apart: Mask) -> Statement
     ensures rights { HasOpenBits (ace item.now) whom apart.bits result.rights.bits }
     ensures whom { result.whom ≡ whom }

@@ -1,7 +1,7 @@
-//! Two lists that are compared, seen as these two lists alone. What the search asks again and again is found once: whom
-//! they mention, whom of these each ACE names, and on which rights they may differ.
+//! Two lists that are compared. What the search needs again and again is computed once: which principals the lists
+//! mention, which of these each ACE names, and on which rights the lists may differ.
 ghost use Rattle.std.specs.Prelude.{◌<◌, ◌^◌, ◌≡◌};
-ghost use Rattle.acl_normal.specs.Common.{[], aces_in, all_mentioned, all_rights, AreAlikeTo, AreMentioned, AreNumbered, false, has_bit, IfOk, IsGrantedTo, length, members_of, OnFalse, OnTrue, principal, set_of, true, two_lists};
+ghost use Rattle.acl_normal.specs.Common.{AreAlikeTo, AreMentioned, AreNumbered, IfOk, IsGrantedTo, OnFalse, OnTrue, [], aces_in, all_mentioned, all_rights, false, has_bit, length, members_of, principal, set_of, true, two_lists};
 ghost use Rattle.acl_normal.specs.internal.comparison.TwoLists.{AreWithin, HaveSameColumn, StandAs, principal_at};
 
 use super::apart::rights_apart;
@@ -17,18 +17,18 @@ use acl_perm::{Mask, Principal};
 use std::alloc::{AllocError, Global};
 use std::marker::Model;
 
-/// Two lists that are compared. Clauses see the lists alone, since all else follows from them.
+/// Two lists that are compared. Clauses mention only the two lists, because all other fields follow from them.
 #[derive(Drop)]
 pub(crate) struct Compared<'a, 'b> {
     pub(crate) first: &'b [AceRef<'a>],
     pub(crate) second: &'b [AceRef<'a>],
-    /// The principals that they mention, in order.
+    /// The principals that the lists mention, in order.
     pub(crate) mentioned: &'b [Principal<'a>],
-    /// Whom of these each ACE of the first list names.
+    /// Which of these principals each ACE of the first list names.
     first_whoms: &'b [Whom],
-    /// Whom of these each ACE of the second list names.
+    /// Which of these principals each ACE of the second list names.
     second_whoms: &'b [Whom],
-    /// Past these rights the lists have the same ACEs in the same order.
+    /// For every other right, the lists have the same ACEs in the same order.
     apart: Mask,
 }
 
@@ -44,8 +44,8 @@ impl<'a, 'b> Model for Compared<'a, 'b> {
 }
 
 impl<'a, 'b> Compared<'a, 'b> {
-    /// Holds two lists, once it is known whom they mention.
-    #[tactic(auto, using(crate::proofs::comparison::MentionedRows::compared_parts))]
+    /// Prepares two lists for the search. `mentions` has the principals that they mention.
+    #[tactic(auto, using(crate::proofs::comparison::MentionedWhoms::compared_parts))]
     pub(crate) fn of(
         first: &'b [AceRef<'a>],
         second: &'b [AceRef<'a>],
@@ -65,7 +65,7 @@ impl<'a, 'b> Compared<'a, 'b> {
         }
     }
 
-    /// Returns the small set of the principals of some numbers.
+    /// Returns the principals with these numbers.
     pub(crate) fn set(&self, members: Members) -> SmallSet<'a>
         requires { AreNumbered (all_mentioned self.now) members }
         ensures { set_of result ≡ members_of (all_mentioned self.now) members }
@@ -84,7 +84,7 @@ impl<'a, 'b> Compared<'a, 'b> {
         self.mentioned.len()
     }
 
-    /// Returns the principal of a number.
+    /// Returns the mentioned principal with this number.
     pub(crate) fn principal(&self, number: usize) -> Principal<'a>
         requires { number < length (all_mentioned self.now) }
         ensures { principal result ≡ principal_at self.now number }
@@ -101,7 +101,7 @@ impl<'a, 'b> Compared<'a, 'b> {
         self.first.len().max(self.second.len())
     }
 
-    /// Returns whether the lists may differ on a right. Where they can't, they have the same ACEs with it.
+    /// Returns false only if both lists have the same ACEs with the right, in the same order.
     pub(crate) fn may_differ(&self, right: Bit) -> bool
         ensures right { result ≡ true → has_bit all_rights right.bit ≡ true }
         ensures same { result ≡ false → HaveSameColumn self.now right.bit }
@@ -109,7 +109,7 @@ impl<'a, 'b> Compared<'a, 'b> {
         right.is_in(self.apart)
     }
 
-    /// Returns whether the lists grant alike where everyone matches, and no principal that they mention.
+    /// Returns whether the lists grant the same if only everyone matches, and no principal that they mention.
     pub(crate) fn grant_strangers_alike(&self) -> bool
         ensures alike { OnTrue result (AreAlikeTo self.now []) }
         ensures differ { OnFalse result (AreAlikeTo self.now [] → ⊥) }
@@ -123,7 +123,7 @@ impl<'a, 'b> Compared<'a, 'b> {
             == 0
     }
 
-    /// Returns the rights that the first list grants where just the principals of some numbers match, and everyone.
+    /// Returns the rights that the first list grants if only the principals with these numbers match, and everyone.
     pub(crate) fn granted_by_first(&self, members: Members) -> Mask
         requires { AreNumbered (all_mentioned self.now) members }
         ensures { IsGrantedTo self.now.first
@@ -132,7 +132,7 @@ impl<'a, 'b> Compared<'a, 'b> {
         granted_to(self.first, self.first_whoms, members)
     }
 
-    /// Returns the rights that the second list grants there.
+    /// Returns the rights that the second list grants if only the principals with these numbers match, and everyone.
     pub(crate) fn granted_by_second(&self, members: Members) -> Mask
         requires { AreNumbered (all_mentioned self.now) members }
         ensures { IsGrantedTo self.now.second
@@ -141,7 +141,7 @@ impl<'a, 'b> Compared<'a, 'b> {
         granted_to(self.second, self.second_whoms, members)
     }
 
-    /// Returns where each principal stands in both lists, on a right.
+    /// Returns, for each mentioned principal, the first ACE with the right that concerns it in each list.
     pub(crate) fn standings(&self, alloc: Global, right: Bit) -> Result<Vec<Standing>, AllocError>
         ensures { IfOk result (λ v. StandAs self.now right.bit v.items) }
     {
@@ -149,11 +149,11 @@ impl<'a, 'b> Compared<'a, 'b> {
         let here = firsts(alloc, mentioned, self.first, self.first_whoms, right)?;
         let there = firsts(alloc, mentioned, self.second, self.second_whoms, right)?;
         let mut standings = Vec::new(alloc);
-        for i in 0..mentioned.len() {
+        for (i, p) in mentioned.iter().enumerate() {
             standings.push(Standing {
                 here: here[i],
                 there: there[i],
-                class: Class::of(mentioned[i]),
+                class: Class::of(*p),
             })?;
         }
         Ok(standings)

@@ -1,4 +1,4 @@
-//! Two lists compared: the first small situation in which they grant otherwise.
+//! The comparison of two lists: the first small situation in which one grants a right that the other denies.
 ghost use Rattle.std.specs.Prelude.{◌↔◌, ◌≡◌, IsNone};
 ghost use Rattle.acl_normal.specs.Common.{all_rights, IfOk, IfSome, IsOk, SameGrants};
 ghost use Rattle.acl_normal.specs.Difference.{IsComparison, situation_of};
@@ -11,11 +11,11 @@ use crate::reduce::collected::collect;
 use acl_nfs4::{Acl, AclView};
 use std::alloc::{AllocError, Global};
 
-/// Returns the first of the small situations of two lists in which one grants a right and the other does not, or
-/// `None` if both grant the same in every situation (this library's own, over RFC 8881, section 6.2.1). In a small
-/// situation none, one or two of the principals that the lists mention match, and everyone. It takes time that is
-/// nearly linear in the ACEs, times the rights that either list has, and memory for some numbers per ACE. Fails if
-/// memory runs out.
+/// Returns the first of the small situations of two lists in which one grants a right and the other does not, or `None`
+/// if both grant the same in every situation (this library's own, over RFC 8881, section 6.2.1). In a small situation,
+/// everyone matches, and none, one or two of the principals that the lists mention. For each right that either list
+/// has, it takes time that is nearly linear in the ACEs. It takes memory for a few numbers per ACE. Fails if memory
+/// runs out.
 ///
 /// ```rust
 /// let first = parse_text(alloc, b"ALLOW - READ_DATA EVERYONE@")?;

@@ -1,4 +1,4 @@
-//! What a list grants where just the principals of a set match, and everyone: all rights at once.
+//! The rights that a list grants if only the principals of a small set match, and everyone.
 ghost use Rattle.std.specs.Prelude.{◌&&◌, ◌^◌, ◌≡◌, ◌≢◌};
 ghost use Rattle.acl_normal.specs.Common.{ace, aces_in, AreNumbered, AreWhoms, GrantAlikeTo, has_bit, is_matched, IsGrantedTo, IsLowest, length, List, members_of, OnFalse, OnTrue, Principal, set_of, ℕ};
 ghost use Rattle.std.specs.Int.{trailing_zeros, w32};
@@ -10,7 +10,7 @@ use super::standing::Whom;
 use acl_nfs4::AceRef;
 use acl_perm::{Kind, Mask};
 
-/// Returns whether two lists grant alike where just the principals of a set match, and everyone.
+/// Returns whether two lists grant the same if only the principals of a set match, and everyone.
 pub(crate) fn grant_alike(list: &[AceRef<'_>], other: &[AceRef<'_>], set: SmallSet<'_>) -> bool
     ensures alike { OnTrue result
         (GrantAlikeTo (aces_in list.now) (aces_in other.now) (set_of set.entry)) }
@@ -20,7 +20,7 @@ pub(crate) fn grant_alike(list: &[AceRef<'_>], other: &[AceRef<'_>], set: SmallS
     unlike(granted(list, set), granted(other, set)).bits() == 0
 }
 
-/// Returns the rights that just one of two masks has.
+/// Returns the rights that exactly one of the masks has.
 pub(crate) fn unlike(here: Mask, there: Mask) -> Mask
     ensures { (bit : ℕ) → has_bit result.bits bit
         ≡ differ (has_bit here.bits bit) (has_bit there.bits bit) }
@@ -28,7 +28,7 @@ pub(crate) fn unlike(here: Mask, there: Mask) -> Mask
     here.difference(there).union(there.difference(here))
 }
 
-/// Returns the rights that a list grants where just the principals of a set match, and everyone.
+/// Returns the rights that a list grants if only the principals of a set match, and everyone.
 pub(crate) fn granted(list: &[AceRef<'_>], set: SmallSet<'_>) -> Mask
     ensures { IsGrantedTo (aces_in list.now) (set_of set.entry) result.bits }
 {
@@ -45,18 +45,18 @@ pub(crate) fn granted(list: &[AceRef<'_>], set: SmallSet<'_>) -> Mask
     granted
 }
 
-/// Returns the rights that a list grants there, where the set is given by numbers, and it is known whom of the numbered
-/// principals each ACE names.
+/// Returns the same rights as [`granted`] for a set that is given by numbers. `whoms` has, by place, which of the
+/// numbered principals each ACE names.
 pub(crate) fn granted_to(list: &[AceRef<'_>], whoms: &[Whom], set: Members) -> Mask
     requires { length whoms.now ≡ length list.now }
     ensures { (whole : List Principal) → AreWhoms whole (aces_in list.now) whoms.now
-        → AreNumbered whole set → IsGrantedTo (aces_in list.now) (members_of whole set) result.bits }
+        → AreNumbered whole set
+        → IsGrantedTo (aces_in list.now) (members_of whole set) result.bits }
 {
     let mut decided = Mask::NONE;
     let mut granted = Mask::NONE;
-    for place in 0..list.len() {
-        let item = list[place];
-        let rights = rights_matched(&item, whoms[place], set);
+    for (place, item) in list.iter().enumerate() {
+        let rights = rights_matched(item, whoms[place], set);
         match item.kind {
             Kind::Allow => granted = granted.union(rights.difference(decided)),
             Kind::Deny => {}
@@ -66,7 +66,7 @@ pub(crate) fn granted_to(list: &[AceRef<'_>], whoms: &[Whom], set: Members) -> M
     granted
 }
 
-// The rights of an ACE that names one of the set or everyone, and else none.
+// The mask of an ACE that names a principal of the set or everyone, and otherwise no rights.
 fn rights_matched(item: &AceRef<'_>, whom: Whom, set: Members) -> Mask
     ensures { (bit : ℕ) → has_bit result.bits bit
         ≡ (has_bit item.now.mask.bits bit && is_matched set whom) }
@@ -78,7 +78,7 @@ fn rights_matched(item: &AceRef<'_>, whom: Whom, set: Members) -> Mask
     }
 }
 
-// The rights of an ACE that takes part and whose principal is of the set or everyone, and else none.
+// The mask of an ACE that takes part and names a principal of the set or everyone, and otherwise no rights.
 fn own_rights(item: &AceRef<'_>, set: SmallSet<'_>) -> Mask
     ensures { HasBitsOf (ace item.now) (set_of set.entry) result.bits }
 {
@@ -100,7 +100,6 @@ pub(crate) fn lowest(rights: Mask) -> Mask
     }
 }
 
-// The lowest bit of a number that has one.
 fn lowest_bit(bits: u32) -> u32
     requires { bits ≢ 0 }
     ensures { result ≡ 2 ^ trailing_zeros w32 bits }
@@ -108,7 +107,7 @@ fn lowest_bit(bits: u32) -> u32
     1 << bits.trailing_zeros()
 }
 
-/// Returns the rights that some ACE of the list has.
+/// Returns the rights that at least one ACE of the list has.
 pub(crate) fn rights_of(list: &[AceRef<'_>]) -> Mask
     ensures { AreRightsOf (aces_in list.now) result.bits }
 {

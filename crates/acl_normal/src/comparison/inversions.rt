@@ -1,29 +1,32 @@
-//! Which principals two lists name in opposite orders, found by tables instead of a test of each pair.
+//! The search for principals that two lists name in opposite orders. Tables save a test of each pair of principals.
 ghost use Rattle.std.specs.Prelude.{◌&&◌, ◌+◌, ◌<◌, ◌^◌, ◌≡◌, ◌≤◌};
 ghost use Rattle.acl_normal.specs.Common.{AllByRecursion, IfOk, is_users, length, not, true, vec_len};
 ghost use Rattle.acl_normal.specs.internal.comparison.FirstPlaces.{IsFirstInverted, IsFirstInverting, IsFirstUnlike, inverts};
-ghost use Rattle.acl_normal.specs.internal.comparison.PlaceTables.{HasNone, IsStandingWithin, IsFirstOf, IsScattered, IsPlaceTable, Raises, is_counted, is_of_camp, is_told, other_place, place_of};
+ghost use Rattle.acl_normal.specs.internal.comparison.PlaceTables.{HasNone, IsStandingWithin, IsFirstOf, IsScattered, IsPlaceTable, Raises, is_counted, is_inverting, is_of_camp, other_place, place_of};
 
 use super::standing::Standing;
 use crate::class::Class;
 use acl_perm::Kind;
 use std::alloc::{AllocError, Global};
 
-/// Returns the first of the standings, below a limit, in which the lists say different things.
+/// Returns the number of the first principal, below a limit, to whom alone one list grants the right and the other does
+/// not, or the limit.
 pub(crate) fn first_unlike(standings: &[Standing], limit: usize) -> usize
     requires { limit ≤ length standings.now }
     ensures { IsFirstUnlike standings.now limit result }
 {
-    for k in 0..limit {
-        if standings[k].here.allows() != standings[k].there.allows() {
+    let (near, _) = standings.split_at(limit);
+    for (k, standing) in near.iter().enumerate() {
+        if standing.is_unlike() {
             return k;
         }
     }
     limit
 }
 
-/// Returns the first principal, below a limit, that inverts another. The tables of a camp count the principals that
-/// those of the camp can invert, so that there is one search for each camp.
+/// Returns the number of the first principal, below a limit, that comes before another in one list and not in the
+/// other, or the limit. There is one search for each camp, because the tables of a camp have only principals of the
+/// other kind.
 pub(crate) fn first_inverting(
     alloc: Global,
     standings: &[Standing],
@@ -41,7 +44,7 @@ pub(crate) fn first_inverting(
     first_of(alloc, standings, size, users, Camp::DENIED_OTHERS)
 }
 
-// The first of a camp, below a limit, that inverts another.
+// The number of the first principal of a camp, below a limit, that inverts another principal, or the limit.
 fn first_of(
     alloc: Global,
     standings: &[Standing],
@@ -59,8 +62,9 @@ fn first_of(
     }
     let forward = table(alloc, standings, size, camp, Side::Here)?;
     let back = table(alloc, standings, size, camp, Side::There)?;
-    for k in 0..limit {
-        if is_told(standings[k], camp, &forward, &back) {
+    let (near, _) = standings.split_at(limit);
+    for (k, standing) in near.iter().enumerate() {
+        if is_inverting(*standing, camp, &forward, &back) {
             return Ok(k);
         }
     }
@@ -70,8 +74,8 @@ fn first_of(
 fn is_empty_camp(standings: &[Standing], camp: Camp) -> bool
     ensures { result ≡ true → HasNone camp standings.now }
 {
-    for k in 0..standings.len() {
-        if is_of_camp(standings[k], camp) {
+    for standing in standings {
+        if is_of_camp(*standing, camp) {
             return false;
         }
     }
@@ -107,7 +111,7 @@ impl Camp {
     };
 }
 
-// For each place in one list one more than the greatest place, in the other, of all who stand before it and count.
+// By place in one list, one more than the greatest place in the other list of the counted principals before the place.
 #[tactic(auto, using(crate::proofs::comparison::TableFacts::summed_done))]
 fn table(
     alloc: Global,
@@ -128,15 +132,15 @@ fn table(
     Ok(table)
 }
 
-/// One of the two lists.
+/// The list by whose places a table is indexed: the first or the second.
 #[derive(Clone, Copy)]
 pub(crate) enum Side {
     Here,
     There,
 }
 
-// For each place in one list one more than the greatest place, in the other, of those who stand just before it and
-// count.
+// By place in one list, one more than the greatest place in the other list of the counted principals just before the
+// place.
 #[tactic(auto, using(crate::proofs::comparison::TableFacts::scatter_start))]
 fn scattered(
     alloc: Global,
@@ -156,7 +160,7 @@ fn scattered(
     Ok(table)
 }
 
-// Raises the number behind a principal's place in the one list to its place in the other, if the principal is counted.
+// Notes a counted principal: raises the number after its place in one list to one more than its place in the other.
 #[tactic(auto, using(crate::proofs::comparison::TableFacts::raising))]
 fn raise(table: &mut Vec<usize>, standing: Standing, camp: Camp, side: Side)
     requires within { place_of side standing + 1 < vec_len table.old }
@@ -170,7 +174,7 @@ fn raise(table: &mut Vec<usize>, standing: Standing, camp: Camp, side: Side)
     }
 }
 
-// Whether a principal is of the other kind than a camp, and may overlap with those of it.
+// Whether a principal has the other kind than a camp and may overlap with the principals of the camp.
 fn is_counted(camp: Camp, standing: Standing) -> bool
     ensures { result ≡ is_counted camp standing }
 {
@@ -197,11 +201,11 @@ fn other_place(standing: Standing, side: Side) -> usize
     }
 }
 
-// Whether a principal is of a camp and, by the tables of that camp, inverts another.
-fn is_told(standing: Standing, camp: Camp, forward: &[usize], back: &[usize]) -> bool
+// Whether a principal is of a camp and inverts another principal by the tables of that camp.
+fn is_inverting(standing: Standing, camp: Camp, forward: &[usize], back: &[usize]) -> bool
     requires here { standing.here.place < length forward.now }
     requires there { standing.there.place < length back.now }
-    ensures { result ≡ is_told camp standing forward.now back.now }
+    ensures { result ≡ is_inverting camp standing forward.now back.now }
 {
     is_of_camp(standing, camp)
         && (standing.there.place < forward[standing.here.place]
@@ -215,20 +219,21 @@ fn is_of_camp(standing: Standing, camp: Camp) -> bool
         && standing.class.is_users() == camp.class.is_users()
 }
 
-/// Returns the first of the others, below a limit, that the principal inverts.
+/// Returns the number of the first of the others, below a limit, that the principal inverts, or the limit.
 pub(crate) fn first_inverted(standing: Standing, others: &[Standing], limit: usize) -> usize
     requires { limit ≤ length others.now }
     ensures { IsFirstInverted standing others.now limit result }
 {
-    for k in 0..limit {
-        if is_inverted(standing, others[k]) {
+    let (near, _) = others.split_at(limit);
+    for (k, other) in near.iter().enumerate() {
+        if is_inverted(standing, *other) {
             return k;
         }
     }
     limit
 }
 
-// Whether of two principals of different kinds that may overlap one comes first in one list, and not in the other.
+// Whether two principals may overlap, have different kinds, and the second comes first in only one of the lists.
 fn is_inverted(standing: Standing, other: Standing) -> bool
     ensures { result ≡ inverts standing other }
 {
@@ -237,7 +242,7 @@ fn is_inverted(standing: Standing, other: Standing) -> bool
         && (other.here.place < standing.here.place) != (other.there.place < standing.there.place)
 }
 
-// Whether different principals of two classes may overlap: all but two users do.
+// Whether different principals of two classes may overlap: all but two users may.
 fn may_overlap(class: Class, other: Class) -> bool
     ensures { result ≡ not (is_users class && is_users other) }
 {

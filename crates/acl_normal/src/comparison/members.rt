@@ -1,11 +1,11 @@
-//! Sets of at most two of the principals that lists mention, by their numbers.
+//! Sets of at most two of the mentioned principals, by their numbers.
 ghost use Rattle.std.specs.Prelude.{◌≡◌};
 ghost use Rattle.acl_normal.specs.Common.{is_matched};
 ghost use Rattle.acl_normal.specs.internal.comparison.Members.{has_number};
 
 use super::standing::Whom;
 
-/// None, one or two of the principals by their numbers, the lesser first.
+/// The numbers of none, one or two of the mentioned principals. Of two, the lesser is first.
 #[derive(Clone, Copy)]
 pub(crate) enum Members {
     Nobody,
@@ -25,7 +25,6 @@ impl Members {
         }
     }
 
-    // Whether the principal of a number is of the set.
     fn has(self, number: usize) -> bool
         ensures { result ≡ has_number self number }
     {

@@ -1,9 +1,9 @@
-//! The principals that lists mention, by number: in order, each once.
+//! The principals that two lists mention, in order and each once. A principal's number is its place among them.
 ghost use Rattle.std.specs.Prelude.{◌++◌, ◌<◌, ◌^◌, ◌≡◌};
-ghost use Rattle.acl_normal.specs.Common.{ace, aces_in, AreMentioned, AreRowNumbers, AreWhoms, IfOk, length, OnOk, option_map, principal, principals, slice_index_or, two_lists, vec_len, ℕ};
+ghost use Rattle.acl_normal.specs.Common.{AreMentioned, AreRowNumbers, AreWhoms, IfOk, OnOk, ace, aces_in, length, option_map, principal, principals, slice_index_or, two_lists, vec_len, ℕ};
 ghost use Rattle.acl_perm.specs.Order.{principal_name};
 ghost use Rattle.acl_normal.specs.SmallSituations.{longest};
-ghost use Rattle.acl_normal.specs.internal.comparison.MentionedRows.{AreByRow, AreMentionedRows, AreMentionsOf, AreMentionedNumbers, mentioned_by, noted, whom_of, with_found};
+ghost use Rattle.acl_normal.specs.internal.comparison.MentionedRows.{AreByRow, AreMentionedNumbers, AreMentionedRows, AreMentionsOf, mentioned_by, noted, whom_of, with_found};
 ghost use Rattle.acl_normal.specs.internal.comparison.SamePlaces.{with_copies};
 
 use super::same_places::same_places;
@@ -13,15 +13,16 @@ use acl_nfs4::AceRef;
 use acl_perm::Principal;
 use std::alloc::{AllocError, Global};
 
-/// Principals in order, and by row the number of the one that stands there, or of the next where none does.
+/// The mentioned principals in order, and by row the number of the principal of the row. A row without a mentioned
+/// principal has the number of the next one.
 #[derive(Drop)]
 struct Numbers<'a> {
     whole: Vec<Principal<'a>>,
     by_row: Vec<usize>,
 }
 
-/// Returns whom two lists mention. Where the second names the same as the first does near the same places, only the
-/// first is sorted.
+/// Returns whom two lists mention. If the second list names the same principals as the first near the same places, only
+/// the first list is sorted.
 pub(crate) fn mentioned<'a>(
     alloc: Global,
     list: &[AceRef<'a>],
@@ -52,19 +53,19 @@ fn mentions_of<'a>(alloc: Global, aces: &[AceRef<'a>]) -> Result<Mentions<'a>, A
     })
 }
 
-// Adds, by place, what is there already at the places of a list.
+// Adds, for each place, a copy of what is already at the place.
 fn add_copies(whoms: &mut Vec<Whom>, places: &[usize]) -> Result<(), AllocError>
     requires { (i : ℕ) → i < length places.now → slice_index_or places.now i 0 < vec_len whoms.old }
     ensures { OnOk result (whoms.new.items ≡ with_copies whoms.old.items places.now) }
 {
-    for i in 0..places.len() {
-        let whom = whoms[places[i]];
+    for place in places {
+        let whom = whoms[*place];
         whoms.push(whom)?;
     }
     Ok(())
 }
 
-// The ACEs of both lists.
+// The ACEs of both lists, those of the first list first.
 fn joined<'a>(
     alloc: Global,
     list: &[AceRef<'a>],
@@ -78,7 +79,7 @@ fn joined<'a>(
     Ok(aces)
 }
 
-// By row, the principals that the ACEs mention.
+// By row, the principal that the ACEs of the row mention, if they mention it.
 #[tactic(auto, using(crate::proofs::comparison::MentionedRows::table_steps))]
 fn by_row<'a>(
     alloc: Global,
@@ -89,13 +90,13 @@ fn by_row<'a>(
     ensures { IfOk result (λ table. AreByRow (aces_in aces.now) (length aces.now) table.items) }
 {
     let mut table = vec![in alloc; None; aces.len()]?;
-    for place in 0..aces.len() {
-        note(&mut table, rows[place], mentioned_by(&aces[place]));
+    for (place, ace) in aces.iter().enumerate() {
+        note(&mut table, rows[place], mentioned_by(ace));
     }
     Ok(table)
 }
 
-// Notes who is found in a row, if anyone is.
+// Puts a principal into its row of the table, if there is one.
 fn note<'a>(table: &mut Vec<Option<Principal<'a>>>, row: usize, found: Option<Principal<'a>>)
     requires { row < vec_len table.old }
     ensures { table.new.items ≡ noted table.old.items row found.entry }
@@ -105,7 +106,7 @@ fn note<'a>(table: &mut Vec<Option<Principal<'a>>>, row: usize, found: Option<Pr
     }
 }
 
-// Whom an ACE mentions: its principal, if it takes part and that isn't everyone.
+// Whom an ACE mentions: its principal, if the ACE takes part and the principal is not everyone.
 #[tactic(auto, using(crate::proofs::unique::Names::everyone_test))]
 fn mentioned_by<'a>(item: &AceRef<'a>) -> Option<Principal<'a>>
     ensures { option_map principal result ≡ mentioned_by (ace item.now) }
@@ -118,21 +119,21 @@ fn mentioned_by<'a>(item: &AceRef<'a>) -> Option<Principal<'a>>
     }
 }
 
-// The principals of a table, by number.
+// Numbers the principals of a table in the order of the rows.
 fn numbers_of<'a>(alloc: Global, table: &[Option<Principal<'a>>]) -> Result<Numbers<'a>, AllocError>
     ensures { IfOk result (λ n. AreMentionedNumbers table.now (length table.now)
         (principals n.whole.items) n.by_row.items) }
 {
     let mut whole = Vec::new(alloc);
     let mut by_row = Vec::with_capacity(alloc, table.len())?;
-    for row in 0..table.len() {
+    for found in table {
         by_row.push(whole.len())?;
-        add(&mut whole, table[row])?;
+        add(&mut whole, *found)?;
     }
     Ok(Numbers { whole, by_row })
 }
 
-// Adds who is found, if anyone is.
+// Adds a principal, if there is one.
 fn add<'a>(whole: &mut Vec<Principal<'a>>, found: Option<Principal<'a>>) -> Result<(), AllocError>
     ensures { OnOk result (whole.new.items ≡ with_found whole.old.items found.entry) }
 {
@@ -142,8 +143,8 @@ fn add<'a>(whole: &mut Vec<Principal<'a>>, found: Option<Principal<'a>>) -> Resu
     Ok(())
 }
 
-// Whom each ACE names.
-#[tactic(auto, using(crate::proofs::comparison::MentionedRows::whoms_more))]
+// Which of the numbered principals each ACE names.
+#[tactic(auto, using(crate::proofs::comparison::MentionedWhoms::whoms_more))]
 fn whoms(
     alloc: Global,
     aces: &[AceRef<'_>],
@@ -156,22 +157,22 @@ fn whoms(
         (aces_in aces.now) whoms.items) }
 {
     let mut whoms = Vec::with_capacity(alloc, aces.len())?;
-    for place in 0..aces.len() {
+    for (place, ace) in aces.iter().enumerate() {
         let number = numbers.by_row[rows[place]];
-        whoms.push(whom(&aces[place], number))?;
+        whoms.push(whom(ace, number))?;
     }
     Ok(whoms)
 }
 
-/// The principals that two lists mention, in order, and whom of these each ACE names: of the first list, and then of
-/// the second.
+/// The principals that two lists mention, in order, and which of them each ACE names: first the ACEs of the first list,
+/// and then those of the second.
 #[derive(Drop)]
 pub(crate) struct Mentions<'a> {
     pub(crate) principals: Vec<Principal<'a>>,
     pub(crate) whoms: Vec<Whom>,
 }
 
-// Whom an ACE names, where that number is its principal's.
+// Whom an ACE names, if this is the number of its principal.
 #[tactic(auto, using(crate::proofs::unique::Names::everyone_test))]
 fn whom(item: &AceRef<'_>, number: usize) -> Whom
     ensures { result ≡ whom_of (ace item.now) number }
@@ -185,7 +186,7 @@ fn whom(item: &AceRef<'_>, number: usize) -> Whom
     }
 }
 
-/// Returns the length of the longest name, and 0 where none is a name.
+/// Returns the length of the longest name among the principals, or 0 if none has a name.
 #[tactic(auto, using(crate::proofs::comparison::MentionedNames::longest_steps))]
 pub(crate) fn longest_of(whole: &[Principal<'_>]) -> usize
     ensures value { result ≡ longest (principals whole.now) }
@@ -198,7 +199,7 @@ pub(crate) fn longest_of(whole: &[Principal<'_>]) -> usize
     most
 }
 
-// The length of a name, and 0 where there is none.
+// The length of the principal's name, or 0 if it has none.
 fn name_length(p: Principal<'_>) -> usize
     ensures value { result ≡ length (principal_name (principal p.entry)) }
     ensures small { result < 2 ^ 63 }

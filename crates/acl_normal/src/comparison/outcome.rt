@@ -1,6 +1,6 @@
-//! The difference of two lists at a small set.
+//! The difference of two lists, once the search has found a small set at which they differ.
 ghost use Rattle.std.specs.Prelude.{◌≡◌};
-ghost use Rattle.acl_normal.specs.Common.{all_mentioned, AreAlikeTo, AreNumbered, FindSet, IfOk, IfSome, IsGrantedTo, members_of, members_or_none, set_of, set_or_none};
+ghost use Rattle.acl_normal.specs.Common.{all_mentioned, AreAlikeTo, AreNumbered, FindSet, IfOk, IfSome, IsGrantedTo, members_or_none, set_of, set_or_none};
 ghost use Rattle.acl_perm.specs.Situation.{IsSituation};
 ghost use Rattle.acl_normal.specs.Difference.{IsComparison};
 ghost use Rattle.acl_normal.specs.SmallSets.{strange_length};
@@ -17,7 +17,7 @@ use acl_perm::Mask;
 use std::alloc::{AllocError, Global};
 
 impl Compared<'_, '_> {
-    /// Returns what a comparison tells, by the first small set at which the lists grant otherwise.
+    /// Returns the result of the comparison, given the first small set at which the lists differ, if there is one.
     pub(crate) fn difference(
         &self,
         alloc: Global,
@@ -37,7 +37,7 @@ impl Compared<'_, '_> {
         }
     }
 
-    /// Returns what a comparison tells, where the set is given by numbers.
+    /// Returns the result of the comparison as `difference` does, but takes the set by the numbers of its members.
     pub(crate) fn difference_of(
         &self,
         alloc: Global,
@@ -58,8 +58,8 @@ impl Compared<'_, '_> {
         }
     }
 
-    // The small situation of a set at which the lists grant otherwise, and the lowest right on which they do, by what
-    // each of them grants there.
+    // The small situation of a set at which the lists differ, and the lowest right on which they differ. `here` and
+    // `there` are the rights that each list grants in that situation.
     fn difference_at(
         &self,
         alloc: Global,
@@ -86,7 +86,7 @@ impl Compared<'_, '_> {
         })
     }
 
-    // The length of the names of strangers: more than that of any name that the lists mention.
+    // The length of a strange name, which must be longer than any name that the lists mention.
     fn strange_length(&self) -> usize
         ensures { result ≡ strange_length self.now.first self.now.second }
     {

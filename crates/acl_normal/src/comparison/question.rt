@@ -1,4 +1,4 @@
-//! A difference as a question: the object, the requester and the right that `deciding_ace` takes.
+//! The object, the requester and the right of a difference, in the types that `deciding_ace` of `acl_eval` takes.
 ghost use Rattle.std.specs.Prelude.{◌^◌, ◌≡◌};
 ghost use Rattle.acl_normal.specs.Common.{slice_index_or};
 ghost use Rattle.acl_eval.specs.Situation.{groups_of, owner_of, owning_group_of, user_of};
@@ -10,7 +10,7 @@ use acl_eval::{Object, Requester};
 use acl_perm::Right;
 
 impl<'a> RequesterNames<'a> {
-    /// Returns the requester of these names.
+    /// Returns the requester with these names, which stay borrowed.
     #[tactic(auto, using(crate::proofs::comparison::Asked::named_groups))]
     pub fn requester(&'a self) -> Requester<'a>
         ensures user { user_of result ≡ user_in self.now }
@@ -34,7 +34,7 @@ impl Difference {
         }
     }
 
-    /// Returns the object, whose names are borrowed.
+    /// Returns the object with its owner and owning group, whose names are borrowed.
     pub fn object(&self) -> Object<'_>
         ensures owner { owner_of result ≡ (situation_of self.now).owner_name }
         ensures group { owning_group_of result ≡ (situation_of self.now).owning_group }
@@ -46,8 +46,8 @@ impl Difference {
         }
     }
 
-    /// Returns the user and the groups, whose names are borrowed, without memory. `RequesterNames::requester` makes the
-    /// requester of them.
+    /// Returns the user and the groups, whose names are borrowed. It takes no memory. `RequesterNames::requester` makes
+    /// a `Requester` of them.
     pub fn requester_names(&self) -> RequesterNames<'_>
         ensures user { user_in result ≡ (situation_of self.now).user_name }
         ensures groups { groups_in result ≡ (situation_of self.now).groups }
@@ -59,7 +59,7 @@ impl Difference {
         }
     }
 
-    // The name of a group, or the name of the user where no group has the number.
+    // The name of the group with this number, or the name of the user if there is no such group.
     fn group_or_user(&self, number: usize) -> &[u8]
         ensures { result.now ≡ slice_index_or (situation_of self.now).groups number
             (situation_of self.now).user_name }

@@ -1,13 +1,13 @@
-//! The requester of a difference, borrowed from it.
+//! The names of the requester of a difference.
 ghost use Rattle.std.specs.Prelude.{◌≡◌, ◌<◌, ◌≤◌, All, length};
 
-/// The requester of a difference: its names, borrowed, in the form from which a `Requester` is made.
+/// The names of the requester of a difference, borrowed from the difference, from which a `Requester` is made.
 #[derive(Clone, Copy, Debug)]
 pub struct RequesterNames<'a> {
     pub(crate) user: &'a [u8],
-    /// The names of the groups. Where there are less than two, the name of the user fills the rest.
+    /// The names of the groups. If there are fewer than two, the name of the user fills the rest.
     pub(crate) names: [&'a [u8]; 2],
-    /// The number of the groups.
+    /// How many of the names are names of groups.
     pub(crate) count: usize,
     ghost user_named: { 0 < length user.now },
     ghost groups_named: { All (λ g. 0 < length g.now) names },

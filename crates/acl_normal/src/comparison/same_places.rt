@@ -1,5 +1,5 @@
-//! Where a list names the same as another does. Each search begins near the place that was found before: lists that are
-//! compared mostly name the same in nearly the same order, and then only one of them is sorted.
+//! Finds, for each ACE of one list, an ACE of the other that names the same principal. Lists that are compared mostly
+//! name the same principals in nearly the same order, so each search begins near the place that the last one found.
 ghost use Rattle.std.specs.Prelude.{◌≡◌};
 ghost use Rattle.acl_normal.specs.Common.{IfOk, IfSome, length, true};
 ghost use Rattle.acl_normal.specs.internal.comparison.SamePlaces.{ArePlacesOf, HasSameWho, HaveOneWho};
@@ -7,11 +7,11 @@ ghost use Rattle.acl_normal.specs.internal.comparison.SamePlaces.{ArePlacesOf, H
 use acl_nfs4::AceRef;
 use std::alloc::{AllocError, Global};
 
-// How far from the place that is expected an ACE is looked for.
+// How far from the expected place an ACE is searched for.
 const NEAR: usize = 32;
 
-/// Returns, by place of the other list, the place of an ACE in the list that names the same; or None, where one of them
-/// is not near the place behind the one before.
+/// Returns, by place in the other list, the place of an ACE of the list that names the same principal. Returns `None`
+/// if one of these places is not near the place after the one before.
 #[tactic(auto, using(crate::proofs::comparison::SamePlacesLemmas::place_steps))]
 pub(crate) fn same_places(
     alloc: Global,
@@ -35,7 +35,7 @@ pub(crate) fn same_places(
     Ok(Some(places))
 }
 
-// A place near another, of an ACE that names the same.
+// The place of an ACE that names the same principal, near the expected place.
 fn place_near(list: &[AceRef<'_>], item: &AceRef<'_>, expected: usize) -> Option<usize>
     ensures { IfSome result (HasSameWho list.now item.now) }
 {
@@ -50,7 +50,7 @@ fn place_near(list: &[AceRef<'_>], item: &AceRef<'_>, expected: usize) -> Option
     None
 }
 
-// Whether the ACE at a place names the same.
+// Whether there is an ACE at the place, and it names the same principal.
 fn is_at(list: &[AceRef<'_>], item: &AceRef<'_>, place: usize) -> bool
     ensures { result ≡ true → HasSameWho list.now item.now place }
 {
@@ -60,7 +60,7 @@ fn is_at(list: &[AceRef<'_>], item: &AceRef<'_>, place: usize) -> bool
     }
 }
 
-// Whether two ACEs name the same, by their flags and the bytes of their whos.
+// Whether two ACEs have the same flags and the same who, and so name the same principal.
 fn names_same(item: &AceRef<'_>, other: &AceRef<'_>) -> bool
     ensures { result ≡ true → HaveOneWho item.now other.now }
 {

@@ -1,5 +1,5 @@
-//! The search for the first small set for which two lists differ. A test of each pair of principals would take time in
-//! the square of their number, so the search finds one of the pair first, and then the other.
+//! The search for the first small set at which two lists differ. A test of each pair of principals would take time that
+//! grows with the square of their number, so the search finds one principal of the pair first, and then the other.
 ghost use Rattle.std.specs.Prelude.{◌<◌};
 ghost use Rattle.acl_normal.specs.Common.{all_mentioned, AreNumbered, FindSet, IfOk, IfSome, length, members_or_none};
 ghost use Rattle.acl_normal.specs.internal.comparison.TwoLists.{AreAlikeAlone, IsFirstMember, IsFirstPartner, IsFirstSingle};
@@ -11,9 +11,8 @@ use acl_perm::internal::Bit;
 use std::alloc::{AllocError, Global};
 
 impl Compared<'_, '_> {
-    /// Returns the first small set at which the lists differ. The first pair has as its lesser member the least
-    /// principal of any pair at which they differ, whether the other comes before or behind it, and the least later one
-    /// as the other.
+    /// Returns the first small set at which the lists differ. The lesser member of the first such pair is the least
+    /// principal that is in any such pair, and the other member is the least later principal that makes a pair with it.
     pub(crate) fn first_set(&self, alloc: Global) -> Result<Option<Members>, AllocError>
         ensures found { IfOk result (λ r.
             FindSet self.now (members_or_none (all_mentioned self.now) r)) }
@@ -34,7 +33,8 @@ impl Compared<'_, '_> {
         Ok(Some(Members::Two(member, member + 1 + partner)))
     }
 
-    // The first principal at which alone the lists differ, or the number of principals.
+    // The number of the first principal at which alone the lists differ, or the number of all principals if there is
+    // none.
     #[tactic(auto, using(crate::proofs::comparison::RowFacts::least_start))]
     fn least_single(&self, alloc: Global) -> Result<usize, AllocError>
         ensures { IfOk result (IsFirstSingle self.now) }
@@ -50,7 +50,8 @@ impl Compared<'_, '_> {
         Ok(least)
     }
 
-    // The first principal that is one of a pair at which the lists differ, or the number of principals.
+    // The number of the first principal in a pair at which the lists differ, or the number of all principals if there
+    // is none.
     #[tactic(auto, using(crate::proofs::comparison::RowFacts::least_start))]
     fn least_member(&self, alloc: Global) -> Result<usize, AllocError>
         requires { AreAlikeAlone self.now }
@@ -68,7 +69,8 @@ impl Compared<'_, '_> {
         Ok(least)
     }
 
-    // The first of the later principals that is a pair with this one at which the lists differ, or their number.
+    // Counted from the principal after `at`, the number of the first principal that makes a pair with `at` at which the
+    // lists differ, or the number of all later principals if there is none.
     #[tactic(auto, using(crate::proofs::comparison::RowFacts::least_start))]
     fn least_partner(&self, alloc: Global, at: usize) -> Result<usize, AllocError>
         requires at { at < length (all_mentioned self.now) }

@@ -1,4 +1,4 @@
-//! The situation of a small set, by its names.
+//! The names of the small situation of a set.
 ghost use Rattle.std.specs.Prelude.{◌++◌, ◌∷◌, ◌≡◌};
 ghost use Rattle.acl_normal.specs.Common.{[], IfOk, map, OnOk, principal, replicate, set_of};
 ghost use Rattle.acl_normal.specs.SmallSituations.{group_names, small_situation};
@@ -61,7 +61,7 @@ pub(crate) fn groups_in(
     Ok(groups)
 }
 
-// The group names of a set.
+// The names of the groups in the set that have a name.
 fn groups_of(alloc: Global, set: SmallSet<'_>) -> Result<Vec<Vec<u8>>, AllocError>
     ensures { IfOk result (λ v. map (λ g. g.items) v.items ≡ group_names (set_of set.entry)) }
 {
@@ -77,7 +77,7 @@ fn groups_of(alloc: Global, set: SmallSet<'_>) -> Result<Vec<Vec<u8>>, AllocErro
     Ok(groups)
 }
 
-// Adds the name of a group.
+// Adds the name of the principal if it is a group with a name.
 fn add_group(alloc: Global, groups: &mut Vec<Vec<u8>>, p: Principal<'_>) -> Result<(), AllocError>
     ensures { OnOk result (map (λ g. g.items) groups.new.items
         ≡ map (λ g. g.items) groups.old.items ++ group_names (principal p.entry ∷ [])) }
@@ -88,7 +88,7 @@ fn add_group(alloc: Global, groups: &mut Vec<Vec<u8>>, p: Principal<'_>) -> Resu
     Ok(())
 }
 
-// A strange name: one byte, n times.
+// A name that no list mentions: one byte, `n` times.
 fn strange(alloc: Global, byte: u8, n: usize) -> Result<Vec<u8>, AllocError>
     ensures { IfOk result (λ v. v.items ≡ replicate n byte) }
 {

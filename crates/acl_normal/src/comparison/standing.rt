@@ -1,8 +1,8 @@
-//! Where two lists first speak of each principal, and what they say there.
+//! The first ACE that concerns each principal in each of two lists, for one right.
 ghost use Rattle.std.specs.Prelude.{◌<◌, ◌≡◌, ◌≤◌};
 ghost use Rattle.acl_normal.specs.Common.{ace, aces_in, AreWhoms, false, IfOk, length, principals, slice_index_or, true, vec_len, ℕ};
 ghost use Rattle.acl_perm.specs.Kind.{is_allow};
-ghost use Rattle.acl_normal.specs.internal.comparison.FirstPlaces.{AreFirstFrom, IsWhomWithin, no_ace, put, same_whom, stops, stops_at};
+ghost use Rattle.acl_normal.specs.internal.comparison.FirstPlaces.{AreFirstFrom, IsWhomWithin, no_ace, put, same_whom, SameAlone, stops, stops_at};
 
 use crate::class::Class;
 use acl_nfs4::AceRef;
@@ -10,8 +10,8 @@ use acl_perm::internal::Bit;
 use acl_perm::{Kind, Principal};
 use std::alloc::{AllocError, Global};
 
-/// The first ACE that concerns a principal and has some right: its place in the list, and its kind. An ACE of everyone
-/// concerns each principal.
+/// The place and the kind of the first ACE that has a right and concerns a principal: one that names the principal or
+/// everyone.
 #[derive(Clone, Copy)]
 pub(crate) struct First {
     pub place: usize,
@@ -19,7 +19,6 @@ pub(crate) struct First {
 }
 
 impl First {
-    /// Returns whether the ACE is an ALLOW.
     pub(crate) fn allows(self) -> bool
         ensures { result ≡ is_allow self.kind }
     {
@@ -35,7 +34,17 @@ pub(crate) struct Standing {
     pub class: Class,
 }
 
-/// Whom an ACE names: none of the principals, one of them by its number, or all.
+impl Standing {
+    /// Returns whether exactly one of the lists grants the right to the principal alone.
+    pub(crate) fn is_unlike(self) -> bool
+        ensures same { result ≡ false → SameAlone self }
+        ensures unlike { result ≡ true → SameAlone self → ⊥ }
+    {
+        self.here.allows() != self.there.allows()
+    }
+}
+
+/// Whom an ACE names: nobody if it takes no part, one of the mentioned principals by its number, or everyone.
 #[derive(Clone, Copy)]
 pub(crate) enum Whom {
     Nobody,
@@ -44,7 +53,6 @@ pub(crate) enum Whom {
 }
 
 impl Whom {
-    /// Returns whether both name the same.
     pub(crate) fn is_same(self, other: Whom) -> bool
         ensures { result ≡ same_whom self other }
     {
@@ -57,8 +65,9 @@ impl Whom {
     }
 }
 
-/// Returns the first ACE with a right that concerns each of so many principals. All begin with the first ACE of
-/// everyone. The ACEs before it are noted from the last to the first, so that the first of each principal remains.
+/// Returns, for each principal, the first ACE with a right that concerns it. At first this is the first ACE of everyone
+/// for all principals. Then the ACEs before it are noted from the last to the first, so that the first ACE of each
+/// principal remains.
 pub(crate) fn firsts(
     alloc: Global,
     whole: &[Principal<'_>],
@@ -81,7 +90,7 @@ pub(crate) fn firsts(
     Ok(out)
 }
 
-// The place of the first ACE of everyone with the right, or the number of ACEs.
+// The place of the first ACE that names everyone and has the right, or the number of ACEs if there is none.
 fn place_of_everyone(list: &[AceRef<'_>], whoms: &[Whom], right: Bit) -> usize
     requires { length whoms.now ≡ length list.now }
     ensures within { result ≤ length list.now }
@@ -90,15 +99,15 @@ fn place_of_everyone(list: &[AceRef<'_>], whoms: &[Whom], right: Bit) -> usize
     ensures at { result < length list.now
         → stops_at (aces_in list.now) whoms.now right.bit result ≡ true }
 {
-    for i in 0..list.len() {
-        if is_end(&list[i], whoms[i], right) {
-            return i;
+    for (place, ace) in list.iter().enumerate() {
+        if is_end(ace, whoms[place], right) {
+            return place;
         }
     }
     list.len()
 }
 
-// Whether the ACE has the right, and is of everyone.
+// Whether the ACE names everyone and has the right.
 fn is_end(item: &AceRef<'_>, whom: Whom, right: Bit) -> bool
     ensures { result ≡ stops right.bit (ace item.now) whom }
 {
@@ -108,7 +117,7 @@ fn is_end(item: &AceRef<'_>, whom: Whom, right: Bit) -> bool
     }
 }
 
-// The kind of the ACE at a place. Behind the list everything is denied.
+// The kind of the ACE at a place. After the end of the list everything is denied.
 fn kind_at(list: &[AceRef<'_>], place: usize) -> Kind
     ensures { result ≡ (slice_index_or (aces_in list.now) place no_ace).kind }
 {
@@ -118,7 +127,7 @@ fn kind_at(list: &[AceRef<'_>], place: usize) -> Kind
     }
 }
 
-// What an ACE of a principal that has the right says comes before what the later ones say.
+// Notes an ACE as the first of its principal if it has the right. It replaces a later ACE.
 fn put_first(out: &mut Vec<First>, item: &AceRef<'_>, whom: Whom, place: usize, right: Bit)
     requires { IsWhomWithin whom (vec_len out.old) }
     ensures { out.new.items ≡ put out.old.items (ace item.now) whom place right.bit }

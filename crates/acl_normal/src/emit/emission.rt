@@ -1,6 +1,7 @@
-//! The order of a normal form: at each place the least key that has a free bit, with all its free bits.
-ghost use Rattle.std.specs.Prelude.{◌*◌, ◌<◌, ◌≡◌};
-ghost use Rattle.acl_normal.specs.Common.{Ace, all_rights, AreQueues, bit_count, count_left, emitted_aces, has_bit, IfNone, IfOk, IfSome, is_user, is_users, IsEmission, IsIrreducibleList, IsNormal, key_here, kind_here, left, length, List, nothing_left, OnOk, plain_key, principal, replicate, SameGrants, slice_index_or, StandInRows, true, ℕ};
+//! The emission of a normal form: each ACE has the least key that is free on some right, with all rights on which it is
+//! free.
+ghost use Rattle.std.specs.Prelude.{◌*◌, ◌+◌, ◌<◌, ◌^◌, ◌≡◌};
+ghost use Rattle.acl_normal.specs.Common.{Ace, AreQueues, IfNone, IfOk, IfSome, IsEmission, IsIrreducibleList, IsNormal, List, OnOk, SameGrants, AreInRows, all_rights, bit_count, count_left, emitted_aces, has_bit, is_user, is_users, key_here, kind_here, left, length, nothing_left, plain_key, principal, replicate, slice_index_or, true, ℕ};
 ghost use Rattle.acl_perm.specs.Order.{kind_rank};
 ghost use Rattle.acl_normal.specs.internal.emit.Queues.{BeginsWaiting};
 ghost use Rattle.acl_normal.specs.internal.emit.Ready.{AddsMark, Enters, FitsKeys, Frees, HoldsFree, TakesBits, marks};
@@ -14,7 +15,7 @@ use acl_perm::internal::Bit;
 use acl_perm::{Key, Kind, Mask};
 use std::alloc::{AllocError, Global};
 
-/// An ACE of a normal form: a key, its rights, and the row of the principal.
+/// An ACE of a normal form, with the row of its principal.
 #[derive(Clone, Copy)]
 pub(crate) struct Emitted<'a> {
     pub(crate) key: Key<'a>,
@@ -22,7 +23,7 @@ pub(crate) struct Emitted<'a> {
     pub(crate) row: usize,
 }
 
-/// Returns the normal form of an irreducible list: it grants the same, and no other normal list does.
+/// Returns the normal form of an irreducible list: the one normal list that grants the same.
 pub(crate) fn normalize_left<'a>(
     alloc: Global,
     rows: &mut Remaining<'a>,
@@ -33,21 +34,21 @@ pub(crate) fn normalize_left<'a>(
     ensures only { IfOk result (λ v. (ns : List Ace) → IsNormal ns
         → SameGrants all_rights rows.old ns
         → ns ≡ emitted_aces v.items) }
-    ensures rows { IfOk result (λ v. StandInRows rows.old v.items) }
+    ensures rows { IfOk result (λ v. AreInRows rows.old v.items) }
     ensures weight { IfOk result (λ v. count_left bit_count (emitted_aces v.items)
         ≡ count_left bit_count rows.old) }
 {
-    let out = drain(alloc, rows)?;
-    Ok(out)
+    drain(alloc, rows)
 }
 
-/// Emits what is left: at each step the least key that has a free bit, with all its free bits.
+/// Emits what is left of a list: at each step the least key that is free on some right, with all rights on which it is
+/// free.
 pub(crate) fn drain<'a>(
     alloc: Global,
     rows: &mut Remaining<'a>,
 ) -> Result<Vec<Emitted<'a>>, AllocError>
     ensures emission { IfOk result (λ v. IsEmission rows.old (emitted_aces v.items)) }
-    ensures rows { IfOk result (λ v. StandInRows rows.old v.items) }
+    ensures rows { IfOk result (λ v. AreInRows rows.old v.items) }
     ensures weight { IfOk result (λ v. count_left bit_count (emitted_aces v.items)
         ≡ count_left bit_count rows.old) }
 {
@@ -65,7 +66,7 @@ pub(crate) fn drain<'a>(
     Ok(out)
 }
 
-/// Marks all that is free.
+/// Marks all rights that are free before anything was emitted.
 fn fill(rows: &Remaining<'_>, queues: &Queues, ready: &mut Ready) -> Result<(), AllocError>
     requires queues { AreQueues rows.now queues.now }
     requires none { ready.old ≡ replicate (2 * length rows.now) 0 }
@@ -82,7 +83,7 @@ fn fill(rows: &Remaining<'_>, queues: &Queues, ready: &mut Ready) -> Result<(), 
     Ok(())
 }
 
-/// Takes the least key that has a free bit, with all its free bits, which are marked no more.
+/// Takes the least key that is free on some right, with all rights on which it is free, and removes their marks.
 fn pop<'a>(rows: &Remaining<'a>, ready: &mut Ready) -> Option<Emitted<'a>>
     requires keys { FitsKeys (nothing_left rows.now) ready.old }
     requires free { HoldsFree (marks (nothing_left rows.now) ready.old) rows.now }
@@ -92,18 +93,19 @@ fn pop<'a>(rows: &Remaining<'a>, ready: &mut Ready) -> Option<Emitted<'a>>
 {
     let next = ready.pop()?;
     let key = rows.key_of(next.number);
-    // Only rights are ever free, so that the bits are a mask.
+    // Only rights are ever free, so the bits are a mask.
     let mask = Mask { bits: next.bits };
     let row = next.number / 2;
     Some(Emitted { key, mask, row })
 }
 
-/// Lets the queues of the rights of a key begin where a place still waits, or at their ends.
+/// Moves the queues of the rights of an emitted key to the first place that still waits, or to their ends.
 fn move_on(rows: &Remaining<'_>, at: Key<'_>, mask: Mask, queues: &mut Queues)
     requires { AreQueues rows.now queues.old }
     ensures queues { AreQueues rows.now queues.new }
     ensures first { (b : ℕ) → has_bit mask.bits b ≡ true
-        → BeginsWaiting at.entry.kind (is_user (principal at.entry.principal)) rows.now queues.new b }
+        → BeginsWaiting at.entry.kind (is_user (principal at.entry.principal)) rows.now
+        queues.new b }
 {
     let class = Class::of(at.principal);
     let mut from = 0;
@@ -113,7 +115,7 @@ fn move_on(rows: &Remaining<'_>, at: Key<'_>, mask: Mask, queues: &mut Queues)
     }
 }
 
-/// Marks what became free when rights of a key were taken out.
+/// Marks what became free when rights of a key were emitted.
 fn free_after<'a>(
     rows: &Remaining<'a>,
     queues: &Queues,
@@ -140,7 +142,7 @@ fn free_after<'a>(
     Ok(())
 }
 
-/// Marks what is free of the ACEs that wait in a kind and a class with a right.
+/// Marks the right of each ACE of a kind and a class that waits with the right and is free on it.
 #[inline(always)]
 fn enter(
     rows: &Remaining<'_>,
@@ -157,14 +159,14 @@ fn enter(
         (marks (nothing_left rows.now) ready.old)
         (marks (nothing_left rows.now) ready.new)) }
 {
-    // Mostly none waits, which is known without a look at what is before it.
+    // Mostly no ACE waits, and then nothing that may block it has to be looked up.
     if queues.head(kind, class, right) == 0 {
         return Ok(());
     }
     walk(rows, queues, kind, class, right, ready)
 }
 
-/// Marks what is free of a queue: the places before the first that something blocks.
+/// Marks what is free in a queue: all places before the first place that a conflicting ACE blocks.
 fn walk(
     rows: &Remaining<'_>,
     queues: &Queues,
@@ -195,7 +197,7 @@ fn walk(
     Ok(())
 }
 
-/// Marks a right of the ACE of a kind at a place as free.
+/// Marks a right of the ACE at a place as free.
 fn add(
     rows: &Remaining<'_>,
     place: usize,
@@ -211,16 +213,19 @@ fn add(
         (marks (nothing_left rows.now) ready.old)
         (marks (nothing_left rows.now) ready.new)) }
 {
-    let number = 2 * rows.row_at(place) + rank(kind);
+    let number = key_number(rows.row_at(place), kind);
     ready.add(number, right)
 }
 
-/// Returns the number of a kind, in the order of kinds.
-pub(crate) fn rank(kind: Kind) -> usize
-    ensures { result ≡ kind_rank kind }
+/// Returns the number of a key. Keys are numbered by row, and then by kind, so that the numbers are in the order of the
+/// keys.
+pub(crate) fn key_number(row: usize, kind: Kind) -> usize
+    requires { row < 2 ^ 32 }
+    ensures value { result ≡ 2 * row + kind_rank kind }
+    ensures small { result < 2 ^ 33 }
 {
     match kind {
-        Kind::Deny => 0,
-        Kind::Allow => 1,
+        Kind::Deny => 2 * row,
+        Kind::Allow => 2 * row + 1,
     }
 }

@@ -1,4 +1,4 @@
-//! Queues of the places that wait, by kind, class and right.
+//! The queues of the places that wait, one for each kind, class and right.
 ghost use Rattle.std.specs.Prelude.{◌+◌, ◌<◌, ◌^◌, ◌≡◌, ◌≢◌, ◌≤◌};
 ghost use Rattle.acl_normal.specs.Common.{Ace, AreQueues, false, has_bit, IfOk, is_blocked, is_users, length, List, mask_here, OnOk, slot_count, slot_of, true, vec_len, waits_before, ℕ};
 ghost use Rattle.acl_normal.specs.internal.emit.Queues.{AreNoted, IsQueueAt, MovesOn, PutsPlace, head_in, place_in};
@@ -18,13 +18,14 @@ pub(crate) struct Link {
     pub(crate) next: usize,
 }
 
-/// The places that wait with each right, by kind and class, in order. None before the first of a queue waits any more;
-/// others may have left from amid it.
+/// The places that wait with each right, by kind and class, in order. No place before the first of a queue waits; a
+/// place after it may no longer wait either.
 #[derive(Drop)]
 pub(crate) struct Queues {
-    /// The links of all queues. Each queue ends with link 0, which has no place, and each link comes after its next.
+    /// The links of all queues. Each queue ends with link 0, which has no place. A link has a greater number than the
+    /// next link of its queue.
     pub(crate) links: Vec<Link>,
-    /// By kind, class and right, the number of the first link.
+    /// By slot, the number of the first link of the queue.
     pub(crate) heads: Vec<usize>,
 }
 
@@ -33,9 +34,10 @@ impl Queues {
     pub(crate) fn of(alloc: Global, rows: &Remaining<'_>) -> Result<Queues, AllocError>
         ensures { IfOk result (λ queues. AreQueues rows.now queues) }
     {
-        let mut queues = Queues::new(alloc, rows.len())?;
-        for done in 0..rows.len() {
-            queues.note(rows, rows.len() - 1 - done)?;
+        let count = rows.len();
+        let mut queues = Queues::new(alloc, count)?;
+        for place in (0..count).rev() {
+            queues.note(rows, place)?;
         }
         Ok(queues)
     }
@@ -81,7 +83,7 @@ impl Queues {
         Ok(())
     }
 
-    /// Lets the queue of a kind, a class and a right begin where a place still waits, or at its end.
+    /// Moves the beginning of a queue to the first place that still waits, or to the end of the queue.
     pub(crate) fn move_on(&mut self, rows: &Remaining<'_>, kind: Kind, class: Class, right: Bit)
         requires { AreQueues rows.now self.old }
         ensures queues { AreQueues rows.now self.new }
@@ -91,8 +93,8 @@ impl Queues {
         self.heads[slot(kind, class, right)] = first;
     }
 
-    /// Returns the last place where an ACE of a kind and a class with a right has nothing before it that conflicts with
-    /// it.
+    /// Returns the last place at which no waiting ACE before the place conflicts with an ACE of a kind and a class on a
+    /// right.
     pub(crate) fn last_clear(
         &self,
         rows: &Remaining<'_>,
@@ -111,12 +113,12 @@ impl Queues {
             Class::Users => others,
             Class::Others => {
                 let users = self.first_waiting(rows, kind.other(), Class::Users, right);
-                if users < others { users } else { others }
+                users.min(others)
             }
         }
     }
 
-    /// Returns the first place that waits in a kind and a class with a right, or the greatest number where none does.
+    /// Returns the first place that waits in a queue, or the greatest number if none waits.
     fn first_waiting(&self, rows: &Remaining<'_>, kind: Kind, class: Class, right: Bit) -> usize
         requires { AreQueues rows.now self.now }
         ensures before { (place : ℕ) → place ≤ result
@@ -131,7 +133,7 @@ impl Queues {
         self.links[at].place
     }
 
-    /// Returns the number of the first link of a queue whose place still waits, or 0 where none does.
+    /// Returns the number of the first link of a queue whose place still waits, or 0 if none waits.
     fn first_link(&self, rows: &Remaining<'_>, kind: Kind, class: Class, right: Bit) -> usize
         requires { AreQueues rows.now self.now }
         ensures queue { IsQueueAt kind (is_users class) right.bit rows.now
@@ -150,7 +152,7 @@ impl Queues {
         0
     }
 
-    /// Returns the number of the first link of the queue of a kind, a class and a right.
+    /// Returns the number of the first link of a queue, or 0 if the queue is empty.
     #[inline(always)]
     pub(crate) fn head(&self, kind: Kind, class: Class, right: Bit) -> usize
         requires { vec_len self.now.heads ≡ slot_count }

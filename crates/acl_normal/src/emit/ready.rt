@@ -1,4 +1,4 @@
-//! The keys that have a free bit, by number.
+//! The keys that are free on some right, by number.
 ghost use Rattle.std.specs.Prelude.{◌*◌, ◌<◌, ◌^◌, ◌≡◌, slice_set};
 ghost use Rattle.acl_normal.specs.Common.{bit_or, IfNone, IfOk, IfSome, length, OnOk, replicate, slice_index_or, ℕ};
 ghost use Rattle.acl_normal.specs.internal.emit.Ready.{IsLeastReady};
@@ -10,14 +10,14 @@ use std::cmp::Reverse;
 use std::collections::BinaryHeap;
 use std::marker::Model;
 
-/// The keys that have a free bit, by number: their free bits, and the numbers that have some, least first.
+/// The free rights of each key by the number of the key, and a heap of the numbers that have some, the least first.
 #[derive(Drop)]
 pub(crate) struct Ready {
     bits: Vec<u32>,
     numbers: BinaryHeap<Reverse<usize>>,
 }
 
-/// The number of a key, and its free bits.
+/// The number of a key, and its free rights as bits.
 #[derive(Clone, Copy)]
 pub(crate) struct Numbered {
     pub(crate) number: usize,
@@ -37,7 +37,7 @@ impl Model for Ready {
 }
 
 impl Ready {
-    /// Makes room for the keys of a number of rows, none of which has a free bit.
+    /// Makes room for the keys of all rows. No key is free at first.
     pub(crate) fn new(alloc: Global, rows: usize) -> Result<Ready, AllocError>
         requires { rows < 2 ^ 63 }
         ensures { IfOk result (λ r. r ≡ replicate (2 * rows) 0) }
@@ -48,7 +48,7 @@ impl Ready {
         })
     }
 
-    /// Marks a right of the key of a number as free.
+    /// Marks the key with this number as free on a right.
     pub(crate) fn add(&mut self, number: usize, right: Bit) -> Result<(), AllocError>
         requires { number < length self.old }
         ensures { OnOk result (self.new ≡ slice_set self.old number
@@ -62,7 +62,7 @@ impl Ready {
         Ok(())
     }
 
-    /// Takes the least number that has free bits, with them. It has none afterwards.
+    /// Takes the least number whose key is free on some right, with these rights, and removes their marks.
     pub(crate) fn pop(&mut self) -> Option<Numbered>
         ensures least { IfSome result (λ key. IsLeastReady self.old key.number key.bits) }
         ensures taken { IfSome result (λ key. self.new ≡ slice_set self.old key.number 0) }

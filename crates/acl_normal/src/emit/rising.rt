@@ -1,16 +1,16 @@
-//! Lists whose keys rise: such a list is its own normal form, but for flags that do not say whom an ACE names.
+//! Lists whose keys rise. Such a list is its own normal form, except for flags that do not say whom an ACE names.
 ghost use Rattle.std.specs.Prelude.{◌<◌, ◌^◌, ◌≡◌};
 ghost use Rattle.acl_normal.specs.Common.{ace, all_cleared, AreRowNumbers, full, IfOk, IsAccepted, IsRising, IsTrue, left, length, mask_numbers, with_masks};
 ghost use Rattle.acl_normal.specs.internal.emit.Rising.{cleared};
 
-use crate::emit::emission::rank;
+use crate::emit::emission::key_number;
 use crate::normal_form::flags_of;
 use acl_nfs4::{AceRef, Acl};
 use acl_perm::Mask;
 use std::alloc::{AllocError, Global};
 
-/// Returns whether the keys of the ACEs of which something is left rise strictly. `rows` has the row of each one's
-/// principal.
+/// Returns whether the keys of the ACEs that still have rights rise strictly. `rows` has the row of the principal of
+/// each ACE.
 pub(crate) fn rises(aces: &[AceRef<'_>], masks: &[Mask], rows: &[usize]) -> bool
     requires few { length aces.now < 2 ^ 32 }
     requires masks { length masks.now ≡ length aces.now }
@@ -18,10 +18,10 @@ pub(crate) fn rises(aces: &[AceRef<'_>], masks: &[Mask], rows: &[usize]) -> bool
     ensures { IsTrue result → IsRising (left (with_masks aces.now (mask_numbers masks.now))) }
 {
     let mut bound = 0;
-    for place in 0..aces.len() {
+    for (place, ace) in aces.iter().enumerate() {
         let mask = masks[place];
         if mask.bits != 0 {
-            let number = 2 * rows[place] + rank(aces[place].kind);
+            let number = key_number(rows[place], ace.kind);
             if number < bound {
                 return false;
             }
@@ -31,7 +31,7 @@ pub(crate) fn rises(aces: &[AceRef<'_>], masks: &[Mask], rows: &[usize]) -> bool
     true
 }
 
-/// Returns the list of the ACEs of which something is left, with the flags alone that say whom each names.
+/// Returns the list of the ACEs that still have rights. Only the flags that say whom an ACE names are kept.
 pub(crate) fn cleared(alloc: Global, aces: &[AceRef<'_>], masks: &[Mask]) -> Result<Acl, AllocError>
     requires masks { length masks.now ≡ length aces.now }
     requires accepted { IsAccepted full
@@ -40,16 +40,16 @@ pub(crate) fn cleared(alloc: Global, aces: &[AceRef<'_>], masks: &[Mask]) -> Res
         ≡ all_cleared (left (with_masks aces.now (mask_numbers masks.now)))) }
 {
     let mut list = Acl::new(alloc);
-    for place in 0..aces.len() {
+    for (place, ace) in aces.iter().enumerate() {
         let mask = masks[place];
         if mask.bits != 0 {
-            list.push_accepted(cleared_ace(&aces[place], mask))?;
+            list.push_accepted(cleared_ace(ace, mask))?;
         }
     }
     Ok(list)
 }
 
-// The ACE with a mask, and with the flags alone that say whom it names.
+// The ACE with a mask, and with only those flags that say whom it names.
 fn cleared_ace<'a>(item: &AceRef<'a>, mask: Mask) -> AceRef<'a>
     ensures { ace result ≡ cleared (record {
       kind = item.now.kind;

@@ -1,4 +1,4 @@
-//! Puts ACEs into the order of the normal form: each time the least ACE that no other ACE has to precede.
+//! Puts ACEs into the order of the normal form. Each time, the next ACE is the least that no other ACE has to precede.
 
 ghost use Rattle.std.specs.Prelude.{◌&&◌, ◌++◌, ◌∷◌, ◌≡◌, ◌≤◌};
 ghost use Rattle.acl_normal.specs.Common.{[], Ace, ace, aces_in, AllByRecursion, column, count_left, false, full, has_bit, IfNone, IfOk, IfSome, is_free, IsEmission, KeepsProfiles, kind_eq, length, List, not, option_map, principal_eq, principal_of, true, ℕ};
@@ -37,7 +37,7 @@ pub(super) fn emit(alloc: Global, aces: Vec<AceRef<'_>>) -> Result<Acl, AllocErr
     Ok(list)
 }
 
-// The ACE that comes first: of those whose key is free somewhere, the one with the least key.
+// The ACE that comes first: of the ACEs whose key is free on some right, the one with the least key.
 fn least<'a>(left: &[AceRef<'a>]) -> Option<AceRef<'a>>
     ensures { Best (aces_in left.now) (aces_in left.now) (option_map ace result) }
 {
@@ -48,7 +48,7 @@ fn least<'a>(left: &[AceRef<'a>]) -> Option<AceRef<'a>>
     best
 }
 
-// The best of some ACEs and one more.
+// The better of the best ACE so far and one more ACE.
 fn better<'a>(
     left: &[AceRef<'a>],
     best: Option<AceRef<'a>>,
@@ -64,7 +64,7 @@ fn better<'a>(
     }
 }
 
-// The ACE with all bits at which its key is free.
+// The ACE with all rights on which its key is free, if there are any.
 fn candidate<'a>(left: &[AceRef<'a>], item: &AceRef<'a>) -> Option<AceRef<'a>>
     ensures some { IfSome result (λ a. IsCandidate (aces_in left.now) (ace a)) }
     ensures key { IfSome result (λ a. ace_key (ace a) ≡ ace_key (ace item.now)) }
@@ -83,7 +83,7 @@ fn candidate<'a>(left: &[AceRef<'a>], item: &AceRef<'a>) -> Option<AceRef<'a>>
     })
 }
 
-// The bits at which the key of the ACE is free.
+// The rights on which the key of the ACE is free.
 fn free_bits(left: &[AceRef<'_>], item: &AceRef<'_>) -> Mask
     ensures { (bit : ℕ) → has_bit result.bits bit
         ≡ is_free (column (aces_in left.now) bit) (ace_key (ace item.now)) }
@@ -97,7 +97,7 @@ fn free_bits(left: &[AceRef<'_>], item: &AceRef<'_>) -> Mask
     free
 }
 
-// The bits at which the other ACE has the key of the ACE, except those that are blocked.
+// The rights of the other ACE if it has the key of the ACE, except those that are blocked.
 #[tactic(auto, using(crate::proofs::plain::Passes::free_alone))]
 fn own_free(other: &AceRef<'_>, item: &AceRef<'_>, blocked: Mask) -> Mask
     ensures { (bit : ℕ) → has_bit result.bits bit
@@ -111,7 +111,6 @@ fn own_free(other: &AceRef<'_>, item: &AceRef<'_>, blocked: Mask) -> Mask
     }
 }
 
-// Whether the ACEs have the same key.
 fn has_key(other: &AceRef<'_>, item: &AceRef<'_>) -> bool
     ensures { result ≡ (principal_eq (principal_of (ace other.now)) (principal_of (ace item.now))
         && kind_eq other.now.kind item.now.kind) }
@@ -119,7 +118,7 @@ fn has_key(other: &AceRef<'_>, item: &AceRef<'_>) -> bool
     is_same(other.principal(), item.principal()) && other.kind == item.kind
 }
 
-// The bits at which the other ACE conflicts with the ACE.
+// The rights on which the other ACE conflicts with the ACE.
 fn own_conflict(other: &AceRef<'_>, item: &AceRef<'_>) -> Mask
     ensures { (bit : ℕ) → has_bit result.bits bit
         ≡ conflicts_before (column (ace other.now ∷ []) bit) (ace_key (ace item.now)) }
@@ -148,7 +147,7 @@ fn is_first(first: &AceRef<'_>, second: &AceRef<'_>) -> bool
     first.key() <= second.key()
 }
 
-// The ACEs without the bits of the ACE that came first.
+// The ACEs without the rights that were emitted with the first ACE.
 fn without<'a>(
     alloc: Global,
     left: &[AceRef<'a>],
@@ -169,7 +168,7 @@ fn without<'a>(
     Ok(rest)
 }
 
-// The bits of the first ACE, if the other has the same principal.
+// The rights of the first ACE if the other names the same principal, and otherwise none.
 fn own_taken(item: &AceRef<'_>, first: &AceRef<'_>) -> Mask
     ensures { (bit : ℕ) → has_bit result.bits bit ≡ (principal_eq (principal_of (ace item.now))
         (principal_of (ace first.now)) && has_bit first.now.mask.bits bit) }

@@ -1,4 +1,4 @@
-//! Takes out the bits that play no part, by sets of bits.
+//! Takes out the rights that play no part. Each ACE is compared with all ACEs before or after it.
 
 ghost use Rattle.std.specs.Prelude.{◌&&◌, ◌∷◌, ◌≡◌};
 ghost use Rattle.acl_normal.specs.Common.{[], ace, aces_in, column, default, default_at, has_bit, IfOk, KeepsProfiles, kind_eq, needed_keys, not, principal, principal_eq, principal_of, unshadowed, ℕ};
@@ -11,7 +11,7 @@ use acl_nfs4::{AceRef, Kind, Mask, Principal};
 use acl_perm::overlaps;
 use std::alloc::{AllocError, Global};
 
-/// Returns the ACEs without the bits that an earlier ACE of their principal, or of everyone, has.
+/// Returns the ACEs without the rights that an earlier ACE of their principal, or of everyone, has.
 pub(super) fn drop_shadowed<'a>(
     alloc: Global,
     aces: &[AceRef<'a>],
@@ -21,16 +21,15 @@ pub(super) fn drop_shadowed<'a>(
     ensures profiles { IfOk result (λ kept. KeepsProfiles (aces_in aces.now) (aces_in kept.items)) }
 {
     let mut kept = Vec::new(alloc);
-    for place in 0..aces.len() {
-        let item = aces[place];
+    for (place, item) in aces.iter().enumerate() {
         let (before, _) = aces.split_at(place);
         let mask = item.mask.difference(shadow(before, item.principal()));
-        kept.push(AceRef { mask, ..item })?;
+        kept.push(AceRef { mask, ..*item })?;
     }
     Ok(kept)
 }
 
-// The bits with which some of the ACEs names the principal, or everyone.
+// The rights of all ACEs that name the principal, or everyone.
 fn shadow(before: &[AceRef<'_>], of: Principal<'_>) -> Mask
     ensures { (bit : ℕ) → has_bit result.bits bit
         ≡ is_shadowed (principal of.entry) (aces_in before.now) bit }
@@ -42,7 +41,7 @@ fn shadow(before: &[AceRef<'_>], of: Principal<'_>) -> Mask
     bits
 }
 
-/// Returns the ACEs without the bits that change nothing: without these bits the columns decide as before.
+/// Returns the ACEs without the rights that change nothing: without these rights the columns decide as before.
 pub(super) fn drop_needless<'a>(
     alloc: Global,
     aces: &[AceRef<'a>],
@@ -53,16 +52,15 @@ pub(super) fn drop_needless<'a>(
 {
     let allowed = allowed_to_everyone(aces);
     let mut kept = Vec::new(alloc);
-    for place in 0..aces.len() {
-        let item = aces[place];
+    for (place, item) in aces.iter().enumerate() {
         let (_, later) = aces.split_at(place + 1);
-        let mask = needed(&item, allowed, later);
-        kept.push(AceRef { mask, ..item })?;
+        let mask = needed(item, allowed, later);
+        kept.push(AceRef { mask, ..*item })?;
     }
     Ok(kept)
 }
 
-// The bits that an ACE of everyone allows, and no earlier one of everyone denies.
+// The rights that an ACE of everyone allows and no earlier ACE of everyone denies.
 fn allowed_to_everyone(aces: &[AceRef<'_>]) -> Mask
     ensures { (bit : ℕ) → has_bit result.bits bit
         ≡ kind_eq (default (column (aces_in aces.now) bit)) Allow }
@@ -76,7 +74,7 @@ fn allowed_to_everyone(aces: &[AceRef<'_>]) -> Mask
     allowed
 }
 
-// The bits that the ACE allows everyone, and that were not decided before.
+// The rights that the ACE allows everyone and that no earlier ACE has decided.
 fn own_allowed(item: &AceRef<'_>, seen: Mask) -> Mask
     ensures { (bit : ℕ) → has_bit result.bits bit
         ≡ (kind_eq (default (column (ace item.now ∷ []) bit)) Allow
@@ -88,7 +86,7 @@ fn own_allowed(item: &AceRef<'_>, seen: Mask) -> Mask
     }
 }
 
-// The bits with which the ACE shadows later ones of the principal.
+// The rights that later ACEs of the principal can no longer decide, because this ACE names the principal or everyone.
 fn own_shadow(item: &AceRef<'_>, of: Principal<'_>) -> Mask
     ensures { (bit : ℕ) → has_bit result.bits bit
         ≡ is_shadowed (principal of.entry) (ace item.now ∷ []) bit }
@@ -101,7 +99,7 @@ fn own_shadow(item: &AceRef<'_>, of: Principal<'_>) -> Mask
     }
 }
 
-// The bits of the ACE that are needed before the later ones, if everyone is allowed the given ones.
+// The rights of the ACE that are needed before the later ACEs, if everyone is allowed the rights in `allowed`.
 fn needed(item: &AceRef<'_>, allowed: Mask, later: &[AceRef<'_>]) -> Mask
     ensures { (bit : ℕ) → has_bit result.bits bit ≡ (has_bit item.now.mask.bits bit
         && is_needed (default_at allowed.bits bit) (principal_of (ace item.now)) item.now.kind
@@ -116,7 +114,7 @@ fn needed(item: &AceRef<'_>, allowed: Mask, later: &[AceRef<'_>]) -> Mask
     }
 }
 
-// The bits of later ACEs of the other kind whose principal overlaps.
+// The rights of later ACEs of the other kind whose principal may overlap.
 fn opposite(item: &AceRef<'_>, later: &[AceRef<'_>]) -> Mask
     ensures { (bit : ℕ) → has_bit result.bits bit
         ≡ has_opposite item.now.kind (principal_of (ace item.now))
@@ -129,7 +127,7 @@ fn opposite(item: &AceRef<'_>, later: &[AceRef<'_>]) -> Mask
     bits
 }
 
-// The bits with which the later ACE opposes the given one.
+// The rights of the later ACE if it is of the other kind and its principal may overlap, and otherwise none.
 fn own_opposite(item: &AceRef<'_>, later: &AceRef<'_>) -> Mask
     ensures { (bit : ℕ) → has_bit result.bits bit
         ≡ has_opposite item.now.kind (principal_of (ace item.now))
@@ -142,7 +140,6 @@ fn own_opposite(item: &AceRef<'_>, later: &AceRef<'_>) -> Mask
     }
 }
 
-/// Returns whether both are the same principal.
 pub(super) fn is_same(first: Principal<'_>, second: Principal<'_>) -> bool
     ensures { result ≡ principal_eq (principal first.entry) (principal second.entry) }
 {

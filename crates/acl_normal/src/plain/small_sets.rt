@@ -1,4 +1,4 @@
-//! The comparison that tries all small sets: it is slow, and tests compare the fast one with it.
+//! The comparison that tries all small sets. It is slow, and tests compare the fast comparison with it.
 ghost use Rattle.std.specs.Prelude.{◌∷◌, ◌≡◌};
 ghost use Rattle.acl_normal.specs.Common.{[], aces_in, GrantAlikeTo, IfOk, OnFalse, OnTrue, principal, principals, set_or_none, true};
 ghost use Rattle.acl_perm.specs.Overlap.{may_overlap};
@@ -16,11 +16,11 @@ use acl_nfs4::{AceRef, Acl, AclView};
 use acl_perm::{Principal, overlaps};
 use std::alloc::{AllocError, Global};
 
-/// Returns the same as [`crate::compare`], by trying all small situations. Its time grows with the third power of the
-/// number of principals.
+/// Returns the same as [`crate::compare`], but tries all small situations. Its time grows with the third power of the
+/// number of principals. Fails if memory runs out.
 pub fn compare(alloc: Global, first: &Acl, second: &Acl) -> Result<Option<Difference>, AllocError>
-    // The same answer: None if and only if both lists grant the same, else the first difference.
-    ensures { IfOk result (λ told. IsComparison first.now second.now told) }
+    // The same result: `None` if and only if both lists grant the same, and otherwise the first difference.
+    ensures { IfOk result (IsComparison first.now second.now) }
 {
     first_difference(alloc, &first.view(), &second.view())
 }
@@ -88,16 +88,16 @@ fn first_pair<'a>(
     ensures { FindsSet (aces_in list.now) (aces_in other.now)
         (principal_pairs (principals whole.now)) (set_or_none result) }
 {
-    for i in 0..whole.len() {
+    for (i, p) in whole.iter().enumerate() {
         let (_, rest) = whole.split_at(i + 1);
-        if let Some(set) = first_partner(list, other, whole[i], rest) {
+        if let Some(set) = first_partner(list, other, *p, rest) {
             return Some(set);
         }
     }
     None
 }
 
-// The first of the rest with which the principal is a pair at which the lists differ.
+// The first pair of the principal and one of the rest at which the lists differ.
 #[tactic(auto, using(crate::proofs::comparison::SetSearchLemmas::partner_ends))]
 fn first_partner<'a>(
     list: &[AceRef<'_>],

@@ -1,11 +1,11 @@
-//! The ACEs of a list, to go over them by their places.
+//! The ACEs of a list in a `Vec`, so that they can be reached by their places.
 ghost use Rattle.std.specs.Prelude.{◌≡◌};
 ghost use Rattle.acl_normal.specs.Common.{aces_in, full, IfOk, IsAccepted};
 
 use acl_nfs4::{AceRef, AclView};
 use std::alloc::{AllocError, Global};
 
-/// Returns the ACEs of the list.
+/// Returns the ACEs of the list, which borrow its bytes.
 pub(crate) fn collect<'a>(
     alloc: Global,
     source: &AclView<'a>,

@@ -1,4 +1,4 @@
-//! The first ACEs of a list: those bits that no ACE of the same principal or of `EVERYONE@` precedes.
+//! The first step of the reduction: it drops the rights that an earlier ACE of the same principal or of everyone has.
 ghost use Rattle.std.specs.Prelude.{◌≡◌};
 ghost use Rattle.acl_normal.specs.Common.{[], aces_in, AreRowNumbers, column, full, IfOk, IsAccepted, IsThinned, length, mask_numbers, unshadowed, vec_len, with_masks, ℕ};
 
@@ -7,8 +7,8 @@ use acl_nfs4::AceRef;
 use acl_perm::Mask;
 use std::alloc::{AllocError, Global};
 
-/// Returns the masks of the first ACEs, by place: the bits that none of the same principal or of everyone has before.
-/// `rows` are the rows of the principals, by place.
+/// Returns, by place, the rights of the ACE that no earlier ACE of the same principal or of everyone has. `rows` has
+/// the row of the principal, by place.
 pub(crate) fn first_masks(
     alloc: Global,
     aces: &[AceRef<'_>],
@@ -26,13 +26,12 @@ pub(crate) fn first_masks(
     let mut seen = vec![in alloc; Mask::NONE; aces.len()]?;
     let mut everyone = Mask::NONE;
     let mut masks = Vec::with_capacity(alloc, aces.len())?;
-    for place in 0..aces.len() {
-        let ace = aces[place];
+    for (place, ace) in aces.iter().enumerate() {
         let here = &mut seen[rows[place]];
-        let fresh = active(ace).difference(here.union(everyone));
+        let fresh = active(*ace).difference(here.union(everyone));
         *here = here.union(fresh);
         masks.push(fresh)?;
-        everyone = everyone.union(of_everyone(ace, fresh));
+        everyone = everyone.union(of_everyone(*ace, fresh));
     }
     Ok(masks)
 }

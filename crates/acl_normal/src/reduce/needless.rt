@@ -1,6 +1,7 @@
-//! The needless bits: those that only repeat what everyone gets, and that nothing later conflicts with.
-ghost use Rattle.std.specs.Prelude.{◌&&◌, ◌<◌, ◌||◌, ◌≡◌, Bool};
-ghost use Rattle.acl_normal.specs.Common.{ace, bit_count, column, default, default_at, everyone, false, has_bit, is_users, IsThinned, IsTidy, kind_eq, length, mask_numbers, needed_keys, not, plain_key, principal_eq, principal_of, true, with_masks, ℕ};
+//! The second step of the reduction: it drops the rights that only repeat what everyone gets and that conflict with no
+//! later ACE.
+ghost use Rattle.std.specs.Prelude.{Bool, ◌&&◌, ◌<◌, ◌||◌, ◌≡◌};
+ghost use Rattle.acl_normal.specs.Common.{IsThinned, IsTidy, ace, bit_count, column, default, default_at, everyone, false, has_bit, is_users, kind_eq, length, mask_numbers, needed_keys, not, plain_key, principal_eq, principal_of, true, with_masks, ℕ};
 ghost use Rattle.acl_perm.specs.declared.kind.Kind.{Kind as Sort};
 ghost use Rattle.acl_normal.specs.internal.Needed.{class_mask, is_kept, is_of_kind_and_class, later_mask, opposes};
 ghost use Rattle.acl_normal.specs.Places.{same_class};
@@ -12,7 +13,7 @@ use crate::whom::key;
 use acl_nfs4::AceRef;
 use acl_perm::{Key, Kind, Mask};
 
-/// Bits of users, and of all others.
+/// Rights of users, and rights of all other principals.
 #[derive(Clone, Copy, Drop)]
 pub(crate) struct ByClass {
     pub(crate) users: Mask,
@@ -25,7 +26,7 @@ impl ByClass {
         others: Mask::NONE,
     };
 
-    /// Returns these bits with more bits of one class.
+    /// Adds rights to one class.
     fn with(self, class: Class, mask: Mask) -> ByClass
         ensures { (users : Bool) (b : ℕ) → has_bit (class_mask result users) b
             ≡ (has_bit (class_mask self users) b
@@ -43,8 +44,9 @@ impl ByClass {
         }
     }
 
-    /// Returns the bits of those that may overlap with a principal of a class: with a user, others alone.
-    fn beside(self, class: Class) -> Mask
+    /// Returns the rights of all principals that may overlap with a principal of a class. Users do not overlap with
+    /// users.
+    fn overlapping(self, class: Class) -> Mask
         ensures { (b : ℕ) → has_bit result.bits b
             ≡ (has_bit (class_mask self false) b
             || (not (is_users class) && has_bit (class_mask self true) b)) }
@@ -56,14 +58,15 @@ impl ByClass {
     }
 }
 
-/// The bits that later ACEs have, by kind and class.
+/// The rights that later ACEs have, by kind and class.
 #[derive(Clone, Copy, Drop)]
 pub(crate) struct Later {
     pub(crate) deny: ByClass,
     pub(crate) allow: ByClass,
 }
 
-/// Drops the bits that no situation needs from the masks of first ACEs: one pass, from the last ACE to the first.
+/// Drops the rights that no situation needs, in one pass from the last ACE to the first. No mask may have a right that
+/// the first step drops.
 pub(crate) fn drop_needless(aces: &[AceRef<'_>], masks: &mut [Mask])
     requires places { length masks.old ≡ length aces.now }
     requires tidy { IsTidy (with_masks aces.now (mask_numbers masks.old)) }
@@ -77,8 +80,7 @@ pub(crate) fn drop_needless(aces: &[AceRef<'_>], masks: &mut [Mask])
 {
     let allowed = allowed_to_everyone(aces, masks);
     let mut later = no_later();
-    for done in 0..aces.len() {
-        let place = aces.len() - 1 - done;
+    for place in (0..aces.len()).rev() {
         let ace = aces[place];
         let at = key(&ace);
         let mask = masks[place];
@@ -88,7 +90,7 @@ pub(crate) fn drop_needless(aces: &[AceRef<'_>], masks: &mut [Mask])
     }
 }
 
-/// Returns the bits that everyone is allowed by the ACEs, with these masks.
+/// Returns the rights that the ACEs with these masks allow everyone.
 fn allowed_to_everyone(aces: &[AceRef<'_>], masks: &[Mask]) -> Mask
     requires places { length masks.now ≡ length aces.now }
     requires tidy { IsTidy (with_masks aces.now (mask_numbers masks.now)) }
@@ -96,13 +98,13 @@ fn allowed_to_everyone(aces: &[AceRef<'_>], masks: &[Mask]) -> Mask
         ≡ default (column (with_masks aces.now (mask_numbers masks.now)) b) }
 {
     let mut allowed = Mask::NONE;
-    for place in 0..aces.len() {
-        allowed = allowed.union(allowed_by(aces[place], masks[place]));
+    for (place, ace) in aces.iter().enumerate() {
+        allowed = allowed.union(allowed_by(*ace, masks[place]));
     }
     allowed
 }
 
-/// Returns the bits of the mask, where its ACE allows everyone.
+/// Returns the mask if its ACE allows everyone, and otherwise no rights.
 fn allowed_by(item: AceRef<'_>, mask: Mask) -> Mask
     ensures { (b : ℕ) → has_bit result.bits b ≡ (has_bit mask.bits b
         && (principal_eq (principal_of (ace item.entry)) everyone
@@ -114,7 +116,7 @@ fn allowed_by(item: AceRef<'_>, mask: Mask) -> Mask
     }
 }
 
-/// Returns the bits that ACEs behind the last have: none.
+/// Returns the rights of the ACEs after the last one: none.
 fn no_later() -> Later
     ensures { (k : Sort) (users : Bool) (b : ℕ) → has_bit (later_mask result k users) b ≡ false }
 {
@@ -124,7 +126,8 @@ fn no_later() -> Later
     }
 }
 
-/// Returns the bits of a mask that its ACE doesn't need.
+/// Returns the rights of the mask that an ACE with this key does not need. `opposite` has the rights of the later ACEs
+/// that may conflict with the key.
 #[tactic(auto, using(crate::proofs::unique::Names::everyone_test))]
 fn needless(at: Key<'_>, mask: Mask, allowed: Mask, opposite: Mask) -> Mask
     ensures { (b : ℕ) → has_bit result.bits b ≡ (has_bit mask.bits b && not
@@ -143,18 +146,18 @@ fn needless(at: Key<'_>, mask: Mask, allowed: Mask, opposite: Mask) -> Mask
     }
 }
 
-/// Returns the bits that later ACEs have that may conflict with a key.
+/// Returns the rights of the later ACEs that may conflict with a key.
 fn opposite(later: Later, at: Key<'_>) -> Mask
     ensures { (b : ℕ) → has_bit result.bits b ≡ opposes later (plain_key at.entry) b }
 {
     let class = Class::of(at.principal);
     match at.kind {
-        Kind::Deny => later.allow.beside(class),
-        Kind::Allow => later.deny.beside(class),
+        Kind::Deny => later.allow.overlapping(class),
+        Kind::Allow => later.deny.overlapping(class),
     }
 }
 
-/// Returns the later bits with those of one more ACE.
+/// Adds the rights of one more ACE to those of the later ACEs.
 fn noted(later: Later, at: Key<'_>, mask: Mask) -> Later
     ensures { (k : Sort) (users : Bool) (b : ℕ) → has_bit (later_mask result k users) b
         ≡ (has_bit (later_mask later k users) b

@@ -1,4 +1,4 @@
-//! Heads of principals: a number each. Most principals differ there, and no name is looked at.
+//! The head of a principal: a number by which most principals can be compared without a look at their names.
 ghost use Rattle.std.specs.Prelude.{◌≡◌, drop, get_or, length, option_map, take};
 ghost use Rattle.acl_perm.specs.Order.{principal_cmp};
 ghost use Rattle.acl_perm.specs.Principal.{principal};
@@ -11,7 +11,7 @@ use acl_nfs4::AceRef;
 use acl_perm::Principal;
 use std::cmp::Ordering;
 
-/// A principal, and its head: the rank in the highest byte, below it the first six bytes of the name, and a count.
+/// A principal, and its head with the first six bytes of the name.
 #[derive(Clone, Copy)]
 pub(crate) struct HeadedPrincipal<'a> {
     pub(crate) principal: Principal<'a>,
@@ -29,7 +29,8 @@ impl<'a> HeadedPrincipal<'a> {
         }
     }
 
-    /// Returns how the principals stand to each other.
+    /// Compares the principals by their heads. Only if these are equal and do not have the whole names are the names
+    /// read.
     pub(crate) fn compared(&self, other: &HeadedPrincipal<'_>) -> Ordering
         ensures { result
             ≡ principal_cmp (principal self.now.principal) (principal other.now.principal) }
@@ -44,8 +45,9 @@ impl<'a> HeadedPrincipal<'a> {
     }
 }
 
-/// Returns the head of a principal: the rank in the highest byte, below it six bytes of the name, after the first
-/// `common` bytes, and in the lowest byte how many bytes the name has there. Seven stands for more than six.
+/// Returns the head of a principal: the rank in the highest byte, below it the six bytes of the name that follow its
+/// first `common` bytes, and in the lowest byte the number of bytes that follow them. A number of 7 means more than six
+/// bytes.
 pub(crate) fn head(p: Principal<'_>, common: usize) -> u64
     ensures { IsHeadOf common result (principal p.entry) }
 {
@@ -59,7 +61,7 @@ pub(crate) fn is_whole(head: u64) -> bool
     head % 256 < 7
 }
 
-// The bytes of a name behind the first ones.
+// The bytes of a name after the first `count` bytes.
 fn behind(name: &[u8], count: usize) -> &[u8]
     ensures rest { result.now ≡ drop count name.now }
     ensures bytes { IsBytes name.now }
@@ -70,7 +72,7 @@ fn behind(name: &[u8], count: usize) -> &[u8]
     }
 }
 
-// A rank in the highest byte, below it six bytes, and in the lowest byte how many there are.
+// The rank in the highest byte, below it the first six bytes, and in the lowest byte the number of bytes.
 fn packed(rank: u8, bytes: &[u8]) -> u64
     ensures { result ≡ head_from rank 6 bytes.now (count_to 7 bytes.now) }
 {
@@ -86,7 +88,7 @@ fn packed(rank: u8, bytes: &[u8]) -> u64
     ])
 }
 
-// How many bytes there are, where 7 stands for more than six.
+// The number of bytes. A number of 7 means more than six bytes.
 fn count(bytes: &[u8]) -> u8
     ensures { result ≡ count_to 7 bytes.now }
 {
@@ -97,21 +99,22 @@ fn count(bytes: &[u8]) -> u8
     }
 }
 
-// The byte of a name at a place, and zero past its end.
+// The byte of a name at a place, or zero after the end of the name.
 fn byte(name: &[u8], place: usize) -> u8
     ensures { result ≡ get_or name.now place 0 }
 {
     name.get(place).copied().unwrap_or(0)
 }
 
-/// Returns the bytes with which the names of all users and groups begin, where these are enough to pass over.
+/// Returns the bytes with which the names of all users and groups begin. It stops and returns no bytes once they are
+/// fewer than four.
 pub(crate) fn common_start<'a>(aces: &[AceRef<'a>]) -> &'a [u8]
     ensures { AllBegin result.now (aces_in aces.now) }
 {
     let names = aces.iter().find_map(|ace| given_name(whom(ace)));
     let mut start = names.unwrap_or(&[]);
     for ace in aces {
-        // The bytes of a head are then mostly enough.
+        // After so short a start, the six bytes of a head mostly distinguish the names.
         if start.len() < 4 {
             return &[];
         }
@@ -120,7 +123,7 @@ pub(crate) fn common_start<'a>(aces: &[AceRef<'a>]) -> &'a [u8]
     start
 }
 
-// The bytes of a start with which the name of the principal begins: all of them where it has none.
+// The bytes of a start with which the name of the principal begins too, or all of them if it has no name.
 fn start_with<'a>(start: &'a [u8], p: Principal<'_>) -> &'a [u8]
     ensures start { result.now ≡ take (length result.now) start.now }
     ensures name { BeginsWith result.now (principal p.entry) }

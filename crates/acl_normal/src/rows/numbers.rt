@@ -1,4 +1,4 @@
-//! Rows of principals by number: in the order of the principals.
+//! The rows of the principals of a list. A row is a number, and the numbers are in the order of the principals.
 ghost use Rattle.std.specs.Prelude.{◌&&◌, ◌≡◌, ◌==◌};
 ghost use Rattle.acl_normal.specs.Common.{aces_in, AreRowNumbers, false, IfNone, IfOk, IfSome, is_principal_of, IsRowOf, map, nat_cmp, principal, principal_here};
 ghost use Rattle.std.specs.List.{range_with_len};
@@ -29,7 +29,7 @@ struct HeadedPlace {
     place: usize,
 }
 
-/// Numbers the rows: by one sort, unless the principals rise already.
+/// Returns the rows. This takes one pass if no principal is below the one before it, and otherwise one sort.
 pub(crate) fn row_numbers(alloc: Global, aces: &[AceRef<'_>]) -> Result<RowNumbers, AllocError>
     ensures rows { IfOk result (λ n. AreRowNumbers (aces_in aces.now) n.rows.items) }
     ensures order { IfOk result (λ n. IsByPrincipal (aces_in aces.now) n.order.items) }
@@ -62,7 +62,7 @@ fn rising_rows(alloc: Global, aces: &[AceRef<'_>]) -> Result<Option<Vec<usize>>,
     Ok(Some(rows))
 }
 
-// The rows, with the places as they come.
+// The rows of a list whose principals are in order already, so that the places are too.
 fn in_turn(alloc: Global, aces: &[AceRef<'_>], rows: Vec<usize>) -> Result<RowNumbers, AllocError>
     requires rows { AreRowNumbers (aces_in aces.now) rows.items }
     requires order { DoNotFall (aces_in aces.now) }
@@ -73,14 +73,13 @@ fn in_turn(alloc: Global, aces: &[AceRef<'_>], rows: Vec<usize>) -> Result<RowNu
     Ok(RowNumbers { rows, order })
 }
 
-// The places below a count, in order.
 fn first_places(alloc: Global, count: usize) -> Result<Vec<usize>, AllocError>
     ensures { IfOk result (λ v. v.items ≡ range_with_len 0 count) }
 {
     (0..count).collect(alloc)
 }
 
-// The rows, by one sort.
+// The rows of a list whose principals are in no order.
 fn sorted_rows(alloc: Global, aces: &[AceRef<'_>]) -> Result<RowNumbers, AllocError>
     ensures rows { IfOk result (λ n. AreRowNumbers (aces_in aces.now) n.rows.items) }
     ensures order { IfOk result (λ n. IsByPrincipal (aces_in aces.now) n.order.items) }
@@ -100,7 +99,7 @@ fn by_principal(alloc: Global, aces: &[AceRef<'_>]) -> Result<Vec<HeadedPlace>, 
     Ok(places)
 }
 
-// Each place, with the head of whom its ACE names.
+// Each place, with the head of the principal that its ACE names.
 fn headed_places(alloc: Global, aces: &[AceRef<'_>]) -> Result<Vec<HeadedPlace>, AllocError>
     ensures { IfOk result (λ v. AreHeaded (aces_in aces.now) v.items) }
 {
@@ -131,7 +130,7 @@ fn headed_compared(aces: &[AceRef<'_>], at: &HeadedPlace, other: &HeadedPlace) -
     who_at(aces, at.place).cmp(who_at(aces, other.place))
 }
 
-// By place, the row of the principal, which begins where the principal first stands in the order.
+// By place, the row of the principal: the first position that has the principal in the order.
 fn rows_of(
     alloc: Global,
     aces: &[AceRef<'_>],
@@ -160,7 +159,7 @@ fn is_same(aces: &[AceRef<'_>], at: HeadedPlace, other: HeadedPlace) -> bool
         && (is_whole(at.head) || who_at(aces, at.place) == who_at(aces, other.place))
 }
 
-// The who of the ACE at a place. A comparison may ask of any place: past the last it is empty.
+// The who of the ACE at a place, or no bytes after the last place, because a comparison may be given any place.
 fn who_at<'a>(aces: &[AceRef<'a>], place: usize) -> &'a [u8]
     ensures { result.now ≡ who_here (aces_in aces.now) place }
 {
@@ -170,14 +169,13 @@ fn who_at<'a>(aces: &[AceRef<'a>], place: usize) -> &'a [u8]
     }
 }
 
-// The places alone.
 fn places_of(alloc: Global, sorted: &[HeadedPlace]) -> Result<Vec<usize>, AllocError>
     ensures { IfOk result (λ v. v.items ≡ map (λ n. n.place) sorted.now) }
 {
     sorted.iter().map(|at| at.place).collect(alloc)
 }
 
-/// Returns the row of a principal, if an ACE names it, by halving.
+/// Returns the row of a principal, if an ACE names it. It takes a binary search.
 pub(crate) fn find_row(
     aces: &[AceRef<'_>],
     rows: &[usize],
@@ -196,7 +194,7 @@ pub(crate) fn find_row(
     }
 }
 
-// Whom the ACE at a place names. A search may ask of any place: past the last it is everyone.
+// Whom the ACE at a place names, or everyone after the last place, because a search may be given any place.
 fn named_at<'a>(aces: &[AceRef<'a>], place: usize) -> Principal<'a>
     ensures { principal result ≡ principal_here (aces_in aces.now) place }
 {

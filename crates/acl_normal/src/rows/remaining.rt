@@ -1,6 +1,6 @@
-//! What is left of a list while it is emitted: of each row the rights that were not emitted yet.
+//! What is left of a list while it is emitted: for each row, the rights that were not emitted yet.
 ghost use Rattle.std.specs.Prelude.{◌*◌, ◌<◌, ◌^◌, ◌≡◌};
-ghost use Rattle.acl_normal.specs.Common.{ace, false, first_place_of, has_bit, IfNone, IfOk, IfSome, is_principal_of, is_user, is_users, IsNumbered, IsRowOf, key_here, kind_here, length, mask_here, mask_numbers, plain_key, principal, principal_here, principal_of, take_out, vec_len, with_masks};
+ghost use Rattle.acl_normal.specs.Common.{IfNone, IfOk, IfSome, IsNumbered, IsRowOf, ace, false, first_place_of, has_bit, is_principal_of, is_user, is_users, key_here, kind_here, length, mask_here, mask_numbers, plain_key, principal, principal_here, principal_of, take_out, vec_len, with_masks};
 ghost use Rattle.acl_perm.specs.Principal.{Principal as Who};
 ghost use Rattle.acl_normal.specs.Places.{first_at};
 ghost use Rattle.acl_normal.specs.internal.rows.Remaining.{IsRemainder};
@@ -15,7 +15,7 @@ use acl_perm::{Key, Kind, Mask, Principal};
 use std::alloc::{AllocError, Global};
 use std::marker::Model;
 
-/// The ACEs of a list, the masks that are left of them, and the rows of their principals.
+/// The ACEs of a list, their masks without the rights that play no part, and the rows of their principals.
 #[derive(Drop)]
 pub(crate) struct Reduced<'a> {
     pub(crate) aces: Vec<AceRef<'a>>,
@@ -51,7 +51,7 @@ impl<'a> Model for Remaining<'a> {
 }
 
 impl<'a> Remaining<'a> {
-    /// Returns all of a list, of which nothing was emitted yet.
+    /// Returns what is left before anything was emitted: all of the list.
     pub(crate) fn of(alloc: Global, reduced: Reduced<'a>) -> Result<Remaining<'a>, AllocError>
         requires few { vec_len reduced.aces < 2 ^ 32 }
         requires places { vec_len reduced.masks ≡ vec_len reduced.aces }
@@ -86,7 +86,7 @@ impl<'a> Remaining<'a> {
         Some((self.kind_at(place), place))
     }
 
-    /// Returns the row of a principal, if an ACE names it.
+    /// Returns the row of a principal, if an ACE names the principal. It takes a binary search.
     pub(crate) fn row_named(&self, p: Principal<'_>) -> Option<usize>
         ensures found { IfSome result (λ row. IsRowOf row (principal p.entry) self.now) }
         ensures missing { IfNone result (is_principal_of (principal p.entry) self.now ≡ false) }
@@ -94,8 +94,8 @@ impl<'a> Remaining<'a> {
         find_row(&self.aces, &self.rows, &self.order, p)
     }
 
-    /// Returns the place of the ACE of a row that still has a right. The places of a row stand together in the order of
-    /// the principals.
+    /// Returns the place of the ACE of a row that still has a right, if there is one. The places of a row are next to
+    /// each other in the order of the principals.
     pub(crate) fn place_in(&self, row: usize, right: Bit) -> Option<usize>
         requires { row < length self.now }
         ensures { (p : Who) → IsRowOf row p self.now
@@ -130,7 +130,7 @@ impl<'a> Remaining<'a> {
         self.masks[place].intersection(self.left[self.rows[place]])
     }
 
-    /// Returns the key of a number.
+    /// Returns the key with this number. The numbers of keys are in the order of the keys.
     pub(crate) fn key_of(&self, number: usize) -> Key<'a>
         requires { number < 2 * length self.now }
         ensures key { IsNumberOf self.now number (plain_key result) }
@@ -183,7 +183,6 @@ impl<'a> Remaining<'a> {
         aces[place]
     }
 
-    /// Returns how many ACEs the list has.
     pub(crate) fn len(&self) -> usize
         ensures count { result ≡ length self.now }
         // What is left is a tidy list at every step.
@@ -193,7 +192,7 @@ impl<'a> Remaining<'a> {
         aces.len()
     }
 
-    /// Takes rights of the principal of a row out of what is left of it.
+    /// Takes rights of the principal of a row out of what is left of the row.
     pub(crate) fn take_out(&mut self, row: usize, p: Principal<'_>, mask: Mask)
         requires { IsRowOf row (principal p) self.old }
         ensures { self.new ≡ take_out (principal p.entry) mask.bits self.old }

@@ -1,4 +1,4 @@
-//! The places that wait with each bit, by kind and class.
+//! The sets of the places that wait, one for each kind, class and right, and their numbers, which are called slots.
 ghost use Rattle.std.specs.Prelude.{◌≡◌};
 ghost use Rattle.acl_normal.specs.Common.{[], bit_count, IfOk, is_users, length, mask_numbers, OnOk, slot_count, slot_of, vec_len, with_masks};
 ghost use Rattle.acl_normal.specs.internal.Tidy.{IsQuiet};
@@ -12,10 +12,10 @@ use acl_perm::{Kind, Mask};
 use std::alloc::{AllocError, Global};
 use std::collections::BTreeSet;
 
-/// The number of slots: one for each of two kinds, two classes and 21 bits.
+/// How many slots there are: one for each of two kinds, two classes and 21 bits.
 pub(crate) const SLOTS: usize = 4 * Bit::COUNT;
 
-/// Returns the sets of the places that wait, one for each kind, class and right, by their slots.
+/// Returns the sets of the places that wait before anything is emitted, by their slots.
 pub(crate) fn waiting_sets(
     alloc: Global,
     aces: &[AceRef<'_>],
@@ -27,15 +27,13 @@ pub(crate) fn waiting_sets(
         HoldWaiting (with_masks aces.now (mask_numbers masks.now)) sets.items) }
 {
     let mut sets = empty_sets(alloc)?;
-    for place in 0..aces.len() {
-        let item = aces[place];
-        let class = Class::of(item.principal());
-        put(&mut sets, place, item.kind, class, masks[place])?;
+    for (place, ace) in aces.iter().enumerate() {
+        let class = Class::of(ace.principal());
+        put(&mut sets, place, ace.kind, class, masks[place])?;
     }
     Ok(sets)
 }
 
-// An empty set for each slot.
 fn empty_sets(alloc: Global) -> Result<Vec<BTreeSet<usize>>, AllocError>
     ensures { IfOk result (λ sets. HoldWaiting [] sets.items) }
 {
@@ -46,7 +44,7 @@ fn empty_sets(alloc: Global) -> Result<Vec<BTreeSet<usize>>, AllocError>
     Ok(sets)
 }
 
-// Puts a place into the sets of the rights of a mask.
+// Puts a place into one set for each right of a mask.
 fn put(
     sets: &mut Vec<BTreeSet<usize>>,
     place: usize,
@@ -67,7 +65,7 @@ fn put(
     Ok(())
 }
 
-/// Returns the number of the set that has the places of a kind, a class and a right.
+/// Returns the number of the set of a kind, a class and a right.
 pub(crate) fn slot(kind: Kind, class: Class, right: Bit) -> usize
     ensures { result ≡ slot_of kind (is_users class) right.bit }
 {

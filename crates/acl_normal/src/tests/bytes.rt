@@ -21,14 +21,14 @@ const TRAILED: &[u8; 33] = b"\0\0\0\x01\0\0\0\0\0\0\0\0\0\0\0\x01\0\0\0\x09EVERY
 
 const RETENTION: &[u8; 32] = b"\0\0\0\x01\0\0\0\0\0\0\0\0\0\0\x02\0\0\0\0\x09EVERYONE@\0\0\0";
 
-// What the bytes of a normal form spell, or the fault.
+// The ACEs that the bytes of a normal form spell, or the fault.
 type Spelled = Result<&'static [AceRow], Fault>;
 
 fn fault(offset: u64, reason: Reason) -> Spelled {
     Err(Fault { offset, reason })
 }
 
-// Whether these bytes are the list of these rows.
+// Whether these bytes spell the list of these rows.
 fn is_spelled(alloc: Global, bytes: &[u8], rows: &[AceRow]) -> bool {
     let Ok(view) = AclView::parse_whole(bytes) else {
         return false;
@@ -50,9 +50,9 @@ fn is_answer(alloc: Global, answer: Result<Vec<u8>, Fault>, wanted: Spelled) -> 
 mod ample {
     use super::*;
 
-    // The bytes of a normal form, of every right and within the narrow profile.
+    // Under the full profile, and under the narrow one.
     #[test]
-    fn normal_bytes_spell_the_form_or_tell_the_fault(rt: HostRuntime) {
+    fn normal_bytes_spell_the_normal_form_or_report_the_fault_of_the_input(rt: HostRuntime) {
         let alloc = rt.alloc();
         let rows: [(&[u8], Spelled); 6] = [
             (EMPTY, Ok(&[])),

@@ -10,8 +10,8 @@ use acl_perm::Mask;
 use std::alloc::{AllocError, Global};
 use std::process::Abort;
 
-// A difference as its owner, owning group, user, groups, right, and whether the first list grants it.
-type Told = (
+// A difference: the owner, the owning group, the user, the groups, the right, and whether the first list grants it.
+type Expected = (
     &'static [u8],
     &'static [u8],
     &'static [u8],
@@ -20,8 +20,8 @@ type Told = (
     bool,
 );
 
-// Pairs of lists, and in which small situation they grant otherwise.
-static PAIRS: [(&[AceRow], &[AceRow], Option<Told>); 15] = [
+// Pairs of lists, and the first small situation in which they differ.
+static PAIRS: [(&[AceRow], &[AceRow], Option<Expected>); 15] = [
     (
         &[
             (DENY, 0, READ_DATA, b"bob"),
@@ -83,7 +83,7 @@ static PAIRS: [(&[AceRow], &[AceRow], Option<Told>); 15] = [
         ],
         Some((b"bob", b"gggg", b"bob", &[], READ_DATA, true)),
     ),
-    // Of several rights the lowest.
+    // The lowest of several rights.
     (
         &[(ALLOW, 0, EXECUTE | WRITE_DATA, b"EVERYONE@")],
         &[],
@@ -95,7 +95,7 @@ static PAIRS: [(&[AceRow], &[AceRow], Option<Told>); 15] = [
         &[],
         Some((b"o", b"g", b"u", &[b"g"], READ_DATA, true)),
     ),
-    // An ACE without a right mentions whom it names, and one for inheritance alone doesn't.
+    // An ACE without rights mentions whom it names, and an ACE that is only inherited does not.
     (
         &[
             (DENY, 0, 0, b"alice"),
@@ -129,7 +129,7 @@ static PAIRS: [(&[AceRow], &[AceRow], Option<Told>); 15] = [
         ],
         Some((b"oo", b"gg", b"uu", &[b"a", b"b"], READ_DATA, false)),
     ),
-    // An ACE more at the front, with a right of its own, that nobody is allowed.
+    // One more ACE at the front, which denies a right that nobody is allowed.
     (
         &[
             (ALLOW, 0, READ_DATA, b"bob"),
@@ -142,7 +142,7 @@ static PAIRS: [(&[AceRow], &[AceRow], Option<Told>); 15] = [
         ],
         None,
     ),
-    // An ACE more that takes no part.
+    // One more ACE, which takes no part.
     (
         &[
             (DENY, GROUP, READ_DATA, b"ops"),
@@ -155,7 +155,7 @@ static PAIRS: [(&[AceRow], &[AceRow], Option<Told>); 15] = [
         ],
         None,
     ),
-    // Two ACEs in each other's place, on one right of two.
+    // Two ACEs in the opposite order, on one right of two.
     (
         &[
             (ALLOW, 0, READ_DATA, b"amy"),
@@ -181,25 +181,29 @@ fn same_names(names: &[Vec<u8>], others: &[&[u8]]) -> bool {
     names.len() == others.len()
 }
 
-fn is_told(d: &Difference, (owner, group, user, groups, bit, first_grants): Told) -> bool {
+fn is_as_expected(
+    d: &Difference,
+    (owner, group, user, groups, right, first_grants): Expected,
+) -> bool {
     d.owner.as_slice() == owner
         && d.group.as_slice() == group
         && d.user.as_slice() == user
         && same_names(&d.groups, groups)
-        && d.bit.bits() == bit
+        && d.bit.bits() == right
         && d.first_grants == first_grants
 }
 
-fn are_told(answer: &Option<Difference>, told: Option<Told>) -> bool {
-    match (answer, told) {
+fn is_expected(answer: &Option<Difference>, expected: Option<Expected>) -> bool {
+    match (answer, expected) {
         (None, None) => true,
-        (Some(d), Some(told)) => is_told(d, told),
+        (Some(d), Some(expected)) => is_as_expected(d, expected),
         _ => false,
     }
 }
 
-/// Both lists answer the requester whom the difference names, the first as the difference tells and the second not.
-pub fn tells_apart(first: &Acl, second: &Acl, d: &Difference) -> bool {
+/// Whether the first list grants the right to the requester of the difference just as the difference says, and the
+/// second list does the opposite.
+pub fn is_shown_by_grants(first: &Acl, second: &Acl, d: &Difference) -> bool {
     let names = d.requester_names();
     let (object, requester) = (d.object(), names.requester());
     let one = grants(first.aces(), &object, &requester, d.bit);
@@ -207,44 +211,44 @@ pub fn tells_apart(first: &Acl, second: &Acl, d: &Difference) -> bool {
     one == d.first_grants && other != d.first_grants && Mask::from(d.right()) == d.bit
 }
 
-// Whether the search tells this of two lists, and its requester tells them apart.
+// Whether the search finds this difference, and `grants` shows it.
 fn is_found(
     alloc: Global,
     first: &Acl,
     second: &Acl,
-    told: Option<Told>,
+    expected: Option<Expected>,
 ) -> Result<bool, AllocError> {
     let found = compare(alloc, first, second)?;
-    let is_apart = match &found {
-        Some(d) => tells_apart(first, second, d),
+    let is_shown = match &found {
+        Some(d) => is_shown_by_grants(first, second, d),
         None => true,
     };
-    Ok(is_apart && are_told(&found, told))
+    Ok(is_shown && is_expected(&found, expected))
 }
 
-// Whether the plain search tells this of two lists.
-fn is_plain(
+// Whether the plain search finds this difference.
+fn is_found_plainly(
     alloc: Global,
     first: &Acl,
     second: &Acl,
-    told: Option<Told>,
+    expected: Option<Expected>,
 ) -> Result<bool, AllocError> {
     let found = plain::compare(alloc, first, second)?;
-    Ok(are_told(&found, told))
+    Ok(is_expected(&found, expected))
 }
 
-/// The search tells the first small situation of each pair, and so does the plain search.
-pub fn told_pairs(rt: &impl Abort, alloc: Global) -> Result<(), PushFault> {
-    for (rows, others, told) in &PAIRS {
+/// Both searches find the first small situation of each pair.
+pub fn worked_pairs(rt: &impl Abort, alloc: Global) -> Result<(), PushFault> {
+    for (rows, others, expected) in &PAIRS {
         let first = built(alloc, rows)?;
         let second = built(alloc, others)?;
-        assert!(rt; kept(is_found(alloc, &first, &second, *told))?);
-        assert!(rt; kept(is_plain(alloc, &first, &second, *told))?);
+        assert!(rt; kept(is_found(alloc, &first, &second, *expected))?);
+        assert!(rt; kept(is_found_plainly(alloc, &first, &second, *expected))?);
     }
     Ok(())
 }
 
 #[test]
-fn compare_names_the_first_small_situation(rt: HostRuntime) {
-    assert!(rt; passes(told_pairs(&rt, rt.alloc())));
+fn compare_finds_the_first_small_situation_in_which_two_lists_differ(rt: HostRuntime) {
+    assert!(rt; passes(worked_pairs(&rt, rt.alloc())));
 }

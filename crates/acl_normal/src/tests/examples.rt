@@ -1,4 +1,4 @@
-//! The examples of doc comments: the lines of each are in the test of its call, in their order.
+//! The examples of the doc comments. The lines of each example are in one of these tests, in their order.
 
 use crate::*;
 use acl_eval::deciding_ace;
@@ -10,7 +10,9 @@ mod ample {
     use super::*;
 
     #[test]
-    fn of_normalize(rt: HostRuntime) -> Result<(), Fail> {
+    fn the_normal_form_of_two_aces_with_a_needed_deny_has_three_aces(
+        rt: HostRuntime,
+    ) -> Result<(), Fail> {
         let alloc = rt.alloc();
         let list = parse_text(
             alloc,
@@ -23,7 +25,7 @@ mod ample {
     }
 
     #[test]
-    fn of_normal_bytes(rt: HostRuntime) -> Result<(), Fail> {
+    fn the_normal_bytes_of_a_repeated_ace_spell_one_ace(rt: HostRuntime) -> Result<(), Fail> {
         let alloc = rt.alloc();
         let list = parse_text(alloc, b"ALLOW - READ_DATA amy\nALLOW - READ_DATA amy\n")?;
         let bytes = list.to_bytes(alloc)?;
@@ -33,7 +35,9 @@ mod ample {
     }
 
     #[test]
-    fn of_compare(rt: HostRuntime) -> Result<(), Fail> {
+    fn a_deny_of_bob_at_the_front_decides_the_difference_of_two_lists(
+        rt: HostRuntime,
+    ) -> Result<(), Fail> {
         let alloc = rt.alloc();
         let first = parse_text(alloc, b"ALLOW - READ_DATA EVERYONE@")?;
         let second = parse_text(
@@ -49,7 +53,9 @@ mod ample {
     }
 
     #[test]
-    fn of_table(rt: HostRuntime) -> Result<(), Fail> {
+    fn the_table_of_write_data_begins_with_the_deny_of_the_first_ace(
+        rt: HostRuntime,
+    ) -> Result<(), Fail> {
         let alloc = rt.alloc();
         let list = parse_text(
             alloc,
@@ -65,7 +71,7 @@ mod ample {
     }
 
     #[test]
-    fn of_borrowed_rows(rt: HostRuntime) -> Result<(), Fail> {
+    fn the_table_of_a_repeated_ace_has_one_borrowed_row(rt: HostRuntime) -> Result<(), Fail> {
         let alloc = rt.alloc();
         let list = parse_text(alloc, b"ALLOW - READ_DATA amy\nALLOW - READ_DATA amy\n")?;
         let bytes = list.to_bytes(alloc)?;
@@ -76,7 +82,7 @@ mod ample {
     }
 
     #[test]
-    fn of_normalize_inherit(rt: HostRuntime) -> Result<(), Fail> {
+    fn an_ace_for_files_is_in_the_normal_forms_of_both_files(rt: HostRuntime) -> Result<(), Fail> {
         let alloc = rt.alloc();
         let list = parse_text(alloc, b"ALLOW FILE READ_DATA amy")?;
         let forms = normalize_inherit(alloc, &list)?;

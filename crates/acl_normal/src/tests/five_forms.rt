@@ -1,4 +1,4 @@
-//! The five forms of lists of one ACE, by its flags.
+//! The five forms of lists of one ACE, by its flags (the rules of creation in docs/lists.md).
 
 use super::harness::{ALLOW, READ_DATA, built, kept, passes};
 use crate::*;
@@ -7,8 +7,8 @@ use acl_perm::Counted;
 use std::alloc::{AllocError, Global};
 use std::process::Abort;
 
-// The flags of an ACE that lets alice read, and whether it does so here, in a new file, in a new directory, and in a
-// new file and a new directory in that.
+// The flags of an ACE that lets alice read, and whether she may read the object, a new file, a new directory, and a new
+// file and a new directory in the new directory.
 static INHERITED: [(u32, [bool; 5]); 8] = [
     (0x06, [true, false, true, false, false]),
     (0x01, [true, true, false, true, false]),
@@ -20,7 +20,6 @@ static INHERITED: [(u32, [bool; 5]); 8] = [
     (0x80, [true, false, false, false, false]),
 ];
 
-// A list of one ACE, which lets alice read.
 fn reading(alloc: Global, flags: u32) -> Result<Acl, PushFault> {
     built(alloc, &[(ALLOW, flags, READ_DATA, b"alice".as_slice())])
 }
@@ -30,7 +29,7 @@ fn forms_of(alloc: Global, flags: u32) -> Result<FiveForms, PushFault> {
     kept(normalize_inherit(alloc, &list))
 }
 
-// The form lets alice read, or is empty.
+// Whether the form lets alice read, or is empty if she may not.
 fn is_form(form: &Acl, reads: bool, alice: &Acl) -> bool {
     if reads {
         form == alice
@@ -47,7 +46,7 @@ fn are_forms(forms: &FiveForms, reads: &[bool; 5], alice: &Acl) -> bool {
         && is_form(&forms.directory_in_directory, reads[4], alice)
 }
 
-/// A list has five forms, by the flags of its ACEs.
+/// Each list has the five forms that its flags give.
 pub fn five_forms(rt: &impl Abort, alloc: Global) -> Result<(), PushFault> {
     let alice = reading(alloc, 0)?;
     for (flags, reads) in &INHERITED {
@@ -57,7 +56,7 @@ pub fn five_forms(rt: &impl Abort, alloc: Global) -> Result<(), PushFault> {
 }
 
 #[test]
-fn five_forms_follow_the_flags(rt: HostRuntime) {
+fn each_of_the_five_forms_has_an_ace_if_its_flags_reach_there(rt: HostRuntime) {
     assert!(rt; passes(five_forms(&rt, rt.alloc())));
 }
 
@@ -67,7 +66,7 @@ fn is_same(alloc: Global, forms: &FiveForms, other: &FiveForms) -> Result<bool, 
 }
 
 /// The five forms of two lists are equal if and only if both lists let alice read at the same paths.
-pub fn copies(rt: &impl Abort, alloc: Global) -> Result<(), PushFault> {
+pub fn equal_forms(rt: &impl Abort, alloc: Global) -> Result<(), PushFault> {
     for (flags, reads) in &INHERITED {
         let forms = forms_of(alloc, *flags)?;
         for (other_flags, other_reads) in &INHERITED {
@@ -79,17 +78,18 @@ pub fn copies(rt: &impl Abort, alloc: Global) -> Result<(), PushFault> {
 }
 
 #[test]
-fn five_forms_are_equal_where_the_paths_agree(rt: HostRuntime) {
-    assert!(rt; passes(copies(&rt, rt.alloc())));
+fn five_forms_are_equal_if_the_lists_grant_the_same_at_the_five_paths(rt: HostRuntime) {
+    assert!(rt; passes(equal_forms(&rt, rt.alloc())));
 }
 
-// The five of an ACE for directories that goes no further: alice's here and in a new directory, and three empty ones.
+// The five forms of an ACE that only directories inherit, and that they do not pass on: the ACE of alice in the first
+// and the third, and three empty lists.
 const SPELLED: &[u8; 68] = b"\0\0\0\x01\0\0\0\0\0\0\0\0\0\0\0\x01\0\0\0\x05alice\0\0\0\
     \0\0\0\0\
     \0\0\0\x01\0\0\0\0\0\0\0\0\0\0\0\x01\0\0\0\x05alice\0\0\0\
     \0\0\0\0\0\0\0\0";
 
-// How many bytes of the five went into a room, and how many the fault tells.
+// How many bytes of the five forms were written into a buffer, and how many the fault reports.
 fn written(forms: &FiveForms, room: &mut [u8]) -> (usize, Option<u64>) {
     let size = room.len();
     let mut sink = Counted::new(room);
@@ -101,7 +101,7 @@ fn written(forms: &FiveForms, room: &mut [u8]) -> (usize, Option<u64>) {
     )
 }
 
-/// A room of n bytes: the fault tells n, and the room holds the first n bytes.
+/// In a buffer of n bytes, the first n bytes are written and the fault reports n.
 pub fn cut_forms(rt: &impl Abort, alloc: Global) -> Result<(), PushFault> {
     let forms = forms_of(alloc, 0x06)?;
     for size in 0..SPELLED.len() {
@@ -116,11 +116,11 @@ pub fn cut_forms(rt: &impl Abort, alloc: Global) -> Result<(), PushFault> {
 }
 
 #[test]
-fn five_forms_are_cut_where_a_write_fails(rt: HostRuntime) {
+fn encode_of_five_forms_ends_at_the_write_that_fails(rt: HostRuntime) {
     assert!(rt; passes(cut_forms(&rt, rt.alloc())));
 }
 
-/// The bytes of a list are counted before they are written.
+/// The empty list takes 4 bytes, and an ACE of alice takes 24 more.
 pub fn lengths(rt: &impl Abort, alloc: Global) -> Result<(), PushFault> {
     assert!(rt; Acl::new(alloc).encoded_len() == 4);
     assert!(rt; reading(alloc, 0)?.encoded_len() == 28);
@@ -128,6 +128,6 @@ pub fn lengths(rt: &impl Abort, alloc: Global) -> Result<(), PushFault> {
 }
 
 #[test]
-fn encoded_len_counts_the_bytes_of_a_list(rt: HostRuntime) {
+fn encoded_len_is_the_number_of_bytes_that_spell_a_list(rt: HostRuntime) {
     assert!(rt; passes(lengths(&rt, rt.alloc())));
 }

@@ -19,6 +19,13 @@ const NO_BOB: AceRow = (DENY, 0, READ_DATA, b"bob");
 
 const NO_OPS: AceRow = (DENY, GROUP, READ_DATA, b"ops");
 
+// Alice may read, and so may bob unless he is the owner.
+const OWNER_BETWEEN_USERS: [AceRow; 3] = [
+    ALICE,
+    (DENY, 0, READ_DATA, b"OWNER@"),
+    (ALLOW, 0, READ_DATA, b"bob"),
+];
+
 // Lists and their normal forms.
 static FORMS: [(&[AceRow], &[AceRow]); 20] = [
     (&[], &[]),
@@ -53,19 +60,8 @@ static FORMS: [(&[AceRow], &[AceRow]); 20] = [
     ),
     (&FOR_FILES, &[AMY]),
     (&[(DENY, 0, 0, b"OWNER@")], &[]),
-    (
-        &[
-            ALICE,
-            (DENY, 0, READ_DATA, b"OWNER@"),
-            (ALLOW, 0, READ_DATA, b"bob"),
-        ],
-        &[
-            ALICE,
-            (DENY, 0, READ_DATA, b"OWNER@"),
-            (ALLOW, 0, READ_DATA, b"bob"),
-        ],
-    ),
-    // The second of two that wait goes first, and the first still holds up the third.
+    (&OWNER_BETWEEN_USERS, &OWNER_BETWEEN_USERS),
+    // The second of two DENYs goes first, and the first DENY still has to precede the ALLOW.
     (
         &[
             (DENY, 0, READ_DATA, b"zoe"),
@@ -78,7 +74,7 @@ static FORMS: [(&[AceRow], &[AceRow]); 20] = [
             EVERYONE,
         ],
     ),
-    // Flags that play no part: those of inheritance, and then all but INHERIT_ONLY.
+    // Flags that play no part: flags of inheritance, and then all flags but INHERIT_ONLY.
     (&[(ALLOW, 0x83, READ_DATA, b"amy")], &[AMY]),
     (
         &[(ALLOW, 0xf7, READ_DATA, b"ops")],
@@ -86,7 +82,7 @@ static FORMS: [(&[AceRow], &[AceRow]); 20] = [
     ),
 ];
 
-/// The worked lists, with their normal forms.
+/// The worked lists and their normal forms.
 pub fn forms() -> &'static [(&'static [AceRow], &'static [AceRow])] {
     &FORMS
 }
@@ -96,7 +92,7 @@ fn has_form(alloc: Global, list: &Acl, wanted: &Acl) -> Result<bool, AllocError>
     Ok(form == *wanted)
 }
 
-// Whether the list has this form, which has itself for its form, and each is normal just where it is its own form.
+// Whether the list has this normal form, the normal form is its own, and the list is normal only if it is its own form.
 fn is_normalized(alloc: Global, list: &Acl, wanted: &Acl) -> Result<bool, AllocError> {
     let is_form = has_form(alloc, list, wanted)?;
     let is_own_form = has_form(alloc, wanted, wanted)?;
@@ -116,11 +112,11 @@ pub fn normal_forms(rt: &impl Abort, alloc: Global) -> Result<(), PushFault> {
 }
 
 #[test]
-fn normal_form_of_a_worked_list_is_its_own(rt: HostRuntime) {
+fn each_worked_list_has_its_normal_form_which_is_its_own(rt: HostRuntime) {
     assert!(rt; passes(normal_forms(&rt, rt.alloc())));
 }
 
-// The ACEs of a list, so many times.
+// The ACEs of a list, repeated this many times.
 fn repeated(alloc: Global, list: &Acl, times: usize) -> Result<Acl, PushFault> {
     let mut whole = Acl::new(alloc);
     for _place in 0..times {
@@ -134,9 +130,11 @@ fn repeated(alloc: Global, list: &Acl, times: usize) -> Result<Acl, PushFault> {
 mod ample {
     use super::*;
 
-    // The heaviest list of one ACE, again and again.
+    // An ACE of all rights, as often as the greatest weight allows.
     #[test]
-    fn an_ace_that_is_repeated_stands_once(rt: HostRuntime) -> Result<(), PushFault> {
+    fn an_ace_that_is_repeated_is_once_in_the_normal_form(
+        rt: HostRuntime,
+    ) -> Result<(), PushFault> {
         let wanted = built(rt.alloc(), &[ALL])?;
         let list = repeated(rt.alloc(), &wanted, 4096)?;
         assert!(rt; is_normal(rt.alloc(), &list) == Ok(false));
@@ -144,8 +142,8 @@ mod ample {
         Ok(())
     }
 
-    // Whether a list of that many ACEs of one right, and its bytes, have the form of one such ACE.
-    fn is_answered(alloc: Global, times: usize) -> Result<bool, PushFault> {
+    // Whether a list of this many equal ACEs is not normal, and its bytes normalize to one such ACE.
+    fn is_reduced_to_one(alloc: Global, times: usize) -> Result<bool, PushFault> {
         let wanted = built(alloc, &[ALICE])?;
         let list = repeated(alloc, &wanted, times)?;
         let is_own = kept(is_normal(alloc, &list))?;
@@ -158,17 +156,19 @@ mod ample {
         Ok(is_spelled && !is_own)
     }
 
-    // Sizes that are no power of two, and at the limit.
+    // The sizes are no powers of two, except for the limit.
     #[test]
-    fn lists_of_many_sizes_are_answered(rt: HostRuntime) {
+    fn equal_aces_normalize_to_one_ace_in_lists_of_every_size(rt: HostRuntime) {
         for times in [101, 20_001, 41_001, 60_001, 65_535, 65_536] {
-            assert!(rt; is_answered(rt.alloc(), times) == Ok(true));
+            assert!(rt; is_reduced_to_one(rt.alloc(), times) == Ok(true));
         }
     }
 
-    // A list that is full and at its greatest weight is full first.
+    // The list has both as many ACEs and as much weight as a list may have.
     #[test]
-    fn the_number_is_judged_before_the_weight(rt: HostRuntime) -> Result<(), PushFault> {
+    fn a_list_with_too_many_aces_is_refused_for_their_number_before_their_weight(
+        rt: HostRuntime,
+    ) -> Result<(), PushFault> {
         let mut list = repeated(rt.alloc(), &built(rt.alloc(), &[ALICE])?, 65_536)?;
         if let Some(ace) = ace_of(ALLOW, 0, READ_DATA, b"bob") {
             assert!(rt; list.push(ace) == Err(PushFault::TooManyAces));

@@ -1,11 +1,11 @@
-//! What the tests of this crate share: lists by rows, some lists that several ask about, and how a table takes want of
-//! memory.
+//! What the tests of this crate share: lists that are built from rows, some lists that several tests use, and how a
+//! table of tests treats a call that runs out of memory.
 
 use acl_nfs4::{AceRef, Acl, PushFault};
 use acl_perm::{Flags, Kind, Mask};
 use std::alloc::{AllocError, Global};
 
-/// An ACE as its kind, flags, mask and who.
+/// An ACE: its kind, flags, mask and who.
 pub type AceRow = (Kind, u32, u32, &'static [u8]);
 
 pub const ALLOW: Kind = Kind::Allow;
@@ -59,7 +59,7 @@ pub const STAFF: [AceRow; 3] = [
 /// An ACE for new files, and one for the object.
 pub const FOR_FILES: [AceRow; 2] = [(ALLOW, FILE_INHERIT | INHERIT_ONLY, READ_DATA, b"amy"), AMY];
 
-/// An ACE with flags and a mask that are some.
+/// The ACE, or `None` if the flags or the mask are not valid.
 pub fn ace_of(kind: Kind, flags: u32, mask: u32, who: &[u8]) -> Option<AceRef<'_>> {
     let (Some(flags), Some(mask)) = (Flags::new(flags), Mask::new(mask)) else {
         return None;
@@ -72,7 +72,7 @@ pub fn ace_of(kind: Kind, flags: u32, mask: u32, who: &[u8]) -> Option<AceRef<'_
     })
 }
 
-/// The list of some rows.
+/// Builds the list of some rows.
 pub fn built(alloc: Global, rows: &[AceRow]) -> Result<Acl, PushFault> {
     let mut list = Acl::new(alloc);
     for (kind, flags, mask, who) in rows {
@@ -92,7 +92,7 @@ pub fn kept<T>(answer: Result<T, AllocError>) -> Result<T, PushFault> {
     }
 }
 
-/// Whether a table holds, as far as memory went.
+/// Whether a table of tests holds, or memory ran out.
 pub fn passes(answer: Result<(), PushFault>) -> bool {
     matches!(answer, Ok(()) | Err(PushFault::Memory))
 }

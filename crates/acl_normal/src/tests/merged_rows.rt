@@ -1,4 +1,4 @@
-//! The rows of principals, from which an ACE is taken after the other.
+//! The rows of principals while one ACE after the other is emitted.
 
 use super::harness::{NO_WRITE, READ_DATA, WRITE_DATA, built};
 use crate::{Class, MergedRows};
@@ -23,7 +23,9 @@ mod ample {
     use super::*;
 
     #[test]
-    fn merged_rows_are_freed_by_what_is_emitted(rt: HostRuntime) -> Result<(), Fail> {
+    fn an_ace_of_merged_rows_is_free_once_the_ace_that_blocks_it_is_emitted(
+        rt: HostRuntime,
+    ) -> Result<(), Fail> {
         let read = Mask::new(READ_DATA).ok_or("no such right")?;
         let write = Mask::new(WRITE_DATA).ok_or("no such right")?;
         let list = built(rt.alloc(), &NO_WRITE)?;

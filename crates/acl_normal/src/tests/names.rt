@@ -1,4 +1,4 @@
-//! The order of names, whatever bytes they begin with.
+//! The order of names that begin with the same bytes.
 
 use super::harness::{ALLOW, GROUP, READ_DATA, ace_of, kept, passes};
 use crate::normalize;
@@ -6,12 +6,12 @@ use acl_nfs4::{Acl, PushFault};
 use std::alloc::Global;
 use std::process::Abort;
 
-// How many bytes all names of a list begin with: below, at and above those that are compared as a number, and as many
-// as fit before eight others.
+// The number of bytes with which all names of a list begin: fewer than, as many as and more than those that are
+// compared as a number, and as many as fit before eight other bytes.
 static STARTS: [usize; 7] = [0, 3, 4, 7, 8, 9, 1016];
 
-// How the names of a list go on, as the ACEs come and in order: in order already, out of order at the last place, out
-// of order at the first, with names that are there twice, and with names that are the beginning of others.
+// The ends of the names of a list as given and in order: in order already, out of order at the last place, out of order
+// at the first place, with names that are there twice, and with names that are the beginning of others.
 static ENDS: [(&[&[u8]], &[&[u8]]); 6] = [
     (&[b"a", b"b", b"c"], &[b"a", b"b", b"c"]),
     (&[b"b", b"c", b"a"], &[b"a", b"b", b"c"]),
@@ -24,7 +24,7 @@ static ENDS: [(&[&[u8]], &[&[u8]]); 6] = [
     ),
 ];
 
-// A list of names that begin with so many bytes and go on so.
+// A list of names with this many equal bytes at the start and these ends.
 fn list_of(alloc: Global, start: usize, flags: u32, ends: &[&[u8]]) -> Result<Acl, PushFault> {
     let mut list = Acl::new(alloc);
     for end in ends {
@@ -50,7 +50,7 @@ fn is_put_in_order(
     Ok(form == sorted)
 }
 
-/// Users, and groups, stand in the order of their names, each once.
+/// In a normal form, users and groups are in the order of their names, each once.
 pub fn names(rt: &impl Abort, alloc: Global) -> Result<(), PushFault> {
     for start in &STARTS {
         for (given, wanted) in &ENDS {
@@ -62,6 +62,6 @@ pub fn names(rt: &impl Abort, alloc: Global) -> Result<(), PushFault> {
 }
 
 #[test]
-fn normal_form_has_names_in_order(rt: HostRuntime) {
+fn the_normal_form_has_each_name_once_in_order(rt: HostRuntime) {
     assert!(rt; passes(names(&rt, rt.alloc())));
 }

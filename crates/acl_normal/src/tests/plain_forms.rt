@@ -1,4 +1,4 @@
-//! The normal forms of the plain body, held against worked lists and against those of `normalize`.
+//! The normal forms of the plain function, compared with those of worked lists and of `normalize`.
 
 use super::forms::forms;
 use super::harness::{
@@ -14,7 +14,7 @@ fn has_plain_form(alloc: Global, list: &Acl, wanted: &Acl) -> Result<bool, Alloc
     Ok(form == *wanted)
 }
 
-/// The plain body makes the form of each worked list.
+/// The plain function finds the normal form of each worked list.
 pub fn plain_forms(rt: &impl Abort, alloc: Global) -> Result<(), PushFault> {
     for (lines, form) in forms() {
         let list = built(alloc, lines)?;
@@ -26,7 +26,7 @@ pub fn plain_forms(rt: &impl Abort, alloc: Global) -> Result<(), PushFault> {
 }
 
 #[test]
-fn plain_normal_form_of_a_worked_list_is_its_own(rt: HostRuntime) {
+fn the_plain_function_finds_the_normal_form_of_each_worked_list(rt: HostRuntime) {
     assert!(rt; passes(plain_forms(&rt, rt.alloc())));
 }
 
@@ -40,7 +40,7 @@ static NAMED: [(&[u8], u32); 6] = [
     (b"EVERYONE@", 0),
 ];
 
-// An ACE of one or two bits, of 36.
+// One of 36 ACEs with one or two rights.
 fn chosen(number: usize) -> AceRow {
     let (who, flags) = NAMED[number % 6];
     let kind = if number / 6 % 2 == 0 { DENY } else { ALLOW };
@@ -60,7 +60,6 @@ fn chosen_rows(alloc: Global, count: usize, dice: &mut Dice) -> Result<Vec<AceRo
     Ok(rows)
 }
 
-// A list of so many ACEs.
 fn chosen_list(alloc: Global, count: usize, dice: &mut Dice) -> Result<Acl, PushFault> {
     let rows = kept(chosen_rows(alloc, count, dice))?;
     built(alloc, &rows)
@@ -76,9 +75,11 @@ fn is_one_form(alloc: Global, list: &Acl) -> Result<bool, AllocError> {
 mod ample {
     use super::*;
 
-    // Both bodies make one list, which is normal: of 2,400 lists of up to four ACEs.
+    // 2,400 lists of up to four ACEs.
     #[test]
-    fn normal_form_is_that_of_the_plain_body(rt: HostRuntime) -> Result<(), PushFault> {
+    fn normalize_and_the_plain_function_find_the_same_normal_form(
+        rt: HostRuntime,
+    ) -> Result<(), PushFault> {
         let mut dice = Dice { state: 1 };
         for round in 0..2400usize {
             let count = round % 4 + 1;

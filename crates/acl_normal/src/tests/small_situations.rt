@@ -1,6 +1,6 @@
-//! The comparison, held against the plain search, which goes over all small situations.
+//! The comparison, compared with the plain search, which tries all small situations.
 
-use super::differences::tells_apart;
+use super::differences::is_shown_by_grants;
 use super::harness::{
     ALLOW, AceRow, DENY, Dice, GROUP, INHERIT_ONLY, READ_DATA, ace_of, built, kept,
 };
@@ -10,7 +10,7 @@ use acl_perm::Kind;
 use std::alloc::{AllocError, Global};
 use std::process::Abort;
 
-// Whom the lists name that are compared.
+// Whom the compared lists name.
 static PEOPLE: [(u32, &[u8]); 8] = [
     (0, b"OWNER@"),
     (0, b"a"),
@@ -39,7 +39,7 @@ fn any_rows(alloc: Global, dice: &mut Dice) -> Result<Vec<AceRow>, AllocError> {
     Ok(rows)
 }
 
-// The same rows with two of them in each other's place, without one, or rows of their own.
+// The same rows with two of them exchanged or without the last one, or other rows.
 fn other_rows(alloc: Global, dice: &mut Dice, rows: &[AceRow]) -> Result<Vec<AceRow>, AllocError> {
     let mut others = Vec::from_slice(alloc, rows)?;
     match dice.below(4) {
@@ -58,7 +58,8 @@ fn other_rows(alloc: Global, dice: &mut Dice, rows: &[AceRow]) -> Result<Vec<Ace
     }
 }
 
-// Whether two principals match whom the difference names: no name of these lists begins as a strange one.
+// Whether two mentioned principals match the requester of the difference. A name that begins with `u` or `g` is
+// strange, because no name of these lists begins so.
 fn is_of_two(d: &Difference) -> bool {
     let is_named = !d.user.starts_with(b"u");
     let is_owner = d.owner == d.user;
@@ -98,7 +99,7 @@ fn is_same_plainly(
     Ok(same_difference(found, &slow))
 }
 
-// Of two lists none where they don't differ, and else whether two principals match.
+// `None` if the lists do not differ, and otherwise whether two principals match in the difference.
 fn found_by_both(
     rt: &impl Abort,
     alloc: Global,
@@ -110,7 +111,7 @@ fn found_by_both(
     match &found {
         None => Ok(None),
         Some(d) => {
-            assert!(rt; tells_apart(first, second, d));
+            assert!(rt; is_shown_by_grants(first, second, d));
             Ok(Some(is_of_two(d)))
         }
     }
@@ -145,7 +146,7 @@ fn push_group(list: &mut Acl, kind: Kind, number: u8) -> Result<(), PushFault> {
     }
 }
 
-// DENY for so many groups, and ALLOW for one more, before the last of them or behind it.
+// DENY for many groups, and ALLOW for one more group before or after the last DENY.
 fn many_groups(alloc: Global, count: u8, is_before: bool) -> Result<Acl, PushFault> {
     let mut list = Acl::new(alloc);
     for number in 1..count {
@@ -176,7 +177,9 @@ mod ample {
     use super::*;
 
     #[test]
-    fn compare_finds_what_the_plain_search_finds(rt: HostRuntime) -> Result<(), PushFault> {
+    fn compare_finds_the_same_difference_as_the_plain_search(
+        rt: HostRuntime,
+    ) -> Result<(), PushFault> {
         let mut dice = Dice { state: 2026 };
         let (mut same, mut apart, mut by_two) = (0u32, 0u32, 0u32);
         for _ in 0..2_500 {
@@ -188,7 +191,7 @@ mod ample {
                 }
             }
         }
-        // The pairs are of each kind.
+        // There are enough pairs of each sort.
         assert!(rt;
             same > 300 && apart > 300 && by_two > 20,
             "{same} {apart} {by_two}"
@@ -196,9 +199,9 @@ mod ample {
         Ok(())
     }
 
-    // They differ for a member of two groups alone, or not at all.
+    // The lists differ only for a member of two groups, or not at all.
     #[test]
-    fn compare_finds_what_the_plain_search_finds_of_many_groups(rt: HostRuntime) {
+    fn compare_finds_the_pair_of_many_groups_at_which_two_lists_differ(rt: HostRuntime) {
         for count in [41, 64, 128u8] {
             assert!(rt; found_of_groups(&rt, rt.alloc(), count, false) == Ok(Some(true)));
             assert!(rt; found_of_groups(&rt, rt.alloc(), count, true) == Ok(None));

@@ -1,4 +1,4 @@
-//! The tables of single rights.
+//! The tables of single rights of some lists.
 
 use super::harness::{
     ALLOW, AMY, AceRow, DENY, EXECUTE, FOR_FILES, GROUP, NO_WRITE, READ_DATA, STAFF, WRITE_DATA,
@@ -10,7 +10,7 @@ use acl_perm::{Kind, Mask};
 use std::alloc::{AllocError, Global};
 use std::process::Abort;
 
-// Of a list and a right, the rows: the place, the kind, the who, and whether it is the name of a group.
+// A row: the place, the kind, the who, and whether it is the name of a group.
 type Shown = (usize, Kind, &'static [u8], bool);
 
 // Amy and bob may not read, whatever a later ACE allows amy, and all others may.
@@ -62,49 +62,49 @@ fn are_shown(rows: &[Row], wanted: &[Shown]) -> bool {
     rows.len() == wanted.len()
 }
 
-fn is_lent(row: &BorrowedRow<'_>, shown: &Shown) -> bool {
+fn is_borrowed(row: &BorrowedRow<'_>, shown: &Shown) -> bool {
     let (source, kind, who, group) = *shown;
     row.source == source && row.kind == kind && row.who == who && row.group == group
 }
 
-fn are_lent(rows: &[BorrowedRow<'_>], wanted: &[Shown]) -> bool {
+fn are_borrowed(rows: &[BorrowedRow<'_>], wanted: &[Shown]) -> bool {
     for (row, shown) in rows.iter().zip(wanted) {
-        if !is_lent(row, shown) {
+        if !is_borrowed(row, shown) {
             return false;
         }
     }
     rows.len() == wanted.len()
 }
 
-fn is_table(alloc: Global, list: &Acl, bit: Mask, wanted: &[Shown]) -> Result<bool, AllocError> {
-    let rows = table(alloc, list, bit)?;
+fn is_table(alloc: Global, list: &Acl, right: Mask, wanted: &[Shown]) -> Result<bool, AllocError> {
+    let rows = table(alloc, list, right)?;
     Ok(are_shown(&rows, wanted))
 }
 
-fn is_lent_table(
+fn is_borrowed_table(
     alloc: Global,
     list: &Acl,
-    bit: Mask,
+    right: Mask,
     wanted: &[Shown],
 ) -> Result<bool, AllocError> {
     let view = list.view();
-    let rows = borrowed_rows(alloc, &view, bit)?;
-    Ok(are_lent(&rows, wanted))
+    let rows = borrowed_rows(alloc, &view, right)?;
+    Ok(are_borrowed(&rows, wanted))
 }
 
-/// A row tells the first ACE of its who that has the right and takes part.
+/// Each row has the place of the first ACE of its who that has the right and takes part.
 pub fn tables(rt: &impl Abort, alloc: Global) -> Result<(), PushFault> {
     for (lines, bits, wanted) in &TABLES {
         let list = built(alloc, lines)?;
-        if let Some(bit) = Mask::new(*bits) {
-            assert!(rt; kept(is_table(alloc, &list, bit, wanted))?);
-            assert!(rt; kept(is_lent_table(alloc, &list, bit, wanted))?);
+        if let Some(right) = Mask::new(*bits) {
+            assert!(rt; kept(is_table(alloc, &list, right, wanted))?);
+            assert!(rt; kept(is_borrowed_table(alloc, &list, right, wanted))?);
         }
     }
     Ok(())
 }
 
 #[test]
-fn table_names_the_source_of_each_row(rt: HostRuntime) {
+fn each_row_of_a_table_has_the_place_of_the_ace_from_which_it_comes(rt: HostRuntime) {
     assert!(rt; passes(tables(&rt, rt.alloc())));
 }

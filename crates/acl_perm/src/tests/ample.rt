@@ -23,7 +23,7 @@ fn whole_reads_and_writes_succeed(rt: HostRuntime) {
     let mut source = Counted::new(b"granted".as_slice());
     match read_all(rt.alloc(), &mut source) {
         Ok(bytes) => assert!(rt; bytes.as_slice() == b"granted".as_slice()),
-        Err(_) => assert!(rt; false, "memory is wanting"),
+        Err(_) => assert!(rt; false, "out of memory"),
     }
     let mut sink = Counted::new(Vec::new(rt.alloc()));
     assert!(rt; put_all(&mut sink, b"granted").is_ok());

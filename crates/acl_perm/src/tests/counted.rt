@@ -23,7 +23,7 @@ fn fails<R: Read, S: Source>(rt: &impl Abort, plain: &mut R, counted: &mut S, ca
 
 // A source gives what its reader gives, call by call, and counts only the calls that fail.
 #[test]
-fn a_counted_reader_gives_the_same(rt: HostRuntime) {
+fn a_counted_reader_gives_what_the_reader_gives(rt: HostRuntime) {
     for calls in [0u64, 1, 5] {
         let mut plain = Fused::new(b"granted".as_slice(), calls, 3);
         let mut counted = Counted::new(Fused::new(b"granted".as_slice(), calls, 3));
@@ -67,7 +67,7 @@ fn puts(rt: &impl Abort, alloc: Global, calls: u64, step: usize, pieces: u64) {
 
 // A sink takes what its writer takes. An end of input is not a failure; a put of some bytes that takes none is one.
 #[test]
-fn a_counted_writer_takes_the_same(rt: HostRuntime) {
+fn a_counted_writer_takes_what_the_writer_takes(rt: HostRuntime) {
     for (calls, step, pieces) in [(0u64, 2usize, 0u64), (1, 2, 1), (2, 2, 2), (3, 0, 0)] {
         puts(&rt, rt.alloc(), calls, step, pieces);
     }

@@ -43,7 +43,7 @@ static SHOWN: [(u8, &str, &str); 4] = [
 ];
 
 #[test]
-fn permissions_and_modes_are_shown(rt: HostRuntime) {
+fn permissions_are_shown_as_letters_and_modes_as_digits(rt: HostRuntime) {
     for (number, letters, digits) in SHOWN {
         let Some(perm) = Perm::new(number) else {
             assert!(rt; false, "permissions");

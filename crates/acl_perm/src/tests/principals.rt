@@ -13,7 +13,7 @@ const RISING: [Principal<'static>; 7] = [
     Principal::Everyone,
 ];
 
-fn do_keys_stand(
+fn are_keys_in_order(
     principal: Principal<'_>,
     i: usize,
     other: Principal<'_>,
@@ -30,22 +30,27 @@ fn do_keys_stand(
     (key < allow) == is_before && (key == allow) == is_same
 }
 
-fn do_principals_stand(principal: Principal<'_>, i: usize, other: Principal<'_>, j: usize) -> bool {
+fn are_principals_in_order(
+    principal: Principal<'_>,
+    i: usize,
+    other: Principal<'_>,
+    j: usize,
+) -> bool {
     principal.cmp(&other) == i.cmp(&j)
         && (principal < other) == (i < j)
         && (principal == other) == (i == j)
 }
 
 #[test]
-fn principals_and_keys_stand_in_rising_order(rt: HostRuntime) {
+fn principals_and_keys_are_in_rising_order(rt: HostRuntime) {
     for (i, principal) in RISING.iter().enumerate() {
         for (j, other) in RISING.iter().enumerate() {
             assert!(rt;
-                do_principals_stand(*principal, i, *other, j),
+                are_principals_in_order(*principal, i, *other, j),
                 "{i} and {j}"
             );
-            assert!(rt; do_keys_stand(*principal, i, *other, j, Kind::Deny));
-            assert!(rt; do_keys_stand(*principal, i, *other, j, Kind::Allow));
+            assert!(rt; are_keys_in_order(*principal, i, *other, j, Kind::Deny));
+            assert!(rt; are_keys_in_order(*principal, i, *other, j, Kind::Allow));
         }
     }
 }
@@ -56,7 +61,7 @@ fn is_user(i: usize) -> bool {
 }
 
 #[test]
-fn users_and_everyone_are_told_apart(rt: HostRuntime) {
+fn only_user_names_are_users_and_only_everyone_is_everyone(rt: HostRuntime) {
     for (i, principal) in RISING.iter().enumerate() {
         assert_eq!(rt; principal.is_user(), is_user(i), "{i}");
         assert_eq!(rt; principal.is_everyone(), i == 6, "{i}");
@@ -75,21 +80,23 @@ const RANKS_AND_NAMES: [(u8, &[u8]); 7] = [
 ];
 
 #[test]
-fn a_principal_is_its_rank_and_its_name(rt: HostRuntime) {
+fn each_principal_has_its_rank_and_its_name(rt: HostRuntime) {
     for (principal, (rank, name)) in RISING.iter().zip(RANKS_AND_NAMES) {
         assert_eq!(rt; principal.rank(), rank);
         assert!(rt; principal.name() == name, "{rank}");
     }
 }
 
+// The numbers of ACE4_ACCESS_ALLOWED_ACE_TYPE and ACE4_ACCESS_DENIED_ACE_TYPE in RFC 8881, section 6.2.1.1.
 #[test]
-fn a_type_has_one_other(rt: HostRuntime) {
-    for (kind, other, is_allow) in [
-        (Kind::Deny, Kind::Allow, false),
-        (Kind::Allow, Kind::Deny, true),
+fn each_kind_has_its_other_kind_and_its_number(rt: HostRuntime) {
+    for (kind, other, is_allow, number) in [
+        (Kind::Allow, Kind::Deny, true, 0),
+        (Kind::Deny, Kind::Allow, false, 1),
     ] {
         assert_eq!(rt; kind.other(), other);
         assert_eq!(rt; kind.is_allow(), is_allow);
+        assert_eq!(rt; kind.number(), number);
     }
 }
 

@@ -115,7 +115,7 @@ fn the_rights_of_a_mask_ascend(rt: HostRuntime) {
 }
 
 #[test]
-fn types_and_rights_are_shown_by_name(rt: HostRuntime) {
+fn kinds_and_rights_are_shown_by_name(rt: HostRuntime) {
     for (kind, word) in [(Kind::Allow, "ALLOW"), (Kind::Deny, "DENY")] {
         if let Ok(shown) = kind.to_string(rt.alloc()) {
             assert!(rt; shown.as_str() == word);
@@ -153,7 +153,7 @@ fn the_complement_of_a_set_stays_within_all(rt: HostRuntime) {
 
 // The rights and flags by name, with some of the numbers of RFC 8881, sections 6.2.1.3.1 and 6.2.1.4.1.
 #[test]
-fn names_stand_for_the_numbers_of_the_standard(rt: HostRuntime) {
+fn the_constants_have_the_numbers_of_the_standard(rt: HostRuntime) {
     for (mask, number) in [
         (Mask::LIST_DIRECTORY, 0x1),
         (Mask::ADD_FILE, 0x2),
@@ -176,7 +176,7 @@ fn names_stand_for_the_numbers_of_the_standard(rt: HostRuntime) {
 }
 
 #[test]
-fn sets_of_permissions_are_added_and_taken_away(rt: HostRuntime) {
+fn sets_of_permissions_have_unions_intersections_and_differences(rt: HostRuntime) {
     for (m, n, either, both, first) in [(6, 3, 7, 2, 4), (4, 4, 4, 4, 0), (0, 5, 5, 0, 0)] {
         let (Some(m), Some(n)) = (Perm::new(m), Perm::new(n)) else {
             assert!(rt; false, "permissions");

@@ -1,18 +1,13 @@
 -- When a set is valid, and what one entry put into it or taken out of it changes.
-use Rattle.acl_posix.proofs.Common.{[], AclFault, ap, arith, as_set, Bool, cond, Entries, eq_by_cmp, eq_by_cmp_equiv, Err, false, group, group_obj, IfErr, is_named, is_some, IsErr, IsErrAnd, IsFaultOfSet, IsSome, IsSorted, IsValid, List, list_any, list_any_at, mask, Memory, None, not, Ok, OnOk, Option, other, refl, Result, Some, subst, sym, Tag, tag_cmp, tags, tags_total, true, user, user_obj, ℕ, ◌&&◌, ◌∙◌, ◌∷◌, ◌≡◌}
-use Rattle.std.specs.Prelude.{OnErr}
-use Rattle.std.specs.List.Sorted.{IsStrictlySortedBy}
+use Rattle.acl_posix.proofs.Common.{[], AclFault, Any-from_list_any, ap, arith, as_set, Bool, cond, cond_both, Entries, eq_by_cmp, eq_by_cmp_equiv, Err, false, false_from_ne_true, group, group_class, group_obj, IfErr, is_named, is_some, IsErr, IsErrAnd, IsFaultOfSet, IsSome, IsSorted, IsStrictlySortedBy, IsValid, List, list_any, list_any_at, mask, Memory, missing, Ok, OnErr, OnOk, other, refl, Result, Some, subst, sym, Tag, tag_cmp, tags, tags_total, true, user, user_obj, with_mode, ℕ, ◌∙◌, ◌∷◌, ◌≡◌}
 use Rattle.std.specs.FinMap as fin
-use Rattle.std.proofs.lemmas.Bool.{cond_both, false_from_ne_true}
-use Rattle.std.proofs.lemmas.List.Folds.{Any-from_list_any}
-use Rattle.acl_posix.specs.Mode.{group_class, with_mode}
-use Rattle.acl_posix.specs.Valid.{missing}
 use Rattle.acl_posix.specs.internal.Required.{is_required}
 use Rattle.acl_posix.proofs.tag.Tags.{same_tag}
-use Rattle.acl_posix.proofs.sorted.Lookups.{entries_in_order}
+use Rattle.acl_posix.proofs.sorted.Lists.{entries_in_order}
 
 -- ---- a set with a USER or GROUP entry
 
+-- a tag compares as equal to itself
 itself : (t : Tag) → eq_by_cmp tag_cmp t t ≡ true
 itself t = (eq_by_cmp_equiv tags_total).refl t
 
@@ -40,31 +35,18 @@ pub record IsComplete (E : Entries) : Type 0 where
   pub others : IsSome (fin.get E other)
   pub limited : list_any is_named (fin.keys E) ≡ true → IsSome (fin.get E mask)
 
--- the first absent tag, by which entries are there
-abbrev absent : Bool → Bool → Bool → Bool → Bool → Option Tag
-absent owner class others named masked =
-    cond (not owner) (Some user_obj) (cond (not class) (Some group_obj) (cond (not others) (Some other)
-    (cond (named && not masked) (Some mask) None)))
-
-parts : (a b c n m : Bool) → absent a b c n m ≡ None → (a ≡ true) × (b ≡ true) × (c ≡ true) × (n ≡ true → m ≡ true)
-parts a b c n m h = grind arith
-
-none_absent : (a b c n m : Bool) → a ≡ true → b ≡ true → c ≡ true → (n ≡ true → m ≡ true) → absent a b c n m ≡ None
-none_absent a b c n m p q r s = grind arith
-
 -- a valid set has what it needs
 pub complete : (E : Entries) → IsValid E → IsComplete E
 unfolding missing
 complete E h =
-    let has = parts (is_some (fin.get E user_obj)) (is_some (fin.get E group_obj)) (is_some (fin.get E other))
-    (list_any is_named (fin.keys E)) (is_some (fin.get E mask)) h in
-    record { owner = has.0; class = has.1; others = has.2; limited = has.3 }
+    record { owner = grind arith; class = grind arith; others = grind arith; limited = λ any. grind arith }
 
 -- a set that has what it needs is valid
 valid : (E : Entries) → IsComplete E → IsValid E
 unfolding missing
-valid E h = none_absent _ _ _ _ _ h.owner h.class h.others h.limited
+valid E h = grind (arith, h.owner, h.class, h.others, h.limited)
 
+-- a set with the three entries and a USER or GROUP entry, and without a MASK, lacks the MASK
 lacks_mask : (E : Entries) → IsSome (fin.get E user_obj) → IsSome (fin.get E group_obj) → IsSome (fin.get E other)
     → list_any is_named (fin.keys E) ≡ true → is_some (fin.get E mask) ≡ false → missing E ≡ Some mask
 unfolding missing
@@ -101,22 +83,20 @@ three_valid a b c =
 
 -- ---- an entry that is put
 
+-- a tag without a qualifier is not equal to a tag with one
 apart : (q l : Tag) → is_named q ≡ false → is_named l ≡ true → eq_by_cmp tag_cmp q l ≡ false
 apart q l plain named =
     false_from_ne_true _ (λ is. let wrong = sym named ∙ ap is_named (sym (same_tag q l is)) ∙ plain in cc)
 
-some_either : (b : Bool) (n : ℕ) (o : Option ℕ) → is_some o ≡ true → is_some (cond b (Some n) o) ≡ true
-some_either b n o h = grind arith
-
 -- a tag that has an entry keeps one if an entry is put
 pub still : (E : Entries) (l q : Tag) (n : ℕ) → IsSome (fin.get E q) → IsSome (fin.get (fin.insert E l n) q)
-still E l q n some = ap is_some (fin.get-insert tags_total E l n q) ∙ some_either _ n _ some
+still E l q n some = rw (fin.get-insert tags_total E l n q)
+    (cond_both (eq_by_cmp tag_cmp q l) (Some n) (fin.get E q) IsSome (λ same. refl) (λ differ. some))
 
 -- whether a tag has an entry does not depend on an entry that is put for another tag
 unchanged : (E : Entries) (l q : Tag) (n : ℕ) → eq_by_cmp tag_cmp q l ≡ false
     → is_some (fin.get (fin.insert E l n) q) ≡ is_some (fin.get E q)
-unchanged E l q n differ =
-    ap is_some (fin.get-insert tags_total E l n q) ∙ ap (λ b. is_some (cond b (Some n) (fin.get E q))) differ
+unchanged E l q n differ = rw (fin.get-insert tags_total E l n q, differ) refl
 
 -- a valid set stays valid with one more entry; for a USER or GROUP entry it needs a MASK
 pub valid_put : (E : Entries) (l : Tag) (n : ℕ) → IsValid E → (is_named l ≡ true → IsSome (fin.get E mask))
@@ -127,11 +107,9 @@ valid_put E l n h masked =
       owner = still E l user_obj n has.owner;
       class = still E l group_obj n has.class;
       others = still E l other n has.others;
-      limited = λ any. still E l mask n (elim (is_named l) as (λ b. is_named l ≡ b → IsSome (fin.get E mask)) [
-        | true ↦ masked
-        | false ↦ λ plain. has.limited (named_in (fin.insert E l n) E (λ t named some.
-            sym (unchanged E l t n ((eq_by_cmp_equiv tags_total).symm t l ∙ apart l t plain named)) ∙ some) any)
-      ] refl);
+      limited = λ any. still E l mask n (cond_both (is_named l) true true (λ _. IsSome (fin.get E mask)) masked
+          (λ plain. has.limited (named_in (fin.insert E l n) E (λ t named some.
+          sym (unchanged E l t n ((eq_by_cmp_equiv tags_total).symm t l ∙ apart l t plain named)) ∙ some) any)));
     })
 
 -- a valid set stays valid with another mode
@@ -154,13 +132,12 @@ pub mask_absent : (E : Entries) (l : Tag) (n : ℕ) → IsValid E → is_named l
     → missing (fin.insert E l n) ≡ Some mask
 mask_absent E l n h named none =
     let has = complete E h in
-    let here : IsSome (fin.get (fin.insert E l n) l) =
-    ap is_some (fin.get-insert tags_total E l n l) ∙ ap (λ b. is_some (cond b (Some n) (fin.get E l))) (itself l) in
+    let here : IsSome (fin.get (fin.insert E l n) l) = rw (fin.get-insert tags_total E l n l, itself l) refl in
     lacks_mask (fin.insert E l n) (still E l user_obj n has.owner) (still E l group_obj n has.class)
     (still E l other n has.others) (any_named (fin.insert E l n) l named here)
     (unchanged E l mask n (apart mask l refl named) ∙ none)
 
--- if memory runs out, nothing is wrong with a valid set
+-- if memory runs out, the fault is one that a valid set may have
 pub memory_refused : (E : Entries) (r : Result (Unit {0}) AclFault) → IsErr r × IsErrAnd r (λ fault. fault ≡ Memory)
     → IsValid E → IfErr r (IsFaultOfSet E)
 memory_refused E (Ok x) h valid = tt
@@ -171,19 +148,17 @@ memory_refused E (Err fault) h valid = subst (IsFaultOfSet E) (sym h.1) valid
 -- whether a tag has an entry does not depend on an entry that is taken out for another tag
 left : (E : Entries) (l q : Tag) → eq_by_cmp tag_cmp q l ≡ false
     → is_some (fin.get (fin.remove E l) q) ≡ is_some (fin.get E q)
-left E l q differ =
-    ap is_some (fin.get-remove tags_total E l q) ∙ ap (λ b. is_some (cond b None (fin.get E q))) differ
+left E l q differ = rw (fin.get-remove tags_total E l q, differ) refl
 
+-- a tag has no entry after its entry is taken out
 gone : (E : Entries) (l : Tag) → is_some (fin.get (fin.remove E l) l) ≡ false
-gone E l = ap is_some (fin.get-remove tags_total E l l) ∙ ap (λ b. is_some (cond b None (fin.get E l))) (itself l)
+gone E l = rw (fin.get-remove tags_total E l l, itself l) refl
 
-some_left : (b : Bool) (o : Option ℕ) → is_some (cond b None o) ≡ true → is_some o ≡ true
-some_left b o h = grind arith
-
+-- a set has a USER or GROUP entry if it has one after an entry is taken out
 named_before : (E : Entries) (l : Tag) → list_any is_named (fin.keys (fin.remove E l)) ≡ true
     → list_any is_named (fin.keys E) ≡ true
 named_before E l = named_in (fin.remove E l) E
-    (λ t named some. some_left _ _ (sym (ap is_some (fin.get-remove tags_total E l t)) ∙ some))
+    (λ t named some. (let was = fin.get-remove tags_total E l t in grind arith))
 
 -- without an entry that it needs, a valid set lacks that entry
 pub lacks : (E : Entries) (l : Tag) → IsValid E → is_required E l ≡ true → missing (fin.remove E l) ≡ Some l

@@ -1,20 +1,14 @@
 -- Entries as single numbers: a number gives its entry back, numbers rise as the tags do, and a list with the same
 -- entries in another order has the same set.
-use Rattle.acl_posix.proofs.Common.{[], All, ap, apart_from_distinct, arith, as_set, cond, Contains-permutation, eq_by_cmp, eq_by_cmp_equiv, false, get-from_entries, get_or, IsDistinct, IsDistinct-from_sorted, IsDistinct-IsPermutation, IsEntry, IsNonDecreasing, IsPacked, IsPermutation, IsPermutation-map, IsPermutation-sym, is_eq, is_lt, IsSorted, length, length-map, Less, List, lookup, map, nat_cmp, None, Option, qualifier, rank, refl, same_map, Some, sorted_from_all_adjacent, subst, sym, Tag, tag_again, tag_cmp, tags, tags_total, ℕ, ◌%◌, ◌+◌, ◌/◌, ◌<◌, ◌∙◌, ◌∷◌, ◌≡◌, ◌≤◌}
-use Rattle.std.specs.Prelude.{nat_lt}
-use Rattle.std.specs.FinMap.{find}
+use Rattle.acl_posix.proofs.Common.{[], All, All-map, ap, apart_from_distinct, arith, as_set, cond, Contains-permutation, eq_by_cmp, eq_by_cmp_equiv, false, find, get-from_entries, get_or, is_eq, is_lt, IsDistinct, IsDistinct-from_sorted, IsDistinct-IsPermutation, IsEntry, IsNonDecreasing, IsPacked, IsPermutation, IsPermutation-map, IsPermutation-sym, IsSorted, length, length-map, Less, List, lookup, map, map-map, map_fixed, nat_cmp, nat_lt, None, Option, packed, qualifier, rank, refl, same_map, Some, sorted_from_all_adjacent, subst, sym, Tag, tag_again, tag_cmp, tags, tags_total, unpacked, ℕ, ◌%◌, ◌+◌, ◌/◌, ◌<◌, ◌∙◌, ◌∷◌, ◌≡◌, ◌≤◌}
 use Rattle.std.proofs.Math.ListN.{get_or-map}
-use Rattle.std.proofs.lemmas.Simd.{map-map}
-use Rattle.std.proofs.lemmas.List.Elements.{All-map}
-use Rattle.std.proofs.lemmas.List.Folds.{map_fixed}
 use Rattle.std.proofs.lemmas.Map.Views.{Contains-from_lookup, lookup-from_Contains}
-use Rattle.acl_posix.specs.internal.Packed.{packed, unpacked}
-use Rattle.acl_posix.proofs.tag.TagNumbers.{number, number_cmp, qualifier_below}
-use Rattle.acl_posix.proofs.tag.Tags.{exact_tags, same_tag}
-use Rattle.acl_posix.proofs.sorting.Repeats.{apart_distinct, AreApart, distinct_apart}
+use Rattle.acl_posix.proofs.tag.Tags.{exact_tags, number, number_cmp, qualifier_below, same_tag}
+use Rattle.acl_posix.proofs.sorting.ValidLists.{apart_distinct, AreApart, distinct_apart}
 
 -- ---- an entry as a number
 
+-- the number of an entry, without the permissions, is the number of its tag
 packed_tag : (e : Tag × ℕ) → IsEntry e → packed e / 8 ≡ number e.0
 unfolding packed
 packed_tag e h = omega (arith, h.1)
@@ -42,6 +36,7 @@ all_unpacked ps h =
 
 -- ---- numbers rise as tags do
 
+-- a number that stands for an entry, without the permissions, is the number of the tag of the entry
 number_of : (key : ℕ) → IsPacked key → key / 8 ≡ number (unpacked key).0
 number_of key h = ap (λ n. n / 8) (sym h.again) ∙ packed_tag (unpacked key) h.entry
 
@@ -51,6 +46,7 @@ key_cmp a b of_a of_b =
     ap (λ n. nat_cmp n (b / 8)) (number_of a of_a) ∙ ap (nat_cmp (number (unpacked a).0)) (number_of b of_b)
     ∙ number_cmp (unpacked a).0 (unpacked b).0 of_a.entry.0 of_b.entry.0
 
+-- a number is less than another if and only if it compares as less
 is_lt-nat_cmp : (x y : ℕ) → nat_lt x y ≡ is_lt (nat_cmp x y)
 is_lt-nat_cmp x y = grind arith
 
@@ -63,6 +59,7 @@ keys_less keys all k d lt =
 
 -- ---- the same entries in another order
 
+-- searching for a tag in a list of entries is a look-up by the equality of tags
 find_again : (q : Tag) (es : List (Tag × ℕ)) → find tag_cmp q es ≡ lookup (eq_by_cmp tag_cmp q) es
 find_again q [] = refl
 find_again q (e ∷ es) = ap (cond (eq_by_cmp tag_cmp q e.0) (Some e.1)) (find_again q es)
@@ -74,16 +71,19 @@ moved ps qs q v h apart is =
     lookup-from_Contains (eq_by_cmp_equiv tags_total) q v qs apart
     (Contains-permutation ps qs (q, v) h (Contains-from_lookup same_tag q v ps is))
 
+-- two options are equal if each value of one is the value of the other
 same_options : {X : Type 0} (a b : Option X) → ((v : X) → a ≡ Some v → b ≡ Some v) → ((v : X) → b ≡ Some v → a ≡ Some v)
     → a ≡ b
 same_options (Some x) b to back = sym (to x refl)
 same_options None None to back = refl
 same_options None (Some x) to back = back x refl
 
+-- if any two tags of a list differ, any two tags of a list with the same entries differ
 tags_moved : (ps qs : List (Tag × ℕ)) → IsPermutation ps qs → AreApart ps → AreApart qs
 tags_moved ps qs h = IsDistinct-IsPermutation (eq_by_cmp tag_cmp) (eq_by_cmp_equiv tags_total).symm (tags ps) (tags qs)
     (IsPermutation-map (λ (e : Tag × ℕ). e.0) ps qs h)
 
+-- if a list has the entries of one in canonical order, any two of its tags differ
 sorted_apart : (ps qs : List (Tag × ℕ)) → IsPermutation ps qs → IsSorted qs → AreApart ps
 sorted_apart ps qs h sorted =
     tags_moved qs ps (IsPermutation-sym ps qs h) (IsDistinct-from_sorted tag_cmp (tags qs) sorted)
@@ -100,6 +100,7 @@ same_set ps qs h sorted = same_map tags_total exact_tags _ _ (λ q.
 pub moved_distinct : (ps qs : List (Tag × ℕ)) → IsPermutation ps qs → IsSorted qs → IsDistinct ps
 moved_distinct ps qs h sorted = apart_distinct ps (sorted_apart ps qs h sorted)
 
+-- a number that is at most another, and does not compare as equal to it, compares as less
 not_greater : (x y : ℕ) → x ≤ y → is_eq (nat_cmp x y) ≡ false → nat_cmp x y ≡ Less
 not_greater x y le differ = grind arith
 

@@ -1,9 +1,7 @@
--- Reading pieces and lines one after the other.
-use Rattle.acl_posix.proofs.Common.{[], added, arith, Bor, cut_at, Err, FailsWith, IsCut, IsFirstLine, IsLineCut, length, lines_left, lines_of, List, Lists, None, numbered, NumberFits, Ok, Option, Part, PartEntry, Piece, pieces_from, read_piece, ReadsOn, refl, Result, Some, Span, span_of, suc, sym, Table, Tag, TextFault, TextPiece, ℕ, ◌++◌, ◌+◌, ◌<◌, ◌>>=◌, ◌^◌, ◌∷◌, ◌≡◌, ◌≤◌}
+-- Reading pieces and lines one after the other gives the entries that the pieces of a text spell, or the first fault.
+use Rattle.acl_posix.proofs.Common.{[], Access, access_of, added, ap, append-nil, append_assoc, arith, Bor, cut_at, Default, default_of, Err, FailsWith, inl, inr, IsCut, IsFirstLine, IsFirstTextFault, IsLineCut, length, line_pieces, lines_left, lines_of, List, Lists, None, numbered, NumberFits, Ok, Option, Part, PartEntry, Piece, pieces_from, read_piece, read_pieces, ReadsOn, refl, Result, Some, Span, span_of, SpellAll, suc, sym, Table, Tag, TextFault, TextPiece, ℕ, ◌++◌, ◌+◌, ◌<◌, ◌>>=◌, ◌^◌, ◌∙◌, ◌∷◌, ◌≡◌, ◌≤◌, ◌⊎◌}
+use Rattle.acl_posix.proofs.reader.Judged.{fault_read, piece_judged, spelled_read}
 use Rattle.acl_posix.specs.declared.text_fault.TextFault.TheVariants as faults
-use Rattle.acl_posix.specs.Grammar.{line_pieces}
-use Rattle.acl_posix.specs.internal.Reading.{read_pieces}
-use Rattle.acl_posix.proofs.reader.Judged.{spelled_read}
 
 -- the pieces that are still to be cut
 abbrev pub pieces_left : Option Piece → List Span
@@ -53,7 +51,7 @@ pub left_step : (table : Table) (n : ℕ) (so_far : Lists) (r : Option Piece) (p
 unfolding read_pieces
 left_step table n so_far r p cut read some parted is = rw (some, pieces_next (span_of p) cut parted, is) refl
 
--- some pieces are read, and then others
+-- reading pieces and then others is reading all of them
 pub read_append : (table : Table) (so_far : Lists) (ps qs : List TextPiece)
     → read_pieces table so_far (ps ++ qs) ≡ (read_pieces table so_far ps >>= (λ next. read_pieces table next qs))
 unfolding read_pieces
@@ -68,7 +66,7 @@ read_append table so_far (p ∷ ps) qs =
 
 -- ---- lines of a text
 
--- a first line that is cut off and read
+-- after the first line is cut off and read, reading the rest gives what reading the text gives
 pub reads_on : (table : Table) (n : ℕ) (text : List ℕ) (so_far next : Lists)
     (cut : Bor (List ℕ) × Option (Bor (List ℕ))) → IsLineCut text cut
     → read_pieces table so_far (numbered n (line_pieces cut.0.now)) ≡ Ok next
@@ -80,7 +78,7 @@ reads_on table n text so_far next (first, Some rest) is read =
     let more = pieces_from (n + 1) (lines_of rest.now) in
     (rw (is.0, read_append table so_far (numbered n (line_pieces first.now)) more, read) refl, is.1)
 
--- a line that is read in one step
+-- after a first line that is read in one step, reading the rest gives what reading the text gives
 pub reads_first : (table : Table) (n : ℕ) (text : List ℕ) (so_far : Lists) (part : Part) (entry : Tag × ℕ)
     (rest : Bor (List ℕ)) → IsFirstLine text part entry rest.now
     → ReadsOn table n text so_far (added so_far (part, entry)) (Some rest)
@@ -90,13 +88,13 @@ reads_first table n text so_far part entry rest h =
     (rw (h.lines, h.one, spelled) refl, h.shorter)
 
 -- reading the rest of a text after its first line gives what reading the text gives
-pub on_told : (table : Table) (n : ℕ) (text : List ℕ) (so_far next : Lists) (rest : Option (Bor (List ℕ)))
+pub on_read : (table : Table) (n : ℕ) (text : List ℕ) (so_far next : Lists) (rest : Option (Bor (List ℕ)))
     → ReadsOn table n text so_far next rest
     → read_pieces table next (pieces_from (n + 1) (lines_left rest))
     ≡ read_pieces table so_far (pieces_from n (lines_of text))
 unfolding read_pieces
-on_told table n text so_far next None h = sym h
-on_told table n text so_far next (Some rest) h = sym h.0
+on_read table n text so_far next None h = sym h
+on_read table n text so_far next (Some rest) h = sym h.0
 
 -- the number of the next line fits in 64 bits
 pub on_fits : (table : Table) (n : ℕ) (whole text : List ℕ) (so_far next : Lists) (rest : Option (Bor (List ℕ)))
@@ -111,3 +109,69 @@ pub line_fault : (table : Table) (n : ℕ) (so_far : Lists) (lines : List (List 
 line_fault table n so_far lines l ls faults.Memory is h = tt
 line_fault table n so_far lines l ls f is h =
     rw (is, read_append table so_far (numbered n (line_pieces l)) (pieces_from (n + 1) ls), h) refl
+
+-- ---- the pieces of a text
+
+-- the lists read so far, with some more entries at their ends
+abbrev pub joined : Lists → List PartEntry → Lists
+joined lists entries =
+    record { access = lists.access ++ access_of entries; default = lists.default ++ default_of entries }
+
+-- lists with no more entries at their ends are the same lists
+joined_none : (lists : Lists) → lists ≡ joined lists []
+joined_none lists = rw (append-nil lists.access, append-nil lists.default) refl
+
+-- adding one entry at the ends and then the others is adding all of them
+joined_next : (lists : Lists) (entry : PartEntry) (entries : List PartEntry)
+    → joined (added lists entry) entries ≡ joined lists (entry ∷ entries)
+joined_next lists (Access, e) entries = rw (append_assoc lists.access (e ∷ []) (access_of entries)) refl
+joined_next lists (Default, e) entries = rw (append_assoc lists.default (e ∷ []) (default_of entries)) refl
+
+-- pieces spell entries, or a first piece does not
+pub judged : (names : Table) (pieces : List TextPiece)
+    → ((entries : List PartEntry) × SpellAll names pieces entries)
+    ⊎ ((fault : TextFault) × IsFirstTextFault names pieces fault)
+judged names [] = inl ([], tt)
+judged names (piece ∷ pieces) = elim (piece_judged names piece) [
+  | inl spelled ↦ elim (judged names pieces) [
+    | inl all ↦ inl (spelled.0 ∷ all.0, (spelled.1, all.1))
+    | inr first ↦ inr (
+      first.0,
+      record {
+        before = piece ∷ first.1.before;
+        piece = first.1.piece;
+        after = first.1.after;
+        order = ap (λ (ps : List TextPiece). piece ∷ ps) first.1.order;
+        entries = spelled.0 ∷ first.1.entries;
+        spelled = (spelled.1, first.1.spelled);
+        wrong = first.1.wrong;
+      },
+    )
+  ]
+  | inr wrong ↦ inr (
+    wrong.0,
+    record { before = []; piece = piece; after = pieces; order = refl; entries = []; spelled = tt; wrong = wrong.1 },
+  )
+]
+
+-- the entries that pieces spell are read
+pub all_read : (names : Table) (lists : Lists) (pieces : List TextPiece) (entries : List PartEntry)
+    → SpellAll names pieces entries → read_pieces names lists pieces ≡ Ok (joined lists entries)
+unfolding read_pieces
+all_read names lists [] [] h = ap (λ (x : Lists). Ok x) (joined_none lists)
+all_read names lists (piece ∷ pieces) (entry ∷ entries) h =
+    rw (spelled_read names piece.line piece.span entry h.0)
+    (all_read names (added lists entry) pieces entries h.1 ∙ ap (λ (x : Lists). Ok x) (joined_next lists entry entries))
+all_read names lists pieces entries h = absurd h
+
+-- the first fault of pieces is reported
+pub first_read : (names : Table) (lists : Lists) (pieces : List TextPiece) (fault : TextFault)
+    → IsFirstTextFault names pieces fault → read_pieces names lists pieces ≡ Err fault
+unfolding read_pieces
+first_read names lists pieces fault h =
+    rw (
+      h.order,
+      read_append names lists h.before (h.piece ∷ h.after),
+      all_read names lists h.before h.entries h.spelled,
+      fault_read names h.piece fault h.wrong,
+    ) refl

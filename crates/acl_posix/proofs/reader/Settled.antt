@@ -1,13 +1,15 @@
 -- A text spells one file or has one fault, and not both.
-use Rattle.acl_posix.proofs.Common.{[], Access, access_of, acl_fault, ap, arith, as_set, Default, default_of, Entries, Err, FailsWith, IfErr, IfOk, inl, inr, is_refusal, IsAclOf, IsDefaultOf, IsFaultOf, IsFirstInvalid, IsFirstTextFault, IsInvalidText, IsPartFault, IsTextFault, IsTextFaultOrMemory, IsValidList, length, List, Lists, MatchResult, no_lists, None, Ok, Option, Part, PartEntry, pieces_of, PosixFile, read_pieces, Reads, refl, Result, rules, Some, SpellAll, subst, sym, Table, Tag, TextFault, TextPiece, true, ℕ, ◌<◌, ◌∙◌, ◌∷◌, ◌≡◌, ◌⊎◌}
+use Rattle.acl_posix.proofs.Common.{[], Access, access_of, acl_fault, ap, arith, as_set, Default, default_of, Entries, Err, FailsWith, IfErr, IfOk, inl, inr, is_refusal, IsAclOf, IsDefaultOf, IsFaultOf, IsFile, IsFirstInvalid, IsFirstTextFault, IsInvalidText, IsPartFault, IsTextFault, IsTextFaultOrMemory, IsValidList, length, List, Lists, MatchResult, no_lists, None, Ok, Option, Part, PartEntry, pieces_of, PosixFile, read_pieces, Reads, refl, Result, rules, Some, SpellAll, subst, sym, Table, Tag, TextFault, TextPiece, true, ℕ, ◌<◌, ◌↔◌, ◌∙◌, ◌∷◌, ◌≡◌, ◌⊎◌}
+use Rattle.acl_posix.proofs.reader.Lines.{all_read, first_read, joined, judged}
+use Rattle.acl_posix.proofs.sorting.ValidLists.{no_fault, one_fault}
+use Rattle.acl_posix.specs.Names.{empty_table}
 use Rattle.acl_posix.specs.declared.text_fault.Cause.{Cause}
 use Rattle.acl_posix.specs.declared.text_fault.Cause.TheVariants as cause
 use Rattle.acl_posix.specs.declared.text_fault.TextFault.TheVariants as faults
-use Rattle.acl_posix.proofs.sorting.Faults.{one_fault, no_fault}
-use Rattle.acl_posix.proofs.reader.Spelled.{all_read, first_read, joined, judged}
 
 -- ---- pieces spell one file
 
+-- two lists of entries that the same pieces spell have the same entries in each part
 same_lists : (names : Table) (pieces : List TextPiece) (es fs : List PartEntry) → SpellAll names pieces es
     → SpellAll names pieces fs → joined no_lists es ≡ joined no_lists fs
 same_lists names pieces es fs h k =
@@ -19,6 +21,7 @@ spelled_no_fault : (names : Table) (pieces : List TextPiece) (es : List PartEntr
 spelled_no_fault names pieces es fault h k =
     let wrong = sym (all_read names no_lists pieces es h) ∙ first_read names no_lists pieces fault k in absurd cc
 
+-- two default ACLs of the same entries are equal
 default_one : (entries : List (Tag × ℕ)) (a b : Option Entries) → IsDefaultOf entries a → IsDefaultOf entries b → a ≡ b
 default_one [] None None h k = refl
 default_one (e ∷ es) (Some a) (Some b) h k = ap (λ (x : Entries). Some x) (h.set ∙ sym k.set)
@@ -52,6 +55,7 @@ valid_cause es why h k = no_fault es (acl_fault why) h (refuses why) k
 
 -- ---- a text has one fault
 
+-- the entries of two parts have one first invalid part with one cause
 one_invalid : (access default : List (Tag × ℕ)) (p q : Part) (a b : Cause) → IsFirstInvalid access default p a
     → IsFirstInvalid access default q b → faults.Invalid p a ≡ faults.Invalid q b
 one_invalid access default Access Access a b h k = ap (faults.Invalid Access) (one_cause access a b h k)
@@ -59,7 +63,7 @@ one_invalid access default Access Default a b h k = absurd (valid_cause access a
 one_invalid access default Default Access a b h k = absurd (valid_cause access b h.0 k)
 one_invalid access default Default Default a b h k = ap (faults.Invalid Default) (one_cause default a b h.2 k.2)
 
--- the entries of a text that are invalid, as other entries that the text spells
+-- if a part of a text is invalid, it is invalid for the same cause in any entries that the text spells
 invalid_in : (text : List ℕ) (names : Table) (es : List PartEntry) (which : Part) (why : Cause)
     → SpellAll names (pieces_of text) es → IsInvalidText text names which why
     → IsFirstInvalid (access_of es) (default_of es) which why
@@ -83,12 +87,14 @@ one_text_fault text names f g h k =
     let same = sym (first_read names no_lists (pieces_of text) f h) ∙ first_read names no_lists (pieces_of text) g k in
     cc
 
+-- the entries of a default ACL have no cause to be invalid
 default_valid : (entries : List (Tag × ℕ)) (d : Option Entries) (why : Cause) → IsDefaultOf entries d
     → 0 < length entries → IsFaultOf entries (acl_fault why) → ⊥
 default_valid [] d why h some wrong = omega (arith, some)
 default_valid (e ∷ es) None why h some wrong = h
 default_valid (e ∷ es) (Some acl) why h some wrong = valid_cause (e ∷ es) why h.valid wrong
 
+-- if the entries of both parts make the ACLs of a file, no part is invalid
 valid_parts : (access default : List (Tag × ℕ)) (F : PosixFile) (which : Part) (why : Cause) → IsAclOf access F.access
     → IsDefaultOf default F.default → IsFirstInvalid access default which why → ⊥
 valid_parts access default F Access why h k wrong = valid_cause access why h.valid wrong
@@ -111,6 +117,7 @@ record SpellLists (text : List ℕ) (names : Table) (lists : Lists) : Type 0 whe
   spelled : SpellAll names (pieces_of text) entries
   lists_are : lists ≡ joined no_lists entries
 
+-- lists that are read from a text are the entries that its pieces spell
 spelled_lists : (text : List ℕ) (names : Table) (lists : Lists) → read_pieces names no_lists (pieces_of text) ≡ Ok lists
     → SpellLists text names lists
 spelled_lists text names lists e = elim (judged names (pieces_of text)) [
@@ -134,6 +141,7 @@ file_found text names lists F e access default =
       default = subst (λ (x : Lists). IsDefaultOf x.default F.default) spelled.lists_are default;
     }
 
+-- a fault that is read from a text is that of its first piece that spells no entry
 piece_refused : (text : List ℕ) (names : Table) (fault : TextFault)
     → read_pieces names no_lists (pieces_of text) ≡ Err fault → IsFirstTextFault names (pieces_of text) fault
 piece_refused text names fault e = elim (judged names (pieces_of text)) [
@@ -188,3 +196,24 @@ only_fault text names (Err f) found refused wrong h = elim refused [
   | inl memory ↦ inr memory
   | inr is ↦ inl (one_text_fault text names f wrong is h)
 ]
+
+-- ---- texts that read back
+
+-- a text that reads back reads back as one file
+pub back : (text : List ℕ) (names : Table) (F other : PosixFile) → Reads text names F
+    → Reads text names other ↔ (other ≡ F)
+back text names F other h =
+    (λ k. one_file text names other F k h, λ e. subst (λ (G : PosixFile). Reads text names G) (sym e) h)
+
+-- if texts read back, two files have the same text if and only if they have the same ACLs
+pub apart : (text : Entries → Option Entries → List ℕ)
+    → ((names : Table) (F : PosixFile) → IsFile F → Reads (text F.access F.default) names F) → (F G : PosixFile)
+    → IsFile F → IsFile G
+    → (text F.access F.default ≡ text G.access G.default) ↔ (F.access ≡ G.access) × (F.default ≡ G.default)
+apart text reads F G hF hG = (
+  λ same.
+      let both : F ≡ G = one_file (text G.access G.default) empty_table F G
+      (subst (λ (t : List ℕ). Reads t empty_table F) same (reads empty_table F hF)) (reads empty_table G hG) in
+      (ap (λ (H : PosixFile). H.access) both, ap (λ (H : PosixFile). H.default) both),
+  λ same. ap (λ (x : Entries). text x F.default) same.0 ∙ ap (λ (x : Option Entries). text G.access x) same.1,
+)

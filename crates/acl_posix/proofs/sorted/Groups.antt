@@ -1,15 +1,13 @@
 -- Some matching entry contains the request if and only if some group of the requester has such an entry.
-use Rattle.acl_posix.proofs.Common.{[], and_true, and_true_right, any_contains, any_matches, ap, Bool, contains, Entries, entry_contains, eq-eqb, eq_by_cmp, group, group_contains, group_obj, inl, inr, is_contained, list_any, list_any_at, List, or_true_right, refl, same_answers, Some, sym, Tag, tag_cmp, tag_matches, true, ℕ, ◌&&◌, ◌==◌, ◌||◌, ◌∙◌, ◌∷◌, ◌≡◌, eqb-true}
+use Rattle.acl_posix.proofs.Common.{[], and_true, and_true_right, Any-from_list_any, any_contains, any_matches, ap, Bool, cond_both, contains, Entries, entry_contains, eq-eqb, eq_by_cmp, eqb-true, group, group_contains, group_obj, inl, inr, is_contained, List, list_any, list_any_at, or_true, or_true_right, refl, same_answers, Some, sym, Tag, tag_cmp, tag_matches, true, ℕ, ◌&&◌, ◌==◌, ◌||◌, ◌∙◌, ◌∷◌, ◌≡◌}
 use Rattle.std.specs.Int.Bits.{and_zero_r}
 use Rattle.std.specs.FinMap as fin
-use Rattle.std.proofs.lemmas.Bool.{cond_both}
-use Rattle.std.proofs.lemmas.List.Folds.{Any-from_list_any}
-use Rattle.acl_perm.proofs.Bools.{or_true}
 use Rattle.acl_posix.proofs.tag.Tags.{same_tag}
-use Rattle.acl_posix.proofs.sorted.Lookups.{find_at}
+use Rattle.acl_posix.proofs.sorted.Lists.{find_at}
 
 -- ---- from an entry to a group
 
+-- if the entry of a matching tag contains the request, some group has such an entry
 to_group : (E : Entries) (og request : ℕ) (gs : List ℕ) (l : Tag) → tag_matches og gs l ≡ true
     → entry_contains E l request ≡ true → list_any (group_contains E og request) gs ≡ true
 to_group E og request gs group_obj is held =
@@ -22,6 +20,7 @@ to_group E og request gs (group id) is held =
     (ap (group_contains E og request) (one.3 ∙ eqb-true one.1 id one.4) ∙ rw held (or_true_right _))
 to_group E og request gs tag is held = absurd cc
 
+-- if some matching entry contains the request, some group has such an entry
 there : (E : Entries) (og request : ℕ) (gs : List ℕ) → any_contains E og gs request ≡ true
     → list_any (group_contains E og request) gs ≡ true
 there E og request gs some =
@@ -31,6 +30,7 @@ there E og request gs some =
 
 -- ---- from a group to an entry
 
+-- if the permissions found for a tag that passes contain the request, some entry passes and contains it
 found_passes : (ps : List (Tag × ℕ)) (l : Tag) (request : ℕ) (m : Tag → Bool) → m l ≡ true
     → is_contained (fin.find tag_cmp l ps) request ≡ true
     → list_any (λ (p : Tag × ℕ). m p.0 && contains p.1 request) ps ≡ true
@@ -42,12 +42,14 @@ found_passes (p ∷ ps) l request m is h =
     (λ same held. rw (ap m (sym (same_tag l p.0 same)) ∙ is, held) refl)
     (λ differ held. rw (found_passes ps l request m is held) (or_true_right _)) h
 
+-- if a matching tag has an entry that contains the request, some matching entry contains it
 passes : (E : Entries) (og request : ℕ) (gs : List ℕ) (l : Tag) → tag_matches og gs l ≡ true
     → entry_contains E l request ≡ true → any_contains E og gs request ≡ true
 passes E og request gs l is h =
     found_passes (fin.entries E) l request (tag_matches og gs) is
     (ap (λ o. is_contained o request) (sym (fin.get-entries E l)) ∙ h)
 
+-- if some group has an entry that contains the request, some matching entry contains it
 back : (E : Entries) (og request : ℕ) (gs : List ℕ) → list_any (group_contains E og request) gs ≡ true
     → any_contains E og gs request ≡ true
 back E og request gs some =

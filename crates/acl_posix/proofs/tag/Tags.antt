@@ -1,6 +1,5 @@
--- Tags that compare as equal are equal, and what a list of entries has at a tag.
-use Rattle.acl_posix.proofs.Common.{[], ap, arith, Bool, Entry, eq_by_cmp, false, get_or, is_some, IsAntisymmetric, length, length-map, List, list_any, map, nat_cmp, None, Option, pair_of, pairs, qualifier, rank, refl, Some, suc, sym, Tag, tag_again, tag_cmp, tag_from, tag_of, tags, true, zero, ℕ, ◌<◌, ◌||◌, ◌∙◌, ◌∷◌, ◌≡◌}
-use Rattle.std.specs.Prelude.{insert}
+-- Tags that compare as equal are equal, what a list of entries has at a tag, and tags as numbers.
+use Rattle.acl_posix.proofs.Common.{[], ap, arith, Bool, Entry, eq_by_cmp, false, get_or, group, insert, is_some, IsAntisymmetric, IsTag, length, length-map, Less, List, list_any, map, nat_cmp, None, Option, ordering_then, pair_of, pairs, qualifier, rank, refl, Some, suc, sym, Tag, tag_again, tag_cmp, tag_from, tag_of, tags, true, user, user_obj, zero, ℕ, ◌*◌, ◌+◌, ◌<◌, ◌||◌, ◌∙◌, ◌∷◌, ◌≡◌}
 use Rattle.std.proofs.lemmas.Map.Lookups.{exact_pairs, exact_unsigned}
 use Rattle.acl_perm.specs.internal.FedAlike.{is_equal}
 
@@ -48,3 +47,38 @@ pub list_any-map : {X Y : Type 0} (p : Y → Bool) (f : X → Y) (xs : List X)
     → list_any p (map f xs) ≡ list_any (λ x. p (f x)) xs
 list_any-map p f [] = refl
 list_any-map p f (x ∷ xs) = ap (λ b. p (f x) || b) (list_any-map p f xs)
+
+-- ---- tags as numbers
+
+-- a qualifier is below 2^32
+pub qualifier_below : (tag : Tag) → IsTag tag → qualifier tag < 4294967296
+qualifier_below (user id) h = omega (arith, h)
+qualifier_below (group id) h = omega (arith, h)
+qualifier_below tag h = omega arith
+
+-- there are six ranks
+pub rank_below : (tag : Tag) → rank tag < 6
+rank_below user_obj = omega arith
+rank_below tag = omega arith
+
+-- a tag as one number
+abbrev pub number : Tag → ℕ
+number tag = rank tag * 4294967296 + qualifier tag
+
+-- numbers of two parts, of which the second is below 2^32, compare by the first part, then by the second
+by_parts : (a b x y : ℕ) → x < 4294967296 → y < 4294967296
+    → nat_cmp (a * 4294967296 + x) (b * 4294967296 + y) ≡ ordering_then (nat_cmp a b) (nat_cmp x y)
+by_parts a b x y p q = grind arith
+
+-- two numbers compare as their tags do
+pub number_cmp : (s t : Tag) → IsTag s → IsTag t → nat_cmp (number s) (number t) ≡ tag_cmp s t
+number_cmp s t of_s of_t =
+    by_parts (rank s) (rank t) (qualifier s) (qualifier t) (qualifier_below s of_s) (qualifier_below t of_t)
+
+-- a number that compares as less than another is less
+less_is : (x y : ℕ) → nat_cmp x y ≡ Less → x < y
+less_is x y h = grind arith
+
+-- a tag that is before another has the smaller number
+pub less_rises : (s t : Tag) → IsTag s → IsTag t → tag_cmp s t ≡ Less → number s < number t
+less_rises s t of_s of_t h = less_is (number s) (number t) (number_cmp s t of_s of_t ∙ h)

@@ -1,12 +1,8 @@
 -- A text of ACLs has fewer than 2^64 bytes: the tags of a sorted list rise, so there are at most 6 * 2^32 entries.
-use Rattle.acl_posix.proofs.Common.{[], All, AllByRecursion, arith, Bool, decimal, effective_of, ending, Entries, entry_lead, entry_text, false, Form, form_word, IfSome, IsEntry, IsId, IsTag, length, length-append, length-decimal-le, length-take, Less, List, long_word, None, Option, option_map, Part, part_out, perm_text, qualifier_text, recursion_from_All, Some, Tag, tag_cmp, tag_row, tags, TagWord, unwrap_or, word_text, ℕ, ◌*◌, ◌++◌, ◌+◌, ◌<◌, ◌^◌, ◌∷◌, ◌≡◌, ◌≤◌}
-use Rattle.std.specs.List.Sorted.{IsStrictlySortedBy}
+use Rattle.acl_posix.proofs.Common.{[], All, AllByRecursion, arith, Bool, decimal, effective_of, ending, Entries, entry_lead, entry_out, entry_text, false, Form, form_word, IfSome, IsEntry, IsId, IsStrictlySortedBy, IsTag, length, length-append, length-decimal-le, length-take, Less, List, long_word, None, Option, option_map, Part, part_out, perm_text, qualifier_text, recursion_from_All, Short, Some, Tag, tag_cmp, tag_row, tags, TagWord, unwrap_or, word_text, ℕ, ◌*◌, ◌++◌, ◌+◌, ◌<◌, ◌^◌, ◌∷◌, ◌≡◌, ◌≤◌}
 use Rattle.std.specs.FinMap as fin
-use Rattle.acl_posix.specs.declared.form.Form.TheVariants as forms
-use Rattle.acl_posix.specs.internal.Writing.{entry_out}
-use Rattle.acl_posix.proofs.tag.TagNumbers.{less_rises, number, qualifier_below, rank_below}
-use Rattle.acl_posix.proofs.tag.Tags.{length-tags_of}
-use Rattle.acl_posix.proofs.sorted.Lookups.{entries_sorted}
+use Rattle.acl_posix.proofs.tag.Tags.{length-tags_of, less_rises, number, qualifier_below, rank_below}
+use Rattle.acl_posix.proofs.sorted.Lists.{entries_sorted}
 
 -- ---- an entry
 
@@ -14,20 +10,25 @@ use Rattle.acl_posix.proofs.sorted.Lookups.{entries_sorted}
 lead_short : (form : Form) (part : Part) (first : Bool) → length (entry_lead form part first) ≤ 8
 lead_short form part first = grind arith
 
+-- a tag word in full has at most five bytes
 text_short : (word : TagWord) → length (word_text word) ≤ 5
 text_short word = grind arith
 
+-- the word of a tag has at most five bytes in each form
 word_short : (form : Form) (t : Tag) → length (form_word form t) ≤ 5
-word_short forms.Short t = let long = length-take 1 (long_word t) in omega (arith, long, text_short (tag_row t).word)
+word_short Short t = let long = length-take 1 (long_word t) in omega (arith, long, text_short (tag_row t).word)
 word_short form t = text_short (tag_row t).word
 
+-- an id in decimal, or nothing, has at most 20 bytes
 digits_short : (number : Option ℕ) → IfSome number IsId → length (unwrap_or (option_map decimal number) []) ≤ 20
 digits_short None h = omega arith
 digits_short (Some id) h = length-decimal-le 20 id (omega arith) (omega (arith, h)) (omega (arith, h))
 
+-- the bytes behind an entry are at most 16
 ending_short : (form : Form) (eff perm : ℕ) → length (ending form eff perm) ≤ 16
 ending_short form eff perm = grind arith
 
+-- what is written for an entry has at most 64 bytes
 out_short : (form : Form) (part : Part) (first : Bool) (eff : ℕ) (e : Tag × ℕ) → IsEntry e
     → length (entry_out form part first eff e) ≤ 64
 unfolding entry_out
@@ -41,6 +42,7 @@ out_short form part first eff e h =
     let few = digits_short (tag_row e.0).qualifier h.0 in
     omega (arith, a, b, c, d, lead_short form part first, word_short form e.0, few, ending_short form eff e.1)
 
+-- what is written for the entries of a part has at most 64 bytes per entry
 part_short : (form : Form) (part : Part) (acl : Entries) (first : Bool) (es : List (Tag × ℕ))
     → AllByRecursion IsEntry es → length (part_out form part acl first es) ≤ 64 * length es
 part_short form part acl first [] h = omega arith
@@ -54,27 +56,28 @@ part_short form part acl first (e ∷ es) h =
 abbrev the_limit : ℕ
 the_limit = 25769803776
 
-place_under : (t : Tag) → IsTag t → number t < the_limit
-place_under t h = omega (arith, rank_below t, qualifier_below t h)
-
-above : (a : Tag) (ts : List Tag) → IsTag a → AllByRecursion (λ t. tag_cmp a t ≡ Less) ts
+-- tags after a tag have greater numbers than it
+above : (a : Tag) (ts : List Tag) → IsTag a → AllByRecursion IsTag ts → AllByRecursion (λ t. tag_cmp a t ≡ Less) ts
     → AllByRecursion (λ t. number a + 1 ≤ number t) ts
-above a [] ha h = tt
-above a (t ∷ ts) ha h = (omega (arith, less_rises a t ha h.0), above a ts ha h.1)
+above a [] ha hs h = tt
+above a (t ∷ ts) ha hs h = (omega (arith, less_rises a t ha hs.0 h.0), above a ts ha hs.1 h.1)
 
+-- there are at most as many rising tags as numbers from a lower bound of theirs to the limit
 count_from : (low : ℕ) (ts : List Tag) → low ≤ the_limit → AllByRecursion (λ t. low ≤ number t) ts
     → AllByRecursion IsTag ts → IsStrictlySortedBy tag_cmp ts → low + length ts ≤ the_limit
 unfolding IsStrictlySortedBy
 count_from low [] le h within sorted = omega (arith, le)
 count_from low (t ∷ ts) le h within sorted =
-    let rest = count_from (number t + 1) ts (omega (arith, place_under t within.0)) (above t ts within.0 sorted.0)
-    within.1 sorted.1 in
+    let room : number t + 1 ≤ the_limit = omega (arith, rank_below t, qualifier_below t within.0) in
+    let rest = count_from (number t + 1) ts room (above t ts within.0 within.1 sorted.0) within.1 sorted.1 in
     omega (arith, rest, h.0)
 
+-- the number of a tag is at least 0
 all_above_0 : (ts : List Tag) → AllByRecursion (λ t. 0 ≤ number t) ts
 all_above_0 [] = tt
 all_above_0 (t ∷ ts) = (omega arith, all_above_0 ts)
 
+-- the tags of entries within the limits are within the limits
 tags_within : (es : List (Tag × ℕ)) → AllByRecursion IsEntry es → AllByRecursion IsTag (tags es)
 tags_within [] h = tt
 tags_within (e ∷ es) h = (h.0.0, tags_within es h.1)

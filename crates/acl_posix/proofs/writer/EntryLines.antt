@@ -1,13 +1,7 @@
 -- Lines with one entry each spell these entries.
-use Rattle.acl_posix.proofs.Common.{[], All, All-push, AllByRecursion, ap, append-nil, append_assoc, arith, before_mark, Bool, eqb, false, flat_map, inl, inr, is_all_blank, IsEntry, length, line, lines_of, List, list_all, map, not, numbered, PartEntry, pieces_from, pieces_of, position_or_len, recursion_from_All, refl, slice_split_at, slice_split_none, Span, SpellAll, Spells, subst, sym, Table, take, true, ℕ, ◌++◌, ◌+◌, ◌==◌, ◌∙◌, ◌∷◌, ◌≡◌, ◌⊎◌}
-use Rattle.std.proofs.Math.Seq.{take-append_seam}
-use Rattle.std.proofs.lemmas.List.Elements.{All-append}
-use Rattle.acl_perm.specs.Lines.{cut_at}
-use Rattle.acl_posix.specs.Grammar.{line_pieces}
-use Rattle.acl_posix.proofs.writer.Again.{absent}
-use Rattle.acl_posix.proofs.writer.TextBytes.{is_text, Text}
+use Rattle.acl_posix.proofs.Common.{[], All, All-append, All-push, AllByRecursion, ap, append-nil, append_assoc, arith, before_mark, Bool, cut_at, eqb, false, flat_map, inl, inr, is_all_blank, IsEntry, length, line, line_pieces, lines_of, List, list_all, map, not, numbered, PartEntry, pieces_from, pieces_of, position_or_len, recursion_from_All, refl, slice_split_at, slice_split_none, Span, SpellAll, Spells, subst, sym, Table, take, take-append_seam, true, ℕ, ◌++◌, ◌+◌, ◌==◌, ◌∙◌, ◌∷◌, ◌≡◌, ◌⊎◌}
+use Rattle.acl_posix.proofs.writer.WrittenEntries.{absent, is_text, IsWritten, Text}
 use Rattle.acl_posix.proofs.writer.TextFiles.{Within}
-use Rattle.acl_posix.proofs.writer.WrittenEntries.{IsWritten}
 
 -- ---- a line of one entry
 
@@ -17,11 +11,13 @@ record IsLineOf (names : Table) (bytes : List ℕ) (entry : PartEntry) : Type 0 
   one : line_pieces bytes ≡ record { column = 1; bytes = piece } ∷ []
   spells : Spells names (record { column = 1; bytes = piece }) entry
 
+-- the first comment mark, if there is one, is behind the bytes that are no mark
 marked_at : (xs rest : List ℕ) → AllByRecursion (λ b. eqb b 35 ≡ false) xs → position_or_len (λ b. eqb b 35) rest ≡ 0
     → position_or_len (λ b. eqb b 35) (xs ++ rest) ≡ length xs
 marked_at [] rest h e = e
 marked_at (x ∷ xs) rest h e = rw h.0 (omega (arith, marked_at xs rest h.1 e))
 
+-- bytes that are no comment mark, with nothing or a comment behind them, are what is before the comment
 uncommented : (xs rest : List ℕ) → All (λ b. eqb b 35 ≡ false) xs → position_or_len (λ b. eqb b 35) rest ≡ 0
     → before_mark 35 (xs ++ rest) ≡ xs
 uncommented xs rest h e =
@@ -54,6 +50,7 @@ pub record IsBehind (bytes : List ℕ) : Type 0 where
   pub no_feed : list_all not_feed bytes ≡ true
   pub form : (bytes ≡ []) ⊎ ((rest : List ℕ) × (bytes ≡ 9 ∷ 35 ∷ rest))
 
+-- an entry as it is written, with what may be behind it, is a line of that entry
 line_of : (names : Table) (text : PartEntry → List ℕ) (e : PartEntry) (behind : List ℕ) → IsWritten text → IsEntry e.1
     → IsBehind behind → IsLineOf names (text e ++ behind) e
 line_of names text e behind is h b = elim b.form [
@@ -82,6 +79,7 @@ line_of names text e behind is h b = elim b.form [
 
 -- ---- the lines of a text
 
+-- lines that are written one after the other are cut at their line feeds into these lines and an empty one
 lines_split : (f : PartEntry → List ℕ) (es : List PartEntry)
     → ((e : PartEntry) → IsEntry e.1 → All (λ b. eqb b 10 ≡ false) (f e)) → Within es
     → lines_of (flat_map (λ e. line (f e)) es) ≡ map f es ++ [] ∷ []
@@ -91,6 +89,7 @@ lines_split f (e ∷ es) no_feed h =
     ∙ slice_split_at (λ b. eqb b 10) (f e) 10 (flat_map (λ e. line (f e)) es) (no_feed e h.0) refl
     ∙ ap (λ (xs : List (List ℕ)). f e ∷ xs) (lines_split f es no_feed h.1)
 
+-- lines of one entry each spell these entries, whatever the number of the first line is
 lines_spell : (names : Table) (f : PartEntry → List ℕ) (n : ℕ) (es : List PartEntry)
     → ((e : PartEntry) → IsEntry e.1 → IsLineOf names (f e) e) → Within es
     → SpellAll names (pieces_from n (map f es ++ [] ∷ [])) es

@@ -1,27 +1,22 @@
 -- Lines that are read in one step: the first line of a text spells its entry.
-use Rattle.acl_posix.proofs.Common.{[], and_true, ap, append_assoc, arith, Bool, Bor, codes, Decides-eqb, digits_value, drop, drop_more, eqb, false, get_or, group, IfSome, is_all_blank, is_ascii_digit, is_named, is_number, IsEntryBefore, IsFirstLine, IsIdBefore, IsPermBefore, length, length-append, length-take-le, letter_of, lines_of, List, list_all, long_word, MatchOption, nat_le, nat_tests, None, Option, Part, perm_text, pointwise, qualifier, refl, slice_split_at, Some, Spells, sym, Table, Tag, take, take-append-drop, take_rest, true, user, ℕ, ◌++◌, ◌+◌, ◌-◌, ◌<◌, ◌∙◌, ◌∷◌, ◌≡◌, ◌≤◌}
-use Rattle.std.proofs.lemmas.Slice.Eq.{strip_prefix_is}
-use Rattle.acl_posix.specs.declared.text_fault.Part.TheVariants as parts
-use Rattle.acl_posix.specs.Fields.{id_of}
-use Rattle.acl_posix.proofs.writer.Again.{is_plain, Plain, long_is, long_mark, IsQualifierOf, fields_text, perm_alone, starts_filled, access_spelled, default_spelled}
-use Rattle.acl_posix.proofs.field.Digits.{digits_all, some_digit}
-use Rattle.acl_posix.proofs.writer.TextBytes.{Text, text_not, text_append, text_from_plain, fields_are_text, nowhere}
+use Rattle.acl_posix.proofs.Common.{[], Access, ap, append_assoc, arith, Bool, Bor, codes, Decides-eqb, Default, digits_value, drop, drop_more, eqb, false, get_or, group, id_of, IfSome, is_all_blank, is_ascii_digit, is_named, is_number, IsEntryBefore, IsFirstLine, IsIdBefore, IsPermBefore, length, length-append, length-take-le, letter_of, lines_of, List, list_all, long_word, MatchOption, nat_le, nat_tests, None, Option, Part, perm_text, pointwise, qualifier, refl, slice_split_at, Some, Spells, strip_prefix_is, sym, Table, Tag, take, take-append-drop, take_rest, true, user, ℕ, ◌++◌, ◌+◌, ◌-◌, ◌<◌, ◌∙◌, ◌∷◌, ◌≡◌, ◌≤◌}
+use Rattle.acl_posix.proofs.writer.WrittenEntries.{absent, access_spelled, all_also, default_spelled, fields_are_text, fields_text, is_plain, is_text, IsQualifierOf, long_is, long_mark, perm_alone, Plain, starts_filled, Text, text_append, text_from_plain}
+use Rattle.acl_posix.proofs.field.Digits.{digits_all, not_empty, some_digit}
 use Rattle.acl_posix.proofs.writer.EntryLines.{text_piece}
 
 -- ---- digits
 
+-- a digit is a plain byte
 digit_is_plain : (b : ℕ) → is_ascii_digit b ≡ true → is_plain b ≡ true
 digit_is_plain b h = grind (arith, nat_tests)
 
+-- digits are plain bytes
 digits_plain : (bs : List ℕ) → list_all is_ascii_digit bs ≡ true → Plain bs
-digits_plain [] h = refl
-digits_plain (b ∷ bs) h = let both = and_true _ _ h in rw (digit_is_plain b both.0) (digits_plain bs both.1)
+digits_plain bs h = all_also is_ascii_digit is_plain digit_is_plain bs h
 
--- some digits are a number
+-- one digit or more, and digits alone, are a number
 number_of : (bs : List ℕ) → 0 < length bs → list_all is_ascii_digit bs ≡ true → is_number bs ≡ true
-number_of [] some h = absurd (omega (arith, some))
-number_of (b ∷ bs) some h = let filled : eqb (length (b ∷ bs)) 0 ≡ false = grind (arith, nat_tests) in
-    rw filled h
+number_of bs some h = rw (not_empty bs some) h
 
 -- the digits before a colon are the id
 pub id_found : (bs rest : List ℕ) (i value : ℕ) → i < length bs → 0 < i → get_or bs i 0 ≡ 58
@@ -51,14 +46,13 @@ behind_is bs beginning (Some x) h = strip_prefix_is Decides-eqb bs beginning (So
 
 -- ---- permissions
 
+-- a list of four bytes or more is its first four bytes and the rest
 four_apart : (bs : List ℕ) → 4 ≤ length bs
     → bs ≡ get_or bs 0 0 ∷ get_or bs 1 0 ∷ get_or bs 2 0 ∷ get_or bs 3 0 ∷ drop 4 bs
-four_apart [] h = absurd (omega arith)
-four_apart (a ∷ []) h = absurd (omega arith)
-four_apart (a ∷ b ∷ []) h = absurd (omega arith)
-four_apart (a ∷ b ∷ c ∷ []) h = absurd (omega arith)
 four_apart (a ∷ b ∷ c ∷ d ∷ bs) h = refl
+four_apart bs h = absurd (omega arith)
 
+-- two lists are equal if their first four bytes and the rest are equal
 same_four : (a b c d e f g h : ℕ) (xs ys : List ℕ) → a ≡ e → b ≡ f → c ≡ g → d ≡ h → xs ≡ ys
     → a ∷ b ∷ c ∷ d ∷ xs ≡ e ∷ f ∷ g ∷ h ∷ ys
 same_four a b c d e f g h xs ys p q r s t = cc
@@ -76,7 +70,7 @@ perm_found bs r w x perm four read write execute feed is lt = record {
 
 -- ---- a line
 
--- the fields of a user or a group by id
+-- digits that spell the id of a USER or GROUP tag are a qualifier of that tag
 qualifies : (t : Tag) (q : List ℕ) → is_named t ≡ true → is_number q ≡ true → id_of q ≡ Some (qualifier t)
     → IsQualifierOf t q
 qualifies (user n) q named number id = record {
@@ -89,13 +83,14 @@ qualifies (group n) q named number id = record {
 }
 qualifies t q named number id = absurd cc
 
--- what a line of three written fields is, in plain words
+-- three written fields and a line feed are before the rest
 pub record IsLineBefore (bytes : List ℕ) (t : Tag) (perm : ℕ) (rest : List ℕ) : Type 0 where
   pub digits : List ℕ
   pub parts : bytes ≡ fields_text (long_word t) digits (perm_text perm) ++ 10 ∷ rest
   pub is : IsQualifierOf t digits
   pub within : perm < 8
 
+-- the line of an entry with an id is its three written fields, and the rest is behind the line feed
 line_before : (bytes : List ℕ) (entry : Tag × ℕ) (rest : List ℕ) → IsEntryBefore bytes entry rest
     → IsLineBefore bytes entry.0 entry.1 rest
 line_before bytes entry rest h = record {
@@ -118,35 +113,35 @@ first_line text bytes rest part entry is plain some spells =
     record {
       bytes = bytes;
       lines = ap lines_of is ∙ slice_split_at (λ b. eqb b 10) bytes 10 rest
-          (nowhere 10 bytes (λ b t. (text_not b t).0) plain) refl;
+          (absent is_text 10 bytes refl plain) refl;
       shorter = omega (arith, long, ap length is);
       one = text_piece bytes plain some;
       spells = spells;
     }
 
--- the line of an entry of the access part
+-- the line of an entry with an id is a first line of the access part
 pub access_first : (text : List ℕ) (entry : Tag × ℕ) (rest : List ℕ) → IsEntryBefore text entry rest
-    → IsFirstLine text parts.Access entry rest
+    → IsFirstLine text Access entry rest
 access_first text entry rest h =
     let l = line_before text entry rest h in
     let word = long_is entry.0 in
     let w = long_word entry.0 in
     let p = perm_text entry.1 in
-    first_line text (fields_text w l.digits p) rest parts.Access entry l.parts
+    first_line text (fields_text w l.digits p) rest Access entry l.parts
     (fields_are_text w l.digits entry.1 word.plain l.is.plain l.within)
     (starts_filled w (58 ∷ (l.digits ++ 58 ∷ p)) word.plain word.some_byte)
     (λ names. access_spelled names 1 w entry.0 l.digits entry.1 p l.is l.within word (perm_alone entry.1 l.within))
 
--- the line of an entry of the default part
+-- the line of an entry with an id behind `default:` is a first line of the default part
 pub default_first : (text bytes : List ℕ) (entry : Tag × ℕ) (rest : List ℕ) → text ≡ codes "default:" ++ bytes
-    → IsEntryBefore bytes entry rest → IsFirstLine text parts.Default entry rest
+    → IsEntryBefore bytes entry rest → IsFirstLine text Default entry rest
 default_first text bytes entry rest is h =
     let l = line_before bytes entry rest h in
     let word = long_is entry.0 in
     let w = long_word entry.0 in
     let p = perm_text entry.1 in
     let fields = fields_text w l.digits p in
-    first_line text (codes "default" ++ 58 ∷ fields) rest parts.Default entry
+    first_line text (codes "default" ++ 58 ∷ fields) rest Default entry
     (is ∙ ap (λ (xs : List ℕ). codes "default:" ++ xs) l.parts)
     (text_append (codes "default") (58 ∷ fields) (text_from_plain (codes "default") long_mark.plain)
     (fields_are_text w l.digits entry.1 word.plain l.is.plain l.within))

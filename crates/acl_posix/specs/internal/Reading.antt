@@ -2,6 +2,7 @@
 -- is in Grammar and TextFault.
 use Rattle.std.specs.Prelude.{ℕ, ◌≡◌, ◌+◌, ◌<◌, ◌≤◌, ◌==◌, List, [], ◌∷◌, ◌++◌, length, Option, Some, None, Result, Ok, Err, ok_or, if◌then◌else◌}
 use Rattle.std.specs.Borrow.{Bor}
+use Rattle.std.specs.List.{enumerate_from}
 use Rattle.acl_perm.specs.declared.lines.Piece.{Piece}
 use Rattle.acl_perm.specs.Lines.{Span, span_of, cut_at, lines_of, start_of, trimmed, is_all_blank}
 use Rattle.acl_perm.specs.internal.Steps.{◌>>=◌}
@@ -19,7 +20,7 @@ use Rattle.acl_posix.specs.Entries.{pair_of, pairs}
 use Rattle.acl_posix.specs.Valid.{IsFaultOf}
 use Rattle.acl_posix.specs.Names.{Table, Ids, is_number}
 use Rattle.acl_posix.specs.Fields.{word_of, id_in, permissions_of}
-use Rattle.acl_posix.specs.Grammar.{TextPiece, EntryFields, fields_of, PartEntry, line_pieces, numbered, pieces_from, colon}
+use Rattle.acl_posix.specs.Grammar.{TextPiece, EntryFields, fields_of, PartEntry, line_pieces, numbered, pieces_of_lines, colon}
 use Rattle.acl_posix.specs.TextFault.{acl_fault, qualifier_names}
 
 -- the tag word of a field, or its fault
@@ -143,6 +144,10 @@ read_entries names lists number line = read_pieces names lists (numbered number 
 abbrev pub FailsWith : {Y : Type 0} → TextFault → Result Y TextFault → Type 0
 FailsWith faults.Memory read = Unit {0}
 FailsWith fault read = read ≡ Err fault
+
+-- the pieces of lines, of which the first has this number
+abbrev pub pieces_from : ℕ → List (List ℕ) → List TextPiece
+pieces_from number lines = pieces_of_lines (enumerate_from number lines)
 
 -- after the first line of a text, which has this number, the reading of the rest gives what the reading of the whole
 -- gives

@@ -12,7 +12,7 @@ use acl_perm::Perm;
 use std::test::Fail;
 
 #[test]
-fn worked_lists_are_answered(rt: HostRuntime) {
+fn each_worked_list_gives_its_answers(rt: HostRuntime) {
     let memory = Memory::ample(rt.alloc());
     lists::whole_lists(&rt, memory);
     lists::cut_lists(&rt, memory);
@@ -26,7 +26,7 @@ fn worked_lists_are_answered(rt: HostRuntime) {
 }
 
 // Makes a list of a hundred entries.
-fn hundred(memory: Memory) -> Result<PosixAcl, AclFault> {
+fn hundred_entries(memory: Memory) -> Result<PosixAcl, AclFault> {
     let mut entries = memory.entries(DEFAULT)?;
     for value in 0..95 {
         entries.push(Entry {
@@ -38,7 +38,7 @@ fn hundred(memory: Memory) -> Result<PosixAcl, AclFault> {
 }
 
 // Makes a copy of a list, and calculates its mask.
-fn masked(memory: Memory) -> Result<PosixAcl, Fail> {
+fn masked_copy(memory: Memory) -> Result<PosixAcl, Fail> {
     let acl = memory.acl(NO_OWNER)?;
     let mut added = acl.copy(memory.alloc)?;
     added.calc_mask()?;
@@ -47,13 +47,13 @@ fn masked(memory: Memory) -> Result<PosixAcl, Fail> {
 
 // A list of a hundred entries is copied, and a mask is added to a copy of a short list.
 #[test]
-fn copies_are_made_and_masks_added(rt: HostRuntime) -> Result<(), Fail> {
+fn a_copy_equals_its_list_and_a_copy_can_get_a_mask(rt: HostRuntime) -> Result<(), Fail> {
     let memory = Memory::ample(rt.alloc());
-    let acl = hundred(memory)?;
+    let acl = hundred_entries(memory)?;
     let copy = acl.copy(memory.alloc)?;
     assert!(rt; copy.entries().len() == 100);
     assert!(rt; copy == acl);
-    let added = masked(memory)?;
+    let added = masked_copy(memory)?;
     assert!(rt; added != acl);
     assert!(rt; has_rows(&added, (&[Owner, Group, Mask, Other], b"0777")));
     Ok(())
@@ -69,7 +69,7 @@ fn each_text_is_read_and_written_again(rt: HostRuntime) -> Result<(), Fail> {
 }
 
 #[test]
-fn the_first_fault_of_a_text_is_told(rt: HostRuntime) -> Result<(), Fail> {
+fn the_first_fault_of_a_text_is_reported(rt: HostRuntime) -> Result<(), Fail> {
     let names = names_of(rt.alloc()).ok_or("names are added")?;
     for (text, wanted) in FAULTS {
         assert!(rt; is_refused(rt.alloc(), &names, text, wanted), "{wanted}");
@@ -81,7 +81,9 @@ fn the_first_fault_of_a_text_is_told(rt: HostRuntime) -> Result<(), Fail> {
 }
 
 #[test]
-fn each_beginning_of_a_text_is_judged(rt: HostRuntime) -> Result<(), Fail> {
+fn each_beginning_of_a_text_is_read_or_has_a_fault_in_its_lines(
+    rt: HostRuntime,
+) -> Result<(), Fail> {
     let names = names_of(rt.alloc()).ok_or("names are added")?;
     for len in 0..=LISTED.len() {
         let (front, _) = LISTED.split_at(len.min(LISTED.len()));
@@ -94,7 +96,7 @@ fn each_beginning_of_a_text_is_judged(rt: HostRuntime) -> Result<(), Fail> {
 // An id may begin with a thousand zeros, and a thousand nines are not an id. A text of a million commas is refused at
 // the first comma.
 #[test]
-fn long_texts_are_judged(rt: HostRuntime) {
+fn long_texts_are_read_or_refused(rt: HostRuntime) {
     let alloc = rt.alloc();
     assert!(rt; zeros_are_read(alloc));
     let id = TextFault::Id { line: 1, column: 3 };
@@ -104,7 +106,7 @@ fn long_texts_are_judged(rt: HostRuntime) {
 }
 
 #[test]
-fn names_are_added_once(rt: HostRuntime) -> Result<(), Fail> {
+fn a_name_is_added_once_as_a_user_and_once_as_a_group(rt: HostRuntime) -> Result<(), Fail> {
     let mut names = Names::new(rt.alloc());
     add_each(&rt, &mut names, Id { value: 1 }, Id { value: 2 });
     let text = b"u::,u:7a:,g::,g:7a:,m::,o::";

@@ -30,7 +30,7 @@ pub fn effective_permissions<A: Abort>(rt: &A, memory: Memory) {
     let acl = match memory.acl(SHARED) {
         Ok(acl) => acl,
         Err(fault) => {
-            assert!(rt; memory.may_want(Some(fault)));
+            assert!(rt; memory.may_run_out(Some(fault)));
             return;
         }
     };
@@ -46,7 +46,7 @@ pub fn effective_permissions<A: Abort>(rt: &A, memory: Memory) {
 fn has_mode(memory: Memory, rows: Rows, mode: u16) -> bool {
     match memory.acl(rows) {
         Ok(acl) => acl.mode().bits == mode,
-        Err(fault) => memory.may_want(Some(fault)),
+        Err(fault) => memory.may_run_out(Some(fault)),
     }
 }
 
@@ -73,7 +73,7 @@ pub fn changed_lists<A: Abort>(rt: &A, memory: Memory) {
             assert!(rt; acl.calc_mask().is_ok());
             assert!(rt; has_rows(&acl, (ORDERED, b"664664")));
         }
-        Err(fault) => assert!(rt; memory.may_want(Some(fault))),
+        Err(fault) => assert!(rt; memory.may_run_out(Some(fault))),
     }
 }
 
@@ -127,14 +127,14 @@ fn is_changed(
 ) -> bool {
     let mut acl = match memory.acl(rows) {
         Ok(acl) => acl,
-        Err(fault) => return memory.may_want(Some(fault)),
+        Err(fault) => return memory.may_run_out(Some(fault)),
     };
     match (change(&mut acl, who, digit), wanted) {
         (Ok(()), Ok(after)) => {
             has_rows(&acl, after) && acl.get(who.tag()) == digit.and_then(perm_of)
         }
         (Ok(()), Err(_)) => false,
-        (Err(fault), Ok(_)) => memory.may_want(Some(fault)) && has_rows(&acl, rows),
+        (Err(fault), Ok(_)) => memory.may_run_out(Some(fault)) && has_rows(&acl, rows),
         (Err(fault), Err(wanted)) => fault == wanted && has_rows(&acl, rows),
     }
 }

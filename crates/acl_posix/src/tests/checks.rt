@@ -33,7 +33,7 @@ fn is_answered(
     };
     match memory.acl(rows) {
         Ok(acl) => acl.check(OWNER, OWNING_GROUP, asker, groups, want) == granted,
-        Err(fault) => memory.may_want(Some(fault)),
+        Err(fault) => memory.may_run_out(Some(fault)),
     }
 }
 
@@ -64,6 +64,6 @@ pub fn requests<A: Abort>(rt: &A, memory: Memory) {
 }
 
 #[test]
-fn requests_are_answered_unless_memory_runs_out(rt: HostRuntime) {
+fn requests_are_granted_or_denied_unless_memory_runs_out(rt: HostRuntime) {
     requests(&rt, Memory::scarce(rt.alloc()));
 }

@@ -1,4 +1,4 @@
-//! The ACLs of new files and directories.
+//! The ACLs of new files and directories (acl(5), "OBJECT CREATION AND DEFAULT ACLs").
 
 use super::harness::Who::{Eve, Group, Mask, Other, Owner};
 use super::harness::{DEFAULT, Memory, Rows, has_rows};
@@ -48,7 +48,7 @@ pub fn new_files<A: Abort>(rt: &A, memory: Memory) {
         let (mode, umask) = (Mode { bits: mode }, Mode { bits: umask });
         match new_file(memory, has_default, mode, umask, dir) {
             Ok(file) => assert!(rt; is_made(&file, access, has_default && dir)),
-            Err(fault) => assert!(rt; memory.may_want(Some(fault))),
+            Err(fault) => assert!(rt; memory.may_run_out(Some(fault))),
         }
     }
 }

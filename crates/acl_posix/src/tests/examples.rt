@@ -18,7 +18,7 @@ fn an_acl_is_made_of_entries_in_any_order(rt: HostRuntime) -> Result<(), Fail> {
 }
 
 #[test]
-fn a_text_is_read(rt: HostRuntime) -> Result<(), Fail> {
+fn a_text_without_default_entries_is_read_as_an_access_acl(rt: HostRuntime) -> Result<(), Fail> {
     let alloc = rt.alloc();
     let names = Names::new(alloc);
     let file = parse(alloc, b"u::rw-,u:7:r--,g::---,m::r--,o::---", &names)?;
@@ -28,7 +28,9 @@ fn a_text_is_read(rt: HostRuntime) -> Result<(), Fail> {
 }
 
 #[test]
-fn a_member_of_the_owning_group_may_read(rt: HostRuntime) -> Result<(), Fail> {
+fn a_member_of_the_owning_group_may_read_and_another_user_may_not(
+    rt: HostRuntime,
+) -> Result<(), Fail> {
     let alloc = rt.alloc();
     let acl = PosixAcl::of_mode(alloc, Mode { bits: 0o640 })?;
     let (owner, group, user) = (Id { value: 0 }, Id { value: 50 }, Id { value: 7 });
@@ -39,7 +41,7 @@ fn a_member_of_the_owning_group_may_read(rt: HostRuntime) -> Result<(), Fail> {
 }
 
 #[test]
-fn a_mode_is_set(rt: HostRuntime) -> Result<(), Fail> {
+fn a_mode_that_is_set_without_a_mask_sets_the_owning_group(rt: HostRuntime) -> Result<(), Fail> {
     let alloc = rt.alloc();
     let mut acl = PosixAcl::of_mode(alloc, Mode { bits: 0o644 })?;
     acl.chmod(Mode { bits: 0o600 });
@@ -58,7 +60,7 @@ fn the_umask_cuts_the_mode_of_a_new_file(rt: HostRuntime) -> Result<(), Fail> {
 }
 
 #[test]
-fn an_acl_is_written(rt: HostRuntime) -> Result<(), Fail> {
+fn an_acl_is_written_with_one_line_per_entry(rt: HostRuntime) -> Result<(), Fail> {
     let alloc = rt.alloc();
     let acl = PosixAcl::of_mode(alloc, Mode { bits: 0o640 })?;
     let mut sink = Counted::new(Vec::new(alloc));

@@ -101,7 +101,7 @@ impl Memory {
     }
 
     /// Returns whether a call may fail with this fault because memory ran out.
-    pub fn may_want(self, fault: Option<AclFault>) -> bool {
+    pub fn may_run_out(self, fault: Option<AclFault>) -> bool {
         !self.is_ample && fault == Some(AclFault::Memory)
     }
 }

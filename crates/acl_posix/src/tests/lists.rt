@@ -1,4 +1,4 @@
-//! Which lists of entries are valid, and the fault of each that is not.
+//! Which lists of entries are valid, and the fault of each that is not (acl(5), "VALID ACLs").
 
 use super::harness::Who::{Amy, Bob, Group, Guests, Mask, Other, Owner, Staff};
 use super::harness::{DEFAULT, MASKED, Memory, NO_OWNER, Rows, SHARED, TWO_GROUPS};
@@ -25,7 +25,7 @@ const THREE: Rows = (&[Owner, Group, Other], b"750");
 
 fn is_judged(memory: Memory, rows: Rows, fault: Option<AclFault>) -> bool {
     let found = memory.acl(rows).err();
-    found == fault || memory.may_want(found)
+    found == fault || memory.may_run_out(found)
 }
 
 /// Valid lists are accepted, and each other list is refused with its fault.
@@ -98,7 +98,7 @@ fn valid_lists_are_accepted_and_others_are_refused_unless_memory_runs_out(rt: Ho
 }
 
 #[test]
-fn ids_end_below_4294967295(rt: HostRuntime) {
+fn the_greatest_id_is_4294967294(rt: HostRuntime) {
     assert!(rt; Id::new(4294967295).is_none());
     assert!(rt; Id::new(4294967294) == Some(Id { value: 4294967294 }));
 }

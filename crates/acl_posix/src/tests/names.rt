@@ -69,7 +69,7 @@ fn may_be_read(
 
 // Names, a text with these names, and its forms. If memory runs out, that is the only other accepted answer.
 #[test]
-fn texts_are_read_and_written_or_memory_is_wanting(rt: HostRuntime) {
+fn texts_are_read_and_written_unless_memory_runs_out(rt: HostRuntime) {
     let mut names = Names::new(rt.alloc());
     assert!(rt; add_names(&rt, &mut names).is_some());
     let has_both = names.user(b"bob").is_some() && names.group(b"staff ops").is_some();
@@ -77,7 +77,7 @@ fn texts_are_read_and_written_or_memory_is_wanting(rt: HostRuntime) {
         assert!(rt; may_be_read(rt.alloc(), &names, has_both, row));
     }
     match parse(rt.alloc(), b"u::,u:7:r,u:007:w,g::,m::,o::", &names) {
-        Ok(_) => assert!(rt; false, "an id that stands twice"),
+        Ok(_) => assert!(rt; false, "an id that is in the list twice"),
         Err(TextFault::Invalid(part, cause)) => {
             assert!(rt; (part, cause) == (Part::Access, Cause::Duplicate(2)));
         }

@@ -45,7 +45,7 @@ fn is_cut(file: &PosixFile, form: Form, text: &[u8], size: usize) -> bool {
 }
 
 #[test]
-fn each_write_fails_in_turn(rt: HostRuntime) {
+fn a_write_that_fails_reports_how_many_bytes_it_wrote(rt: HostRuntime) {
     let names = Names::new(rt.alloc());
     let Ok(file) = parse(rt.alloc(), SHORT, &names) else {
         return;
@@ -74,7 +74,7 @@ fn written_thrice(acl: &PosixAcl, room: &mut [u8]) -> Option<usize> {
 
 // An ACL has the texts of a file with this access ACL and without a default ACL.
 #[test]
-fn an_acl_is_written_as_a_file(rt: HostRuntime) {
+fn an_acl_is_written_as_a_file_without_a_default_acl(rt: HostRuntime) {
     let names = Names::new(rt.alloc());
     let Ok(file) = parse(rt.alloc(), SHORT, &names) else {
         return;

@@ -81,7 +81,7 @@ pub record TellsDifference (list other : List Ace) (text : List ℕ) : Type 0 wh
   pub mask : ℕ
   pub first_grants : Bool
   pub is_first : IsFirstDifference list other situation mask first_grants
-  pub told : text ≡ difference_text situation mask first_grants
+  pub is_text : text ≡ difference_text situation mask first_grants
 
 -- the outcome of a comparison of two lists: Yes if they grant the same, and otherwise No
 abbrev pub Compares : List Ace → List Ace → Outcome → List ℕ → Type 0

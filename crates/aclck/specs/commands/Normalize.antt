@@ -3,8 +3,8 @@ use Rattle.std.specs.Prelude.{◌≡◌, ◌∷◌, [], Bool, false, true, List,
 use Rattle.std.specs.Option.{option_map}
 use Rattle.clap.specs.Words.{Row}
 use Rattle.acl_perm.specs.Profile.{Profile, profile_of}
-use Rattle.acl_normal.specs.NormalForm.{Normalises}
-use Rattle.acl_normal.specs.Programs.{NormalisesAtPaths}
+use Rattle.acl_normal.specs.NormalForm.{Normalizes}
+use Rattle.acl_normal.specs.Programs.{NormalizesAtPaths}
 use Rattle.aclck.specs.Line.{Term, is_given}
 use Rattle.aclck.specs.Options.{inherit_term, profile_term}
 use Rattle.aclck.specs.ProfileArgument.{profile_in}
@@ -36,13 +36,13 @@ normalize_held v = record { inherit = v.inherit; profile = profile_of v.profile 
 
 -- the bytes that spell the normal form of the list, with an outcome that is never No, or a fault that the input has
 abbrev pub NormalizeAnswer : Profile → List ℕ → Answer → Type 0
-NormalizeAnswer p input (done o bytes) = (o ≡ outcome.Yes) × Normalises p input bytes
+NormalizeAnswer p input (done o bytes) = (o ≡ outcome.Yes) × Normalizes p input bytes
 NormalizeAnswer p input (refused f) = IsXdrFault p input f
 
 -- the bytes that spell the five normal forms of the list, with an outcome that is never No, or a fault that the input
 -- has
 abbrev pub NormalizeInheritAnswer : Profile → List ℕ → Answer → Type 0
-NormalizeInheritAnswer p input (done o bytes) = (o ≡ outcome.Yes) × NormalisesAtPaths p input bytes
+NormalizeInheritAnswer p input (done o bytes) = (o ≡ outcome.Yes) × NormalizesAtPaths p input bytes
 NormalizeInheritAnswer p input (refused f) = IsXdrFault p input f
 
 -- the five forms if inheritance counts, and otherwise the one

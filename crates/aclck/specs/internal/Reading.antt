@@ -24,14 +24,14 @@ use Rattle.aclck.specs.declared.input.xdr.ListFault.TheVariants as unread
 -- ---- faults
 
 -- why a list was not read, as an engine reports it
-abbrev pub told : ListFault → RunFault
-told (unread.Refused f) = fault.Nfs f
-told unread.Read = fault.Read
-told unread.Memory = fault.Memory
+abbrev pub run_fault : ListFault → RunFault
+run_fault (unread.Refused f) = fault.Nfs f
+run_fault unread.Read = fault.Read
+run_fault unread.Memory = fault.Memory
 
 -- a fault of a list as its reader reports it: memory ran out, or a refusal for another reason
-abbrev pub IsTold : ListFault → Fault → Type 0
-IsTold e f = (e ≡ unread.Memory) ⊎ ((e ≡ unread.Refused f) × (f.reason ≢ Memory))
+abbrev pub IsReaderFault : ListFault → Fault → Type 0
+IsReaderFault e f = (e ≡ unread.Memory) ⊎ ((e ≡ unread.Refused f) × (f.reason ≢ Memory))
 
 -- a pull failed
 abbrev pub is_failed_pull : ListFault → Bool
@@ -51,10 +51,10 @@ later unread.Read n = unread.Read
 later unread.Memory n = unread.Memory
 
 -- a refusal has an offset below n
-abbrev pub StandsBelow : ℕ → ListFault → Type 0
-StandsBelow n (unread.Refused f) = f.offset < n
-StandsBelow n unread.Read = Unit {0}
-StandsBelow n unread.Memory = Unit {0}
+abbrev pub IsOffsetBelow : ℕ → ListFault → Type 0
+IsOffsetBelow n (unread.Refused f) = f.offset < n
+IsOffsetBelow n unread.Read = Unit {0}
+IsOffsetBelow n unread.Memory = Unit {0}
 
 -- ---- inputs
 

@@ -8,9 +8,9 @@ ghost use Rattle.aclck.specs.Answer.{has_read_failed};
 ghost use Rattle.aclck.specs.PosixAnswer.{IsPosixFault};
 ghost use Rattle.aclck.specs.internal.Reading.{HasInput};
 ghost use Rattle.aclck.specs.internal.Files.{IsNoFile};
-ghost use Rattle.aclck.specs.internal.Telling.{Tells};
+ghost use Rattle.aclck.specs.internal.Writing.{WritesText};
 
-use crate::answer::{Outcome, RunFault, tell};
+use crate::answer::{Outcome, RunFault, write_answer};
 use acl_perm::{Sink, Source, read_all};
 use acl_posix::{Form, Names, PosixFile, TextFault, parse};
 use std::alloc::Global;
@@ -54,10 +54,10 @@ pub(crate) fn write_file<K: Sink>(
     file: PosixFile,
     form: Form,
 ) -> Result<Outcome, RunFault>
-    ensures { Tells Outcome.Yes (file_text form file)
+    ensures { WritesText Outcome.Yes (file_text form file)
         K.contents K.failure_count sink.old sink.new result }
 {
     let text = file.to_text(alloc, form)?;
     drop(file);
-    tell(sink, Outcome::Yes, text.as_slice())
+    write_answer(sink, Outcome::Yes, text.as_slice())
 }

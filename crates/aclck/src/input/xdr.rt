@@ -7,7 +7,7 @@ ghost use Rattle.acl_nfs4.specs.internal.Progress.{IsBytes};
 ghost use Rattle.aclck.specs.Common.{[], IfErr, IfOk, OnOk, failures_after, false, profile_of, true};
 ghost use Rattle.aclck.specs.commands.Compare.{AreTwo};
 ghost use Rattle.aclck.specs.ListInput.{piece_len};
-ghost use Rattle.aclck.specs.internal.Reading.{EndsNot, IsTold, ReadsInput, ReadsNone, ReadsValue, StandsBelow, has_pull_failed, later, one_list_input, told, two_list_input};
+ghost use Rattle.aclck.specs.internal.Reading.{EndsNot, IsReaderFault, ReadsInput, ReadsNone, ReadsValue, IsOffsetBelow, has_pull_failed, later, one_list_input, run_fault, two_list_input};
 
 use crate::answer::RunFault;
 use acl_nfs4::{Acl, Fault, Fed, Feed, Reason};
@@ -25,7 +25,7 @@ pub(crate) enum ListFault {
 }
 
 impl From<ListFault> for RunFault {
-    ghost from_gives = { λ fault run. run ≡ told fault };
+    ghost from_gives = { λ fault run. run ≡ run_fault fault };
 
     fn from(fault: ListFault) -> RunFault {
         match fault {
@@ -37,7 +37,7 @@ impl From<ListFault> for RunFault {
 }
 
 impl From<Fault> for ListFault {
-    ghost from_gives = { λ fault list. IsTold list fault };
+    ghost from_gives = { λ fault list. IsReaderFault list fault };
 
     fn from(fault: Fault) -> ListFault {
         if fault.reason == Reason::Memory {
@@ -100,7 +100,7 @@ pub(crate) fn read_two<S: Source>(
 
 // The fault of the bytes behind so many bytes, counted from the start of these.
 fn behind(fault: ListFault, len: u64) -> ListFault
-    requires fault { StandsBelow (2 ^ 32) fault }
+    requires fault { IsOffsetBelow (2 ^ 32) fault }
     requires len { len < 2 ^ 32 }
     ensures { result ≡ later fault len }
 {
@@ -218,7 +218,7 @@ impl Model for Pulled {
 }
 
 impl Pulled {
-    /// Nothing was pulled yet.
+    /// Returns the bytes of a source from which nothing was pulled yet.
     pub(crate) fn new() -> Pulled
         ensures { result ≡ [] }
     {

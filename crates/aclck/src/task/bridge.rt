@@ -2,7 +2,7 @@
 ghost use Rattle.aclck.specs.Common.{Runs, of_text};
 ghost use Rattle.aclck.specs.commands.Bridge.{BridgeAnswer};
 
-use crate::answer::{Outcome, RunFault, tell_list};
+use crate::answer::{Outcome, RunFault, write_list_answer};
 use crate::input::posix::read_file;
 use acl_eval::{BridgeFault, bridge};
 use acl_perm::{Sink, Source};
@@ -27,7 +27,7 @@ pub fn run_bridge<S: Source, K: Sink>(
 {
     let file = read_file(alloc, source, names)?;
     match bridge(alloc, &file.access) {
-        Ok(list) => tell_list(sink, &list),
+        Ok(list) => write_list_answer(sink, &list),
         Err(BridgeFault::Limits) => Err(RunFault::Limits),
         Err(BridgeFault::Memory) => Err(RunFault::Memory),
     }

@@ -7,7 +7,7 @@ ghost use Rattle.aclck.specs.Common.{IfOk, ReadsValues, Runs, of_text, option_an
 ghost use Rattle.aclck.specs.Values.{each_value, id_value, ids_value, is_letter, letters_value, want_value};
 ghost use Rattle.aclck.specs.commands.CheckPosix.{CheckPosixAnswer, check_posix_held, check_posix_in, groups_value};
 
-use crate::answer::{Outcome, RunFault, decision_line, tell};
+use crate::answer::{Outcome, RunFault, decision_line, write_answer};
 use crate::input::posix::read_file;
 use crate::line::{Argument, LineFault, text_of};
 use crate::words::names::names_in;
@@ -150,5 +150,5 @@ pub fn run_check_posix<S: Source, K: Sink>(
     let acl = &file.access;
     let granted = acl.check(task.owner, task.group, task.user, &task.groups, task.want);
     let outcome = Outcome::of(granted);
-    tell(sink, outcome, decision_line(outcome))
+    write_answer(sink, outcome, decision_line(outcome))
 }

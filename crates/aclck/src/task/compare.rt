@@ -82,8 +82,8 @@ fn text_of_difference(alloc: Global, found: &Difference) -> Result<Vec<u8>, Allo
 
 // A line for each group.
 fn add_members(text: &mut Vec<u8>, groups: &[Vec<u8>]) -> Result<(), AllocError>
-    ensures { OnOk result (text.new.items
-        ≡ text.old.items ++ flat_map (compare_line (codes "member")) (map (λ g. g.items) groups.now)) }
+    ensures { OnOk result (text.new.items ≡ text.old.items
+        ++ flat_map (compare_line (codes "member")) (map (λ g. g.items) groups.now)) }
 {
     for group in groups {
         add_line(text, b"member", group)?;

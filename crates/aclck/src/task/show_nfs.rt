@@ -1,14 +1,11 @@
 //! `show-nfs`: the text of a list.
-ghost use Rattle.acl_nfs4.specs.AceText.{ace_text};
-ghost use Rattle.std.specs.Prelude.{◌≡◌};
-ghost use Rattle.aclck.specs.Common.{IfOk, Runs, of_list, profile_of};
+ghost use Rattle.aclck.specs.Common.{Runs, of_list, profile_of};
 ghost use Rattle.aclck.specs.commands.ShowNfs.{ShowNfsAnswer};
 
 use crate::answer::{Outcome, RunFault};
 use crate::input::xdr::read_list;
-use acl_nfs4::Acl;
-use acl_perm::{Counted, Profile, Sink, Source, put_all};
-use std::alloc::{AllocError, Global};
+use acl_perm::{Profile, Sink, Source, put_all};
+use std::alloc::Global;
 
 /// The word that names the command.
 pub(crate) const WORD: &str = "show-nfs";
@@ -26,19 +23,8 @@ pub fn run_show_nfs<S: Source, K: Sink>(
         K.contents K.failure_count sink.old sink.new result }
 {
     let list = read_list(alloc, source, profile)?;
-    let text = text_of_list(alloc, &list)?;
+    let text = list.to_text(alloc)?;
     drop(list);
     put_all(sink, text.as_slice())?;
     Ok(Outcome::Yes)
-}
-
-// One line per ACE.
-fn text_of_list(alloc: Global, list: &Acl) -> Result<Vec<u8>, AllocError>
-    ensures { IfOk result (λ text. text.items ≡ ace_text list.now) }
-{
-    let mut text = Counted::new(Vec::new(alloc));
-    match list.write_text(&mut text) {
-        Ok(()) => Ok(text.into_inner()),
-        Err(_) => Err(AllocError),
-    }
 }

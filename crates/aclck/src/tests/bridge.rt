@@ -113,12 +113,12 @@ fn bridges_users(
     count: u32,
     other: &str,
     status: u8,
-    told: &str,
+    report: &str,
 ) -> Result<bool, AllocError> {
     let input = users(alloc, count, other)?;
     let mut err = [0u8; 64];
     let (answer, written) = bridged(alloc, &input, &mut err);
-    Ok(answer == status && written.is_empty() == (status == 2) && is_line(&err, told))
+    Ok(answer == status && written.is_empty() == (status == 2) && is_line(&err, report))
 }
 
 // What is answered if there is enough memory.

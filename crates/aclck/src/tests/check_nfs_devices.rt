@@ -74,7 +74,7 @@ fn keeps_status(
         },
     );
     let most = if status < 2 { 0 } else { err.first };
-    ran.status == status && ran.wrote(line) && ran.tellings <= most
+    ran.status == status && ran.wrote(line) && ran.reports <= most
 }
 
 const AUDIT: RunFault = RunFault::Nfs(Fault {

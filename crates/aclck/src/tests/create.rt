@@ -1,4 +1,4 @@
-//! `create` over texts of directories.
+//! `create` over texts of directories (acl(5), "OBJECT CREATION AND DEFAULT ACLs").
 
 use crate::tests::harness::{Table, Trial};
 use crate::tests::texts::PLAIN;

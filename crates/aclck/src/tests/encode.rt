@@ -1,4 +1,4 @@
-//! `encode` over texts of lists.
+//! `encode` over texts of lists (the format in docs/formats.md).
 
 use crate::tests::harness::{Table, Trial};
 use crate::tests::lists::{BLANKS, GROUP_FLAGGED, INHERITED_OF_BOB, NO_RIGHTS};

@@ -1,4 +1,4 @@
-//! `mode` over lists in bytes.
+//! `mode` over lists in bytes (RFC 8881, section 6.3.2).
 
 use crate::tests::harness::{Table, Trial};
 use crate::tests::lists::{EMPTY, RETENTION_OF_BOB};

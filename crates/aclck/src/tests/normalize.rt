@@ -165,7 +165,7 @@ mod ample {
     // With inheritance and without.
     #[test]
     fn normalize_refuses_a_word_of_ones_at_its_place(rt: HostRuntime) {
-        for (place, told) in [
+        for (place, fault) in [
             (0usize, "TooManyAces at byte 0"),
             (4, "AceType at byte 4"),
             (8, "FlagBits at byte 8"),
@@ -174,9 +174,9 @@ mod ample {
         ] {
             let input = damaged(place);
             let one = run(rt.alloc(), &["normalize"], &input, FINE);
-            assert!(rt; one.is(2, b"", told), "{place}");
+            assert!(rt; one.is(2, b"", fault), "{place}");
             let five = run(rt.alloc(), &["normalize", "--inherit"], &input, FINE);
-            assert!(rt; five.is(2, b"", told), "{place}");
+            assert!(rt; five.is(2, b"", fault), "{place}");
         }
     }
 
@@ -188,7 +188,7 @@ mod ample {
             let one = run(rt.alloc(), &["normalize"], front, FINE);
             assert!(rt; one.is_judged() && one.status == 2, "{len}");
             let five = run(rt.alloc(), &["normalize", "--inherit"], front, FINE);
-            assert!(rt; five.tells_as(&one) && five.is_judged(), "{len}");
+            assert!(rt; five.reports_as(&one) && five.is_judged(), "{len}");
         }
     }
 }

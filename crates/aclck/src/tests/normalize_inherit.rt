@@ -58,12 +58,12 @@ impl Text {
 }
 
 // The bytes of the five forms.
-fn text_of(stands: &[u8; 5]) -> Text {
+fn text_of(present: &[u8; 5]) -> Text {
     let mut text = Text {
         room: [0; ROOM],
         len: 0,
     };
-    for form in stands {
+    for form in present {
         if *form == b'x' {
             text.add(READ_OF_ALICE);
         } else {
@@ -114,17 +114,17 @@ static TABLE: Table = Table {
     unread: INHERITED,
 };
 
-fn gives_forms(trial: Trial, line: &str, flags: u8, stands: &[u8; 5]) -> bool {
-    let answer = text_of(stands);
+fn gives_forms(trial: Trial, line: &str, flags: u8, present: &[u8; 5]) -> bool {
+    let answer = text_of(present);
     trial.passes(line, &inherited(flags), Answer::Text(0, answer.bytes()))
 }
 
 /// Tests that each list has the five forms of its row, and that each other line is refused.
 pub fn holds<A: Abort>(rt: &A, trial: Trial) {
     for line in LINES {
-        for (flags, stands) in &FORMS {
+        for (flags, present) in &FORMS {
             assert!(rt;
-                is_outside(line, *flags) || gives_forms(trial, line, *flags, stands),
+                is_outside(line, *flags) || gives_forms(trial, line, *flags, present),
                 "{line}: {flags}"
             );
         }
@@ -132,9 +132,9 @@ pub fn holds<A: Abort>(rt: &A, trial: Trial) {
     TABLE.holds(rt, trial);
 }
 
-// The engine, under both profiles.
+// Tests that the engine writes the five forms of each list under a profile.
 fn engine_writes_forms<A: Abort>(rt: &A, alloc: Global, profile: Profile) {
-    for (flags, stands) in FORMS.iter().take(7) {
+    for (flags, present) in FORMS.iter().take(7) {
         let mut out = [0u8; ROOM];
         let input = inherited(*flags);
         let mut sink = Counted::new(out.as_mut_slice());
@@ -143,7 +143,7 @@ fn engine_writes_forms<A: Abort>(rt: &A, alloc: Global, profile: Profile) {
         let written = ROOM.saturating_sub(sink.into_inner().len());
         assert!(rt; matches!(answer, Ok(Outcome::Yes)), "{flags}");
         assert!(rt;
-            out.get(..written) == Some(text_of(stands).bytes()),
+            out.get(..written) == Some(text_of(present).bytes()),
             "{flags}"
         );
     }
@@ -154,7 +154,7 @@ mod ample {
     use super::*;
 
     #[test]
-    fn the_engine_writes_five_forms_under_both_profiles(rt: HostRuntime) {
+    fn normalize_writes_five_forms_under_both_profiles(rt: HostRuntime) {
         engine_writes_forms(&rt, rt.alloc(), Profile::FULL);
         engine_writes_forms(&rt, rt.alloc(), Profile::NARROW);
     }

@@ -1,4 +1,4 @@
-//! `show-nfs` over lists in bytes.
+//! `show-nfs` over lists in bytes (the format in docs/formats.md).
 
 use crate::tests::harness::{Table, Trial};
 use crate::tests::lists::{BLANKS, EMPTY, GROUP_FLAGGED, INHERITED_OF_BOB, NO_RIGHTS, WITH_A_BYTE};

@@ -1,4 +1,4 @@
-//! `table` over lists in bytes.
+//! `table` over lists in bytes (the format in docs/formats.md).
 
 use crate::tests::harness::{Asked, Table, Trial, lines_hold};
 use crate::tests::lists::{

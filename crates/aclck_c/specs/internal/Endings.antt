@@ -9,7 +9,7 @@ use Rattle.aclck_c.specs.declared.refusal.Refusal.{Refusal}
 
 -- the effect of bytes on the buffer and on the reported length, and the status
 pub record PutsIfRoom (bytes buffer buffer_after : List ℕ) (needed_after returned : ℕ) : Type 0 where
-  pub told : needed_after ≡ length bytes
+  pub reported : needed_after ≡ length bytes
   pub put : returned ≡ status.done → Puts bytes buffer buffer_after
   pub short : returned ≡ status.short → length buffer < length bytes
   pub unwritten : returned ≡ status.short → buffer_after ≡ buffer
@@ -30,4 +30,4 @@ pub record EndsCall (made : Result (Vec ℕ) Failure) (buffer buffer_after : Lis
   pub kept : OnOk made (fault_after ≡ fault)
   pub reported : IfErr made (λ f. ReportsFailure f fault fault_after returned)
   pub unwritten : OnErr made (buffer_after ≡ buffer)
-  pub untold : OnErr made (needed_after ≡ needed)
+  pub unreported : OnErr made (needed_after ≡ needed)

@@ -1,9 +1,10 @@
 //! Which rights of a mask a list grants many requesters.
 ghost use Rattle.acl_eval.specs.Situation.{owner_of, owning_group_of};
-ghost use Rattle.aclck_c.specs.Many.{AreEachGranted, AreGoodMany, HaveGranted, IsGoodAsker, IsGoodCall, asked_by};
+ghost use Rattle.aclck_c.specs.Many.{AreEachGranted, AreGoodMany, HaveGranted, IsGoodRequester, IsGoodCall, asked_by};
 ghost use Rattle.aclck_c.specs.Requests.{AreGranted};
 ghost use Rattle.std.specs.Prelude.{◌≡◌, ◌<◌, ◌↔◌};
 ghost use Rattle.aclck_c.specs.Common.{All, IfSome, IsSome, IsTrue, length, profile_of, LooksAtList, profile_from, WritesValue};
+ghost use Rattle.aclck_c.specs.Status as status;
 
 use crate::failure::Failure;
 use crate::options::profile_from;
@@ -16,7 +17,7 @@ use acl_perm::{Mask, Profile};
 /// `struct aclck_requester`: a user, and the groups of that user.
 #[repr(C)]
 #[derive(Clone, Copy, Debug)]
-pub struct Asker<'a> {
+pub struct RawRequester<'a> {
     pub user: &'a [u8],
     pub groups: &'a [&'a [u8]],
 }
@@ -30,7 +31,7 @@ pub extern "C" fn aclck_check_many(
     acl: &[u8],
     owner: &[u8],
     group: &[u8],
-    requesters: &[Asker<'_>],
+    requesters: &[RawRequester<'_>],
     mask: u32,
     options: u32,
     granted: &mut [u32],
@@ -40,7 +41,7 @@ pub extern "C" fn aclck_check_many(
         requesters.now mask) granted.old granted.new result }
     ensures input { LooksAtList (profile_from options) acl.now
         (AreGoodMany owner.now group.now requesters.now mask options (length granted.old))
-        fault.old fault.new result }
+        status.only_done fault.old fault.new result }
 {
     let Some(request) = asked(owner, group, mask, options) else {
         return BAD_ARGUMENT;
@@ -80,21 +81,26 @@ fn asked<'a>(owner: &'a [u8], group: &'a [u8], mask: u32, options: u32) -> Optio
 }
 
 // Whether no name of the requesters is empty.
-fn are_good(requesters: &[Asker<'_>]) -> bool
-    ensures { IsTrue result ↔ All IsGoodAsker requesters.now }
+fn are_good(requesters: &[RawRequester<'_>]) -> bool
+    ensures { IsTrue result ↔ All IsGoodRequester requesters.now }
 {
     requesters.iter().all(|who| is_good(who))
 }
 
-fn is_good(who: &Asker<'_>) -> bool
-    ensures { IsTrue result ↔ IsGoodAsker who.now }
+fn is_good(who: &RawRequester<'_>) -> bool
+    ensures { IsTrue result ↔ IsGoodRequester who.now }
 {
     Requester::new(who.user, who.groups).is_some()
 }
 
 // Writes for each requester the rights that the list grants.
-fn grant_each(view: &AclView<'_>, request: &Many<'_>, requesters: &[Asker<'_>], rights: &mut [u32])
-    requires good { All IsGoodAsker requesters.now }
+fn grant_each(
+    view: &AclView<'_>,
+    request: &Many<'_>,
+    requesters: &[RawRequester<'_>],
+    rights: &mut [u32],
+)
+    requires good { All IsGoodRequester requesters.now }
     requires count { length rights.old ≡ length requesters.now }
     ensures count { length rights.new ≡ length requesters.now }
     ensures rights { AreEachGranted view.now (owner_of request.now.object)
@@ -106,8 +112,8 @@ fn grant_each(view: &AclView<'_>, request: &Many<'_>, requesters: &[Asker<'_>], 
 }
 
 // The rights that the list grants a requester.
-fn granted_to(view: &AclView<'_>, request: &Many<'_>, who: &Asker<'_>) -> u32
-    requires { IsGoodAsker who.now }
+fn granted_to(view: &AclView<'_>, request: &Many<'_>, who: &RawRequester<'_>) -> u32
+    requires { IsGoodRequester who.now }
     ensures { AreGranted view.now (asked_by (owner_of request.now.object)
         (owning_group_of request.now.object) who.now) request.now.mask.bits result }
 {

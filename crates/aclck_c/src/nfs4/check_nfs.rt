@@ -1,6 +1,7 @@
 //! Whether a list grants a request.
 ghost use Rattle.acl_eval.specs.Programs.{Decides};
 ghost use Rattle.aclck_c.specs.Common.{IfErr, IfOk, profile_of, situation, LooksAtList, SaysYesOrNo, profile_from, AreGood, asked, IsViewFailure};
+ghost use Rattle.aclck_c.specs.Status as status;
 
 use crate::failure::Failure;
 use crate::nfs4::request::{Request, asked};
@@ -27,7 +28,7 @@ pub extern "C" fn aclck_check_nfs(
         (asked owner.now group.now user.now groups.now) mask) result }
     ensures input { LooksAtList (profile_from options) acl.now
         (AreGood owner.now group.now user.now groups.now mask options)
-        fault.old fault.new result }
+        status.yes_or_no fault.old fault.new result }
 {
     let Some(request) = asked(owner, group, user, groups, mask, options) else {
         return BAD_ARGUMENT;

@@ -3,7 +3,7 @@ ghost use Rattle.std.specs.List.{flat_map};
 ghost use Rattle.acl_normal.specs.Difference.{situation_of};
 ghost use Rattle.aclck_c.specs.Compare.{AreSame, DifferAt, ended, names_text, truth_number};
 ghost use Rattle.aclck_c.specs.Status as status;
-ghost use Rattle.aclck_c.specs.internal.Told.{IsToldOfBoth, TellsOf, Told};
+ghost use Rattle.aclck_c.specs.internal.Reports.{ReportsOfBoth, IsReportOf, Reports};
 ghost use Rattle.std.specs.Prelude.{◌≡◌, ◌++◌, ◌≢◌};
 ghost use Rattle.aclck_c.specs.Common.{IfErr, IfOk, OnOk, map, profile_of, ReadsTwoLists, profile_from, WritesBytes, IsPairFailure, IsProfileOption};
 
@@ -21,7 +21,7 @@ use std::alloc::{AllocError, Global};
 /// `struct aclck_difference`: the right on which two lists differ, as a mask, and 1 if the first list grants it.
 #[repr(C)]
 #[derive(Clone, Copy, Debug)]
-pub struct Distinction {
+pub struct RawDifference {
     pub right: u32,
     pub first_grants: u32,
 }
@@ -37,13 +37,13 @@ pub extern "C" fn aclck_compare(
     first: &[u8],
     second: &[u8],
     options: u32,
-    at: &mut Distinction,
+    at: &mut RawDifference,
     out: &mut [u8],
     needed: &mut usize,
     fault: &mut Refusal,
 ) -> u32
     ensures input { ReadsTwoLists (profile_from options) first.now second.now
-        (IsProfileOption options) status.short fault.old fault.new result }
+        (IsProfileOption options) status.yes_or_no_or_short fault.old fault.new result }
     ensures same { result ≡ status.yes → AreSame (profile_from options) first.now second.now }
     ensures names { WritesBytes status.no
         (DifferAt (profile_from options) first.now second.now at.new)
@@ -70,7 +70,7 @@ pub extern "C" fn aclck_compare(
 // A difference, with its names as a text.
 #[derive(Drop)]
 struct Named {
-    at: Distinction,
+    at: RawDifference,
     names: Vec<u8>,
 }
 
@@ -82,7 +82,7 @@ fn difference_of(
     second: &[u8],
     profile: Profile,
 ) -> Result<Option<Named>, Failure>
-    ensures ok { IfOk result (IsToldOfBoth (profile_of profile) first.now second.now) }
+    ensures ok { IfOk result (ReportsOfBoth (profile_of profile) first.now second.now) }
     ensures err { IfErr result (IsPairFailure (profile_of profile) first.now second.now) }
 {
     let list = list_of(alloc, first, profile)?;
@@ -91,21 +91,21 @@ fn difference_of(
 }
 
 fn first_difference(alloc: Global, list: &Acl, other: &Acl) -> Result<Option<Named>, AllocError>
-    ensures { IfOk result (Told list.now other.now) }
+    ensures { IfOk result (Reports list.now other.now) }
 {
     match compare(alloc, list, other)? {
         None => Ok(None),
-        Some(found) => Ok(Some(told(alloc, &found)?)),
+        Some(found) => Ok(Some(report_of(alloc, &found)?)),
     }
 }
 
-fn told(alloc: Global, found: &Difference) -> Result<Named, AllocError>
-    ensures { IfOk result (TellsOf (situation_of found.now)
+fn report_of(alloc: Global, found: &Difference) -> Result<Named, AllocError>
+    ensures { IfOk result (IsReportOf (situation_of found.now)
         found.now.bit.bits found.now.first_grants) }
 {
     let names = names_of(alloc, found)?;
     Ok(Named {
-        at: Distinction {
+        at: RawDifference {
             right: found.bit.bits(),
             first_grants: truth_number(found.first_grants),
         },

@@ -1,5 +1,4 @@
 //! Which ACE decides a right.
-ghost use Rattle.acl_nfs4.specs.Spelling.{kind_number};
 ghost use Rattle.aclck_c.specs.Requests.{IsDecidedAt, IsSomeRight, IsRight, IsUndecided};
 ghost use Rattle.aclck_c.specs.Status as status;
 ghost use Rattle.aclck_c.specs.internal.Deciding.{Finds};
@@ -12,12 +11,12 @@ use crate::refusal::Refusal;
 use crate::status::{BAD_ARGUMENT, NO, YES};
 use acl_eval::{Decision, deciding_ace};
 use acl_nfs4::AclView;
-use acl_perm::{Kind, Mask, Right};
+use acl_perm::{Mask, Right};
 
 /// `struct aclck_decision`: the place of an ACE, from 0, and its kind, 0 ALLOW or 1 DENY.
 #[repr(C)]
 #[derive(Clone, Copy, Debug)]
-pub struct Deciding {
+pub struct RawDecision {
     pub place: u64,
     pub kind: u32,
 }
@@ -35,7 +34,7 @@ pub extern "C" fn aclck_deciding(
     groups: &[&[u8]],
     right: u32,
     options: u32,
-    decision: &mut Deciding,
+    decision: &mut RawDecision,
     fault: &mut Refusal,
 ) -> u32
     ensures decided { WritesValue (λ found. IsDecidedAt (profile_from options) acl.now
@@ -45,7 +44,7 @@ pub extern "C" fn aclck_deciding(
         (asked owner.now group.now user.now groups.now) right }
     ensures input { LooksAtList (profile_from options) acl.now
         (AreGood owner.now group.now user.now groups.now right options × IsSomeRight right)
-        fault.old fault.new result }
+        status.yes_or_no fault.old fault.new result }
 {
     let Some(request) = asked(owner, group, user, groups, right, options) else {
         return BAD_ARGUMENT;
@@ -55,9 +54,9 @@ pub extern "C" fn aclck_deciding(
     };
     match decide(acl, &request, bit) {
         Ok(Some(found)) => {
-            *decision = Deciding {
+            *decision = RawDecision {
                 place: found.place as u64,
-                kind: kind_number(found.kind),
+                kind: found.kind.number(),
             };
             YES
         }
@@ -87,14 +86,4 @@ fn decide(acl: &[u8], request: &Request<'_>, right: Right) -> Result<Option<Deci
 {
     let view = AclView::parse_whole_with(acl, request.profile)?;
     Ok(deciding_ace(view.aces(), &request.object, &request.requester, right))
-}
-
-// The numbers are those of `enum aclck_kind`.
-fn kind_number(kind: Kind) -> u32
-    ensures { result ≡ kind_number kind }
-{
-    match kind {
-        Kind::Allow => 0,
-        Kind::Deny => 1,
-    }
 }

@@ -30,7 +30,7 @@ pub extern "C" fn aclck_encode(
     ensures bytes { WritesBytes status.done (Encodes (profile_from options) text.now)
         out.old out.new needed.old needed.new result }
     ensures input { JudgesInput (IsRefusedText (profile_from options) text.now) ⊤
-        (IsProfileOption options) status.short fault.old fault.new result }
+        (IsProfileOption options) status.done_or_short fault.old fault.new result }
 {
     let Some(profile) = profile_from(options) else {
         return BAD_ARGUMENT;

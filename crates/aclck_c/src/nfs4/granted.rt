@@ -1,6 +1,7 @@
 //! Which rights of a mask a list grants.
 ghost use Rattle.aclck_c.specs.Requests.{HasGranted};
 ghost use Rattle.aclck_c.specs.Common.{IfErr, IfOk, profile_of, situation, LooksAtList, profile_from, WritesValue, AreGood, asked, IsViewFailure};
+ghost use Rattle.aclck_c.specs.Status as status;
 
 use crate::failure::Failure;
 use crate::nfs4::request::{Request, asked};
@@ -28,7 +29,7 @@ pub extern "C" fn aclck_granted(
         (asked owner.now group.now user.now groups.now) mask) granted.old granted.new result }
     ensures input { LooksAtList (profile_from options) acl.now
         (AreGood owner.now group.now user.now groups.now mask options)
-        fault.old fault.new result }
+        status.only_done fault.old fault.new result }
 {
     let Some(request) = asked(owner, group, user, groups, mask, options) else {
         return BAD_ARGUMENT;

@@ -1,6 +1,7 @@
 //! The mode of a list.
 ghost use Rattle.aclck_c.specs.Mode.{HasMode};
 ghost use Rattle.aclck_c.specs.Common.{IfErr, IfOk, profile_of, LooksAtList, profile_from, WritesValue, IsViewFailure, IsProfileOption};
+ghost use Rattle.aclck_c.specs.Status as status;
 
 use crate::failure::Failure;
 use crate::options::profile_from;
@@ -16,7 +17,7 @@ use acl_perm::Profile;
 pub extern "C" fn aclck_mode(acl: &[u8], options: u32, mode: &mut u32, fault: &mut Refusal) -> u32
     ensures mode { WritesValue (HasMode (profile_from options) acl.now) mode.old mode.new result }
     ensures input { LooksAtList (profile_from options) acl.now
-        (IsProfileOption options) fault.old fault.new result }
+        (IsProfileOption options) status.only_done fault.old fault.new result }
 {
     let Some(profile) = profile_from(options) else {
         return BAD_ARGUMENT;

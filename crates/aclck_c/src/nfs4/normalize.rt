@@ -1,7 +1,7 @@
 //! The normal form of a list, and the five normal forms of the list of a directory.
 ghost use Rattle.acl_normal.specs.FiveForms.{five_spellings};
-ghost use Rattle.acl_normal.specs.NormalForm.{Normalises};
-ghost use Rattle.acl_normal.specs.Programs.{NormalisesAtPaths};
+ghost use Rattle.acl_normal.specs.NormalForm.{Normalizes};
+ghost use Rattle.acl_normal.specs.Programs.{NormalizesAtPaths};
 ghost use Rattle.std.specs.Prelude.{◌≡◌};
 ghost use Rattle.aclck_c.specs.Common.{IfErr, IfOk, profile_of, WritesOfList, profile_from, IsListFailure, IsProfileOption};
 
@@ -29,7 +29,7 @@ pub extern "C" fn aclck_normalize(
     fault: &mut Refusal,
 ) -> u32
     ensures { WritesOfList (profile_from options) acl.now (IsProfileOption options)
-        (Normalises (profile_from options) acl.now)
+        (Normalizes (profile_from options) acl.now)
         out.old out.new needed.old needed.new fault.old fault.new result }
 {
     let Some(profile) = profile_from(options) else {
@@ -39,7 +39,7 @@ pub extern "C" fn aclck_normalize(
 }
 
 fn normal_form(alloc: Global, acl: &[u8], profile: Profile) -> Result<Vec<u8>, Failure>
-    ensures ok { IfOk result (λ text. Normalises (profile_of profile) acl.now text.items) }
+    ensures ok { IfOk result (λ text. Normalizes (profile_of profile) acl.now text.items) }
     ensures err { IfErr result (IsListFailure (profile_of profile) acl.now 0) }
 {
     let list = list_of(alloc, acl, profile)?;
@@ -62,7 +62,7 @@ pub extern "C" fn aclck_normalize_inherit(
     fault: &mut Refusal,
 ) -> u32
     ensures { WritesOfList (profile_from options) acl.now (IsProfileOption options)
-        (NormalisesAtPaths (profile_from options) acl.now)
+        (NormalizesAtPaths (profile_from options) acl.now)
         out.old out.new needed.old needed.new fault.old fault.new result }
 {
     let Some(profile) = profile_from(options) else {
@@ -72,7 +72,7 @@ pub extern "C" fn aclck_normalize_inherit(
 }
 
 fn five_forms(alloc: Global, acl: &[u8], profile: Profile) -> Result<Vec<u8>, Failure>
-    ensures ok { IfOk result (λ text. NormalisesAtPaths (profile_of profile) acl.now text.items) }
+    ensures ok { IfOk result (λ text. NormalizesAtPaths (profile_of profile) acl.now text.items) }
     ensures err { IfErr result (IsListFailure (profile_of profile) acl.now 0) }
 {
     let list = list_of(alloc, acl, profile)?;

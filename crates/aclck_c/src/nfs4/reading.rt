@@ -1,14 +1,12 @@
-//! Lists of bytes, and texts of lists.
-ghost use Rattle.acl_nfs4.specs.AceText.{ace_text};
+//! Lists of bytes.
 ghost use Rattle.acl_nfs4.specs.Spelling.{Xdr};
-ghost use Rattle.std.specs.Prelude.{◌≡◌};
 ghost use Rattle.aclck_c.specs.Common.{IfErr, IfOk, profile_of, IsListFailure};
 
 use crate::failure::Failure;
 use crate::refusal::Refusal;
 use acl_nfs4::{Acl, AclView};
-use acl_perm::{Counted, Profile};
-use std::alloc::{AllocError, Global};
+use acl_perm::Profile;
+use std::alloc::Global;
 
 /// Returns the list that all of the bytes spell.
 pub(crate) fn list_of(alloc: Global, bytes: &[u8], profile: Profile) -> Result<Acl, Failure>
@@ -27,16 +25,5 @@ pub(crate) fn second_list_of(alloc: Global, bytes: &[u8], profile: Profile) -> R
     match AclView::parse_whole_with(bytes, profile) {
         Ok(view) => Ok(Acl::from_view(alloc, &view)?),
         Err(fault) => Err(Failure::Refused(Refusal::in_list(fault.offset, fault.reason, 1))),
-    }
-}
-
-/// Returns the text of a list.
-pub(crate) fn text_of(alloc: Global, list: &Acl) -> Result<Vec<u8>, AllocError>
-    ensures { IfOk result (λ text. text.items ≡ ace_text list.now) }
-{
-    let mut text = Counted::new(Vec::new(alloc));
-    match list.write_text(&mut text) {
-        Ok(()) => Ok(text.into_inner()),
-        Err(_) => Err(AllocError),
     }
 }

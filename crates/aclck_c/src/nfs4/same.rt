@@ -27,7 +27,7 @@ pub extern "C" fn aclck_same(
     ensures answer { SaysYesOrNo
         (AreSameOrNot (profile_from options) first.now second.now) result }
     ensures input { ReadsTwoLists (profile_from options) first.now second.now
-        (IsProfileOption options) status.memory fault.old fault.new result }
+        (IsProfileOption options) status.yes_or_no fault.old fault.new result }
 {
     let Some(profile) = profile_from(options) else {
         return BAD_ARGUMENT;

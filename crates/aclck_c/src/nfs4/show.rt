@@ -4,7 +4,7 @@ ghost use Rattle.acl_nfs4.specs.Programs.{MakesText};
 ghost use Rattle.aclck_c.specs.Common.{IfErr, IfOk, profile_of, WritesOfList, profile_from, IsListFailure, IsProfileOption};
 
 use crate::failure::Failure;
-use crate::nfs4::reading::{list_of, text_of};
+use crate::nfs4::reading::list_of;
 use crate::options::profile_from;
 use crate::out::answer;
 use crate::refusal::Refusal;
@@ -41,5 +41,5 @@ fn shown(alloc: Global, acl: &[u8], profile: Profile) -> Result<Vec<u8>, Failure
     ensures err { IfErr result (IsListFailure (profile_of profile) acl.now 0) }
 {
     let list = list_of(alloc, acl, profile)?;
-    Ok(text_of(alloc, &list)?)
+    Ok(list.to_text(alloc)?)
 }

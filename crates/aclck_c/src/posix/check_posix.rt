@@ -35,7 +35,7 @@ pub extern "C" fn aclck_check_posix(
     ensures answer { SaysYesOrNo (Checks (SpellsFile names.now text.now) (object_of owner group)
         (requester_of user groups.now) want) result }
     ensures input { ReadsFile names.now (IsRefusedPosix names.now text.now)
-        (AreGoodIds owner group user groups.now want) status.memory fault.old fault.new result }
+        (AreGoodIds owner group user groups.now want) status.yes_or_no fault.old fault.new result }
 {
     let Some(request) = asked(owner, group, user, want) else {
         return BAD_ARGUMENT;

@@ -3,8 +3,8 @@ use Rattle.std.specs.Prelude.{◌∷◌, bit_and}
 use Rattle.acl_nfs4.specs.Ace.{ace}
 use Rattle.acl_eval.specs.Situation.{situation}
 use Rattle.acl_eval.specs.Grant.{is_allow}
-use Rattle.acl_eval.specs.Scan.{scan}
-use Rattle.acl_eval.proofs.Scans.{passes, silent, last_allowed}
+use Rattle.acl_eval.specs.Scan.{scan, without}
+use Rattle.acl_eval.proofs.Scans.{allowed, last_allowed, passes, not_applied, some_left}
 use Rattle.acl_eval.proofs.grant.scan.Goals.{else-common-ne0-via-then-common-ne0+else-is_meant_by, else-common-ne0-via-else-common-ne0}
 use Rattle.acl_eval.proofs.grant.scan.Goals as goal
 
@@ -16,11 +16,23 @@ loop-ace-preserved c =
     let whole = ap (λ list. scan list s left) (sym c.in-Some.ensures.steps.0) ∙ c.loop-ace.invariant.3 in
     let step : scan c.next.new.self s left ≡ scan (a ∷ c.next.new.self) s left = elim c.else-common-ne0.branch [
       | else-common-ne0-via-then-common-ne0+else-is_meant_by w ↦
-          silent a c.next.new.self s left (sym w.is_meant_by.ensures ∙ w.if-is_meant_by.false)
+          not_applied a c.next.new.self s left (sym w.is_meant_by.ensures ∙ w.if-is_meant_by.false)
       | else-common-ne0-via-else-common-ne0 w ↦
           passes a c.next.new.self s left (ap (bit_and left) (sym c.bits.ensures.value) ∙ w.if-common-ne0.false)
     ] in
     (tt, tt, c.loop-ace.invariant.2, step ∙ whole)
+
+pub loop-ace-preserved-then-is_meant_by : goal.loop-ace-preserved-then-is_meant_by
+loop-ace-preserved-then-is_meant_by c =
+    let s = situation c.args.standing.now.object c.args.standing.now.requester in
+    let a = ace c.in-Some.ace in
+    let left = c.loop-ace.left in
+    let whole = ap (λ list. scan list s left) (sym c.in-Some.ensures.steps.0) ∙ c.loop-ace.invariant.3 in
+    let step : scan c.next.new.self s (without left c.bits.result) ≡ scan (a ∷ c.next.new.self) s left =
+    ap (λ m. scan c.next.new.self s (without left m)) c.bits.ensures.value
+    ∙ allowed a c.next.new.self s left c.loop-ace.invariant.2
+    (sym c.is_meant_by.ensures ∙ c.if-is_meant_by.true) (ap is_allow c.in-Allow-2.is) in
+    (tt, tt, some_left left c.bits.result c.if-common-left.false, step ∙ whole)
 
 pub returns-in-Allow : goal.returns-in-Allow
 returns-in-Allow c =

@@ -6,7 +6,7 @@ use Rattle.acl_eval.proofs.laws.bridge_and_check.Goals as goal
 pub returns : goal.returns
 returns c =
     let access : IsAccess c.args.acl.now =
-    record { valid = c.entries-entries.ensures.valid; within = c.entries-entries.ensures.within } in
+    record { valid = c.entries.ensures.valid; within = c.entries.ensures.within } in
     let asked : IsAsked (record { user = c.args.owner.value; group = c.args.group.value })
     (record { user = c.args.user.value; groups = ids c.args.groups.now }) = record {
       owner = c.args.owner.within;

@@ -3,7 +3,7 @@ use Rattle.acl_nfs4.proofs.Common.{[], ap, append-nil, append_assoc, arith, case
 use Rattle.std.proofs.lemmas.Slice.{take-put_mid}
 use Rattle.acl_nfs4.proofs.xdr.Fields.{IsBytes-take, bytes_append}
 
--- what follows the first word
+-- the bytes that are kept apart are those behind the first word of the stream
 pub behind_word : (head body : List ℕ) (filled : ℕ) → IsText head filled body → body ≡ drop 4 (take filled head ++ body)
 behind_word head body filled is =
     elim (cases_lt filled 4) [
@@ -20,7 +20,7 @@ behind_word head body filled is =
           (omega (arith, length-take filled head, is.word, is.inside, all)))
     ]
 
--- a cut behind the first word
+-- after a cut behind the first word the fields still hold a stream
 pub cut_text : (head body kept : List ℕ) (filled used : ℕ) → kept ≡ take used body → IsText head filled body
     → IsText head filled kept
 cut_text head body kept filled used e is = record {
@@ -34,12 +34,12 @@ cut_text head body kept filled used e is = record {
       subst (λ (t : List ℕ). IsBytes t) cut (IsBytes-take (length front + used) (front ++ body) is.bytes);
 }
 
--- the parts of a piece: the bytes that the first word lacks, and the rest
+-- the fields hold the stream with one more piece
 pub record Extends (head body piece front rest after now : List ℕ) (filled : ℕ) : Type 0 where
   pub is : IsText after (filled + length front) now
   pub text : take (filled + length front) after ++ now ≡ (take filled head ++ body) ++ piece
 
--- a piece that goes on behind the stream so far
+-- after a piece the fields hold the stream with that piece
 pub extends : (head body piece front rest after now : List ℕ) (filled k n : ℕ) → IsText head filled body
     → IsBytes piece → n ≤ length piece → n ≤ 4 - filled → (n < 4 - filled → length piece ≤ n)
     → front ≡ take n piece → rest ≡ drop n piece → k ≡ length front → after ≡ put_mid filled k head front

@@ -9,14 +9,14 @@ use Rattle.acl_normal.proofs.bit_table.places.Goals.{then-is_in, else-is_in}
 pub bounds-rows-place : goal.bounds-rows-place
 bounds-rows-place c =
     let row = has_row c.args.aces.now c.args.masks.now c.args.rows.now c.loop-place.place c.requires.masks
-    c.requires.rows c.loop-place-test.true in
+    c.requires.rows (omega (arith, c.loop-place-test.true, c.requires.masks)) in
     omega (arith, row.there)
 
 pub index_mut-requires : goal.index_mut-requires
 index_mut-requires c =
     let xs = with_masks c.args.aces.now (mask_numbers c.args.masks.now) in
     let count = masked_count c.args.aces.now c.args.masks.now c.requires.masks in
-    let within : c.loop-place.place < length xs = omega (arith, count, c.loop-place-test.true) in
+    let within : c.loop-place.place < length xs = omega (arith, count, c.loop-place-test.true, c.requires.masks) in
     omega (
       arith,
       count,
@@ -31,13 +31,13 @@ loop-place-preserved c =
     let place = c.loop-place.place in
     let count = masked_count c.args.aces.now c.args.masks.now c.requires.masks in
     let mask = mask_of c.args.aces.now c.args.masks.now place c.index-masks-place.result c.requires.masks
-    c.loop-place-test.true c.index-masks-place.is in
+    (omega (arith, c.loop-place-test.true, c.requires.masks)) c.index-masks-place.is in
     elim c.if-is_in.branch [
       | then-is_in w ↦
           subst (λ v. (vec_len v ≡ length c.args.aces.now) × NotesTo b xs v.items (place + 1)) (sym w.places-is) (
             c.loop-place.invariant.0,
             noted_more b xs c.args.rows.now c.loop-place.places.items place c.requires.rows
-                c.requires.tidy (omega (arith, count, c.loop-place-test.true))
+                c.requires.tidy (omega (arith, count, c.loop-place-test.true, c.requires.masks))
                 (omega (arith, count, c.loop-place.places.ok, c.loop-place.invariant.0))
                 (ap (λ m. has_bit m b) mask ∙ sym c.is_in.ensures ∙ w.if-is_in.true) c.loop-place.invariant.1,
           )
@@ -53,4 +53,4 @@ pub returns-clause-places : goal.returns-clause-places
 returns-clause-places c =
     let count = masked_count c.args.aces.now c.args.masks.now c.requires.masks in
     noted_all c.args.right.bit (with_masks c.args.aces.now (mask_numbers c.args.masks.now)) c.loop-place.places.items
-    c.loop-place.place (omega (arith, count, c.loop-place-test.false)) c.loop-place.invariant.1
+    c.loop-place.place (omega (arith, count, c.loop-place-test.false, c.requires.masks)) c.loop-place.invariant.1

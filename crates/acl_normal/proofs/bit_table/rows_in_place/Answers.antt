@@ -19,12 +19,12 @@ loop-place-preserved c =
     c.loop-place-test.true c.index-masks-place.is in
     elim c.if-is_in.branch [
       | then-is_in+in_ok-push w ↦
-          let item = shown w.index-aces-place.result c.index-masks-place.result in
+          let item = shown c.index-aces-place.result c.index-masks-place.result in
           subst (λ rows. AreRows b xs (with_bit b (all_cleared (take (place + 1) xs))) (map of_borrowed rows.items))
           (sym w.rows-is)
           (row_in_place b xs place item c.loop-place.rows.items _ w.row_at.result within
-          (shown_at c.args.aces.now c.args.masks.now place w.index-aces-place.result c.index-masks-place.result inside
-          within w.index-aces-place.is c.index-masks-place.is)
+          (shown_at c.args.aces.now c.args.masks.now place c.index-aces-place.result c.index-masks-place.result inside
+          within c.index-aces-place.is c.index-masks-place.is)
           (sym c.is_in.ensures ∙ w.if-is_in.true) c.requires.tidy w.row_at.ensures.kind w.row_at.ensures.who
           w.row_at.ensures.group w.row_at.ensures.source w.in_ok-push.ensures.items c.loop-place.invariant)
       | else-is_in w ↦

@@ -1,7 +1,7 @@
 use Rattle.std.proofs.lemmas.Option.{IfSome_then}
-use Rattle.acl_normal.proofs.unique.Bits.{first_right, no_right_left}
 use Rattle.acl_perm.proofs.Sets.{IsMask-lt}
 use Rattle.acl_normal.proofs.bits.next_right.Goals as goal
+use Rattle.acl_normal.proofs.unique.NextRight.{first_right, no_right_left}
 
 pub returns-clause-some : goal.returns-clause-some
 returns-clause-some c =

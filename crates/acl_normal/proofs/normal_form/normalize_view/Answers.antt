@@ -1,5 +1,4 @@
-use Rattle.acl_normal.proofs.Common.{Ace, all_cleared, all_rights, ap, emitted_aces, full, IfOk-weaker, IsAccepted, IsNormal, IsNormalFormOf, IsReducedOf, left, List, mask_numbers, refl, SameGrants, subst, sym, with_masks, ◌∙◌, ◌≡◌}
-use Rattle.acl_normal.specs.internal.emit.Rising.{IsRising}
+use Rattle.acl_normal.proofs.Common.{Ace, all_rights, ap, emitted_aces, full, IfOk-weaker, IsAccepted, IsNormal, IsNormalFormOf, IsReducedOf, List, mask_numbers, SameGrants, subst, sym, with_masks, ◌∙◌, ◌≡◌}
 use Rattle.acl_normal.proofs.emit.Risen.{rising_form_of}
 use Rattle.acl_normal.proofs.unique.Forming.{empty_form}
 use Rattle.acl_normal.proofs.unique.Taken.{form_of_reduced}
@@ -10,26 +9,19 @@ returns-then-is_empty-clause-form c = rw (c.is_empty.ensures.0 c.if-is_empty.tru
 
 pub cleared-requires-clause-accepted : goal.cleared-requires-clause-accepted
 cleared-requires-clause-accepted c =
-    let rising = rw (c.deref.ensures.value, c.deref-2.ensures.value) at (c.rises.ensures c.if-rises.true) in
-    rw (c.deref-then-rises.ensures.value, c.deref-then-rises-2.ensures.value)
-    (rising_form_of c.args.list.now _ c.in_ok-reduced.ensures.left rising).accepted
-
--- what is left is its own normal form, but for its flags
-cleared_form : (list xs ys form : List Ace) → ys ≡ xs → IsReducedOf list xs → IsRising (left xs)
-    → form ≡ all_cleared (left ys) → IsNormalFormOf list form
-cleared_form list xs ys form same reduced rising is =
-    subst (IsNormalFormOf list) (sym (is ∙ ap (λ v. all_cleared (left v)) same)) (rising_form_of list xs reduced rising)
+    let xs = with_masks c.as_slice-aces.result.now (mask_numbers c.as_slice-masks.result.now) in
+    let reduced : IsReducedOf c.args.list.now xs =
+    rw (c.as_slice-aces.ensures.value, c.as_slice-masks.ensures.value) c.in_ok-reduced.ensures.left in
+    (rising_form_of c.args.list.now xs reduced (c.rises.ensures c.if-rises.true)).accepted
 
 pub returns-then-rises-clause-form : goal.returns-then-rises-clause-form
 returns-then-rises-clause-form c =
-    let list = c.args.list.now in
-    let reduced = c.in_ok-reduced.reduced in
-    let xs = with_masks reduced.aces.items (mask_numbers reduced.masks.items) in
-    let ys = with_masks c.deref-then-rises.result.now (mask_numbers c.deref-then-rises-2.result.now) in
-    let same : ys ≡ xs = rw (c.deref-then-rises.ensures.value, c.deref-then-rises-2.ensures.value) refl in
-    let rising = rw (c.deref.ensures.value, c.deref-2.ensures.value) at (c.rises.ensures c.if-rises.true) in
-    IfOk-weaker c.cleared.result _ (λ form. IsNormalFormOf list form)
-    (λ form e. cleared_form list xs ys form same c.in_ok-reduced.ensures.left rising e) c.cleared.ensures
+    let xs = with_masks c.as_slice-aces.result.now (mask_numbers c.as_slice-masks.result.now) in
+    let reduced : IsReducedOf c.args.list.now xs =
+    rw (c.as_slice-aces.ensures.value, c.as_slice-masks.ensures.value) c.in_ok-reduced.ensures.left in
+    IfOk-weaker c.cleared.result _ (IsNormalFormOf c.args.list.now)
+    (λ form is. subst (IsNormalFormOf c.args.list.now) (sym is)
+    (rising_form_of c.args.list.now xs reduced (c.rises.ensures c.if-rises.true))) c.cleared.ensures
 
 -- what was emitted is the normal form
 emitted_form : (list xs rows ns : List Ace) → IsReducedOf list xs → rows ≡ xs → IsNormal ns
@@ -40,7 +32,7 @@ emitted_form list xs rows ns reduced is normal grants =
 pub written-requires : goal.written-requires
 written-requires c =
     let f = c.in_ok-form.ensures in
-    subst (λ v. IsAccepted full (emitted_aces v)) (sym c.deref-4.ensures.value)
+    subst (λ v. IsAccepted full (emitted_aces v)) (sym c.deref-2.ensures.value)
     (emitted_form c.args.list.now _ _ _ c.in_ok-reduced.ensures.left c.in_ok-rows.ensures f.normal f.grants).accepted
 
 pub returns-clause-form : goal.returns-clause-form
@@ -48,5 +40,5 @@ returns-clause-form c =
     let list = c.args.list.now in
     let f = c.in_ok-form.ensures in
     IfOk-weaker c.written.result _ (λ form. IsNormalFormOf list form)
-    (λ form e. subst (IsNormalFormOf list) (sym (e ∙ ap emitted_aces c.deref-4.ensures.value))
+    (λ form e. subst (IsNormalFormOf list) (sym (e ∙ ap emitted_aces c.deref-2.ensures.value))
     (emitted_form list _ _ _ c.in_ok-reduced.ensures.left c.in_ok-rows.ensures f.normal f.grants)) c.written.ensures

@@ -1,6 +1,6 @@
 use Rattle.acl_normal.proofs.Common.{AceRef, aces_in, ap, mask_numbers, column, IsReducedOf, IsTidy, List, nothing_left, subst, sym, with_masks, ℕ, ◌∙◌, ◌≡◌}
-use Rattle.acl_normal.proofs.rows.Rows.{order_alike, rows_alike}
 use Rattle.acl_normal.proofs.reduce.reduced_list.Goals as goal
+use Rattle.acl_normal.proofs.rows.RowsAlike.{order_alike, rows_alike}
 
 -- what is left has the outline of the ACEs
 outline_left : (one two aces : List AceRef) (masks : List ℕ) → one ≡ aces → two ≡ aces

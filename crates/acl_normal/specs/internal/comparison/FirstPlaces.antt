@@ -1,4 +1,4 @@
--- Where two lists first speak of each principal, and what they say there (this library's own).
+-- The first ACE that concerns a principal in each of two lists, and what it says (this library's own).
 use Rattle.std.specs.Prelude.{◌≡◌, ℕ, ◌<◌, ◌≤◌, ◌+◌, Bool, true, false, not, ◌&&◌, if◌then◌else◌, nat_lt, ◌==◌, drop, slice_index_or, slice_set, List, [], ◌∷◌, length}
 use Rattle.std.specs.List.{AllByRecursion, AllZip, list_any}
 use Rattle.acl_eval.specs.Column.{takes_part}
@@ -19,8 +19,8 @@ use Rattle.acl_perm.specs.Overlap.{may_overlap}
 use Rattle.acl_perm.specs.Principal.{Principal, everyone, is_user}
 use Rattle.acl_perm.specs.declared.kind.Kind.TheVariants.{Deny}
 
--- the place of the first ACE that has the bit, takes part, and is of the set or everyone; the length of the list where
--- there is none
+-- the place of the first ACE that has the right, takes part, and is of the set or everyone; the length of the list
+-- where there is none
 abbrev pub first_place : List Principal → ℕ → List Ace → ℕ
 first_place set bit [] = 0
 first_place set bit (a ∷ list) =
@@ -32,7 +32,7 @@ pub record IsFirst (list : List Ace) (bit : ℕ) (p : Principal) (f : First) : T
   pub place : f.place ≡ first_place (p ∷ []) bit list
   pub allows : is_allow f.kind ≡ is_granted_to list (p ∷ []) bit
 
--- what both lists say first of a principal
+-- the first ACE that concerns a principal in each of both lists
 pub record IsStanding (list other : List Ace) (bit : ℕ) (p : Principal) (r : Standing) : Type 0 where
   pub here : IsFirst list bit p r.here
   pub there : IsFirst other bit p r.there
@@ -47,7 +47,7 @@ inverts r s = (not (is_users r.class && is_users s.class) && differ (is_allow r.
 abbrev pub inverts_any : Standing → List Standing → Bool
 inverts_any r = list_any (inverts r)
 
--- on one bit, the lists grant alike wherever this principal and another that may overlap match
+-- on one right, the lists grant the same wherever this principal and another that may overlap match
 abbrev pub AgreesAt : List Ace → List Ace → List Principal → ℕ → Principal → Type 0
 AgreesAt list other whole bit p = AllByRecursion (λ q. may_overlap p q ≡ true
     → is_granted_to list (p ∷ q ∷ []) bit ≡ is_granted_to other (p ∷ q ∷ []) bit) whole
@@ -104,37 +104,37 @@ pub record IsWhom (whole : List Principal) (a : Ace) (w : Whom) : Type 0 where
 abbrev pub AreWhoms : List Principal → List Ace → List Whom → Type 0
 AreWhoms whole list ws = AllZip (IsWhom whole) list ws
 
--- what stands for a first ACE behind a list of them
+-- the default for a first ACE after the end of a list
 abbrev pub no_first : First
 no_first = record { place = 0; kind = Deny }
 
--- what the ACEs from a place on say first
+-- the first ACE from a place on that concerns a principal
 pub record IsFirstFrom (list : List Ace) (bit i : ℕ) (p : Principal) (f : First) : Type 0 where
   pub place : f.place ≡ first_place (p ∷ []) bit (drop i list) + i
   pub allows : is_allow f.kind ≡ is_granted_to (drop i list) (p ∷ []) bit
 
--- what the ACEs from a place on say first of each principal
+-- for each principal, the first ACE from a place on that concerns it
 pub record AreFirstFrom (whole : List Principal) (list : List Ace) (bit i : ℕ) (firsts : List First) : Type 0 where
   pub count : length firsts ≡ length whole
   pub each : (k : ℕ) → k < length whole
       → IsFirstFrom list bit i (slice_index_or whole k everyone) (slice_index_or firsts k no_first)
 
--- where each principal stands
+-- the standing of each principal
 pub record AreStandings (whole : List Principal) (list other : List Ace) (bit : ℕ) (standings : List Standing) :
     Type 0 where
   pub each : AllZip (IsStanding list other bit) whole standings
 
--- what stands for an ACE behind a list
+-- the default for an ACE after the end of a list
 abbrev pub no_ace : Ace
 no_ace = record { kind = Deny; flags = 0; mask = 0; who = [] }
 
--- the ACE has the bit, and is of everyone
+-- the ACE has the right and names everyone
 abbrev pub stops : ℕ → Ace → Whom → Bool
 stops bit a Nobody = false
 stops bit a (One i) = false
 stops bit a Everyone = has_bit a.mask bit
 
--- the ACE at a place has the bit, and is of everyone
+-- the ACE at a place has the right and names everyone
 abbrev pub stops_at : List Ace → List Whom → ℕ → ℕ → Bool
 stops_at list ws bit k = stops bit (slice_index_or list k no_ace) (slice_index_or ws k Nobody)
 
@@ -145,7 +145,7 @@ put firsts a (One i) place bit =
     if has_bit a.mask bit then slice_set firsts i (record { place = place; kind = a.kind }) else firsts
 put firsts a Everyone place bit = firsts
 
--- what stands for a standing behind a list of them
+-- the default for a standing after the end of a list
 abbrev pub no_standing : Standing
 no_standing = record { here = no_first; there = no_first; class = Users }
 
@@ -187,11 +187,11 @@ AlikeAlone list other whole bit k =
     is_granted_to list (slice_index_or whole k everyone ∷ []) bit
     ≡ is_granted_to other (slice_index_or whole k everyone ∷ []) bit
 
--- to one and each other
+-- both lists grant alike to the pair of one principal and any other
 abbrev pub AlikeWithAll : List Ace → List Ace → List Principal → ℕ → ℕ → Type 0
 AlikeWithAll list other whole bit k = AgreesAt list other whole bit (slice_index_or whole k everyone)
 
--- to one and a certain other
+-- both lists grant alike to a principal and this other one, if the two may overlap
 abbrev pub AlikeWith : List Ace → List Ace → Principal → List Principal → ℕ → ℕ → Type 0
 AlikeWith list other p rest bit k = may_overlap p (slice_index_or rest k everyone) ≡ true
     → is_granted_to list (p ∷ slice_index_or rest k everyone ∷ []) bit

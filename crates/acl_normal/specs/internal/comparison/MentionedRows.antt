@@ -6,7 +6,7 @@ use Rattle.acl_eval.specs.Column.{takes_part}
 use Rattle.acl_nfs4.specs.Ace.{Ace}
 use Rattle.acl_nfs4.specs.Who.{principal_of}
 use Rattle.acl_normal.specs.Keys.{principal_eq}
-use Rattle.acl_normal.specs.SmallSets.{is_mentioning, mentioned_with}
+use Rattle.acl_normal.specs.SmallSets.{is_mentioning, mentioned_in}
 use Rattle.acl_normal.specs.SmallSituations.{is_among}
 use Rattle.acl_normal.specs.declared.comparison.mentioned.Mentions.{Mentions}
 use Rattle.acl_normal.specs.declared.comparison.standing.Whom.{Whom}
@@ -20,7 +20,7 @@ use Rattle.acl_normal.specs.internal.comparison.TwoLists.{TwoLists, all_mentione
 abbrev pub mentioned_by : Ace → Option Principal
 mentioned_by a = if is_mentioning a then Some (principal_of a) else None
 
--- who stands in a row of a table, if anyone
+-- the principal in a row of a table, if there is one
 abbrev pub at_row : List (Option PrincipalRef) → ℕ → Option Principal
 at_row table row = option_map principal (slice_index_or table row None)
 
@@ -28,7 +28,7 @@ at_row table row = option_map principal (slice_index_or table row None)
 pub record IsMentionedAt (xs : List Ace) (row : ℕ) (p : Principal) : Type 0 where
   pub row_is : row ≡ row_of p xs
   pub named : is_principal_of p xs ≡ true
-  pub mentioned : is_among p (mentioned_with [] xs) ≡ true
+  pub mentioned : is_among p (mentioned_in xs) ≡ true
 
 -- by row, just the principals that the first n ACEs of a list mention, and others that it mentions
 pub record AreByRow (xs : List Ace) (n : ℕ) (table : List (Option PrincipalRef)) : Type 0 where
@@ -54,7 +54,7 @@ held [] = []
 held (None ∷ table) = held table
 held (Some p ∷ table) = principal p ∷ held table
 
--- those of the first n rows, and how many stand before each of these rows
+-- the principals of the first n rows, and how many of them are before each of these rows
 pub record AreMentionedNumbers (table : List (Option PrincipalRef)) (n : ℕ)
     (whole : List Principal) (numbers : List ℕ) :
     Type 0 where
@@ -67,7 +67,7 @@ abbrev pub whom_of : Ace → ℕ → Whom
 whom_of a number =
     if takes_part a then (if principal_eq (principal_of a) everyone then Everyone else One number) else Nobody
 
--- the principal stands at the number
+-- the principal has this number
 pub record HasNumber (whole : List Principal) (p : Principal) (number : ℕ) : Type 0 where
   pub within : number < length whole
   pub is : p ≡ slice_index_or whole number everyone
@@ -82,7 +82,7 @@ pub record AreMentionedRows (xs : List Ace) (rows : List ℕ) (whole : List Prin
 
 -- the principals that a list mentions, in order, and whom of these each ACE names
 pub record AreMentionsOf (xs : List Ace) (found : Mentions) : Type 0 where
-  pub in_order : principals found.principals.items ≡ mentioned_with [] xs
+  pub in_order : principals found.principals.items ≡ mentioned_in xs
   pub whoms : AreWhoms (principals found.principals.items) xs found.whoms.items
 
 -- the principals that two lists mention, in order, and whom of these each ACE names: of the first list, and then of the

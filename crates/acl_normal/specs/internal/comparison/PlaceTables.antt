@@ -1,4 +1,4 @@
--- Tables that tell at once whether a principal inverts another (this library's own).
+-- Tables that show at once whether a principal inverts another (this library's own).
 use Rattle.std.specs.Prelude.{◌≡◌, ℕ, ◌<◌, ◌≤◌, ◌+◌, Bool, true, false, not, ◌&&◌, ◌||◌, ◌==◌, if◌then◌else◌, nat_lt, List, [], ◌∷◌, max, length, slice_index_or}
 use Rattle.acl_normal.specs.internal.comparison.FirstPlaces.{inverts_any, no_standing}
 use Rattle.acl_normal.specs.internal.comparison.SetSearch.{differ}
@@ -23,14 +23,14 @@ abbrev pub other_place : Side → Standing → ℕ
 other_place Here r = r.there.place
 other_place There r = r.here.place
 
--- one more than the greatest place, in the other list, of those that count and stand before a place in the one
+-- one more than the greatest place in the other list of the counted principals before a place in the one list
 abbrev pub most_before : Camp → Side → ℕ → List Standing → ℕ
 most_before camp side k [] = 0
 most_before camp side k (r ∷ standings) =
     max (if is_counted camp r && nat_lt (place_of side r) k then other_place side r + 1 else 0)
     (most_before camp side k standings)
 
--- one more than the greatest place, in the other list, of those that count and stand just before a place in the one
+-- one more than the greatest place in the other list of the counted principals just before a place in the one list
 abbrev pub most_at : Camp → Side → ℕ → List Standing → ℕ
 most_at camp side k [] = 0
 most_at camp side k (r ∷ standings) =
@@ -42,19 +42,19 @@ pub record IsStandingWithin (size : ℕ) (r : Standing) : Type 0 where
   pub here : r.here.place ≤ size
   pub there : r.there.place ≤ size
 
--- at each place the greatest of those before it
+-- the table has, at each place, the number of `most_before`
 pub record IsPlaceTable (camp : Camp) (side : Side) (size : ℕ) (standings : List Standing) (table : List ℕ)
     : Type 0 where
   pub count : length table ≡ size + 2
   pub each : (k : ℕ) → k < size + 2 → slice_index_or table k 0 ≡ most_before camp side k standings
 
--- at each place the greatest of those just before it
+-- the table has, at each place, the number of `most_at`
 pub record IsScattered (camp : Camp) (side : Side) (size : ℕ) (standings : List Standing) (table : List ℕ) :
     Type 0 where
   pub count : length table ≡ size + 2
   pub each : (k : ℕ) → k < size + 2 → slice_index_or table k 0 ≡ most_at camp side k standings
 
--- what stands behind a principal's place is raised, if it is counted
+-- the number after a principal's place is raised, if the principal is counted
 pub record Raises (camp : Camp) (side : Side) (r : Standing) (old new : List ℕ) : Type 0 where
   pub count : length new ≡ length old
   pub each : (k : ℕ) → k < length old → slice_index_or new k 0
@@ -71,8 +71,8 @@ pub record HasNone (camp : Camp) (standings : List Standing) : Type 0 where
   pub each : (k : ℕ) → k < length standings → is_of_camp camp (slice_index_or standings k no_standing) ≡ false
 
 -- a principal is of a camp, and by the tables of it inverts another
-abbrev pub is_told : Camp → Standing → List ℕ → List ℕ → Bool
-is_told camp r forward back = is_of_camp camp r
+abbrev pub is_inverting : Camp → Standing → List ℕ → List ℕ → Bool
+is_inverting camp r forward back = is_of_camp camp r
     && (nat_lt r.there.place (slice_index_or forward r.here.place 0)
     || nat_lt r.here.place (slice_index_or back r.there.place 0))
 

@@ -13,7 +13,7 @@ use Rattle.acl_perm.specs.Kind.{is_allow}
 pub record AreApart (list other : List Ace) (mask : ℕ) : Type 0 where
   pub same : (bit : ℕ) → has_bit mask bit ≡ false → column list bit ≡ column other bit
 
--- the rights of an ACE that names someone, but for some
+-- the rights of an ACE that names someone, except these
 pub record HasOpenBits (a : Ace) (w : Whom) (apart mask : ℕ) : Type 0 where
   pub bits : (bit : ℕ) → has_bit mask bit ≡ ((has_bit a.mask bit && names_any w) && not (has_bit apart bit))
 

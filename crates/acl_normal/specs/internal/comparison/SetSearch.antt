@@ -1,4 +1,4 @@
--- The search for the first small set of principals at which two lists grant otherwise (this library's own).
+-- The search for the first small set of principals at which two lists do not grant the same (this library's own).
 use Rattle.std.specs.Prelude.{◌≡◌, ◌≢◌, ℕ, ◌<◌, ◌^◌, Bool, true, false, not, ◌&&◌, IsTrue, List, [], ◌∷◌, Option, Some, None, map, ◌⊎◌}
 use Rattle.std.specs.List.{AllByRecursion}
 use Rattle.std.specs.declared.cmp.Ordering.TheVariants.{Less}
@@ -12,7 +12,7 @@ use Rattle.acl_perm.specs.Bits.{all_rights, has_bit}
 use Rattle.acl_perm.specs.Order.{principal_cmp}
 use Rattle.acl_perm.specs.Principal.{Principal, everyone, principal}
 
--- the principals that those of the code stand for
+-- the principals of the code as plain data
 abbrev pub principals : List PrincipalRef → List Principal
 principals names = map principal names
 
@@ -21,7 +21,7 @@ abbrev pub IsRisingSet : List Principal → Type 0
 IsRisingSet [] = Unit {0}
 IsRisingSet (p ∷ rest) = AllByRecursion (λ q. principal_cmp p q ≡ Less) rest × IsRisingSet rest
 
--- what the list grants where just these principals match, and everyone
+-- what the list grants where exactly these principals match, and everyone
 abbrev pub is_granted_to : List Ace → List Principal → ℕ → Bool
 is_granted_to list set bit = is_allow (verdict (λ r. is_among r (everyone ∷ set)) (column list bit))
 
@@ -30,7 +30,7 @@ abbrev pub GrantAlikeTo : List Ace → List Ace → List Principal → Type 0
 GrantAlikeTo list other set = (bit : ℕ) → IsTrue (has_bit all_rights bit)
     → is_granted_to list set bit ≡ is_granted_to other set bit
 
--- the first of the sets at which the lists grant otherwise, if there is one
+-- the first of the sets at which the lists do not grant the same, if there is one
 abbrev pub FindsFirst : List Ace → List Ace → List (List Principal) → Option (List Principal) → Type 0
 FindsFirst list other [] found = found ≡ None
 FindsFirst list other (set ∷ sets) found = (GrantAlikeTo list other set × FindsFirst list other sets found)
@@ -42,7 +42,7 @@ pub record FindsSet (list other : List Ace) (sets : List (List Principal))
     (found : Option (List Principal)) : Type 0 where
   pub first : FindsFirst list other sets found
 
--- the bits of an ACE that takes part, if its principal is of the set or everyone
+-- the rights of an ACE that takes part, if its principal is of the set or everyone
 pub record HasBitsOf (a : Ace) (set : List Principal) (mask : ℕ) : Type 0 where
   pub bits : (bit : ℕ) → has_bit mask bit
       ≡ ((has_bit a.mask bit && takes_part a) && is_among (principal_of a) (everyone ∷ set))
@@ -52,7 +52,7 @@ abbrev pub differ : Bool → Bool → Bool
 differ true b = not b
 differ false b = b
 
--- the rights that the list grants where just these principals match, and everyone
+-- the rights that the list grants where exactly these principals match, and everyone
 pub record IsGrantedTo (list : List Ace) (set : List Principal) (mask : ℕ) : Type 0 where
   pub bits : (bit : ℕ) → has_bit mask bit ≡ is_granted_to list set bit
 

@@ -48,11 +48,11 @@ pub record AreWithin (both : TwoLists) (size : ℕ) : Type 0 where
   pub first : length both.first ≤ size
   pub second : length both.second ≤ size
 
--- where each mentioned principal stands in both lists, on a right
+-- the standings are those of the mentioned principals in both lists, on a right
 abbrev pub StandAs : TwoLists → ℕ → List Standing → Type 0
 StandAs both bit standings = AreStandings (all_mentioned both) both.first both.second bit standings
 
--- both lists grant alike where just these principals match, and everyone
+-- both lists grant alike where exactly these principals match, and everyone
 abbrev pub AreAlikeTo : TwoLists → List Principal → Type 0
 AreAlikeTo both set = GrantAlikeTo both.first both.second set
 
@@ -72,22 +72,22 @@ AlikeToPair both at = AlikeWith both.first both.second (principal_at both at) (l
 abbrev pub AreAlikeAlone : TwoLists → Type 0
 AreAlikeAlone both = (k : ℕ) → k < length (all_mentioned both) → OnAll (AlikeToOne both) k
 
--- the number of the first principal to whom alone the lists grant otherwise; the number of principals where there is
--- none
+-- the number of the first principal to whom alone the lists do not grant the same; if there is none, the number of
+-- principals
 abbrev pub IsFirstSingle : TwoLists → ℕ → Type 0
 IsFirstSingle both least = IsLeast (OnAll (AlikeToOne both)) (length (all_mentioned both)) least
 
--- the number of the first principal that is one of a pair to whom the lists grant otherwise; the number of principals
--- where there is none
+-- the number of the first principal that is one of a pair to whom the lists do not grant the same; if there is none,
+-- the number of principals
 abbrev pub IsFirstMember : TwoLists → ℕ → Type 0
 IsFirstMember both least = IsLeast (OnAll (AlikeToPairs both)) (length (all_mentioned both)) least
 
--- among the principals behind one, the number of the first with whom it is a pair to whom the lists grant otherwise;
--- the number of these principals where there is none
+-- among the principals behind one, the number of the first with whom it is a pair to whom the lists do not grant the
+-- same; if there is none, the number of these principals
 abbrev pub IsFirstPartner : TwoLists → ℕ → ℕ → Type 0
 IsFirstPartner both at least = IsLeast (OnAll (AlikeToPair both at)) (length (later_than both at)) least
 
--- what is found is the first small set at which the lists grant otherwise, if there is one
+-- what is found is the first small set at which the lists do not grant the same, if there is one
 abbrev pub FindSet : TwoLists → Option (List Principal) → Type 0
 FindSet both found = FindsSet both.first both.second (small_sets (all_mentioned both)) found
 
@@ -99,6 +99,6 @@ situation_at both set = small_situation (strange_length both.first both.second) 
 abbrev pub ShowsSituation : TwoLists → List Principal → Difference → Type 0
 ShowsSituation both set d = situation_of d ≡ situation_at both set
 
--- a difference names the lowest right on which the lists grant otherwise at a set, and whether the first grants it
+-- a difference names the lowest right on which the lists do not grant the same at a set, and whether the first grants it
 abbrev pub DifferLowestOn : TwoLists → List Principal → Difference → Type 0
 DifferLowestOn both set d = IsLowestDifference both.first both.second set d.bit.bits d.first_grants

@@ -12,8 +12,8 @@ abbrev pub emitted_ace : Emitted → Ace
 emitted_ace e = emitted (plain_key e.key) e.mask.bits
 
 -- the row of each is that of the principal in the list
-abbrev pub StandInRows : List Ace → List Emitted → Type 0
-StandInRows xs es = All (λ e. IsRowOf e.row (principal_of (emitted_ace e)) xs) es
+abbrev pub AreInRows : List Ace → List Emitted → Type 0
+AreInRows xs es = All (λ e. IsRowOf e.row (principal_of (emitted_ace e)) xs) es
 
 -- the list of the ACEs of these
 abbrev pub emitted_aces : List Emitted → List Ace

@@ -24,12 +24,12 @@ pub record IsLink (links : List Link) (at place : ℕ) : Type 0 where
   pub is : (link_in links at).place ≡ place
   pub falls : (link_in links at).next < at
 
--- from the link of a number on stand these places
+-- the links from a number on have these places
 abbrev pub IsChain : List Link → ℕ → List ℕ → Type 0
 IsChain links at [] = at ≡ 0
 IsChain links at (place ∷ places) = IsLink links at place × IsChain links (link_in links at).next places
 
--- the places from the link of a number on are a queue of a kind, a class and a bit
+-- the places from the link of a number on are a queue of a kind, a class and a right
 pub record IsQueueAt (k : Kind) (users : Bool) (b : ℕ) (xs : List Ace) (links : List Link) (at : ℕ) : Type 0 where
   pub places : List ℕ
   pub chain : IsChain links at places
@@ -50,12 +50,12 @@ pub record AreQueues (xs : List Ace) (queues : Queues) : Type 0 where
   pub each : (k : Kind) (users : Bool) (b : ℕ) → b < bit_count
       → IsQueueAt k users b xs queues.links.items (head_in queues (slot_of k users b))
 
--- the queue of a kind, a class and a bit begins where a place has the bit, or at its end
+-- the queue of a kind, a class and a right begins where a place has the right, or at its end
 abbrev pub BeginsWaiting : Kind → Bool → List Ace → Queues → ℕ → Type 0
 BeginsWaiting k users xs queues b = head_in queues (slot_of k users b) ≢ 0
     → has_bit (mask_here xs (place_in queues (head_in queues (slot_of k users b)))) b ≡ true
 
--- the queue of a kind, a class and a bit now begins so, and no other has changed
+-- the queue of a kind, a class and a right now begins so, and no other has changed
 pub record MovesOn (k : Kind) (users : Bool) (b : ℕ) (xs : List Ace) (old new : Queues) : Type 0 where
   pub links : new.links.items ≡ old.links.items
   pub first : BeginsWaiting k users xs new b
@@ -70,7 +70,7 @@ pub record PutsPlace (place slot : ℕ) (old new : Queues) : Type 0 where
 abbrev pub IsNoted : ℕ → ℕ → ℕ → ℕ → Type 0
 IsNoted n m b place = (n ≤ place) ⊎ ((place + 1 ≡ n) × (b < m))
 
--- from the link of a number on stand the places that wait of those that are noted
+-- the links from a number on have exactly those noted places that wait
 pub record IsNotedAt (k : Kind) (users : Bool) (b : ℕ) (xs : List Ace) (n m : ℕ) (links : List Link) (at : ℕ) : Type 0
   where
     pub places : List ℕ

@@ -48,6 +48,6 @@ given_name everyone = None
 abbrev pub BeginsWith : List ℕ → Principal → Type 0
 BeginsWith start p = (name : List ℕ) → given_name p ≡ Some name → start ≡ take (length start) name
 
--- so do the names that the ACEs have
+-- the name of each principal that an ACE names begins with these bytes
 abbrev pub AllBegin : List ℕ → List Ace → Type 0
 AllBegin start xs = (i : ℕ) → i < length xs → BeginsWith start (principal_here xs i)

@@ -9,7 +9,7 @@ use Rattle.acl_normal.specs.internal.Places.{bit_count, slot_count, slot_of}
 use Rattle.acl_normal.specs.internal.rows.Waiting.{has_place}
 use Rattle.acl_normal.specs.declared.merged.MergedRows.TheInside.{Inside}
 
--- the sets of places tell what waits of what is left
+-- the sets of places have the places that wait in what is left
 pub record IsMerged (a : Inside) : Type 0 where
   pub sets : vec_len a.waiting ≡ slot_count
   pub once : HasOnceColumns a.rest

@@ -26,28 +26,28 @@ abbrev pub remaining_of : Inside → List Ace
 remaining_of a =
     with_masks a.aces.items (masks_left (mask_numbers a.masks.items) a.rows.items (mask_numbers a.left.items))
 
--- the places, in order, are those of ACEs of the kind and the class; all that wait with the bit are among them, and of
--- these each waits whose mask still has the bit
+-- the places, in order, are those of ACEs of the kind and the class; all that wait with the right are among them, and
+-- of these each waits whose mask still has the right
 pub record IsQueue (k : Kind) (users : Bool) (b : ℕ) (xs : List Ace) (places : List ℕ) : Type 0 where
   pub sorted : IsStrictlySortedBy nat_cmp places
   pub within : (i : ℕ) → list_any (is_at (nat_cmp i)) places ≡ true → i < length xs
   pub listed : (i : ℕ) → list_any (is_at (nat_cmp i)) places ≡ true → waits k users b xs i ≡ has_bit (mask_here xs i) b
   pub all : (i : ℕ) → waits k users b xs i ≡ true → list_any (is_at (nat_cmp i)) places ≡ true
 
--- a list without bits that play no part, the rows of its principals by place, and its places in their order
+-- a list without rights that play no part, the rows of its principals by place, and its places in their order
 pub record IsNumbered (xs : List Ace) (numbers places : List ℕ) : Type 0 where
   pub tidy : IsTidy xs
   pub rights : (b : ℕ) → has_bit all_rights b ≡ false → column xs b ≡ []
   pub rows : AreRowNumbers xs numbers
   pub order : IsByPrincipal xs places
 
--- a list that may remain: it is short and tidy, and has no bit that is not a right
+-- a list that may remain: it is short and tidy, and has no mask with a bit that is not a right
 pub record IsRemainder (xs : List Ace) : Type 0 where
   pub few : length xs < 2 ^ 32
   pub tidy : IsTidy xs
   pub rights : (b : ℕ) → has_bit all_rights b ≡ false → column xs b ≡ []
 
--- masks by row tell what is left
+-- the masks by row say what is left
 pub record IsRemaining (a : Inside) : Type 0 where
   pub few : length a.aces.items < 2 ^ 32
   pub masks : vec_len a.masks ≡ length a.aces.items

@@ -43,7 +43,7 @@ abbrev pub tail_here : List Ace → HeadedPlace → List ℕ
 tail_here xs n = if is_whole n.head then [] else who_here xs n.place
 
 -- of two places, that with the lesser head is of an ACE that names the lesser principal, and where the heads are the
--- same, what they leave of the whos says how the principals stand to each other
+-- same, the rest of the whos decides the order of the principals
 pub record DoHeadsTell (xs : List Ace) (places : List HeadedPlace) : Type 0 where
   pub lesser : (m n : HeadedPlace) → Contains places m → Contains places n → m.head < n.head
       → principal_cmp (principal_here xs m.place) (principal_here xs n.place) ≡ Less

@@ -1,11 +1,11 @@
--- Rows of principals (this library's own): how they are numbered in a list, and where each of their rights stands.
+-- Rows of principals (this library's own): how they are numbered in a list, and the place of each of their rights.
 use Rattle.std.specs.Prelude.{◌≡◌, ℕ, ◌+◌, ◌*◌, ◌<◌, ◌≤◌, suc, Bool, true, false, cond, ◌||◌, List, [], ◌∷◌, Option, option_map, length, slice_index_or}
 use Rattle.std.specs.Ordering.{is_le, is_lt}
 use Rattle.acl_perm.specs.Order.{principal_cmp, kind_rank}
 use Rattle.acl_perm.specs.Principal.{Principal}
 use Rattle.acl_nfs4.specs.Ace.{Ace}
 use Rattle.acl_nfs4.specs.Who.{principal_of}
-use Rattle.acl_normal.specs.Keys.{Key, principal_eq}
+use Rattle.acl_normal.specs.Keys.{ColumnKey, principal_eq}
 use Rattle.acl_normal.specs.Places.{first_at}
 use Rattle.acl_normal.specs.internal.Places.{key_here}
 
@@ -20,12 +20,12 @@ row_of p [] = 0
 row_of p (a ∷ xs) = cond (is_lt (principal_cmp (principal_of a) p)) (suc (row_of p xs)) (row_of p xs)
 
 -- the number of a key: by row, and then by kind
-abbrev pub key_number : Key → List Ace → ℕ
+abbrev pub key_number : ColumnKey → List Ace → ℕ
 key_number k xs = 2 * row_of k.0 xs + kind_rank k.1
 
 -- if a key of the list has the number, it is this
-abbrev pub IsNumberOf : List Ace → ℕ → Key → Type 0
-IsNumberOf xs number found = (k : Key) → is_principal_of k.0 xs ≡ true → number ≡ key_number k xs → found ≡ k
+abbrev pub IsNumberOf : List Ace → ℕ → ColumnKey → Type 0
+IsNumberOf xs number found = (k : ColumnKey) → is_principal_of k.0 xs ≡ true → number ≡ key_number k xs → found ≡ k
 
 -- the principal is named, and this is its row
 pub record IsRowOf (row : ℕ) (p : Principal) (xs : List Ace) : Type 0 where
@@ -49,6 +49,6 @@ pub record IsByPrincipal (xs : List Ace) (order : List ℕ) : Type 0 where
   pub whole : (i : ℕ) → i < length xs
       → (k : ℕ) × (row_of (key_here xs i).0 xs ≤ k) × (k < length xs) × (slice_index_or order k 0 ≡ i)
 
--- the place of the first ACE of a principal with the bit
+-- the place of the first ACE of a principal with the right
 abbrev pub first_place_of : ℕ → Principal → List Ace → Option ℕ
 first_place_of b p xs = option_map (λ e. e.1) (first_at b p xs)

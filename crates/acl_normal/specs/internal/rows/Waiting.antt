@@ -26,7 +26,7 @@ pub record HoldWaiting (xs : List Ace) (sets : List (BTreeSet ℕ Global)) : Typ
   pub waiting : (k : Kind) (users : Bool) (b i : ℕ) → b < bit_count
       → has_place sets (slot_of k users b) i ≡ waits k users b xs i
 
--- a place was put into the sets of a kind and a class, of the bits below n of a mask, and no other set has changed
+-- a place was put into the sets of a kind and a class, of the rights below n of a mask, and no other set has changed
 pub record PutsBelow (place : ℕ) (kind : Kind) (users : Bool) (mask n : ℕ) (old new : List (BTreeSet ℕ Global))
     : Type 0 where
   pub slots : length new ≡ slot_count

@@ -1,5 +1,5 @@
 use Rattle.acl_posix.proofs.Common.{class_union, drop, pairs, ◌<◌, ◌≡◌}
-use Rattle.acl_posix.proofs.sorted.Masks.{union_from}
+use Rattle.acl_posix.proofs.sorted.ModeAndMask.{union_from}
 use Rattle.acl_posix.proofs.edits.class_union.Given as goal
 
 -- the union so far, united with the rest, is the union of all

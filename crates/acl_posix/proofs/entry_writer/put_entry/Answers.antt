@@ -1,5 +1,5 @@
-use Rattle.acl_posix.specs.internal.Writing.{entry_out}
-use Rattle.acl_posix.proofs.writer.Fronts.{put_both, put_whole}
+use Rattle.acl_posix.proofs.Common.{entry_out}
+use Rattle.acl_posix.proofs.writer.Putting.{put_both, put_whole}
 use Rattle.acl_posix.proofs.entry_writer.put_entry.Goals as goal
 
 pub returns-clause-text : goal.returns-clause-text

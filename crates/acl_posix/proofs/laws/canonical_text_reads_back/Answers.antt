@@ -1,5 +1,4 @@
-use Rattle.acl_posix.proofs.writer.Whole.{back}
-use Rattle.acl_posix.proofs.writer.LongTexts.{canonical_reads}
+use Rattle.acl_posix.proofs.Exports.{back, canonical_reads}
 use Rattle.acl_posix.proofs.laws.canonical_text_reads_back.Goals as goal
 
 pub returns : goal.returns

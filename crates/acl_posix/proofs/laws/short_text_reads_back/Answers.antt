@@ -1,5 +1,5 @@
-use Rattle.acl_posix.proofs.writer.Whole.{back}
-use Rattle.acl_posix.proofs.writer.ShortTexts.{short_reads}
+use Rattle.acl_posix.proofs.reader.Settled.{back}
+use Rattle.acl_posix.proofs.writer.ReadBack.{short_reads}
 use Rattle.acl_posix.proofs.laws.short_text_reads_back.Goals as goal
 
 pub returns : goal.returns

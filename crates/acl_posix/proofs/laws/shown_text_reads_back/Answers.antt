@@ -1,5 +1,5 @@
-use Rattle.acl_posix.proofs.writer.Whole.{back}
-use Rattle.acl_posix.proofs.writer.LongTexts.{shown_reads}
+use Rattle.acl_posix.proofs.reader.Settled.{back}
+use Rattle.acl_posix.proofs.writer.ReadBack.{shown_reads}
 use Rattle.acl_posix.proofs.laws.shown_text_reads_back.Goals as goal
 
 pub returns : goal.returns

@@ -1,7 +1,5 @@
-use Rattle.acl_posix.proofs.Common.{answers_always, rules, unpacked, ◌/◌}
-use Rattle.std.specs.Prelude.{nat_lt}
-use Rattle.std.proofs.lemmas.Simd.{map-map}
-use Rattle.acl_posix.proofs.sorting.Repeats.{in_order}
+use Rattle.acl_posix.proofs.Common.{answers_always, map-map, nat_lt, rules, unpacked, ◌/◌}
+use Rattle.acl_posix.proofs.sorting.ValidLists.{in_order}
 use Rattle.acl_posix.proofs.packed.Packings.{keys_less}
 use Rattle.acl_posix.proofs.packed.rises.Goals as goal
 

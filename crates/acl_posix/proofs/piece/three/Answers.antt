@@ -1,5 +1,5 @@
 use Rattle.acl_posix.proofs.Common.{span_of}
-use Rattle.acl_posix.proofs.piece.Threes.{too_many}
+use Rattle.acl_posix.proofs.reader.Judged.{too_many}
 use Rattle.acl_posix.proofs.piece.three.Goals as goal
 
 pub returns-in-Some-clause-value : goal.returns-in-Some-clause-value

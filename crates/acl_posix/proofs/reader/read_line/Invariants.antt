@@ -5,7 +5,7 @@ use Rattle.acl_posix.proofs.reader.read_line.Given as goal
 -- reading the rest of the line after the lists so far gives what reading the whole line gives
 abbrev pub invariant-loop-rest : goal.invariant-loop-rest
 invariant-loop-rest l = record {
-  told : read_pieces l.names (lists_of l.lists) (numbered l.number (pieces_left l.rest))
+  same : read_pieces l.names (lists_of l.lists) (numbered l.number (pieces_left l.rest))
       ≡ read_pieces l.names (lists_of l.fn.lists) (numbered l.number (line_pieces l.line));
   fits : FitsLeft l.rest;
 }

@@ -1,5 +1,5 @@
 use Rattle.acl_posix.proofs.Common.{ap, arith, is_some, IsFaultOf, length-map, pair_of, pairs, subst, sym, ◌∙◌}
-use Rattle.acl_posix.proofs.sorting.Repeats.{seen_again, seen_more}
+use Rattle.acl_posix.proofs.sorting.ValidLists.{seen_again, seen_more}
 use Rattle.acl_posix.proofs.sorting.first_repeat.Goals as goal
 
 pub loop-place-preserved : goal.loop-place-preserved

@@ -1,4 +1,4 @@
-use Rattle.acl_posix.proofs.sorting.Repeats.{IsSeen}
+use Rattle.acl_posix.proofs.sorting.ValidLists.{IsSeen}
 use Rattle.acl_posix.proofs.sorting.first_repeat.Given as goal
 
 -- the tags of the entries before the place are in the map, and none of them repeats one

@@ -1,6 +1,5 @@
-use Rattle.acl_posix.proofs.Common.{answers_always, code_cmp, Entry, is_lt, pair_of, refl, rules, tag_of}
-use Rattle.std.proofs.lemmas.Simd.{map-map}
-use Rattle.acl_posix.proofs.sorting.Repeats.{in_order}
+use Rattle.acl_posix.proofs.Common.{answers_always, code_cmp, Entry, is_lt, map-map, pair_of, refl, rules, tag_of}
+use Rattle.acl_posix.proofs.sorting.ValidLists.{in_order}
 use Rattle.acl_posix.proofs.sorting.is_in_order.Goals as goal
 
 pub returns : goal.returns

@@ -1,29 +1,17 @@
-use Rattle.acl_posix.proofs.Common.{Access, arith, Err, List, subst, true, WritesFrom, ℕ}
-use Rattle.acl_posix.proofs.writer.Bounds.{part_under}
+use Rattle.acl_posix.proofs.Common.{err_from_is_err_and, List, subst, WritesFrom, written_both, ℕ}
 use Rattle.acl_posix.proofs.writer.Forms.{form_is}
-use Rattle.acl_posix.proofs.entry_writer.Written.{cut_first}
-use Rattle.acl_perm.proofs.PieceLemmas.{written_both}
+use Rattle.acl_posix.proofs.writer.Putting.{cut_first}
 use Rattle.acl_posix.proofs.writer.put_file.Goals as goal
 
-pub put_part-requires-clause-room : goal.put_part-requires-clause-room
-put_part-requires-clause-room g c =
-    let under = part_under c.args.form Access c.args.access.now true c.entries-entries.ensures.within in
-    omega (arith, under)
+pub returns-in_err-done-clause-written : goal.returns-in_err-done-clause-written
+returns-in_err-done-clause-written g c =
+    let p = err_from_is_err_and c.from_residual.result c.from_residual.ensures.1 in
+    rw (p.1, p.2)
+    (cut_first _ _ 0 _ _ _ _ (form_is c.args.form _ _ c.entries-entries.ensures.valid) c.in_err-done.ensures.written)
 
-pub put_default-requires : goal.put_default-requires
-put_default-requires g c =
-    let under = part_under c.args.form Access c.args.access.now true c.entries-entries.ensures.within in
-    omega (arith, under, c.in-Ok.ensures.written.0)
-
-pub returns-in-Ok-clause-written : goal.returns-in-Ok-clause-written
-returns-in-Ok-clause-written g c =
+pub returns-clause-written : goal.returns-clause-written
+returns-clause-written g c =
+    let front = c.in_ok-done.ensures.written in
     subst (λ (t : List ℕ). WritesFrom (g.S.Sink.contents c.args.sink.now) (g.S.Sink.contents c.put_default.new.sink) 0 t
     c.put_default.result) (form_is c.args.form _ _ c.entries-entries.ensures.valid)
-    (written_both _ _ _ 0 c.in-Ok.done _ _ c.put_default.result c.in-Ok.ensures.written.0 c.in-Ok.ensures.written.1
-    c.put_default.ensures.written)
-
-pub returns-in-Err-clause-written : goal.returns-in-Err-clause-written
-returns-in-Err-clause-written g c =
-    subst (λ (t : List ℕ). WritesFrom (g.S.Sink.contents c.args.sink.now) (g.S.Sink.contents c.put_part.new.sink) 0 t
-    (Err c.in-Err.fault)) (form_is c.args.form _ _ c.entries-entries.ensures.valid)
-    (cut_first _ _ 0 _ _ c.in-Err.fault c.in-Err.ensures.written)
+    (written_both _ _ _ 0 c.in_ok-done.done _ _ c.put_default.result front.0 front.1 c.put_default.ensures.written)

@@ -1,6 +1,5 @@
-use Rattle.acl_posix.proofs.Common.{ap, arith, drop_all, Entry, err_from_is_err_and, List, pairs, part_out, refl, sym, Tag, ℕ, ◌∙◌}
-use Rattle.acl_perm.proofs.PieceLemmas.{out_none, next_fits, out_more, out_cut, out_all}
-use Rattle.acl_posix.proofs.entry_writer.Written.{entry_next}
+use Rattle.acl_posix.proofs.Common.{ap, arith, drop_all, Entry, err_from_is_err_and, List, next_fits, out_all, out_cut, out_more, out_none, pairs, part_out, refl, sym, Tag, ℕ, ◌∙◌}
+use Rattle.acl_posix.proofs.writer.Putting.{entry_next}
 use Rattle.acl_posix.proofs.writer.put_part.Goals as goal
 
 pub loop-entry-init : goal.loop-entry-init

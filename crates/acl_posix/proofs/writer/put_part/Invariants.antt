@@ -1,6 +1,5 @@
-use Rattle.acl_posix.proofs.Common.{drop, pairs, part_out, ◌≡◌}
+use Rattle.acl_posix.proofs.Common.{drop, IsOut, pairs, part_out, ◌≡◌}
 use Rattle.std.specs.FinMap as set
-use Rattle.acl_perm.proofs.PieceLemmas.{IsOut}
 use Rattle.acl_posix.proofs.writer.put_part.Given as goal
 
 -- a front of the text is out, the entries from here on follow it, and no put failed

@@ -1,20 +1,7 @@
-use Rattle.acl_posix.proofs.Common.{ap, arith, get_or, is_ascii_digit, length, sym, take_rest, ◌&&◌, ◌+◌, ◌<◌, ◌∙◌, ◌≤◌}
-use Rattle.std.proofs.lemmas.List.Folds.{list_all_more}
-use Rattle.acl_posix.proofs.field.Digits.{digit_more, ten_digits}
+use Rattle.acl_posix.proofs.Common.{ap, arith, get_or, is_ascii_digit, length, list_all_more, sym, take_rest, ◌&&◌, ◌+◌, ◌<◌, ◌∙◌}
+use Rattle.acl_posix.proofs.field.Digits.{digit_more}
 use Rattle.acl_posix.proofs.written_line.FirstLines.{id_found}
 use Rattle.acl_posix.proofs.written_line.id_before.Goals as goal
-
-pub overflow_mul-value : goal.overflow_mul-value
-overflow_mul-value c =
-    let inv = c.loop-place.invariant in
-    let few : c.loop-place.place ≤ 10 = omega (arith, inv.within, c.min-most.ensures) in
-    omega (arith, inv.value, ten_digits c.args.bytes.now c.loop-place.place few inv.digits)
-
-pub overflow_add-value : goal.overflow_add-value
-overflow_add-value c =
-    let inv = c.loop-place.invariant in
-    let few : c.loop-place.place ≤ 10 = omega (arith, inv.within, c.min-most.ensures) in
-    omega (arith, inv.value, ten_digits c.args.bytes.now c.loop-place.place few inv.digits)
 
 pub loop-place-preserved : goal.loop-place-preserved
 loop-place-preserved c =

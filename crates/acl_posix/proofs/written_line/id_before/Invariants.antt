@@ -1,7 +1,7 @@
 use Rattle.acl_posix.proofs.Common.{digits_value, is_ascii_digit, list_all, take, true, ◌-◌, ◌≡◌, ◌≤◌}
 use Rattle.acl_posix.proofs.written_line.id_before.Given as goal
 
--- digits so far, and their number
+-- the bytes before the place are digits, and the value is their number
 abbrev pub invariant-loop-place : goal.invariant-loop-place
 invariant-loop-place l = record {
   within : l.place ≤ l.most;

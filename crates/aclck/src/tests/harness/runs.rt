@@ -19,18 +19,18 @@ pub struct Ran {
     out: [u8; ROOM],
     written: usize,
     err: [u8; ROOM],
-    told: usize,
+    reported: usize,
     pub reads: u64,
     pub failed_reads: u64,
     pub writes: u64,
     pub failed_writes: u64,
-    pub tellings: u64,
+    pub reports: u64,
 }
 
 impl Ran {
     /// Returns whether the answer has this status, this text and this fault; the empty fault is none.
     pub fn is(&self, status: u8, out: &[u8], fault: &str) -> bool {
-        self.status == status && self.wrote(out) && self.told_fault(fault)
+        self.status == status && self.wrote(out) && self.reports_fault(fault)
     }
 
     /// Returns whether it is this answer.
@@ -48,30 +48,30 @@ impl Ran {
     }
 
     /// Returns whether it reports what the other reports.
-    pub fn tells_as(&self, other: &Ran) -> bool {
+    pub fn reports_as(&self, other: &Ran) -> bool {
         self.err == other.err
     }
 
     /// Returns whether it is done, or reports a fault of its input and writes nothing.
     pub fn is_judged(&self) -> bool {
         match self.status {
-            0 => self.told == 0,
+            0 => self.reported == 0,
             2 => self.written == 0 && self.err.starts_with(b"aclck: "),
             _ => false,
         }
     }
 
     // Whether one line reports this fault, or nothing is reported if the fault is empty.
-    fn told_fault(&self, fault: &str) -> bool {
+    fn reports_fault(&self, fault: &str) -> bool {
         if fault.is_empty() {
-            return self.told == 0;
+            return self.reported == 0;
         }
         let (name, line) = self.err.split_at(NAME_LEN);
         let len = fault.len();
         name.starts_with(b"aclck: ")
             && line.starts_with(fault.as_bytes())
             && line.get(len) == Some(&b'\n')
-            && self.told == len.saturating_add(NAME_LEN + 1)
+            && self.reported == len.saturating_add(NAME_LEN + 1)
     }
 
     /// Returns whether a read failed, and nothing was read after it, and nothing was written.
@@ -99,18 +99,18 @@ pub fn run(alloc: Global, words: &[&str], input: &[u8], devices: Devices) -> Ran
     let out = out.into_inner();
     let err = err.into_inner();
     let (writes, written) = (out.calls, ROOM.saturating_sub(out.inner.len()));
-    let (tellings, told) = (err.calls, ROOM.saturating_sub(err.inner.len()));
+    let (reports, reported) = (err.calls, ROOM.saturating_sub(err.inner.len()));
     Ran {
         status,
         out: out_room,
         written,
         err: err_room,
-        told,
+        reported,
         reads,
         failed_reads,
         writes,
         failed_writes,
-        tellings,
+        reports,
     }
 }
 

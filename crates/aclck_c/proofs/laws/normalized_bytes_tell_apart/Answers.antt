@@ -6,7 +6,7 @@ use Rattle.acl_nfs4.specs.Ace.{Ace}
 use Rattle.acl_nfs4.specs.Spelling.{Xdr}
 use Rattle.acl_nfs4.specs.Within.{IsProfile}
 use Rattle.acl_nfs4.proofs.Exports.{one}
-use Rattle.acl_normal.specs.NormalForm.{Normalises}
+use Rattle.acl_normal.specs.NormalForm.{Normalizes}
 use Rattle.acl_normal.proofs.unique.Spelled.{IsForm, form_of, forms_tell}
 use Rattle.aclck_c.specs.Options.{profile_from}
 use Rattle.aclck_c.specs.Out.{HandsOut}
@@ -20,7 +20,7 @@ is_profile options = elim (eqb (bit_and options 1) 1) as (λ t. IsProfile (cond 
 ]
 
 -- the list that was written is a form of the list that was read
-form_is : (p : Profile) (list : List Ace) (x a : List ℕ) → IsProfile p → Xdr p list x → (h : Normalises p x a)
+form_is : (p : Profile) (list : List Ace) (x a : List ℕ) → IsProfile p → Xdr p list x → (h : Normalizes p x a)
     → IsForm p list h.form
 form_is p list x a is read h =
     let same = one p h.source list x x [] [] is h.read read refl in
@@ -30,7 +30,7 @@ form_is p list x a is read h =
 front : (Means : List ℕ → Type 0) (buffer filled : List ℕ) (needed : ℕ)
     → (h : HandsOut Means buffer filled needed) → take needed filled ≡ h.text
 front Means buffer filled needed h =
-    ap (λ n. take n filled) h.told ∙ ap (λ xs. take (length h.text) xs) h.puts.put
+    ap (λ n. take n filled) h.reported ∙ ap (λ xs. take (length h.text) xs) h.puts.put
     ∙ take-append_seam h.text (drop (length h.text) buffer)
 
 pub returns : goal.returns
@@ -40,6 +40,6 @@ returns c options needed other_needed list other input other_input buffer filled
     let is = is_profile options in
     let tell = forms_tell p list other h.means.form k.means.form is (form_is p list input h.text is read h.means)
     (form_is p other other_input k.text is read_other k.means) in
-    let mine = front (Normalises p input) buffer filled needed h ∙ h.means.spelled.spelled in
-    let theirs = front (Normalises p other_input) other_buffer other_filled other_needed k ∙ k.means.spelled.spelled in
+    let mine = front (Normalizes p input) buffer filled needed h ∙ h.means.spelled.spelled in
+    let theirs = front (Normalizes p other_input) other_buffer other_filled other_needed k ∙ k.means.spelled.spelled in
     (λ equal. tell.0 (sym mine ∙ equal ∙ theirs), λ same. mine ∙ tell.1 same ∙ sym theirs)

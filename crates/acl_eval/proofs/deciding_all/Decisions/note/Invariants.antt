@@ -7,4 +7,4 @@ abbrev pub invariant-loop-bit : goal.invariant-loop-bit
 invariant-loop-bit l =
     (length l.found-items ≡ 21) ×
     ((k : ℕ) → slice_index_or l.found-items k None
-    ≡ (if nat_lt k l.bit && has_bit l.bits k then Some l.decision else slice_index_or l.fn.self.by_bit k None))
+    ≡ (if nat_lt k l.bit && has_bit l.rights.bits k then Some l.decision else slice_index_or l.fn.self.by_bit k None))

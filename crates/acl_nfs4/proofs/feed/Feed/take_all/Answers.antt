@@ -1,6 +1,6 @@
-use Rattle.std.proofs.Common.{[], arith}
-use Rattle.acl_nfs4.specs.declared.feed.fed.Fed.TheVariants as fed
-use Rattle.acl_nfs4.proofs.feed.Pieces.{cut_up, end_piece, last_part, more_piece}
+use Rattle.acl_nfs4.proofs.Common.{ap, arith, length}
+use Rattle.acl_nfs4.proofs.feed.Held.{taken_within}
+use Rattle.acl_nfs4.proofs.feed.Pieces.{end_chunk, end_rest, more_piece}
 use Rattle.acl_nfs4.proofs.feed.Feed.take_all.Goals as goal
 
 pub loop-taken-preserved : goal.loop-taken-preserved
@@ -11,31 +11,29 @@ loop-taken-preserved c = record {
       c.split_at.ensures.back c.split_at-in-loop-taken.ensures.front c.loop-taken.invariant.so_far c.in-More.ensures;
 }
 
-pub returns-in-Done : goal.returns-in-Done
-returns-in-Done c = end_piece c.args.self.now c.loop-taken.self c.take.new.self c.args.piece.now
-    c.split_at-in-loop-taken.result.0.now c.split_at-in-loop-taken.result.1.now c.loop-taken.taken
-    (fed.Done c.in-Done.more) c.loop-taken.invariant.inside
-    (cut_up c.args.piece.now c.split_at.result.1.now _ _ c.loop-taken.taken 4096 c.split_at.ensures.back
-    c.split_at-in-loop-taken.ensures.front c.split_at-in-loop-taken.ensures.back) c.loop-taken.invariant.so_far
-    (λ e. cc) c.in-Done.ensures
+pub behind-requires : goal.behind-requires
+behind-requires c = λ taken e.
+    let inside = taken_within c.loop-taken.self _ c.take.result c.take.new.self c.take.ensures taken e in
+    omega (
+      arith,
+      inside,
+      ap length c.split_at-in-loop-taken.ensures.front,
+      ap length c.split_at.ensures.back,
+      c.loop-taken.invariant.inside,
+    )
 
-pub returns-in-Refused : goal.returns-in-Refused
-returns-in-Refused c = end_piece c.args.self.now c.loop-taken.self c.take.new.self c.args.piece.now
-    c.split_at-in-loop-taken.result.0.now c.split_at-in-loop-taken.result.1.now c.loop-taken.taken
-    (fed.Refused c.in-Refused.fault) c.loop-taken.invariant.inside
-    (cut_up c.args.piece.now c.split_at.result.1.now _ _ c.loop-taken.taken 4096 c.split_at.ensures.back
-    c.split_at-in-loop-taken.ensures.front c.split_at-in-loop-taken.ensures.back) c.loop-taken.invariant.so_far
-    (λ e. cc) c.in-Refused.ensures
+pub returns-in_default : goal.returns-in_default
+returns-in_default c = rw c.behind.ensures (end_chunk c.args.self.now c.loop-taken.self c.take.new.self c.args.piece.now
+    _ _ _ c.loop-taken.taken 4096 c.take.result c.loop-taken.invariant.inside c.split_at.ensures.back
+    c.split_at-in-loop-taken.ensures.front c.split_at-in-loop-taken.ensures.back c.loop-taken.invariant.so_far
+    c.in_default.not-More c.take.ensures)
 
-pub returns-in-Done-take : goal.returns-in-Done-take
-returns-in-Done-take c = end_piece c.args.self.now c.loop-taken.self c.take-2.new.self c.args.piece.now
-    c.split_at-2.result.1.now [] c.loop-taken.taken (fed.Done c.in-Done-take.more) c.loop-taken.invariant.inside
-    (last_part c.args.piece.now c.split_at-2.result.1.now c.loop-taken.taken c.split_at-2.ensures.back)
-    c.loop-taken.invariant.so_far (λ e. cc) c.in-Done-take.ensures
+pub behind-requires-2 : goal.behind-requires-2
+behind-requires-2 c = λ taken e.
+    let inside = taken_within c.loop-taken.self _ c.take-2.result c.take-2.new.self c.take-2.ensures taken e in
+    omega (arith, inside, ap length c.split_at-2.ensures.back, c.loop-taken.invariant.inside)
 
-pub returns-in-Refused-take : goal.returns-in-Refused-take
-returns-in-Refused-take c = end_piece c.args.self.now c.loop-taken.self c.take-2.new.self c.args.piece.now
-    c.split_at-2.result.1.now [] c.loop-taken.taken (fed.Refused c.in-Refused-take.fault)
-    c.loop-taken.invariant.inside
-    (last_part c.args.piece.now c.split_at-2.result.1.now c.loop-taken.taken c.split_at-2.ensures.back)
-    c.loop-taken.invariant.so_far (λ e. cc) c.in-Refused-take.ensures
+pub returns : goal.returns
+returns c = rw c.behind-2.ensures (end_rest c.args.self.now c.loop-taken.self c.take-2.new.self c.args.piece.now _
+    c.loop-taken.taken c.take-2.result c.loop-taken.invariant.inside c.split_at-2.ensures.back
+    c.loop-taken.invariant.so_far c.take-2.ensures)

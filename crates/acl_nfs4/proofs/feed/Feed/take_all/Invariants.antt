@@ -1,6 +1,7 @@
 use Rattle.acl_nfs4.proofs.Common.{HasTaken, length, take, ◌-◌, ◌≤◌}
 use Rattle.acl_nfs4.proofs.feed.Feed.take_all.Given as goal
 
+-- the feed has taken the first bytes of the piece
 abbrev pub invariant-loop-taken : goal.invariant-loop-taken
 invariant-loop-taken l = record {
   inside : l.taken ≤ length l.piece;

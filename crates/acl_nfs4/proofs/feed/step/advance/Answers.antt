@@ -1,6 +1,6 @@
-use Rattle.acl_nfs4.proofs.Common.{Ace, aces_of, ap, arith, body_in, IsWhole, Judged, length, List, profile_of, Some, subst, sym, take, Xdr, ℕ, ◌++◌, ◌+◌, ◌-◌, ◌≡◌, ◌≤◌}
+use Rattle.acl_nfs4.proofs.Common.{Ace, aces_of, ap, arith, body_in, Judged, length, List, profile_of, Some, subst, sym, take, Xdr, ℕ, ◌++◌, ◌+◌, ◌-◌, ◌≡◌, ◌≤◌}
 use Rattle.acl_nfs4.specs.Stream.{done}
-use Rattle.acl_nfs4.proofs.feed.Streaming.{progress_grows, ended}
+use Rattle.acl_nfs4.proofs.feed.Streaming.{ended, judged_whole, progress_grows}
 use Rattle.acl_nfs4.proofs.list.Within.{code_profile}
 use Rattle.acl_nfs4.proofs.feed.step.advance.Goals as goal
 
@@ -10,16 +10,16 @@ judge-reach-requires c = rw c.in-Ok.ensures
 
 pub overflow_sub-reach : goal.overflow_sub-reach
 overflow_sub-reach c =
-    let whole : IsWhole (profile_of c.args.profile) c.extend.new.self c.judge-reach.result.progress =
-    rw c.in-None.is at c.judge-reach.ensures.judged in
+    let whole = judged_whole (profile_of c.args.profile) c.extend.new.self c.judge-reach.result.progress _
+    c.judge-reach.ensures.judged c.in-None.is in
     let e = ended (profile_of c.args.profile) c.args.text.now c.args.piece.now c.extend.new.self
     c.judge-reach.result.progress (code_profile c.args.profile (omega arith)) c.in-Ok.ensures whole c.requires.cut in
     subst (λ (k : ℕ). k ≤ 4 + c.judge-reach.result.progress.used) (sym c.len-before.ensures) e.after
 
 pub returns-in-None-clause-feeds : goal.returns-in-None-clause-feeds
 returns-in-None-clause-feeds c =
-    let whole : IsWhole (profile_of c.args.profile) c.extend.new.self c.judge-reach.result.progress =
-    rw c.in-None.is at c.judge-reach.ensures.judged in
+    let whole = judged_whole (profile_of c.args.profile) c.extend.new.self c.judge-reach.result.progress _
+    c.judge-reach.ensures.judged c.in-None.is in
     let e = ended (profile_of c.args.profile) c.args.text.now c.args.piece.now c.extend.new.self
     c.judge-reach.result.progress (code_profile c.args.profile (omega arith)) c.in-Ok.ensures whole c.requires.cut in
     let n : length c.args.text.now ≡ c.len-before.result = sym c.len-before.ensures in
@@ -46,6 +46,6 @@ returns-in-Truncated-clause-feed c =
 
 pub overflow_add-reach : goal.overflow_add-reach
 overflow_add-reach c =
-    let whole : IsWhole (profile_of c.args.profile) c.extend.new.self c.judge-reach.result.progress =
-    rw c.in-None.is at c.judge-reach.ensures.judged in
+    let whole = judged_whole (profile_of c.args.profile) c.extend.new.self c.judge-reach.result.progress _
+    c.judge-reach.ensures.judged c.in-None.is in
     omega (arith, whole.inside, c.judge-reach.ensures.fits)

@@ -13,7 +13,7 @@ returns-in_default-clause-exact c =
       missing None e apart = e
       missing (Some n) e apart = absurd (apart n refl)
 
--- a field that names a mask, with which the list may be too heavy
+-- a field that names a mask is read as the mask, or is too heavy
 named : (whole weight line column : ℕ) (field : List ℕ) (mask : ℕ) (heavy : Bool)
     → set_within rights whole field ≡ Some mask → ltb most_weight (weight + count_ones mask) ≡ heavy
     → (ok_or (set_within rights whole field) (faults.Mask line column) >>= λ n. if_light weight line column n)

@@ -16,9 +16,14 @@ returns-in_err-item c = λ more.
     (read_kept (profile_of c.args.profile) c.args.acl.now c.args.number c.args.line.now more _
     (sym c.if-is_skipped.ensures) read))
 
-pub returns-in-Ok : goal.returns-in-Ok
-returns-in-Ok c = λ more.
+pub returns-in_err-append : goal.returns-in_err-append
+returns-in_err-append c = λ more.
+    let p = err_from_is_err_and c.from_residual-in_err-append.result c.from_residual-in_err-append.ensures.1 in
+    rw (p.1, p.2) tt
+
+pub returns : goal.returns
+returns c = λ more.
     let read = rw (c.len.ensures, c.weight.ensures.value) at c.in_ok-item.ensures.exact in
-    rw c.in-Ok.ensures.ok
+    rw c.in_ok-append.ensures.ok
     (read_kept (profile_of c.args.profile) c.args.acl.now c.args.number c.args.line.now more
     (Ok (ace c.in_ok-item.item)) (sym c.if-is_skipped.ensures) read)

@@ -1,4 +1,5 @@
-use Rattle.acl_nfs4.proofs.Common.{ace_text, IsOut, length, ◌*◌, ◌+◌, ◌≡◌, ◌≤◌}
+use Rattle.acl_nfs4.proofs.Common.{ace_text, IsOut, length, most_aces, ◌*◌, ◌+◌, ◌≡◌, ◌≤◌}
+use Rattle.acl_nfs4.specs.internal.NameTable.{ace_line_room}
 use Rattle.acl_nfs4.proofs.text.writer.put_lines.Given as goal
 
 -- a front of the text is out, the lines of the ACEs that are left follow it, and no put failed
@@ -9,4 +10,4 @@ invariant-loop-ace g l =
     IsOut 0 l.done (g.S.Sink.contents l.fn.sink) (g.S.Sink.contents l.sink) (ace_text l.fn.aces)
     (ace_text l.ace-iterator) ×
     (g.S.Sink.failure_count l.sink ≡ g.S.Sink.failure_count l.fn.sink) ×
-    (l.done + 1600 * length l.ace-iterator ≤ 1600 * 65536)
+    (l.done + ace_line_room * length l.ace-iterator ≤ ace_line_room * most_aces)

@@ -1,5 +1,5 @@
 use Rattle.acl_nfs4.proofs.Common.{err_from_is_err_and}
-use Rattle.acl_nfs4.proofs.xdr.FromSource.{count_answers, count_lacks}
+use Rattle.acl_nfs4.proofs.xdr.PulledList.{count_answers, count_lacks}
 use Rattle.acl_nfs4.proofs.xdr.decoder.pull_count.Goals as goal
 
 pub returns-in_err-number-clause-drawn : goal.returns-in_err-number-clause-drawn

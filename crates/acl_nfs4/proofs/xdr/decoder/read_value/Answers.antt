@@ -1,5 +1,5 @@
-use Rattle.acl_nfs4.proofs.Common.{ap, arith, Consumes-trans, err_from_is_err_and, inl, inr, List, profile_of, ℕ, ◌++◌, ◌∙◌}
-use Rattle.acl_nfs4.proofs.xdr.FromSource.{pulled_all, pulled_light, pulled_on, pulled_stops}
+use Rattle.acl_nfs4.proofs.Common.{ap, arith, Consumes-trans, err_from_is_err_and, inl, inr, List, profile_of, refl, ℕ, ◌++◌, ◌∙◌}
+use Rattle.acl_nfs4.proofs.xdr.PulledList.{pulled_all, pulled_light, pulled_on, pulled_stops}
 use Rattle.acl_nfs4.proofs.list.Within.{code_profile}
 use Rattle.acl_nfs4.proofs.xdr.decoder.read_value.Goals as goal
 
@@ -29,11 +29,14 @@ returns-in_err-ace-clause-given g c =
       pulled_stops inv.given (code_profile c.args.profile (omega arith)) inv.so_far c.loop-test.true (omega arith) r,
     )
 
-pub returns-in-Err-clause-given : goal.returns-in-Err-clause-given
-returns-in-Err-clause-given g c =
+pub returns-in_err-extend_from_slice-clause-given : goal.returns-in_err-extend_from_slice-clause-given
+returns-in_err-extend_from_slice-clause-given g c =
+    let p = err_from_is_err_and c.from_residual-in_err-extend_from_slice.result
+    c.from_residual-in_err-extend_from_slice.ensures.1 in
     let inv = c.loop.invariant in
     let r = c.in_ok-ace.ensures in
-    (inv.given ++ r.given, Consumes-trans _ _ _ _ _ inv.taken r.drawn.taken, inr (inr (inl c.at_front.ensures)))
+    rw (p.1, p.2)
+    (inv.given ++ r.given, Consumes-trans _ _ _ _ _ inv.taken r.drawn.taken, inr (inr (inl refl)))
 
 pub loop-preserved : goal.loop-preserved
 loop-preserved g c =
@@ -42,7 +45,7 @@ loop-preserved g c =
     record {
       given = inv.given ++ r.given;
       taken = Consumes-trans _ _ _ _ _ inv.taken r.drawn.taken;
-      so_far = rw (c.in-Ok.ensures.items ∙ ap (λ (y : List ℕ). c.loop.body.items ++ y) r.drawn.front)
+      so_far = rw (c.in_ok-extend_from_slice.ensures.items ∙ ap (λ (y : List ℕ). c.loop.body.items ++ y) r.drawn.front)
           (pulled_on inv.given (code_profile c.args.profile (omega arith)) inv.so_far c.loop-test.true
           (omega (arith, c.len.ensures)) r);
       same = r.drawn.kept ∙ inv.same;

@@ -37,7 +37,7 @@ returns g c =
       record {
         long = long;
         room = room;
-        stands = field_is c.args.room.now c.loop-filled.room inv.piece c.args.held (c.args.end - c.args.held)
+        behind = field_is c.args.room.now c.loop-filled.room inv.piece c.args.held (c.args.end - c.args.held)
             (omega (arith, c.requires.order, c.requires.inside)) room long;
         bytes = inv.bytes;
         kept = inv.same;

@@ -1,8 +1,6 @@
-use Rattle.acl_nfs4.proofs.Common.{Ace, arith, err_from_is_err_and, Ok, pad_len, padding_of, refl, who_of}
-use Rattle.acl_nfs4.specs.internal.Reading.{from_padding}
+use Rattle.acl_nfs4.proofs.Common.{arith, err_from_is_err_and, refl}
 use Rattle.acl_nfs4.proofs.xdr.Fields.{len_bounds}
-use Rattle.acl_nfs4.proofs.xdr.FromSource.{accepted, field_drawn, field_lacks, field_refused, who_drawn}
-use Rattle.acl_nfs4.proofs.xdr.OneFault.{padding_never, who_never}
+use Rattle.acl_nfs4.proofs.xdr.PulledAce.{padding_drawn, padding_lacks, padding_refused, who_drawn, who_lacks, who_refused}
 use Rattle.acl_nfs4.proofs.xdr.pulling.pull_ace.Goals as goal
 
 pub returns-in_err-words : goal.returns-in_err-words
@@ -13,59 +11,44 @@ returns-in_err-words g c =
 pub returns-in_err-fill : goal.returns-in_err-fill
 returns-in_err-fill g c =
     let p = err_from_is_err_and c.from_residual-in_err-fill.result c.from_residual-in_err-fill.ensures.1 in
-    let w = c.in_ok-words.ensures in
-    let l = c.in_ok-words.words.len in
-    rw (p.1, p.2) (field_lacks l who_of (from_padding w.kind w.flags w.mask l) w.drawn c.in_err-fill.ensures
-    (omega arith)
-    refl)
+    rw (p.1, p.2) (who_lacks c.in_ok-words.ensures c.in_err-fill.ensures (omega arith) refl)
 
 pub returns-in_err-placed : goal.returns-in_err-placed
 returns-in_err-placed g c =
     let p = err_from_is_err_and c.from_residual-in_err-placed.result c.from_residual-in_err-placed.ensures.1 in
-    let w = c.in_ok-words.ensures in
-    let l = c.in_ok-words.words.len in
-    let a = c.in_ok-fill.ensures in
-    rw (p.1, p.2) (field_refused l who_of (from_padding w.kind w.flags w.mask l) w.drawn (λ z. z.now) c.who_of.result
-    a (omega arith) c.in_err-placed.ensures (rw a.2.stands at c.who_of.ensures) refl who_never)
+    rw (p.1, p.2) (who_refused c.in_ok-words.ensures (λ z. z.now) c.who_of.result c.in_ok-fill.ensures (omega arith)
+    c.in_err-placed.ensures c.who_of.ensures refl)
 
 pub returns-in_err-fill-2 : goal.returns-in_err-fill-2
 returns-in_err-fill-2 g c =
     let p = err_from_is_err_and c.from_residual-in_err-fill-2.result c.from_residual-in_err-fill-2.ensures.1 in
     let w = c.in_ok-words.ensures in
     let who = c.in_ok-placed.field-0 in
-    let d = who_drawn _ (λ z. z.now) c.who_of.result who w c.in_ok-fill.ensures c.in_ok-placed.ensures
+    let d = who_drawn w _ (λ z. z.now) c.who_of.result who c.in_ok-fill.ensures (omega arith) c.in_ok-placed.ensures
     c.who_of.ensures in
-    let whole : Ace = record { kind = w.kind; flags = w.flags; mask = w.mask; who = who.now } in
-    rw (p.1, p.2) (field_lacks (pad_len c.in_ok-words.words.len) padding_of (λ x at. Ok (whole, at)) d
-    c.in_err-fill-2.ensures (omega arith) (omega arith))
+    rw (p.1, p.2) (padding_lacks w _ d c.in_err-fill-2.ensures (omega arith) (omega arith))
 
 pub returns-in_err-placed-2 : goal.returns-in_err-placed-2
 returns-in_err-placed-2 g c =
     let p = err_from_is_err_and c.from_residual-in_err-placed-2.result c.from_residual-in_err-placed-2.ensures.1 in
-    let b = c.in_ok-fill-2.ensures in
     let w = c.in_ok-words.ensures in
     let who = c.in_ok-placed.field-0 in
-    let d = who_drawn _ (λ z. z.now) c.who_of.result who w c.in_ok-fill.ensures c.in_ok-placed.ensures
+    let d = who_drawn w _ (λ z. z.now) c.who_of.result who c.in_ok-fill.ensures (omega arith) c.in_ok-placed.ensures
     c.who_of.ensures in
-    let whole : Ace = record { kind = w.kind; flags = w.flags; mask = w.mask; who = who.now } in
-    rw (p.1, p.2) (field_refused (pad_len c.in_ok-words.words.len) padding_of (λ x at. Ok (whole, at)) d (λ z. z)
-    c.padding_of.result b (omega arith) c.in_err-placed-2.ensures (rw b.2.stands at c.padding_of.ensures) (omega arith)
-    padding_never)
+    rw (p.1, p.2) (padding_refused w _ d c.padding_of.result c.in_ok-fill-2.ensures (omega arith)
+    c.in_err-placed-2.ensures c.padding_of.ensures (omega arith))
 
 pub returns : goal.returns
 returns g c =
     let w = c.in_ok-words.ensures in
-    let b = c.in_ok-fill-2.ensures in
     let who = c.in_ok-placed.field-0 in
-    let whole : Ace = record { kind = w.kind; flags = w.flags; mask = w.mask; who = who.now } in
+    let d = who_drawn w _ (λ z. z.now) c.who_of.result who c.in_ok-fill.ensures (omega arith) c.in_ok-placed.ensures
+    c.who_of.ensures in
     record {
-      ace = whole;
+      ace = record { kind = w.kind; flags = w.flags; mask = w.mask; who = who.now };
       given = _;
-      drawn = field_drawn (pad_len c.in_ok-words.words.len) padding_of (λ x at. Ok (whole, at))
-          (who_drawn _ (λ z. z.now) c.who_of.result who w c.in_ok-fill.ensures c.in_ok-placed.ensures c.who_of.ensures)
-          tt b (omega arith) (omega arith)
-          (accepted (λ x. x) _ c.padding_of.result _ c.in_ok-placed-2.field-0 c.in_ok-placed-2.ensures
-          (rw b.2.stands at c.padding_of.ensures));
+      drawn = padding_drawn w _ d _ c.padding_of.result c.in_ok-placed-2.field-0 c.in_ok-fill-2.ensures (omega arith)
+          (omega arith) c.in_ok-placed-2.ensures c.padding_of.ensures;
       bits = w.bits;
       light = w.light;
       inside = let some = len_bounds c.in_ok-words.words.len w.some in

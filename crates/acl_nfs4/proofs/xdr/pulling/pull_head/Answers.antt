@@ -1,6 +1,7 @@
 use Rattle.acl_nfs4.proofs.Common.{arith, err_from_is_err_and, flags_of, kind_of, profile_of, refl}
 use Rattle.acl_nfs4.specs.internal.Reading.{from_flags, from_mask}
 use Rattle.acl_nfs4.proofs.xdr.FromSource.{begun, word_drawn, word_lacks, word_refused}
+use Rattle.acl_nfs4.proofs.xdr.PulledAce.{kind_drawn}
 use Rattle.acl_nfs4.proofs.xdr.OneFault.{flags_never, kind_never}
 use Rattle.acl_nfs4.proofs.xdr.pulling.pull_head.Goals as goal
 
@@ -22,8 +23,8 @@ returns-in_err-flags g c =
     let p = err_from_is_err_and c.from_residual-in_err-flags.result c.from_residual-in_err-flags.ensures.1 in
     let q = profile_of c.args.next.profile in
     let k = c.in_ok-placed.field-0 in
-    let d = word_drawn _ (λ z. z) c.kind_of.result kind_of (from_flags q c.args.next.weight) (begun c.args.room.now)
-    c.in_ok-kind.ensures c.kind_of.ensures k c.in_ok-placed.ensures in
+    let d = kind_drawn q c.args.next.weight c.args.next.offset c.args.room.now _ c.kind_of.result k c.in_ok-kind.ensures
+    c.in_ok-placed.ensures c.kind_of.ensures in
     rw (p.1, p.2) (word_lacks (flags_of q) (from_mask q c.args.next.weight k) d c.in_err-flags.ensures refl)
 
 pub returns-in_err-placed-2 : goal.returns-in_err-placed-2
@@ -31,8 +32,8 @@ returns-in_err-placed-2 g c =
     let p = err_from_is_err_and c.from_residual-in_err-placed-2.result c.from_residual-in_err-placed-2.ensures.1 in
     let q = profile_of c.args.next.profile in
     let k = c.in_ok-placed.field-0 in
-    let d = word_drawn _ (λ z. z) c.kind_of.result kind_of (from_flags q c.args.next.weight) (begun c.args.room.now)
-    c.in_ok-kind.ensures c.kind_of.ensures k c.in_ok-placed.ensures in
+    let d = kind_drawn q c.args.next.weight c.args.next.offset c.args.room.now _ c.kind_of.result k c.in_ok-kind.ensures
+    c.in_ok-placed.ensures c.kind_of.ensures in
     rw (p.1, p.2) (word_refused _ (λ z. z.bits) c.flags_of.result (flags_of q) (from_mask q c.args.next.weight k) d
     c.in_ok-flags.ensures c.flags_of.ensures c.in_err-placed-2.ensures refl (flags_never q))
 
@@ -40,8 +41,8 @@ pub returns : goal.returns
 returns g c =
     let q = profile_of c.args.next.profile in
     let k = c.in_ok-placed.field-0 in
-    let d = word_drawn _ (λ z. z) c.kind_of.result kind_of (from_flags q c.args.next.weight) (begun c.args.room.now)
-    c.in_ok-kind.ensures c.kind_of.ensures k c.in_ok-placed.ensures in
+    let d = kind_drawn q c.args.next.weight c.args.next.offset c.args.room.now _ c.kind_of.result k c.in_ok-kind.ensures
+    c.in_ok-placed.ensures c.kind_of.ensures in
     record {
       kind = k;
       flags = c.in_ok-placed-2.field-0.bits;

@@ -1,14 +1,40 @@
 use borrow.Author.Count.{below_more}
-use Rattle.std.proofs.Common.{arith}
+use Rattle.std.proofs.Common.{ap, arith, ◌∙◌}
+use Rattle.acl_normal.proofs.Common.{no_standing}
 use Rattle.acl_normal.proofs.comparison.inversions.first_of.Goals as goal
-use Rattle.acl_normal.proofs.comparison.TableFacts.{first_of_camp, not_of_camp}
+use Rattle.acl_normal.proofs.comparison.TableFacts.{first_of_camp, near_end, near_is, not_of_camp}
+use Rattle.acl_normal.specs.internal.comparison.PlaceTables.{is_inverting}
 
-pub returns-then-is_told : goal.returns-then-is_told
-returns-then-is_told c = first_of_camp _ _ _ _ _ _ _ _ _ _ c.loop-k-test.true c.requires.limit c.loop-k.invariant
-    c.requires.places c.in_ok-forward.ensures c.in_ok-back.ensures c.deref.ensures.value
-    c.deref-in-loop-k.ensures.value c.is_told.ensures c.if-is_told.true
+pub returns-then-is_inverting : goal.returns-then-is_inverting
+returns-then-is_inverting c =
+    first_of_camp _ _ _ _ _ _ _ _ _ _
+    (near_is _ _ _ _ no_standing c.split_at.ensures.front c.requires.limit c.loop-k-test.true).0
+    c.requires.limit c.loop-k.invariant c.requires.places
+    c.in_ok-forward.ensures c.in_ok-back.ensures c.deref.ensures.value c.deref-in-loop-k.ensures.value
+    (c.is_inverting.ensures
+    ∙ ap (λ r. is_inverting c.args.camp r c.deref.result.now c.deref-in-loop-k.result.now)
+    (near_is _ _ _ _ _ c.split_at.ensures.front c.requires.limit c.loop-k-test.true).1)
+    c.if-is_inverting.true
 
 pub loop-k-preserved : goal.loop-k-preserved
-loop-k-preserved c = below_more _ _ c.loop-k.invariant
-    (not_of_camp _ _ _ _ _ _ _ _ _ (omega arith) c.requires.places c.in_ok-forward.ensures c.in_ok-back.ensures
-    c.deref.ensures.value c.deref-in-loop-k.ensures.value c.is_told.ensures c.if-is_told.false)
+loop-k-preserved c =
+    below_more _ _ c.loop-k.invariant
+    (not_of_camp _ _ _ _ _ _ _ _ _
+    (omega (
+      arith,
+      (near_is _ _ _ _ no_standing c.split_at.ensures.front c.requires.limit c.loop-k-test.true).0,
+      c.requires.limit,
+    )) c.requires.places
+    c.in_ok-forward.ensures c.in_ok-back.ensures c.deref.ensures.value c.deref-in-loop-k.ensures.value
+    (c.is_inverting.ensures
+    ∙ ap (λ r. is_inverting c.args.camp r c.deref.result.now c.deref-in-loop-k.result.now)
+    (near_is _ _ _ _ _ c.split_at.ensures.front c.requires.limit c.loop-k-test.true).1)
+    c.if-is_inverting.false)
+
+pub returns : goal.returns
+returns c =
+    let end = near_end _ _ _ _ c.split_at.ensures.front c.requires.limit c.loop-k-test.false in record {
+      within = omega arith;
+      before = λ k l. c.loop-k.invariant k (omega (arith, l, end));
+      at = λ l. absurd (omega (arith, l));
+    }

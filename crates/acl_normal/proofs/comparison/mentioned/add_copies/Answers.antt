@@ -5,6 +5,6 @@ use Rattle.acl_normal.proofs.comparison.mentioned.add_copies.Goals as goal
 pub index-whom-requires : goal.index-whom-requires
 index-whom-requires c = omega (
   arith,
-  c.requires c.loop-i.i c.loop-i-test.true,
-  copies_long _ _ _ c.loop-i.invariant,
+  c.requires c.loop-place.place-index c.loop-place-test.true,
+  copies_long _ _ _ c.loop-place.invariant,
 )

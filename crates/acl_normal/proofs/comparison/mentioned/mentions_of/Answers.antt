@@ -1,5 +1,5 @@
 use Rattle.std.proofs.Common.{refl}
-use Rattle.acl_normal.proofs.comparison.MentionedRows.{whole_ready, whoms_ready}
+use Rattle.acl_normal.proofs.comparison.MentionedWhoms.{whole_ready, whoms_ready}
 use Rattle.acl_normal.proofs.comparison.mentioned.mentions_of.Goals as goal
 
 pub whoms-requires : goal.whoms-requires

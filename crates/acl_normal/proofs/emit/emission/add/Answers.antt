@@ -1,4 +1,4 @@
-use Rattle.std.proofs.Common.{◌*◌, ◌+◌, ◌<◌, length}
+use Rattle.std.proofs.Common.{◌<◌, length}
 use Rattle.std.proofs.lemmas.Result.{on_ok_weaker}
 use Rattle.acl_normal.proofs.Common.{ap, arith, key_here, kind_rank, nothing_left, sym, ◌∙◌}
 use Rattle.acl_normal.proofs.emit.Marks.{adds, fits_written, number_at}
@@ -6,41 +6,37 @@ use Rattle.acl_normal.proofs.rows.Rows.{row_below}
 use Rattle.acl_normal.proofs.unique.Outline.{outline_length}
 use Rattle.acl_normal.proofs.emit.emission.add.Goals as goal
 
-pub overflow_mul-number : goal.overflow_mul-number
-overflow_mul-number c =
+pub key_number-number-requires : goal.key_number-number-requires
+key_number-number-requires c =
     let row = row_below (key_here c.args.rows.now c.args.place).0 c.args.rows.now c.row_at.ensures.row.named in
     omega (arith, c.row_at.ensures.list.few, row, c.row_at.ensures.row.is)
-
-pub overflow_add-number : goal.overflow_add-number
-overflow_add-number c =
-    let is =
-    number_at (key_here c.args.rows.now c.args.place) c.args.rows.now c.row_at.result c.rank.result
-    c.row_at.ensures.row (c.rank.ensures ∙ ap kind_rank (sym c.requires.kind)) in
-    omega (arith, c.row_at.ensures.list.few, is.below)
 
 pub add-requires : goal.add-requires
 add-requires c =
     let is =
-    number_at (key_here c.args.rows.now c.args.place) c.args.rows.now c.row_at.result c.rank.result
-    c.row_at.ensures.row (c.rank.ensures ∙ ap kind_rank (sym c.requires.kind)) in
-    omega (arith, is.below, c.requires.keys.count, outline_length c.args.rows.now)
+    number_at (key_here c.args.rows.now c.args.place) c.args.rows.now c.row_at.result (kind_rank c.args.kind)
+    c.row_at.ensures.row (ap kind_rank (sym c.requires.kind)) in
+    omega (arith, is.below, c.key_number-number.ensures.value, c.requires.keys.count, outline_length c.args.rows.now)
 
 pub returns-clause-keys : goal.returns-clause-keys
 returns-clause-keys c =
     let is =
-    number_at (key_here c.args.rows.now c.args.place) c.args.rows.now c.row_at.result c.rank.result
-    c.row_at.ensures.row (c.rank.ensures ∙ ap kind_rank (sym c.requires.kind)) in
+    number_at (key_here c.args.rows.now c.args.place) c.args.rows.now c.row_at.result (kind_rank c.args.kind)
+    c.row_at.ensures.row (ap kind_rank (sym c.requires.kind)) in
     on_ok_weaker c.add.result (λ e. fits_written (nothing_left c.args.rows.now) c.args.ready.now c.add.new.self _ _
-    c.requires.keys (record { key = key_here c.args.rows.now c.args.place; named = is.named; is = is.is }) e)
-    c.add.ensures
+    c.requires.keys (record {
+      key = key_here c.args.rows.now c.args.place;
+      named = is.named;
+      is = c.key_number-number.ensures.value ∙ is.is;
+    }) e) c.add.ensures
 
 pub returns-clause-marks : goal.returns-clause-marks
 returns-clause-marks c =
     let is =
-    number_at (key_here c.args.rows.now c.args.place) c.args.rows.now c.row_at.result c.rank.result
-    c.row_at.ensures.row (c.rank.ensures ∙ ap kind_rank (sym c.requires.kind)) in
-    let within : 2 * c.row_at.result + c.rank.result < length c.args.ready.now =
-    omega (arith, is.below, c.requires.keys.count, outline_length c.args.rows.now) in
+    number_at (key_here c.args.rows.now c.args.place) c.args.rows.now c.row_at.result (kind_rank c.args.kind)
+    c.row_at.ensures.row (ap kind_rank (sym c.requires.kind)) in
+    let within : c.key_number-number.result < length c.args.ready.now =
+    omega (arith, is.below, c.key_number-number.ensures.value, c.requires.keys.count, outline_length c.args.rows.now) in
     on_ok_weaker c.add.result (λ e. adds (nothing_left c.args.rows.now) c.args.ready.now c.add.new.self _
-    c.args.right.bit
-    (key_here c.args.rows.now c.args.place) is.named is.is within e) c.add.ensures
+    c.args.right.bit (key_here c.args.rows.now c.args.place) is.named (c.key_number-number.ensures.value ∙ is.is)
+    within e) c.add.ensures

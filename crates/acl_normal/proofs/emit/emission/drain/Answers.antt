@@ -1,5 +1,5 @@
 use Rattle.acl_normal.proofs.Common.{count_left, emitted_aces, FitsKeys, marks, nothing_left, plain_key, refl, subst, sym, ◌<◌}
-use Rattle.acl_normal.proofs.emit.Chains.{queues_left}
+use Rattle.acl_normal.proofs.emit.QueueChains.{queues_left}
 use Rattle.acl_normal.proofs.emit.Drained.{drain_starts, drain_ends, drain_falls, outline_left}
 use Rattle.acl_normal.proofs.emit.Leaving.{alike_count}
 use Rattle.acl_normal.proofs.emit.Marks.{nothing_marked}

@@ -1,5 +1,5 @@
 use Rattle.acl_normal.proofs.Common.{[], is_users, IsQueueAt, refl, subst, sym}
-use Rattle.acl_normal.proofs.emit.Chains.{queue_ends}
+use Rattle.acl_normal.proofs.emit.QueueChains.{queue_ends}
 use Rattle.acl_normal.proofs.emit.Walk.{nothing_waits}
 use Rattle.acl_normal.proofs.emit.emission.enter.Goals as goal
 

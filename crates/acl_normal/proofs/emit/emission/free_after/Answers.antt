@@ -1,9 +1,9 @@
 use Rattle.std.proofs.Common.{true, false}
 use Rattle.acl_normal.proofs.Common.{arith, Enters, marks, nothing_left, other_kind, plain_key, subst, sym, ◌∙◌}
 use Rattle.acl_normal.proofs.emit.NewlyFree.{FreesBelow, frees_nothing, frees_on_absent, frees_on_user, frees_on_other, frees_all}
-use Rattle.acl_normal.proofs.unique.Bits.{past_absent}
 use Rattle.acl_normal.proofs.emit.emission.free_after.Goals as goal
 use Rattle.acl_normal.proofs.emit.emission.free_after.Goals.{then-not-is_user+in_ok-enter-2, else-not-is_user}
+use Rattle.acl_normal.proofs.unique.NextRight.{past_absent}
 
 pub loop-right-init : goal.loop-right-init
 loop-right-init c = (

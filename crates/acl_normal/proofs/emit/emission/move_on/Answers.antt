@@ -1,10 +1,10 @@
 use Rattle.std.proofs.Common.{◌≡◌, ◌≤◌, ℕ, true}
 use Rattle.acl_normal.proofs.Common.{arith, cases_lt, has_bit, is_users, subst, ⊎_elim}
 use Rattle.acl_normal.specs.internal.emit.Queues.{BeginsWaiting}
-use Rattle.acl_normal.proofs.emit.Chains.{BeginBelow, begin_on, begin_skip}
+use Rattle.acl_normal.proofs.emit.QueueChains.{BeginBelow, begin_on, begin_skip}
 use Rattle.acl_normal.proofs.rows.Publics.{no_right_above}
-use Rattle.acl_normal.proofs.unique.Bits.{past_absent}
 use Rattle.acl_normal.proofs.emit.emission.move_on.Goals as goal
+use Rattle.acl_normal.proofs.unique.NextRight.{past_absent}
 
 pub loop-right-preserved : goal.loop-right-preserved
 loop-right-preserved c =

@@ -1,5 +1,5 @@
 use Rattle.acl_normal.proofs.Common.{AreQueues, is_users, ◌-◌, ◌≤◌}
-use Rattle.acl_normal.proofs.emit.Chains.{BeginBelow}
+use Rattle.acl_normal.proofs.emit.QueueChains.{BeginBelow}
 use Rattle.acl_normal.proofs.emit.emission.move_on.Given as goal
 
 abbrev pub invariant-loop-right : goal.invariant-loop-right

@@ -1,5 +1,5 @@
 use Rattle.acl_normal.proofs.Common.{arith, sym, ◌∙◌}
-use Rattle.acl_normal.proofs.emit.Chains.{reached_blocked, reached_falls, reached_free, reached_kind, reached_link, reached_past, reached_within, walk_over}
+use Rattle.acl_normal.proofs.emit.QueueChains.{reached_blocked, reached_falls, reached_free, reached_kind, reached_link, reached_past, reached_within, walk_over}
 use Rattle.acl_normal.proofs.emit.emission.walk.Goals as goal
 
 pub index-link-requires : goal.index-link-requires

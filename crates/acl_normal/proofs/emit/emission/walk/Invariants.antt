@@ -1,5 +1,5 @@
 use Rattle.acl_normal.proofs.Common.{FitsKeys, is_users, marks, nothing_left}
-use Rattle.acl_normal.proofs.emit.Chains.{WalksAt}
+use Rattle.acl_normal.proofs.emit.QueueChains.{WalksAt}
 use Rattle.acl_normal.proofs.emit.emission.walk.Given as goal
 
 abbrev pub invariant-loop-at : goal.invariant-loop-at

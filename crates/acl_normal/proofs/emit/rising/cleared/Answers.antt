@@ -32,12 +32,12 @@ loop-place-preserved c =
     c.loop-place-test.true c.index-masks-place.is in
     elim c.if-mask-ne0.branch [
       | then-mask-ne0+in_ok-push_accepted w ↦
-          let item = shown w.index-aces-place.result c.index-masks-place.result in
+          let item = shown c.index-aces-place.result c.index-masks-place.result in
           let some : c.index-masks-place.result.bits ≢ 0 = w.if-mask-ne0.true in
           subst (λ l. l ≡ all_cleared (left (take (place + 1) xs))) (sym w.list-is)
           (cleared_more xs place item c.loop-place.list _ within
-          (shown_at c.args.aces.now c.args.masks.now place w.index-aces-place.result c.index-masks-place.result inside
-          within w.index-aces-place.is c.index-masks-place.is)
+          (shown_at c.args.aces.now c.args.masks.now place c.index-aces-place.result c.index-masks-place.result inside
+          within c.index-aces-place.is c.index-masks-place.is)
           some c.loop-place.invariant
           (w.in_ok-push_accepted.ensures.ok ∙ ap (λ a. c.loop-place.list ++ a ∷ []) w.cleared_ace.ensures))
       | else-mask-ne0 w ↦

@@ -3,8 +3,9 @@ use Rattle.acl_normal.proofs.Common.{ap, arith, first_at, IsRowOf, principal, su
 use Rattle.acl_normal.proofs.rows.EmitRight.{emit_right_at}
 use Rattle.acl_normal.proofs.rows.FirstPlaces.{first_by_none, first_by_place, first_in}
 use Rattle.acl_normal.proofs.rows.Rows.{row_below}
-use Rattle.acl_normal.proofs.rows.TakeOut.{take_none, right_there}
+use Rattle.acl_normal.proofs.rows.TakeOut.{take_none}
 use Rattle.acl_normal.proofs.merged.MergedRows.emit_bit.Goals as goal
+use Rattle.acl_normal.proofs.rows.FirstAces.{right_there}
 
 pub place_in-requires : goal.place_in-requires
 place_in-requires c =

@@ -2,9 +2,9 @@ use Rattle.std.proofs.Common.{◌≡◌}
 use Rattle.acl_normal.proofs.Common.{ap, arith, cases_lt, low_bits, nothing_left, principal, sym, take_out, ⊎_elim, ◌∙◌}
 use Rattle.acl_normal.proofs.rows.BitsTaken.{take_zero, emit_more, emit_same, low_all}
 use Rattle.acl_normal.proofs.rows.Publics.{no_right_above}
-use Rattle.acl_normal.proofs.rows.Rows.{is_row_alike, outline_taken}
-use Rattle.acl_normal.proofs.unique.Bits.{past_absent}
 use Rattle.acl_normal.proofs.merged.MergedRows.emit_row.Goals as goal
+use Rattle.acl_normal.proofs.unique.NextRight.{past_absent}
+use Rattle.acl_normal.proofs.rows.RowsAlike.{is_row_alike, outline_taken}
 
 pub loop-right-init : goal.loop-right-init
 loop-right-init c = (sym (take_zero (principal c.args.p) c.args.self.now), omega arith)

@@ -1,7 +1,7 @@
 use Rattle.acl_normal.proofs.Common.{arith, principal, sym, ◌∙◌}
 use Rattle.acl_normal.proofs.rows.Publics.{NoneFree, none_free_absent, none_free_more, free_nowhere}
-use Rattle.acl_normal.proofs.unique.Bits.{past_absent}
 use Rattle.acl_normal.proofs.merged.MergedRows.is_free.Goals as goal
+use Rattle.acl_normal.proofs.unique.NextRight.{past_absent}
 
 pub loop-right-preserved : goal.loop-right-preserved
 loop-right-preserved c =

@@ -1,7 +1,7 @@
 use Rattle.std.proofs.Common.{◌+◌, refl}
-use Rattle.acl_normal.proofs.Common.{ace, aces_in, ap, arith, column, default, default_at, drop, has_bit, is_needed, KeepsProfiles, needed_keys, principal_of, subst, sym, ◌&&◌, ◌++◌, ◌∙◌}
+use Rattle.acl_normal.proofs.Common.{ace, aces_in, ap, arith, column, default, default_at, drop, has_bit, is_needed, KeepsProfiles, needed_keys, principal_of, subst, sym, ◌&&◌, ◌++◌, ◌∙◌, and_parts}
 use Rattle.acl_normal.proofs.plain.Passes.{Marks}
-use Rattle.acl_normal.proofs.unique.Kept.{ace_at, front_true, fewer_bits, keeps_more}
+use Rattle.acl_normal.proofs.unique.Kept.{ace_at, fewer_bits, keeps_more}
 use Rattle.acl_normal.proofs.plain.NeededBits.{needed_more}
 use Rattle.acl_normal.proofs.plain.reduction.drop_needless.Goals as goal
 
@@ -25,6 +25,6 @@ loop-place-preserved c =
           c.allowed_to_everyone-allowed.ensures mask bit _ (c.loop-place.invariant.columns bit);
       profiles = subst (λ v. KeepsProfiles (aces_in c.args.aces.now) (aces_in v)) (sym c.in_ok-push.ensures.items)
           (keeps_more (aces_in c.args.aces.now) c.loop-place.kept.items _ c.loop-place.invariant.profiles
-          (λ p h. fewer_bits p (ace y) _ refl refl (λ k has. front_true _ _ (sym (mask k) ∙ has))
+          (λ p h. fewer_bits p (ace y) _ refl refl (λ k has. (and_parts _ _ (sym (mask k) ∙ has)).0)
           (ace_at c.args.aces.now y c.loop-place.place (omega arith) c.index-aces-place.is p h)));
     }

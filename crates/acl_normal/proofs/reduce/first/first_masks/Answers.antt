@@ -1,7 +1,7 @@
 use Rattle.acl_normal.proofs.Common.{ap, arith, mask_numbers, has_bit, IsDifference, refl, subst, sym, ◌+◌, ◌||◌, ◌∙◌, slice_set, slice_index_or}
 use Rattle.acl_normal.proofs.reduce.FirstMasks.{Reaches, reaches_more, reaches_none, reaches_thinned, row_seen}
-use Rattle.acl_normal.proofs.unique.Bits.{bits_all, bits_length}
 use Rattle.acl_normal.proofs.reduce.first.first_masks.Goals as goal
+use Rattle.acl_normal.proofs.rows.MaskNumbers.{bits_all, bits_length}
 
 pub loop-place-init : goal.loop-place-init
 loop-place-init c = record {

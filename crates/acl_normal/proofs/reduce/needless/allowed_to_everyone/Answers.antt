@@ -1,9 +1,9 @@
 use Rattle.acl_normal.proofs.Common.{ace, arith, mask_numbers, length, refl, slice_index_or, with_masks, ◌<◌, ◌∙◌, ◌≡◌}
 use Rattle.acl_normal.proofs.rows.ByPlace.{masked, masked_at, quiet_index}
 use Rattle.acl_normal.proofs.reduce.LaterBits.{allows_all, allows_more, allows_start}
-use Rattle.acl_normal.proofs.unique.Bits.{bits_at, bits_length}
 use Rattle.acl_normal.proofs.unique.Outline.{length_shown}
 use Rattle.acl_normal.proofs.reduce.needless.allowed_to_everyone.Goals as goal
+use Rattle.acl_normal.proofs.rows.MaskNumbers.{bits_at, bits_length}
 
 pub loop-place-init : goal.loop-place-init
 loop-place-init c = record {

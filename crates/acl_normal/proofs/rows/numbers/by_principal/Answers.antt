@@ -3,7 +3,7 @@ use Rattle.acl_normal.proofs.Common.{aces_in, is_lt, rules}
 use Rattle.acl_normal.specs.internal.rows.RowNumbers.{tail_here}
 use Rattle.std.proofs.lemmas.Fn.{always_returns_same}
 use Rattle.std.proofs.lemmas.List.Sorted.{ranks_by}
-use Rattle.acl_normal.proofs.rows.RowNumbers.{head_cmp, head_total, sorted_names}
+use Rattle.acl_normal.proofs.rows.SortedPlaces.{head_cmp, head_total, sorted_names}
 use Rattle.acl_normal.proofs.rows.numbers.by_principal.Goals as goal
 
 pub returns : goal.returns

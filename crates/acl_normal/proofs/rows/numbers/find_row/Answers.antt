@@ -1,6 +1,6 @@
 use Rattle.std.proofs.Common.{◌≡◌}
 use Rattle.std.proofs.lemmas.Fn.{always_returns_same}
-use Rattle.acl_normal.proofs.rows.RowNumbers.{found_row, missing_row}
+use Rattle.acl_normal.proofs.rows.RowSearch.{found_row, missing_row}
 use Rattle.acl_normal.proofs.rows.numbers.find_row.Goals as goal
 use Rattle.acl_normal.proofs.Common.{aces_in, key_here, principal, principal_cmp, rules}
 

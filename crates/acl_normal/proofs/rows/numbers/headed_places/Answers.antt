@@ -3,7 +3,7 @@ use Rattle.std.specs.List.{All}
 use Rattle.acl_normal.proofs.Common.{aces_in, arith, length, subst, sym}
 use Rattle.std.proofs.lemmas.List.Elements.{All-push}
 use Rattle.acl_normal.proofs.rows.Beginnings.{IsHeaded, headed_all, headed_here}
-use Rattle.acl_normal.proofs.rows.RowNumbers.{named_more}
+use Rattle.acl_normal.proofs.rows.SortedNames.{named_more}
 use Rattle.acl_normal.proofs.rows.numbers.headed_places.Goals as goal
 
 pub loop-place-preserved : goal.loop-place-preserved

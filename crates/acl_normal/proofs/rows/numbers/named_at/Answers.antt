@@ -1,5 +1,5 @@
 use Rattle.std.proofs.Common.{sym, ◌∙◌}
-use Rattle.acl_normal.proofs.rows.RowNumbers.{named_after, named_in}
+use Rattle.acl_normal.proofs.rows.ByPlace.{named_after, named_in}
 use Rattle.acl_normal.proofs.rows.numbers.named_at.Goals as goal
 
 pub returns-in-Some : goal.returns-in-Some

@@ -1,5 +1,5 @@
 use Rattle.std.proofs.Common.{map}
-use Rattle.acl_normal.proofs.rows.RowNumbers.{sorted_by_principal}
+use Rattle.acl_normal.proofs.rows.SortedPlaces.{sorted_by_principal}
 use Rattle.acl_normal.proofs.rows.numbers.sorted_rows.Goals as goal
 use Rattle.acl_normal.proofs.Common.{aces_in, ap, IsByPrincipal, subst, sym, ◌∙◌}
 

@@ -1,8 +1,8 @@
 use Rattle.acl_normal.proofs.Common.{arith, is_users}
 use Rattle.acl_normal.specs.internal.rows.Waiting.{PutsBelow}
 use Rattle.acl_normal.proofs.rows.WaitingPlaces.{puts_absent, puts_more, puts_none}
-use Rattle.acl_normal.proofs.unique.Bits.{past_absent}
 use Rattle.acl_normal.proofs.rows.waiting.put.Goals as goal
+use Rattle.acl_normal.proofs.unique.NextRight.{past_absent}
 
 pub loop-right-init : goal.loop-right-init
 loop-right-init c = (

@@ -1,9 +1,9 @@
 use Rattle.acl_normal.proofs.Common.{ap, arith, is_user, is_users, length, mask_numbers, subst, take_all, with_masks, ◌∙◌, ◌≡◌}
 use Rattle.acl_normal.specs.internal.rows.Waiting.{HoldWaiting}
 use Rattle.acl_normal.proofs.rows.WaitingPlaces.{holds_next}
-use Rattle.acl_normal.proofs.unique.Bits.{bits_at, bits_length}
 use Rattle.acl_normal.proofs.unique.Outline.{length_shown}
 use Rattle.acl_normal.proofs.rows.waiting.waiting_sets.Goals as goal
+use Rattle.acl_normal.proofs.rows.MaskNumbers.{bits_at, bits_length}
 
 pub loop-place-preserved : goal.loop-place-preserved
 loop-place-preserved c =

@@ -1,4 +1,4 @@
-use Rattle.std.proofs.Common.{arith, sym, subst, ℕ}
+use Rattle.std.proofs.Common.{arith, sym, subst}
 use Rattle.acl_perm.specs.Bits.{IsMask}
 use Rattle.acl_perm.proofs.Sets.{right_alone, right_below, right_small}
 use Rattle.acl_perm.proofs.rights.MaskFromRight.from.Goals as goal
@@ -11,7 +11,6 @@ overflow_shl-result c = omega (arith, right_below c.args.right.bit c.args.right.
 
 pub invariant_of-result : goal.invariant_of-result
 invariant_of-result c =
+    let bit = c.args.right.bit in
     let right = c.args.right.within in
-    record {
-      within = subst (λ (n : ℕ). IsMask n) (sym (right_small c.args.right.bit right)) (right_alone c.args.right.bit right);
-    }
+    record { within = subst IsMask (sym (right_small bit right)) (right_alone bit right) }

@@ -1,5 +1,5 @@
 use Rattle.acl_posix.proofs.Common.{IfErr, IsFaultOf, IsValidList, Miss, OnOk, pairs, refl, rules}
-use Rattle.acl_posix.proofs.sorting.Faults.{refused_from, one_fault, no_fault}
+use Rattle.acl_posix.proofs.sorting.ValidLists.{refused_from, one_fault, no_fault}
 use Rattle.acl_posix.proofs.acl.PosixAcl.from_entries.Goals as goal
 
 pub returns-in_err-entries-clause-refused : goal.returns-in_err-entries-clause-refused
@@ -10,10 +10,8 @@ returns-in_err-entries-clause-refused c = λ fault p is.
 
 pub returns-in-Some-clause-refused : goal.returns-in-Some-clause-refused
 returns-in-Some-clause-refused c = λ fault p is q.
-    let found : IsFaultOf (pairs c.args.entries.items) (Miss c.in-Some.tag) = search rules in
-    one_fault (pairs c.args.entries.items) (Miss c.in-Some.tag) fault refl p found is
+    one_fault (pairs c.args.entries.items) (Miss c.in-Some.tag) fault refl p (search rules) is
 
 pub returns-in-None-clause-refused : goal.returns-in-None-clause-refused
 returns-in-None-clause-refused c = λ fault p is.
-    let valid : IsValidList (pairs c.args.entries.items) = search rules in
-    no_fault (pairs c.args.entries.items) fault valid p is
+    no_fault (pairs c.args.entries.items) fault (search rules) p is

@@ -1,6 +1,6 @@
 use Rattle.acl_posix.proofs.Common.{ap, mask, sym, tag_of, ◌∙◌}
 use Rattle.std.specs.FinMap as set
-use Rattle.acl_posix.proofs.sorted.Lookups.{entry_found}
+use Rattle.acl_posix.proofs.sorted.Lists.{entry_found}
 use Rattle.acl_posix.proofs.acl.PosixAcl.mask.Goals as goal
 
 pub returns-in-Mask : goal.returns-in-Mask

@@ -9,7 +9,6 @@ returns-clause-value c =
 
 pub returns-clause-exact : goal.returns-clause-exact
 returns-clause-exact c =
-    let is = by_lists c.args.self.now c.args.other.now _ _ _ c.entries.ensures.entries c.entries-2.ensures.entries
-    c.are_same.ensures in
+    let is = returns-clause-value c in
     let decides = set_decides c.args.self.now c.args.other.now in
     (λ h. decides.0 (sym is ∙ h), λ e. is ∙ decides.1 e)

@@ -1,5 +1,5 @@
 use Rattle.acl_posix.proofs.Common.{is_named, sym, ◌∙◌}
-use Rattle.acl_posix.proofs.sorted.Lookups.{any_tag}
+use Rattle.acl_posix.proofs.sorted.Lists.{any_tag}
 use Rattle.acl_posix.proofs.sorted.SortedEntries.any_named.Goals as goal
 
 pub returns : goal.returns

@@ -1,5 +1,5 @@
 use Rattle.acl_posix.proofs.Common.{All, ap, as_set, Bool, Entry, false, IsDistinct, IsNonDecreasing, IsPacked, IsPermutation, IsSorted, IsTrue, List, map, pairs, subst, sym, Tag, unpacked, ℕ, ◌↔◌, ◌∙◌, ◌≡◌}
-use Rattle.acl_posix.proofs.sorting.Repeats.{sorted_distinct}
+use Rattle.acl_posix.proofs.sorting.ValidLists.{sorted_distinct}
 use Rattle.acl_posix.proofs.packed.Packings.{distinct_rise, moved_distinct, same_set}
 use Rattle.acl_posix.proofs.sorted.SortedEntries.from_entries.Goals as goal
 

@@ -1,5 +1,5 @@
 use Rattle.acl_posix.proofs.Common.{sym}
-use Rattle.acl_posix.proofs.sorted.Lookups.{perm_found, absent_in_gap}
+use Rattle.acl_posix.proofs.sorted.Lists.{perm_found, absent_in_gap}
 use Rattle.acl_posix.proofs.sorted.SortedEntries.get.Goals as goal
 
 pub returns-in-Ok : goal.returns-in-Ok

@@ -1,6 +1,5 @@
 use Rattle.acl_posix.proofs.Common.{arith, tag_of}
-use Rattle.acl_posix.proofs.sorted.Changes.{entries_of, inserted}
-use Rattle.acl_posix.proofs.sorted.Lookups.{keys_length, not_in_gap, present_at}
+use Rattle.acl_posix.proofs.sorted.Lists.{entries_of, inserted, keys_length, not_in_gap, present_at}
 use Rattle.acl_posix.proofs.sorted.SortedEntries.insert.Goals as goal
 
 pub set-requires : goal.set-requires

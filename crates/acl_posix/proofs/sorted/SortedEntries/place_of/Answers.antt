@@ -1,6 +1,6 @@
 use Rattle.acl_posix.proofs.Common.{answers_always, arith, Entry, IsGap, IsTagAt, List, MatchResult, rules, subst, Tag, tag_of, tags, ℕ}
 use Rattle.acl_posix.specs.declared.tag.Tag.TheVariants.{Other}
-use Rattle.acl_posix.proofs.sorted.Lookups.{searched}
+use Rattle.acl_posix.proofs.sorted.Lists.{searched}
 use Rattle.acl_posix.proofs.sorted.SortedEntries.place_of.Goals as goal
 
 pub returns : goal.returns

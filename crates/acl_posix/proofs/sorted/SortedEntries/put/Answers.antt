@@ -1,5 +1,4 @@
-use Rattle.acl_posix.proofs.Common.{subst, sym, tag_of, ◌∙◌}
-use Rattle.acl_posix.specs.Valid.{IsValid}
+use Rattle.acl_posix.proofs.Common.{IsValid, subst, sym, tag_of, ◌∙◌}
 use Rattle.acl_posix.proofs.one_entry.OneEntry.{mask_absent, memory_refused, no_named, valid_put}
 use Rattle.acl_posix.proofs.sorted.SortedEntries.put.Goals as goal
 use Rattle.acl_posix.proofs.sorted.SortedEntries.put.Goals.{else-is_named-via-then-is_named+else-not-has, else-is_named-via-else-is_named}

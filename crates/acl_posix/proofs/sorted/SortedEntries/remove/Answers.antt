@@ -4,7 +4,7 @@ use Rattle.std.proofs.lemmas.Fn.{filter_same}
 use Rattle.acl_posix.specs.contracts.tag.TagOrd.TheImpl.Laws as laws
 use Rattle.acl_posix.specs.contracts.tag.TagPartialEq.TheImpl.{ghosts as tags}
 use Rattle.acl_posix.proofs.one_entry.OneEntry.{lacks, valid_without}
-use Rattle.acl_posix.proofs.sorted.Changes.{entries_of, IsListOf, without}
+use Rattle.acl_posix.proofs.sorted.Lists.{entries_of, IsListOf, without}
 use Rattle.acl_posix.proofs.sorted.SortedEntries.remove.Goals as goal
 
 pub returns-then-needs-clause-fault : goal.returns-then-needs-clause-fault

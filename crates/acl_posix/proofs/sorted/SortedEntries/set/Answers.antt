@@ -1,6 +1,5 @@
 use Rattle.acl_posix.proofs.Common.{arith, tag_of}
-use Rattle.acl_posix.proofs.sorted.Changes.{edited, entries_of}
-use Rattle.acl_posix.proofs.sorted.Lookups.{keys_length, not_in_gap}
+use Rattle.acl_posix.proofs.sorted.Lists.{edited, entries_of, keys_length, not_in_gap}
 use Rattle.acl_posix.proofs.sorted.SortedEntries.set.Goals as goal
 
 pub index_mut-requires : goal.index_mut-requires

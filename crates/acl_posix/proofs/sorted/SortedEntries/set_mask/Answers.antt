@@ -1,6 +1,5 @@
-use Rattle.acl_posix.proofs.Common.{ap, class_union, List, mask, Tag, ℕ, ◌∙◌}
+use Rattle.acl_posix.proofs.Common.{ap, class_union, List, mask, on_ok_weaker, Tag, ℕ, ◌∙◌}
 use Rattle.std.specs.FinMap as fin
-use Rattle.std.proofs.lemmas.Result.{on_ok_weaker}
 use Rattle.acl_posix.proofs.one_entry.OneEntry.{masked_or_kept}
 use Rattle.acl_posix.proofs.sorted.SortedEntries.set_mask.Goals as goal
 

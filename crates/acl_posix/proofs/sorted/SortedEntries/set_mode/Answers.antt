@@ -1,5 +1,4 @@
-use Rattle.acl_posix.proofs.Common.{other, tag_of, user_obj}
-use Rattle.acl_posix.specs.Mode.{group_class}
+use Rattle.acl_posix.proofs.Common.{group_class, other, tag_of, user_obj}
 use Rattle.acl_posix.proofs.one_entry.OneEntry.{class_present, complete, still, valid_mode}
 use Rattle.acl_posix.proofs.sorted.SortedEntries.set_mode.Goals as goal
 

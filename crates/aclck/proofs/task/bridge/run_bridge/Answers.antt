@@ -2,12 +2,13 @@ use Rattle.std.proofs.Common.{ap, inr, refl, subst}
 use Rattle.acl_nfs4.specs.Spelling.{spelling}
 use Rattle.acl_eval.specs.Bridge.{IsBridgeFault, bridge_list}
 use Rattle.aclck.specs.commands.Bridge.{BridgeAnswer}
-use Rattle.aclck.proofs.ToldLemmas.{past_limits, told}
+use Rattle.aclck.proofs.WritingLemmas.{past_limits, written_answer}
 use Rattle.aclck.proofs.task.bridge.run_bridge.Goals as goal
 
 pub returns-in-Ok : goal.returns-in-Ok
 returns-in-Ok g c =
-    told (BridgeAnswer c.args.names.now) c.tell_list.result c.tell_list.ensures c.in_ok-file.ensures.found
+    written_answer (BridgeAnswer c.args.names.now) c.write_list_answer.result c.write_list_answer.ensures
+    c.in_ok-file.ensures.found
     (λ input reads. (
       refl,
       record {

@@ -7,7 +7,7 @@ use Rattle.acl_perm.specs.Bits.{has_bit}
 use Rattle.acl_eval.specs.Situation.{owner_of, owning_group_of}
 use Rattle.aclck_c.specs.Many.{asked_by}
 use Rattle.aclck_c.specs.Requests.{AreGranted}
-use Rattle.aclck_c.specs.declared.nfs4.check_many.Asker.{Asker}
+use Rattle.aclck_c.specs.declared.nfs4.check_many.RawRequester.{RawRequester}
 use Rattle.aclck_c.proofs.nfs4.check_many.grant_each.Goals as goal
 
 pub loop-place-preserved : goal.loop-place-preserved
@@ -18,7 +18,7 @@ loop-place-preserved c =
     let given = c.args.requesters.now in
     let count = c.loop-place.invariant.count in
     let request = c.args.request.now in
-    let Given : Asker → Type 0 = λ who. AreGranted c.args.view.now
+    let Given : RawRequester → Type 0 = λ who. AreGranted c.args.view.now
     (asked_by (owner_of request.object) (owning_group_of request.object) who) request.mask.bits found in
     record {
       count = length-set rights at found ∙ count;

@@ -1,7 +1,7 @@
 use Rattle.acl_normal.proofs.Common.{aces_in, ap, AreWhoms, arith, drop, principals, subst, sym, take, ◌∙◌}
 use Rattle.std.proofs.Common.{length, refl}
 use Rattle.acl_normal.proofs.comparison.FirstPlaceLemmas.{whoms_length}
-use Rattle.acl_normal.proofs.comparison.MentionedRows.{whoms_cover, whoms_first, whoms_second}
+use Rattle.acl_normal.proofs.comparison.MentionedWhoms.{whoms_cover, whoms_first, whoms_second}
 use Rattle.acl_normal.proofs.comparison.compared.Compared.of.Goals as goal
 
 pub split_at-requires : goal.split_at-requires

@@ -1,6 +1,6 @@
 use Rattle.std.proofs.Common.{arith, ap, length}
 use Rattle.acl_normal.proofs.comparison.compared.Compared.principal.Goals as goal
-use Rattle.acl_normal.proofs.comparison.MentionedRows.{all_there}
+use Rattle.acl_normal.proofs.comparison.MentionedWhoms.{all_there}
 use Rattle.acl_normal.specs.internal.comparison.TwoLists.{all_mentioned}
 
 pub bounds-mentioned-number : goal.bounds-mentioned-number

@@ -1,5 +1,6 @@
 use Rattle.acl_normal.proofs.Common.{ap, arith, has_bit, is_users, IsQueue, mask_here, subst, sym, ◌∙◌}
-use Rattle.acl_normal.proofs.emit.Chains.{chain_goes, chain_step, link_there, queue_next}
+use Rattle.acl_normal.proofs.emit.Chains.{chain_goes, chain_step, link_there}
+use Rattle.acl_normal.proofs.emit.QueueChains.{queue_next}
 use Rattle.acl_normal.proofs.emit.RemainingLemmas.{queue_within}
 use Rattle.acl_normal.proofs.emit.queues.Queues.first_link.Goals as goal
 

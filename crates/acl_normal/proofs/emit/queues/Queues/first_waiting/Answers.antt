@@ -1,5 +1,6 @@
 use Rattle.acl_normal.proofs.Common.{ap, arith, has_bit, is_users, IsQueue, mask_here, subst, ◌∙◌}
-use Rattle.acl_normal.proofs.emit.Chains.{chain_goes, chain_step, link_there, queue_ends}
+use Rattle.acl_normal.proofs.emit.Chains.{chain_goes, chain_step, link_there}
+use Rattle.acl_normal.proofs.emit.QueueChains.{queue_ends}
 use Rattle.acl_normal.proofs.emit.RemainingLemmas.{queue_before, queue_empty, queue_first}
 use Rattle.acl_normal.proofs.rows.Waits.{before_some}
 use Rattle.acl_normal.proofs.emit.queues.Queues.first_waiting.Goals as goal

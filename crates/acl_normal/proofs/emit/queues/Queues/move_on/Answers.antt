@@ -1,6 +1,6 @@
 use Rattle.std.proofs.Common.{refl}
 use Rattle.acl_normal.proofs.Common.{ap, is_users, slice_set}
-use Rattle.acl_normal.proofs.emit.Chains.{queue_moves, queues_moved}
+use Rattle.acl_normal.proofs.emit.QueueChains.{queue_moves, queues_moved}
 use Rattle.acl_normal.proofs.emit.queues.Queues.move_on.Goals as goal
 
 pub returns-clause-queues : goal.returns-clause-queues

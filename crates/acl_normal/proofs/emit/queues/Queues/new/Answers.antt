@@ -1,5 +1,5 @@
 use Rattle.std.proofs.Common.{◌++◌, ◌∷◌, [], ◌∙◌, arith, ap, length, slice_index_or}
-use Rattle.acl_normal.proofs.emit.Chains.{noted_none}
+use Rattle.acl_normal.proofs.emit.NotedQueues.{noted_none}
 use Rattle.acl_normal.proofs.emit.Marks.{zero_at}
 use Rattle.acl_normal.proofs.emit.queues.Queues.new.Goals as goal
 

@@ -2,9 +2,10 @@ use Rattle.std.proofs.Common.{◌≡◌, ◌+◌, true}
 use Rattle.acl_normal.proofs.Common.{ap, AreNoted, arith, has_bit, is_user, is_users, mask_here, principal_here, slot_of, subst, sym, ◌∙◌}
 use Rattle.acl_normal.specs.internal.Places.{kind_here}
 use Rattle.acl_normal.specs.internal.emit.Queues.{PutsPlace}
-use Rattle.acl_normal.proofs.emit.Chains.{noted_on, noted_place, noted_skip, waits_here}
-use Rattle.acl_normal.proofs.unique.Bits.{past_absent}
+use Rattle.acl_normal.proofs.emit.NotedQueues.{noted_on, noted_place, noted_skip}
+use Rattle.acl_normal.proofs.rows.FirstPlaces.{waits_here}
 use Rattle.acl_normal.proofs.emit.queues.Queues.note.Goals as goal
+use Rattle.acl_normal.proofs.unique.NextRight.{past_absent}
 
 pub loop-right-preserved : goal.loop-right-preserved
 loop-right-preserved c =

@@ -1,5 +1,6 @@
-use Rattle.acl_normal.proofs.Common.{AreNoted, length, ◌-◌}
+use Rattle.acl_normal.proofs.Common.{AreNoted}
 use Rattle.acl_normal.proofs.emit.queues.Queues.of.Given as goal
 
-abbrev pub invariant-loop-done : goal.invariant-loop-done
-invariant-loop-done l = AreNoted l.rows (length l.rows - l.done) 0 l.queues
+-- the places from this one on are noted
+abbrev pub invariant-loop-place : goal.invariant-loop-place
+invariant-loop-place l = AreNoted l.rows l.place 0 l.queues

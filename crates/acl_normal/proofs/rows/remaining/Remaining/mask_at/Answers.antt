@@ -2,8 +2,8 @@ use Rattle.std.proofs.Common.{◌≡◌, ◌<◌, bit_and, length, slice_index_o
 use Rattle.acl_normal.proofs.Common.{ap, arith, mask_numbers, mask_here, remaining_of, subst, sym, ◌∙◌}
 use Rattle.acl_normal.proofs.emit.Few.{remainder_of}
 use Rattle.acl_normal.proofs.emit.InRemaining.{length_remaining, mask_remaining, row_of_place, row_there}
-use Rattle.acl_normal.proofs.unique.Bits.{bits_at}
 use Rattle.acl_normal.proofs.rows.remaining.Remaining.mask_at.Goals as goal
+use Rattle.acl_normal.proofs.rows.MaskNumbers.{bits_at}
 
 pub index-requires : goal.index-requires
 index-requires c =

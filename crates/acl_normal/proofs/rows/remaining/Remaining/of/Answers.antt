@@ -1,8 +1,8 @@
 use Rattle.std.proofs.Common.{◌≡◌, length, slice_index_or}
 use Rattle.acl_normal.proofs.Common.{ap, arith, mask_numbers, get_or-replicate, masks_left, with_masks, ◌∙◌}
 use Rattle.acl_normal.proofs.emit.InRemaining.{all_remains, begins_right}
-use Rattle.acl_normal.proofs.unique.Bits.{bits_all, bits_length}
 use Rattle.acl_normal.proofs.rows.remaining.Remaining.of.Goals as goal
+use Rattle.acl_normal.proofs.rows.MaskNumbers.{bits_all, bits_length}
 
 -- all is left of the masks
 all : (c : goal.In_ok-left)

@@ -1,8 +1,8 @@
 use Rattle.std.proofs.Common.{◌≡◌, List}
 use Rattle.acl_normal.proofs.Common.{Ace, AceRef, aces_in, ap, Inside, IsRemaining, nothing_left, remaining_of, sym, ◌∙◌}
 use Rattle.acl_normal.proofs.emit.InRemaining.{outline_of}
-use Rattle.acl_normal.proofs.rows.Rows.{found_row, missed_row, order_alike, rows_alike}
 use Rattle.acl_normal.proofs.rows.remaining.Remaining.row_named.Goals as goal
+use Rattle.acl_normal.proofs.rows.RowsAlike.{found_row, missed_row, order_alike, rows_alike}
 
 pub find_row-requires-clause-rows : goal.find_row-requires-clause-rows
 find_row-requires-clause-rows c =

@@ -1,8 +1,9 @@
 use Rattle.std.proofs.Common.{◌≡◌, slice_index_or}
 use Rattle.acl_normal.proofs.Common.{ap, arith, mask_numbers, IsRowOf, masks_left, principal, slice_set, subst, sym, take_out, with_masks, without, ◌∙◌}
 use Rattle.acl_normal.proofs.emit.InRemaining.{row_of_named, taken_right, taken_view}
-use Rattle.acl_normal.proofs.unique.Bits.{bits_at, bits_set, difference_is}
+use Rattle.acl_normal.proofs.unique.Bits.{difference_is}
 use Rattle.acl_normal.proofs.rows.remaining.Remaining.take_out.Goals as goal
+use Rattle.acl_normal.proofs.rows.MaskNumbers.{bits_at, bits_set}
 
 pub index-requires : goal.index-requires
 index-requires c =
