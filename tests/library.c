@@ -269,7 +269,7 @@ static uint32_t number(void) {
 }
 
 /* Reads bytes in hexadecimal, after a letter x. They get an allocation of their own, so that a sanitizer finds a read
-   behind them. */
+   after them. */
 static aclck_bytes blob(void) {
     const char *text = token() + 1;
     size_t len = strlen(text) / 2;

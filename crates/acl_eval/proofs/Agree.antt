@@ -3,33 +3,34 @@ use Rattle.std.proofs.Common.{◌≡◌, ℕ, ◌^◌, ◌<◌, Bool, true, fals
 use Rattle.std.specs.Prelude.{bit_and, ◌&&◌, ◌||◌, ◌==◌, not, unwrap_or, Option, Some, None, is_some, T}
 use Rattle.std.specs.List.{list_any, AllByRecursion}
 use Rattle.std.specs.Ordering.{eq_by_cmp, is_eq, is_lt}
-use Rattle.std.specs.declared.cmp.Ordering.{Ordering}
-use Rattle.std.specs.declared.cmp.Ordering.TheVariants.{Less, Equal, Greater}
+use Rattle.std.specs.declared.cmp.Ordering.TheVariants.{Less}
 use Rattle.std.specs.FinMap as fin
 use Rattle.std.specs.FinMap.Entries.{below_all, is_sorted}
 use Rattle.std.proofs.lemmas.List.Elements.{recursion_from_All}
 use Rattle.std.proofs.lemmas.Option.{same_Some}
 use Rattle.acl_perm.specs.Bits.{has_bit}
 use Rattle.acl_perm.proofs.Bools.{and_regroup, and_swap, and_true_right, and_twice, both_hold, cond_bool, either_and, or_false_right}
+use Rattle.acl_perm.proofs.Orders.{passes_less}
 use Rattle.acl_perm.proofs.Sets.{has_bit-and, no_bit}
 use Rattle.acl_perm.specs.Situation.{Situation}
 use Rattle.acl_posix.specs.Id.{IsId}
 use Rattle.acl_posix.specs.Tag.{Tag, tag_cmp, is_masked, user_obj, user, group_obj, group, mask, other}
 use Rattle.acl_posix.specs.Entries.{Entries, IsEntry}
+use Rattle.acl_posix.specs.Texts.{IsAcl}
 use Rattle.acl_posix.specs.Mode.{perm_at}
 use Rattle.acl_posix.specs.Check as posix
 use Rattle.acl_posix.specs.Check.{Object, Requester, contains, grants}
 use Rattle.acl_eval.proofs.ValidChecks.{mask_contains, plain, complete, plain_check}
 use Rattle.acl_posix.proofs.Exports.{same_tag}
 use Rattle.acl_eval.specs.Bridge.{is_user_tag, is_group_tag, is_other_tag, bridge_list}
-use Rattle.acl_eval.specs.BridgeLaws.{by_name, IsAsked, IsAccess}
+use Rattle.acl_eval.specs.BridgeLaws.{by_name, IsAsked}
 use Rattle.acl_eval.proofs.Runs.{run}
 use Rattle.acl_eval.proofs.Bits.{contains_power}
 use Rattle.acl_eval.proofs.Images.{Belongs}
 use Rattle.acl_eval.proofs.BridgeNames.{concerns, user_test, group_test, same_name}
 use Rattle.acl_eval.proofs.EntryRuns.{first, bit_of, users_test, allows_test, denies_test, others_test, class_answer, everywhere, run_bridge}
 
--- a permission, its bit, and the bit of a right of it
+-- a permission, its bit, and the bit of one of its rights
 pub record IsRight (want j b : ℕ) : Type 0 where
   pub power : want ≡ 2 ^ j
   pub some : 0 < want
@@ -73,12 +74,6 @@ masked E e want j b right is =
 
 -- ---- the order of the entries
 
--- what passes the test for less is less
-less : (o : Ordering) → T (is_lt o) → o ≡ Less
-less Less h = refl
-less Equal h = absurd h
-less Greater h = absurd h
-
 -- the entries after a tag have greater tags
 below_found : (k q : Tag) (p : ℕ) (ps : List (Tag × ℕ)) → T (below_all tag_cmp k ps) → fin.find tag_cmp q ps ≡ Some p
     → tag_cmp k q ≡ Less
@@ -87,7 +82,7 @@ below_found k q p (e ∷ ps) h f =
     elim (eq_by_cmp tag_cmp q e.0) as (λ t. eq_by_cmp tag_cmp q e.0 ≡ t → cond t (Some e.1) (fin.find tag_cmp q ps)
     ≡ Some p → tag_cmp k q ≡ Less) [
       | true ↦ λ same g. ap (tag_cmp k) (same_tag q e.0 same)
-          ∙ less (tag_cmp k e.0) (both_hold (is_lt (tag_cmp k e.0)) (below_all tag_cmp k ps) h).0
+          ∙ passes_less (tag_cmp k e.0) (both_hold (is_lt (tag_cmp k e.0)) (below_all tag_cmp k ps) h).0
       | false ↦ λ same g. below_found k q p ps (both_hold (is_lt (tag_cmp k e.0)) (below_all tag_cmp k ps) h).1 g
     ] refl f
 
@@ -111,7 +106,7 @@ other_only other h = absurd cc
 
 -- a tag after OTHER is not OTHER
 other_last : (l : Tag) → T (is_lt (tag_cmp other l)) → is_other_tag l ≡ false
-other_last l h = other_only l (ap is_eq (less (tag_cmp other l) h))
+other_last l h = other_only l (ap is_eq (passes_less (tag_cmp other l) h))
 
 -- ---- the owner
 
@@ -285,7 +280,7 @@ some_value None h = absurd cc
 some_value (Some p) h = (p, refl)
 
 -- the list grants a bit if and only if the plain check grants the permission to which the bit belongs
-agrees_plainly : (E : Entries) (object : Object) (requester : Requester) (want j b : ℕ) → IsAccess E
+agrees_plainly : (E : Entries) (object : Object) (requester : Requester) (want j b : ℕ) → IsAcl E
     → IsAsked object requester → IsRight want j b
     → run (bridge_list E) (by_name object requester) b false ≡ plain E object requester want
 agrees_plainly E object requester want j b access a right =
@@ -316,7 +311,7 @@ agrees_plainly E object requester want j b access a right =
     ] refl
 
 -- the list grants a bit if and only if the check grants the permission to which the bit belongs
-pub agrees : (E : Entries) (object : Object) (requester : Requester) (want j b : ℕ) → IsAccess E
+pub agrees : (E : Entries) (object : Object) (requester : Requester) (want j b : ℕ) → IsAcl E
     → IsAsked object requester → IsRight want j b
     → run (bridge_list E) (by_name object requester) b false ≡ grants E object requester want
 agrees E object requester want j b access a right =

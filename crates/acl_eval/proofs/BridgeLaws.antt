@@ -12,10 +12,11 @@ use Rattle.acl_posix.specs.Id.{IsId}
 use Rattle.acl_posix.specs.Tag.{Tag, user_obj, user, mask, other}
 use Rattle.acl_posix.specs.Entries.{Entries}
 use Rattle.acl_posix.specs.Mode.{perm_at}
+use Rattle.acl_posix.specs.Texts.{IsAcl}
 use Rattle.acl_posix.specs.Check.{Object, Requester, ids, contains, tag_matches, any_matches, any_contains, grants}
 use Rattle.acl_eval.specs.Grant.{Grant, grants_bit}
 use Rattle.acl_eval.specs.Bridge.{image, bridge_list}
-use Rattle.acl_eval.specs.BridgeLaws.{by_name, IsAsked, IsAccess, GrantsSingles, KeepsGrants}
+use Rattle.acl_eval.specs.BridgeLaws.{by_name, IsAsked, GrantsSingles, KeepsGrants}
 use Rattle.acl_eval.proofs.Runs.{run_grants}
 use Rattle.acl_eval.proofs.Same.{only_bit}
 use Rattle.acl_eval.proofs.Bits.{contains_power}
@@ -82,14 +83,14 @@ plain_less E object requester want less sub =
 -- ---- the laws
 
 -- a right of an image is granted if and only if the check grants its permission
-bit_granted : (E : Entries) (object : Object) (requester : Requester) (want j b : ℕ) → IsAccess E
+bit_granted : (E : Entries) (object : Object) (requester : Requester) (want j b : ℕ) → IsAcl E
     → IsAsked object requester → IsRight want j b
     → grants_bit (bridge_list E) (by_name object requester) b ≡ grants E object requester want
 bit_granted E object requester want j b access a right =
     sym (run_grants (bridge_list E) (by_name object requester) b) ∙ agrees E object requester want j b access a right
 
 -- the list grants the rights of one permission if and only if the check grants the permission
-single : (E : Entries) (object : Object) (requester : Requester) (want j b : ℕ) → IsAccess E → IsAsked object requester
+single : (E : Entries) (object : Object) (requester : Requester) (want j b : ℕ) → IsAcl E → IsAsked object requester
     → IsRight want j b → want < 8 → has_bit (image want) b ≡ true
     → Grant (bridge_list E) (by_name object requester) (image want) ↔ (grants E object requester want ≡ true)
 single E object requester want j b access a right lt has = (

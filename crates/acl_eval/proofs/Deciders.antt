@@ -13,7 +13,7 @@ use Rattle.acl_eval.specs.Deciding.{decides, deciding_kind, deciding_place}
 use Rattle.acl_eval.specs.Grant.{Grant, grants_bit}
 use Rattle.acl_eval.specs.internal.DecidingBody.{decision_from, found_in}
 use Rattle.acl_eval.specs.declared.deciding.Decision.{Decision}
-use Rattle.acl_eval.specs.declared.deciding_all.SoFar.{SoFar}
+use Rattle.acl_eval.specs.declared.deciding_all.DecidedSoFar.{DecidedSoFar}
 use Rattle.acl_eval.proofs.Columns.{bit_at_first}
 
 -- ---- the search
@@ -57,8 +57,8 @@ kind_is list s bit = kind_from 0 (decides s bit) list
 pub ruleset decisions = (place_is, kind_is)
 
 -- what decides a bit is the same before an ACE is read and after it
-pub found_more : (s : Situation) (old new : SoFar) (place count more : ℕ) (a : Ace) (list rest : List Ace) (bit : ℕ)
-    → list ≡ a ∷ rest → place ≡ count → more ≡ count + 1
+pub found_more : (s : Situation) (old new : DecidedSoFar) (place count more : ℕ) (a : Ace) (list rest : List Ace)
+    (bit : ℕ) → list ≡ a ∷ rest → place ≡ count → more ≡ count + 1
     → found_in s new (place + 1) rest bit ≡ found_in s old place (a ∷ rest) bit
     → found_in s new more rest bit ≡ found_in s old count list bit
 found_more s old new place count more a list rest bit next at step found =

@@ -5,6 +5,7 @@ pub mod Scans
 pub mod Deciders
 pub mod Noted
 pub mod Same
+pub mod GrantedRights
 pub mod Children
 pub mod FlagByFlag
 pub mod Classes

@@ -12,8 +12,8 @@ use Rattle.acl_posix.specs.Tag.{Tag}
 use Rattle.acl_posix.specs.Entries.{Entries, pairs, pair_of}
 use Rattle.acl_nfs4.specs.Ace.{Ace}
 use Rattle.acl_nfs4.specs.Spelling.{IsAccepted}
-use Rattle.acl_eval.specs.declared.bridging.Part.{Part}
-use Rattle.acl_eval.specs.declared.bridging.Part.TheVariants.{Users, GroupAllows, GroupDenies, Others}
+use Rattle.acl_eval.specs.declared.bridging.ListPart.{ListPart}
+use Rattle.acl_eval.specs.declared.bridging.ListPart.TheVariants.{Users, GroupAllows, GroupDenies, Others}
 use Rattle.acl_eval.specs.Bridge.{image, bridged_who, bridged_flags, ace_of, each, is_user_tag, is_group_tag, is_other_tag, allow_of, deny_of, decide_of, bridge_list}
 use Rattle.acl_eval.specs.internal.BridgeBody.{bridged_part}
 use Rattle.acl_nfs4.proofs.Exports.{front_accepted}
@@ -58,8 +58,8 @@ each-append : (which : Tag → Bool) (f : Tag × ℕ → List Ace) (xs ys : List
 each-append which f xs ys = ap (flat_map f) (filter-append (λ (e : Tag × ℕ). which e.0) xs ys)
     ∙ flat_map-append f (filter (λ (e : Tag × ℕ). which e.0) xs) (filter (λ (e : Tag × ℕ). which e.0) ys)
 
--- a part of two lists of entries together is that of the first and then that of the second
-part-append : (E : Entries) (part : Part) (xs ys : List (Tag × ℕ)) → bridged_part E part (xs ++ ys)
+-- a part of two lists of entries together is the part of the first, and then the part of the second
+part-append : (E : Entries) (part : ListPart) (xs ys : List (Tag × ℕ)) → bridged_part E part (xs ++ ys)
     ≡ bridged_part E part xs ++ bridged_part E part ys
 part-append E Users xs ys = each-append is_user_tag (decide_of E) xs ys
 part-append E GroupAllows xs ys = each-append is_group_tag (allow_of E) xs ys
@@ -67,7 +67,7 @@ part-append E GroupDenies xs ys = each-append is_group_tag (deny_of E) xs ys
 part-append E Others xs ys = each-append is_other_tag (allow_of E) xs ys
 
 -- a part of one more entry is the part so far and the ACEs of this entry
-part_more : (E : Entries) (part : Part) (es : List Entry) (i : ℕ) (e : Entry) → i < length es → e ≡ get_or es i e
+part_more : (E : Entries) (part : ListPart) (es : List Entry) (i : ℕ) (e : Entry) → i < length es → e ≡ get_or es i e
     → bridged_part E part (pairs (take (i + 1) es))
     ≡ bridged_part E part (pairs (take i es)) ++ bridged_part E part (pair_of e ∷ [])
 part_more E part es i e lt read =
@@ -77,7 +77,7 @@ part_more E part es i e lt read =
     ∙ ap (λ (x : Entry). bridged_part E part (pairs (take i es)) ++ bridged_part E part (pair_of x ∷ [])) (sym read)
 
 -- one more entry adds its ACEs to the part
-pub part_kept : (E : Entries) (part : Part) (es : List Entry) (i : ℕ) (e : Entry) (old mid next : List Ace)
+pub part_kept : (E : Entries) (part : ListPart) (es : List Entry) (i : ℕ) (e : Entry) (old mid next : List Ace)
     → i < length es → e ≡ get_or es i e
     → mid ≡ old ++ bridged_part E part (pairs (take i es)) → next ≡ mid ++ bridged_part E part (pair_of e ∷ [])
     → next ≡ old ++ bridged_part E part (pairs (take (i + 1) es))
@@ -87,7 +87,7 @@ part_kept E part es i e old mid next lt read so_far step =
     ∙ ap (λ (l : List Ace). old ++ l) (sym (part_more E part es i e lt read))
 
 -- if the list is accepted with the whole part, it is accepted with the ACEs of one more entry
-pub entry_fits : (E : Entries) (part : Part) (es : List Entry) (i : ℕ) (e : Entry) (old mid : List Ace)
+pub entry_fits : (E : Entries) (part : ListPart) (es : List Entry) (i : ℕ) (e : Entry) (old mid : List Ace)
     → i < length es → e ≡ get_or es i e → pairs es ≡ fin.entries E
     → mid ≡ old ++ bridged_part E part (pairs (take i es))
     → IsAccepted full (old ++ bridged_part E part (fin.entries E))
@@ -107,7 +107,7 @@ entry_fits E part es i e old mid lt read is so_far ok =
 -- ---- one part after the other
 
 -- a part of the list, from all entries
-abbrev all_of : Entries → Part → List Ace
+abbrev all_of : Entries → ListPart → List Ace
 all_of E part = bridged_part E part (fin.entries E)
 
 -- the four parts, one after the other, are the list

@@ -1,6 +1,6 @@
 -- The NFSv4 list of a POSIX access ACL (this library's own: neither RFC 8881 nor acl(5) has one). What an entry decides
 -- in the access check of acl(5), it decides here by an ACE that allows and one that denies.
-use Rattle.std.specs.Prelude.{ℕ, ◌+◌, ◌-◌, ◌==◌, Bool, ◌&&◌, ◌||◌, List, [], ◌∷◌, ◌++◌, if◌then◌else◌}
+use Rattle.std.specs.Prelude.{ℕ, ◌+◌, ◌-◌, ◌==◌, ◌^◌, Bool, true, false, ◌&&◌, List, [], ◌∷◌, ◌++◌, if◌then◌else◌}
 use Rattle.std.specs.List.{filter, flat_map}
 use Rattle.std.specs.Fmt.{decimal}
 use Rattle.std.specs.FinMap as set
@@ -8,21 +8,22 @@ use Rattle.acl_perm.specs.Bits.{all_permissions, has_bit}
 use Rattle.acl_perm.specs.Profile.{full}
 use Rattle.acl_perm.specs.declared.kind.Kind.{Kind}
 use Rattle.acl_perm.specs.declared.kind.Kind.TheVariants.{Deny, Allow}
-use Rattle.acl_posix.specs.Tag.{Tag, user_obj, user, group_obj, group, mask, other, is_named, rank}
+use Rattle.acl_posix.specs.Tag.{Tag, user_obj, user, group_obj, group, mask, other, is_named}
 use Rattle.acl_posix.specs.Entries.{Entries}
 use Rattle.acl_posix.specs.Mask.{effective_of}
 use Rattle.acl_nfs4.specs.Ace.{Ace}
 use Rattle.acl_nfs4.specs.Spelling.{IsAccepted}
 use Rattle.acl_nfs4.specs.Who.{owner_name, group_name, everyone_name}
-use Rattle.acl_eval.specs.Permissions.{read, write, execute}
+use Rattle.acl_eval.specs.Permissions.{read, write, execute, read_data, write_data, append_data, execute_right}
 use Rattle.acl_eval.specs.declared.bridging.BridgeFault.{BridgeFault}
 use Rattle.acl_eval.specs.declared.bridging.BridgeFault.TheVariants.{Limits, Memory}
 
--- the rights of permissions: read is READ_DATA (0x1), write is WRITE_DATA (0x2) and APPEND_DATA (0x4), execute is
--- EXECUTE (0x20)
+-- the rights of permissions: read is READ_DATA, write is WRITE_DATA and APPEND_DATA, execute is EXECUTE
 unfoldable pub image : ℕ → ℕ
-image perm = (if has_bit perm read then 0x1 else 0) + (if has_bit perm write then 0x2 + 0x4 else 0)
-    + (if has_bit perm execute then 0x20 else 0)
+image perm =
+    (if has_bit perm read then 2 ^ read_data else 0)
+    + (if has_bit perm write then 2 ^ write_data + 2 ^ append_data else 0)
+    + (if has_bit perm execute then 2 ^ execute_right else 0)
 
 -- the who of the ACEs of an entry: the name of an id is its decimal digits; MASK has no ACE
 abbrev pub bridged_who : Tag → List ℕ
@@ -35,15 +36,30 @@ bridged_who other = everyone_name
 
 -- the tag is USER_OBJ or USER
 abbrev pub is_user_tag : Tag → Bool
-is_user_tag tag = rank tag == 0 || rank tag == 1
+is_user_tag user_obj = true
+is_user_tag (user id) = true
+is_user_tag group_obj = false
+is_user_tag (group id) = false
+is_user_tag mask = false
+is_user_tag other = false
 
 -- the tag is GROUP_OBJ or GROUP
 abbrev pub is_group_tag : Tag → Bool
-is_group_tag tag = rank tag == 2 || rank tag == 3
+is_group_tag user_obj = false
+is_group_tag (user id) = false
+is_group_tag group_obj = true
+is_group_tag (group id) = true
+is_group_tag mask = false
+is_group_tag other = false
 
 -- the tag is OTHER
 abbrev pub is_other_tag : Tag → Bool
-is_other_tag tag = rank tag == 5
+is_other_tag user_obj = false
+is_other_tag (user id) = false
+is_other_tag group_obj = false
+is_other_tag (group id) = false
+is_other_tag mask = false
+is_other_tag other = true
 
 -- the flag IDENTIFIER_GROUP alone
 abbrev pub identifier_group_alone : ℕ

@@ -2,19 +2,13 @@
 -- ALGORITHM".
 use Rattle.std.specs.Prelude.{ℕ, ◌≡◌, ◌<◌, ◌↔◌, ◌⊎◌, map, All, IsTrue}
 use Rattle.std.specs.Fmt.{decimal}
-use Rattle.std.specs.FinMap as set
 use Rattle.acl_perm.specs.Situation.{Situation}
 use Rattle.acl_posix.specs.Id.{IsId}
-use Rattle.acl_posix.specs.Entries.{Entries, IsEntry}
-use Rattle.acl_posix.specs.Valid.{IsValid}
+use Rattle.acl_posix.specs.Entries.{Entries}
+use Rattle.acl_posix.specs.Texts.{IsAcl}
 use Rattle.acl_posix.specs.Check.{Object, Requester, grants}
 use Rattle.acl_eval.specs.Grant.{Grant}
 use Rattle.acl_eval.specs.Bridge.{image, bridge_list}
-
--- a valid set, with ids and permissions that are within their limits
-pub record IsAccess (entries : Entries) : Type 0 where
-  pub valid : IsValid entries
-  pub within : All IsEntry (set.entries entries)
 
 -- a requester and the owner and group of an object, given by ids
 pub record IsAsked (object : Object) (requester : Requester) : Type 0 where
@@ -39,19 +33,19 @@ IsSingle want = (want ≡ 4) ⊎ (want ≡ 2) ⊎ (want ≡ 1)
 -- the list grants one permission if and only if the check grants it
 abbrev pub GrantsSingles : Type 0
 GrantsSingles = (entries : Entries) (object : Object) (requester : Requester) (want : ℕ)
-    → IsAccess entries → IsAsked object requester → IsSingle want
+    → IsAcl entries → IsAsked object requester → IsSingle want
     → Grant (bridge_list entries) (by_name object requester) (image want)
     ↔ IsTrue (grants entries object requester want)
 
 -- the list grants together what the check grants together
 abbrev pub KeepsGrants : Type 0
 KeepsGrants = (entries : Entries) (object : Object) (requester : Requester) (want : ℕ)
-    → IsAccess entries → IsAsked object requester → want < 8
+    → IsAcl entries → IsAsked object requester → want < 8
     → IsTrue (grants entries object requester want)
     → Grant (bridge_list entries) (by_name object requester) (image want)
 
--- what the check answers for ids, the list answers for their names: the same for one permission, and for any set at
--- least what the check grants
+-- the check, which uses ids, and the list, which uses their names, give the same answer for one permission; whatever
+-- set the check grants, the list grants
 pub record AnswersAlike (entries : Entries) (object : Object) (requester : Requester) (want : ℕ) : Type 0 where
   pub single : IsSingle want → Grant (bridge_list entries) (by_name object requester) (image want)
       ↔ IsTrue (grants entries object requester want)

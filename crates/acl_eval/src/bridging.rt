@@ -35,7 +35,6 @@ impl From<AllocError> for BridgeFault {
 
     ghost from_gives = { λ fault own. own ≡ Memory };
 
-    /// Returns `Memory`.
     fn from(_fault: AllocError) -> BridgeFault {
         BridgeFault::Memory
     }
@@ -43,7 +42,7 @@ impl From<AllocError> for BridgeFault {
 
 /// The parts of the list. Each part is made from all entries.
 #[derive(Clone, Copy)]
-enum Part {
+enum ListPart {
     Users,
     GroupAllows,
     GroupDenies,
@@ -65,9 +64,8 @@ enum Part {
 /// ```
 pub fn bridge(alloc: Global, acl: &PosixAcl) -> Result<Acl, BridgeFault>
     ensures list { IfOk result (λ list. list ≡ bridge_list acl.now) }
-    // A list that is returned is accepted.
     ensures accepted { OnOk result (IsAccepted full (bridge_list acl.now)) }
-    // Limits is returned if and only if the list is not accepted, before any memory is requested.
+    // Limits is returned if and only if the list is not accepted. For such a list Memory is never returned.
     ensures fault { IfErr result (IsBridgeFault (bridge_list acl.now)) }
 {
     if !is_within(acl) {
@@ -82,10 +80,10 @@ fn bridged(alloc: Global, acl: &PosixAcl) -> Result<Acl, AllocError>
     ensures { IfOk result (λ list. list ≡ bridge_list acl.now) }
 {
     let mut list = Acl::new(alloc);
-    push_part(&mut list, acl, Part::Users)?;
-    push_part(&mut list, acl, Part::GroupAllows)?;
-    push_part(&mut list, acl, Part::GroupDenies)?;
-    push_part(&mut list, acl, Part::Others)?;
+    push_part(&mut list, acl, ListPart::Users)?;
+    push_part(&mut list, acl, ListPart::GroupAllows)?;
+    push_part(&mut list, acl, ListPart::GroupDenies)?;
+    push_part(&mut list, acl, ListPart::Others)?;
     Ok(list)
 }
 
@@ -118,7 +116,7 @@ fn cost_of(entry: Entry) -> u32
 
 // Adds one part of the list. It is inlined for each part, so that an entry of another part costs only a test.
 #[inline(always)]
-fn push_part(list: &mut Acl, acl: &PosixAcl, part: Part) -> Result<(), AllocError>
+fn push_part(list: &mut Acl, acl: &PosixAcl, part: ListPart) -> Result<(), AllocError>
     requires { IsAccepted full (list.old ++ bridged_part acl.now part (set.entries acl.now)) }
     ensures { OnOk result (list.new ≡ list.old ++ bridged_part acl.now part (set.entries acl.now)) }
 {
@@ -129,17 +127,22 @@ fn push_part(list: &mut Acl, acl: &PosixAcl, part: Part) -> Result<(), AllocErro
     Ok(())
 }
 
-// Adds the ACEs of one entry in a part.
+// Adds the ACEs that one entry has in a part. In most parts it has none.
 #[inline(always)]
-fn push_entry(list: &mut Acl, acl: &PosixAcl, entry: Entry, part: Part) -> Result<(), AllocError>
+fn push_entry(
+    list: &mut Acl,
+    acl: &PosixAcl,
+    entry: Entry,
+    part: ListPart,
+) -> Result<(), AllocError>
     requires { IsAccepted full (list.old ++ bridged_part acl.now part (pair_of entry ∷ [])) }
     ensures { OnOk result (list.new ≡ list.old ++ bridged_part acl.now part (pair_of entry ∷ [])) }
 {
     match part {
-        Part::Users if is_user_tag(entry.tag) => push_decided(list, acl, entry),
-        Part::GroupAllows if is_group_tag(entry.tag) => push_allowed(list, acl, entry),
-        Part::GroupDenies if is_group_tag(entry.tag) => push_denied(list, acl, entry),
-        Part::Others if is_other_tag(entry.tag) => push_allowed(list, acl, entry),
+        ListPart::Users if is_user_tag(entry.tag) => push_decided(list, acl, entry),
+        ListPart::GroupAllows if is_group_tag(entry.tag) => push_allowed(list, acl, entry),
+        ListPart::GroupDenies if is_group_tag(entry.tag) => push_denied(list, acl, entry),
+        ListPart::Others if is_other_tag(entry.tag) => push_allowed(list, acl, entry),
         _ => Ok(()),
     }
 }
@@ -174,7 +177,7 @@ fn push_decided(list: &mut Acl, acl: &PosixAcl, entry: Entry) -> Result<(), Allo
     push_ace(list, Kind::Deny, entry.tag, rest_of(allowed), who)
 }
 
-// Adds what an entry allows.
+// Adds the ALLOW of an entry, or nothing if the entry allows nothing.
 fn push_allowed(list: &mut Acl, acl: &PosixAcl, entry: Entry) -> Result<(), AllocError>
     requires { IsAccepted full (list.old ++ allow_of acl.now (pair_of entry)) }
     ensures { OnOk result (list.new ≡ list.old ++ allow_of acl.now (pair_of entry)) }
@@ -184,7 +187,7 @@ fn push_allowed(list: &mut Acl, acl: &PosixAcl, entry: Entry) -> Result<(), Allo
     push_ace(list, Kind::Allow, entry.tag, acl.effective(entry), who)
 }
 
-// Adds what an entry denies.
+// Adds the DENY of an entry, or nothing if the entry allows all permissions.
 fn push_denied(list: &mut Acl, acl: &PosixAcl, entry: Entry) -> Result<(), AllocError>
     requires { IsAccepted full (list.old ++ deny_of acl.now (pair_of entry)) }
     ensures { OnOk result (list.new ≡ list.old ++ deny_of acl.now (pair_of entry)) }
@@ -247,7 +250,7 @@ fn flags_of(tag: Tag) -> Flags
     }
 }
 
-// Returns the rights of permissions.
+// Returns the rights of each permission in the set, together.
 fn image(perm: Perm) -> Mask
     ensures { result.bits ≡ image perm.bits }
 {

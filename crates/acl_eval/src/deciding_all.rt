@@ -37,7 +37,7 @@ impl Decisions {
         self.by_bit[right.bit()]
     }
 
-    // Notes what decides these rights.
+    // Notes that this ACE decides these rights. It replaces what was noted for them before.
     fn note(&mut self, rights: Mask, decision: Decision)
         ensures { (bit : ℕ) → decision_of self.new bit
             ≡ (if has_bit rights.bits bit then Some decision else decision_of self.old bit) }
@@ -51,8 +51,7 @@ impl Decisions {
 }
 
 /// Finds for each right the ACE that decides it for this requester and object: what `deciding_ace` finds, for all
-/// sixteen rights at once. The function reads the list once, stops when every right is decided, and allocates no
-/// memory.
+/// sixteen rights at once. The function reads the list once, stops when every right is decided, and takes no memory.
 pub fn deciding_aces(aces: Aces<'_>, object: &Object<'_>, requester: &Requester<'_>) -> Decisions
     ensures place { (bit : ℕ) → IsTrue (has_bit all_rights bit)
         → option_map (λ decision. decision.place) (decision_of result bit)
@@ -69,7 +68,7 @@ fn decisions_of(aces: Aces<'_>, standing: &Standing<'_>) -> Decisions
         → decision_of result bit
         ≡ decision_from 0 (decides (asked_situation standing.now) bit) aces.entry }
 {
-    let mut so_far = SoFar::new();
+    let mut so_far = DecidedSoFar::new();
     for (place, ace) in aces.enumerate() {
         if so_far.left.bits() == 0 {
             return so_far.decisions;
@@ -81,17 +80,17 @@ fn decisions_of(aces: Aces<'_>, standing: &Standing<'_>) -> Decisions
 
 // The decisions so far, and the rights that no ACE has decided.
 #[derive(Drop)]
-struct SoFar {
+struct DecidedSoFar {
     decisions: Decisions,
     left: Mask,
 }
 
-impl SoFar {
-    fn new() -> SoFar
+impl DecidedSoFar {
+    fn new() -> DecidedSoFar
         ensures decisions { (bit : ℕ) → decision_of result.decisions bit ≡ None }
         ensures left { result.left.bits ≡ all_rights }
     {
-        SoFar {
+        DecidedSoFar {
             decisions: Decisions::new(),
             left: Mask::ALL,
         }

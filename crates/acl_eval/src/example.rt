@@ -1,4 +1,4 @@
-//! The example of the README.
+//! The example of the README, with the answers of RFC 8881, section 6.2.1.
 use crate::{Object, Requester, grants};
 use acl_nfs4::{AclView, read_mask};
 use std::test::Fail;

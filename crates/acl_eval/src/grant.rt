@@ -53,10 +53,10 @@ pub fn grants_by_table(
 /// for many groups.
 ///
 /// ```rust
-/// let list = parse_text(alloc, b"ALLOW - READ_DATA|WRITE_DATA bob")?;
+/// let list = parse_text(alloc, b"ALLOW - READ_DATA bob\nDENY - WRITE_DATA bob")?;
 /// let object = Object::new(b"alice", b"staff").ok_or("a name is empty")?;
 /// let bob = Requester::new(b"bob", &[]).ok_or("a name is empty")?;
-/// assert!(rt; grants(list.aces(), &object, &bob, Mask::WRITE_DATA));
+/// assert!(rt; grants(list.aces(), &object, &bob, Mask::READ_DATA));
 /// assert!(rt; !grants(list.aces(), &object, &bob, Mask::ALL));
 /// ```
 #[tactic(auto, using(crate::proofs::Scans::scan_is))]
@@ -66,7 +66,7 @@ pub fn grants(aces: Aces<'_>, object: &Object<'_>, requester: &Requester<'_>, ma
     scan(aces, &Standing::new(*object, *requester), mask.bits())
 }
 
-// Returns whether the list grants the request. The groups are in a table.
+// Returns whether the list grants the request, with the groups of the requester in a table.
 #[tactic(auto, using(crate::proofs::Scans::scan_is))]
 fn is_granted_by(
     aces: Aces<'_>,

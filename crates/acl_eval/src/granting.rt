@@ -13,16 +13,16 @@ use acl_nfs4::{AceRef, Aces};
 use acl_perm::{Kind, Mask};
 
 /// Returns the rights of `mask` that the list grants the requester on the object (RFC 8881, section 6.2.1). For each
-/// right, the first ACE without INHERIT_ONLY that has the right and applies to the requester decides; a right that no
+/// right, the first ACE without INHERIT_ONLY that has the right and matches the requester decides; a right that no
 /// ACE decides is denied. `grants` answers `true` if and only if all rights of its request are among those that are
-/// granted. The function reads the list once, stops when every right of the mask is decided, and allocates no memory.
+/// granted. The function reads the list once, stops when every right of the mask is decided, and takes no memory.
 ///
 /// ```rust
-/// let list = parse_text(alloc, b"ALLOW - READ_DATA|WRITE_DATA bob")?;
+/// let list = parse_text(alloc, b"ALLOW - READ_DATA bob\nDENY - WRITE_DATA bob")?;
 /// let object = Object::new(b"alice", b"staff").ok_or("a name is empty")?;
 /// let bob = Requester::new(b"bob", &[]).ok_or("a name is empty")?;
 /// let rights = granted(list.aces(), &object, &bob, Mask::ALL);
-/// assert!(rt; rights == Mask::READ_DATA | Mask::WRITE_DATA);
+/// assert!(rt; rights == Mask::READ_DATA);
 /// ```
 pub fn granted(aces: Aces<'_>, object: &Object<'_>, requester: &Requester<'_>, mask: Mask) -> Mask
     ensures rights { (bit : ℕ) → has_bit result.bits bit ≡ (has_bit mask.bits bit
@@ -38,7 +38,7 @@ fn granted_to(aces: Aces<'_>, standing: &Standing<'_>, mask: Mask) -> Mask
     ensures { (bit : ℕ) → has_bit result.bits bit
         ≡ (has_bit mask.bits bit && grants_bit aces.entry (asked_situation standing.now) bit) }
 {
-    let mut so_far = SoFar::new(mask);
+    let mut so_far = GrantedSoFar::new(mask);
     for ace in aces {
         if so_far.left.bits() == 0 {
             return so_far.granted;
@@ -48,19 +48,20 @@ fn granted_to(aces: Aces<'_>, standing: &Standing<'_>, mask: Mask) -> Mask
     so_far.granted
 }
 
-// The rights that the ACEs so far grant, and those that none of them has decided.
+/// The rights that the ACEs so far grant, and those that none of them has decided.
 #[derive(Clone, Copy)]
-struct SoFar {
-    granted: Mask,
-    left: Mask,
+pub(crate) struct GrantedSoFar {
+    pub granted: Mask,
+    pub left: Mask,
 }
 
-impl SoFar {
-    fn new(mask: Mask) -> SoFar
+impl GrantedSoFar {
+    /// Makes the state before the first ACE, for a request for these rights.
+    pub(crate) fn new(mask: Mask) -> GrantedSoFar
         ensures granted { result.granted.bits ≡ 0 }
         ensures left { result.left.bits ≡ mask.bits }
     {
-        SoFar {
+        GrantedSoFar {
             granted: Mask::NONE,
             left: mask,
         }
@@ -69,7 +70,7 @@ impl SoFar {
     // The state after one more ACE, which decides only what no earlier ACE has decided. The mask is judged before the
     // who, which takes more time.
     #[inline(always)]
-    fn after(self, item: &AceRef<'_>, standing: &Standing<'_>) -> SoFar
+    fn after(self, item: &AceRef<'_>, standing: &Standing<'_>) -> GrantedSoFar
         requires { 1 ≤ length item.now.who.now }
         ensures { (list : List Ace) (bit : ℕ)
             → granted_in (asked_situation standing.now) result list bit
@@ -82,9 +83,10 @@ impl SoFar {
         self.decide(item.kind, item.mask)
     }
 
-    // The state after an ACE that matches the requester.
+    /// Returns the state after an ACE of this kind and mask, which matches the requester.
+    #[inline(always)]
     #[tactic(auto)]
-    fn decide(self, kind: Kind, mask: Mask) -> SoFar
+    pub(crate) fn decide(self, kind: Kind, mask: Mask) -> GrantedSoFar
         ensures { (is_granted : Bool) (bit : ℕ) → decided_by result is_granted bit
             ≡ decided_by self (if has_bit mask.bits bit then is_allow kind else is_granted) bit }
     {
@@ -92,7 +94,7 @@ impl SoFar {
             Kind::Allow => self.granted.union(self.left.intersection(mask)),
             Kind::Deny => self.granted,
         };
-        SoFar {
+        GrantedSoFar {
             granted,
             left: self.left.difference(mask),
         }

@@ -33,7 +33,7 @@ pub(crate) struct GroupTable<'a> {
 }
 
 impl<'a> GroupTable<'a> {
-    /// Makes a table of these names.
+    /// Makes a table of these names. Fails if memory runs out.
     pub(crate) fn new(alloc: Global, names: &[&'a [u8]]) -> Result<GroupTable<'a>, AllocError>
         ensures { IfOk result (λ table. HoldsGroups table (map (λ g. g.now) names.now)) }
     {
@@ -49,7 +49,6 @@ impl<'a> GroupTable<'a> {
     }
 }
 
-// Returns the set of these names.
 fn names_of<'a>(alloc: Global, names: &[&'a [u8]]) -> Result<HashSet<GroupName<'a>>, AllocError>
     ensures { IfOk result (IsFromIterResult is_same_name
         (map (λ g. record { bytes = g }) names.now)) }

@@ -19,7 +19,7 @@ pub(crate) struct Groups<'a> {
 }
 
 impl<'a> Groups<'a> {
-    /// Makes the groups of these names.
+    /// Makes the groups of these names. If there are many, finds out once whether they are in order.
     pub(crate) fn new(names: &'a [&'a [u8]]) -> Self
         ensures { result.names.now ≡ names.entry.now }
     {
@@ -29,7 +29,7 @@ impl<'a> Groups<'a> {
         }
     }
 
-    /// Returns the names.
+    /// Returns the names, in the order in which they were given.
     pub(crate) fn names(&self) -> &'a [&'a [u8]]
         ensures { result.now ≡ self.now.names.now }
     {
@@ -45,7 +45,8 @@ impl<'a> Groups<'a> {
         }
     }
 
-    /// Returns whether one of the groups has the name.
+    /// Returns whether one of the groups has the name: by binary search if they are many and in order, and otherwise
+    /// one by one.
     pub(crate) fn contains(&self, name: &[u8]) -> bool
         ensures { result ≡ list_any (λ g. bytes_eq name.now g.now) self.now.names.now }
     {
@@ -64,7 +65,7 @@ fn are_in_order(names: &[&[u8]]) -> bool
     names.is_sorted()
 }
 
-// Returns whether the name is one of these names, which are in order, by binary search.
+// Searches for the name among these names, which must be in order, by binary search.
 fn is_found(names: &[&[u8]], name: &[u8]) -> bool
     requires { AreInOrder names.now }
     ensures { result ≡ list_any (λ g. bytes_eq name.now g.now) names.now }
@@ -72,7 +73,7 @@ fn is_found(names: &[&[u8]], name: &[u8]) -> bool
     names.binary_search(&name).is_ok()
 }
 
-// Returns whether the name is one of these names, which are in any order, one by one.
+// Searches for the name among these names, which may be in any order, one by one.
 fn is_met(names: &[&[u8]], name: &[u8]) -> bool
     ensures { result ≡ list_any (λ g. bytes_eq name.now g.now) names.now }
 {

@@ -10,7 +10,7 @@ ghost use Rattle.acl_eval.specs.declared.inherit.ChildKind.TheVariants.{Director
 use acl_nfs4::{AceRef, Acl, AclView, Flags};
 use std::alloc::{AllocError, Global};
 
-/// What is created.
+/// The kind of a new object. It decides which ACEs the object inherits.
 #[derive(Clone, Copy, Debug, PartialEq, Eq)]
 pub enum ChildKind {
     /// Anything but a directory.
@@ -47,7 +47,6 @@ pub fn child_of_view(
     kind: ChildKind,
 ) -> Result<Acl, AllocError>
     ensures ok { IfOk result (λ list. list ≡ children kind parent.now) }
-    // If the parent fits a profile with INHERIT_ONLY, the child fits it.
     ensures fits { IfOk result (λ list. (p : Profile) → IsTrue (has_bit p.flags inherit_only)
         → Fits p parent.now → Fits p list) }
 {
@@ -65,7 +64,7 @@ const KEPT_AT_THE_END: Flags = Flags {
     bits: Flags::SUCCESSFUL_ACCESS.bits | Flags::FAILED_ACCESS.bits | Flags::IDENTIFIER_GROUP.bits,
 };
 
-// The flags that an ACE keeps if the child passes it on: also those that say to which objects.
+// The flags that an ACE keeps if the child passes it on: also those that say which objects get it.
 const KEPT_ON_THE_WAY: Flags = Flags {
     bits: KEPT_AT_THE_END.bits
         | Flags::FILE_INHERIT.bits
@@ -73,7 +72,7 @@ const KEPT_ON_THE_WAY: Flags = Flags {
         | Flags::NO_PROPAGATE_INHERIT.bits,
 };
 
-// The flags of an ACE in the child, if the child has it.
+// Returns the flags that an ACE has in the child, or `None` if the child does not get the ACE.
 fn inherited(kind: ChildKind, flags: Flags) -> Option<Flags>
     ensures { option_map (λ f. f.bits) result ≡ child_flags kind flags.bits }
 {

@@ -130,7 +130,6 @@ pub fn bridge_grants()
 
 /// The names of the list are decimal ids.
 pub fn bridge_names()
-    // Different ids have different names.
     ensures differ { NamesDiffer }
     // Each name is valid, and none is a special identifier.
     ensures valid { NamesAreValid }

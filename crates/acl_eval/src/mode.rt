@@ -1,6 +1,6 @@
 //! The mode of a list: what it grants the owner, the group and others.
 ghost use Rattle.std.specs.Prelude.{◌≡◌, ◌∷◌, ◌&&◌, if◌then◌else◌, ℕ, List};
-ghost use Rattle.acl_perm.specs.Bits.{all_rights, has_bit};
+ghost use Rattle.acl_perm.specs.Bits.{has_bit};
 ghost use Rattle.acl_perm.specs.Principal.{principal};
 ghost use Rattle.acl_nfs4.specs.Ace.{Ace, ace};
 ghost use Rattle.acl_nfs4.specs.Who.{principal_of};
@@ -8,9 +8,10 @@ ghost use Rattle.acl_eval.specs.ListMode.{mode_of_list, perm_of};
 ghost use Rattle.acl_eval.specs.Permissions.{append_data, execute_right, read_data, write_data};
 ghost use Rattle.acl_eval.specs.internal.Settled.{decides_for, settled_in};
 
+use crate::granting::GrantedSoFar;
 use crate::permissions::{EXECUTE, READ, WRITE, WRITE_RIGHTS};
 use acl_nfs4::{AceRef, Aces};
-use acl_perm::{Kind, Mask, Mode, Perm, Principal};
+use acl_perm::{Mask, Mode, Perm, Principal};
 
 /// Returns the file mode bits of a list (RFC 8881, section 6.3.2): for the owner what the ACEs of `OWNER@` and
 /// `EVERYONE@` grant, for the group what those of `GROUP@` and `EVERYONE@` grant, and for others what those of
@@ -24,14 +25,14 @@ use acl_perm::{Kind, Mask, Mode, Perm, Principal};
 pub fn mode_of(aces: Aces<'_>) -> Mode
     ensures { result.bits ≡ mode_of_list aces.entry }
 {
-    let mut owner = Decided::new();
-    let mut group = Decided::new();
-    let mut others = Decided::new();
+    let mut owner = GrantedSoFar::new(Mask::ALL);
+    let mut group = GrantedSoFar::new(Mask::ALL);
+    let mut others = GrantedSoFar::new(Mask::ALL);
     for ace in aces {
         let whom = ace.principal();
-        owner = owner.after(&ace, FileClass::Owner, whom);
-        group = group.after(&ace, FileClass::Group, whom);
-        others = others.after(&ace, FileClass::Others, whom);
+        owner = FileClass::Owner.after(owner, &ace, whom);
+        group = FileClass::Group.after(group, &ace, whom);
+        others = FileClass::Others.after(others, &ace, whom);
     }
     Mode::from_parts(owner.perm(), group.perm(), others.perm())
 }
@@ -45,6 +46,19 @@ enum FileClass {
 }
 
 impl FileClass {
+    // The state after one more ACE, which names this principal. It decides only what no earlier ACE has decided.
+    #[tactic(auto)]
+    fn after(self, so_far: GrantedSoFar, item: &AceRef<'_>, whom: Principal<'_>) -> GrantedSoFar
+        requires { principal whom ≡ principal_of (ace item.now) }
+        ensures { (list : List Ace) (bit : ℕ)
+            → settled_in self result list bit ≡ settled_in self so_far (ace item.now ∷ list) bit }
+    {
+        if !self.is_decided_by(whom) || !item.takes_part() {
+            return so_far;
+        }
+        so_far.decide(item.kind, item.mask)
+    }
+
     // Returns whether the ACEs of a principal decide for the class. Those of `EVERYONE@` decide for every class.
     fn is_decided_by(self, whom: Principal<'_>) -> bool
         ensures { result ≡ decides_for self (principal whom.entry) }
@@ -58,44 +72,7 @@ impl FileClass {
     }
 }
 
-// What the ACEs so far grant a class, and the rights that none of them has decided.
-#[derive(Clone, Copy)]
-struct Decided {
-    granted: Mask,
-    left: Mask,
-}
-
-impl Decided {
-    fn new() -> Decided
-        ensures granted { result.granted.bits ≡ 0 }
-        ensures left { result.left.bits ≡ all_rights }
-    {
-        Decided {
-            granted: Mask::NONE,
-            left: Mask::ALL,
-        }
-    }
-
-    // The state after one more ACE, which names this principal. It decides only what no earlier ACE has decided.
-    #[tactic(auto)]
-    fn after(self, item: &AceRef<'_>, class: FileClass, whom: Principal<'_>) -> Decided
-        requires { principal whom ≡ principal_of (ace item.now) }
-        ensures { (list : List Ace) (bit : ℕ)
-            → settled_in class result list bit ≡ settled_in class self (ace item.now ∷ list) bit }
-    {
-        if !class.is_decided_by(whom) || !item.takes_part() {
-            return self;
-        }
-        let granted = match item.kind {
-            Kind::Allow => self.granted.union(self.left.intersection(item.mask)),
-            Kind::Deny => self.granted,
-        };
-        Decided {
-            granted,
-            left: self.left.difference(item.mask),
-        }
-    }
-
+impl GrantedSoFar {
     fn perm(self) -> Perm
         ensures { result.bits ≡ perm_of (has_bit self.granted.bits) }
     {

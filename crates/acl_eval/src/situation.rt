@@ -79,21 +79,21 @@ impl<'a> Requester<'a> {
         }
     }
 
-    /// Returns the name of the user.
+    /// Returns the name of the user, which is not empty.
     pub fn user(&self) -> &'a [u8]
         ensures { result.now ≡ user_of self.now }
     {
         self.user
     }
 
-    /// Returns whether this is the user.
+    /// Returns whether the user has this name.
     pub(crate) fn is_named(&self, name: &[u8]) -> bool
         ensures { result ≡ bytes_eq (user_of self.now) name.now }
     {
         self.user == name
     }
 
-    /// Returns the names of the groups.
+    /// Returns the names of the groups as they were given: none is empty, and one may be there twice.
     pub fn groups(&self) -> &'a [&'a [u8]]
         ensures { map (λ g. g.now) result.now ≡ groups_of self.now }
     {
@@ -105,7 +105,7 @@ impl<'a> Requester<'a> {
         self.groups.are_worth_a_table(look_ups)
     }
 
-    /// Returns whether the user is in the group.
+    /// Returns whether the user is in the group with this name.
     #[tactic(auto, using(crate::proofs::Members::any_now))]
     pub(crate) fn is_in(&self, name: &[u8]) -> bool
         ensures { result ≡ list_any (bytes_eq name.now) (groups_of self.now) }

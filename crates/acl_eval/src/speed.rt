@@ -50,12 +50,9 @@ fn spelled(alloc: Global) -> Result<Vec<u8>, AllocError> {
     Ok(bytes)
 }
 
-// How often, of so many times, the user of the last ACE is granted READ_DATA.
+// How often, of this many times, the user of the last ACE is granted READ_DATA.
 fn granted(bytes: &[u8], times: usize) -> Option<usize> {
-    let list = match AclView::parse_whole(bytes) {
-        Ok(list) => list,
-        Err(_) => return None,
-    };
+    let list = AclView::parse_whole(bytes).ok()?;
     let user = name(COUNT - 1);
     let object = Object::new(b"owner", b"group")?;
     let requester = Requester::new(&user, &[])?;

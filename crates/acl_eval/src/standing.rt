@@ -42,7 +42,7 @@ impl<'a> Standing<'a> {
         Standing::with_table(object, requester, None)
     }
 
-    /// Makes the same, with a table of the groups of the requester if there is one.
+    /// Makes what `new` makes. If there is a table of the groups of the requester, groups are looked up in it.
     pub(crate) fn with_table(
         object: Object<'a>,
         requester: Requester<'a>,

@@ -1,4 +1,4 @@
-//! Rows from the standards and worked lists, by subject.
+//! Tests of this crate, by subject. The head of each file says where its expected values are from.
 
 mod ample;
 mod bridging;

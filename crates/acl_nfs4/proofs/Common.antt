@@ -2,7 +2,7 @@
 pub use Rattle.acl_nfs4.specs.Ace.{Ace, ace}
 pub use Rattle.acl_nfs4.specs.AceText.{ace_line, ace_lines, ace_text, as_text, HasLineFields, HasNoSpace, is_skipped, IsAceText, kind_name, LineFields, space, SpellEach, SpellsAce, TextLine}
 pub use Rattle.acl_nfs4.specs.AceTextFault.{IsAceTextFault, IsAt, IsFlagged, IsLight, IsLineFault, IsMasked, IsSplit, IsTextRefusal, IsTyped, mask_column, who_column}
-pub use Rattle.acl_nfs4.specs.BitNames.{bar, bit_in, BitName, bits_in, first_name, is_name_of, names_of, no_names, set_text, SpellsSet}
+pub use Rattle.acl_nfs4.specs.BitNames.{bar, bit_in, BitName, bits_in, first_name, is_name_of, names_of, no_names, SpellsSet}
 pub use Rattle.acl_nfs4.specs.Fault.{Border, Breaks, IsFault, IsFirstFault, IsOwed, IsWholeFault, refuses, size, Stage}
 pub use Rattle.acl_nfs4.specs.Fault.Border.{counted, flagged, masked, measured, named, padded, start, typed}
 pub use Rattle.acl_nfs4.specs.Fault.IsWholeFault.{behind, of_value}
@@ -23,14 +23,14 @@ pub use Rattle.acl_nfs4.specs.declared.text.fault.AceTextFault.{AceTextFault}
 pub use Rattle.acl_nfs4.specs.declared.who.WhoFault.{WhoFault}
 pub use Rattle.acl_nfs4.specs.declared.xdr.fault.Fault.{Fault}
 pub use Rattle.acl_nfs4.specs.declared.xdr.fault.Reason.{Reason}
-pub use Rattle.acl_nfs4.specs.declared.xdr.fault.Reason.TheVariants.{Read, TooManyAces, TrailingBytes, Truncated}
+pub use Rattle.acl_nfs4.specs.declared.xdr.fault.Reason.TheVariants.{Read, TrailingBytes, Truncated}
 pub use Rattle.acl_nfs4.specs.internal.AceReading.{ace_lines_from, after_flags, after_kind, after_mask, cut_space, FailsAs, if_light, last_fields, line_fields, read_ace, read_ace_fields, read_lines, who_fault_at, who_judged}
 pub use Rattle.acl_nfs4.specs.internal.Body.{aces_of, IsBody, IsList, SpellsBody}
 pub use Rattle.acl_nfs4.specs.internal.Cursor.{place}
 pub use Rattle.acl_nfs4.specs.internal.NameTable.{bit_name_of, bit_names_of, is_rising, IsFieldCut, joined_names, parts_after, set_if_within, set_within, size_after}
 pub use Rattle.acl_nfs4.specs.internal.Progress.{behind_scanned, body_in, EndsPart, HasTaken, IsBytes, IsFeed, IsProgress, IsScanned, IsText, IsWhole, Judged, state_of}
 pub use Rattle.acl_nfs4.specs.internal.Pulling.{HasAce, IsDrawn, IsFilled, IsHalted, IsLacking, IsPulled}
-pub use Rattle.acl_nfs4.specs.internal.Reading.{ace_at, aces_at, ArePlain, fault_at, field, Gives, is_plain_ascii, judged, kind_from, moved, Place, Placed, word_field}
+pub use Rattle.acl_nfs4.specs.internal.Reading.{ace_at, ArePlain, fault_at, field, Gives, is_plain_ascii, judged, kind_from, moved, Place, Placed, word_field}
 pub use Rattle.acl_perm.proofs.Bools.{and_true}
 pub use Rattle.acl_perm.proofs.LineLemmas.{lines_left, lines_next, no_lines, number_next, NumberFits, text_left}
 pub use Rattle.acl_perm.proofs.PieceLemmas.{IsOut, out_cut, out_more}
@@ -45,7 +45,7 @@ pub use Rattle.acl_perm.specs.internal.Steps.{◌>>=◌}
 pub use Rattle.std.proofs.Common.{[], add-one, ap, append-nil, append_assoc, arith, Bool, Bor, cond, drop, eqb, Err, false, get_or, inl, inr, IsTrue, leb, length, length-append, List, ltb, Ok, refl, Result, rules, subst, suc, sym, take, true, w8, zero, ℕ, ⊎_elim, ◌%◌, ◌*◌, ◌++◌, ◌+◌, ◌-◌, ◌/◌, ◌<◌, ◌^◌, ◌∙◌, ◌∷◌, ◌≡◌, ◌≢◌, ◌≤◌}
 pub use Rattle.std.proofs.KnownBytes.{Consumes-nil, Consumes-trans}
 pub use Rattle.std.proofs.Math.Seq.{take-add, take-append-add}
-pub use Rattle.std.proofs.lemmas.Bool.{cases_lt, eq-eqb, eqb-true, false_from_ne_true, le-leb, le-ltb, leb-false, leb-true, lt-ltb, ltb-false, ltb-true, not-true, or_from, or_parts}
+pub use Rattle.std.proofs.lemmas.Bool.{cases_lt, eq-eqb, eqb-true, false_from_ne_true, le-leb, le-ltb, leb-false, leb-true, lt-ltb, ltb-false, ltb-true, not-true, or_from}
 pub use Rattle.std.proofs.lemmas.Bool.Decides.{eqb_tells, nat_tests}
 pub use Rattle.std.proofs.lemmas.List.{drop-append-le, drop-take, drop_all, drop_at, get_or-append_right, get_or-drop, get_or-replicate, get_or-take, get_or_append_left, get_or_default, get_or_past, length-drop, length-map, length-replicate, length-take, length-take-le, take-append-drop, take-append-le, take-replicate, take-take, take_all, take_at, take_rest}
 pub use Rattle.std.proofs.lemmas.List.Concat.{flat_map-cons}
@@ -55,7 +55,6 @@ pub use Rattle.std.proofs.lemmas.List.Sums.{length-filter, list_all-from_AllPass
 pub use Rattle.std.proofs.lemmas.Nat.{and_comm, and_le_l, and_le_r, and_mask, be_bytes_4, from_be_bytes-to_be_bytes_4, ones_le_self}
 pub use Rattle.std.proofs.lemmas.Nat.Bits.{and_pow, bit_at-lt, bit_at-suc, bit_at_lowest}
 pub use Rattle.std.proofs.lemmas.Option.{same_Some}
-pub use Rattle.std.proofs.lemmas.Result.{err_from_is_err_and}
 pub use Rattle.std.proofs.lemmas.Str.{is_utf8-from_IsUtf8, IsUtf8-from_ascii, IsUtf8-from_is_utf8}
 pub use Rattle.std.proofs.lemmas.Str.Ascii.{IsAscii-from_all}
 pub use Rattle.std.specs.Int.{bit_at}

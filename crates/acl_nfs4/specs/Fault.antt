@@ -1,5 +1,5 @@
 -- The first fault of bytes, defined without reading them: where their fields end, and what is wrong with the next one.
--- The layout is that of RFC 4506, sections 4.2, 4.11 and 4.13, over RFC 8881, section 6.2.1; the reasons are this
+-- The layout is that of RFC 4506, sections 4.2, 4.10 and 4.13, over RFC 8881, section 6.2.1; the reasons are this
 -- library's own.
 use Rattle.std.specs.Prelude.{◌≡◌, ℕ, ◌+◌, ◌≤◌, ◌<◌, List, [], ◌∷◌, ◌++◌, length, take, replicate, count_ones, Err, ◌⊎◌}
 use Rattle.acl_perm.specs.Profile.{Profile}
@@ -11,6 +11,7 @@ use Rattle.acl_nfs4.specs.Spelling.{word, pad_len, weight, Xdr}
 use Rattle.acl_nfs4.specs.Fields.{number, count_of, kind_of, flags_of, mask_of, who_len_of, who_of, padding_of}
 use Rattle.acl_perm.specs.Kind.{kind_number}
 use Rattle.acl_perm.specs.declared.kind.Kind.{Kind}
+use Rattle.acl_nfs4.specs.declared.xdr.fault.Fault.{Fault}
 use Rattle.acl_nfs4.specs.declared.xdr.fault.Reason.{Reason}
 use Rattle.acl_nfs4.specs.declared.xdr.fault.Reason.TheVariants.{Truncated, TrailingBytes}
 
@@ -95,9 +96,17 @@ pub record IsFirstFault (p : Profile) (bytes : List ℕ) (offset taken : ℕ) (r
 abbrev pub IsFault : Profile → List ℕ → ℕ → Reason → Type 0
 IsFault p bytes offset r = (taken : ℕ) × IsFirstFault p bytes offset taken r
 
--- the first fault of bytes that should be one list and nothing more: that of the list, or the first byte behind it
+-- the first fault of bytes has this place and this reason
+abbrev pub HasFault : Profile → List ℕ → Fault → Type 0
+HasFault p bytes fault = IsFault p bytes fault.offset fault.reason
+
+-- the first fault of bytes that should be one list and nothing more: that of the list, or the first byte after it
 pub data IsWholeFault (p : Profile) (bytes : List ℕ) : ℕ → Reason → Type 0 where
   of_value : (offset : ℕ) (r : Reason) → IsFault p bytes offset r → IsWholeFault p bytes offset r
   behind : (list : List Ace) (text rest : List ℕ)
       → Xdr p list text → bytes ≡ text ++ rest → 0 < length rest
       → IsWholeFault p bytes (length text) TrailingBytes
+
+-- the first fault of bytes that should be one list and nothing more has this place and this reason
+abbrev pub HasWholeFault : Profile → List ℕ → Fault → Type 0
+HasWholeFault p bytes fault = IsWholeFault p bytes fault.offset fault.reason

@@ -5,7 +5,7 @@ use Rattle.acl_perm.specs.Profile.{Profile}
 use Rattle.acl_nfs4.specs.Ace.{Ace}
 use Rattle.acl_nfs4.specs.Spelling.{Xdr}
 
--- so many bytes at the front spell the list
+-- this many bytes at the front spell the list
 abbrev pub IsAtFront : Profile → List ℕ → List Ace × ℕ → Type 0
 IsAtFront p bytes found = (found.1 ≤ length bytes) × Xdr p found.0 (take found.1 bytes)
 

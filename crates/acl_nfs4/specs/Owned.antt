@@ -13,7 +13,7 @@ use Rattle.acl_nfs4.specs.internal.Body.{aces_of, IsBody}
 -- lists are compared by an equivalence
 pub use Rattle.acl_nfs4.specs.internal.SameSpelling.{same_list_laws, same_list_equiv}
 
--- the fields of a list: the pieces of so many ACEs of that weight, within the limit
+-- the fields of a list: the pieces of this many ACEs of that weight, within the limit
 pub record IsOwned (count total : ℕ) (body : List ℕ) : Type 0 where
   pub spells : IsBody count body
   pub small : count ≤ most_aces

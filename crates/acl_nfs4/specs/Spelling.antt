@@ -1,5 +1,5 @@
--- The one spelling of a list of ACEs as XDR (RFC 4506, sections 4.2, 4.10, 4.11 and 4.13, over the types of RFC 8881,
--- section 6.2.1), and which lists have one.
+-- The one spelling of a list of ACEs as XDR (RFC 4506, sections 4.2, 4.10 and 4.13, over the types of RFC 8881, section
+-- 6.2.1), and which lists have one.
 use Rattle.std.specs.Prelude.{◌≡◌, ℕ, ◌-◌, ◌%◌, ◌≤◌, List, ◌++◌, length, replicate, count_ones, sum_by}
 use Rattle.std.specs.List.{flat_map, AllByRecursion}
 use Rattle.std.specs.Int.{w32, to_be_bytes}

@@ -44,7 +44,7 @@ Feeds (refused f) piece answer new = (new ≡ refused f) × (answer ≡ Refused 
 abbrev pub IsFedOrFails : Fed → Fed → Type 0
 IsFedOrFails answer expected = (answer ≡ expected) ⊎ (answer ≡ Refused no_memory)
 
--- the answer for a stream of which n bytes came before the piece, given what the stream is
+-- the answer for a stream whose first n bytes came before the piece, given what the stream is
 pub record FedExactly (p : Profile) (stream : List ℕ) (n : ℕ) (answer : Fed) : Type 0 where
   pub cut : (o : ℕ) → IsFault p stream o Truncated → IsFedOrFails answer More
   pub whole : (list : List Ace) (text rest : List ℕ) → Xdr p list text → stream ≡ text ++ rest
@@ -61,7 +61,7 @@ FinishesStream (refused f) result = result ≡ Err f
 
 -- ---- what is held
 
--- a stream of whole ACEs and less than the longest ACE behind them, or of less than the word of their number
+-- a stream of whole ACEs and less than the longest ACE after them, or of less than the word of their number
 abbrev pub HoldsLittle : List ℕ → Type 0
 HoldsLittle s = (length s < 4)
     ⊎ ((n : ℕ) × (list : List Ace) × (tail : List ℕ) × (s ≡ (word n ++ flat_map piece list) ++ tail)
@@ -83,7 +83,7 @@ FeedsEach old (piece ∷ pieces) [] new = ⊥
 FeedsEach old (piece ∷ pieces) (answer ∷ answers) new =
     (now : StreamState) × Feeds old piece answer now × FeedsEach now pieces answers new
 
--- the answer to the bytes behind a piece of n bytes, as an answer to both together
+-- the answer to the bytes after a piece of n bytes, as an answer to both together
 abbrev pub further : ℕ → Fed → Fed
 further n More = More
 further n (Done taken) = Done (n + taken)

@@ -15,25 +15,24 @@ ghost use Rattle.acl_nfs4.specs.declared.xdr.fault.Reason.TheVariants.{Truncated
 use crate::feed::fed::Fed;
 use crate::feed::scan::Progress;
 use crate::feed::step::{Stage, advance};
-use crate::feed::stream::Text;
+use crate::feed::stream::StreamBytes;
 use crate::list::acl::Acl;
 use crate::xdr::fault::{Fault, Reason};
 use acl_perm::Profile;
 use std::alloc::Global;
 use std::marker::Model;
 
-// How many bytes of a long piece are taken at a time. So a feed never holds more bytes than these behind the end of a
+// How many bytes of a long piece are taken at a time. So a feed never holds more bytes than these after the end of a
 // list.
 const CHUNK: usize = 4096;
 
-/// A list of which a part has arrived. It holds the whole ACEs so far, and the fields so far of the ACE that is being
-/// read.
+/// A list that arrives in pieces. It holds the whole ACEs so far, and the fields so far of the ACE that is being read.
 #[derive(Drop)]
 pub struct Feed {
     profile: Profile,
     stage: Stage,
     progress: Progress,
-    text: Text,
+    text: StreamBytes,
 }
 
 impl Model for Feed {
@@ -68,7 +67,7 @@ impl Feed {
                 used: 0,
                 weight: 0,
             },
-            text: Text::new(alloc),
+            text: StreamBytes::new(alloc),
         }
     }
 
@@ -89,7 +88,7 @@ impl Feed {
             → FedExactly p (s ++ piece.now) (length s) result }
         // No more bytes belong to the list than the piece has.
         ensures within { (taken : ℕ) → result ≡ Done taken → taken ≤ length piece.now }
-        // At More, the stream so far has few bytes behind its whole ACEs.
+        // At More, the stream so far has few bytes after its whole ACEs.
         ensures held { IsSmall self.new }
     {
         match self.stage {

@@ -1,4 +1,4 @@
-//! Laws of the spelling and of the text form.
+//! Laws of the bytes and of the texts of lists.
 
 ghost use Rattle.std.specs.Prelude.{◌≡◌, ◌↔◌, ◌<◌, ◌++◌, ◌^◌, ℕ, List, Some, length, take};
 ghost use Rattle.std.specs.List.{AllByRecursion, concat};
@@ -89,6 +89,7 @@ pub fn text_reads_back()
 {}
 
 /// A text spells at most one list, has at most one fault, and does not do both.
+#[tactic(auto, using(crate::proofs::text::AceLines::one_list))]
 pub fn one_text_fault()
     ensures list { (p : Profile) (text : List ℕ) (a b : List Ace) → IsAceText p a text
         → IsAceText p b text → a ≡ b }

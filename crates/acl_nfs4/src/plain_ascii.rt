@@ -38,7 +38,7 @@ pub(crate) fn is_plain_ascii(bytes: &[u8]) -> bool
     }
 }
 
-// Returns whether the first `len` of the first N bytes are plain ASCII: the first byte that is not is behind them.
+// Returns whether the first `len` of the first N bytes are plain ASCII: the first byte that is not is after them.
 #[inline(always)]
 fn is_front_plain<const N: usize>(bytes: &[u8], len: usize) -> bool
     requires lanes { N ≤ most_lanes }

@@ -1,4 +1,4 @@
-//! Rows from the standards, and failures in mid-stream, by subject.
+//! Tests by subject. The head of each file says where its expected values come from, or what property it checks.
 
 mod agreement;
 mod devices;

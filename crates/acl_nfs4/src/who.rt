@@ -27,7 +27,7 @@ pub(crate) fn judge(who: &[u8]) -> Result<(), WhoFault>
     judge_text(who)
 }
 
-/// Returns whether no who has so many bytes.
+/// Returns whether no who has this many bytes.
 #[inline(always)]
 pub(crate) fn is_no_who_len(len: usize) -> bool
     ensures { result ≡ is_no_who_len len }
@@ -81,10 +81,7 @@ fn judge_bytes(who: &[u8]) -> Result<(), WhoFault>
 fn is_text(bytes: &[u8]) -> bool
     ensures { result ≡ is_utf8 bytes.now }
 {
-    match str::from_utf8(bytes) {
-        Ok(_) => true,
-        Err(_) => false,
-    }
+    str::from_utf8(bytes).is_ok()
 }
 
 fn is_plain_text(bytes: &[u8]) -> bool

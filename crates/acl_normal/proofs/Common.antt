@@ -24,9 +24,9 @@ pub use Rattle.acl_normal.specs.SmallSituations.{HasName, is_among, longest, sma
 pub use Rattle.acl_normal.specs.Tables.{AreRows, of_borrowed, with_bit}
 pub use Rattle.acl_normal.specs.internal.TableRows.{AddsRow, HasFirstPlaces, HasKey}
 pub use Rattle.acl_normal.specs.declared.comparison.small_set.SmallSet.{SmallSet}
-pub use Rattle.acl_normal.specs.declared.comparison.standing.Standing.{Standing}
-pub use Rattle.acl_normal.specs.declared.comparison.standing.Whom.{Whom}
-pub use Rattle.acl_normal.specs.declared.comparison.standing.Whom.TheVariants.{Everyone, Nobody, One}
+pub use Rattle.acl_normal.specs.declared.comparison.placing.Placing.{Placing}
+pub use Rattle.acl_normal.specs.declared.comparison.placing.Whom.{Whom}
+pub use Rattle.acl_normal.specs.declared.comparison.placing.Whom.TheVariants.{Everyone, Nobody, One}
 pub use Rattle.acl_normal.specs.declared.emit.emission.Emitted.{Emitted}
 pub use Rattle.acl_normal.specs.declared.rows.remaining.Remaining.TheInside.{Inside}
 pub use Rattle.acl_normal.specs.internal.Alike.{IsAlike, IsIrreducible, is_either, is_either_or_everyone}
@@ -35,7 +35,7 @@ pub use Rattle.acl_normal.specs.internal.comparison.CodeSets.{set_of}
 pub use Rattle.acl_normal.specs.internal.Counts.{count_left}
 pub use Rattle.acl_normal.specs.internal.emit.Emissions.{HasEmptyColumns, HasOnceColumns, IsEmission, IsOnce, IsStep}
 pub use Rattle.acl_normal.specs.internal.emit.Emitted.{AreInRows, emitted_ace, emitted_aces}
-pub use Rattle.acl_normal.specs.internal.comparison.FirstPlaces.{AgreesAt, AreFirstFrom, AreStandings, AreWhoms, IsStanding, IsWhom, SameAlone, first_place, inverts, inverts_any, no_ace, no_standing}
+pub use Rattle.acl_normal.specs.internal.comparison.FirstPlaces.{AgreesAt, AreFirstFrom, ArePlacings, AreWhoms, IsPlacing, IsWhom, SameAlone, first_place, inverts, inverts_any, no_ace, no_placing}
 pub use Rattle.acl_normal.specs.internal.rows.Heads.{BeginsWith}
 pub use Rattle.acl_normal.specs.internal.Needed.{default_at}
 pub use Rattle.acl_normal.specs.internal.Passes.{Best, IsLeastCandidate, KeepsProfiles, conflicts_before, is_shadowed}
@@ -51,7 +51,7 @@ pub use Rattle.acl_normal.specs.internal.rows.Rows.{AreRowNumbers, IsByPrincipal
 pub use Rattle.acl_normal.specs.internal.comparison.SamePlaces.{ArePlacesOf}
 pub use Rattle.acl_normal.specs.internal.comparison.SetSearch.{FindsFirst, GrantAlikeTo, IsGrantedTo, IsRisingSet, differ, is_granted_to, principals}
 pub use Rattle.acl_normal.specs.internal.Shown.{aces_in, mask_numbers, with_masks}
-pub use Rattle.acl_normal.specs.internal.comparison.TwoLists.{FindSet, StandAs, TwoLists, all_mentioned, two_lists}
+pub use Rattle.acl_normal.specs.internal.comparison.TwoLists.{FindSet, ArePlacingsOf, TwoLists, all_mentioned, two_lists}
 pub use Rattle.acl_perm.proofs.Bools.{and_false_right, same_answers}
 pub use Rattle.acl_perm.proofs.Orders.{key_order, principal_exact, principal_order}
 pub use Rattle.acl_perm.proofs.Sets.{IsMask-lt, bits_from_mask, has_bit-and, has_bit-or, no_bit, same_set}

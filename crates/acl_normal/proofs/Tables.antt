@@ -19,7 +19,7 @@ rows_push b xs [] a (s ∷ rows) r so is = absurd so
 rows_push b xs (c ∷ list) a [] r so is = absurd so
 rows_push b xs (c ∷ list) a (s ∷ rows) r so is = (so.0, rows_push b xs list a rows r so.1 is)
 
--- an ACE with the bit adds its row behind the rows before it
+-- an ACE with the bit adds its row after the rows before it
 pub row_pushed : (b : ℕ) (xs : List Ace) (a : Ace) (old new : List BorrowedRow) (r : BorrowedRow)
     → has_bit a.mask b ≡ true → IsRow b xs a (of_borrowed r) → new ≡ old ++ r ∷ [] → AddsRow b xs a old new
 row_pushed b xs a old new r has is more list so =

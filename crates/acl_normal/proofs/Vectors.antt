@@ -67,7 +67,7 @@ owner_conflicts : conflicts (ace_key bob) (ace_key mine) ≡ true
 unfolding bob mine
 owner_conflicts = refl
 
--- at WRITE_DATA the key of the owner is not free behind the denial
+-- at WRITE_DATA the key of the owner is not free after the denial
 write_held : is_free (column (bob ∷ mine ∷ []) 1) (owner, Allow) ≡ false
 unfolding bob mine
 write_held = refl

@@ -4,7 +4,7 @@ use Rattle.acl_perm.specs.Order.{principal_rank}
 use Rattle.acl_normal.proofs.unique.Names.{bytes_eq_same}
 use Rattle.acl_nfs4.specs.Who.{ends_in_at}
 
--- a who that does not end in `@` is no name that does
+-- a who that does not end in `@` is not equal to a name that ends in `@`
 no_special : (who name : List ℕ) → ends_in_at name ≡ true → ends_in_at who ≡ false → bytes_eq who name ≡ false
 no_special who name h l =
     false_from_ne_true (bytes_eq who name)

@@ -28,7 +28,7 @@ pub mod FirstPlaceLemmas
 pub mod PairGrants
 -- the least number of a principal at which two lists do not grant the same, bit by bit
 pub mod RowFacts
--- tables that show which standings invert another
+-- tables that show which placings invert another
 pub mod TableFacts
 -- the first small set, by least numbers
 pub mod Assembly

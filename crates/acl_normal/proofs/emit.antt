@@ -12,7 +12,7 @@ pub mod Walk
 pub mod NewlyFree
 -- all that is free, bit by bit
 pub mod Filled
--- the list that is left, without its empty ACEs, and what is emitted of it
+-- the list that is left, without its empty ACEs, and what is emitted from it
 pub mod Leaving
 -- which keys are free in a column without a principal
 pub mod FreeWithout
@@ -22,7 +22,8 @@ pub mod KeyNames
 pub mod Drained
 -- each emitted ACE has the row of its principal
 pub mod InRows
--- what remains of a list while it is emitted: masks by place of which masks by row leave a part, and queues of places
+-- what remains of a list while it is emitted: masks by place, masks by row that leave a part of them, and queues of
+-- places
 pub mod RemainingLemmas
 -- chains of links: what a link is followed by, and a new link in front of a chain
 pub mod Chains

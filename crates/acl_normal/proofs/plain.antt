@@ -16,5 +16,5 @@ pub mod Candidates
 pub mod InTurn
 -- the plain reduction takes keys away
 pub mod Shorter
--- what is emitted of the plain reduction of a list is its normal form
+-- what is emitted from the plain reduction of a list is its normal form
 pub mod PlainForm

@@ -1,4 +1,4 @@
--- what one ACE more behind a list adds to a column, to its unshadowed keys, and to the first ACEs of principals
+-- what one ACE more after a list adds to a column, to its unshadowed keys, and to the first ACEs of principals
 pub mod FirstRows
 -- the masks of the first ACEs of a list, place by place
 pub mod FirstMasks

@@ -38,7 +38,7 @@ pub mod FirstPlaces
 pub mod HeadOrder
 -- how many elements of a list pass a test, and that those that pass end there if they come first
 pub mod PassCounts
--- the names of the principals of a list, in order: where each principal begins, and of which ACE each name is
+-- the names of the principals of a list, in order: where each principal begins, and which ACE each name comes from
 pub mod SortedNames
 -- rows of principals by number: in the order of the names, each row begins at the first name of its principal
 pub mod RowNumbers
@@ -48,7 +48,7 @@ pub mod SortedPlaces
 pub mod RowSearch
 -- rows of ACEs whose principals do not fall, made ACE by ACE
 pub mod RisingRows
--- the bytes with which the names of a list begin, and heads of what is behind them
+-- the bytes with which the names of a list begin, and heads of what is after them
 pub mod Beginnings
 -- what the public calls on merged rows say, from what those on one bit say
 pub mod Publics

@@ -30,7 +30,7 @@ pub mod Keys
 pub mod Unique
 -- irreducible lists that grant the same: the same bits, in the same order
 pub mod SameOrder
--- what comes first of a list, and what is emitted of the rest
+-- what comes first in a list, and what is emitted from the rest
 pub mod FirstAndRest
 -- settled columns, and that they are irreducible
 pub mod Settled

@@ -42,7 +42,7 @@ abbrev pub five_lists : FiveForms → List (List Ace)
 five_lists forms = forms.object ∷ forms.file ∷ forms.directory ∷ forms.file_in_directory
     ∷ forms.directory_in_directory ∷ []
 
--- the spellings of the five lists, one behind the other
+-- the spellings of the five lists, one after the other
 abbrev pub five_spellings : FiveForms → List ℕ
 five_spellings forms = flat_map spelling (five_lists forms)
 

@@ -13,7 +13,7 @@ pub data Path : Type 0 where
   here : Path
   below : ℕ → ChildKind → Path
 
--- the list of the last of so many new directories, each in the one before
+-- the list of the last of this many new directories, each in the one before
 abbrev pub directory_below : List Ace → ℕ → List Ace
 directory_below list zero = list
 directory_below list (suc count) = children Directory (directory_below list count)

@@ -14,7 +14,7 @@ use Rattle.acl_normal.specs.declared.five_forms.FiveForms.{FiveForms}
 
 -- ---- the five normal forms
 
--- the input spells a list, and the bytes its five normal forms, one behind the other (RFC 4506)
+-- the input spells a list, and the bytes its five normal forms, one after the other (RFC 4506)
 pub record NormalizesAtPaths (p : Profile) (input bytes : List ℕ) : Type 0 where
   pub source : List Ace
   pub forms : FiveForms

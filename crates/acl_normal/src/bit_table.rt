@@ -114,7 +114,7 @@ pub fn borrowed_rows<'a>(
     rows_of_right(alloc, list, right)
 }
 
-// The rows of a right of the list of a view.
+// Returns the table of a right. If the list is in the order of its normal form already, nothing is emitted.
 fn rows_of_right<'a>(
     alloc: Global,
     list: &AclView<'a>,
@@ -136,7 +136,7 @@ fn rows_of_right<'a>(
     rows_of(alloc, &places, &form, right)
 }
 
-// The rows of the ACEs that have the right, each with its own place.
+// Returns the rows of the ACEs that have the right. The source of each row is the place of its own ACE.
 fn rows_in_place<'a>(
     alloc: Global,
     aces: &[AceRef<'a>],
@@ -174,7 +174,7 @@ fn row_at<'a>(item: AceRef<'a>, source: usize) -> BorrowedRow<'a>
     }
 }
 
-// Whether the who of an ACE is the name of a group. Without the flag, the who is not read.
+// Returns whether the who of an ACE is the name of a group. Without the flag, the who is not read.
 #[tactic(auto, using(crate::proofs::InPlace::no_group_name))]
 fn names_group(item: AceRef<'_>) -> bool
     ensures { result ≡ has_bit (flags_for (principal_of (ace item.entry))) identifier_group }
@@ -182,7 +182,7 @@ fn names_group(item: AceRef<'_>) -> bool
     item.flags.is_group() && flags_of(item.principal()).is_group()
 }
 
-// By row, the place of the ACE that has the right, or 0 if none has it.
+// Returns for each row the place of the ACE that has the right, or 0 if there is no such ACE.
 fn places(
     alloc: Global,
     aces: &[AceRef<'_>],
@@ -206,7 +206,7 @@ fn places(
     Ok(places)
 }
 
-// The rows of the emitted ACEs that have the right. `places` has the place of the ACE of each row.
+// Returns the rows of the emitted ACEs that have the right. `places` has, for each row number, the place of the ACE.
 fn rows_of<'a>(
     alloc: Global,
     places: &[usize],

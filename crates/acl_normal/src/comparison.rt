@@ -10,13 +10,13 @@ mod inversions;
 pub(crate) mod members;
 pub(crate) mod mentioned;
 mod outcome;
+mod placing;
 mod question;
 mod requester_names;
 mod same_places;
 mod search;
 mod situation;
 pub(crate) mod small_set;
-mod standing;
 
 use acl_perm::Mask;
 pub use comparing::{compare, compare_views};

@@ -81,6 +81,6 @@ pub fn five_forms_tell_apart()
     ensures forms { TellApart (λ five other. five ≡ other) }
     // Equal spellings of the forms at each path show it.
     ensures spelled { TellApart AreSpelledAlike }
-    // Equal bytes of all five spellings, one behind the other, show it.
+    // Equal bytes of all five spellings, one after the other, show it.
     ensures joined { TellApart (λ five other. five_spellings five ≡ five_spellings other) }
 {}

@@ -51,9 +51,7 @@ impl<'a> MergedRows<'a> {
         // What is left of a principal's right is at the place of the principal's first ACE with the right in the given
         // list.
         ensures firsts { IfOk result (λ rows. KeepsFirsts list.now rows) }
-        // The rows grant the same.
         ensures grants { IfOk result (λ rows. SameGrants all_rights list.now rows) }
-        // Each right is needed.
         ensures irreducible { IfOk result (λ rows. IsIrreducibleList (left rows)) }
     {
         let reduced = reduced_list(alloc, &list.view())?;

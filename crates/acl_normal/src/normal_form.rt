@@ -87,7 +87,6 @@ fn spelled_form(alloc: Global, view: &AclView<'_>) -> Result<Vec<u8>, AllocError
 /// ```
 pub fn normalize(alloc: Global, list: &Acl) -> Result<Acl, AllocError>
     ensures form { IfOk result (λ form. IsNormalFormOf list.now form) }
-    // For the empty list memory never runs out.
     ensures empty { list.now ≡ [] → IsOk result }
 {
     normalize_view(alloc, &list.view())
@@ -97,7 +96,6 @@ pub fn normalize(alloc: Global, list: &Acl) -> Result<Acl, AllocError>
 /// first. The only error is that memory runs out.
 pub fn normalize_view(alloc: Global, list: &AclView<'_>) -> Result<Acl, AllocError>
     ensures form { IfOk result (λ form. IsNormalFormOf list.now form) }
-    // For the empty list memory never runs out.
     ensures empty { list.now ≡ [] → IsOk result }
 {
     if list.is_empty() {

@@ -1,6 +1,6 @@
 -- Cutting at a byte, and trimming.
-use Rattle.std.proofs.Common.{◌≡◌, ℕ, suc, ◌+◌, ◌-◌, ◌<◌, ◌≤◌, Bool, true, false, cond, List, [], ◌∷◌, ◌++◌, length, get_or, take, drop, Option, Some, None, refl, sym, ap, ◌∙◌, arith, inl, inr, eqb}
-use Rattle.std.specs.Prelude.{position, not, ◌&&◌}
+use Rattle.std.proofs.Common.{◌≡◌, ℕ, suc, ◌+◌, ◌-◌, ◌<◌, ◌≤◌, Bool, true, false, cond, List, [], ◌∷◌, ◌++◌, length, get_or, take, drop, Option, Some, None, refl, subst, sym, ap, ◌∙◌, arith, inl, inr, eqb}
+use Rattle.std.specs.Prelude.{position, not, ◌&&◌, ◌==◌}
 use Rattle.std.specs.List.{slice_split, onto_first, position_or_len, list_all}
 use Rattle.std.proofs.lemmas.Bool.{cases_lt, lt-ltb, le-ltb}
 use Rattle.std.proofs.lemmas.List.{length-take-le, length-drop, take_all, take_more, take_rest}
@@ -28,6 +28,10 @@ place p xs =
       | inr ge ↦ rw (le-ltb _ _ ge) (let same : position_or_len p xs ≡ length xs = omega arith in same)
     ]
 
+-- what a result of `position` says, by its value
+pub said : (p : ℕ → Bool) (xs : List ℕ) (r value : Option ℕ) → r ≡ position p xs → r ≡ value → Says p xs value
+said p xs r value found is = subst (Says p xs) (sym found ∙ is) (place p xs)
+
 -- a list without a separator is one part
 pub split_none : (p : ℕ → Bool) (xs : List ℕ) → position_or_len p xs ≡ length xs → slice_split p xs ≡ xs ∷ []
 split_none p [] h = refl
@@ -44,11 +48,12 @@ unfolding cut_at
 cut_none separator s h = ap (spans s.column) (split_none (λ b. eqb b separator) s.bytes h)
 
 -- a piece with a separator is cut into the part before the first one and the rest
-pub cut_some : (separator : ℕ) (s first rest : Span) (i : ℕ) → Says (λ b. eqb b separator) s.bytes (Some i)
-    → first ≡ record { column = s.column; bytes = take i s.bytes }
-    → rest ≡ record { column = s.column + i + 1; bytes = drop (i + 1) s.bytes } → IsCutRest separator s first rest
+pub cut_some : (separator : ℕ) (s : Span) (i : ℕ) (rest : List ℕ) → Says (λ b. eqb b separator) s.bytes (Some i)
+    → rest ≡ drop (i + 1) s.bytes
+    → IsCutRest separator s (record { column = s.column; bytes = take i s.bytes })
+    (record { column = s.column + i + 1; bytes = rest })
 unfolding cut_at
-cut_some separator s first rest i h f r =
+cut_some separator s i rest h r =
     let lt = h.in_range in
     let len : length (take i s.bytes) ≡ i = length-take-le i s.bytes (omega arith) in
     let left : length (drop (i + 1) s.bytes) ≡ length s.bytes - (i + 1) = length-drop (i + 1) s.bytes in
@@ -65,7 +70,7 @@ cut_some separator s first rest i h f r =
       first_fits = omega arith;
       rest_fits = omega arith;
     } in
-    rw (f, r) made
+    rw r made
 
 -- if all bytes are blanks, there are as many blanks as bytes
 pub blanks_none : (bs : List ℕ) → Says (λ b. not (is_blank b)) bs None → length bs ≡ blanks_before bs
@@ -123,6 +128,10 @@ unfolding trimmed
 trim_start bs n h = ap end_trimmed (take_rest bs n) ∙ ap (λ (k : ℕ). end_trimmed (drop k bs)) h
 
 -- ---- lines
+
+-- the test that a byte is no line feed
+abbrev pub not_feed : ℕ → Bool
+not_feed b = not (b == 10)
 
 -- a text without a line feed is one line
 pub line_none : (bs : List ℕ) → Says (λ b. eqb b 10) bs None → slice_split (λ b. eqb b 10) bs ≡ bs ∷ []

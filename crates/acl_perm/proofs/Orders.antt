@@ -1,6 +1,6 @@
 -- The orders of principals and of keys are strict and total, and distinguish all of them.
 use Rattle.std.proofs.Common.{◌≡◌, refl, sym, ap, ◌∙◌, arith}
-use Rattle.std.specs.Prelude.{Bool, true, ◌&&◌, ◌==◌, ◌↔◌, IsTrue}
+use Rattle.std.specs.Prelude.{Bool, true, ◌&&◌, ◌==◌, ◌↔◌, IsTrue, T}
 use Rattle.std.specs.declared.cmp.Ordering.{Ordering}
 use Rattle.std.specs.declared.cmp.Ordering.TheVariants.{Less, Equal, Greater}
 use Rattle.std.specs.Ordering.{nat_cmp, ordering_reverse, eq_by_cmp, is_eq, is_lt}
@@ -23,6 +23,12 @@ pub is_less : (o : Ordering) → is_lt o ≡ true → o ≡ Less
 is_less Less h = refl
 is_less Equal h = absurd cc
 is_less Greater h = absurd cc
+
+-- what passes the test for less is less in the order
+pub passes_less : (o : Ordering) → T (is_lt o) → o ≡ Less
+passes_less Less h = refl
+passes_less Equal h = absurd h
+passes_less Greater h = absurd h
 
 -- kinds of one rank are the same
 pub same_kind : (j k : Kind) → kind_rank j ≡ kind_rank k → j ≡ k

@@ -1,5 +1,5 @@
--- Sets of bits, as the numbers that stand for them (this library's own; the sets of all rights and of all flags are of
--- RFC 8881, sections 6.2.1.3.1 and 6.2.1.4).
+-- Sets of bits, as numbers (this library's own; the sets of all rights and of all flags are of RFC 8881, sections
+-- 6.2.1.3.1 and 6.2.1.4).
 use Rattle.std.specs.Prelude.{◌≡◌, ℕ, ◌≤◌, bit_and, Bool, List, filter, ◌==◌, ◌&&◌, ◌||◌, not, IsTrue}
 use Rattle.std.specs.Int.{bit_at}
 use Rattle.std.specs.List.{range_with_len}

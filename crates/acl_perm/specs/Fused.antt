@@ -7,7 +7,7 @@ use Rattle.acl_perm.specs.declared.fused.Fused.{Fused}
 abbrev pub fused_inner : {T : Type 0} → Fused T → T
 fused_inner f = f.inner
 
--- how many calls it will pass
+-- how many more calls pass
 abbrev pub fused_calls : {T : Type 0} → Fused T → ℕ
 fused_calls f = f.calls
 

@@ -8,7 +8,7 @@ use Rattle.acl_perm.specs.Ascii.{space, tab}
 pub use Rattle.acl_perm.specs.Ascii.{line_feed}
 use Rattle.acl_perm.specs.declared.lines.Piece.{Piece}
 
--- the lines of a text; the part behind the last line feed is a line too
+-- the lines of a text; the part after the last line feed is a line too
 abbrev pub lines_of : List ℕ → List (List ℕ)
 lines_of text = slice_split (λ b. b == line_feed) text
 
@@ -66,12 +66,12 @@ pub record IsCutRest (separator : ℕ) (whole first rest : Span) : Type 0 where
   pub first_fits : first.column + length first.bytes ≤ whole.column + length whole.bytes
   pub rest_fits : rest.column + length rest.bytes ≤ whole.column + length whole.bytes
 
--- the first part, and the part behind the first separator if there is one
+-- the first part, and the part after the first separator if there is one
 abbrev pub IsCut : ℕ → Span → Piece × Option Piece → Type 0
 IsCut separator whole (first, None) = (cut_at separator whole ≡ span_of first ∷ []) × (span_of first ≡ whole)
 IsCut separator whole (first, Some rest) = IsCutRest separator whole (span_of first) (span_of rest)
 
--- the first line, and the text behind its line feed if there is one
+-- the first line, and the text after its line feed if there is one
 abbrev pub IsLineCut : List ℕ → Bor (List ℕ) × Option (Bor (List ℕ)) → Type 0
 IsLineCut text (first, None) = lines_of text ≡ first.now ∷ []
 IsLineCut text (first, Some rest) =

@@ -22,7 +22,7 @@ two_names bit name second = record { bit = bit; name = name; second = Some secon
 abbrev pub first_name : List BitName → ℕ → Option (List ℕ)
 first_name table bit = option_map (λ row. row.name) (find (λ row. row.bit == bit) table)
 
--- the table of the rights: a bit of the mask, its name, and its second name if it is called otherwise at directories
+-- the table of the rights: a bit of the mask, its name, and its second name if it has another name for directories
 abbrev pub rights : List BitName
 rights =
     two_names 0x00000001 (codes "READ_DATA") (codes "LIST_DIRECTORY") ∷

@@ -1,5 +1,5 @@
--- The numbers of the permissions, and of the access rights and the flags in the order in which RFC 8881, sections
--- 6.2.1.3.1 and 6.2.1.4.1, lists them.
+-- The numbers of the permissions, of the access rights that have a second name, and of the flags. The order of the
+-- rights and of the flags is that of RFC 8881, sections 6.2.1.3.1 and 6.2.1.4.1.
 use Rattle.std.specs.Prelude.{ℕ, List, [], ◌∷◌, filter, is_some, map}
 use Rattle.acl_perm.specs.Names.{rights}
 use Rattle.acl_perm.specs.declared.perm.Perm.{Perm}
@@ -26,10 +26,6 @@ numbers_of (perm, mode, mask, flags) = perm.bits ∷ mode.bits ∷ mask.bits ∷
 -- read, write and execute (POSIX.1e draft 17, section 23.1.2)
 abbrev pub permissions_in_order : List ℕ
 permissions_in_order = 4 ∷ 2 ∷ 1 ∷ []
-
--- the bits of the rights: READ_DATA, WRITE_DATA, and so on to SYNCHRONIZE
-abbrev pub rights_in_order : List ℕ
-rights_in_order = map (λ row. row.bit) rights
 
 -- the bits of the rights that have a second name: LIST_DIRECTORY, ADD_FILE and ADD_SUBDIRECTORY
 abbrev pub rights_of_directories : List ℕ

@@ -18,8 +18,8 @@ pub record Writes {K : Type 0} (holds : K → Option (List ℕ)) (failures : K �
   -- one put failed
   pub failed : OnErr r (failures sink_after ≡ one_more (failures sink))
 
--- the result of a call that writes a part of a text of which `done` bytes were out before: how many are out after it,
--- or a fault with the number of the bytes that went out
+-- the result of a call that writes a part of a text after its first `done` bytes: how many are out after it, or a fault
+-- with the number of the bytes that went out
 abbrev pub WritesFrom : Option (List ℕ) → Option (List ℕ) → ℕ → List ℕ → Result ℕ WriteFault → Type 0
 WritesFrom held holds done part (Ok n) = (n ≡ done + length part) × Appends held holds part
 WritesFrom held holds done part (Err fault) = (done ≤ fault.written) × (fault.written < done + length part)

@@ -5,7 +5,7 @@ use Rattle.std.specs.Str.{bytes_eq}
 use Rattle.acl_perm.specs.Principal.{Principal, owner, user, group, group_named, everyone}
 
 -- an object's owner and owning group, a requesting user, and the set of groups of that user; the set is given as a
--- list, of which only the members count
+-- list, whose order and repeated members do not count
 pub record Situation : Type 0 where
   pub owner_name : List ℕ
   pub owning_group : List ℕ

@@ -1,4 +1,5 @@
--- What only the code and its proofs need (this library's own): no clause of a public call cites it.
+-- What only the code and its proofs need (this library's own): no clause of a call for users cites it, and clauses of
+-- calls of `acl_perm::internal` do.
 
 -- the first place of a byte
 pub mod Places

@@ -17,7 +17,7 @@ impl Bit {
     /// The number of bits, one more than the greatest number of a bit.
     pub const COUNT: usize = 21;
 
-    /// Returns whether the mask has the bit.
+    /// Returns whether the bit of this number is set in the mask.
     pub fn is_in(self, mask: Mask) -> bool
         ensures { result ≡ has_bit mask.bits self.bit }
     {

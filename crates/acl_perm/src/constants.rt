@@ -1,7 +1,8 @@
-//! Private functions that return the constants, so that their clauses can give the values.
+//! Private functions that return the constants, so that their clauses can give the values. The constants of the rights
+//! with their first names are rows of the table of `right_names`.
 ghost use Rattle.std.specs.Prelude.{◌≡◌, [], ◌∷◌, map};
 ghost use Rattle.acl_perm.specs.Bits.{all_flags, all_mode_bits, all_permissions, all_rights};
-ghost use Rattle.acl_perm.specs.Numbers.{flags_in_order, mask_bits, flag_bits, numbers_of, perm_bits, permissions_in_order, rights_of_directories, rights_in_order};
+ghost use Rattle.acl_perm.specs.Numbers.{flags_in_order, mask_bits, flag_bits, numbers_of, perm_bits, permissions_in_order, rights_of_directories};
 ghost use Rattle.acl_perm.specs.Profile.{full, narrow, profile_of};
 
 use crate::flags::Flags;
@@ -33,29 +34,6 @@ fn permissions() -> [Perm; 3]
     ensures { map perm_bits result ≡ permissions_in_order }
 {
     [Perm::READ, Perm::WRITE, Perm::EXECUTE]
-}
-
-fn rights() -> [Mask; 16]
-    ensures { map mask_bits result ≡ rights_in_order }
-{
-    [
-        Mask::READ_DATA,
-        Mask::WRITE_DATA,
-        Mask::APPEND_DATA,
-        Mask::READ_NAMED_ATTRS,
-        Mask::WRITE_NAMED_ATTRS,
-        Mask::EXECUTE,
-        Mask::DELETE_CHILD,
-        Mask::READ_ATTRIBUTES,
-        Mask::WRITE_ATTRIBUTES,
-        Mask::WRITE_RETENTION,
-        Mask::WRITE_RETENTION_HOLD,
-        Mask::DELETE,
-        Mask::READ_ACL,
-        Mask::WRITE_ACL,
-        Mask::WRITE_OWNER,
-        Mask::SYNCHRONIZE,
-    ]
 }
 
 fn rights_of_directories() -> [Mask; 3]

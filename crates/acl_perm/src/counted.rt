@@ -24,7 +24,7 @@ impl<T> Counted<T> {
         Counted { inner, failures: 0 }
     }
 
-    /// Returns the reader or writer.
+    /// Returns the wrapped reader or writer. The count of its failures is lost.
     pub fn into_inner(self) -> T
         ensures { result ≡ counted_inner self }
     {
@@ -39,7 +39,7 @@ impl<T> Counted<T> {
         self.failures
     }
 
-    // Counts the call if it failed.
+    // The count stops at the greatest number.
     fn count(&mut self, has_failed: bool)
         ensures inner { counted_inner self.new ≡ counted_inner self.old }
         ensures failures { counted_failures self.new

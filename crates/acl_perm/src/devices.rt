@@ -6,9 +6,9 @@ ghost use Rattle.acl_perm.specs.Devices.{failures_after, pull_failed, put_failed
 
 use std::io;
 
-/// A source of bytes.
+/// A source of bytes, which reads some of them at each pull.
 pub trait Source {
-    // The bytes that later pulls will give, if they are known.
+    // The bytes that later pulls will read, if they are known.
     ghost remaining: { Self → Option (List ℕ) };
 
     // The number of pulls that failed so far.
@@ -27,7 +27,7 @@ pub trait Source {
         ensures { result ≡ failure_count self.now };
 }
 
-/// A sink of bytes.
+/// A sink of bytes, which writes some of them at each put.
 pub trait Sink {
     // The bytes that the sink holds, if they are known.
     ghost contents: { Self → Option (List ℕ) };

@@ -54,7 +54,7 @@ impl Flags {
         }
     }
 
-    /// Returns the number of the set.
+    /// Returns the flags as the number that an ACE has in XDR.
     pub fn bits(self) -> u8
         ensures { result ≡ self.bits }
     {
@@ -110,7 +110,7 @@ impl Flags {
         }
     }
 
-    /// Returns whether all flags of the other set are in this one.
+    /// Returns whether all flags of the other set are in this one. The empty set is in each set.
     #[tactic(auto, using(crate::proofs::Sets::sets))]
     pub fn contains(self, other: Flags) -> bool
         ensures meaning { IsTrue result ↔ IsSubset other.bits self.bits }

@@ -28,7 +28,7 @@ impl<T> Fused<T> {
         Fused { inner, calls, step }
     }
 
-    /// Returns the reader or writer.
+    /// Returns the wrapped reader or writer, whose calls have no limit.
     pub fn into_inner(self) -> T
         ensures { result ≡ fused_inner self }
     {

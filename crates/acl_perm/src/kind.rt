@@ -15,7 +15,7 @@ pub enum Kind {
 }
 
 impl Kind {
-    /// Returns the other kind.
+    /// Returns ALLOW for DENY, and DENY for ALLOW.
     pub fn other(self) -> Kind
         ensures { result ≡ other_kind self }
     {
@@ -25,7 +25,7 @@ impl Kind {
         }
     }
 
-    /// Returns whether the kind is ALLOW.
+    /// Returns `true` for ALLOW, and `false` for DENY.
     pub fn is_allow(self) -> bool
         ensures { result ≡ is_allow self }
     {

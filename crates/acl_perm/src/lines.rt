@@ -22,7 +22,7 @@ pub struct Piece<'a> {
 }
 
 impl<'a> Piece<'a> {
-    /// Makes a piece of the whole line.
+    /// Makes a piece of the whole line, which begins at column 1.
     pub fn whole(line: &'a [u8]) -> Piece<'a>
         ensures value { span_of result ≡ record { column = 1; bytes = line.now } }
         ensures fits { result.column + length result.bytes.now < 2 ^ 64 }
@@ -33,7 +33,7 @@ impl<'a> Piece<'a> {
         }
     }
 
-    /// Returns the part before the first separator, and the part behind it if there is a separator.
+    /// Returns the part before the first separator, and the part after it if there is a separator.
     pub fn cut(self, separator: u8) -> (Piece<'a>, Option<Piece<'a>>)
         requires { self.column + length self.bytes.now < 2 ^ 64 }
         ensures parts { IsCut separator (span_of self.entry) result }
@@ -64,7 +64,7 @@ impl<'a> Piece<'a> {
     }
 }
 
-/// Returns the first line without its line feed, and the text behind the line feed.
+/// Returns the first line without its line feed, and the text after the line feed.
 pub fn cut_line(text: &[u8]) -> (&[u8], Option<&[u8]>)
     ensures parts { IsLineCut text.now result }
 {
@@ -74,7 +74,7 @@ pub fn cut_line(text: &[u8]) -> (&[u8], Option<&[u8]>)
     }
 }
 
-/// Returns whether all bytes are blanks.
+/// Returns whether all bytes are blanks, also if there are no bytes.
 pub fn is_all_blank(bytes: &[u8]) -> bool
     ensures { result ≡ is_all_blank bytes.now }
 {

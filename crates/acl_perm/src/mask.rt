@@ -33,16 +33,16 @@ impl Mask {
     /// Add a file to a directory: the name of `WRITE_DATA` there.
     pub const ADD_FILE: Mask = Mask { bits: 0x2 };
 
-    /// Write behind the end of a file.
+    /// Write after the end of a file.
     pub const APPEND_DATA: Mask = Mask { bits: 0x4 };
 
     /// Add a directory to a directory: the name of `APPEND_DATA` there.
     pub const ADD_SUBDIRECTORY: Mask = Mask { bits: 0x4 };
 
-    /// Read the named attributes.
+    /// Read the named attributes of a file, or look up their directory.
     pub const READ_NAMED_ATTRS: Mask = Mask { bits: 0x8 };
 
-    /// Write the named attributes.
+    /// Write the named attributes of a file, or create their directory.
     pub const WRITE_NAMED_ATTRS: Mask = Mask { bits: 0x10 };
 
     /// Execute a file, or pass through a directory.
@@ -66,7 +66,7 @@ impl Mask {
     /// Delete the file or the directory.
     pub const DELETE: Mask = Mask { bits: 0x0001_0000 };
 
-    /// Read the ACL.
+    /// Read the ACL of a file or a directory.
     pub const READ_ACL: Mask = Mask { bits: 0x0002_0000 };
 
     /// Write the ACL, and the mode.
@@ -90,7 +90,7 @@ impl Mask {
         }
     }
 
-    /// Returns the number of the set.
+    /// Returns the rights as the number that an ACE has in XDR.
     pub fn bits(self) -> u32
         ensures value { result ≡ self.bits }
         ensures within { IsMask result }
@@ -131,7 +131,7 @@ impl Mask {
         }
     }
 
-    /// Returns whether all rights of the other set are in this one.
+    /// Returns whether all rights of the other set are in this one. The empty set is in each set.
     #[tactic(auto, using(crate::proofs::Sets::sets))]
     pub fn contains(self, other: Mask) -> bool
         ensures meaning { IsTrue result ↔ IsSubset other.bits self.bits }
@@ -140,7 +140,7 @@ impl Mask {
         (self.bits & other.bits) == other.bits
     }
 
-    /// Returns whether the right is in this set.
+    /// Returns whether this one right is in the set. `contains` is for sets.
     pub fn has(self, right: Right) -> bool
         ensures { result ≡ has_bit self.bits right.bit }
     {

@@ -36,7 +36,7 @@ impl Mode {
         }
     }
 
-    /// Returns the number of the set.
+    /// Returns the mode as a number, from 0 to `0o777`.
     pub fn bits(self) -> u16
         ensures value { result ≡ self.bits }
         ensures within { result ≤ all_mode_bits }
@@ -44,7 +44,7 @@ impl Mode {
         self.bits
     }
 
-    /// Returns the mode with these permissions of the owner, the group and others.
+    /// Returns the mode whose three octal digits, from the first to the last, are these permissions.
     pub fn from_parts(owner: Perm, group: Perm, others: Perm) -> Mode
         ensures { result.bits ≡ mode_of_parts owner.bits group.bits others.bits }
     {
@@ -53,7 +53,7 @@ impl Mode {
         }
     }
 
-    /// Returns the permissions of the owner.
+    /// Returns the permissions of the owner: the first of three octal digits.
     pub fn owner(self) -> Perm
         ensures { result.bits ≡ owner_part self.bits }
     {
@@ -62,7 +62,7 @@ impl Mode {
         }
     }
 
-    /// Returns the permissions of the group.
+    /// Returns the permissions of the group: the second of three octal digits.
     pub fn group(self) -> Perm
         ensures { result.bits ≡ group_part self.bits }
     {
@@ -71,7 +71,7 @@ impl Mode {
         }
     }
 
-    /// Returns the permissions of others.
+    /// Returns the permissions of others: the last of three octal digits.
     pub fn others(self) -> Perm
         ensures { result.bits ≡ others_part self.bits }
     {
@@ -113,7 +113,7 @@ impl Mode {
         }
     }
 
-    /// Returns whether all bits of the other set are in this one.
+    /// Returns whether all bits of the other set are in this one. The empty set is in each set.
     #[tactic(auto, using(crate::proofs::Sets::sets))]
     pub fn contains(self, other: Mode) -> bool
         ensures meaning { IsTrue result ↔ IsSubset other.bits self.bits }

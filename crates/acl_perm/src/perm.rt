@@ -19,10 +19,10 @@ impl Perm {
     /// No permission.
     pub const NONE: Perm = Perm { bits: 0 };
 
-    /// Read.
+    /// Read a file, or list a directory.
     pub const READ: Perm = Perm { bits: 4 };
 
-    /// Write.
+    /// Write a file, or create and remove files in a directory.
     pub const WRITE: Perm = Perm { bits: 2 };
 
     /// Execute a file, or pass through a directory.
@@ -39,7 +39,7 @@ impl Perm {
         if bits < 8 { Some(Perm { bits }) } else { None }
     }
 
-    /// Returns the number of the set.
+    /// Returns the permissions as a number, from 0 to 7: the sum of read 4, write 2 and execute 1.
     pub fn bits(self) -> u8
         ensures value { result ≡ self.bits }
         ensures within { result < 8 }
@@ -80,7 +80,7 @@ impl Perm {
         }
     }
 
-    /// Returns whether all permissions of the other set are in this one.
+    /// Returns whether all permissions of the other set are in this one. The empty set is in each set.
     #[tactic(auto, using(crate::proofs::Sets::sets))]
     pub fn contains(self, other: Perm) -> bool
         ensures meaning { IsTrue result ↔ IsSubset other.bits self.bits }

@@ -5,8 +5,8 @@ ghost use Rattle.acl_perm.specs.Pieces.{WritesOn};
 use crate::devices::Sink;
 use crate::whole::{WriteFault, put_all};
 
-/// Writes one piece of a text of which `done` bytes are already out, and returns how many bytes of the text are out
-/// then.
+/// Writes the next piece of a text, after the first `done` bytes of the text. Returns how many bytes of the text are
+/// written then.
 pub fn put_next<S: Sink>(sink: &mut S, done: u64, piece: &[u8]) -> Result<u64, WriteFault>
     requires { done + length piece.now < 2 ^ 64 }
     ensures { WritesOn S.contents S.failure_count sink.old sink.new done piece.now result }

@@ -30,24 +30,18 @@ pub enum Principal<'a> {
 }
 
 impl<'a> Principal<'a> {
-    /// Returns whether the principal is a user name.
+    /// Returns whether the principal is a user by name. `OWNER@` is not.
     pub fn is_user(&self) -> bool
         ensures { result ≡ is_user (principal self.now) }
     {
-        match self {
-            Principal::User(_) => true,
-            _ => false,
-        }
+        matches!(self, Principal::User(_))
     }
 
     /// Returns whether the principal is `EVERYONE@`.
     pub fn is_everyone(&self) -> bool
         ensures { result ≡ is_everyone (principal self.now) }
     {
-        match self {
-            Principal::Everyone => true,
-            _ => false,
-        }
+        matches!(self, Principal::Everyone)
     }
 
     /// Returns the place in the order before names are compared, from 0 for `OWNER@` to 4 for `EVERYONE@` (this

@@ -26,7 +26,7 @@ impl Profile {
         flags: Flags { bits: 0x7f },
     };
 
-    /// Returns the profile of these rights and flags.
+    /// Returns the profile of the lists whose ACEs have no other rights and no other flags than these.
     pub fn new(masks: Mask, flags: Flags) -> Profile
         ensures { profile_of result ≡ record { masks = masks.bits; flags = flags.bits } }
     {

@@ -3,6 +3,7 @@ ghost use Rattle.std.specs.Prelude.{◌≡◌, ◌<◌, ◌≤◌, IfNone, IfOk,
 ghost use Rattle.std.specs.Io.KnownBytes.{Appends, IsAtEnd, Keeps};
 ghost use Rattle.acl_perm.specs.Devices.{one_more};
 ghost use Rattle.acl_perm.specs.Pieces.{Writes};
+ghost use Rattle.acl_perm.specs.declared.whole.ReadFault.{ReadFault};
 
 use crate::devices::{Sink, Source};
 use std::alloc::{AllocError, Global};
@@ -27,9 +28,7 @@ pub enum ReadFault {
 }
 
 impl From<AllocError> for ReadFault {
-    ghost use Rattle.acl_perm.specs.declared.whole.ReadFault.TheVariants.{Memory};
-
-    ghost from_gives = { λ _ fault. fault ≡ Memory };
+    ghost from_gives = { λ _ fault. fault ≡ ReadFault.Memory };
 
     fn from(_error: AllocError) -> ReadFault {
         ReadFault::Memory

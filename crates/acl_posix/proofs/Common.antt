@@ -21,7 +21,7 @@ pub use Rattle.acl_posix.specs.Mode.{chmoded, group_class, mode_of, with_mode}
 pub use Rattle.acl_posix.specs.Names.{AreIds, Ids, is_number, IsNameTable, Table}
 pub use Rattle.acl_posix.specs.Tag.{group, group_obj, is_masked, is_named, IsTag, mask, other, qualifier, rank, Tag, tag_cmp, tag_of, tag_row, user, user_obj}
 pub use Rattle.acl_posix.specs.TextFault.{acl_fault, IsFirstInvalid, IsFirstTextFault, IsInvalidText, IsPieceFault, IsPlace, IsTextFault, IsTextFaultOrMemory, MayName, qualifier_names}
-pub use Rattle.acl_posix.specs.Texts.{default_entries, default_mark, entry_text, form_text, IsAcl, IsDefault, IsFile, line, long_word, mark_text, qualifier_text, short_word, with_commas, word_text}
+pub use Rattle.acl_posix.specs.Texts.{default_entries, default_mark, entry_text, form_text, IsAcl, IsDefault, IsFile, line, long_word, mark_text, qualifier_text, short_word, word_text}
 unfoldable pub use Rattle.acl_posix.specs.Texts.{canonical_text, effective_mark, long_default, long_entry}
 unfoldable pub use Rattle.acl_posix.specs.Texts.{short_default, short_entry, short_text, shown_text}
 pub use Rattle.acl_posix.specs.Valid.{is_refusal, IsDistinct, IsFaultOf, IsFaultOfSet, IsFirstRepeat, IsMiss, IsRepeat, IsValid, IsValidList, tag_at}
@@ -76,7 +76,7 @@ pub use Rattle.std.specs.Cmp.Lexicographic.{nat_list_cmp_total, pointwise, slice
 pub use Rattle.std.specs.FinMap.{find, get-from_entries, IsAntisymmetric, nat_cmp-IsAntisymmetric, same_map, slice_cmp-IsAntisymmetric}
 pub use Rattle.std.specs.FinMap.Entries.{below_all, by_order, find-put, find-where_key, is_sorted-where_key, where_key}
 pub use Rattle.std.specs.Global.{Vec}
-pub use Rattle.std.specs.List.{All, AllByRecursion, filter, flat_map, fold, IsAllAdjacentAnswer, list_all, list_any, position_or_len, slice_split}
+pub use Rattle.std.specs.List.{All, AllByRecursion, filter, flat_map, fold, IsAllAdjacentAnswer, join_with_byte, list_all, list_any, position_or_len, slice_split}
 pub use Rattle.std.specs.List.Sorted.{IsBinarySearchResult, IsNonDecreasing, IsPermutation, IsSearchInRange, IsSortedBy}
 unfoldable pub use Rattle.std.specs.List.Sorted.{IsStrictlySortedBy}
 pub use Rattle.std.specs.Map.{lookup}

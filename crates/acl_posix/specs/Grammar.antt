@@ -7,12 +7,13 @@ pub use Rattle.acl_perm.specs.Ascii.{hash as comment_mark, comma, colon}
 use Rattle.acl_perm.specs.Lines.{Span, lines_of, cut_at, before_mark, is_all_blank, trimmed}
 use Rattle.acl_posix.specs.declared.text_fault.Part.{Part}
 use Rattle.acl_posix.specs.declared.text_fault.Part.TheVariants.{Access, Default}
+use Rattle.acl_posix.specs.declared.field.TagWord.{TagWord}
 use Rattle.acl_posix.specs.declared.field.TagWord.TheVariants as word
 use Rattle.acl_posix.specs.declared.file.PosixFile.{PosixFile}
 use Rattle.acl_posix.specs.Tag.{Tag, user_obj, user, group_obj, group, mask, other}
 use Rattle.acl_posix.specs.Entries.{Entries, as_set}
 use Rattle.acl_posix.specs.Valid.{IsValidList}
-use Rattle.acl_posix.specs.Names.{Table}
+use Rattle.acl_posix.specs.Names.{Ids, Table}
 use Rattle.acl_posix.specs.Fields.{permissions_of, word_of, is_default, id_in}
 
 -- a piece of a text, which should spell an entry: the number of its line, and its bytes with their column
@@ -64,14 +65,18 @@ pub record HasEntryFields (piece : Span) (fields : EntryFields) : Type 0 where
   pub filled : IsFalse (is_all_blank piece.bytes)
   pub cut : fields_of (cut_at colon piece) ≡ Some fields
 
+-- a tag word, and a qualifier that spells an id; names are looked up among these
+pub record HasQualifier (ids : Ids) (tag qualifier : List ℕ) (tag_word : TagWord) (id : ℕ) : Type 0 where
+  pub is_word : word_of tag ≡ Some tag_word
+  pub filled : 0 < length qualifier
+  pub is_id : id_in ids qualifier ≡ Some id
+
 -- a tag word and a qualifier spell a tag; a name is looked up in the half of the table for that word
 abbrev pub SpellsTag : Table → List ℕ → List ℕ → Tag → Type 0
 SpellsTag names tag qualifier user_obj = (word_of tag ≡ Some word.User) × (qualifier ≡ [])
-SpellsTag names tag qualifier (user id) =
-    (word_of tag ≡ Some word.User) × (0 < length qualifier) × (id_in names.users qualifier ≡ Some id)
+SpellsTag names tag qualifier (user id) = HasQualifier names.users tag qualifier word.User id
 SpellsTag names tag qualifier group_obj = (word_of tag ≡ Some word.Group) × (qualifier ≡ [])
-SpellsTag names tag qualifier (group id) =
-    (word_of tag ≡ Some word.Group) × (0 < length qualifier) × (id_in names.groups qualifier ≡ Some id)
+SpellsTag names tag qualifier (group id) = HasQualifier names.groups tag qualifier word.Group id
 SpellsTag names tag qualifier mask = (word_of tag ≡ Some word.Mask) × (qualifier ≡ [])
 SpellsTag names tag qualifier other = (word_of tag ≡ Some word.Other) × (qualifier ≡ [])
 

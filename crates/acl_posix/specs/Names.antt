@@ -2,6 +2,7 @@
 use Rattle.std.specs.Prelude.{ℕ, ◌≡◌, ◌==◌, not, ◌&&◌, Bool, List, length, Option, Some, None, IfSome, Result, OnOk, OnErr, IfErr, if◌then◌else◌}
 use Rattle.std.specs.List.{list_all}
 use Rattle.std.specs.Char.{is_ascii_digit}
+use Rattle.std.specs.Option.{is_none}
 use Rattle.std.specs.Ordering.{nat_cmp}
 use Rattle.std.specs.Cmp.Lexicographic.{slice_cmp}
 use Rattle.std.specs.FinMap as fin
@@ -50,6 +51,14 @@ name_fault ids name =
     else (if is_number name then Some faults.DigitsOnly
     else (if fin.contains_key ids name then Some faults.Taken
     else None))
+
+-- the table with one more user name, if the name may be added
+abbrev pub user_added : Table → List ℕ → ℕ → Option Table
+user_added table name id = if is_none (name_fault table.users name) then Some (with_user table name id) else None
+
+-- the table with one more group name, if the name may be added
+abbrev pub group_added : Table → List ℕ → ℕ → Option Table
+group_added table name id = if is_none (name_fault table.groups name) then Some (with_group table name id) else None
 
 -- what a refusal says: why the name may not be added, or that it may be added and memory ran out
 abbrev pub IsNameFault : Ids → List ℕ → NameFault → Type 0

@@ -141,7 +141,7 @@ pub record IsInvalidText (text : List ℕ) (names : Table) (which : Part) (why :
   pub spelled : SpellAll names (pieces_of text) entries
   pub wrong : IsFirstInvalid (access_of entries) (default_of entries) which why
 
--- what each fault says about a text; `Memory` says nothing about it
+-- what each fault says about a text; `Memory` is never a fault of a text
 abbrev pub IsTextFault : List ℕ → Table → TextFault → Type 0
 IsTextFault text names (Fields line column) = IsFirstTextFault names (pieces_of text) (Fields line column)
 IsTextFault text names (Tag line column) = IsFirstTextFault names (pieces_of text) (Tag line column)

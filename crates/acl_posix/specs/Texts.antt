@@ -1,7 +1,7 @@
 -- The texts of the ACLs of a file, as functions of the sets of entries alone (acl(5), "LONG TEXT FORM" and "SHORT TEXT
 -- FORM"). It is this library's own that ids are decimal, and where the effective permissions are shown.
 use Rattle.std.specs.Prelude.{ℕ, ◌==◌, List, [], ◌∷◌, ◌++◌, codes, decimal, map, take, Option, Some, None, option_map, unwrap_or, if◌then◌else◌}
-use Rattle.std.specs.List.{flat_map, All}
+use Rattle.std.specs.List.{flat_map, join_with_byte, All}
 use Rattle.std.specs.FinMap as set
 use Rattle.acl_perm.specs.Ascii.{colon, comma, line_feed, tab}
 use Rattle.acl_perm.specs.Shown.{perm_text}
@@ -88,16 +88,10 @@ shown_text access default =
     flat_map (λ entry. line (long_entry entry ++ effective_mark access entry)) (set.entries access)
     ++ flat_map (λ entry. line (long_default entry ++ default_mark default entry)) (default_entries default)
 
--- parts with commas between them
-abbrev pub with_commas : List (List ℕ) → List ℕ
-with_commas [] = []
-with_commas (part ∷ []) = part
-with_commas (part ∷ next ∷ parts) = part ++ comma ∷ with_commas (next ∷ parts)
-
 -- the entries in the short form with commas between them
 unfoldable pub short_text : Entries → Option Entries → List ℕ
 short_text access default =
-    with_commas (map short_entry (set.entries access) ++ map short_default (default_entries default))
+    join_with_byte comma (map short_entry (set.entries access) ++ map short_default (default_entries default))
 
 -- the text in a form
 abbrev pub form_text : Form → Entries → Option Entries → List ℕ

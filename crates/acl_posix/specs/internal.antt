@@ -10,7 +10,7 @@ pub mod TagMap
 pub mod Packed
 -- the place of a tag in a list in canonical order, or the place where it would be inserted
 pub mod Search
--- which entries a valid set cannot lose
+-- which entries a valid set cannot lose, and which it cannot get
 pub mod Required
 -- what one group is granted
 pub mod GroupSearch

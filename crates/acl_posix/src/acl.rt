@@ -53,7 +53,7 @@ impl PartialEq for PosixAcl {
 
     ghost laws = { partial_equiv_from_equiv same_set_equiv };
 
-    /// Returns whether the two ACLs have the same entries. No memory; linear time.
+    /// Returns whether the two ACLs have the same entries. It takes no memory and linear time.
     fn eq(&self, other: &PosixAcl) -> bool
         ensures value { result ≡ same_set self.now other.now }
         ensures exact { IsTrue result ↔ (self.now ≡ other.now) }
@@ -71,9 +71,9 @@ impl Eq for PosixAcl {
 impl PosixAcl {
     /// Makes the ACL of these entries, which may be in any order. Fails with `Multi` or `Duplicate` and a place if the
     /// entry there has the tag and qualifier of an earlier entry; the first such entry is reported. Otherwise fails
-    /// with `Miss` of the first absent of USER_OBJ, GROUP_OBJ, OTHER, and of MASK if there is a USER or GROUP entry.
-    /// It takes time n log n and one vector of n numbers. If two entries have the same tag and qualifier, it also takes
-    /// a map of at most n entries. If the entries are in canonical order, it takes linear time and no memory.
+    /// with `Miss` of the first absent of USER_OBJ, GROUP_OBJ, OTHER, and of MASK if there is a USER or GROUP entry. It
+    /// takes time in n log n and one allocation for n numbers. If two entries have the same tag and qualifier, it also
+    /// takes a map of at most n entries. If the entries are in canonical order, it takes linear time and no memory.
     ///
     /// ```rust
     /// let perm = Perm::ALL;
@@ -124,7 +124,7 @@ impl PosixAcl {
     /// Returns the three entries of a mode: USER_OBJ, GROUP_OBJ and OTHER with its bits (acl(5), "CORRESPONDENCE
     /// BETWEEN ACL ENTRIES AND FILE PERMISSION BITS"). Fails if memory runs out. Constant time; one table of three
     /// entries.
-    #[tactic(auto, using(crate::proofs::one_entry::OneEntry::three_valid))]
+    #[tactic(auto, using(crate::proofs::sorted::OneEntry::three_valid))]
     pub fn of_mode(alloc: Global, mode: Mode) -> Result<PosixAcl, AllocError>
         ensures { IfOk result (λ acl. acl ≡ of_mode mode.bits) }
     {
@@ -132,7 +132,8 @@ impl PosixAcl {
         Ok(PosixAcl { entries })
     }
 
-    /// Returns the permissions of the entry with a tag and qualifier, if there is one. No memory; logarithmic time.
+    /// Returns the permissions of the entry with a tag and qualifier, if there is one. It takes no memory and
+    /// logarithmic time.
     pub fn get(&self, tag: Tag) -> Option<Perm>
         ensures { option_map (λ perm. perm.bits) result ≡ set.get self.now (tag_of tag) }
     {
@@ -151,12 +152,16 @@ impl PosixAcl {
         ensures no_memory { IsSome (set.get self.old (tag_of tag)) → IsOk result }
         ensures valid { IsValid self.new }
     {
-        self.entries.put(tag, perm)
+        // A valid list without a MASK has no USER or GROUP entry, so this one would be added.
+        if self.entries.lacks_mask_for(tag) {
+            return Err(AclFault::Miss(Tag::Mask));
+        }
+        Ok(self.entries.insert(tag, perm)?)
     }
 
     /// Removes the entry with a tag and qualifier, and does nothing if there is none. The list stays valid: fails with
     /// `Miss` of the tag if the tag is USER_OBJ, GROUP_OBJ or OTHER, or is MASK and there is a USER or GROUP entry. A
-    /// call that fails changes nothing. No memory; linear time.
+    /// call that fails changes nothing. It takes no memory and linear time.
     pub fn remove(&mut self, tag: Tag) -> Result<(), AclFault>
         ensures ok { OnOk result (self.new ≡ set.remove self.old (tag_of tag)) }
         ensures err { OnErr result (self.new ≡ self.old) }
@@ -164,12 +169,16 @@ impl PosixAcl {
         ensures no_memory { IfErr result (λ fault. IsTrue (is_refusal fault)) }
         ensures valid { IsValid self.new }
     {
-        self.entries.remove(tag)
+        if self.entries.needs(tag) {
+            return Err(AclFault::Miss(tag));
+        }
+        self.entries.remove(tag);
+        Ok(())
     }
 
     /// Returns whether a user who is in these groups is granted all of `want` on an object with this owner and group
-    /// (acl(5), "ACCESS CHECK ALGORITHM"). No memory; time (number of groups + 1) times the logarithm of the number of
-    /// entries.
+    /// (acl(5), "ACCESS CHECK ALGORITHM"). It takes no memory, and time (number of groups + 1) times the logarithm of
+    /// the number of entries.
     ///
     /// ```rust
     /// let acl = PosixAcl::of_mode(alloc, Mode { bits: 0o640 })?;
@@ -187,8 +196,8 @@ impl PosixAcl {
         self.entries.grants(owner, group, user, groups, want)
     }
 
-    /// Returns the file mode bits: USER_OBJ, then MASK or, if there is no MASK, GROUP_OBJ, then OTHER. No memory;
-    /// logarithmic time.
+    /// Returns the file mode bits: USER_OBJ, then MASK or, if there is no MASK, GROUP_OBJ, then OTHER. It takes no
+    /// memory and logarithmic time.
     pub fn mode(&self) -> Mode
         ensures { result.bits ≡ mode_of self.now }
     {
@@ -201,7 +210,7 @@ impl PosixAcl {
     }
 
     /// Sets the file mode bits: USER_OBJ, MASK or, if there is no MASK, GROUP_OBJ, and OTHER. It changes no other
-    /// entry. No memory; logarithmic time.
+    /// entry. It takes no memory and logarithmic time.
     ///
     /// ```rust
     /// let mut acl = PosixAcl::of_mode(alloc, Mode { bits: 0o644 })?;
@@ -215,8 +224,8 @@ impl PosixAcl {
     }
 
     /// Returns the effective permissions of an entry: for a USER, GROUP_OBJ or GROUP entry those that MASK has too, if
-    /// there is a MASK, and for any other entry all. No memory; constant time, because MASK is the last entry but one,
-    /// and an ACL without MASK has three entries.
+    /// there is a MASK, and for any other entry all. It takes no memory and constant time, because MASK is the last
+    /// entry but one, and an ACL without MASK has three entries.
     pub fn effective(&self, entry: Entry) -> Perm
         ensures { result.bits ≡ effective_of self.now (pair_of entry) }
     {
@@ -240,7 +249,7 @@ impl PosixAcl {
 
     /// Sets MASK to the union of the permissions of all USER, GROUP_OBJ and GROUP entries, and adds it if it is absent.
     /// Only adding it takes memory, and may move the entries once. Fails if memory runs out, and then changes nothing.
-    /// Linear time.
+    /// It takes linear time.
     pub fn calc_mask(&mut self) -> Result<(), AllocError>
         ensures ok { OnOk result (self.new ≡ with_mask self.old) }
         ensures err { OnErr result (self.new ≡ self.old) }

@@ -76,7 +76,7 @@ impl SortedEntries {
             || self.entry_contains(Tag::Group(group), request)
     }
 
-    /// Returns whether the tag has an entry that contains all that is requested.
+    /// Returns whether the entry of the tag contains all that is requested. Without such an entry it returns `false`.
     fn entry_contains(&self, tag: Tag, request: Perm) -> bool
         ensures { result ≡ entry_contains self.now (tag_of tag) request.bits }
     {

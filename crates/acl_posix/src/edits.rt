@@ -52,6 +52,13 @@ impl SortedEntries {
         }
     }
 
+    /// Removes the entry of a tag, if it has one.
+    pub(crate) fn remove(&mut self, tag: Tag)
+        ensures { self.new ≡ set.remove self.old (tag_of tag) }
+    {
+        self.items.retain(|entry| entry.tag != tag);
+    }
+
     /// Sets the permissions of a tag that has an entry.
     fn set(&mut self, tag: Tag, perm: Perm)
         requires { IsSome (set.get self.old (tag_of tag)) }

@@ -9,7 +9,7 @@ ghost use Rattle.acl_posix.specs.Names.{is_number};
 use crate::id::{GREATEST, Id};
 use acl_perm::Perm;
 
-/// The word of a tag, of which `User` and `Group` may have a qualifier.
+/// The word of a tag. A qualifier may follow `User` and `Group`.
 #[derive(Clone, Copy, Debug, PartialEq, Eq)]
 pub enum TagWord {
     User,
@@ -18,7 +18,7 @@ pub enum TagWord {
     Other,
 }
 
-/// Returns the tag word that a field spells.
+/// Returns the tag word that a field spells, in full or by its first letter, or `None` if it spells none.
 #[tactic(auto, unfolding(crate::specs::Fields::word_of))]
 pub(crate) fn read_word(bytes: &[u8]) -> Option<TagWord>
     ensures { result ≡ word_of bytes.now }
@@ -49,7 +49,8 @@ fn is_one_of(bytes: &[u8], long: &[u8], short: &[u8]) -> bool
     bytes == long || bytes == short
 }
 
-/// Returns the set that a permission field spells.
+/// Returns the set that a permission field spells, or `None` if the field has another byte than r, w, x and -, or a
+/// letter twice.
 #[tactic(auto, unfolding(crate::specs::Fields::permissions_of))]
 pub(crate) fn read_permissions(bytes: &[u8]) -> Option<Perm>
     ensures { option_map (λ perm. perm.bits) result ≡ permissions_of bytes.now }
@@ -90,7 +91,7 @@ fn are_digits(bytes: &[u8]) -> bool
     bytes.iter().all(|b| b.is_ascii_digit())
 }
 
-/// Returns the id of decimal digits, if they are an id.
+/// Returns the id that decimal digits spell, or `None` if the number is above 4294967294.
 #[tactic(auto, using(crate::proofs::field::Digits::value_more), unfolding(crate::specs::Fields::id_of))]
 pub(crate) fn read_id(digits: &[u8]) -> Option<Id>
     requires { IsTrue (is_number digits.now) }

@@ -25,8 +25,8 @@ impl PartialEq for PosixFile {
 
     ghost laws = { partial_equiv_from_equiv same_file_equiv };
 
-    /// Returns whether the access ACLs are equal, and both files have no default ACL or equal ones. No memory; linear
-    /// time.
+    /// Returns whether the access ACLs are equal, and both files have no default ACL or equal ones. It takes no memory
+    /// and linear time.
     fn eq(&self, other: &PosixFile) -> bool
         ensures value { result ≡ same_file self.now other.now }
         ensures exact { IsTrue result ↔ (self.now ≡ other.now) }

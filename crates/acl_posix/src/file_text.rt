@@ -9,14 +9,14 @@ use acl_perm::Counted;
 use std::alloc::{AllocError, Global};
 
 impl PosixFile {
-    /// Returns the text in a form. The short text gets a line feed after it. Fails only if memory runs out.
+    /// Returns the text in a form. Unlike `write_short`, it puts a line feed after the short text. Fails only if memory
+    /// runs out.
     pub fn to_text(&self, alloc: Global, form: Form) -> Result<Vec<u8>, AllocError>
         ensures { IfOk result (λ text. text.items ≡ file_text form self.now) }
     {
         let mut text = written(alloc, self, form)?;
         match form {
-            Form::Canonical => {}
-            Form::Shown => {}
+            Form::Canonical | Form::Shown => {}
             Form::Short => text.push(b'\n')?,
         }
         Ok(text)

@@ -14,7 +14,7 @@ pub struct Id {
 }
 
 impl Id {
-    /// Returns the id of this number, or `None` for 4294967295, which is not an id. Constant time.
+    /// Returns the id of this number, or `None` for 4294967295, which is not an id. It takes constant time.
     pub fn new(value: u32) -> Option<Id>
         ensures within { IsSome result ↔ IsId value }
         ensures value { IfSome result (λ id. id.value ≡ value) }
@@ -26,7 +26,7 @@ impl Id {
         }
     }
 
-    /// Returns the number of the id. Constant time.
+    /// Returns the number of the id. It takes constant time.
     pub fn value(self) -> u32
         ensures value { result ≡ self.value }
         ensures within { IsId result }

@@ -13,7 +13,7 @@ ghost use Rattle.acl_posix.specs.TextLaws.{ReadsBack, TextTellsApart};
 ghost use Rattle.acl_posix.specs.Texts.{canonical_text, short_text, shown_text};
 ghost use Rattle.acl_posix.specs.Valid.{IsFaultOf, IsValidList, is_refusal};
 
-/// After the mode is set, the mode is that mode.
+/// After the mode of a list is set, the list has this mode.
 #[tactic(auto, using(crate::proofs::sorted::ModeAndMask::mode_set))]
 pub fn mode_is_set()
     ensures { ModeIsSet }

@@ -17,7 +17,6 @@ pub mod laws;
 mod look_up;
 mod memory;
 mod names;
-mod one_entry;
 mod packed;
 mod parser;
 mod piece;

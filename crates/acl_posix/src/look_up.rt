@@ -25,10 +25,7 @@ impl SortedEntries {
     pub(crate) fn perm_at(&self, tag: Tag) -> Perm
         ensures { result.bits ≡ perm_at self.now (tag_of tag) }
     {
-        match self.get(tag) {
-            Some(perm) => perm,
-            None => Perm::NONE,
-        }
+        self.get(tag).unwrap_or(Perm::NONE)
     }
 
     /// Returns whether a tag has an entry.

@@ -1,4 +1,5 @@
-//! Each kind of fault has a case for memory that runs out, so `?` passes it on from every call.
+//! Each kind of fault has a case for memory that runs out, so `?` passes an `AllocError` on. `AclFault` also takes the
+//! error of a `push`, because callers make the entries of a list in a vector.
 ghost use Rattle.std.specs.Prelude.{◌≡◌};
 ghost use Rattle.acl_posix.specs.declared.fault.AclFault.TheVariants as acl;
 ghost use Rattle.acl_posix.specs.declared.names.NameFault.TheVariants as name;
@@ -33,26 +34,10 @@ impl From<AllocError> for NameFault {
     }
 }
 
-impl<T: Drop> From<AllocFailed<T>> for NameFault {
-    ghost from_gives = { λ _ fault. fault ≡ name.Memory };
-
-    fn from(_error: AllocFailed<T>) -> NameFault {
-        NameFault::Memory
-    }
-}
-
 impl From<AllocError> for TextFault {
     ghost from_gives = { λ _ fault. fault ≡ text.Memory };
 
     fn from(_error: AllocError) -> TextFault {
-        TextFault::Memory
-    }
-}
-
-impl<T: Drop> From<AllocFailed<T>> for TextFault {
-    ghost from_gives = { λ _ fault. fault ≡ text.Memory };
-
-    fn from(_error: AllocFailed<T>) -> TextFault {
         TextFault::Memory
     }
 }

@@ -49,7 +49,7 @@ impl Model for Names {
 }
 
 impl Names {
-    /// Returns the table without names. No memory.
+    /// Returns the table without names. It takes no memory.
     pub fn new(alloc: Global) -> Names
         ensures empty { result ≡ empty_table }
         ensures table { IsNameTable result }
@@ -89,14 +89,14 @@ impl Names {
         add(self.alloc, &mut self.groups, name, id)
     }
 
-    /// Returns the id of a user name, if the table has it. No memory; logarithmic time.
+    /// Returns the id of a user name, if the table has it. It takes no memory and logarithmic time.
     pub fn user(&self, name: &[u8]) -> Option<Id>
         ensures { option_map (λ id. id.value) result ≡ fin.get self.now.users name.now }
     {
         self.users.get(name).copied()
     }
 
-    /// Returns the id of a group name, if the table has it. No memory; logarithmic time.
+    /// Returns the id of a group name, if the table has it. It takes no memory and logarithmic time.
     pub fn group(&self, name: &[u8]) -> Option<Id>
         ensures { option_map (λ id. id.value) result ≡ fin.get self.now.groups name.now }
     {
@@ -104,7 +104,7 @@ impl Names {
     }
 }
 
-/// Adds a name to one half of the table.
+/// Adds a name to the users or to the groups of the table.
 fn add(alloc: Global, ids: &mut BTreeMap<Vec<u8>, Id>, name: &[u8], id: Id) -> Result<(), NameFault>
     ensures added { OnOk result (ids_of ids.new.entries
         ≡ fin.insert (ids_of ids.old.entries) name.now id.value) }
@@ -122,7 +122,9 @@ fn add(alloc: Global, ids: &mut BTreeMap<Vec<u8>, Id>, name: &[u8], id: Id) -> R
         return Err(NameFault::Taken);
     }
     let name = Vec::from_slice(alloc, name)?;
-    ids.insert(name, id)?;
+    let Ok(_) = ids.insert(name, id) else {
+        return Err(NameFault::Memory);
+    };
     Ok(())
 }
 

@@ -47,7 +47,7 @@ pub(crate) fn rises(keys: &[u64]) -> bool
     keys.is_sorted_by(|a, b| *a / PERMS < *b / PERMS)
 }
 
-/// Writes the entries of the numbers over those of the vector.
+/// Replaces the entries of the vector by those of the numbers. Fails if memory runs out.
 pub(crate) fn put_keys(keys: &[u64], entries: &mut Vec<Entry>) -> Result<(), AllocError>
     requires { All IsPacked keys.now }
     ensures { IfOk result (λ _. pairs entries.new.items ≡ map unpacked keys.now) }
@@ -59,7 +59,8 @@ pub(crate) fn put_keys(keys: &[u64], entries: &mut Vec<Entry>) -> Result<(), All
     Ok(())
 }
 
-/// Returns the number of an entry.
+/// Returns the entry as a number. The tag comes first, then the qualifier and the permissions, so that numbers have the
+/// order of their entries.
 #[tactic(auto, unfolding(crate::specs::internal::Packed::packed))]
 fn packed(entry: Entry) -> u64
     ensures { result ≡ packed (pair_of entry) }
@@ -68,7 +69,7 @@ fn packed(entry: Entry) -> u64
     tag * PERMS + u64::from(entry.perm.bits)
 }
 
-/// Returns the entry of a number.
+/// Returns the entry that `packed` made into this number.
 #[tactic(auto, unfolding(crate::specs::internal::Packed::unpacked))]
 fn unpacked(key: u64) -> Entry
     requires { IsPacked key }

@@ -29,12 +29,10 @@ use std::alloc::Global;
 /// assert!(rt; file.default.is_none());
 /// ```
 pub fn parse(alloc: Global, text: &[u8], names: &Names) -> Result<PosixFile, TextFault>
-    // The text spells the file that is returned.
     ensures found { IfOk result (Reads text.now names.now) }
     // If the text spells a file, that file is returned.
     ensures only { (file : FileValue) → Reads text.now names.now file
         → MatchResult result (λ read. read ≡ file) (λ fault. fault ≡ Memory) }
-    // A refusal is the fault of the text.
     ensures fault { IfErr result (IsTextFaultOrMemory text.now names.now) }
     // A text with a fault is refused with that fault.
     ensures refused { (wrong : FaultValue) → IsTextFault text.now names.now wrong
@@ -53,7 +51,7 @@ fn read_file(alloc: Global, text: &[u8], names: &Names) -> Result<PosixFile, Tex
     Ok(PosixFile { access, default })
 }
 
-/// Returns the default ACL of these entries, or none if there are no entries.
+/// Returns the default ACL of these entries. A text without such entries has no default ACL, which is not a fault.
 fn default_of(alloc: Global, entries: Vec<Entry>) -> Result<Option<PosixAcl>, TextFault>
     ensures ok { IfOk result (IsDefaultOf (pairs entries.items)) }
     ensures err { IfErr result (IsDefaultFault (pairs entries.items)) }
@@ -65,7 +63,8 @@ fn default_of(alloc: Global, entries: Vec<Entry>) -> Result<Option<PosixAcl>, Te
     Ok(Some(acl))
 }
 
-/// Returns the ACL of these entries of a part.
+/// Returns the ACL of these entries. Fails with `Invalid`, the part and the cause if they are not valid, and with
+/// `Memory` if memory runs out.
 fn part_of(alloc: Global, part: Part, entries: Vec<Entry>) -> Result<PosixAcl, TextFault>
     ensures ok { IfOk result (IsAclOf (pairs entries.items)) }
     ensures err { IfErr result (IsPartFault part (pairs entries.items)) }

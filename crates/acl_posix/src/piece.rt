@@ -23,7 +23,8 @@ pub(crate) struct EntryPieces<'a> {
     pub permissions: Piece<'a>,
 }
 
-/// Returns the entry that a piece spells, and its part.
+/// Returns the entry that a piece spells, and its part. Blanks alone are judged first, then the number of fields, then
+/// each field in order.
 #[tactic(auto, unfolding(crate::specs::internal::Reading::read_piece))]
 pub(crate) fn read_piece(
     piece: Piece,
@@ -98,6 +99,8 @@ fn tag_at(field: Piece, line: usize, word: TagWord, names: &Names) -> Result<Tag
 {
     let qualifier = trimmed(field.bytes);
     let column = field.start();
+    let no_id = TextFault::Id { line, column };
+    let unknown = TextFault::UnknownName { line, column };
     match word {
         TagWord::Mask | TagWord::Other if !qualifier.is_empty() => {
             Err(TextFault::Qualifier { line, column })
@@ -106,22 +109,10 @@ fn tag_at(field: Piece, line: usize, word: TagWord, names: &Names) -> Result<Tag
         TagWord::Other => Ok(Tag::Other),
         TagWord::User if qualifier.is_empty() => Ok(Tag::UserObj),
         TagWord::Group if qualifier.is_empty() => Ok(Tag::GroupObj),
-        TagWord::User if is_number(qualifier) => match read_id(qualifier) {
-            Some(id) => Ok(Tag::User(id)),
-            None => Err(TextFault::Id { line, column }),
-        },
-        TagWord::Group if is_number(qualifier) => match read_id(qualifier) {
-            Some(id) => Ok(Tag::Group(id)),
-            None => Err(TextFault::Id { line, column }),
-        },
-        TagWord::User => match names.user(qualifier) {
-            Some(id) => Ok(Tag::User(id)),
-            None => Err(TextFault::UnknownName { line, column }),
-        },
-        TagWord::Group => match names.group(qualifier) {
-            Some(id) => Ok(Tag::Group(id)),
-            None => Err(TextFault::UnknownName { line, column }),
-        },
+        TagWord::User if is_number(qualifier) => Ok(Tag::User(read_id(qualifier).ok_or(no_id)?)),
+        TagWord::Group if is_number(qualifier) => Ok(Tag::Group(read_id(qualifier).ok_or(no_id)?)),
+        TagWord::User => Ok(Tag::User(names.user(qualifier).ok_or(unknown)?)),
+        TagWord::Group => Ok(Tag::Group(names.group(qualifier).ok_or(unknown)?)),
     }
 }
 

@@ -39,7 +39,7 @@ pub(crate) fn read_text(alloc: Global, text: &[u8], names: &Names) -> Result<Ent
     Ok(lists)
 }
 
-/// Adds the entries of the first line of a text to the lists, and returns the text behind the line.
+/// Adds the entries of the first line of a text to the lists, and returns the text after the line.
 fn read_first<'a>(
     text: &'a [u8],
     number: usize,

@@ -31,7 +31,7 @@ impl Model for SortedEntries {
 }
 
 impl SortedEntries {
-    /// Returns the three entries of a mode.
+    /// Returns the three entries of a mode, with one allocation. Fails if memory runs out.
     pub(crate) fn of_mode(alloc: Global, mode: Mode) -> Result<SortedEntries, AllocError>
         ensures { IfOk result (λ entries. entries ≡ of_mode mode.bits) }
     {
@@ -51,7 +51,7 @@ impl SortedEntries {
         Ok(SortedEntries { items })
     }
 
-    /// Returns a copy of the entries.
+    /// Returns a copy of the entries, with one allocation. Fails if memory runs out.
     pub(crate) fn copy(&self, alloc: Global) -> Result<SortedEntries, AllocError>
         ensures { IfOk result (λ entries. entries ≡ self.now) }
     {

@@ -63,7 +63,7 @@ fn first_repeat(alloc: Global, entries: &[Entry]) -> Result<AclFault, AllocError
     unreachable!()
 }
 
-/// Returns the fault of an entry whose tag an earlier entry has too.
+/// Returns `Duplicate` for USER and GROUP, and `Multi` for every other tag.
 fn repeated(tag: Tag, place: usize) -> AclFault
     ensures { result ≡ repeat_fault (tag_of tag) place }
 {

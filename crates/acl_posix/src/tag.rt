@@ -57,7 +57,7 @@ impl Ord for Tag {
 }
 
 impl Tag {
-    /// Returns the name of the tag type in the standard, without the qualifier. Constant time.
+    /// Returns the name of the tag type in the standard, without the qualifier. It takes constant time.
     pub fn name(&self) -> &'static str
         ensures { result.now ≡ name_of (tag_of self.now) }
     {

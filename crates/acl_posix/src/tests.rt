@@ -1,5 +1,5 @@
-//! Worked examples by subject. Each table of entries runs twice: with memory that may run out, which is then an
-//! accepted answer and leaves a value as it was, and in `ample` with enough memory, so that each answer is exact.
+//! Worked examples by subject. Each table of lists runs twice: in `ample` with enough memory, so that each answer is
+//! exact, and in `scarce` with memory that may run out, which is then an accepted answer and leaves a value as it was.
 
 mod ample;
 mod changes;
@@ -11,4 +11,16 @@ mod harness;
 mod lists;
 mod names;
 mod samples;
+mod scarce;
 mod writing;
+
+use harness::Memory;
+use std::process::Abort;
+
+// Runs each table of lists.
+fn worked_lists<A: Abort>(rt: &A, memory: Memory) {
+    lists::tables(rt, memory);
+    changes::tables(rt, memory);
+    checks::requests(rt, memory);
+    creation::new_files(rt, memory);
+}

@@ -1,10 +1,10 @@
-//! Which tag a valid list lacks.
+//! Which tags a list lacks to be valid, and which a valid list needs.
 ghost use Rattle.std.specs.Prelude.{◌≡◌, option_map};
 ghost use Rattle.std.specs.List.{list_any};
 ghost use Rattle.std.specs.FinMap as set;
 ghost use Rattle.acl_posix.specs.Tag.{is_named, tag_of};
 ghost use Rattle.acl_posix.specs.Valid.{missing};
-ghost use Rattle.acl_posix.specs.internal.Required.{is_required};
+ghost use Rattle.acl_posix.specs.internal.Required.{is_required, lacks_mask_for};
 
 use crate::entry::Entry;
 use crate::sorted::SortedEntries;
@@ -38,6 +38,13 @@ impl SortedEntries {
             Tag::User(_) | Tag::Group(_) => false,
             Tag::Mask => self.any_named(),
         }
+    }
+
+    /// Returns whether a valid list lacks the MASK that it needs to get an entry of a tag.
+    pub(crate) fn lacks_mask_for(&self, tag: Tag) -> bool
+        ensures { result ≡ lacks_mask_for self.now (tag_of tag) }
+    {
+        tag.is_named() && !self.has(Tag::Mask)
     }
 
     /// Returns whether there is a USER or GROUP entry.

@@ -17,8 +17,8 @@ use acl_perm::internal::put_next;
 use acl_perm::{Sink, WriteFault};
 
 impl PosixFile {
-    /// Writes the canonical text: one line per entry in canonical order, with the default ACL behind the access ACL. It
-    /// ends at the first put that fails, and tries nothing again. No memory; linear time.
+    /// Writes the canonical text: one line per entry in canonical order, with the default ACL after the access ACL. It
+    /// ends at the first put that fails, and tries nothing again. It takes no memory and linear time.
     pub fn write_canonical<S: Sink>(&self, sink: &mut S) -> Result<(), WriteFault>
         ensures { Writes S.contents S.failure_count sink.old sink.new
             (canonical_text self.now.access self.now.default) result }
@@ -26,8 +26,8 @@ impl PosixFile {
         self.write(sink, Form::Canonical)
     }
 
-    /// Writes the canonical text with a comment behind each entry that the mask limits: its effective permissions. It
-    /// ends at the first put that fails, and tries nothing again. No memory; linear time.
+    /// Writes the canonical text with a comment after each entry that the mask limits: its effective permissions. It
+    /// ends at the first put that fails, and tries nothing again. It takes no memory and linear time.
     pub fn write_shown<S: Sink>(&self, sink: &mut S) -> Result<(), WriteFault>
         ensures { Writes S.contents S.failure_count sink.old sink.new
             (shown_text self.now.access self.now.default) result }
@@ -36,7 +36,7 @@ impl PosixFile {
     }
 
     /// Writes the short text: the entries in canonical order with commas between them, and no line feed. It ends at the
-    /// first put that fails, and tries nothing again. No memory; linear time.
+    /// first put that fails, and tries nothing again. It takes no memory and linear time.
     pub fn write_short<S: Sink>(&self, sink: &mut S) -> Result<(), WriteFault>
         ensures { Writes S.contents S.failure_count sink.old sink.new
             (short_text self.now.access self.now.default) result }
@@ -44,7 +44,8 @@ impl PosixFile {
         self.write(sink, Form::Short)
     }
 
-    /// Writes the text in a form. It ends at the first put that fails, and tries nothing again. No memory; linear time.
+    /// Writes the text in a form. It ends at the first put that fails, and tries nothing again. It takes no memory and
+    /// linear time.
     pub fn write<S: Sink>(&self, sink: &mut S, form: Form) -> Result<(), WriteFault>
         ensures { Writes S.contents S.failure_count sink.old sink.new
             (form_text form self.now.access self.now.default) result }
@@ -55,8 +56,8 @@ impl PosixFile {
 }
 
 impl PosixAcl {
-    /// Writes the canonical text: one line per entry in canonical order, with the default ACL behind the access ACL. It
-    /// ends at the first put that fails, and tries nothing again. No memory; linear time.
+    /// Writes the canonical text: one line per entry in canonical order, with the default ACL after the access ACL. It
+    /// ends at the first put that fails, and tries nothing again. It takes no memory and linear time.
     ///
     /// ```rust
     /// let acl = PosixAcl::of_mode(alloc, Mode { bits: 0o640 })?;
@@ -73,8 +74,8 @@ impl PosixAcl {
         PosixAcl::write(self, sink, Form::Canonical)
     }
 
-    /// Writes the canonical text with a comment behind each entry that the mask limits: its effective permissions. It
-    /// ends at the first put that fails, and tries nothing again. No memory; linear time.
+    /// Writes the canonical text with a comment after each entry that the mask limits: its effective permissions. It
+    /// ends at the first put that fails, and tries nothing again. It takes no memory and linear time.
     pub fn write_shown<S: Sink>(&self, sink: &mut S) -> Result<(), WriteFault>
         ensures { Writes S.contents S.failure_count sink.old sink.new
             (shown_text self.now None) result }
@@ -83,7 +84,7 @@ impl PosixAcl {
     }
 
     /// Writes the short text: the entries in canonical order with commas between them, and no line feed. It ends at the
-    /// first put that fails, and tries nothing again. No memory; linear time.
+    /// first put that fails, and tries nothing again. It takes no memory and linear time.
     pub fn write_short<S: Sink>(&self, sink: &mut S) -> Result<(), WriteFault>
         ensures { Writes S.contents S.failure_count sink.old sink.new
             (short_text self.now None) result }
@@ -91,7 +92,8 @@ impl PosixAcl {
         PosixAcl::write(self, sink, Form::Short)
     }
 
-    /// Writes the text in a form. It ends at the first put that fails, and tries nothing again. No memory; linear time.
+    /// Writes the text in a form. It ends at the first put that fails, and tries nothing again. It takes no memory and
+    /// linear time.
     pub fn write<S: Sink>(&self, sink: &mut S, form: Form) -> Result<(), WriteFault>
         ensures { Writes S.contents S.failure_count sink.old sink.new
             (form_text form self.now None) result }

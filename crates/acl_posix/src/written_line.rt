@@ -11,7 +11,7 @@ use crate::tag::Tag;
 use crate::text_fault::Part;
 use acl_perm::Perm;
 
-/// The entry of a line, its part, and the text behind the line.
+/// The entry of a line, its part, and the text after the line.
 #[derive(Clone, Copy)]
 pub(crate) struct WrittenLine<'a> {
     pub part: Part,
@@ -19,14 +19,14 @@ pub(crate) struct WrittenLine<'a> {
     pub rest: &'a [u8],
 }
 
-/// An entry, and the text behind its line.
+/// An entry, and the text after its line.
 #[derive(Clone, Copy)]
 struct EntryBefore<'a> {
     entry: Entry,
     rest: &'a [u8],
 }
 
-/// An id and permissions, and the text behind their line.
+/// An id and permissions, and the text after their line.
 #[derive(Clone, Copy)]
 struct FieldsBefore<'a> {
     id: Id,
@@ -34,14 +34,14 @@ struct FieldsBefore<'a> {
     rest: &'a [u8],
 }
 
-/// An id, and the bytes behind the colon after it.
+/// An id, and the bytes after its colon.
 #[derive(Clone, Copy)]
 struct IdBefore<'a> {
     id: Id,
     rest: &'a [u8],
 }
 
-/// Permissions, and the text behind their line feed.
+/// Permissions, and the text after their line feed.
 #[derive(Clone, Copy)]
 struct PermBefore<'a> {
     perm: Perm,
@@ -82,7 +82,7 @@ fn entry_before(bytes: &[u8]) -> Option<EntryBefore<'_>>
     Some(EntryBefore { entry, rest })
 }
 
-/// Returns the bytes behind a beginning, if the bytes have that beginning.
+/// Returns the bytes after a beginning, or `None` if the bytes do not begin with it.
 fn behind<'a>(bytes: &'a [u8], beginning: &[u8]) -> Option<&'a [u8]>
     ensures { IfSome result (λ rest. bytes.now ≡ beginning.now ++ rest.now) }
 {
@@ -155,7 +155,7 @@ fn perm_of(read: bool, write: bool, execute: bool) -> Perm
     }
 }
 
-/// Returns whether a byte is a letter, if it is that letter or `-`.
+/// Returns `true` for the letter, `false` for `-`, and `None` for every other byte.
 fn is_shown(byte: u8, letter: u8) -> Option<bool>
     ensures { IfSome result (λ is. byte ≡ letter_of is letter) }
 {

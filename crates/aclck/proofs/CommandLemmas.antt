@@ -1,35 +1,35 @@
 -- What the exit status says about the result of a run.
 use Rattle.std.proofs.Common.{◌≡◌, ℕ, Bool, true, false, List, Option, Some, None, Result, Ok, Err, refl, sym, ap, subst, ◌∙◌, arith, inl, inr}
 use Rattle.std.proofs.lemmas.Bool.{true≢false}
-use Rattle.std.specs.Prelude.{◌⊎◌, ◌<◌, IsSome}
+use Rattle.std.specs.Prelude.{◌⊎◌, ◌<◌, ◌≤◌, IsSome}
 use Rattle.clap.specs.Words.{Text}
 use Rattle.acl_perm.specs.Devices.{failures_after, one_more}
-use Rattle.aclck.specs.Answer.{Answer, Begins, FailsBy, Refuses, cause_of, is_input, is_read, is_input_fault, is_sink, is_source, is_write}
-use Rattle.aclck.specs.Command.{IsBegun, IsDone, IsRefused, IsStopped, RunsWords, outcome_at}
+use Rattle.aclck.specs.Answer.{Answer, Begins, FailsBy, Refuses, origin_of, is_input, is_read, is_input_fault, is_sink, is_source, is_write}
+use Rattle.aclck.specs.Command.{IsBegun, IsDone, IsRefused, IsStopped, RunsWords, StatusOfFailures, StatusOfOutput, StatusOfWords, outcome_at}
 use Rattle.aclck.specs.internal.Performing.{Performs, RunsTask, is_write_fault, status_of}
 use Rattle.aclck.specs.Task.{Answers, Task, is_command, task_of}
-use Rattle.aclck.specs.declared.answer.Cause.{Cause}
-use Rattle.aclck.specs.declared.answer.Cause.TheVariants as cause
+use Rattle.aclck.specs.declared.answer.Origin.{Origin}
+use Rattle.aclck.specs.declared.answer.Origin.TheVariants as origin
 use Rattle.aclck.specs.declared.answer.Outcome.{Outcome}
 use Rattle.aclck.specs.declared.answer.RunFault.{RunFault}
 use Rattle.aclck.specs.declared.command.CommandFault.{CommandFault}
 use Rattle.aclck.specs.declared.command.CommandFault.TheVariants as command
 
 -- a fault of the input is a fault that some input has
-refuses_by : (Means : List ℕ → Answer → Type 0) (known held holds : Option (List ℕ)) (f : RunFault) (c : Cause)
+refuses_by : (Means : List ℕ → Answer → Type 0) (known held holds : Option (List ℕ)) (f : RunFault) (c : Origin)
     → is_input c ≡ true → FailsBy Means known held holds f c → Refuses Means known f
-refuses_by Means known held holds f cause.Input is h = h
-refuses_by Means known held holds f cause.Source is h = absurd cc
-refuses_by Means known held holds f (cause.Sink w) is h = absurd cc
-refuses_by Means known held holds f cause.Memory is h = absurd cc
+refuses_by Means known held holds f origin.Input is h = h
+refuses_by Means known held holds f origin.Source is h = absurd cc
+refuses_by Means known held holds f (origin.Sink w) is h = absurd cc
+refuses_by Means known held holds f origin.Memory is h = absurd cc
 
 -- a fault of the sink leaves a beginning of a text
-begins_by : (Means : List ℕ → Answer → Type 0) (known held holds : Option (List ℕ)) (f : RunFault) (c : Cause)
+begins_by : (Means : List ℕ → Answer → Type 0) (known held holds : Option (List ℕ)) (f : RunFault) (c : Origin)
     → is_sink c ≡ true → FailsBy Means known held holds f c → (n : ℕ) × Begins Means known held holds n
-begins_by Means known held holds f cause.Input is h = absurd cc
-begins_by Means known held holds f cause.Source is h = absurd cc
-begins_by Means known held holds f (cause.Sink w) is h = (w.written, h)
-begins_by Means known held holds f cause.Memory is h = absurd cc
+begins_by Means known held holds f origin.Input is h = absurd cc
+begins_by Means known held holds f origin.Source is h = absurd cc
+begins_by Means known held holds f (origin.Sink w) is h = (w.written, h)
+begins_by Means known held holds f origin.Memory is h = absurd cc
 
 -- a run that ends with a fault of the input has a task that refuses some input
 refused_run : (task : Option Task) (known held holds : Option (List ℕ)) (f : RunFault) → is_input_fault f ≡ true
@@ -37,7 +37,7 @@ refused_run : (task : Option Task) (known held holds : Option (List ℕ)) (f : R
 refused_run task known held holds f is (inl memory) = absurd (true≢false (sym is ∙ ap is_input_fault memory))
 refused_run None known held holds f is (inr fails) = absurd fails
 refused_run (Some t) known held holds f is (inr fails) =
-    (f, refuses_by (Answers t) known held holds f (cause_of f) is fails)
+    (f, refuses_by (Answers t) known held holds f (origin_of f) is fails)
 
 -- at 2 the input has a fault
 pub report_refused : (task : Option Task) (known held holds : Option (List ℕ)) (f : CommandFault) (status : ℕ)
@@ -73,7 +73,7 @@ begun_at task known held holds (command.Run f) (inl memory) write =
     absurd (true≢false (sym write ∙ ap is_write memory))
 begun_at None known held holds (command.Run f) (inr fails) write = absurd fails
 begun_at (Some t) known held holds (command.Run f) (inr fails) write =
-    begins_by (Answers t) known held holds f (cause_of f) write fails
+    begins_by (Answers t) known held holds f (origin_of f) write fails
 
 -- nothing was written, or a write failed after a beginning was written
 pub report_begun : (task : Option Task) (known held holds : Option (List ℕ)) (f : CommandFault) (Kept : Type 0)
@@ -92,25 +92,46 @@ stays_or_more old new true is = inr is
 stays_or_more old new false is = inl is
 
 -- a fault of the input is no fault of the source and none of the sink
-input_alone : (c : Cause) → is_input c ≡ true → (is_source c ≡ false) × (is_sink c ≡ false)
-input_alone cause.Input is = (refl, refl)
-input_alone cause.Source is = absurd cc
-input_alone (cause.Sink w) is = absurd cc
-input_alone cause.Memory is = absurd cc
+input_alone : (c : Origin) → is_input c ≡ true → (is_source c ≡ false) × (is_sink c ≡ false)
+input_alone origin.Input is = (refl, refl)
+input_alone origin.Source is = absurd cc
+input_alone (origin.Sink w) is = absurd cc
+input_alone origin.Memory is = absurd cc
 
--- a fault is one of the source, or none of it
-source_or_not : (c : Cause) → (is_source c ≡ true) ⊎ (is_source c ≡ false)
-source_or_not cause.Input = inr refl
-source_or_not cause.Source = inl refl
-source_or_not (cause.Sink w) = inr refl
-source_or_not cause.Memory = inr refl
+-- a fault comes from the source, or it does not
+source_or_not : (c : Origin) → (is_source c ≡ true) ⊎ (is_source c ≡ false)
+source_or_not origin.Input = inr refl
+source_or_not origin.Source = inl refl
+source_or_not (origin.Sink w) = inr refl
+source_or_not origin.Memory = inr refl
 
 -- a fault of the source is none of the sink
-source_alone : (c : Cause) → is_source c ≡ true → is_sink c ≡ false
-source_alone cause.Input is = absurd cc
-source_alone cause.Source is = refl
-source_alone (cause.Sink w) is = absurd cc
-source_alone cause.Memory is = absurd cc
+source_alone : (c : Origin) → is_source c ≡ true → is_sink c ≡ false
+source_alone origin.Input is = absurd cc
+source_alone origin.Source is = refl
+source_alone (origin.Sink w) is = absurd cc
+source_alone origin.Memory is = absurd cc
+
+-- at 2 and 3 nothing was written
+nothing_written : {K E : Type 0} {task : Option Task} {known : Option (List ℕ)} {holds : K → Option (List ℕ)}
+    {writes_failed : K → ℕ} {out out_after : K} {err err_after : E} (status : ℕ) → 2 ≤ status → status ≤ 3
+    → out_after ≡ out → StatusOfOutput task known holds writes_failed out out_after err err_after status
+nothing_written status two three same = record {
+  done = λ below. absurd (omega (arith, two, below));
+  unwritten = λ _ _. same;
+  begun = λ four. absurd (omega (arith, three, four));
+  unreported = λ below. absurd (omega (arith, two, below));
+}
+
+-- no read and no write failed
+no_call_failed : {reads reads_after writes writes_after status : ℕ} → reads_after ≡ reads → writes_after ≡ writes
+    → StatusOfFailures reads reads_after writes writes_after status
+no_call_failed read written = record {
+  none_failed = λ _. (read, written);
+  one_read = inl read;
+  one_write = inl written;
+  one_device = inl read;
+}
 
 -- a command that ran to its end
 pub ended_so : {S K E : Type 0} {words : List Text} {left : S → Option (List ℕ)} {reads_failed : S → ℕ}
@@ -120,24 +141,28 @@ pub ended_so : {S K E : Type 0} {words : List Text} {left : S → Option (List �
     → (is_command words ≡ false → Ok o ≡ Err command.Usage)
     → RunsWords words left reads_failed source source_after holds writes_failed out out_after err err status
 ended_so {words} {left} {source} {holds} {out} {out_after} o status below at runs unnamed = record {
-  known = omega (arith, below);
-  named = λ _. done_named _ _ _ _ _ runs.performs;
-  done = λ _. subst (λ q. IsDone (task_of words) (left source) (holds out) (holds out_after) q) (sym at) runs.performs;
-  whole = λ _. runs.whole;
-  refused = λ two. absurd (omega (arith, below, two));
-  usage = λ three. absurd (omega (arith, below, three));
-  unread = λ three. absurd (omega (arith, below, three));
-  unnamed = λ none. let e = unnamed none in absurd cc;
-  bound = runs.bound;
-  stopped = inl runs.reads;
-  ended = λ two. absurd (omega (arith, below, two));
-  unwritten = λ two _. absurd (omega (arith, below, two));
-  begun = λ four. absurd (omega (arith, below, four));
-  unreported = λ _. refl;
-  none_failed = λ _. (runs.reads, runs.writes);
-  one_read = inl runs.reads;
-  one_write = inl runs.writes;
-  one_device = inl runs.reads;
+  of_words = record {
+    known = omega (arith, below);
+    named = λ _. done_named _ _ _ _ _ runs.performs;
+    usage = λ three. absurd (omega (arith, below, three));
+    unnamed = λ none. let e = unnamed none in absurd cc;
+  };
+  of_input = record {
+    whole = λ _. runs.reading.whole;
+    refused = λ two. absurd (omega (arith, below, two));
+    unread = λ three. absurd (omega (arith, below, three));
+    bound = runs.reading.bound;
+    stopped = inl runs.reading.reads;
+    ended = λ two. absurd (omega (arith, below, two));
+  };
+  of_output = record {
+    done = λ _.
+        subst (λ q. IsDone (task_of words) (left source) (holds out) (holds out_after) q) (sym at) runs.performs;
+    unwritten = λ two _. absurd (omega (arith, below, two));
+    begun = λ four. absurd (omega (arith, below, four));
+    unreported = λ _. refl;
+  };
+  of_failures = no_call_failed runs.reading.reads runs.writes;
 }
 
 -- a command line that asks for nothing
@@ -148,29 +173,39 @@ bad_usage : {S K E : Type 0} {words : List Text} {left : S → Option (List ℕ)
     (Err command.Usage)
     → RunsWords words left reads_failed source source_after holds writes_failed out out_after err err_after status
 bad_usage {out} {out_after} status is runs = record {
-  known = omega (arith, is);
-  named = λ below. absurd (omega (arith, is, below));
-  done = λ below. absurd (omega (arith, is, below));
-  whole = λ below. absurd (omega (arith, is, below));
-  refused = λ two. absurd (omega (arith, is, two));
-  usage = λ _. runs.performs;
-  unread = λ _. runs.unread refl;
-  unnamed = λ _. is;
-  bound = runs.bound;
-  stopped = inl runs.reads;
-  ended = λ two. absurd (omega (arith, is, two));
-  unwritten = λ _ _. kept runs.unwritten;
-  begun = λ four. absurd (omega (arith, is, four));
-  unreported = λ below. absurd (omega (arith, is, below));
-  none_failed = λ _. (runs.reads, runs.writes);
-  one_read = inl runs.reads;
-  one_write = inl runs.writes;
-  one_device = inl runs.reads;
+  of_words = record {
+    known = omega (arith, is);
+    named = λ below. absurd (omega (arith, is, below));
+    usage = λ _. runs.performs;
+    unnamed = λ _. is;
+  };
+  of_input = record {
+    whole = λ below. absurd (omega (arith, is, below));
+    refused = λ two. absurd (omega (arith, is, two));
+    unread = λ _. runs.reading.unread refl;
+    bound = runs.reading.bound;
+    stopped = inl runs.reading.reads;
+    ended = λ two. absurd (omega (arith, is, two));
+  };
+  of_output = nothing_written status (omega (arith, is)) (omega (arith, is)) (kept runs.unwritten);
+  of_failures = no_call_failed runs.reading.reads runs.writes;
 }
   where
     kept : (false ≡ true) ⊎ (out_after ≡ out) → out_after ≡ out
     kept (inl write) = absurd cc
     kept (inr same) = same
+
+-- what the status says about the words of a run that ends with a fault, if it is not 3
+words_ran : {words : List Text} (f : RunFault) (status : ℕ) → status ≤ 4 → (status ≡ 3 → ⊥)
+    → (status < 3 → IsSome (task_of words))
+    → (is_command words ≡ false → ◌≡◌ {A = Result Outcome CommandFault} (Err (command.Run f)) (Err command.Usage))
+    → StatusOfWords words status
+words_ran f status low other named unnamed = record {
+  known = low;
+  named = named;
+  usage = λ three. absurd (other three);
+  unnamed = λ none. let e = unnamed none in absurd cc;
+}
 
 -- a refused input
 bad_input : {S K E : Type 0} {words : List Text} {left : S → Option (List ℕ)} {reads_failed : S → ℕ}
@@ -182,34 +217,28 @@ bad_input : {S K E : Type 0} {words : List Text} {left : S → Option (List ℕ)
     → RunsWords words left reads_failed source source_after holds writes_failed out out_after err err_after status
 bad_input {words} {left} {reads_failed} {source} {source_after} {holds} {writes_failed} {out} {out_after} f status
     refused two runs unnamed = record {
-      known = omega (arith, two);
-      named = λ below. below_named _ _ _ _ (command.Run f) status runs.performs is below;
-      done = λ below. absurd (omega (arith, two, below));
-      whole = λ below. absurd (omega (arith, two, below));
-      refused = λ _. report_refused _ _ _ _ (command.Run f) status runs.performs is two;
-      usage = λ three. absurd (omega (arith, two, three));
-      unread = λ three. absurd (omega (arith, two, three));
-      unnamed = λ none. let e = unnamed none in absurd cc;
-      bound = runs.bound;
-      stopped = inl read;
-      ended = λ _. runs.ended (sym is ∙ two);
-      unwritten = λ _ _. kept runs.unwritten;
-      begun = λ four. absurd (omega (arith, two, four));
-      unreported = λ below. absurd (omega (arith, two, below));
-      none_failed = λ _. (read, written);
-      one_read = inl read;
-      one_write = inl written;
-      one_device = inl read;
+      of_words = words_ran f status (omega (arith, two)) (λ three. omega (arith, two, three))
+          (λ below. below_named _ _ _ _ (command.Run f) status runs.performs is below) unnamed;
+      of_input = record {
+        whole = λ below. absurd (omega (arith, two, below));
+        refused = λ _. report_refused _ _ _ _ (command.Run f) status runs.performs is two;
+        unread = λ three. absurd (omega (arith, two, three));
+        bound = runs.reading.bound;
+        stopped = inl read;
+        ended = λ _. runs.reading.ended (sym is ∙ two);
+      };
+      of_output = nothing_written status (omega (arith, two)) (omega (arith, two)) (kept runs.unwritten);
+      of_failures = no_call_failed read written;
     }
   where
     is : status ≡ status_of (command.Run f)
     is = rw refused two
 
     alone : (is_read f ≡ false) × (is_write f ≡ false)
-    alone = input_alone (cause_of f) refused
+    alone = input_alone (origin_of f) refused
 
     read : reads_failed source_after ≡ reads_failed source
-    read = runs.reads ∙ ap (failures_after (reads_failed source)) alone.0
+    read = runs.reading.reads ∙ ap (failures_after (reads_failed source)) alone.0
 
     written : writes_failed out_after ≡ writes_failed out
     written = runs.writes ∙ ap (failures_after (writes_failed out)) alone.1
@@ -228,38 +257,42 @@ bad_device : {S K E : Type 0} {words : List Text} {left : S → Option (List ℕ
     → RunsWords words left reads_failed source source_after holds writes_failed out out_after err err_after status
 bad_device {words} {left} {reads_failed} {source} {source_after} {holds} {writes_failed} {out} {out_after} f status
     four runs unnamed = record {
-      known = omega (arith, four);
-      named = λ below. absurd (omega (arith, four, below));
-      done = λ below. absurd (omega (arith, four, below));
-      whole = λ below. absurd (omega (arith, four, below));
-      refused = λ two. absurd (omega (arith, four, two));
-      usage = λ three. absurd (omega (arith, four, three));
-      unread = λ three. absurd (omega (arith, four, three));
-      unnamed = λ none. let e = unnamed none in absurd cc;
-      bound = runs.bound;
-      stopped = stops (source_or_not (cause_of f));
-      ended = λ two. absurd (omega (arith, four, two));
-      unwritten = λ _ three. absurd (omega (arith, four, three));
-      begun = λ _. report_begun _ _ _ _ (command.Run f) _ _ _ runs.performs runs.unwritten runs.writes;
-      unreported = λ below. absurd (omega (arith, four, below));
-      none_failed = λ below. absurd (omega (arith, four, below));
-      one_read = stays_or_more _ _ (is_read f) runs.reads;
-      one_write = stays_or_more _ _ (is_write f) runs.writes;
-      one_device = one (source_or_not (cause_of f));
+      of_words = words_ran f status (omega (arith, four)) (λ three. omega (arith, four, three))
+          (λ below. absurd (omega (arith, four, below))) unnamed;
+      of_input = record {
+        whole = λ below. absurd (omega (arith, four, below));
+        refused = λ two. absurd (omega (arith, four, two));
+        unread = λ three. absurd (omega (arith, four, three));
+        bound = runs.reading.bound;
+        stopped = stops (source_or_not (origin_of f));
+        ended = λ two. absurd (omega (arith, four, two));
+      };
+      of_output = record {
+        done = λ below. absurd (omega (arith, four, below));
+        unwritten = λ _ three. absurd (omega (arith, four, three));
+        begun = λ _. report_begun _ _ _ _ (command.Run f) _ _ _ runs.performs runs.unwritten runs.writes;
+        unreported = λ below. absurd (omega (arith, four, below));
+      };
+      of_failures = record {
+        none_failed = λ below. absurd (omega (arith, four, below));
+        one_read = stays_or_more _ _ (is_read f) runs.reading.reads;
+        one_write = stays_or_more _ _ (is_write f) runs.writes;
+        one_device = one (source_or_not (origin_of f));
+      };
     }
   where
     no_read : is_read f ≡ false → reads_failed source_after ≡ reads_failed source
-    no_read not = runs.reads ∙ ap (failures_after (reads_failed source)) not
+    no_read not = runs.reading.reads ∙ ap (failures_after (reads_failed source)) not
 
     stops : (is_read f ≡ true) ⊎ (is_read f ≡ false) → (reads_failed source_after ≡ reads_failed source)
         ⊎ IsStopped (task_of words) (left source) (left source_after)
-    stops (inl read) = inr (runs.stopped read)
+    stops (inl read) = inr (runs.reading.stopped read)
     stops (inr not) = inl (no_read not)
 
     one : (is_read f ≡ true) ⊎ (is_read f ≡ false)
         → (reads_failed source_after ≡ reads_failed source) ⊎ (writes_failed out_after ≡ writes_failed out)
     one (inl read) =
-        inr (runs.writes ∙ ap (failures_after (writes_failed out)) (source_alone (cause_of f) read))
+        inr (runs.writes ∙ ap (failures_after (writes_failed out)) (source_alone (origin_of f) read))
     one (inr not) = inl (no_read not)
 
 -- a command that ended with a fault, with the status of that fault

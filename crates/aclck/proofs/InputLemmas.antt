@@ -16,7 +16,7 @@ use Rattle.acl_nfs4.specs.declared.xdr.fault.Fault.{Fault}
 use Rattle.acl_nfs4.specs.declared.xdr.fault.Reason.{Reason}
 use Rattle.acl_nfs4.specs.declared.xdr.fault.Reason.TheVariants.{TrailingBytes, Truncated}
 use Rattle.acl_nfs4.proofs.Exports.{IsBytes-drop, begins, fault_stays, never_truncated}
-use Rattle.aclck.specs.Answer.{IsListFault, cause_of, is_read}
+use Rattle.aclck.specs.Answer.{IsListFault, origin_of, is_read}
 use Rattle.aclck.specs.commands.Compare.{IsFaultOfTwo}
 use Rattle.aclck.specs.commands.Compare.IsFaultOfTwo.{of_first, of_second}
 use Rattle.aclck.specs.ListInput.{AreOpen, EndsBehind, IsOpen, ListEnds, RefusalEnds, TakesPart, TakesTo, TwoEnd, piece_len}
@@ -42,7 +42,7 @@ pub nothing : (left : List ℕ) (known : Option (List ℕ)) (failed : ℕ) → l
 nothing left known failed none =
     record { given = []; taken = Consumes-nil known; parts = sym none; none_failed = refl }
 
--- what was taken is what was read, and what was taken behind it
+-- what was taken is what was read, and what was taken after it
 regroup : (given text after others : List ℕ) → given ≡ text ++ after → given ++ others ≡ text ++ (after ++ others)
 regroup given text after others e = ap (λ v. v ++ others) e ∙ append_assoc text after others
 
@@ -61,13 +61,13 @@ one_more p text mid_left left old mid new failed mid_failed new_failed list len 
 
 -- ---- what holds for a kind of input
 
--- an input ends somewhere, and has few bytes behind its end
+-- an input ends somewhere, and has few bytes after its end
 pub record EndsNear (k : InputKind) (input : List ℕ) : Type 0 where
   pub end : ℕ
   pub is_end : k.EndsAt input end
   pub near : length input ≤ end + piece_len
 
--- one more value is behind these bytes: what holds for it holds for the input
+-- one more value is after these bytes: what holds for it holds for the input
 pub record Continues (k : InputKind) (p : Profile) (before : List ℕ) : Type 0 where
   pub refused : (rest : List ℕ) (offset : ℕ) (r : Reason) → IsFault p rest offset r
       → k.HasFault (before ++ rest) (fault.Nfs (record { offset = offset + length before; reason = r }))
@@ -103,20 +103,20 @@ one_begins p = record {
   goes_on = λ rest cut. inl cut;
 }
 
--- a second value, or its refused field, ends behind a first one
+-- a second value, or its refused field, ends after a first one
 second_ends : (p : Profile) (list : List Ace) (text first rest : List ℕ) (end far : ℕ) → text ≡ first ++ rest
     → Xdr p list first → ListEnds p rest far → end ≡ length first + far → TwoEnd p text end
 second_ends p list text first rest end far parts x is_end is =
     let ends : EndsBehind p end first rest = record { behind = far; is_end = is_end; is = is } in
     inl (record { list = list; first = first; rest = rest; parts = parts; spelled = x; holds = ends })
 
--- a second value may continue behind a first one
+-- a second value may continue after a first one
 second_open : (p : Profile) (list : List Ace) (first rest : List ℕ) → Xdr p list first → IsOpen p rest
     → AreOpen p (first ++ rest)
 second_open p list first rest x is_open =
     inr (record { list = list; first = first; rest = rest; parts = refl; spelled = x; holds = is_open })
 
--- the first of two values ends near what was read, and the input ends behind it
+-- the first of two values ends near what was read, and the input ends after it
 first_ends : (p : Profile) (rest : List ℕ) (end : ℕ) → BytesEnd p rest end ⊎ RefusalEnds p rest end
     → length rest ≤ end + piece_len → EndsNear (two_list_input p) rest
 first_ends p rest end (inr r) near = record { end = end; is_end = inr r; near = near }
@@ -138,7 +138,7 @@ two_begin p = record {
   goes_on = λ rest cut. inl cut;
 }
 
--- the second of two lists is behind the first
+-- the second of two lists is after the first
 pub two_go_on : (p : Profile) (list : List Ace) (first : List ℕ) → Xdr p list first
     → Continues (two_list_input p) p first
 two_go_on p list first x = record {
@@ -172,8 +172,8 @@ pub two_whole : (p : Profile) (list other : List Ace) (first second : List ℕ) 
     → Completes (two_list_input p) (first ++ second)
 two_whole p list other first second x y = record {
   refused = λ rest some.
-      fault_at_place (IsFaultOfTwo p ((first ++ second) ++ rest)) (length first + length second) (length (first ++ second))
-      TrailingBytes (sym (length-append first second))
+      fault_at_place (IsFaultOfTwo p ((first ++ second) ++ rest)) (length first + length second)
+      (length (first ++ second)) TrailingBytes (sym (length-append first second))
       (of_second list first (second ++ rest) (length second) TrailingBytes x (append_assoc first second rest)
       (behind other second rest y refl some));
   ends = λ rest.
@@ -238,7 +238,7 @@ value_refused : (k : InputKind) (p : Profile) (before after given : List ℕ) (o
     (e : ListFault) → Continues k p before → given ≡ before ++ after → Consumes old mid given
     → ReadsNone p after mid new e
     → Unread (HasInput (λ input. k.HasFault input (run_fault (later e (length before)))) old)
-    (cause_of (run_fault (later e (length before))))
+    (origin_of (run_fault (later e (length before))))
 value_refused k p before after given old mid new (unread.Refused f) next parts c h =
     input_found _ (given ++ h.given) old new (Consumes-trans old mid new given h.given c h.taken) (λ left end.
     subst (λ (y : List ℕ). k.HasFault y (run_fault (later (unread.Refused f) (length before))))
@@ -307,7 +307,7 @@ first_unread k p Is left old new failed new_failed e (Err run) none goes_up next
 
 -- ---- all values are read
 
--- little was taken if an input continues, or ends, behind the values that were read
+-- little was taken if an input continues, or ends, after the values that were read
 whole_near : (k : InputKind) (text after given others : List ℕ) (old mid new : Option (List ℕ)) → Completes k text
     → given ≡ text ++ after → Consumes old mid given → Consumes mid new others
     → length (after ++ others) ≤ piece_len → TakesTo k.EndsAt old new
@@ -321,16 +321,16 @@ whole_near k text after given others old mid new all parts c d near =
       near = omega (arith, near, ap length same, length-append text (after ++ others));
     }
 
--- what was read and nothing behind it
+-- what was read and nothing after it
 all_read : (text after given : List ℕ) → given ≡ text ++ after → after ≡ [] → text ≡ given ++ []
 all_read text after given parts none =
     sym (append-nil given ∙ parts ∙ ap (λ (y : List ℕ). text ++ y) none ∙ append-nil text)
 
--- a byte behind all values is a fault of the input
+-- a byte after all values is a fault of the input
 end_refused : (k : InputKind) (text after given : List ℕ) (old mid new : Option (List ℕ)) (len : ℕ) (e : ListFault)
     → Completes k text → given ≡ text ++ after → Consumes old mid given → len ≡ length text
     → EndsNot len after mid new e
-    → Unread (HasInput (λ input. k.HasFault input (run_fault e)) old) (cause_of (run_fault e))
+    → Unread (HasInput (λ input. k.HasFault input (run_fault e)) old) (origin_of (run_fault e))
 end_refused k text after given old mid new len (unread.Refused f) all parts c is h =
     rw (h.0, is) (input_found _ (given ++ h.1.given) old new (Consumes-trans old mid new given h.1.given c h.1.taken)
     (λ left end.
@@ -341,7 +341,7 @@ end_refused k text after given old mid new len (unread.Refused f) all parts c is
 end_refused k text after given old mid new len unread.Read all parts c is h = tt
 end_refused k text after given old mid new len unread.Memory all parts c is h = tt
 
--- if a read failed behind all values, the input may continue
+-- if a read failed after all values, the input may continue
 end_open : (k : InputKind) (text after given : List ℕ) (old mid new : Option (List ℕ)) (len : ℕ) (e : ListFault)
     → Completes k text → given ≡ text ++ after → Consumes old mid given → EndsNot len after mid new e
     → is_failed_pull e ≡ true → TakesPart k.MayGoOn old new
@@ -353,7 +353,7 @@ end_open k text after given old mid new len e all parts c h r =
       is_open = subst (λ (y : List ℕ). k.MayGoOn y) (all_read text after given parts kept.0) all.goes_on;
     }
 
--- the reason why an input does not end behind its values is the reason why it was not read
+-- the reason why an input does not end after its values is the reason why it was not read
 pub end_unread : {X : Type 0} (k : InputKind) (Is : X → List ℕ → Type 0) (text after : List ℕ)
     (old mid new : Option (List ℕ)) (failed mid_failed new_failed len : ℕ) (e : ListFault) (r : Result X RunFault)
     → IsErrAnd r (λ run. run ≡ run_fault e) → Completes k text → HasRead text after old mid failed mid_failed

@@ -157,7 +157,7 @@ in_front p text pull o end r f not_cut le =
       },
     )
 
--- the fault of a text is behind a beginning of it that is cut short
+-- the fault of a text is after a beginning of it that is cut short
 behind_cut : (p : Profile) (text pull : List ℕ) (o end : ℕ) (r : Reason) → IsProfile p → IsCutShort p text
     → IsFirstFault p (text ++ pull) o end r → r ≢ Truncated → length text ≤ end
 behind_cut p text pull o end r ok cut f not_cut =
@@ -226,7 +226,7 @@ end_reads p left given text pulled pull new_pulled old mid new feed (Err e) part
       all = λ t. end;
     })
 
--- the value of a text ends behind a beginning of the text that is cut short
+-- the value of a text ends after a beginning of the text that is cut short
 value_behind_cut : (p : Profile) (text pull : List ℕ) (list : List Ace) (end : ℕ) → IsProfile p → IsCutShort p text
     → Xdr p list (take end (text ++ pull)) → length text ≤ end
 value_behind_cut p text pull list end ok cut x =
@@ -238,7 +238,7 @@ value_behind_cut p text pull list end ok cut x =
           (sym (take-append-drop end text)) cut.1)
     ]
 
--- a refused field of a text ends behind a beginning of the text that is cut short
+-- a refused field of a text ends after a beginning of the text that is cut short
 refusal_behind_cut : (p : Profile) (text pull : List ℕ) (o end : ℕ) (r : Reason) → IsProfile p → IsCutShort p text
     → (f : IsFirstFault p (text ++ pull) o end r) → Breaks p f.stage f.rest f.more r → length text ≤ end
 refusal_behind_cut p text pull o end r ok cut f (inl b) =
@@ -293,7 +293,7 @@ refused_reads p left given text pulled pull old new f e ok parts c same short cu
       all = λ t. absurd (h.1 t);
     })
 
--- ---- why a value was not read, and why an input does not end behind one
+-- ---- why a value was not read, and why an input does not end after one
 
 -- little was taken
 pub none_little : (p : Profile) (left : List ℕ) (old new : Option (List ℕ)) (e : ListFault) → ReadsNone p left old new e
@@ -321,13 +321,13 @@ none_part p left old new (unread.Refused f) h r = absurd cc
 none_part p left old new unread.Read h r = h
 none_part p left old new unread.Memory h r = absurd cc
 
--- what was taken of the source behind a value
+-- what was taken of the source after a value
 pub record TakesPast (left : List ℕ) (mid new : Option (List ℕ)) : Type 0 where
   pub given : List ℕ
   pub taken : Consumes mid new given
   pub near : length (left ++ given) ≤ piece_len
 
--- little was taken if the input continues behind the value
+-- little was taken if the input continues after the value
 pub past_end : (len : ℕ) (left : List ℕ) (mid new : Option (List ℕ)) (e : ListFault) → EndsNot len left mid new e
     → TakesPast left mid new
 past_end len left mid new (unread.Refused f) h = record { given = h.1.given; taken = h.1.taken; near = h.1.near }
@@ -338,7 +338,7 @@ past_end len left mid new unread.Read h = record {
 }
 past_end len left mid new unread.Memory h = absurd h
 
--- if a read failed behind a value, nothing was left of the last pull and nothing more came
+-- if a read failed after a value, nothing was left of the last pull and nothing more came
 pub end_kept : (len : ℕ) (left : List ℕ) (mid new : Option (List ℕ)) (e : ListFault) → EndsNot len left mid new e
     → is_failed_pull e ≡ true → (left ≡ []) × Consumes mid new []
 end_kept len left mid new (unread.Refused f) h r = absurd cc

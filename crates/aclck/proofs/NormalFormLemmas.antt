@@ -12,7 +12,7 @@ use Rattle.acl_eval.specs.Grant.{SameGrants}
 use Rattle.acl_eval.proofs.Same.{equivalence}
 use Rattle.acl_normal.specs.Normal.{IsNormal}
 use Rattle.acl_normal.specs.NormalForm.{IsNormalFormOf, Normalizes}
-use Rattle.acl_normal.proofs.unique.Spelled.{IsForm, form_of, forms_tell}
+use Rattle.acl_normal.proofs.unique.Spelled.{IsForm, form_is, form_of, forms_tell}
 use Rattle.acl_normal.proofs.unique.Unique.{unique}
 use Rattle.aclck.specs.Answer.{done}
 use Rattle.aclck.specs.Laws.{TellsListsApart}
@@ -23,12 +23,6 @@ use Rattle.aclck.specs.declared.answer.Outcome.TheVariants as outcome
 pub one_of : (p : Profile) (list other : List Ace) (x : List ℕ) → IsProfile p → Xdr p list x → Xdr p other x
     → list ≡ other
 one_of p list other x is h k = (one p list other x x [] [] is h k refl).0
-
--- the list that was written is a form of the list that was read
-form_is : (p : Profile) (list : List Ace) (x a : List ℕ) → IsProfile p → Xdr p list x → (h : Normalizes p x a)
-    → IsForm p list h.form
-form_is p list x a is read h = subst (λ source. IsForm p source h.form) (one_of p h.source list x is h.read read)
-    (form_of p h.source h.form is h.read.accepted h.is_form)
 
 -- what holds if and only if two texts are equal also holds for two texts that are equal to these
 pub same_or_not : {Same : Type 0} (a b one two : List ℕ) → a ≡ one → b ≡ two → (one ≡ two) ↔ Same → (a ≡ b) ↔ Same

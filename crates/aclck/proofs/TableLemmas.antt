@@ -49,7 +49,7 @@ none_placed (default name value ∷ ts) i none = none_placed ts _ none
 none_placed (flag name ∷ ts) i none = none_placed ts _ none
 none_placed (any_words ∷ ts) i none = absurd cc
 
--- if at most one argument takes words, no rule with a place is behind its rule
+-- if at most one argument takes words, no rule with a place is after its rule
 one_early : (terms : List Term) (n : ℕ) → is_sound terms ≡ true
     → n ≡ placed (filled_from 1 (map rule_from terms))
     → list_any (is_early_multiple n) (filled_from 1 (map rule_from terms)) ≡ false

@@ -1,13 +1,15 @@
--- What `parse` reads of digits.
-use Rattle.std.proofs.Common.{◌≡◌, ◌∙◌, ◌≤◌, ◌<◌, ◌^◌, ℕ, true, List, [], ◌∷◌, ap, arith, get_or, length, sym, subst}
-use Rattle.std.specs.Prelude.{◌==◌, ◌≢◌, MatchResult, Result, Ok, Err, not}
+-- What `parse` reads of digits, and letters as permissions.
+use Rattle.std.proofs.Common.{◌≡◌, ◌∙◌, ◌≤◌, ◌<◌, ◌^◌, ℕ, true, List, [], ◌∷◌, ap, arith, get_or, length, refl, sym, subst}
+use Rattle.std.specs.Prelude.{◌==◌, ◌&&◌, ◌||◌, ◌≢◌, Bool, MatchResult, Result, Ok, Err, false, not}
 use Rattle.std.specs.Char.{digit_value, is_digit}
 use Rattle.std.specs.List.{list_all}
 use Rattle.std.specs.Str.Parse.{AllDigits, IsNumeral, ParsesUnsigned, digits_value, without_leading_plus}
 use Rattle.std.proofs.lemmas.Bool.{ltb-true}
 use Rattle.std.proofs.lemmas.Str.Parse.{without_leading_plus_none}
 use Rattle.acl_perm.proofs.Bools.{and_true}
-use Rattle.aclck.specs.Values.{are_digits}
+use Rattle.acl_perm.specs.Ascii.{hyphen, letter_r, letter_w, letter_x}
+use Rattle.acl_posix.specs.Fields.{is_permission}
+use Rattle.aclck.specs.Values.{are_digits, is_letter}
 
 -- bytes that pass the test for digits are digits
 all_digits : (radix : ℕ) (bs : List ℕ) → list_all (λ b. is_digit b radix) bs ≡ true → AllDigits radix bs
@@ -52,3 +54,18 @@ parsed k radix bs (Err e) low h read =
       subst (λ ds. digits_value radix ds < 2 ^ k) (sym same) small,
     ) in
     omega (arith, large)
+
+-- if one of three tests holds, one of four holds
+wider : (r w x h : Bool) → (r || w || x) ≡ true → (r || w || x || h) ≡ true
+wider true w x h e = refl
+wider false true x h e = refl
+wider false false true h e = refl
+wider false false false h e = absurd cc
+
+-- the letters r, w and x are permissions
+pub are_permissions : (bs : List ℕ) → list_all is_letter bs ≡ true → list_all is_permission bs ≡ true
+are_permissions [] h = refl
+are_permissions (b ∷ bs) h =
+    let both = and_true (is_letter b) (list_all is_letter bs) h in
+    let one = wider (b == letter_r) (b == letter_w) (b == letter_x) (b == hyphen) both.0 in
+    subst (λ t. (t && list_all is_permission bs) ≡ true) (sym one) (are_permissions bs both.1)

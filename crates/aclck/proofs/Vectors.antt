@@ -7,6 +7,7 @@ use Rattle.clap.specs.Words.{Row, Text}
 use Rattle.acl_perm.specs.Profile.{Profile, full, narrow}
 use Rattle.acl_nfs4.specs.AceText.{space}
 use Rattle.acl_nfs4.specs.BitNames.{set_named}
+use Rattle.acl_posix.specs.Fields.{id_of, permissions_of}
 use Rattle.acl_posix.specs.Names.{empty_table}
 use Rattle.acl_eval.specs.declared.inherit.ChildKind.TheVariants as kind
 use Rattle.aclck.specs.Line.{Term, app_from, default, flag, is_given, is_taken, optional, rows_at, value_of}
@@ -50,6 +51,7 @@ check owner user groups mask profile = record {
   profile = profile;
 }
 
+-- what lines of `check-nfs` ask for, and lines that ask for nothing
 check_nfs_lines :
     -- an option and its value in two words
     Asks (codes "check-nfs --owner o --group g --user u --mask READ_DATA")
@@ -82,7 +84,7 @@ check_nfs_lines :
     × AsksNothing (codes "check-nfs --owner=o --group=g --user=u --mask=none ")
     -- a value that begins with a hyphen is no value if it is a word of its own
     × AsksNothing (codes "check-nfs --owner -x --group=g --user=u --mask=none")
-    -- it is a value behind an equals sign; after two hyphens every word is a group
+    -- it is a value after an equals sign; after two hyphens every word is a group
     × Asks (codes "check-nfs --owner=-x --group=g --user=u --mask=none -- --help -")
     name.CheckNfs (check (codes "-x") (codes "u") (codes "--help" ∷ codes "-" ∷ []) 0 full)
     -- a word that asks for help is an unknown argument
@@ -95,6 +97,7 @@ unfolding clap_on_literals is_taken rows_at app_from task_named check_nfs_in mas
     profile_value
 check_nfs_lines = (refl, refl, refl, refl, refl, refl, refl, refl, refl, refl, refl, refl, refl, refl, refl, refl, refl)
 
+-- lines without the name of a command ask for nothing
 no_command :
     -- a first word that names no command
     AsksNothing (codes "help")
@@ -104,6 +107,7 @@ no_command = (refl, refl)
 
 -- ---- `child` and `mode`
 
+-- what lines of `child` ask for, and lines that ask for nothing
 child_lines :
     -- what is created, without a profile
     Asks (codes "child --kind file") name.Child (record { created = kind.File; profile = full })
@@ -117,10 +121,11 @@ child_lines :
 unfolding clap_on_literals is_taken rows_at app_from task_named child_in kind_value profile_in profile_value
 child_lines = (refl, refl, refl, refl)
 
+-- what lines of `mode` ask for, and lines that ask for nothing
 mode_lines :
     -- no word but the command's own
     Asks (codes "mode") name.Mode full
-    -- two hyphens with no word behind them
+    -- two hyphens with no word after them
     × Asks (codes "mode --profile narrow --") name.Mode narrow
     -- a word that belongs to no option
     × AsksNothing (codes "mode 660")
@@ -131,6 +136,7 @@ mode_lines = (refl, refl, refl, refl)
 
 -- ---- `show-posix`
 
+-- what lines of `show-posix` ask for, and lines that ask for nothing
 show_posix_lines :
     -- the canonical form is the default
     Asks (codes "show-posix") name.ShowPosix (record { form = form.Canonical; names = empty_table })
@@ -143,15 +149,17 @@ show_posix_lines :
     name.ShowPosix (record { form = form.Short; names = empty_table })
     -- a word that names no form
     × AsksNothing (codes "show-posix --form=long")
-unfolding clap_on_literals is_taken rows_at app_from task_named show_posix_in form_value names_value named_id id_value
+unfolding clap_on_literals is_taken rows_at app_from task_named show_posix_in form_value names_value named_id
+    id_value id_of
 show_posix_lines = (refl, refl, refl, refl, refl)
 
+-- the half of the table, the name and the id of some words
 named_words :
     -- a name is cut at its last equals sign; an id may begin with zeros
     (named_id (codes "u:a=b=0005") ≡ Some (record { half = words.users; name = codes "a=b"; id = 5 }))
     -- a group name may have a colon
     × (named_id (codes "g:a:b=7") ≡ Some (record { half = words.groups; name = codes "a:b"; id = 7 }))
-unfolding named_id id_value
+unfolding named_id id_value id_of
 named_words = (refl, refl)
 
 -- ---- `check-posix`
@@ -165,6 +173,7 @@ check_ids groups want = record {
   names = empty_table;
 }
 
+-- what lines of `check-posix` ask for, and lines that ask for nothing
 check_posix_lines :
     -- groups have commas between them, and letters are in any order
     Asks (codes "check-posix --owner=1 --group=2 --user=3 --groups=50,060 --want=xr")
@@ -178,12 +187,13 @@ check_posix_lines :
     × AsksNothing (codes "check-posix --owner=1 --group=2 --user=3 --want=rr")
     -- 4294967295 is no id
     × AsksNothing (codes "check-posix --owner=4294967295 --group=2 --user=3 --want=r")
-unfolding clap_on_literals is_taken rows_at app_from task_named check_posix_in ids_value want_value
-    names_value named_id id_value
+unfolding clap_on_literals is_taken rows_at app_from task_named check_posix_in ids_value want_value permissions_of
+    names_value named_id id_value id_of
 check_posix_lines = (refl, refl, refl, refl, refl)
 
 -- ---- `calc-mask`, `chmod` and `create`
 
+-- what a line of `calc-mask` asks for, and lines that ask for nothing
 calc_mask_lines :
     -- no name at all
     Asks (codes "calc-mask") name.CalcMask empty_table
@@ -191,9 +201,10 @@ calc_mask_lines :
     × AsksNothing (codes "calc-mask --mode=7")
     -- a word that is no name
     × AsksNothing (codes "calc-mask staff=7")
-unfolding clap_on_literals is_taken rows_at app_from task_named names_value named_id id_value
+unfolding clap_on_literals is_taken rows_at app_from task_named names_value named_id id_value id_of
 calc_mask_lines = (refl, refl, refl)
 
+-- what a line of `chmod` asks for, and lines that ask for nothing
 chmod_lines :
     -- a mode may begin with a zero
     Asks (codes "chmod --mode=0660") name.Chmod (record { mode = 432; names = empty_table })
@@ -201,9 +212,10 @@ chmod_lines :
     × AsksNothing (codes "chmod --mode=00660")
     -- 1000 is above 777
     × AsksNothing (codes "chmod --mode=1000")
-unfolding clap_on_literals is_taken rows_at app_from task_named chmod_in mode_value names_value named_id id_value
+unfolding clap_on_literals is_taken rows_at app_from task_named chmod_in mode_value names_value named_id id_value id_of
 chmod_lines = (refl, refl, refl)
 
+-- what lines of `create` ask for, and a line that asks for nothing
 create_lines :
     -- a directory
     Asks (codes "create --mode=640 --umask=077 --dir")
@@ -213,17 +225,18 @@ create_lines :
     name.Create (record { mode = 438; umask = 18; is_directory = false; names = empty_table })
     -- the umask is required
     × AsksNothing (codes "create --mode=640")
-unfolding clap_on_literals is_taken rows_at app_from task_named create_in mode_value names_value named_id id_value
+unfolding clap_on_literals is_taken rows_at app_from task_named create_in mode_value names_value named_id id_value id_of
 create_lines = (refl, refl, refl)
 
 -- ---- `bridge`
 
+-- what a line of `bridge` asks for, and a line that asks for nothing
 bridge_lines :
     -- no name at all
     Asks (codes "bridge") name.Bridge empty_table
     -- there is no profile to choose
     × AsksNothing (codes "bridge --profile=full")
-unfolding clap_on_literals is_taken rows_at app_from task_named names_value named_id id_value
+unfolding clap_on_literals is_taken rows_at app_from task_named names_value named_id id_value id_of
 bridge_lines = (refl, refl)
 
 -- ---- arguments of other kinds, in a command x that has them
@@ -252,6 +265,7 @@ rows_on line = rows_at (app_from (codes "x") terms) (words_on line)
 abbrev takes : Text → Bool
 takes line = is_taken (app_from (codes "x") terms) (words_on line)
 
+-- the values of arguments that are given, and of arguments that are absent
 given_arguments :
     -- a flag that is given
     (is_given quiet (rows_on (codes "x --quiet")) ≡ true)
@@ -274,6 +288,7 @@ given_arguments = (refl, refl, refl, refl, refl, refl, refl, refl)
 
 -- ---- `show-nfs` and `encode`
 
+-- what a line of `show-nfs` asks for, and a line that asks for nothing
 show_nfs_lines :
     -- without a profile the full profile is meant
     Asks (codes "show-nfs") name.ShowNfs full
@@ -282,6 +297,7 @@ show_nfs_lines :
 unfolding clap_on_literals is_taken rows_at app_from task_named profile_in profile_value
 show_nfs_lines = (refl, refl)
 
+-- what a line of `encode` asks for
 encode_lines :
     -- the narrow profile
     Asks (codes "encode --profile narrow") name.Encode narrow
@@ -290,6 +306,7 @@ encode_lines = refl
 
 -- ---- `normalize`
 
+-- what lines of `normalize` ask for, and a line that asks for nothing
 normalize_lines :
     -- without the flag one form is meant
     Asks (codes "normalize") name.Normalize (record { inherit = false; profile = full })
@@ -305,6 +322,7 @@ normalize_lines = (refl, refl, refl, refl)
 
 -- ---- `table` and `compare`
 
+-- what lines of `table` ask for, and lines that ask for nothing
 table_lines :
     -- a second name of a right, without a profile
     Asks (codes "table --bit ADD_SUBDIRECTORY") name.Table (record { bit = 4; profile = full })
@@ -313,13 +331,14 @@ table_lines :
     name.Table (record { bit = 32; profile = narrow })
     -- a right that the profile does not have
     × AsksNothing (codes "table --bit=WRITE_RETENTION --profile=narrow")
-    -- one right is asked for, and not two
+    -- one right is requested, and not two
     × AsksNothing (codes "table --bit=READ_DATA|EXECUTE")
     -- the right is required
     × AsksNothing (codes "table")
 unfolding clap_on_literals is_taken rows_at app_from task_named table_in right_named set_named profile_in profile_value
 table_lines = (refl, refl, refl, refl, refl)
 
+-- what lines of `compare` ask for, and a line that asks for nothing
 compare_lines :
     -- no word but the command's own
     Asks (codes "compare") name.Compare full

@@ -6,25 +6,25 @@ use Rattle.acl_perm.specs.Devices.{failures_after}
 use Rattle.acl_posix.specs.Grammar.{Reads}
 use Rattle.acl_posix.specs.Names.{Table}
 use Rattle.acl_posix.specs.declared.file.PosixFile.{PosixFile}
-use Rattle.aclck.specs.Answer.{Answer, FailsBy, Finishes, cause_of, done, is_source, refused}
+use Rattle.aclck.specs.Answer.{Answer, FailsBy, Finishes, origin_of, done, is_source, refused}
 use Rattle.aclck.specs.PosixAnswer.{WritesAnswer}
 use Rattle.aclck.specs.Run.{Runs, of_text}
 use Rattle.aclck.specs.internal.Reading.{HasInput}
 use Rattle.aclck.specs.internal.Writing.{WritesText, WritesTextPart}
-use Rattle.aclck.specs.declared.answer.Cause.{Cause}
-use Rattle.aclck.specs.declared.answer.Cause.TheVariants as cause
+use Rattle.aclck.specs.declared.answer.Origin.{Origin}
+use Rattle.aclck.specs.declared.answer.Origin.TheVariants as origin
 use Rattle.aclck.specs.declared.answer.Outcome.{Outcome}
 use Rattle.aclck.specs.declared.answer.Outcome.TheVariants as outcome
 use Rattle.aclck.specs.declared.answer.RunFault.{RunFault}
 use Rattle.aclck.specs.declared.answer.RunFault.TheVariants as fault
 
--- what was written of the text is what the fault says, for each cause of a fault
+-- what was written of the text is what the fault says, for each origin of a fault
 fails_so : (Means : List ℕ → Answer → Type 0) (known held holds : Option (List ℕ)) (o : Outcome) (text : List ℕ)
-    (e : RunFault) (c : Cause) (input : List ℕ) → IfSome known (λ bytes. input ≡ bytes) → Means input (done o text)
+    (e : RunFault) (c : Origin) (input : List ℕ) → IfSome known (λ bytes. input ≡ bytes) → Means input (done o text)
     → WritesTextPart text held holds c → FailsBy Means known held holds e c
-fails_so Means known held holds o text e cause.Input input is means part = absurd part
-fails_so Means known held holds o text e cause.Source input is means part = absurd part
-fails_so Means known held holds o text e (cause.Sink w) input is means part = record {
+fails_so Means known held holds o text e origin.Input input is means part = absurd part
+fails_so Means known held holds o text e origin.Source input is means part = absurd part
+fails_so Means known held holds o text e (origin.Sink w) input is means part = record {
   input = input;
   outcome = o;
   text = text;
@@ -33,15 +33,15 @@ fails_so Means known held holds o text e (cause.Sink w) input is means part = re
   short = part.0;
   written = part.1;
 }
-fails_so Means known held holds o text e cause.Memory input is means part = tt
+fails_so Means known held holds o text e origin.Memory input is means part = tt
 
 -- the fault is none of the source
-not_source : (text : List ℕ) (held holds : Option (List ℕ)) (c : Cause) → WritesTextPart text held holds c
+not_source : (text : List ℕ) (held holds : Option (List ℕ)) (c : Origin) → WritesTextPart text held holds c
     → is_source c ≡ false
-not_source text held holds cause.Input part = absurd part
-not_source text held holds cause.Source part = absurd part
-not_source text held holds (cause.Sink w) part = refl
-not_source text held holds cause.Memory part = refl
+not_source text held holds origin.Input part = absurd part
+not_source text held holds origin.Source part = absurd part
+not_source text held holds (origin.Sink w) part = refl
+not_source text held holds origin.Memory part = refl
 
 -- the text of the answer to the input was written
 pub written_answer : {S K : Type 0} (Means : List ℕ → Answer → Type 0) {Holds : List ℕ → Type 0} {o : Outcome}
@@ -60,26 +60,22 @@ written_answer Means {Holds} {o} {text} {left} {reads_failed} {source} {source_a
         means = means found.input found.holds;
         written = writes.done.1;
       });
-      whole = end;
-      bound = tt;
-      stopped = tt;
-      ended = tt;
-      unwritten = writes.unwritten;
-      reads = read;
-      writes = writes.writes;
+      reading = record { whole = end; bound = tt; stopped = tt; ended = tt; reads = read };
+      writing = record { unwritten = writes.unwritten; writes = writes.writes };
     }
 written_answer Means {Holds} {o} {text} {left} {reads_failed} {source} {source_after} {holds} {writes_failed} {sink}
     {sink_after} (Err e) writes found means end read = record {
-      ran = fails_so Means (left source) (holds sink) (holds sink_after) o text e (cause_of e) found.input
+      ran = fails_so Means (left source) (holds sink) (holds sink_after) o text e (origin_of e) found.input
           found.is_input (means found.input found.holds) writes.part;
-      whole = tt;
-      bound = tt;
-      stopped = λ is. tt;
-      ended = λ is. end;
-      unwritten = writes.unwritten;
-      reads = read ∙ sym (ap (failures_after (reads_failed source))
-          (not_source text (holds sink) (holds sink_after) (cause_of e) writes.part));
-      writes = writes.writes;
+      reading = record {
+        whole = tt;
+        bound = tt;
+        stopped = λ is. tt;
+        ended = λ is. end;
+        reads = read ∙ sym (ap (failures_after (reads_failed source))
+            (not_source text (holds sink) (holds sink_after) (origin_of e) writes.part));
+      };
+      writing = record { unwritten = writes.unwritten; writes = writes.writes };
     }
 
 -- a text was written that is made of the file which the input spells
@@ -105,11 +101,6 @@ pub past_limits : {S K : Type 0} (Means : List ℕ → Answer → Type 0) {Holds
     → Runs Means of_text left reads_failed source source_after holds writes_failed sink sink (Err fault.Limits)
 past_limits Means found means end read = record {
   ran = record { input = found.input; is_input = found.is_input; means = means found.input found.holds };
-  whole = tt;
-  bound = tt;
-  stopped = λ is. tt;
-  ended = λ is. end;
-  unwritten = inr refl;
-  reads = read;
-  writes = refl;
+  reading = record { whole = tt; bound = tt; stopped = λ is. tt; ended = λ is. end; reads = read };
+  writing = record { unwritten = inr refl; writes = refl };
 }

@@ -8,8 +8,8 @@ use Rattle.acl_perm.specs.declared.whole.ReadFault.TheVariants as read
 use Rattle.acl_nfs4.specs.Fault.{IsWholeFault}
 use Rattle.acl_nfs4.specs.declared.xdr.fault.Fault.{Fault}
 use Rattle.acl_nfs4.specs.declared.xdr.fault.Reason.{Reason}
-use Rattle.aclck.specs.declared.answer.Cause.{Cause}
-use Rattle.aclck.specs.declared.answer.Cause.TheVariants as cause
+use Rattle.aclck.specs.declared.answer.Origin.{Origin}
+use Rattle.aclck.specs.declared.answer.Origin.TheVariants as origin
 use Rattle.aclck.specs.declared.answer.Outcome.{Outcome}
 use Rattle.aclck.specs.declared.answer.Outcome.TheVariants as outcome
 use Rattle.aclck.specs.declared.answer.RunFault.{RunFault}
@@ -36,6 +36,11 @@ decision false = codes "denied"
 abbrev pub decision_line : Outcome → List ℕ
 decision_line o = decision (is_yes o) ++ line_feed ∷ []
 
+-- a text with an outcome that is never No, or a fault that the input has
+abbrev pub AnswersYes : (List ℕ → Type 0) → (RunFault → Type 0) → Answer → Type 0
+AnswersYes IsMade Has (done o text) = (o ≡ outcome.Yes) × IsMade text
+AnswersYes IsMade Has (refused f) = Has f
+
 -- the fault is one that a list or lists have, in this sense of having one
 pub record IsListFault (Has : ℕ → Reason → Type 0) (f : RunFault) : Type 0 where
   pub found : Fault
@@ -48,46 +53,46 @@ IsXdrFault p input = IsListFault (IsWholeFault p input)
 
 -- ---- faults
 
--- the cause of a fault: the one table of all faults
-abbrev pub cause_of : RunFault → Cause
-cause_of (fault.Nfs f) = cause.Input
-cause_of (fault.NfsText f) = cause.Input
-cause_of (fault.Posix f) = cause.Input
-cause_of fault.Limits = cause.Input
-cause_of fault.Read = cause.Source
-cause_of (fault.Write w) = cause.Sink w
-cause_of fault.Memory = cause.Memory
+-- where a fault comes from: the one table of all faults
+abbrev pub origin_of : RunFault → Origin
+origin_of (fault.Nfs f) = origin.Input
+origin_of (fault.NfsText f) = origin.Input
+origin_of (fault.Posix f) = origin.Input
+origin_of fault.Limits = origin.Input
+origin_of fault.Read = origin.Source
+origin_of (fault.Write w) = origin.Sink w
+origin_of fault.Memory = origin.Memory
 
--- one of four, by the cause of a fault: the input, the source, the sink, or memory
-abbrev pub by_cause : {X : Type 0} → X → X → X → X → Cause → X
-by_cause input source sink memory cause.Input = input
-by_cause input source sink memory cause.Source = source
-by_cause input source sink memory (cause.Sink w) = sink
-by_cause input source sink memory cause.Memory = memory
+-- one of four, by the origin of a fault: the input, the source, the sink, or memory
+abbrev pub by_origin : {X : Type 0} → X → X → X → X → Origin → X
+by_origin input source sink memory origin.Input = input
+by_origin input source sink memory origin.Source = source
+by_origin input source sink memory (origin.Sink w) = sink
+by_origin input source sink memory origin.Memory = memory
 
--- the cause is the input
-abbrev pub is_input : Cause → Bool
-is_input = by_cause true false false false
+-- the origin is the input
+abbrev pub is_input : Origin → Bool
+is_input = by_origin true false false false
 
--- the cause is the source
-abbrev pub is_source : Cause → Bool
-is_source = by_cause false true false false
+-- the origin is the source
+abbrev pub is_source : Origin → Bool
+is_source = by_origin false true false false
 
--- the cause is the sink
-abbrev pub is_sink : Cause → Bool
-is_sink = by_cause false false true false
+-- the origin is the sink
+abbrev pub is_sink : Origin → Bool
+is_sink = by_origin false false true false
 
 -- the fault is one of the input
 abbrev pub is_input_fault : RunFault → Bool
-is_input_fault e = is_input (cause_of e)
+is_input_fault e = is_input (origin_of e)
 
 -- the fault is one of the source
 abbrev pub is_read : RunFault → Bool
-is_read e = is_source (cause_of e)
+is_read e = is_source (origin_of e)
 
 -- the fault is one of the sink
 abbrev pub is_write : RunFault → Bool
-is_write e = is_sink (cause_of e)
+is_write e = is_sink (origin_of e)
 
 -- the faults of whole reads as an engine reports them
 abbrev pub run_fault_of : ReadFault → RunFault
@@ -130,18 +135,18 @@ pub record Refuses (Means : List ℕ → Answer → Type 0) (known : Option (Lis
   pub is_input : IfSome known (λ bytes. input ≡ bytes)
   pub means : Means input (refused f)
 
--- what a fault of this cause says about the input and about what was written
+-- what a fault of this origin says about the input and about what was written
 abbrev pub FailsBy : (List ℕ → Answer → Type 0) → Option (List ℕ) → Option (List ℕ) → Option (List ℕ)
-    → RunFault → Cause → Type 0
-FailsBy Means known held holds e cause.Input = Refuses Means known e
-FailsBy Means known held holds e cause.Source = Unit {0}
-FailsBy Means known held holds e (cause.Sink w) = Begins Means known held holds w.written
-FailsBy Means known held holds e cause.Memory = Unit {0}
+    → RunFault → Origin → Type 0
+FailsBy Means known held holds e origin.Input = Refuses Means known e
+FailsBy Means known held holds e origin.Source = Unit {0}
+FailsBy Means known held holds e (origin.Sink w) = Begins Means known held holds w.written
+FailsBy Means known held holds e origin.Memory = Unit {0}
 
 -- what a fault says about the input and about what was written
 abbrev pub Fails :
     (List ℕ → Answer → Type 0) → Option (List ℕ) → Option (List ℕ) → Option (List ℕ) → RunFault → Type 0
-Fails Means known held holds e = FailsBy Means known held holds e (cause_of e)
+Fails Means known held holds e = FailsBy Means known held holds e (origin_of e)
 
 -- a run that should find an input's answer and write its text
 abbrev pub Ran :

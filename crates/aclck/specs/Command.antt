@@ -38,51 +38,69 @@ IsStopped task known left = IsSomeAnd task (λ t. Stops (shape_of t) known left)
 abbrev pub IsEnded : Option Task → Option (List ℕ) → Type 0
 IsEnded task left = IsSomeAnd task (λ t. Ends (shape_of t) left)
 
--- the effect of a run of the program at these words on a source, on a sink and on the sink of its faults, before and
--- after, with the exit status: what the source has left, what the sink holds, and how many of their calls failed
-pub record RunsWords {S K E : Type 0} (words : List Text)
-    (left : S → Option (List ℕ)) (reads_failed : S → ℕ) (source source_after : S)
-    (holds : K → Option (List ℕ)) (writes_failed : K → ℕ) (out out_after : K)
-    (err err_after : E) (status : ℕ) : Type 0 where
+-- what the status says about the words
+pub record StatusOfWords (words : List Text) (status : ℕ) : Type 0 where
   -- the status is at most 4
   pub known : status ≤ 4
   -- below 3 the words ask for a task
   pub named : status < 3 → IsSome (task_of words)
-  -- at 0 and 1 the task ran to its end, and the text of its answer was written
-  pub done : status < 2 → IsDone (task_of words) (left source) (holds out) (holds out_after) (outcome_at status)
+  -- at 3 the words ask for nothing
+  pub usage : status ≡ 3 → task_of words ≡ None
+  -- if the first word names no command, or there is no word, the status is 3, also if memory runs out
+  pub unnamed : is_command words ≡ false → status ≡ 3
+
+-- what the status says about the input of a task: what its source has left before and after, and how many of its calls
+-- failed
+pub record StatusOfInput {S : Type 0} (task : Option Task) (left : S → Option (List ℕ)) (reads_failed : S → ℕ)
+    (source source_after : S) (status : ℕ) : Type 0 where
   -- at 0 and 1 the input was read to its end
   pub whole : status < 2 → IsAtEnd (left source_after)
   -- at 2 the input has a fault
-  pub refused : status ≡ 2 → IsRefused (task_of words) (left source)
-  -- at 3 the words ask for nothing
-  pub usage : status ≡ 3 → task_of words ≡ None
+  pub refused : status ≡ 2 → IsRefused task (left source)
   -- at 3 no input was read
   pub unread : status ≡ 3 → source_after ≡ source
-  -- if the first word names no command, or there is no word, the status is 3, also if memory runs out
-  pub unnamed : is_command words ≡ false → status ≡ 3
   -- little of the input was taken, or nothing
-  pub bound : (source_after ≡ source) ⊎ IsTaken (task_of words) (left source) (left source_after)
+  pub bound : (source_after ≡ source) ⊎ IsTaken task (left source) (left source_after)
   -- if a read failed, what was taken does not refuse a list
-  pub stopped : (reads_failed source_after ≡ reads_failed source)
-      ⊎ IsStopped (task_of words) (left source) (left source_after)
+  pub stopped : (reads_failed source_after ≡ reads_failed source) ⊎ IsStopped task (left source) (left source_after)
   -- a text that is refused was read to its end
-  pub ended : status ≡ 2 → IsEnded (task_of words) (left source_after)
+  pub ended : status ≡ 2 → IsEnded task (left source_after)
+
+-- what the status says about the output of a task over an input that may be known: what its sink holds before and
+-- after, how many of the sink's calls failed, and the sink of the faults before and after
+pub record StatusOfOutput {K E : Type 0} (task : Option Task) (known : Option (List ℕ))
+    (holds : K → Option (List ℕ)) (writes_failed : K → ℕ) (out out_after : K) (err err_after : E) (status : ℕ)
+    : Type 0 where
+  -- at 0 and 1 the task ran to its end, and the text of its answer was written
+  pub done : status < 2 → IsDone task known (holds out) (holds out_after) (outcome_at status)
   -- at 2 and 3 nothing was written
   pub unwritten : 2 ≤ status → status ≤ 3 → out_after ≡ out
   -- at 4 nothing was written, or a proper beginning of the text of the task's answer, and then one write failed
-  pub begun : status ≡ 4 → (out_after ≡ out)
-      ⊎ ((writes_failed out_after ≡ one_more (writes_failed out))
-      × IsBegun (task_of words) (left source) (holds out) (holds out_after))
+  pub begun : status ≡ 4 → (out_after ≡ out) ⊎ ((writes_failed out_after ≡ one_more (writes_failed out))
+      × IsBegun task known (holds out) (holds out_after))
   -- at 0 and 1 nothing was written to the sink of faults
   pub unreported : status < 2 → err_after ≡ err
+
+-- what the status says about the numbers of reads and of writes that failed, before and after
+pub record StatusOfFailures (reads reads_after writes writes_after status : ℕ) : Type 0 where
   -- below 4 no read and no write failed
-  pub none_failed : status < 4
-      → (reads_failed source_after ≡ reads_failed source) × (writes_failed out_after ≡ writes_failed out)
+  pub none_failed : status < 4 → (reads_after ≡ reads) × (writes_after ≡ writes)
   -- at most one read failed
-  pub one_read : (reads_failed source_after ≡ reads_failed source)
-      ⊎ (reads_failed source_after ≡ one_more (reads_failed source))
+  pub one_read : (reads_after ≡ reads) ⊎ (reads_after ≡ one_more reads)
   -- at most one write failed
-  pub one_write : (writes_failed out_after ≡ writes_failed out)
-      ⊎ (writes_failed out_after ≡ one_more (writes_failed out))
+  pub one_write : (writes_after ≡ writes) ⊎ (writes_after ≡ one_more writes)
   -- not both a read and a write failed
-  pub one_device : (reads_failed source_after ≡ reads_failed source) ⊎ (writes_failed out_after ≡ writes_failed out)
+  pub one_device : (reads_after ≡ reads) ⊎ (writes_after ≡ writes)
+
+-- the effect of a run of the program at these words on a source, on a sink and on the sink of its faults, before and
+-- after, with the exit status
+pub record RunsWords {S K E : Type 0} (words : List Text)
+    (left : S → Option (List ℕ)) (reads_failed : S → ℕ) (source source_after : S)
+    (holds : K → Option (List ℕ)) (writes_failed : K → ℕ) (out out_after : K)
+    (err err_after : E) (status : ℕ) : Type 0 where
+  pub of_words : StatusOfWords words status
+  pub of_input : StatusOfInput (task_of words) left reads_failed source source_after status
+  pub of_output :
+      StatusOfOutput (task_of words) (left source) holds writes_failed out out_after err err_after status
+  pub of_failures : StatusOfFailures (reads_failed source) (reads_failed source_after) (writes_failed out)
+      (writes_failed out_after) status

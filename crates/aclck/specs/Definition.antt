@@ -1,5 +1,5 @@
 -- What a command is: its words, what it makes of an input, and what kind of input that is (this library's own).
-use Rattle.std.specs.Prelude.{List, ℕ, Option}
+use Rattle.std.specs.Prelude.{List, ℕ, Option, Result}
 use Rattle.clap.specs.Words.{Row, Text}
 use Rattle.acl_perm.specs.Profile.{Profile}
 use Rattle.acl_posix.specs.Names.{Table}
@@ -7,7 +7,9 @@ use Rattle.aclck.specs.Answer.{Answer}
 use Rattle.aclck.specs.Line.{Term}
 use Rattle.aclck.specs.NameWords.{names_in, names_terms}
 use Rattle.aclck.specs.ProfileArgument.{profile_in, profile_terms}
-use Rattle.aclck.specs.Run.{Shape, of_list, of_text}
+use Rattle.aclck.specs.Run.{Runs, Shape, of_list, of_text}
+use Rattle.aclck.specs.declared.answer.Outcome.{Outcome}
+use Rattle.aclck.specs.declared.answer.RunFault.{RunFault}
 
 -- a command
 pub record Definition : Type 1 where
@@ -23,6 +25,12 @@ pub record Definition : Type 1 where
   pub Answers : Values → List ℕ → Answer → Type 0
   -- the kind of its input
   pub shape : Values → Shape
+
+-- the effect of a run of the command at these values on a source and a sink, as in `Runs`
+abbrev pub RunsCommand : {S K : Type 0} (command : Definition) → command.Values
+    → (S → Option (List ℕ)) → (S → ℕ) → S → S → (K → Option (List ℕ)) → (K → ℕ) → K → K
+    → Result Outcome RunFault → Type 0
+RunsCommand command values = Runs (command.Answers values) (command.shape values)
 
 -- a command that reads a text
 abbrev pub on_text : {V : Type 0} → Text → List Term → (List Row → Option V) → (V → List ℕ → Answer → Type 0)

@@ -36,21 +36,21 @@ ShowPosixTellsApart =
     → ShowsCanonical names input text → ShowsCanonical other_names other_input other_text
     → (text ≡ other_text) ↔ (file.access ≡ other.access) × (file.default ≡ other.default)
 
--- what `show-nfs` makes of bytes is a text that `encode` accepts, and `encode` makes these bytes of it and no others
+-- `show-nfs` makes bytes into a text that `encode` accepts, and `encode` makes this text into these bytes and no others
 abbrev pub EncodeUndoesShow : Type 0
 EncodeUndoesShow = (p : Profile) (input text bytes : List ℕ) → IsProfile p
     → ShowNfsAnswer p input (done outcome.Yes text)
     → EncodeAnswer p text (done outcome.Yes bytes) ↔ (bytes ≡ input)
 
--- what `encode` makes of the text of a list is bytes that `show-nfs` accepts, and `show-nfs` makes of them the written
--- text of that list and no other
+-- `encode` makes the text of a list into bytes that `show-nfs` accepts, and `show-nfs` makes these bytes into the
+-- written text of that list and no other
 abbrev pub ShowUndoesEncode : Type 0
 ShowUndoesEncode = (p : Profile) (input bytes text : List ℕ) (list : List Ace) → IsProfile p → IsAceText p list input
     → EncodeAnswer p input (done outcome.Yes bytes)
     → ShowNfsAnswer p bytes (done outcome.Yes text) ↔ (text ≡ ace_text list)
 
--- two inputs, each of which spells a list of a profile, get equal bytes if and only if the lists are the same for the
--- rights of the profile
+-- two inputs that each spell a list of a profile get equal bytes if and only if the lists are the same for the rights
+-- of the profile
 abbrev pub TellsListsApart : (Profile → List ℕ → List ℕ → Type 0) → (ℕ → List Ace → List Ace → Type 0) → Type 0
 TellsListsApart Gets Same =
     (p : Profile) (list other : List Ace) (input other_input output other_output : List ℕ) → IsProfile p
@@ -62,7 +62,7 @@ TellsListsApart Gets Same =
 abbrev pub NormalizeTellsApart : Type 0
 NormalizeTellsApart = TellsListsApart (λ p input output. NormalizeAnswer p input (done outcome.Yes output)) SameGrants
 
--- of its own output `normalize` makes the same bytes, and nothing else
+-- `normalize` returns its own output unchanged
 abbrev pub NormalizeTwice : Type 0
 NormalizeTwice = (p : Profile) (input once twice : List ℕ) → IsProfile p
     → NormalizeAnswer p input (done outcome.Yes once)
@@ -73,14 +73,14 @@ abbrev pub NormalizeInheritTellsApart : Type 0
 NormalizeInheritTellsApart =
     TellsListsApart (λ p input output. NormalizeInheritAnswer p input (done outcome.Yes output)) SameAtEveryPath
 
--- the text is five lists, one behind the other, each of which is its own normal form
+-- the text is five lists, one after the other, each of which is its own normal form
 pub record IsFiveForms (p : Profile) (text : List ℕ) : Type 0 where
   pub forms : FiveForms
   pub parts : text ≡ five_spellings forms
   pub own : AllByRecursion (λ form. Normalizes p (spelling form) (spelling form)) (five_lists forms)
 
--- what `normalize --inherit` makes of bytes is five lists, one behind the other, of each of which `normalize` makes the
--- same bytes
+-- what `normalize --inherit` makes of bytes is five lists, one after the other, and `normalize` leaves each of the five
+-- unchanged
 abbrev pub NormalizeInheritGivesForms : Type 0
 NormalizeInheritGivesForms = (p : Profile) (input output : List ℕ) → IsProfile p
     → NormalizeInheritAnswer p input (done outcome.Yes output) → IsFiveForms p output

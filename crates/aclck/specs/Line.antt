@@ -45,11 +45,7 @@ rule_from any_words = record (new_rule words_id) { action = Some Append }
 
 -- the id of an argument among the values of a parse
 abbrev pub term_id : Term → Text
-term_id (required name) = name
-term_id (optional name) = name
-term_id (default name value) = name
-term_id (flag name) = name
-term_id any_words = words_id
+term_id t = (rule_from t).id
 
 -- ---- commands
 

@@ -13,7 +13,7 @@ use Rattle.acl_nfs4.specs.declared.xdr.fault.Reason.{Reason}
 abbrev pub piece_len : ℕ
 piece_len = 4096
 
--- what was taken of a source ends at such an end, or at most 4,096 bytes behind it
+-- what was taken of a source ends at such an end, or at most 4,096 bytes after it
 pub record TakesTo (IsEnd : List ℕ → ℕ → Type 0) (known left : Option (List ℕ)) : Type 0 where
   pub given : List ℕ
   pub end : ℕ
@@ -29,7 +29,7 @@ pub record TakesPart (MayGoOn : List ℕ → Type 0) (known left : Option (List 
 
 -- ---- one list
 
--- the value that a text begins with ends behind so many bytes
+-- the value that a text begins with ends after this many bytes
 pub record ValueEnds (p : Profile) (text : List ℕ) (end : ℕ) : Type 0 where
   pub list : List Ace
   pub spelled : Xdr p list (take end text)
@@ -44,11 +44,11 @@ pub record RefusalEnds (p : Profile) (text : List ℕ) (end : ℕ) : Type 0 wher
 abbrev pub ListEnds : Profile → List ℕ → ℕ → Type 0
 ListEnds p text end = ValueEnds p text end ⊎ RefusalEnds p text end
 
--- what was taken of a source ends with its value or the refused field, or at most 4,096 bytes behind it
+-- what was taken of a source ends with its value or the refused field, or at most 4,096 bytes after it
 abbrev pub TakesLittle : Profile → Option (List ℕ) → Option (List ℕ) → Type 0
 TakesLittle p = TakesTo (ListEnds p)
 
--- a text that may continue: it is cut short, or it is a whole value with nothing behind it
+-- a text that may continue: it is cut short, or it is a whole value with nothing after it
 abbrev pub IsOpen : Profile → List ℕ → Type 0
 IsOpen p text = IsCutShort p text ⊎ ((list : List Ace) × Xdr p list text)
 
@@ -58,7 +58,7 @@ TakesOpen p = TakesPart (IsOpen p)
 
 -- ---- two lists
 
--- a text begins with one value, and this holds for the number of its bytes and for the bytes behind it
+-- a text begins with one value, and this holds for the number of its bytes and for the bytes after it
 pub record ValueFirst (p : Profile) (Holds : List ℕ → List ℕ → Type 0) (text : List ℕ) : Type 0 where
   pub list : List Ace
   pub first : List ℕ
@@ -67,13 +67,13 @@ pub record ValueFirst (p : Profile) (Holds : List ℕ → List ℕ → Type 0) (
   pub spelled : Xdr p list first
   pub holds : Holds first rest
 
--- the value that the rest is, or a refused field of it, ends so many bytes behind the first bytes
+-- the value that the rest is, or a refused field of it, ends this many bytes after the first bytes
 pub record EndsBehind (p : Profile) (end : ℕ) (first rest : List ℕ) : Type 0 where
   pub behind : ℕ
   pub is_end : ListEnds p rest behind
   pub is : end ≡ length first + behind
 
--- a text begins with one value, and the second value, or a refused field of it, ends so many bytes behind that
+-- a text begins with one value, and the second value, or a refused field of it, ends this many bytes after that
 abbrev pub SecondEnds : Profile → List ℕ → ℕ → Type 0
 SecondEnds p text end = ValueFirst p (EndsBehind p end) text
 
@@ -81,11 +81,11 @@ SecondEnds p text end = ValueFirst p (EndsBehind p end) text
 abbrev pub TwoEnd : Profile → List ℕ → ℕ → Type 0
 TwoEnd p text end = SecondEnds p text end ⊎ RefusalEnds p text end
 
--- what was taken of a source ends with its second value or the refused field, or at most 4,096 bytes behind it
+-- what was taken of a source ends with its second value or the refused field, or at most 4,096 bytes after it
 abbrev pub TakesLittleOfTwo : Profile → Option (List ℕ) → Option (List ℕ) → Type 0
 TakesLittleOfTwo p = TakesTo (TwoEnd p)
 
--- a text begins with one value, and the bytes behind it may continue
+-- a text begins with one value, and the bytes after it may continue
 abbrev pub SecondIsOpen : Profile → List ℕ → Type 0
 SecondIsOpen p = ValueFirst p (λ first. IsOpen p)
 

@@ -1,17 +1,17 @@
 -- The table of names that words spell: `u:NAME=ID` and `g:NAME=ID` (this library's own).
 use Rattle.std.specs.Prelude.{ℕ, ◌==◌, Option, Some, None, List, [], ◌∷◌, codes, length, nat_lt, if◌then◌else◌}
 use Rattle.std.specs.List.{after_first, before_first, position_or_len}
-use Rattle.std.specs.Option.{is_none, option_and_then, option_map}
+use Rattle.std.specs.Option.{option_and_then, option_map}
 use Rattle.std.specs.Str.{bytes_eq}
 use Rattle.clap.specs.Words.{Row, Text}
 use Rattle.acl_posix.specs.Grammar.{colon}
-use Rattle.acl_posix.specs.Names.{Table, name_fault, empty_table, with_group, with_user}
+use Rattle.acl_posix.specs.Names.{Table, empty_table, group_added, user_added}
 use Rattle.aclck.specs.Line.{Term, any_words, words_of}
 use Rattle.aclck.specs.Values.{id_value}
 
 -- ---- cuts of a word
 
--- a text that is cut at a byte: the bytes before it, and the bytes behind it
+-- a text that is cut at a byte: the bytes before it, and the bytes after it
 pub record Cut : Type 0 where
   pub before : Text
   pub behind : Text
@@ -24,7 +24,7 @@ first_cut byte text = if nat_lt (position_or_len (λ b. b == byte) text) (length
       behind = after_first (λ b. b == byte) text;
     }) else None
 
--- a byte, and the cut of the bytes behind it
+-- a byte, and the cut of the bytes after it
 abbrev pub cut_behind : ℕ → ℕ → Text → Option Cut → Option Cut
 cut_behind byte b rest None = if b == byte then Some (record { before = []; behind = rest }) else None
 cut_behind byte b rest (Some cut) = Some (record { before = b ∷ cut.before; behind = cut.behind })
@@ -64,10 +64,8 @@ named_id word = option_and_then (λ whole. option_and_then (λ front. option_and
 
 -- the table with one more name in one half, if the name may be added
 abbrev pub with_half : Half → Table → Text → ℕ → Option Table
-with_half users table name id =
-    if is_none (name_fault table.users name) then Some (with_user table name id) else None
-with_half groups table name id =
-    if is_none (name_fault table.groups name) then Some (with_group table name id) else None
+with_half users table name id = user_added table name id
+with_half groups table name id = group_added table name id
 
 -- the table with one more name, if the name may be added
 abbrev pub with_name : Table → NamedId → Option Table

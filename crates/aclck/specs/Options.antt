@@ -20,7 +20,7 @@ user_term = required (codes "user")
 abbrev pub groups_term : Term
 groups_term = optional (codes "groups")
 
--- ---- what is asked for
+-- ---- what is requested
 
 -- `--mask`, the rights that are requested
 abbrev pub mask_term : Term
@@ -50,7 +50,7 @@ inherit_term = flag (codes "inherit")
 
 -- ---- a new mode, and a new object
 
--- `--mode`, the mode that is set or asked for
+-- `--mode`, the mode that is set or requested
 abbrev pub mode_term : Term
 mode_term = required (codes "mode")
 

@@ -1,7 +1,6 @@
 -- What the engines of POSIX texts make of an input (this library's own, over acl(5)).
 use Rattle.std.specs.Prelude.{◌≡◌, List, ℕ}
-use Rattle.aclck.specs.Answer.{Answer, done, refused}
-use Rattle.aclck.specs.declared.answer.Outcome.TheVariants as outcome
+use Rattle.aclck.specs.Answer.{Answer, AnswersYes}
 use Rattle.acl_posix.specs.Grammar.{Reads}
 use Rattle.acl_posix.specs.Names.{Table}
 use Rattle.acl_posix.specs.Programs.{MakesOfFile}
@@ -17,7 +16,6 @@ pub record IsPosixFault (names : Table) (input : List ℕ) (f : RunFault) : Type
   pub is : f ≡ fault.Posix found
   pub has : IsTextFault input names found
 
--- the text that is made of the file, with an outcome that is never No, or a fault that the input has
+-- the text that is made of the file, or a fault that the input has
 abbrev pub WritesAnswer : Table → (PosixFile → List ℕ) → List ℕ → Answer → Type 0
-WritesAnswer names made input (done o text) = (o ≡ outcome.Yes) × MakesOfFile (Reads input names) made text
-WritesAnswer names made input (refused f) = IsPosixFault names input f
+WritesAnswer names made input = AnswersYes (MakesOfFile (Reads input names) made) (IsPosixFault names input)

@@ -27,7 +27,7 @@ use Rattle.aclck.specs.declared.task.Name.TheVariants as name
 use Rattle.aclck.specs.declared.task.Task.{Task as HeldTask}
 use Rattle.aclck.specs.declared.task.Task.TheVariants as held
 
--- ---- the tables, with a row a command
+-- ---- the tables, with one row per command
 
 -- the commands
 abbrev pub names : List Name

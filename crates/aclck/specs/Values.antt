@@ -1,5 +1,5 @@
 -- What single words of the command line spell (this library's own).
-use Rattle.std.specs.Prelude.{ℕ, ◌≤◌, ◌+◌, ◌*◌, ◌==◌, ◌&&◌, ◌||◌, not, Bool, Option, Some, None, List, [], ◌∷◌, bit_and, codes, length, nat_le, nat_lt, if◌then◌else◌}
+use Rattle.std.specs.Prelude.{ℕ, ◌≤◌, ◌==◌, ◌&&◌, ◌||◌, not, Bool, Option, Some, None, List, [], ◌∷◌, bit_and, codes, length, nat_le, nat_lt, if◌then◌else◌}
 use Rattle.std.specs.Char.{is_digit}
 use Rattle.std.specs.List.{list_all, slice_split}
 use Rattle.std.specs.Option.{option_and_then, option_map}
@@ -7,11 +7,11 @@ use Rattle.std.specs.Str.{bytes_eq}
 use Rattle.std.specs.Str.Parse.{digits_value}
 use Rattle.clap.specs.Words.{Text}
 use Rattle.acl_perm.specs.Ascii.{letter_r, letter_w, letter_x}
+use Rattle.acl_perm.specs.Bits.{all_mode_bits}
 use Rattle.acl_nfs4.specs.BitNames.{no_names}
 use Rattle.acl_nfs4.specs.Rights.{mask_named}
 use Rattle.acl_posix.specs.Grammar.{comma}
-use Rattle.acl_posix.specs.Fields.{occurrences}
-use Rattle.acl_posix.specs.Id.{greatest_id}
+use Rattle.acl_posix.specs.Fields.{id_of, permissions_of}
 
 -- a name has at least one byte
 abbrev pub is_name : Text → Bool
@@ -54,8 +54,7 @@ are_digits radix text = not (length text == 0) && list_all (λ b. is_digit b rad
 
 -- an id: decimal digits alone, of at most the greatest id
 unfoldable pub id_value : Text → Option ℕ
-id_value text =
-    if are_digits 10 text && nat_le (digits_value 10 text) greatest_id then Some (digits_value 10 text) else None
+id_value text = if are_digits 10 text then id_of text else None
 
 -- what all of the texts spell, if each spells something
 abbrev pub each_value : (Text → Option ℕ) → List Text → Option (List ℕ)
@@ -67,13 +66,9 @@ each_value value (text ∷ texts) =
 unfoldable pub ids_value : Text → Option (List ℕ)
 ids_value text = each_value id_value (slice_split (λ b. b == comma) text)
 
--- the greatest mode, 0o777
-abbrev pub greatest_mode : ℕ
-greatest_mode = 511
-
 -- a mode: one to four octal digits, of at most 0o777
 unfoldable pub mode_value : Text → Option ℕ
-mode_value text = if are_digits 8 text && nat_le (length text) 4 && nat_le (digits_value 8 text) greatest_mode
+mode_value text = if are_digits 8 text && nat_le (length text) 4 && nat_le (digits_value 8 text) all_mode_bits
     then Some (digits_value 8 text) else None
 
 -- r, w or x
@@ -82,10 +77,7 @@ is_letter b = (b == letter_r) || (b == letter_w) || (b == letter_x)
 
 -- the permissions that letters spell: r, w and x in any order, at least one of them and each at most once
 abbrev pub letters_value : Text → Option ℕ
-letters_value text =
-    if not (length text == 0) && list_all is_letter text && nat_le (occurrences letter_r text) 1
-    && nat_le (occurrences letter_w text) 1 && nat_le (occurrences letter_x text) 1
-    then Some (4 * occurrences letter_r text + 2 * occurrences letter_w text + occurrences letter_x text) else None
+letters_value text = if not (length text == 0) && list_all is_letter text then permissions_of text else None
 
 -- the request: letters, or `none`
 unfoldable pub want_value : Text → Option ℕ

@@ -2,7 +2,7 @@
 -- Reading: how one list and two are read from pulls
 -- Files: why the file of a text was not read
 -- Writing: how much of a text was written
--- Compared: the text and the outcome of what `acl_normal` answers
+-- Compared: the text of what `acl_normal` answers
 -- Held: a command's arguments in the program
 -- Adding: names that are cut out of words and added to a table
 -- Performing: the result of a command line, from which the status is made

@@ -1,7 +1,7 @@
 //! The result of an engine.
 ghost use Rattle.std.specs.Prelude.{◌≡◌};
 ghost use Rattle.acl_nfs4.specs.Spelling.{spelling};
-ghost use Rattle.aclck.specs.Answer.{cause_of, decision_line, is_input_fault, is_yes, run_fault_of};
+ghost use Rattle.aclck.specs.Answer.{origin_of, decision_line, is_input_fault, is_yes, run_fault_of};
 ghost use Rattle.aclck.specs.internal.Writing.{WritesText};
 
 use acl_nfs4::{AceTextFault, Acl, Fault, ReadFault, WriteFault};
@@ -10,7 +10,7 @@ use acl_posix::TextFault;
 use std::alloc::AllocError;
 use thiserror::Error;
 
-/// The outcome of a command that ran to its end. No is denied or different.
+/// The outcome of a command that ran to its end. Its exit status is 0 for Yes and 1 for No.
 #[derive(Clone, Copy, Debug, PartialEq, Eq)]
 pub enum Outcome {
     /// The answer is `granted` or `same`, or the command decides nothing and its whole output was written.
@@ -20,7 +20,7 @@ pub enum Outcome {
 }
 
 impl Outcome {
-    /// Returns the outcome for something that is granted, or is not.
+    /// Returns Yes for something that is granted, and No for something that is not.
     pub(crate) fn of(is_granted: bool) -> Outcome
         ensures { is_yes result ≡ is_granted }
     {
@@ -76,9 +76,9 @@ impl From<WriteFault> for RunFault {
     }
 }
 
-/// The cause of a fault.
+/// Where a fault comes from.
 #[derive(Clone, Copy, Debug, PartialEq, Eq)]
-pub enum Cause {
+pub enum Origin {
     /// The input is refused.
     Input,
     /// The source failed.
@@ -94,22 +94,22 @@ impl RunFault {
     pub(crate) fn is_input_fault(self) -> bool
         ensures { result ≡ is_input_fault self }
     {
-        match self.cause() {
-            Cause::Input => true,
-            Cause::Source | Cause::Sink(_) | Cause::Memory => false,
+        match self.origin() {
+            Origin::Input => true,
+            Origin::Source | Origin::Sink(_) | Origin::Memory => false,
         }
     }
 
-    /// Returns the cause of the fault: the one table of all faults.
-    fn cause(self) -> Cause
-        ensures { result ≡ cause_of self }
+    /// Returns where the fault comes from. The exit status follows from this.
+    fn origin(self) -> Origin
+        ensures { result ≡ origin_of self }
     {
         match self {
             RunFault::Nfs(_) | RunFault::NfsText(_) | RunFault::Posix(_) | RunFault::Limits =>
-                Cause::Input,
-            RunFault::Read => Cause::Source,
-            RunFault::Write(fault) => Cause::Sink(fault),
-            RunFault::Memory => Cause::Memory,
+                Origin::Input,
+            RunFault::Read => Origin::Source,
+            RunFault::Write(fault) => Origin::Sink(fault),
+            RunFault::Memory => Origin::Memory,
         }
     }
 }
@@ -124,7 +124,7 @@ impl From<AllocError> for RunFault {
     }
 }
 
-/// Returns the line that reports a decision.
+/// Returns `granted` or `denied`, with a line feed.
 pub(crate) fn decision_line(outcome: Outcome) -> &'static [u8]
     ensures { result.now ≡ decision_line outcome }
 {
@@ -134,7 +134,7 @@ pub(crate) fn decision_line(outcome: Outcome) -> &'static [u8]
     }
 }
 
-/// Writes a text, after which a command ends with this outcome.
+/// Writes the whole text of an answer, and returns the outcome. Fails if the sink fails.
 pub(crate) fn write_answer<K: Sink>(
     sink: &mut K,
     outcome: Outcome,
@@ -146,7 +146,7 @@ pub(crate) fn write_answer<K: Sink>(
     Ok(outcome)
 }
 
-/// Writes the bytes that spell a list, after which a command ends with Yes.
+/// Writes the bytes that spell a list, and returns Yes. Fails if the sink fails.
 pub(crate) fn write_list_answer<K: Sink>(sink: &mut K, list: &Acl) -> Result<Outcome, RunFault>
     ensures { WritesText Outcome.Yes (spelling list.now)
         K.contents K.failure_count sink.old sink.new result }

@@ -55,7 +55,7 @@ impl From<AllocError> for CommandFault {
 }
 
 impl CommandFault {
-    // The exit status of a run that ends with the fault.
+    // Returns 3 for usage, 2 for a refused input, and 4 for a device or memory.
     fn status(self) -> u8
         ensures { result ≡ status_of self }
     {
@@ -119,7 +119,7 @@ fn perform<'a, S: Source, K: Sink>(
     perform_named(alloc, name, &matches, source, out)
 }
 
-// Runs a command with the values of its words.
+// Reads the values of the words first, so that no input is read if one of them is bad.
 fn perform_named<S: Source, K: Sink>(
     alloc: Global,
     name: Name,
@@ -137,7 +137,7 @@ fn perform_named<S: Source, K: Sink>(
     Ok(task.run(alloc, source, out)?)
 }
 
-// The words that are no option.
+// Returns the words outside options, as bytes, in their order.
 fn words_in<'a>(alloc: Global, matches: &ArgMatches<'a>) -> Result<Vec<&'a [u8]>, AllocError>
     ensures { IfOk result (λ v. texts v.items ≡ words_of (rows_in matches.now)) }
 {
@@ -157,7 +157,7 @@ fn bytes_of<'a>(alloc: Global, words: &[&'a str]) -> Result<Vec<&'a [u8]>, Alloc
     Ok(all)
 }
 
-// The longest line about a fault is shorter.
+// The longest line about a fault has fewer bytes.
 const LINE_ROOM: usize = 80;
 
 // Writes one line about the fault, made without memory. A fault of `err` changes nothing.

@@ -7,12 +7,13 @@ pub fn show_posix_tells_apart()
     ensures { ShowPosixTellsApart }
 {}
 
-/// `encode` accepts what `show-nfs` writes, and gives the bytes that were read.
+/// `encode` accepts what `show-nfs` writes, and writes the bytes that `show-nfs` read.
 pub fn encode_undoes_show()
     ensures { EncodeUndoesShow }
 {}
 
-/// `show-nfs` accepts what `encode` writes, and gives the written text of the list, whatever text was read.
+/// `show-nfs` accepts what `encode` writes, and writes the text of the list. This is the same text for every text of
+/// the list that `encode` read.
 pub fn show_undoes_encode()
     ensures { ShowUndoesEncode }
 {}
@@ -23,7 +24,7 @@ pub fn normalize_tells_apart()
     ensures { NormalizeTellsApart }
 {}
 
-/// Of its own output `normalize` makes the same output.
+/// `normalize` writes its own output again, unchanged.
 pub fn normalize_twice()
     ensures { NormalizeTwice }
 {}
@@ -34,7 +35,7 @@ pub fn normalize_inherit_tells_apart()
     ensures { NormalizeInheritTellsApart }
 {}
 
-/// What `normalize --inherit` writes is five lists, one behind the other, each of which is its own normal form.
+/// What `normalize --inherit` writes is five lists, one after the other, each of which is its own normal form.
 pub fn normalize_inherit_gives_forms()
     ensures { NormalizeInheritGivesForms }
 {}

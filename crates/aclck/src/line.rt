@@ -5,19 +5,20 @@ ghost use Rattle.std.specs.Str.{bytes_eq};
 ghost use Rattle.clap.specs.Words.{app_of, is_simple_and_free, kind_of, rule_of, with_rule};
 ghost use Rattle.aclck.specs.Line.{app_from, is_given, is_taken, plain_app, rows_at, rows_in, rule_from, term_id, text_if_any, texts, value_of, words_of};
 ghost use Rattle.aclck.specs.internal.Held.{term};
+ghost use Rattle.aclck.specs.declared.line.LineFault.TheVariants.{Memory};
 
 use clap::error::ErrorKind;
 use clap::{Arg, ArgAction, ArgMatches, Command};
 use std::alloc::{AllocError, AllocFailed, Global};
 
-/// An argument of a command.
+/// An option of a command, or the words that belong to no option.
 #[derive(Clone, Copy, Debug)]
 pub enum Argument {
     /// `--NAME VALUE`, which is required.
     Required(&'static str),
     /// `--NAME VALUE`, which may be absent.
     Optional(&'static str),
-    /// `--NAME VALUE`, which is the second text if it is absent.
+    /// `--NAME VALUE`; if the option is absent, its value is the second text.
     Default(&'static str, &'static str),
     /// `--NAME`.
     Flag(&'static str),
@@ -25,11 +26,11 @@ pub enum Argument {
     Words,
 }
 
-// The id of the argument that takes the words that are no option.
+// The id under which `clap` keeps the words that belong to no option.
 const WORDS_ID: &str = "words";
 
 impl Argument {
-    // The id of the argument among the values of a parse.
+    // Returns the id under which `clap` keeps the values of the argument: for an option, its name.
     fn id(self) -> &'static str
         ensures { result.now ≡ term_id (term self) }
     {
@@ -53,8 +54,6 @@ pub enum LineFault {
 }
 
 impl From<AllocError> for LineFault {
-    ghost use Rattle.aclck.specs.declared.line.LineFault.TheVariants.{Memory};
-
     ghost from_gives = { λ _ fault. fault ≡ Memory };
 
     fn from(_: AllocError) -> LineFault {
@@ -63,8 +62,6 @@ impl From<AllocError> for LineFault {
 }
 
 impl<T: Drop> From<AllocFailed<T>> for LineFault {
-    ghost use Rattle.aclck.specs.declared.line.LineFault.TheVariants.{Memory};
-
     ghost from_gives = { λ _ fault. fault ≡ Memory };
 
     fn from(_: AllocFailed<T>) -> LineFault {
@@ -72,7 +69,7 @@ impl<T: Drop> From<AllocFailed<T>> for LineFault {
     }
 }
 
-/// Returns the command of a name with the arguments of a table.
+/// Returns the command as `clap` has it, with the arguments of a table. Fails if memory runs out.
 pub(crate) fn command_from<'a>(
     alloc: Global,
     name: &'a str,
@@ -87,14 +84,13 @@ pub(crate) fn command_from<'a>(
     Ok(command)
 }
 
-// A command with no arguments, for which words that ask for help are unknown arguments.
+// Returns a command without arguments. It has no help: `--help` and `-h` are unknown options.
 fn plain_command<'a>(alloc: Global, name: &'a str) -> Command<'a>
     ensures { app_of result ≡ plain_app name.entry.now }
 {
     Command::new(alloc, name).disable_help_flag(true)
 }
 
-// The command with one more argument.
 fn with_argument<'a>(
     alloc: Global,
     command: Command<'a>,
@@ -106,7 +102,6 @@ fn with_argument<'a>(
     command.arg(arg_of(alloc, argument))
 }
 
-// An argument as `clap` has it.
 fn arg_of<'a>(alloc: Global, argument: Argument) -> Arg<'a>
     ensures rule { rule_of result ≡ rule_from (term argument) }
     ensures local { result.global ≡ false }
@@ -120,7 +115,8 @@ fn arg_of<'a>(alloc: Global, argument: Argument) -> Arg<'a>
     }
 }
 
-/// Returns what a simple command takes from the words. The first word is in the place of the program's name.
+/// Returns the values that a command takes from the words. The first word is in the place of the program's name, so it
+/// is not read. Fails with `Usage` if the command does not take the words, and with `Memory` if memory runs out.
 pub(crate) fn parse<'a>(
     command: Command<'a>,
     words: &'a [&'a str],
@@ -148,7 +144,7 @@ fn line_fault(error: &clap::Error) -> LineFault
     }
 }
 
-/// Returns whether a flag was given.
+/// Returns whether a flag is among the words.
 pub(crate) fn is_set(matches: &ArgMatches<'_>, flag: Argument) -> bool
     ensures { result ≡ is_given (term flag) (rows_in matches.now) }
 {
@@ -165,14 +161,14 @@ fn is_true(text: Option<&str>) -> bool
     }
 }
 
-/// Returns the first value of an option.
+/// Returns the first value of an option: its default value if it is absent, and `None` if it has no default.
 pub(crate) fn text_of<'a>(matches: &ArgMatches<'a>, option: Argument) -> Option<&'a str>
     ensures { text_if_any result ≡ value_of (term option) (rows_in matches.now) }
 {
     matches.get_str(option.id())
 }
 
-/// Returns the words that are no option, if there are any.
+/// Returns the words that belong to no option, in their order. `None` means that there are none.
 pub(crate) fn other_words<'a, 'm>(matches: &'m ArgMatches<'a>) -> Option<&'m [&'a str]>
     ensures { unwrap_or (option_map (λ ws. texts ws.now) result) []
         ≡ words_of (rows_in matches.now) }

@@ -39,7 +39,7 @@ fn collect_words(rt: &HostRuntime) -> Result<Vec<String>, LineFault> {
     }
 }
 
-// Passes the words, which the system gives as strings, and the devices on to `command`.
+// `command` takes slices of words, but the system returns owned strings.
 fn run_words<S: Source, K: Sink, E: Sink>(
     alloc: Global,
     words: &[String],

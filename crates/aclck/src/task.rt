@@ -21,6 +21,7 @@ pub mod normalize;
 pub mod show_nfs;
 pub mod show_posix;
 pub mod table;
+pub mod values;
 
 use crate::answer::{Outcome, RunFault};
 use crate::line::{Argument, LineFault, command_from, parse};
@@ -30,22 +31,22 @@ use acl_perm::{Profile, Sink, Source};
 use acl_posix::Names;
 use bridge::run_bridge;
 use calc_mask::run_calc_mask;
-use check_nfs::{CheckNfs, run_check_nfs};
-use check_posix::{CheckPosix, run_check_posix};
-use child::{Child, run_child};
-use chmod::{Chmod, run_chmod};
+use check_nfs::run_check_nfs;
+use check_posix::run_check_posix;
+use child::run_child;
+use chmod::run_chmod;
 use clap::{ArgMatches, Command};
 use compare::run_compare;
-use create::{Create, run_create};
+use create::run_create;
 use encode::run_encode;
 use mode::run_mode;
-use normalize::Normalize;
 use show_nfs::run_show_nfs;
-use show_posix::{ShowPosix, run_show_posix};
+use show_posix::run_show_posix;
 use std::alloc::{AllocError, Global};
-use table::{BitTable, run_table};
+use table::run_table;
+use values::{BitTable, CheckNfs, CheckPosix, Child, Chmod, Create, Normalize, ShowPosix};
 
-/// A command.
+/// A command of the program, which the first word of a line names.
 #[derive(Clone, Copy, Debug, PartialEq, Eq)]
 pub enum Name {
     ShowPosix,
@@ -82,14 +83,15 @@ const NAMES: [Name; 14] = [
 ];
 
 impl Name {
-    /// Returns the command that a word names.
+    /// Returns the command that a word names, or `None` if there is no such command.
     pub(crate) fn of(word: &str) -> Option<Name>
         ensures { result ≡ command_named word.now }
     {
         find_name(&NAMES, word)
     }
 
-    /// Returns what the command takes from the words. The first word is its own.
+    /// Returns the values that the command takes from the words, whose first is its own name. Fails with `Usage` if it
+    /// does not take the words, and with `Memory` if memory runs out.
     pub(crate) fn matches<'a>(
         self,
         alloc: Global,
@@ -105,7 +107,6 @@ impl Name {
         parse(command, words)
     }
 
-    // `clap`'s command of its word and its arguments.
     fn command<'a>(self, alloc: Global) -> Result<Command<'a>, AllocError>
         ensures app { IfOk result (λ c. app_of c ≡ app_named self) }
         ensures sound { is_sound (definition_of self).terms ≡ true }
@@ -124,24 +125,24 @@ impl Name {
         ensures { result.now ≡ command_word self }
     {
         match self {
-            Name::ShowPosix => show_posix::WORD,
-            Name::CheckPosix => check_posix::WORD,
-            Name::CalcMask => calc_mask::WORD,
-            Name::Chmod => chmod::WORD,
-            Name::Create => create::WORD,
-            Name::ShowNfs => show_nfs::WORD,
-            Name::Encode => encode::WORD,
-            Name::CheckNfs => check_nfs::WORD,
-            Name::Child => child::WORD,
-            Name::Mode => mode::WORD,
-            Name::Bridge => bridge::WORD,
-            Name::Table => table::WORD,
-            Name::Normalize => normalize::WORD,
-            Name::Compare => compare::WORD,
+            Name::ShowPosix => "show-posix",
+            Name::CheckPosix => "check-posix",
+            Name::CalcMask => "calc-mask",
+            Name::Chmod => "chmod",
+            Name::Create => "create",
+            Name::ShowNfs => "show-nfs",
+            Name::Encode => "encode",
+            Name::CheckNfs => "check-nfs",
+            Name::Child => "child",
+            Name::Mode => "mode",
+            Name::Bridge => "bridge",
+            Name::Table => "table",
+            Name::Normalize => "normalize",
+            Name::Compare => "compare",
         }
     }
 
-    // The arguments of the command, of which at most one takes words.
+    // Returns the arguments of the command. At most one of them takes words that belong to no option.
     fn arguments(self) -> &'static [Argument]
         ensures terms { map term result.now ≡ (definition_of self).terms }
         ensures sound { is_sound (definition_of self).terms ≡ true }
@@ -165,7 +166,7 @@ impl Name {
     }
 }
 
-// The first of some commands that the word names.
+// Returns the first of some commands that has this word.
 fn find_name(names: &[Name], word: &str) -> Option<Name>
     ensures { result ≡ find (λ n. bytes_eq (command_word n) word.now) names.now }
 {
@@ -177,7 +178,7 @@ fn find_name(names: &[Name], word: &str) -> Option<Name>
     None
 }
 
-/// A command with its values.
+/// A command with its values, ready to run.
 #[derive(Drop)]
 pub enum Task<'a> {
     ShowPosix(ShowPosix),
@@ -197,7 +198,8 @@ pub enum Task<'a> {
 }
 
 impl<'a> Task<'a> {
-    /// Returns the values that a parse and the words that are no option give.
+    /// Returns the command with its values. Fails with `Usage` if a value or a name is bad, and with `Memory` if memory
+    /// runs out.
     pub(crate) fn read<'w: 'a>(
         alloc: Global,
         name: Name,
@@ -225,7 +227,7 @@ impl<'a> Task<'a> {
         }
     }
 
-    /// Reads the whole input, and writes the text of its answer.
+    /// Reads the input, and writes the answer. A binary input that is refused is not always read to its end.
     #[tactic(auto, unfolding(crate::specs::Task::Answers))]
     pub fn run<S: Source, K: Sink>(
         &self,
@@ -246,10 +248,10 @@ impl<'a> Task<'a> {
             Task::ShowNfs(profile) => run_show_nfs(alloc, source, sink, *profile),
             Task::Encode(profile) => run_encode(alloc, source, sink, *profile),
             Task::CheckNfs(v) => run_check_nfs(alloc, source, sink, v),
-            Task::Child(v) => run_child(alloc, source, sink, v.kind, v.profile),
+            Task::Child(v) => run_child(alloc, source, sink, *v),
             Task::Mode(profile) => run_mode(alloc, source, sink, *profile),
             Task::Bridge(names) => run_bridge(alloc, source, sink, names),
-            Task::Table(v) => run_table(alloc, source, sink, v.bit, v.profile),
+            Task::Table(v) => run_table(alloc, source, sink, *v),
             Task::Normalize(v) => normalize::run(alloc, source, sink, *v),
             Task::Compare(profile) => run_compare(alloc, source, sink, *profile),
         }

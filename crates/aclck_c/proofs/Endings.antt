@@ -1,5 +1,5 @@
 -- What a call promises, by what it made.
-use Rattle.std.proofs.Common.{◌≡◌, ◌≤◌, ◌<◌, ℕ, List, Result, Ok, Err, arith, inl, inr, subst, sym}
+use Rattle.std.proofs.Common.{◌≡◌, ◌<◌, ℕ, List, Result, Ok, Err, arith, inl, inr, subst, sym}
 use Rattle.std.specs.Prelude.{⊤, ◌≢◌, ◌++◌, IfErr, IfOk}
 use Rattle.std.specs.Global.{Vec}
 use Rattle.acl_perm.specs.Profile.{Profile}
@@ -10,7 +10,7 @@ use Rattle.aclck_c.specs.Out.{WritesBytes}
 use Rattle.aclck_c.specs.Status as status
 use Rattle.aclck_c.specs.declared.failure.Failure.{Failure}
 use Rattle.aclck_c.specs.declared.failure.Failure.TheVariants as failure
-use Rattle.aclck_c.specs.declared.posix.names.Name.{Name}
+use Rattle.aclck_c.specs.declared.posix.names.RawName.{RawName}
 use Rattle.aclck_c.specs.declared.refusal.Refusal.{Refusal}
 use Rattle.aclck_c.specs.internal.Endings.{EndsCall, ReportsFailure}
 use Rattle.aclck_c.specs.internal.Failures.{IsFailure, IsListFailure}
@@ -147,7 +147,7 @@ of_list p q list AreGood Means made same good means says ends =
     }
 
 -- the names are good, unless an argument is bad or memory ran out
-named : (names : List Name) (IsRefused : Refusal → Type 0) (Means : List ℕ → Type 0) (made : Result (Vec ℕ) Failure)
+named : (names : List RawName) (IsRefused : Refusal → Type 0) (Means : List ℕ → Type 0) (made : Result (Vec ℕ) Failure)
     {buffer buffer_after : List ℕ} {needed needed_after : ℕ} {fault fault_after : Refusal} {returned : ℕ}
     → ((text : List ℕ) → Means text → AreGoodNames names) → ((shown : Refusal) → IsRefused shown → AreGoodNames names)
     → IfOk made (λ bytes. Means bytes.items) → IfErr made (IsFailure (AreGoodNames names) IsRefused ⊤)
@@ -163,7 +163,7 @@ named names IsRefused Means (Err failure.Memory) by_text by_refusal means says e
     absurd (not_memory ends.reported.0)
 
 -- a call that made bytes of the text of POSIX ACLs, with arguments other than the names that are good
-pub of_file : (names : List Name) (IsRefused : Refusal → Type 0) (AreGood : Type 0) (Means : List ℕ → Type 0)
+pub of_file : (names : List RawName) (IsRefused : Refusal → Type 0) (AreGood : Type 0) (Means : List ℕ → Type 0)
     (made : Result (Vec ℕ) Failure) {buffer buffer_after : List ℕ} {needed needed_after : ℕ}
     {fault fault_after : Refusal} {returned : ℕ}
     → ((text : List ℕ) → Means text → AreGoodNames names) → ((shown : Refusal) → IsRefused shown → AreGoodNames names)

@@ -6,32 +6,32 @@ use Rattle.acl_posix.specs.Names.{Table, empty_table}
 use Rattle.acl_posix.specs.TextFault.{IsTextFaultOrMemory}
 use Rattle.acl_posix.specs.declared.text_fault.TextFault.{TextFault}
 use Rattle.aclck_c.specs.Names.{AreGoodNames, AreNames, names_added}
-use Rattle.aclck_c.specs.Posix.{HasFault, IsRefusedBridge, IsRefusedPosix, posix_refusal}
+use Rattle.aclck_c.specs.Posix.{HasTextFault, IsRefusedBridge, IsRefusedPosix, posix_refusal}
 use Rattle.aclck_c.specs.declared.failure.Failure.{Failure}
 use Rattle.aclck_c.specs.declared.failure.Failure.TheVariants as failure
-use Rattle.aclck_c.specs.declared.posix.names.Name.{Name}
+use Rattle.aclck_c.specs.declared.posix.names.RawName.{RawName}
 use Rattle.aclck_c.specs.declared.refusal.Refusal.{Refusal}
 use Rattle.aclck_c.specs.internal.Failures.{IsFileFailure, ReadsTable, of_posix_text, of_refusal}
 
 -- no table is made where there is none
-no_table : (given : List Name) → names_added empty_table given ≡ None → AreGoodNames given → ⊥
+no_table : (given : List RawName) → names_added empty_table given ≡ None → AreGoodNames given → ⊥
 no_table given none good = false≢true (subst (λ (t : Option Table). IsSome t) none good)
 
 -- what is refused of the names
-pub of_names : (given : List Name) (bytes : List ℕ) (f : Failure) → ReadsTable (names_added empty_table given) (Err f)
-    → IsFileFailure given bytes f
+pub of_names : (given : List RawName) (bytes : List ℕ) (f : Failure)
+    → ReadsTable (names_added empty_table given) (Err f) → IsFileFailure given bytes f
 of_names given bytes failure.BadArgument h = no_table given h
 of_names given bytes (failure.Refused shown) h = absurd h
 of_names given bytes failure.Memory h = h
 
 -- the refusal of a fault of the text, or that memory ran out
-of_fault : (given : List Name) (bytes : List ℕ) (f : TextFault) (shown : Option Refusal) → HasFault given bytes f
+of_fault : (given : List RawName) (bytes : List ℕ) (f : TextFault) (shown : Option Refusal) → HasTextFault given bytes f
     → shown ≡ posix_refusal f → IsFileFailure given bytes (of_refusal shown)
 of_fault given bytes f (Some shown) has is = record { fault = f; has = has; is = is }
 of_fault given bytes f None has is = tt
 
 -- what is refused of the text, with the table of the names
-pub of_text : (given : List Name) (bytes : List ℕ) (table : Table) (f : TextFault) → AreNames given table
+pub of_text : (given : List RawName) (bytes : List ℕ) (table : Table) (f : TextFault) → AreNames given table
     → IsTextFaultOrMemory bytes table f → IsFileFailure given bytes (of_posix_text f)
 of_text given bytes table f named (inl ran_out) = subst (λ (g : TextFault).
     IsFileFailure given bytes (of_posix_text g)) (sym ran_out) tt
@@ -39,16 +39,16 @@ of_text given bytes table f named (inr has) =
     of_fault given bytes f (posix_refusal f) (record { table = table; named = named; has = has }) refl
 
 -- names that make a table are good
-pub good_names : (given : List Name) (table : Table) → AreNames given table → AreGoodNames given
+pub good_names : (given : List RawName) (table : Table) → AreNames given table → AreGoodNames given
 good_names given table named = subst (λ (t : Option Table). IsSome t) (sym named) (search rules)
 
 -- a text with a fault has good names
-pub refused_names : (given : List Name) (bytes : List ℕ) (shown : Refusal) → IsRefusedPosix given bytes shown
+pub refused_names : (given : List RawName) (bytes : List ℕ) (shown : Refusal) → IsRefusedPosix given bytes shown
     → AreGoodNames given
 refused_names given bytes shown h = good_names given h.has.table h.has.named
 
 -- a text whose list is refused has good names
-pub bridge_names : (given : List Name) (bytes : List ℕ) (shown : Refusal) → IsRefusedBridge given bytes shown
+pub bridge_names : (given : List RawName) (bytes : List ℕ) (shown : Refusal) → IsRefusedBridge given bytes shown
     → AreGoodNames given
 bridge_names given bytes shown (inl h) = refused_names given bytes shown h
 bridge_names given bytes shown (inr h) = good_names given h.0.read.table h.0.read.named

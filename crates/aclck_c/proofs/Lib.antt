@@ -4,6 +4,10 @@ pub mod Bridges
 pub mod Endings
 -- failures of names and of texts
 pub mod FileFailures
+-- answers for many requesters
+pub mod ManyRequesters
+-- the bytes of normal forms
+pub mod Normalized
 -- calls over two lists
 pub mod Pairs
 -- masks of one right

@@ -18,15 +18,13 @@ pub same_or_not : (p : Profile) (first second : List ℕ) (list other : List Ace
 same_or_not p first second list other true read read_other is = record {
   list = list;
   other = other;
-  first_spelled = read;
-  second_spelled = read_other;
+  spelled = record { first_spelled = read; second_spelled = read_other };
   same = is.0 refl;
 }
 same_or_not p first second list other false read read_other is = record {
   list = list;
   other = other;
-  first_spelled = read;
-  second_spelled = read_other;
+  spelled = record { first_spelled = read; second_spelled = read_other };
   different = λ all. false≢true (is.1 all);
 }
 

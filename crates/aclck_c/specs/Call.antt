@@ -6,7 +6,7 @@ use Rattle.aclck_c.specs.Lists.{AreList, IsRefusedList}
 use Rattle.aclck_c.specs.Names.{AreGoodNames}
 use Rattle.aclck_c.specs.Out.{WritesBytes}
 use Rattle.aclck_c.specs.Status as status
-use Rattle.aclck_c.specs.declared.posix.names.Name.{Name}
+use Rattle.aclck_c.specs.declared.posix.names.RawName.{RawName}
 use Rattle.aclck_c.specs.declared.refusal.Refusal.{Refusal}
 
 -- the answer of a call that says yes or no
@@ -28,8 +28,8 @@ pub record JudgesArguments (AreGood : Type 0) (returned : ℕ) : Type 0 where
   pub bad : returned ≡ status.bad_argument → AreGood → ⊥
   pub good : (returned ≢ status.bad_argument) → AreGood
 
--- the same of a call that also takes names
-pub record JudgesNames (names : List Name) (AreGood : Type 0) (returned : ℕ) : Type 0 where
+-- the promise of `JudgesArguments` for a call that also takes names
+pub record JudgesNames (names : List RawName) (AreGood : Type 0) (returned : ℕ) : Type 0 where
   pub bad : returned ≡ status.bad_argument → AreGoodNames names → AreGood → ⊥
   pub good : (returned ≢ status.bad_argument) → AreGood
   -- if memory runs out, nothing is said about the names
@@ -45,8 +45,8 @@ pub record JudgesInput (IsRefused : Refusal → Type 0) (Known AreGood : Type 0)
   -- no other status is returned
   pub known : status.IsOneOf (answers ++ status.failures) returned
 
--- the same of a call that reads the text of POSIX ACLs, which may use these names
-pub record ReadsFile (names : List Name) (IsRefused : Refusal → Type 0) (AreGood : Type 0) (answers : List ℕ)
+-- the promise of `JudgesInput` for a call that reads the text of POSIX ACLs, which may use these names
+pub record ReadsFile (names : List RawName) (IsRefused : Refusal → Type 0) (AreGood : Type 0) (answers : List ℕ)
     (fault fault_after : Refusal) (returned : ℕ) : Type 0 where
   pub refusal : ReportsFault IsRefused fault fault_after returned
   pub arguments : JudgesNames names AreGood returned
@@ -72,7 +72,7 @@ pub record WritesOfList (p : Profile) (list : List ℕ) (AreGood : Type 0) (Mean
   pub input : ReadsList p list AreGood fault fault_after returned
 
 -- what a call promises that makes bytes of the text of POSIX ACLs
-pub record WritesOfFile (names : List Name) (AreGood : Type 0) (IsRefused : Refusal → Type 0)
+pub record WritesOfFile (names : List RawName) (AreGood : Type 0) (IsRefused : Refusal → Type 0)
     (Means : List ℕ → Type 0) (buffer buffer_after : List ℕ) (needed needed_after : ℕ)
     (fault fault_after : Refusal) (returned : ℕ) : Type 0 where
   pub bytes : WritesBytes status.done Means buffer buffer_after needed needed_after returned

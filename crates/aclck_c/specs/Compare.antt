@@ -13,20 +13,23 @@ use Rattle.aclck_c.specs.Lists.{AreList, IsRefusedList}
 use Rattle.aclck_c.specs.declared.nfs4.compare.RawDifference.{RawDifference}
 use Rattle.aclck_c.specs.declared.refusal.Refusal.{Refusal}
 
+-- both spell lists: these two
+pub record SpellLists (p : Profile) (first second : List ℕ) (list other : List Ace) : Type 0 where
+  pub first_spelled : Xdr p list first
+  pub second_spelled : Xdr p other second
+
 -- both spell lists, which grant everybody the same
 pub record AreSame (p : Profile) (first second : List ℕ) : Type 0 where
   pub list : List Ace
   pub other : List Ace
-  pub first_spelled : Xdr p list first
-  pub second_spelled : Xdr p other second
+  pub spelled : SpellLists p first second list other
   pub same : SameGrants all_rights list other
 
 -- both spell lists, which do not grant everybody the same
 pub record AreDifferent (p : Profile) (first second : List ℕ) : Type 0 where
   pub list : List Ace
   pub other : List Ace
-  pub first_spelled : Xdr p list first
-  pub second_spelled : Xdr p other second
+  pub spelled : SpellLists p first second list other
   pub different : SameGrants all_rights list other → ⊥
 
 -- both spell lists, and this is whether these grant everybody the same
@@ -34,11 +37,11 @@ abbrev pub AreSameOrNot : Profile → List ℕ → List ℕ → Bool → Type 0
 AreSameOrNot p first second true = AreSame p first second
 AreSameOrNot p first second false = AreDifferent p first second
 
--- a name and the byte 0 behind it
+-- a name and the byte 0 after it
 abbrev pub ended : List ℕ → List ℕ
 ended name = name ++ 0 ∷ []
 
--- the names of a situation, each with the byte 0 behind it: owner, owning group, user, and the groups of the user
+-- the names of a situation, each with the byte 0 after it: owner, owning group, user, and the groups of the user
 abbrev pub names_text : Situation → List ℕ
 names_text s = ended s.owner_name ++ ended s.owning_group ++ ended s.user_name ++ flat_map ended s.groups
 
@@ -51,18 +54,21 @@ truth_number true = 1
 abbrev pub raw_difference : ℕ → Bool → RawDifference
 raw_difference right first_grants = record { right = right; first_grants = truth_number first_grants }
 
--- both spell lists, and the first situation in which they differ has these names, at this right
-pub record DifferAt (p : Profile) (first second : List ℕ) (at : RawDifference) (names : List ℕ) : Type 0 where
-  pub list : List Ace
-  pub other : List Ace
-  pub first_spelled : Xdr p list first
-  pub second_spelled : Xdr p other second
+-- these are the right at which a situation is the first in which two lists differ, and the names of that situation
+pub record AreFirstNames (list other : List Ace) (at : RawDifference) (names : List ℕ) : Type 0 where
   pub situation : Situation
   pub right : ℕ
   pub first_grants : Bool
   pub is_first : IsFirstDifference list other situation right first_grants
   pub is_at : at ≡ raw_difference right first_grants
   pub named : names ≡ names_text situation
+
+-- both spell lists, and the first situation in which these differ has these names, at this right
+pub record DifferAt (p : Profile) (first second : List ℕ) (at : RawDifference) (names : List ℕ) : Type 0 where
+  pub list : List Ace
+  pub other : List Ace
+  pub spelled : SpellLists p first second list other
+  pub first_names : AreFirstNames list other at names
 
 -- the first is refused with this fault, or the first spells a list and the second is refused with this fault
 abbrev pub IsRefusedPair : Profile → List ℕ → List ℕ → Refusal → Type 0

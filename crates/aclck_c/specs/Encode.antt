@@ -4,18 +4,19 @@ use Rattle.acl_perm.specs.Profile.{Profile}
 use Rattle.acl_nfs4.specs.AceTextFault.{IsAceTextFault}
 use Rattle.acl_nfs4.specs.declared.text.fault.AceTextFault.{AceTextFault}
 use Rattle.acl_nfs4.specs.declared.text.fault.AceTextFault.TheVariants as text
-use Rattle.aclck_c.specs.Refusal.{at_place}
+use Rattle.acl_nfs4.specs.declared.xdr.fault.Reason.TheVariants as reason
+use Rattle.aclck_c.specs.Refusal.{at_place, in_text}
 use Rattle.aclck_c.specs.declared.refusal.Refusal.{Refusal}
 
 -- the fault of a text, by numbers; none if memory ran out
 abbrev pub ace_text_refusal : AceTextFault → Option Refusal
-ace_text_refusal (text.TooManyAces line column) = Some (at_place 2 line column)
-ace_text_refusal (text.AceType line column) = Some (at_place 4 line column)
-ace_text_refusal (text.TooHeavy line column) = Some (at_place 7 line column)
-ace_text_refusal (text.WhoLength line column) = Some (at_place 8 line column)
-ace_text_refusal (text.WhoUtf8 line column) = Some (at_place 9 line column)
-ace_text_refusal (text.WhoControl line column) = Some (at_place 10 line column)
-ace_text_refusal (text.SpecialWho line column) = Some (at_place 11 line column)
+ace_text_refusal (text.TooManyAces line column) = Some (in_text reason.TooManyAces line column)
+ace_text_refusal (text.AceType line column) = Some (in_text reason.AceType line column)
+ace_text_refusal (text.TooHeavy line column) = Some (in_text reason.TooHeavy line column)
+ace_text_refusal (text.WhoLength line column) = Some (in_text reason.WhoLength line column)
+ace_text_refusal (text.WhoUtf8 line column) = Some (in_text reason.WhoUtf8 line column)
+ace_text_refusal (text.WhoControl line column) = Some (in_text reason.WhoControl line column)
+ace_text_refusal (text.SpecialWho line column) = Some (in_text reason.SpecialWho line column)
 ace_text_refusal (text.Fields line column) = Some (at_place 16 line column)
 ace_text_refusal (text.Flag line column) = Some (at_place 17 line column)
 ace_text_refusal (text.Mask line column) = Some (at_place 18 line column)

@@ -9,6 +9,7 @@ use Rattle.acl_posix.specs.declared.form.Form.{Form}
 use Rattle.acl_posix.specs.declared.form.Form.TheVariants as form
 use Rattle.acl_posix.specs.declared.tag.Tag.{Tag}
 use Rattle.acl_posix.specs.declared.tag.Tag.TheVariants as tag
+use Rattle.acl_posix.specs.declared.text_fault.Cause.{Cause}
 use Rattle.acl_posix.specs.declared.text_fault.Cause.TheVariants as cause
 use Rattle.acl_posix.specs.declared.text_fault.Part.{Part}
 use Rattle.acl_posix.specs.declared.text_fault.Part.TheVariants as part
@@ -17,19 +18,19 @@ use Rattle.acl_posix.specs.declared.text_fault.TextFault.TheVariants as fault
 use Rattle.acl_eval.specs.Programs.{IsPastLimits}
 use Rattle.aclck_c.specs.Names.{AreNames}
 use Rattle.aclck_c.specs.Refusal.{at_place, in_part, past_limits}
-use Rattle.aclck_c.specs.declared.posix.names.Name.{Name}
+use Rattle.aclck_c.specs.declared.posix.names.RawName.{RawName}
 use Rattle.aclck_c.specs.declared.refusal.Refusal.{Refusal}
 
 -- ---- what is read
 
 -- the names make a table, with which the text spells this file
-pub record SpellsFile (names : List Name) (text : List ℕ) (file : PosixFile) : Type 0 where
+pub record SpellsFile (names : List RawName) (text : List ℕ) (file : PosixFile) : Type 0 where
   pub table : Table
   pub named : AreNames names table
   pub reads : Reads text table file
 
 -- the names make a table, with which the text has this fault
-pub record HasFault (names : List Name) (text : List ℕ) (f : TextFault) : Type 0 where
+pub record HasTextFault (names : List RawName) (text : List ℕ) (f : TextFault) : Type 0 where
   pub table : Table
   pub named : AreNames names table
   pub has : IsTextFault text table f
@@ -44,7 +45,7 @@ form_from options =
     else (if options == 8 then Some form.Short else None))
 
 -- options mean a form, and the result is the text of the file in that form
-pub record IsShown (names : List Name) (options : ℕ) (text result : List ℕ) : Type 0 where
+pub record IsShown (names : List RawName) (options : ℕ) (text result : List ℕ) : Type 0 where
   pub form : Form
   pub is_form : form_from options ≡ Some form
   pub makes : MakesOfFile (SpellsFile names text) (file_text form) result
@@ -69,6 +70,12 @@ abbrev pub part_number : Part → ℕ
 part_number part.Access = 0
 part_number part.Default = 1
 
+-- the cause for which the part of this number is not a valid ACL, by numbers
+abbrev pub invalid_refusal : ℕ → Cause → Refusal
+invalid_refusal which (cause.Multi place) = in_part 25 which place 0
+invalid_refusal which (cause.Duplicate place) = in_part 26 which place 0
+invalid_refusal which (cause.Miss absent) = in_part 27 which 0 (tag_number absent)
+
 -- the fault of a text, by numbers; none if memory ran out
 abbrev pub posix_refusal : TextFault → Option Refusal
 posix_refusal (fault.Fields line column) = Some (at_place 16 line column)
@@ -78,18 +85,16 @@ posix_refusal (fault.Id line column) = Some (at_place 21 line column)
 posix_refusal (fault.UnknownName line column) = Some (at_place 22 line column)
 posix_refusal (fault.Permission line column) = Some (at_place 23 line column)
 posix_refusal (fault.EmptyEntry line column) = Some (at_place 24 line column)
-posix_refusal (fault.Invalid which (cause.Multi place)) = Some (in_part 25 (part_number which) place 0)
-posix_refusal (fault.Invalid which (cause.Duplicate place)) = Some (in_part 26 (part_number which) place 0)
-posix_refusal (fault.Invalid which (cause.Miss absent)) = Some (in_part 27 (part_number which) 0 (tag_number absent))
+posix_refusal (fault.Invalid which why) = Some (invalid_refusal (part_number which) why)
 posix_refusal fault.Memory = None
 
 -- the text has this fault
-pub record IsRefusedPosix (names : List Name) (text : List ℕ) (shown : Refusal) : Type 0 where
+pub record IsRefusedPosix (names : List RawName) (text : List ℕ) (shown : Refusal) : Type 0 where
   pub fault : TextFault
-  pub has : HasFault names text fault
+  pub has : HasTextFault names text fault
   pub is : Some shown ≡ posix_refusal fault
 
 -- the text has this fault, or the list of its file is above a limit
-abbrev pub IsRefusedBridge : List Name → List ℕ → Refusal → Type 0
+abbrev pub IsRefusedBridge : List RawName → List ℕ → Refusal → Type 0
 IsRefusedBridge names text shown =
     IsRefusedPosix names text shown ⊎ (IsPastLimits (SpellsFile names text) × (shown ≡ past_limits))

@@ -46,6 +46,10 @@ at_place number line column = record {
   tag = 0;
 }
 
+-- the text of a list is refused for a reason for which the bytes of a list can be refused too
+abbrev pub in_text : Reason → ℕ → ℕ → Refusal
+in_text why line column = at_place (reason_number why) line column
+
 -- a part of a POSIX ACL is not a valid ACL: the place of an entry, or the number of the tag that is missing
 abbrev pub in_part : ℕ → ℕ → ℕ → ℕ → Refusal
 in_part number which place tag_number = record {

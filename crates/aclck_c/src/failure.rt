@@ -1,17 +1,17 @@
-//! Why a call fails.
+//! The failures of calls: each has a status, and a refused input also has a fault.
 ghost use Rattle.std.specs.Prelude.{◌≡◌};
 ghost use Rattle.aclck_c.specs.internal.Endings.{ReportsFailure};
-ghost use Rattle.aclck_c.specs.internal.Failures.{of_refusal};
+ghost use Rattle.aclck_c.specs.internal.Failures.{of_list_fault, of_refusal, out_of_memory};
 
 use crate::refusal::Refusal;
 use crate::status::{BAD_ARGUMENT, MEMORY, REFUSED};
 use acl_nfs4::Fault;
 use std::alloc::AllocError;
 
-/// Why a call fails.
+/// Why a call does not return its result.
 #[derive(Clone, Copy, Debug)]
 pub(crate) enum Failure {
-    /// A name is empty, or a number or an option means nothing.
+    /// A name is empty, or a number or an option has no meaning.
     BadArgument,
     /// The list or the text is refused.
     Refused(Refusal),
@@ -20,9 +20,6 @@ pub(crate) enum Failure {
 }
 
 impl From<Fault> for Failure {
-    ghost use Rattle.std.specs.Prelude.{◌≡◌};
-    ghost use Rattle.aclck_c.specs.internal.Failures.{of_list_fault};
-
     ghost from_gives = { λ fault failure. failure ≡ of_list_fault fault };
 
     fn from(fault: Fault) -> Failure {
@@ -31,9 +28,6 @@ impl From<Fault> for Failure {
 }
 
 impl From<AllocError> for Failure {
-    ghost use Rattle.std.specs.Prelude.{◌≡◌};
-    ghost use Rattle.aclck_c.specs.internal.Failures.{out_of_memory};
-
     ghost from_gives = { λ _ failure. failure ≡ out_of_memory };
 
     fn from(_: AllocError) -> Failure {
@@ -42,7 +36,7 @@ impl From<AllocError> for Failure {
 }
 
 impl Failure {
-    /// Makes the failure of a text that is refused. If there is no refusal, memory ran out.
+    /// Returns the failure of a text: it is refused, or, if there is no refusal, memory ran out.
     pub(crate) fn of_refusal(refusal: Option<Refusal>) -> Failure
         ensures { result ≡ of_refusal refusal }
     {
@@ -52,7 +46,8 @@ impl Failure {
         }
     }
 
-    /// Reports the failure, and returns its status.
+    /// Returns the status of the failure. If the input is refused, `fault` gets the reason; otherwise it stays as it
+    /// was.
     pub(crate) fn report(self, fault: &mut Refusal) -> u32
         ensures { ReportsFailure self fault.old fault.new result }
     {

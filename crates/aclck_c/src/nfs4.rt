@@ -2,15 +2,12 @@
 
 pub(crate) mod check_many;
 pub(crate) mod check_nfs;
-pub(crate) mod child;
 pub(crate) mod compare;
 pub(crate) mod deciding;
 pub(crate) mod encode;
 pub(crate) mod granted;
 pub(crate) mod mode;
-pub(crate) mod normalize;
 pub(crate) mod reading;
 pub(crate) mod request;
 pub(crate) mod same;
-pub(crate) mod show;
-pub(crate) mod table;
+pub(crate) mod texts;

@@ -18,7 +18,7 @@ pub(crate) const FORM_SHOWN: u32 = 4;
 /// The text has commas between the entries.
 pub(crate) const FORM_SHORT: u32 = 8;
 
-/// Returns the profile of options, if they have no other bit.
+/// Returns the profile that `options` choose, or `None` if they have another bit.
 pub(crate) fn profile_from(options: u32) -> Option<Profile>
     ensures known { IsSome result ↔ IsProfileOption options }
     ensures value { IfSome result (λ profile. profile_of profile ≡ profile_from options) }
@@ -30,15 +30,15 @@ pub(crate) fn profile_from(options: u32) -> Option<Profile>
     }
 }
 
-/// A profile, and what is created.
+/// What the options of `aclck_child` choose: a profile, and the kind of the new object.
 #[derive(Clone, Copy, Debug)]
-pub(crate) struct Creation {
+pub(crate) struct ChildOptions {
     pub profile: Profile,
     pub kind: ChildKind,
 }
 
-/// Returns the profile and the kind of options, if they have no other bit.
-pub(crate) fn creation_from(options: u32) -> Option<Creation>
+/// Returns the profile and the kind that `options` choose, or `None` if they have another bit.
+pub(crate) fn child_options_from(options: u32) -> Option<ChildOptions>
     ensures known { IsSome result ↔ IsCreationOption options }
     ensures profile { IfSome result (λ c. profile_of c.profile ≡ profile_from options) }
     ensures kind { IfSome result (λ c. c.kind ≡ child_kind_from options) }
@@ -50,10 +50,10 @@ pub(crate) fn creation_from(options: u32) -> Option<Creation>
         NARROW_DIRECTORY => (Profile::NARROW, ChildKind::Directory),
         _ => return None,
     };
-    Some(Creation { profile, kind })
+    Some(ChildOptions { profile, kind })
 }
 
-/// Returns the mode of a number.
+/// Returns the mode of a number, or `None` if the number is above `0o777`.
 pub(crate) fn mode_from(number: u32) -> Option<Mode>
     ensures known { IsSome result ↔ IsMode number }
     ensures value { IfSome result (λ mode. mode.bits ≡ number) }

@@ -5,7 +5,8 @@ use crate::failure::Failure;
 use crate::refusal::Refusal;
 use crate::status::{DONE, SHORT};
 
-/// Puts the bytes that a call made at the front of the buffer, or reports why the call failed. Returns the status.
+/// Puts the bytes that a call made at the front of the buffer, or reports why the call failed. Returns the status. If
+/// the call failed, the buffer and `needed` stay as they were.
 pub(crate) fn answer(
     made: Result<Vec<u8>, Failure>,
     out: &mut [u8],

@@ -20,12 +20,13 @@ pub struct Refusal {
     pub list: u32,
     /// 1 for the default part of a POSIX ACL.
     pub part: u32,
-    /// The tag of the entry that is missing.
+    /// The number in `enum aclck_tag` of the entry that is missing.
     pub tag: u32,
 }
 
 impl Refusal {
-    /// Makes the refusal of a list for this reason, at this byte.
+    /// Makes the refusal of a list for this reason, at this byte. `list` is 1 for the second of two lists, and
+    /// otherwise 0.
     pub(crate) fn in_list(offset: u64, reason: Reason, list: u32) -> Refusal
         ensures { result ≡ in_list offset reason list }
     {
@@ -40,7 +41,7 @@ impl Refusal {
         }
     }
 
-    /// Makes the refusal of a text for this reason, at this place.
+    /// Makes the refusal of a text for the reason with this number, at this line and column.
     pub(crate) fn at_place(reason: u32, line: usize, column: usize) -> Refusal
         ensures { result ≡ at_place reason line column }
     {

@@ -6,13 +6,13 @@ pub(crate) const DONE: u32 = 0;
 /// It is granted, or both lists grant the same.
 pub(crate) const YES: u32 = 0;
 
-/// It is denied, or the lists differ, or there is nothing.
+/// It is denied, or the lists differ, or there is no such ACE or mask.
 pub(crate) const NO: u32 = 1;
 
 /// The list or the text is refused.
 pub(crate) const REFUSED: u32 = 2;
 
-/// A name is empty, or a number or an option means nothing.
+/// A name is empty, or a number or an option has no meaning.
 pub(crate) const BAD_ARGUMENT: u32 = 3;
 
 /// Memory ran out.

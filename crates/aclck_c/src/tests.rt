@@ -1,4 +1,6 @@
-//! Exports, called as ordinary functions.
+//! Exports, called as ordinary functions. What a list grants is by RFC 8881, section 6.2.1, and its bytes are by RFC
+//! 4506, sections 4.2, 4.10 and 4.13. The normal form is this library's own: the list of these tests is in normal form.
+//! The numbers of statuses and reasons are those of `aclck.h`.
 mod ample;
 
 use crate::status::{BAD_ARGUMENT, DONE, MEMORY, NO, REFUSED, YES};

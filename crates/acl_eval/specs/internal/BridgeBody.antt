@@ -3,12 +3,12 @@ use Rattle.std.specs.Prelude.{ℕ, List, count_ones}
 use Rattle.acl_posix.specs.Tag.{Tag, user_obj, user, group_obj, group, mask, other}
 use Rattle.acl_posix.specs.Entries.{Entries}
 use Rattle.acl_nfs4.specs.Ace.{Ace}
-use Rattle.acl_eval.specs.declared.bridging.Part.{Part}
-use Rattle.acl_eval.specs.declared.bridging.Part.TheVariants.{Users, GroupAllows, GroupDenies, Others}
+use Rattle.acl_eval.specs.declared.bridging.ListPart.{ListPart}
+use Rattle.acl_eval.specs.declared.bridging.ListPart.TheVariants.{Users, GroupAllows, GroupDenies, Others}
 use Rattle.acl_eval.specs.Bridge.{image, each, is_user_tag, is_group_tag, is_other_tag, allow_of, deny_of, decide_of}
 
 -- the four parts of the list
-abbrev pub bridged_part : Entries → Part → List (Tag × ℕ) → List Ace
+abbrev pub bridged_part : Entries → ListPart → List (Tag × ℕ) → List Ace
 bridged_part entries Users = each is_user_tag (decide_of entries)
 bridged_part entries GroupAllows = each is_group_tag (allow_of entries)
 bridged_part entries GroupDenies = each is_group_tag (deny_of entries)

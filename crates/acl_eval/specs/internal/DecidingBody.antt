@@ -5,7 +5,7 @@ use Rattle.acl_perm.specs.Situation.{Situation}
 use Rattle.acl_nfs4.specs.Ace.{Ace}
 use Rattle.acl_eval.specs.Deciding.{decides, decision_of}
 use Rattle.acl_eval.specs.declared.deciding.Decision.{Decision}
-use Rattle.acl_eval.specs.declared.deciding_all.SoFar.{SoFar}
+use Rattle.acl_eval.specs.declared.deciding_all.DecidedSoFar.{DecidedSoFar}
 
 -- the first ACE that passes the test, if the list begins at this place
 abbrev pub decision_from : ℕ → (Ace → Bool) → List Ace → Option Decision
@@ -15,6 +15,6 @@ decision_from place test (a ∷ list) =
 
 -- what decides the bit: if the bit is left, the first ACE of the rest of the list, which begins at this place;
 -- otherwise what was found
-abbrev pub found_in : Situation → SoFar → ℕ → List Ace → ℕ → Option Decision
+abbrev pub found_in : Situation → DecidedSoFar → ℕ → List Ace → ℕ → Option Decision
 found_in s so_far place list bit = if has_bit so_far.left.bits bit then decision_from place (decides s bit) list
     else decision_of so_far.decisions bit

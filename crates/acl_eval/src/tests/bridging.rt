@@ -1,4 +1,6 @@
-//! Bridged lists, row by row, and how many entries a list can have.
+//! Bridged lists, row by row, and how many entries an ACL with a list can have. The lists are worked by hand from
+//! docs/lists.md, "From POSIX to NFSv4", because no standard has them. What the check answers is by acl(5), "ACCESS
+//! CHECK ALGORITHM", what a list grants by RFC 8881, section 6.2.1, and the mode of a list by its section 6.3.2.
 
 use super::harness::{kept, passes};
 use crate::*;
@@ -79,14 +81,14 @@ fn is_checked(acl: &PosixAcl, want: u8) -> Option<bool> {
     Some(acl.check(owner, group, user, &groups, Perm::new(want)?))
 }
 
-// Returns whether the list grants the same.
+// Returns whether the list grants these rights to the same user on the same object.
 fn is_listed(list: &Acl, mask: u32) -> Option<bool> {
     let object = Object::new(b"1", b"2")?;
     let requester = Requester::new(b"3", &[b"50", b"60"])?;
     Some(grants(list.aces(), &object, &requester, Mask::new(mask)?))
 }
 
-// Permissions, the rights of the same, and whether the check and the list grant them.
+// Permissions, the rights of these permissions, and whether the check and the list grant them.
 static REQUESTS: [(u8, u32, bool, bool); 4] = [
     (6, 0x07, false, true),
     (4, 0x01, true, true),

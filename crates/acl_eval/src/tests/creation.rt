@@ -1,4 +1,5 @@
-//! What a new file or directory inherits, row by row and over all flags (RFC 8881, section 6.2.1.4.1, has the flags).
+//! What a new file or directory inherits, row by row and over all flags. RFC 8881, section 6.2.1.4.1, has the flags,
+//! and docs/lists.md, "Creation", has the rules, which are this library's own.
 
 use super::harness::{ALLOW, AceRow, DENY, built, kept, passes};
 use crate::*;
@@ -75,7 +76,7 @@ fn a_child_inherits_by_its_kind(rt: HostRuntime) {
     assert!(rt; passes(check_creations(&rt, rt.alloc())));
 }
 
-// Returns whether the new object has an ACE of the directory.
+// Returns whether the new object gets an ACE of the directory that has these flags.
 fn is_taken(kind: ChildKind, parent: Flags) -> bool {
     let for_files = parent.contains(Flags::FILE_INHERIT);
     match kind {

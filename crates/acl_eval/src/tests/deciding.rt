@@ -1,4 +1,4 @@
-//! The ACE that decides a right.
+//! The ACE that decides a right, by RFC 8881, section 6.2.1.
 
 use super::lists::{GROUP_NAMED, INHERIT_ONLY, LONG_NAMES, NONE, OWNING_GROUP, Question, THREE};
 use crate::*;
@@ -47,10 +47,7 @@ static DECISIONS: [(&[u8], &str, &[&[u8]], usize, Option<(usize, Kind)>); 11] = 
 #[test]
 fn the_first_ace_that_has_the_right_and_matches_the_requester_decides(rt: HostRuntime) {
     for (bytes, user, groups, bit, decider) in DECISIONS {
-        let decision = match decider {
-            Some((place, kind)) => Some(Decision { place, kind }),
-            None => None,
-        };
+        let decision = decider.map(|(place, kind)| Decision { place, kind });
         let question = Question::new(bytes, "bob", user, groups);
         let answers = decisions_of(&question, bit);
         assert!(rt; answers == Some([decision, decision]), "{user}, bit {bit}");

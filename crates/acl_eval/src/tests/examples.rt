@@ -6,17 +6,20 @@ use acl_perm::{Mask, Right};
 use acl_posix::{Names, parse};
 use std::test::Fail;
 
-// The examples of `grants` and of `granted`.
+// The examples of `grants`, `granted` and `deciding_ace`.
 #[test]
-fn a_user_is_granted_what_an_ace_allows(rt: HostRuntime) -> Result<(), Fail> {
+fn an_allow_grants_one_right_and_a_deny_decides_another(rt: HostRuntime) -> Result<(), Fail> {
     let alloc = rt.alloc();
-    let list = parse_text(alloc, b"ALLOW - READ_DATA|WRITE_DATA bob")?;
+    let list = parse_text(alloc, b"ALLOW - READ_DATA bob\nDENY - WRITE_DATA bob")?;
     let object = Object::new(b"alice", b"staff").ok_or("a name is empty")?;
     let bob = Requester::new(b"bob", &[]).ok_or("a name is empty")?;
-    assert!(rt; grants(list.aces(), &object, &bob, Mask::WRITE_DATA));
+    assert!(rt; grants(list.aces(), &object, &bob, Mask::READ_DATA));
     assert!(rt; !grants(list.aces(), &object, &bob, Mask::ALL));
     let rights = granted(list.aces(), &object, &bob, Mask::ALL);
-    assert!(rt; rights == Mask::READ_DATA | Mask::WRITE_DATA);
+    assert!(rt; rights == Mask::READ_DATA);
+    let write = Right::new(1).ok_or("no such right")?;
+    let decision = deciding_ace(list.aces(), &object, &bob, write).ok_or("no ACE decides")?;
+    assert_eq!(rt; decision.place, 1);
     Ok(())
 }
 
@@ -31,18 +34,6 @@ fn a_group_that_is_denied_is_found_in_the_table(rt: HostRuntime) -> Result<(), F
     let bob = Requester::new(b"bob", &[b"users", b"staff"]).ok_or("a name is empty")?;
     let may_write = grants_by_table(alloc, &list.view(), &object, &bob, Mask::WRITE_DATA)?;
     assert!(rt; !may_write);
-    Ok(())
-}
-
-#[test]
-fn the_second_ace_decides_the_right_that_the_first_lacks(rt: HostRuntime) -> Result<(), Fail> {
-    let alloc = rt.alloc();
-    let list = parse_text(alloc, b"ALLOW - READ_DATA bob\nDENY - WRITE_DATA bob")?;
-    let object = Object::new(b"alice", b"staff").ok_or("a name is empty")?;
-    let bob = Requester::new(b"bob", &[]).ok_or("a name is empty")?;
-    let write = Right::new(1).ok_or("no such right")?;
-    let decision = deciding_ace(list.aces(), &object, &bob, write).ok_or("no ACE decides")?;
-    assert_eq!(rt; decision.place, 1);
     Ok(())
 }
 

@@ -11,7 +11,7 @@ pub const ALLOW: Kind = Kind::Allow;
 
 pub const DENY: Kind = Kind::Deny;
 
-/// The list of some rows.
+/// Makes the list of these rows. It leaves out a row with a bit that is no flag or no right.
 pub fn built(alloc: Global, rows: &[AceRow]) -> Result<Acl, PushFault> {
     let mut list = Acl::new(alloc);
     for (kind, flags, mask, who) in rows {
@@ -27,8 +27,8 @@ pub fn built(alloc: Global, rows: &[AceRow]) -> Result<Acl, PushFault> {
     Ok(list)
 }
 
-/// The fault of a list if memory runs out, the only fault that the rows of a table can have. Tables return it if they
-/// get it; the tests of `ample` run the tables with enough memory.
+/// Turns a fault into `Memory`, the only fault that the rows of a table can have. A table may return it, except with
+/// ample memory (`ample`).
 pub fn kept<T, E: Drop>(answer: Result<T, E>) -> Result<T, PushFault> {
     answer.map_err(|_| PushFault::Memory)
 }

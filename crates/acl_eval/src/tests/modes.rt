@@ -5,6 +5,7 @@ use crate::*;
 use acl_nfs4::{AclView, PushFault};
 use std::alloc::Global;
 use std::process::Abort;
+use std::test::Fail;
 
 // DENY WRITE_DATA OWNER@, ALLOW READ_DATA, WRITE_DATA and APPEND_DATA EVERYONE@.
 const NO_WRITE: &[u8; 56] = b"\0\0\0\x02\
@@ -41,12 +42,10 @@ static MODES: [(&[AceRow], u16); 14] = [
 ];
 
 #[test]
-fn a_view_has_the_mode_of_its_aces(rt: HostRuntime) {
-    let mode = match AclView::parse_whole(NO_WRITE) {
-        Ok(list) => Some(mode_of(list.aces()).bits()),
-        Err(_) => None,
-    };
-    assert!(rt; mode == Some(0o466));
+fn a_view_has_the_mode_of_its_aces(rt: HostRuntime) -> Result<(), Fail> {
+    let list = AclView::parse_whole(NO_WRITE)?;
+    assert_eq!(rt; mode_of(list.aces()).bits(), 0o466);
+    Ok(())
 }
 
 /// Checks that each list has the mode of its row.

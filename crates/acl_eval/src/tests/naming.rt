@@ -1,4 +1,5 @@
-//! Whom the names of a list, of an object and of a requester mean.
+//! Whom the names of a list, of an object and of a requester mean, by RFC 8881, section 6.2.1.5. Groups are looked up
+//! in different ways, and each way has to give the same answer. That no name is empty is this library's own rule.
 
 use super::harness::passes;
 use super::lists::{GROUP_NAMED, LONG_NAMES, OWNING_GROUP, Question, THREE};
@@ -13,7 +14,7 @@ static NAMES: [(&[u8], &str, &str, &[&[u8]], bool); 16] = [
     // A user and an owner that are named like OWNER@.
     (THREE, "bob", "OWNER@", &[], false),
     (THREE, "OWNER@", "OWNER@", &[], true),
-    // The owning group, staff, is one that the requester names, also twice, and never its own by itself.
+    // The requester is in the owning group, staff, only if the requester names it, once or twice.
     (OWNING_GROUP, "bob", "alice", &[b"staff"], true),
     (
         OWNING_GROUP,
@@ -25,7 +26,7 @@ static NAMES: [(&[u8], &str, &str, &[&[u8]], bool); 16] = [
     (OWNING_GROUP, "bob", "alice", &[b"GROUP@"], false),
     (OWNING_GROUP, "bob", "alice", &[], false),
     (OWNING_GROUP, "bob", "GROUP@", &[], false),
-    // Users and groups are apart, and so are names that begin or end alike.
+    // A user and a group of the same name are different, and so are names that begin or end with the same bytes.
     (GROUP_NAMED, "bob", "alice", &[b"staff", b"users"], false),
     (GROUP_NAMED, "bob", "alice", &[b"users", b"users"], false),
     (
@@ -60,7 +61,7 @@ fn may_members_read(groups: &[&[u8]]) -> Option<bool> {
     question.is_granted(1)
 }
 
-// In order, and in no order.
+// The groups of the requester are in order, or in no order.
 #[test]
 fn a_group_is_found_among_many(rt: HostRuntime) {
     let mut groups = [b"staff".as_slice(); 130];
@@ -81,7 +82,7 @@ fn of_group(kind: Kind, who: &[u8]) -> AceRef<'_> {
     }
 }
 
-// So many ACEs that deny READ_DATA to the group users, and one that allows it to the group staff.
+// Makes a list of this many ACEs that deny READ_DATA to the group users, and one that allows it to the group staff.
 fn denials(alloc: Global, count: usize) -> Result<Acl, PushFault> {
     let mut list = Acl::new(alloc);
     for _ in 0..count {
@@ -91,15 +92,13 @@ fn denials(alloc: Global, count: usize) -> Result<Acl, PushFault> {
     Ok(list)
 }
 
-// Whether the list grants READ_DATA to a requester in these groups: first without a table, then with one.
+// Returns whether the list grants READ_DATA to a requester in these groups: first without a table, then with one.
 fn answers(alloc: Global, list: &Acl, groups: &[&[u8]]) -> Option<[bool; 2]> {
     let object = Object::new(b"alice", b"ops")?;
     let requester = Requester::new(b"bob", groups)?;
     let one_by_one = grants(list.aces(), &object, &requester, Mask::READ_DATA);
-    match grants_by_table(alloc, &list.view(), &object, &requester, Mask::READ_DATA) {
-        Ok(by_table) => Some([one_by_one, by_table]),
-        Err(_) => None,
-    }
+    let by_table = grants_by_table(alloc, &list.view(), &object, &requester, Mask::READ_DATA).ok()?;
+    Some([one_by_one, by_table])
 }
 
 /// Checks that the first ACE that matches the requester decides, also if the groups are in a table.

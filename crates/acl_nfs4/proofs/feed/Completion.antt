@@ -17,7 +17,7 @@ pub record IsBegun (profile : Profile) (n : ℕ) (list : List Ace) (t : List ℕ
   pub fewer : length list ≤ n
   pub text : t ≡ head n list
 
--- the head of a list and the piece of an ACE behind it are the head of the list with that ACE at the end
+-- the head of a list and the piece of an ACE after it are the head of the list with that ACE at the end
 head_push : (n : ℕ) (list : List Ace) (a : Ace) → head n list ++ piece a ≡ head n (list ++ a ∷ [])
 head_push n list a = append_assoc (word n) (flat_map piece list) (piece a)
     ∙ ap (λ (t : List ℕ). word n ++ t) (sym (flat_map-push list a))
@@ -111,7 +111,7 @@ all_there profile n list t b e =
       },
     )
 
--- a text that lacks so many whole ACEs begins a spelling
+-- a text that lacks this many whole ACEs begins a spelling
 fill : (profile : Profile) (todo n : ℕ) (list : List Ace) (t : List ℕ) → length list + todo ≡ n
     → Border profile (at_kind n list) t → BeginsSpelling profile t
 fill profile zero n list t e b = all_there profile n list t b (omega (arith, e))

@@ -127,28 +127,19 @@ one_answer p s piece a b x y ok h g =
       ]
     ]
 
--- a feed that has its list keeps it, whatever pieces follow
-done_kept : (list : List Ace) (pieces : List (List ℕ)) (answers : List Fed) (new : StreamState)
-    → FeedsEach (done list) pieces answers new → new ≡ done list
-done_kept list [] [] new h = h
-done_kept list [] (a ∷ answers) new h = absurd h
-done_kept list (x ∷ pieces) [] new h = absurd h
-done_kept list (x ∷ pieces) (a ∷ answers) new h = done_kept list pieces answers new
-    (subst (λ (n : StreamState). FeedsEach n pieces answers new) h.1.0 h.2)
-
--- a feed that was refused keeps its fault, whatever pieces follow
-refused_kept : (g : Fault) (pieces : List (List ℕ)) (answers : List Fed) (new : StreamState)
-    → FeedsEach (refused g) pieces answers new → new ≡ refused g
-refused_kept g [] [] new h = h
-refused_kept g [] (a ∷ answers) new h = absurd h
-refused_kept g (x ∷ pieces) [] new h = absurd h
-refused_kept g (x ∷ pieces) (a ∷ answers) new h = refused_kept g pieces answers new
-    (subst (λ (n : StreamState). FeedsEach n pieces answers new) h.1.0 h.2)
+-- a feed that no piece changes is unchanged after many pieces
+kept : (s : StreamState) → ((piece : List ℕ) (answer : Fed) (now : StreamState) → Feeds s piece answer now → now ≡ s)
+    → (pieces : List (List ℕ)) (answers : List Fed) (new : StreamState) → FeedsEach s pieces answers new → new ≡ s
+kept s stays [] [] new h = h
+kept s stays [] (a ∷ answers) new h = absurd h
+kept s stays (x ∷ pieces) [] new h = absurd h
+kept s stays (x ∷ pieces) (a ∷ answers) new h = kept s stays pieces answers new
+    (subst (λ (n : StreamState). FeedsEach n pieces answers new) (stays x a h.0 h.1) h.2)
 
 -- pieces that are fed one after the other are answered as all of them at once
 pub each_is : (p : Profile) (s : List ℕ) (pieces : List (List ℕ)) (answers : List Fed) (new : StreamState)
-    → IsCutShort p s
-    → FeedsEach (more p s) pieces answers new → Feeds (more p s) (concat pieces) (together pieces answers) new
+    → IsCutShort p s → FeedsEach (more p s) pieces answers new
+    → Feeds (more p s) (concat pieces) (together pieces answers) new
 each_is p s [] [] new cut h = (
   h ∙ ap (λ (t : List ℕ). more p t) (sym (append-nil s)),
   subst (λ (t : List ℕ). IsCutShort p t)
@@ -160,13 +151,13 @@ each_is p s (x ∷ pieces) (fed.More ∷ answers) new cut h =
     let rest = subst (λ (n : StreamState). FeedsEach n pieces answers new) h.1.0 h.2 in
     joins p s x (concat pieces) (together pieces answers) new (each_is p (s ++ x) pieces answers new h.1.1 rest)
 each_is p s (x ∷ pieces) (fed.Done t ∷ answers) new cut h =
-    let kept : new ≡ done h.1.0 = done_kept h.1.0 pieces answers new
+    let same : new ≡ done h.1.0 = kept (done h.1.0) (λ y a now f. f.0) pieces answers new
     (subst (λ (n : StreamState). FeedsEach n pieces answers new) h.1.1 h.2) in
-    longer (more p s) new x (concat pieces) (fed.Done t) (λ e. cc) (h.1.0, kept, h.1.2, h.1.3)
+    longer (more p s) new x (concat pieces) (fed.Done t) (λ e. cc) (h.1.0, same, h.1.2, h.1.3)
 each_is p s (x ∷ pieces) (fed.Refused f ∷ answers) new cut h =
-    let kept : new ≡ refused f = refused_kept f pieces answers new
+    let same : new ≡ refused f = kept (refused f) (λ y a now g. g.0) pieces answers new
     (subst (λ (n : StreamState). FeedsEach n pieces answers new) h.1.0 h.2) in
-    longer (more p s) new x (concat pieces) (fed.Refused f) (λ e. cc) (kept, h.1.1)
+    longer (more p s) new x (concat pieces) (fed.Refused f) (λ e. cc) (same, h.1.1)
 
 -- the empty text is cut short
 pub nothing_cut : (p : Profile) → IsCutShort p []

@@ -1,4 +1,4 @@
--- A text that is cut short has few bytes behind its whole ACEs.
+-- A text that is cut short has few bytes after its whole ACEs.
 use Rattle.acl_nfs4.proofs.Common.{Ace, ap, append_assoc, arith, Border, Breaks, done, Fed, Feeds, HoldsLittle, inl, inr, IsCutShort, IsSmall, kind_number, length, length-append, List, longest_who, more, piece, Profile, refused, size, Stage, StreamState, subst, sym, Truncated, word, ℕ, ◌++◌, ◌+◌, ◌<◌, ◌∙◌, ◌≡◌, ◌≤◌, start, typed, flagged, masked, measured, named, refl}
 use Rattle.acl_nfs4.specs.declared.feed.fed.Fed.TheVariants as fed
 use Rattle.acl_nfs4.specs.Fault.Stage.{kind as at_kind}
@@ -11,13 +11,13 @@ pub short_rest : (p : Profile) (s : Stage) (rest : List ℕ) (n : ℕ) → Break
 short_rest p s rest n (inl h) = h.0
 short_rest p s rest n (inr h) = absurd (never_truncated p s _ h.2)
 
--- a text of whole ACEs and few bytes behind them holds little
+-- a text of whole ACEs and few bytes after them holds little
 behind : (p : Profile) (n : ℕ) (list : List Ace) (t text tail : List ℕ) → Border p (at_kind n list) t
     → text ≡ t ++ tail → length tail < 16 + longest_who → HoldsLittle text
 behind p n list t text tail b e lt =
     inr (n, list, tail, e ∙ ap (λ (x : List ℕ). x ++ tail) (begun p n list t b).text, lt)
 
--- a text that ends inside the field behind a border holds little
+-- a text that ends inside the field after a border holds little
 little : (p : Profile) (s : Stage) (t rest : List ℕ) → Border p s t → length rest < size s → HoldsLittle (t ++ rest)
 little p (at_kind n list) t rest b short = behind p n list t (t ++ rest) rest b refl (omega (arith, short))
 little p _ _ rest start short = inl short
@@ -37,13 +37,12 @@ little p _ _ rest (named n list k f m w _ (measured _ _ _ _ _ l _
     behind p n list t _ (word (kind_number k) ++ word f ++ word m ++ word (length w) ++ w ++ rest) b (simp append_assoc)
     (omega (arith, short, (who_bounds w is).1, length-append w rest))
 
--- a text that is cut short has few bytes behind its whole ACEs
+-- a text that is cut short has few bytes after its whole ACEs
 pub cut_holds : (p : Profile) (text : List ℕ) → IsCutShort p text → HoldsLittle text
 cut_holds p text cut =
     let f = cut.1.1 in
     subst (λ (t : List ℕ). HoldsLittle t) (sym f.parts)
-    (little p f.stage f.front f.rest f.border
-    (short_rest p f.stage f.rest f.more f.breaks))
+    (little p f.stage f.front f.rest f.border (short_rest p f.stage f.rest f.more f.breaks))
 
 -- a feed whose stream is cut short holds little beyond whole ACEs
 small_is : (new : StreamState) (p : Profile) (s : List ℕ) → new ≡ more p s → IsCutShort p s → IsSmall new
@@ -53,7 +52,7 @@ small_is new p s e cut = subst (λ (n : StreamState). IsSmall n) (sym e) (cut_ho
 small_done : (new : StreamState) (list : List Ace) → new ≡ done list → IsSmall new
 small_done new list e = subst (λ (n : StreamState). IsSmall n) (sym e) tt
 
--- after each piece a feed that is not done holds few bytes behind the whole ACEs
+-- after each piece a feed that is not done holds few bytes after the whole ACEs
 pub small_after : (old : StreamState) (piece : List ℕ) (answer : Fed) (new : StreamState) → Feeds old piece answer new
     → IsSmall new
 small_after (more p s) piece fed.More new h = small_is new p (s ++ piece) h.0 h.1
@@ -68,7 +67,5 @@ pub taken_within : (old : StreamState) (piece : List ℕ) (answer : Fed) (new : 
 taken_within (more p s) piece (fed.Done t) new h taken e = let same : t ≡ taken = cc in omega (arith, h.2, same)
 taken_within (more p s) piece answer new h taken e = absurd cc
 taken_within (done list) piece answer new h taken e =
-    let d = h.1 in
-    let none : taken ≡ 0 = cc in
-    omega (arith, none)
+    let d = h.1 in let none : taken ≡ 0 = cc in omega arith
 taken_within (refused g) piece answer new h taken e = let d = h.1 in absurd cc

@@ -17,7 +17,7 @@ either : {A E C : Type 0} (r : Result A E) → ((x : A) → r ≡ Ok x → C) �
 either (Ok x) ok err = ok x refl
 either (Err e) ok err = err e refl
 
--- a text with a border before an ACE, where so many ACEs are left, begins with a list or has a fault
+-- a text with a border before an ACE, where this many ACEs are left, begins with a list or has a fault
 from_border : (p : Profile) (text : List ℕ) (todo n : ℕ) (list : List Ace) (t : List ℕ) (q : Place)
     → Border p (at_kind n list) t → Carried text t q → length list + todo ≡ n → IsJudged p text
 from_border p text zero n list t q b c e =

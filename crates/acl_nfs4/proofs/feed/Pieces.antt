@@ -32,7 +32,7 @@ has_taken (more p s) new piece f = f.0
 has_taken (done list) new piece f = let e = f.1 in absurd cc
 has_taken (refused q) new piece f = let e = f.1 in absurd cc
 
--- the answer to y behind a stream and x is, counted from the stream, the answer to x and y together
+-- the answer to y after a stream and x is, counted from the stream, the answer to x and y together
 pub joins : (p : Profile) (s x y : List ℕ) (a : Fed) (new : StreamState) → Feeds (more p (s ++ x)) y a new
     → Feeds (more p s) (x ++ y) (further (length x) a) new
 joins p s x y fed.More new h =
@@ -57,7 +57,7 @@ on (refused q) now new front chunk a h f =
     let g = subst (λ (n : StreamState). Feeds n chunk a new) h.0 f in
     (g.0, ap (further (length front)) g.1)
 
--- bytes behind a piece that ends the list or is refused change nothing
+-- bytes after a piece that ends the list or is refused change nothing
 pub longer : (old new : StreamState) (chunk back : List ℕ) (a : Fed) → a ≢ fed.More → Feeds old chunk a new
     → Feeds old (chunk ++ back) a new
 longer (more p s) new chunk back fed.More ends h = absurd (ends refl)

@@ -1,6 +1,6 @@
 -- A body is judged from the place up to which it was judged before.
-use Rattle.acl_nfs4.proofs.Common.{[], Ace, ace_at, ap, append_assoc, arith, behind_scanned, count_ones, drop, drop_at, IsProfile, IsScanned, length, length-append, length-take, List, Ok, piece, Place, Profile, Progress, refl, sym, take, take-append-drop, ℕ, ◌++◌, ◌+◌, ◌-◌, ◌∙◌, ◌∷◌, ◌≡◌, ◌≤◌}
-use Rattle.acl_nfs4.proofs.xdr.Fields.{IsBytes, IsBytes-drop, front_is}
+use Rattle.acl_nfs4.proofs.Common.{[], Ace, ace_at, ap, append_assoc, arith, behind_scanned, count_ones, drop, drop_at, IsBytes, IsProfile, IsScanned, length, length-append, length-take, List, Ok, piece, Place, Profile, Progress, refl, sym, take, take-append-drop, ℕ, ◌++◌, ◌+◌, ◌-◌, ◌∙◌, ◌∷◌, ◌≡◌, ◌≤◌}
+use Rattle.acl_nfs4.proofs.xdr.Fields.{IsBytes-drop, front_is}
 use Rattle.acl_nfs4.proofs.xdr.Lists.{ace_takes}
 use Rattle.acl_nfs4.proofs.xdr.Faults.{weight-push}
 use Rattle.acl_nfs4.proofs.list.Push.{each_push, spells_push, no_spells}
@@ -32,11 +32,12 @@ pub record Scans (p : Profile) (body : List ℕ) (from : Progress) (a : Ace) (q 
       (record { seen = from.seen + 1; used = length body - length q.rest; weight = from.weight + count_ones a.mask })
 
 -- a body is judged one ACE further if the next ACE is accepted
-pub scans : (p : Profile) (body : List ℕ) (from : Progress) (a : Ace) (q : Place) → IsProfile p → IsBytes body
-    → IsScanned p body from
-    → ace_at p from.weight (behind_scanned body from) ≡ Ok (a, q) → Scans p body from a q
-scans p body from a q ok fits s e =
-    let t = ace_takes p from.weight (behind_scanned body from) (a, q) (IsBytes-drop from.used body fits) e in
+pub scans : (p : Profile) (body : List ℕ) (from : Progress) (a : Ace) (here q : Place) → IsProfile p → IsBytes body
+    → IsScanned p body from → here ≡ behind_scanned body from → ace_at p from.weight here ≡ Ok (a, q)
+    → Scans p body from a q
+scans p body from a here q ok fits s at e =
+    let t = ace_takes p from.weight (behind_scanned body from) (a, q) (IsBytes-drop from.used body fits)
+    (ap (ace_at p from.weight) (sym at) ∙ e) in
     let front : List ℕ = take from.used body in
     let whole : body ≡ (front ++ piece a) ++ q.rest = sym (take-append-drop from.used body)
     ∙ ap (λ (x : List ℕ). front ++ x) t.takes.parts ∙ sym (append_assoc front (piece a) q.rest) in

@@ -1,7 +1,7 @@
 -- A text that was judged up to a place.
 pub mod FirstWord
-use Rattle.acl_nfs4.proofs.Common.{[], Ace, ace_at, aces_of, ap, append_assoc, arith, behind_scanned, body_in, cases_lt, count_of, drop, drop-append-le, EndsPart, Err, Fault, flat_map, inl, inr, IsCutShort, IsFault, IsProfile, IsProgress, IsScanned, IsWhole, Judged, length, length-append, length-drop, length-take, List, most_aces, None, number, Ok, Option, piece, Profile, Progress, Reason, refl, Some, subst, sym, take, take-append-drop, take-append-le, Truncated, weight, Xdr, ℕ, ◌++◌, ◌+◌, ◌-◌, ◌<◌, ◌∙◌, ◌≡◌, ◌≤◌, start, IsFirstFault, word, spelling, counted, be_bytes_4, take_at}
-use Rattle.acl_nfs4.proofs.xdr.Fields.{IsBytes, IsBytes-drop, IsBytes-take, count_is, front_behind}
+use Rattle.acl_nfs4.proofs.Common.{[], Ace, ace_at, aces_of, ap, append_assoc, arith, behind_scanned, body_in, cases_lt, count_of, drop, drop-append-le, EndsPart, Err, Fault, flat_map, inl, inr, IsBytes, IsCutShort, IsFault, IsProfile, IsProgress, IsScanned, IsWhole, Judged, length, length-append, length-drop, length-take, List, most_aces, None, number, Ok, Option, piece, Profile, Progress, Reason, refl, Some, subst, sym, take, take-append-drop, take-append-le, Truncated, weight, Xdr, ℕ, ◌++◌, ◌+◌, ◌-◌, ◌<◌, ◌∙◌, ◌≡◌, ◌≤◌, start, IsFirstFault, word, spelling, counted, be_bytes_4, take_at}
+use Rattle.acl_nfs4.proofs.xdr.Fields.{IsBytes-drop, IsBytes-take, count_is, front_behind}
 use Rattle.acl_nfs4.proofs.xdr.Body.{is_body, aces_of-flat_map}
 use Rattle.acl_nfs4.proofs.xdr.Faults.{ace_fails, borders_after, first_at}
 use Rattle.acl_nfs4.proofs.feed.Scanning.{none_scanned, scanned_on}
@@ -70,8 +70,7 @@ text_short p text short =
 
 -- a text whose count is refused has that fault at its front
 pub text_refused : (p : Profile) (text : List ℕ) (r : Reason) → 4 ≤ length text
-    → count_of (number (take 4 text)) ≡ Err r
-    → IsFirstFault p text 0 4 r
+    → count_of (number (take 4 text)) ≡ Err r → IsFirstFault p text 0 4 r
 text_refused p text r long e =
     first_at at_count [] text 4 refl start refl tt (omega arith) (inr (long, refl, e)) refl
 
@@ -88,7 +87,7 @@ same_front text more n inside =
           ap (take n) d ∙ take-append-le n (drop 4 text) more inside
     ]
 
--- so many ACEs stay within the count as the text grows
+-- this many ACEs stay within the count as the text grows
 same_seen : (text more : List ℕ) (n : ℕ) → n ≤ number (take 4 text) → (length text < 4 → n ≡ 0)
     → n ≤ number (take 4 (text ++ more))
 same_seen text more n seen begun =
@@ -155,9 +154,10 @@ pub judged_whole : (p : Profile) (text : List ℕ) (so_far : Progress) (end : Op
 judged_whole p text so_far end judged none = subst (Judged p text so_far) none judged
 
 -- a list that was not whole before the piece ends in the piece
-pub ended : (p : Profile) (old piece text : List ℕ) (so_far : Progress) → IsProfile p → text ≡ old ++ piece
-    → IsWhole p text so_far → IsCutShort p old → Ended p old piece text so_far
-ended p old piece text so_far ok e w cut =
+pub ended : (p : Profile) (old piece text : List ℕ) (so_far : Progress) (end : Option Fault) → IsProfile p
+    → text ≡ old ++ piece → Judged p text so_far end → end ≡ None → IsCutShort p old → Ended p old piece text so_far
+ended p old piece text so_far end ok e judged none cut =
+    let w = judged_whole p text so_far end judged none in
     let list : List Ace = aces_of so_far.seen (body_in text so_far) in
     let x : Xdr p list (take (4 + so_far.used) (old ++ piece)) =
     subst (λ (t : List ℕ). Xdr p (aces_of so_far.seen (body_in text so_far)) (take (4 + so_far.used) t)) e w.xdr in

@@ -11,7 +11,7 @@ then_then Less p q = refl
 then_then Equal p q = refl
 then_then Greater p q = refl
 
--- if two texts begin with fronts of one length, the fronts are compared first, and then what is behind them
+-- if two texts begin with fronts of one length, the fronts are compared first, and then what is after them
 fronts_first : (a b x y : List ℕ) → length a ≡ length b
     → slice_cmp nat_cmp (a ++ x) (b ++ y) ≡ ordering_then (slice_cmp nat_cmp a b) (slice_cmp nat_cmp x y)
 fronts_first [] [] x y e = refl

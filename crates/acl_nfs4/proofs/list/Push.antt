@@ -90,7 +90,7 @@ push_passes list a ok =
     le-ltb most_weight _ (omega (arith, ok.weight, weight-push list a)) in
     rw (room, light, (each_last full list a ok.each).who) refl
 
--- a head, a who and three zero bytes behind a text, cut behind the padding, are the text and the piece
+-- a head, a who and three zero bytes after a text, cut after the padding, are the text and the piece
 pub fields_appended : (old head who b c d : List ℕ) (n m pad : ℕ) → b ≡ old ++ head → c ≡ b ++ who
     → d ≡ c ++ replicate 3 0 → n ≡ length c → m ≡ pad → pad ≤ 3
     → take (n + m) d ≡ old ++ ((head ++ who) ++ replicate pad 0)

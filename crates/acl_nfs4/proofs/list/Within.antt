@@ -22,17 +22,13 @@ flags_within n le = and_mask n 8 ∙ omega (arith, le)
 
 -- the flags of a profile fit a word
 pub flags_lt : (profile : Profile) (n : ℕ) → IsProfile profile → IsWithin profile.flags n → n < 2 ^ 32
-flags_lt profile n is within = omega (
-  arith,
-  within_le all_flags n (within_part all_flags profile.flags n is.flags within),
-)
+flags_lt profile n is within =
+    let le = within_le all_flags n (within_part all_flags profile.flags n is.flags within) in omega arith
 
 -- the masks of a profile fit a word
 pub mask_lt : (profile : Profile) (n : ℕ) → IsProfile profile → IsWithin profile.masks n → n < 2 ^ 32
-mask_lt profile n is within = omega (
-  arith,
-  within_le all_rights n (within_part all_rights profile.masks n is.masks within),
-)
+mask_lt profile n is within =
+    let le = within_le all_rights n (within_part all_rights profile.masks n is.masks within) in omega arith
 
 -- the full profile is a profile
 pub full_is : IsProfile full

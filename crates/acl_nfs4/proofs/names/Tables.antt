@@ -22,7 +22,7 @@ row_found test (r ∷ rows) =
       | false ↦ row_found test rows
     ]
 
--- ---- the names behind a row
+-- ---- the names after a row
 
 -- a number does not have a greater bit
 above_all : (bits bit : ℕ) → bits < bit → eqb (bit_and bits bit) bit ≡ false

@@ -52,7 +52,7 @@ pub plain_whole : (bytes : List ℕ) → ArePlain bytes 0 (length bytes) → lis
 plain_whole bytes plain = list_all-from_AllPass is_plain_ascii bytes
     (All-from_all_within (λ b. is_plain_ascii b ≡ true) bytes plain)
 
--- if the first lane that is set is behind a front, each byte of the front is plain ASCII
+-- if the first lane that is set is after a front, each byte of the front is plain ASCII
 pub plain_front : (bytes : List ℕ) (n len : ℕ) → ((k : ℕ) → Fits w8 (get_or bytes k 0)) → n ≤ 64
     → n ≤ length bytes → len ≤ n → len ≤ count_trailing_zeros 64 (beyond n (chunk 0 n bytes))
     → ArePlain bytes 0 len

@@ -23,7 +23,7 @@ abbrev pub CutSays : List ℕ → Option (List ℕ × List ℕ) → Type 0
 CutSays bytes None = count_by is_space bytes ≡ 0
 CutSays bytes (Some parts) = IsSpaceCut bytes parts.0 parts.1
 
--- bytes are cut at their first space into what is before it and what is behind it
+-- bytes are cut at their first space into what is before it and what is after it
 cut_at : (bytes : List ℕ) (i : ℕ) → position is_space bytes ≡ Some i
     → IsSpaceCut bytes (take i bytes) (drop (i + 1) bytes)
 cut_at bytes i e =
@@ -41,12 +41,8 @@ cut_at bytes i e =
       order = order;
       free = list_all-from_AllPass (λ b. not (is_space b)) _
           (All-weaker (λ b. is_space b ≡ false) (λ b. not (is_space b) ≡ true) (λ b h. rw h refl) _ free);
-      count = omega (
-        arith,
-        length-slice_split is_space bytes,
-        length-slice_split is_space (drop (i + 1) bytes),
-        ap length parts,
-      );
+      count = let more = ap length parts in
+          omega (arith, length-slice_split is_space bytes, length-slice_split is_space (drop (i + 1) bytes));
     }
 
 -- what a cut finds is true of the bytes
@@ -59,7 +55,7 @@ cut_says bytes =
       | Some i ↦ λ e. cut_at bytes i e
     ] refl
 
--- if a front has no space, the first space of the bytes is the one behind it
+-- if a front has no space, the first space of the bytes is the one after it
 first_space : (first rest : List ℕ) → HasNoSpace first → position_or_len is_space (first ++ space ∷ rest) ≡ length first
 first_space [] rest h = refl
 first_space (b ∷ first) rest h =

@@ -1,4 +1,4 @@
--- What is read of a line is true of the line, and what is true of a line is what is read of it.
+-- What is read from a line is true of the line, and what is true of a line is read from the line.
 use Rattle.acl_nfs4.proofs.Common.{Ace, AceTextFault, after_flags, after_kind, after_mask, Allow, arith, bytes_eq, cond, count_ones, Deny, Err, false, flag_names, if_light, IsAce, IsAt, IsFlagged, IsLight, IsLineFault, IsMasked, IsSplit, IsTyped, Kind, kind_name, le-leb, le-ltb, leb-false, leb-true, length, line_fields, LineFields, List, lt-ltb, ltb-false, ltb-true, mask_column, most_aces, most_weight, nat_le, nat_lt, nat_tests, None, Ok, ok_or, Option, Profile, read_ace_fields, refl, Result, rights, set_within, Some, SpellsAce, TextLine, true, weight, who_column, who_fault, who_fault_at, who_judged, WhoFault, ℕ, ◌+◌, ◌<◌, ◌>>=◌, ◌∙◌, ◌≡◌, ◌≢◌, ◌≤◌}
 use Rattle.acl_nfs4.specs.internal.AceReading.{kind_named, read_ace}
 use Rattle.acl_nfs4.specs.declared.who.WhoFault.TheVariants as who
@@ -14,7 +14,7 @@ pub record TakesAce (p : Profile) (list : List Ace) (line : TextLine) (a : Ace) 
   pub room : length list < most_aces
   pub light : weight list + count_ones a.mask ≤ most_weight
 
--- the answer of reading a line, as the next one behind a list
+-- the answer of reading a line, as the next one after a list
 abbrev pub answer_of : Profile → List Ace → TextLine → Result Ace AceTextFault
 answer_of p list line = read_ace p (length list) (weight list) line.number line.bytes
 
@@ -29,7 +29,7 @@ here line column = record { same_line = refl; same_column = refl }
 
 -- ---- what is answered is true
 
--- what is answered is true if it is true where a field is missing, and behind each value that the field may have
+-- what is answered is true if it is true where a field is missing, and after each value that the field may have
 step : {A : Type 0} (p : Profile) (list : List Ace) (line : TextLine) (fault : AceTextFault)
     (next : A → Result Ace AceTextFault) (Says : Option A → Type 0) (o : Option A) → Says o
     → (Says None → IsLineFault p list line fault) → ((x : A) → Says (Some x) → LineSays p list line (next x))
@@ -37,7 +37,7 @@ step : {A : Type 0} (p : Profile) (list : List Ace) (line : TextLine) (fault : A
 step p list line fault next Says None says missing found = missing says
 step p list line fault next Says (Some x) says missing found = found x says
 
--- what is read behind a mask that the list can accept is true of the line
+-- what is read after a mask that the list can accept is true of the line
 who_says : (p : Profile) (list : List Ace) (line : TextLine) (fields : LineFields) (light : IsLight p list line fields)
     (o : Option WhoFault) → who_fault fields.who ≡ o
     → LineSays p list line (who_judged line.number (who_column fields) fields.who o
@@ -72,7 +72,7 @@ who_says p list line fields light (Some who.Control) e =
 who_says p list line fields light (Some who.Special) e =
     record { fields = fields; light = light; reason = e; place = here _ _ }
 
--- what is read behind the flags is true of the line
+-- what is read after the flags is true of the line
 mask_says : (p : Profile) (list : List Ace) (line : TextLine) (fields : LineFields)
     (flagged : IsFlagged p list line fields) (o : Option ℕ) → PartSays rights p.masks fields.mask o
     → LineSays p list line ((ok_or o (faults.Mask line.number (mask_column fields))
@@ -119,7 +119,7 @@ kind_says word =
           ] refl
     ] refl
 
--- what is read of a line is true of it, if the list can take one more ACE
+-- what is read from a line is true of the line, if the list can take one more ACE
 fields_next : (p : Profile) (list : List Ace) (line : TextLine) → length list < most_aces
     → LineSays p list line (ok_or (line_fields line.bytes) (faults.Fields line.number 1)
     >>= (λ fields. read_ace_fields p (weight list) line.number fields))
@@ -165,25 +165,25 @@ missing Says (Some x) says none = absurd (none x says)
 has_room : (n : ℕ) → n < most_aces → nat_le most_aces n ≡ false
 has_room n lt = grind (arith, nat_tests)
 
--- the answer for a line that has its fields is what is read of the fields
+-- the answer for a line that has its fields is what is read from the fields
 cut_read : (p : Profile) (list : List Ace) (line : TextLine) (fields : LineFields) → IsSplit list line fields
     → answer_of p list line ≡ read_ace_fields p (weight list) line.number fields
 unfolding read_ace
 cut_read p list line fields h = rw (has_room (length list) h.room, fields_read line.bytes fields h.has) refl
 
--- the answer for a line that is right up to its kind is what is read behind the kind
+-- the answer for a line that is right up to its kind is what is read after the kind
 typed_read : (p : Profile) (list : List Ace) (line : TextLine) (fields : LineFields) (h : IsTyped list line fields)
     → answer_of p list line ≡ after_kind p (weight list) line.number fields h.kind
 typed_read p list line fields h = cut_read p list line fields h.cut ∙ rw (h.is_kind, kind_read h.kind) refl
 
--- the answer for a line that is right up to its flags is what is read behind the flags
+-- the answer for a line that is right up to its flags is what is read after the flags
 flagged_read : (p : Profile) (list : List Ace) (line : TextLine) (fields : LineFields)
     (h : IsFlagged p list line fields)
     → answer_of p list line ≡ after_flags p (weight list) line.number fields h.typed.kind h.flags
 flagged_read p list line fields h = typed_read p list line fields h.typed
     ∙ rw (part_read flag_names p.flags fields.flags h.flags flags_table h.named h.within) refl
 
--- the answer for a line that is right up to its mask is that of the weight, and then what is read behind the mask
+-- the answer for a line that is right up to its mask is that of the weight, and then what is read after the mask
 masked_read : (p : Profile) (list : List Ace) (line : TextLine) (fields : LineFields) (mask : ℕ)
     (h : IsMasked p list line fields mask)
     → answer_of p list line ≡ (if_light (weight list) line.number (mask_column fields) mask
@@ -191,7 +191,7 @@ masked_read : (p : Profile) (list : List Ace) (line : TextLine) (fields : LineFi
 masked_read p list line fields mask h = flagged_read p list line fields h.flagged
     ∙ rw (part_read rights p.masks fields.mask mask rights_table h.named h.within) refl
 
--- the answer for a line whose mask the list can accept is what is read behind the mask
+-- the answer for a line whose mask the list can accept is what is read after the mask
 light_read : (p : Profile) (list : List Ace) (line : TextLine) (fields : LineFields) (h : IsLight p list line fields)
     → answer_of p list line ≡ after_mask line.number fields h.masked.flagged.typed.kind h.masked.flagged.flags h.mask
 light_read p list line fields h = masked_read p list line fields h.mask h.masked

@@ -1,4 +1,4 @@
--- What is read of a text is true of the text, and what is true of a text is what is read of it.
+-- What is read from a text is true of the text, and what is true of a text is read from the text.
 use Rattle.acl_nfs4.proofs.Common.{[], Ace, ace_lines, ace_lines_from, AceTextFault, ap, append-nil, append_assoc, arith, Err, FailsAs, false, IfErr, IfOk, inl, inr, is_skipped, IsAccepted, IsAceText, IsAceTextFault, IsTextRefusal, length, length-append, List, MatchResult, Ok, Profile, read_ace, refl, Result, SpellEach, SpellsAce, subst, sym, TextLine, true, weight, ℕ, ◌++◌, ◌+◌, ◌>>=◌, ◌∙◌, ◌∷◌, ◌≡◌, ◌⊎◌}
 use Rattle.acl_nfs4.specs.internal.AceReading.{read_lines}
 use Rattle.acl_nfs4.specs.declared.text.fault.AceTextFault.TheVariants as faults
@@ -7,7 +7,7 @@ use Rattle.acl_nfs4.proofs.xdr.Faults.{weight-push}
 use Rattle.acl_nfs4.proofs.xdr.Lists.{front_accepted}
 use Rattle.acl_nfs4.proofs.list.Push.{each_last, each_push}
 
--- ---- one line and the lines behind it
+-- ---- one line and the lines after it
 
 -- a line that is skipped changes nothing
 pub read_skipped : (p : Profile) (list : List Ace) (number : ℕ) (line : List ℕ) (more : List (List ℕ))
@@ -15,7 +15,7 @@ pub read_skipped : (p : Profile) (list : List Ace) (number : ℕ) (line : List �
     → read_lines p list (ace_lines_from number (line ∷ more)) ≡ read_lines p list (ace_lines_from (number + 1) more)
 read_skipped p list number line more h = rw h refl
 
--- any other line is read before the lines behind it
+-- any other line is read before the lines after it
 pub read_kept : (p : Profile) (list : List Ace) (number : ℕ) (line : List ℕ) (more : List (List ℕ))
     (r : Result Ace AceTextFault) → is_skipped line ≡ false → read_ace p (length list) (weight list) number line ≡ r
     → read_lines p list (ace_lines_from number (line ∷ more))
@@ -98,7 +98,7 @@ takes_next p list more line a h s =
       light = omega (arith, front.weight, weight-push list a);
     }
 
--- what lines spell is read, and then the lines behind them
+-- what lines spell is read, and then the lines after them
 all_read : (p : Profile) (list more : List Ace) (lines rest : List TextLine) → SpellEach lines more
     → IsAccepted p (list ++ more) → read_lines p list (lines ++ rest) ≡ read_lines p (list ++ more) rest
 unfolding read_lines

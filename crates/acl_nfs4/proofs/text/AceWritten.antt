@@ -1,6 +1,7 @@
 -- The text that is written, and what it spells.
 use Rattle.acl_nfs4.proofs.Common.{[], Ace, ace_lines_from, ace_text, arith, nat_tests, all_flags, all_rights, AllByRecursion, Allow, ap, append_assoc, Bool, cond, Deny, eqb, false, first_name, flag_names, flat_map-cons, is_no_who_len, is_plain, is_skipped, is_unknown_special, is_utf8, IsAccepted, IsAce, IsAceText, IsProfile, IsWho, Kind, kind_name, length, List, list_all, None, not, Profile, refl, rights, slice_split_at, Some, SpellEach, SpellsAce, SpellsMask, subst, sym, true, ℕ, ◌++◌, ◌+◌, ◌↔◌, ◌∙◌, ◌∷◌, ◌≡◌}
 use Rattle.std.proofs.lemmas.List.Folds.{list_all-append}
+use Rattle.acl_perm.proofs.Cuts.{not_feed}
 use Rattle.acl_perm.specs.Lines.{lines_of}
 use Rattle.acl_nfs4.specs.AceText.{ace_line}
 use Rattle.acl_nfs4.specs.BitNames.{set_text}
@@ -12,10 +13,6 @@ use Rattle.acl_nfs4.proofs.list.Within.{within_part}
 use Rattle.acl_nfs4.proofs.plain_ascii.PlainText.{all_weaker}
 
 -- ---- the bytes of a line
-
--- whether a byte is no line feed
-abbrev is_no_feed : ℕ → Bool
-is_no_feed b = not (eqb b 10)
 
 -- a who has no control byte
 plain_who : (name : List ℕ) → IsWho name → list_all is_plain name ≡ true
@@ -46,12 +43,12 @@ unfolding ace_line
 line_is a = simp append_assoc
 
 -- a body has no line feed
-no_feed_in : (a : Ace) → IsWho a.who → list_all is_no_feed (body a) ≡ true
+no_feed_in : (a : Ace) → IsWho a.who → list_all not_feed (body a) ≡ true
 no_feed_in a h =
-    let kind : list_all is_no_feed (kind_name a.kind) ≡ true = kind_pass is_no_feed refl refl a.kind in
-    let flags = set_text-pass is_no_feed flag_names a.flags refl in
-    let mask = set_text-pass is_no_feed rights a.mask refl in
-    let who = all_weaker is_plain is_no_feed a.who (λ b plain. grind (arith, nat_tests, plain)) (plain_who a.who h) in
+    let kind : list_all not_feed (kind_name a.kind) ≡ true = kind_pass not_feed refl refl a.kind in
+    let flags = set_text-pass not_feed flag_names a.flags refl in
+    let mask = set_text-pass not_feed rights a.mask refl in
+    let who = all_weaker is_plain not_feed a.who (λ b plain. grind (arith, nat_tests, plain)) (plain_who a.who h) in
     simp (list_all-append {X = ℕ}) (rw (kind, flags, mask, who) refl)
 
 -- a body is not skipped

@@ -69,7 +69,7 @@ aces_of-flat_map (a ∷ list) bytes s =
     ∙ ap (λ (m : List Ace). a ∷ m) (aces_of-flat_map list (flat_map piece list)
     (record { spelled = refl; weight = omega (arith, s.weight, weight-cons a list); each = s.each.1 }))
 
--- bytes that spell so many ACEs are a body of so many ACEs
+-- bytes that spell this many ACEs are a body of this many ACEs
 pub is_body : (list : List Ace) (count : ℕ) (bytes : List ℕ) → length list ≡ count → SpellsBody list bytes
     → IsBody count bytes
 is_body list count bytes len s =

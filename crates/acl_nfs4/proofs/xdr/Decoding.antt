@@ -1,4 +1,4 @@
--- A value from a source, of which no byte behind the value is taken.
+-- A value that is read from a source. No byte after the value is taken.
 use Rattle.acl_nfs4.proofs.Common.{[], Ace, ap, append-nil, Consumes, Decodes, Err, Fault, FaultsOrFails, inl, inr, IsAtEnd, IsFault, IsOrFails, IsProfile, length, List, None, Ok, Option, Profile, Reason, Result, same_Some, Some, subst, sym, Xdr, ℕ, ◌++◌, ◌∙◌, ◌≡◌, refl, Read, no_memory, ◌⊎◌}
 use Rattle.acl_nfs4.proofs.xdr.Resume.{one}
 use Rattle.acl_nfs4.proofs.xdr.OneFault.{value_or_fault}

@@ -1,8 +1,8 @@
 -- A fault that reading returns is the first fault of the text.
-use Rattle.acl_nfs4.proofs.Common.{[], Ace, ap, append_assoc, arith, Bool, Border, cases_lt, cond, count_ones, Err, Fault, fault_at, field, flagged, flags_of, inl, inr, IsAce, IsFault, IsOwed, judged, Kind, kind_number, kind_of, le-ltb, length, length-append, List, longest_who, lt-ltb, mask_of, masked, measured, most_weight, named, number, Ok, pad_len, padded, padding_of, piece, Place, Profile, Reason, refl, refuses, replicate, Result, size, Stage, subst, suc, sum_by_push, sym, take, Truncated, typed, weight, who_len_of, who_of, word, word_field, zero, ℕ, ◌++◌, ◌+◌, ◌<◌, ◌>>=◌, ◌∙◌, ◌∷◌, ◌≡◌, ◌≤◌, Breaks, IsFirstFault, AllByRecursion, append-nil, flat_map, flat_map-cons}
+use Rattle.acl_nfs4.proofs.Common.{[], Ace, ap, append_assoc, arith, Bool, Border, cases_lt, cond, count_ones, Err, Fault, fault_at, field, flagged, flags_of, inl, inr, IsAce, IsBytes, IsFault, IsOwed, judged, Kind, kind_number, kind_of, le-ltb, length, length-append, List, longest_who, lt-ltb, mask_of, masked, measured, most_weight, named, number, Ok, pad_len, padded, padding_of, piece, Place, Profile, Reason, refl, refuses, replicate, Result, size, Stage, subst, suc, sum_by_push, sym, take, Truncated, typed, weight, who_len_of, who_of, word, word_field, zero, ℕ, ◌++◌, ◌+◌, ◌<◌, ◌>>=◌, ◌∙◌, ◌∷◌, ◌≡◌, ◌≤◌, Breaks, IsFirstFault, AllByRecursion, append-nil, flat_map, flat_map-cons}
 use Rattle.acl_nfs4.specs.internal.Reading.{ace_at, from_who}
 use Rattle.acl_nfs4.specs.Fault.Stage.{kind as at_kind, flags as at_flags, mask as at_mask, len as at_len, who as at_who, padding as at_padding}
-use Rattle.acl_nfs4.proofs.xdr.Fields.{IsBytes, Takes, field_takes, word_takes, who_bounds, kind_is, flags_are, mask_is, who_len_is, who_is}
+use Rattle.acl_nfs4.proofs.xdr.Fields.{Takes, field_takes, word_takes, who_bounds, kind_is, flags_are, mask_is, who_len_is, who_is}
 use Rattle.acl_nfs4.proofs.xdr.Lists.{weight-cons}
 
 -- a fault, as a result of a given type
@@ -33,7 +33,7 @@ pub record Carried (bytes t : List ℕ) (p : Place) : Type 0 where
   pub here : length t ≡ p.at
   pub fits : IsBytes p.rest
 
--- behind one more field, reading has come to the end of that field
+-- after one more field, reading has come to the end of that field
 pub Carried-then : (bytes t : List ℕ) (p : Place) (x : List ℕ) (q : Place) → Carried bytes t p → Takes p x q
     → Carried bytes (t ++ x) q
 Carried-then bytes t p x q c k = record {
@@ -53,7 +53,7 @@ pub judged_err : {A : Type 0} (n : ℕ) (p : Place) (r : Result A Reason) (f : F
 judged_err n p (Ok x) f e = absurd cc
 judged_err n p (Err d) f e = (d, refl, cc)
 
--- accepted fields up to a border, and a wrong field behind it, are a first fault
+-- accepted fields up to a border, and a wrong field after it, are a first fault
 pub first_at : {p : Profile} {bytes : List ℕ} {o t : ℕ} {r : Reason} (s : Stage) (front rest : List ℕ) (n : ℕ)
     → bytes ≡ front ++ rest → Border p s front → length front ≡ o → IsOwed s → 0 < size s → Breaks p s rest n r
     → o + n ≡ t → IsFirstFault p bytes o t r
@@ -109,12 +109,12 @@ padding_some (suc n) bytes r e = omega arith
 some_word : (r : Reason) → 0 < 4
 some_word r = omega arith
 
--- fields that are put behind a text one by one may be put there together
+-- fields that are put after a text one by one may be put there together
 pub regroup : (t a b c d e f : List ℕ)
     → ((((((t ++ a) ++ b) ++ c) ++ d) ++ e) ++ f) ≡ t ++ (((((a ++ b) ++ c) ++ d) ++ e) ++ f)
 regroup t a b c d e f = simp append_assoc
 
--- behind a whole ACE the text is at a border again
+-- after a whole ACE the text is at a border again
 pub border_after : (profile : Profile) (n : ℕ) (list : List Ace) (t : List ℕ) (a : Ace)
     → Border profile (at_kind n list) t → length list < n → IsAce profile a
     → weight list + count_ones a.mask ≤ most_weight
@@ -131,7 +131,7 @@ border_after profile n list t a b lt is light =
     (regroup t (word (kind_number a.kind)) (word a.flags) (word a.mask) (word (length a.who)) a.who
     (replicate (pad_len (length a.who)) 0)) b6
 
--- behind more whole ACEs the text is at a border again
+-- after more whole ACEs the text is at a border again
 pub borders_after : (profile : Profile) (n : ℕ) (list more : List Ace) (t : List ℕ) → Border profile (at_kind n list) t
     → AllByRecursion (IsAce profile) more → length list + length more ≤ n → weight list + weight more ≤ most_weight
     → Border profile (at_kind n (list ++ more)) (t ++ flat_map piece more)

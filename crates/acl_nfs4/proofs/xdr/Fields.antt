@@ -1,11 +1,7 @@
 -- A field that is read is the field that was written, and what was written is read again.
-use Rattle.acl_nfs4.proofs.Common.{[], Allow, and_true, ap, append_assoc, arith, be_bytes_4, bit_and, Bool, cases_lt, cond, count_of, count_ones, Deny, drop, drop_at, eq-eqb, eqb, eqb-true, Err, false, fault_at, field, flags_of, from_be_bytes-to_be_bytes_4, get_or, get_or-append_right, get_or-drop, get_or-take, get_or_append_left, get_or_past, inl, inr, is_no_who_len, IsWho, IsWithin, judged, Kind, kind_number, kind_of, le-ltb, length, length-append, length-take, List, list_all, longest_who, ltb, ltb-false, mask_of, most_aces, most_weight, moved, None, number, Ok, Option, option_map, padding_of, Place, Profile, Reason, refl, replicate, Result, Some, subst, suc, sym, take, take-append-drop, take_at, true, Truncated, unless, who_fault, who_len_of, who_of, who_reason, WhoFault, word, word_field, zero, ℕ, ◌++◌, ◌+◌, ◌-◌, ◌<◌, ◌>>=◌, ◌^◌, ◌∙◌, ◌∷◌, ◌≡◌, ◌≤◌, take-append-add, nat_tests}
+use Rattle.acl_nfs4.proofs.Common.{[], Allow, and_true, ap, append_assoc, arith, be_bytes_4, bit_and, Bool, cases_lt, cond, count_of, count_ones, Deny, drop, drop_at, eq-eqb, eqb, eqb-true, Err, false, fault_at, field, flags_of, from_be_bytes-to_be_bytes_4, get_or-append_right, get_or-drop, get_or-take, get_or_append_left, get_or_past, inl, inr, is_no_who_len, IsBytes, IsWho, IsWithin, judged, Kind, kind_number, kind_of, le-ltb, length, length-append, length-take, List, list_all, longest_who, ltb, ltb-false, mask_of, most_aces, most_weight, moved, None, number, Ok, Option, option_map, padding_of, Place, Profile, Reason, refl, replicate, Result, Some, subst, suc, sym, take, take-append-drop, take_at, true, Truncated, unless, who_fault, who_len_of, who_of, who_reason, WhoFault, word, word_field, zero, ℕ, ◌++◌, ◌+◌, ◌-◌, ◌<◌, ◌>>=◌, ◌^◌, ◌∙◌, ◌∷◌, ◌≡◌, ◌≤◌, take-append-add, nat_tests}
 
--- numbers that are bytes
-abbrev pub IsBytes : List ℕ → Type 0
-IsBytes bytes = (i : ℕ) → get_or bytes i 0 < 256
-
--- what is behind the first bytes of a list of bytes is bytes
+-- what is after the first bytes of a list of bytes is bytes
 pub IsBytes-drop : (n : ℕ) (bytes : List ℕ) → IsBytes bytes → IsBytes (drop n bytes)
 IsBytes-drop n bytes h i = rw get_or-drop (h (n + i))
 
@@ -17,7 +13,7 @@ IsBytes-take n bytes h i =
       | inr le ↦ rw (get_or_past (take n bytes) i 0 (omega (arith, length-take n bytes))) (omega arith)
     ]
 
--- bytes behind bytes are bytes
+-- bytes after bytes are bytes
 pub bytes_append : (a b : List ℕ) → IsBytes a → IsBytes b → IsBytes (a ++ b)
 bytes_append a b f g i =
     elim (cases_lt i (length a)) [
@@ -31,7 +27,7 @@ front_is whole front back e =
     let n : length whole - length back ≡ length front = omega (arith, ap length e, length-append front back) in
     ap (λ (k : ℕ). take k whole) n ∙ ap (take (length front)) e ∙ take_at front back (length front) refl
 
--- the front of two texts, up to a place behind the first, is the first and a front of the second
+-- the front of two texts, up to a place after the first, is the first and a front of the second
 pub front_behind : (text more : List ℕ) (n : ℕ) → length text ≤ n
     → take n (text ++ more) ≡ text ++ take (n - length text) more
 front_behind text more n le =
@@ -44,7 +40,7 @@ pub bind_then : {A B E C : Type 0} (r : Result A E) (f : A → Result B E) (y : 
 bind_then (Ok x) f y e go = go x refl e
 bind_then (Err d) f y e go = absurd cc
 
--- a step that gives a value goes on with that value
+-- a step that gives a value continues with that value
 pub goes_to : {A B E : Type 0} (r : Result A E) (f : A → Result B E) (x : A) → r ≡ Ok x → (r >>= f) ≡ f x
 goes_to {A = A} {E = E} r f x e = ap (λ (s : Result A E). s >>= f) e
 
@@ -67,6 +63,10 @@ ok x = Ok x
 pub ok_is : {A E : Type 0} (x y : A) → ok {A = A} {E = E} x ≡ ok y → x ≡ y
 ok_is x y e = cc
 
+-- a place, by the number of bytes before it and the bytes after it
+abbrev pub place : ℕ → List ℕ → Place
+place n rest = record { at = n; rest = rest }
+
 -- what reading took from the front
 pub record Takes (p : Place) (text : List ℕ) (q : Place) : Type 0 where
   pub parts : p.rest ≡ text ++ q.rest
@@ -84,7 +84,7 @@ Takes-then p x q y r s t = record {
 
 -- ---- any field
 
--- a whole field that gives a value was accepted, and reading goes on behind it
+-- a whole field that gives a value was accepted, and reading continues after it
 pub judged_ok : {A : Type 0} (n : ℕ) (p : Place) (r : Result A Reason) (x : A × Place) → judged n p r ≡ Ok x
     → (r ≡ Ok x.0) × (moved n p ≡ x.1)
 judged_ok n p (Ok y) x e = let h : (y, moved n p) ≡ x = ok_is _ _ e in (ap (λ z. Ok z.0) h, ap (λ z. z.1) h)
@@ -218,7 +218,7 @@ who_is bytes who e = let h = taken_is (who_fault bytes) bytes who e in (h.0, sub
 pub who_again : (who : List ℕ) → IsWho who → who_of who ≡ Ok who
 who_again who is = rw is refl
 
--- bytes that are all zero are so many zeros
+-- bytes that are all zero are as many zeros
 zeros : (bytes : List ℕ) → list_all (λ b. eqb b 0) bytes ≡ true → bytes ≡ replicate (length bytes) 0
 zeros [] e = refl
 zeros (b ∷ bytes) e =
@@ -231,7 +231,7 @@ zeros (b ∷ bytes) e =
 pub padding_is : (bytes : List ℕ) (x : Unit {0}) → padding_of bytes ≡ Ok x → bytes ≡ replicate (length bytes) 0
 padding_is bytes x e = zeros bytes (guard_then (list_all (λ b. eqb b 0) bytes) _ _ x e)
 
--- so many zeros are all zero
+-- a number of zeros are all zero
 zeros_again : (n : ℕ) → list_all (λ b. eqb b 0) (replicate n 0) ≡ true
 zeros_again zero = refl
 zeros_again (suc n) = zeros_again n

@@ -2,13 +2,13 @@
 use Rattle.acl_nfs4.proofs.Common.{[], Ace, ap, append_assoc, arith, cases_lt, Consumes, Consumes-nil, Consumes-trans, count_ones, drop, drop-take, drop_at, Err, Fault, field, Gives, IfOk, inl, inr, IsBytes, IsDrawn, IsFilled, IsHalted, IsLacking, kind_of, length, length-append, length-take, List, Mask, most_weight, number, Ok, Option, Place, Placed, post_of, Profile, put_mid, Reason, refl, Result, subst, sym, take, take-append-add, take-append-le, take_all, Truncated, ℕ, ◌++◌, ◌+◌, ◌-◌, ◌<◌, ◌>>=◌, ◌∙◌, ◌≡◌, ◌≤◌}
 use Rattle.acl_nfs4.specs.internal.Reading.{ace_at, from_flags}
 use Rattle.acl_nfs4.specs.internal.Pulling.{HasEnded, IsCutIn, IsShort}
-use Rattle.acl_nfs4.proofs.xdr.Fields.{bytes_append, field_again, front_behind, goes_to, IsBytes-drop, IsBytes-take}
+use Rattle.acl_nfs4.proofs.xdr.Fields.{bytes_append, field_again, front_behind, goes_to, IsBytes-drop, IsBytes-take, place}
 use Rattle.acl_nfs4.proofs.xdr.Resume.{fails, field_breaks}
 use Rattle.acl_nfs4.proofs.xdr.OneFault.{IsOfSource}
 
 -- ---- the buffer
 
--- bytes that were pulled are behind the bytes that were held
+-- bytes that were pulled are after the bytes that were held
 pub filled_on : (old room piece buf : List ℕ) (held filled k n : ℕ) → filled ≤ length room → n ≤ length buf
     → take filled room ≡ take held old ++ piece
     → take (filled + n) (put_mid filled k room buf) ≡ take held old ++ (piece ++ take n buf)
@@ -20,7 +20,7 @@ filled_on old room piece buf held filled k n inside le so_far =
     ∙ ap (λ (t : List ℕ). front ++ t) (take-append-le n buf (post_of filled k room) le)
     ∙ ap (λ (t : List ℕ). t ++ take n buf) so_far ∙ append_assoc (take held old) piece (take n buf)
 
--- what was pulled behind the bytes that were held is bytes
+-- what was pulled after the bytes that were held is bytes
 pub piece_bytes : (old room piece : List ℕ) (held end : ℕ) → IsBytes room → take end room ≡ take held old ++ piece
     → IsBytes piece
 piece_bytes old room piece held end bytes e =
@@ -29,14 +29,14 @@ piece_bytes old room piece held end bytes e =
     subst (λ (t : List ℕ). IsBytes t) back
     (IsBytes-drop (length (take held old)) (take end room) (IsBytes-take end room bytes))
 
--- the bytes of the buffer behind those that were held are the piece that was pulled
+-- the bytes of the buffer after those that were held are the piece that was pulled
 pub field_is : (old room piece : List ℕ) (held size : ℕ) → held ≤ length old
     → take (held + size) room ≡ take held old ++ piece → length piece ≡ size → take size (drop held room) ≡ piece
 field_is old room piece held size inside e long =
     let front : length (take held old) ≡ held = omega (arith, length-take held old, inside) in
     sym (drop-take held size room) ∙ ap (drop held) e ∙ drop_at (take held old) piece held front
 
--- four bytes that were asked for are a word, and spell its number
+-- four bytes that were requested are a word, and spell its number
 pub is_word : (held size : ℕ) (old new piece : List ℕ) (before after n : ℕ) → size ≡ 4
     → IsFilled held size old new piece before after → n ≡ number (take 4 (drop held new))
     → IsFilled held 4 old new piece before after × (number piece ≡ n)
@@ -48,8 +48,7 @@ is_word held size old new piece before after n four f e =
 
 -- a field that is refused has a reason, and its fault is at the field
 pub refusal : {X A : Type 0} (view : X → A) (offset : ℕ) (judged : Result X Reason) (value : Result A Reason)
-    (f : Fault)
-    → Placed offset judged (Err f) → Gives view judged value
+    (f : Fault) → Placed offset judged (Err f) → Gives view judged value
     → (r : Reason) × (value ≡ Err r) × (f ≡ record { offset = offset; reason = r })
 refusal view offset (Ok x) value f placed gives = absurd cc
 refusal view offset (Err r) value f placed gives = (r, gives, cc)
@@ -69,10 +68,6 @@ placed_light weight (Ok z) m o placed light =
 placed_light weight (Err r) m o placed light = absurd cc
 
 -- ---- the fields of an ACE, one after the other
-
--- a place, by the number of bytes before it and the bytes behind it
-abbrev pub place : ℕ → List ℕ → Place
-place n rest = record { at = n; rest = rest }
 
 -- a field of n bytes, and then the rest of the ACE
 abbrev pub followed : {A : Type 0} → ℕ → (List ℕ → Result A Reason) → (A → Place → Result (Ace × Place) Fault) → Place
@@ -156,7 +151,7 @@ module _ {p : Profile} {weight offset held size : ℕ} {old here left : Option (
         );
       }
 
-  -- if the judge refuses the next field, the decoder stops behind it
+  -- if the judge refuses the next field, the decoder stops after it
   pub field_refused : {at : ℕ} {new : List ℕ} {f : Fault} {X : Type 0} (view : X → A) (judged : Result X Reason)
       → (a : (bytes : List ℕ) × Consumes here left bytes × IsFilled held size room new bytes mid after) → size ≡ n
       → Placed at judged (Err f) → Gives view judged (value a.0) → at ≡ offset + held
@@ -187,9 +182,8 @@ module _ {p : Profile} {weight offset held size : ℕ} {old here left : Option (
       }
 
 module _ {p : Profile} {weight offset held : ℕ} {old here left : Option (List ℕ)} {before mid after x : ℕ}
-    {room new given : List ℕ} {X A : Type 0} (at : ℕ) (view : X → A) (judged : Result X Reason) (value : ℕ
-    → Result A Reason)
-    (rest : A → Place → Result (Ace × Place) Fault)
+    {room new given : List ℕ} {X A : Type 0} (at : ℕ) (view : X → A) (judged : Result X Reason)
+    (value : ℕ → Result A Reason) (rest : A → Place → Result (Ace × Place) Fault)
     (d : IsDrawn p weight (followed 4 (λ b. value (number b)) rest) offset held old here before mid room given)
     (a : (bytes : List ℕ) × Consumes here left bytes
     × (IsFilled held 4 room new bytes mid after × (number bytes ≡ x)))
@@ -200,7 +194,7 @@ module _ {p : Profile} {weight offset held : ℕ} {old here left : Option (List 
   word_drawn z placed = field_drawn 4 (λ b. value (number b)) rest d (view z) (a.0, a.1, a.2.0) refl refl
       (ap value a.2.1 ∙ accepted view at judged (value x) z placed gives)
 
-  -- if the judge refuses the next word, the decoder stops behind it
+  -- if the judge refuses the next word, the decoder stops after it
   pub word_refused : {f : Fault} → Placed at judged (Err f) → at ≡ offset + held
       → ((n : ℕ) (r : Reason) → IsOfSource r → value n ≡ Err r → ⊥) → IsHalted p weight offset old left before after f
   word_refused placed where_at never = field_refused 4 (λ b. value (number b)) rest d view judged

@@ -4,23 +4,17 @@ use Rattle.acl_nfs4.proofs.xdr.Fields.{who_bounds}
 
 -- the piece of an ACE has at most 1,044 bytes
 ace_short : (p : Profile) (a : Ace) → IsAce p a → length (piece a) ≤ 1044
-ace_short p a is = omega (
-  arith,
-  length-append a.who (replicate (pad_len (length a.who)) 0),
-  length-replicate {A = ℕ} (pad_len (length a.who)) 0,
-  (who_bounds a.who is.who).1,
-)
+ace_short p a is =
+    let long = length-append a.who (replicate (pad_len (length a.who)) 0) in
+    let pad = length-replicate {A = ℕ} (pad_len (length a.who)) 0 in
+    omega (arith, (who_bounds a.who is.who).1)
 
 -- the pieces of a list have at most 1,044 bytes per ACE
 pieces_short : (p : Profile) (list : List Ace) → AllByRecursion (IsAce p) list
     → length (flat_map piece list) ≤ 1044 * length list
 pieces_short p [] each = omega arith
-pieces_short p (a ∷ list) each = omega (
-  arith,
-  length-append (piece a) (flat_map piece list),
-  ace_short p a each.0,
-  pieces_short p list each.1,
-)
+pieces_short p (a ∷ list) each =
+    omega (arith, length-append (piece a) (flat_map piece list), ace_short p a each.0, pieces_short p list each.1)
 
 -- the spelling of an accepted list has less than 2 ^ 31 bytes
 pub spelling_short : (p : Profile) (list : List Ace) → IsAccepted p list → length (spelling list) < 2 ^ 31
@@ -36,8 +30,6 @@ list_short count body is =
 -- the spelling of a list has four bytes more than its body
 pub list_len : (count : ℕ) (body : List ℕ) → IsList count body
     → 4 + length body ≡ length (spelling (aces_of count body))
-list_len count body is = omega (
-  arith,
-  ap length is.body.spells.spelled,
-  length-append (word (length (aces_of count body))) (flat_map piece (aces_of count body)),
-)
+list_len count body is =
+    let long = ap length is.body.spells.spelled in
+    omega (arith, length-append (word (length (aces_of count body))) (flat_map piece (aces_of count body)))

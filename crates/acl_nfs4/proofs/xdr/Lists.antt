@@ -1,7 +1,7 @@
 -- What reading an ACE takes, and the front of a list.
-use Rattle.acl_nfs4.proofs.Common.{[], Ace, AllByRecursion, ap, arith, count_ones, field, flags_of, IsAccepted, IsAce, Kind, kind_number, kind_of, length, length-append, List, mask_of, most_weight, Ok, pad_len, padding_of, piece, Place, Profile, replicate, subst, sum_by-append, sum_by-cons, sym, take, weight, who_len_of, who_of, word, word_field, ℕ, ◌++◌, ◌+◌, ◌∙◌, ◌∷◌, ◌≡◌, ◌≤◌}
+use Rattle.acl_nfs4.proofs.Common.{[], Ace, AllByRecursion, ap, arith, count_ones, field, flags_of, IsAccepted, IsAce, IsBytes, Kind, kind_number, kind_of, length, length-append, List, mask_of, most_weight, Ok, pad_len, padding_of, piece, Place, Profile, replicate, subst, sum_by-append, sum_by-cons, sym, take, weight, who_len_of, who_of, word, word_field, ℕ, ◌++◌, ◌+◌, ◌∙◌, ◌∷◌, ◌≡◌, ◌≤◌}
 use Rattle.acl_nfs4.specs.internal.Reading.{ace_at}
-use Rattle.acl_nfs4.proofs.xdr.Fields.{IsBytes, bind_then, ok_is, Takes, Takes-then, field_takes, word_takes, kind_is, flags_are, mask_is, who_len_is, who_is, padding_is}
+use Rattle.acl_nfs4.proofs.xdr.Fields.{bind_then, ok_is, Takes, Takes-then, field_takes, word_takes, kind_is, flags_are, mask_is, who_len_is, who_is, padding_is}
 
 -- ---- one ACE
 

@@ -60,7 +60,7 @@ never_of_source profile (at_padding n list k f m w) bytes r o h = padding_never 
 pub never_truncated : (profile : Profile) (s : Stage) (bytes : List ℕ) → refuses profile s bytes Truncated → ⊥
 never_truncated profile s bytes = never_of_source profile s bytes Truncated (inl refl)
 
--- the first bytes of a text, up to a place behind its front, are the front and the first bytes of the rest
+-- the first bytes of a text, up to a place after its front, are the front and the first bytes of the rest
 kept_front : (bytes front rest : List ℕ) (o k : ℕ) → bytes ≡ front ++ rest → length front ≡ o
     → take (o + k) bytes ≡ front ++ take k rest
 kept_front bytes front rest o k parts here =
@@ -85,7 +85,7 @@ cut_short {bytes = bytes} {o = o} k f lt le =
           f.owed f.some (inl (omega (arith, n, lt), sym n, refl)) refl,
     )
 
--- the text cut behind the refused field is refused as before
+-- the text cut after the refused field is refused as before
 cut_behind : {p : Profile} {bytes : List ℕ} {o t : ℕ} {r : Reason} (k : ℕ) (f : IsFirstFault p bytes o t r)
     → size f.stage ≤ k → r ≢ Truncated → IsFault p (take (o + k) bytes) o r
 cut_behind {p} {bytes} {o} {r = r} k f le not_cut =
@@ -172,19 +172,10 @@ same_end : {p : Profile} {bytes : List ℕ} {o t u : ℕ} {r : Reason} → IsPro
 same_end {p} {r = r} ok f g =
     elim f.breaks [
       | inl a ↦ elim g.breaks [
-        | inl b ↦ omega (
-          arith,
-          f.here,
-          g.here,
-          f.ends,
-          g.ends,
-          a.1,
-          b.1,
-          ap length f.parts,
-          ap length g.parts,
-          length-append f.front f.rest,
-          length-append g.front g.rest,
-        )
+        | inl b ↦
+            let here = ap length f.parts in
+            let there = ap length g.parts in
+            omega (arith, a.1, b.1, length-append f.front f.rest, length-append g.front g.rest)
         | inr b ↦ absurd (never_truncated p g.stage _ (subst (refuses p g.stage (take (size g.stage) g.rest)) a.2 b.2))
       ]
       | inr a ↦

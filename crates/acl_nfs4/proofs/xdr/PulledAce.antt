@@ -25,7 +25,7 @@ module _ {p : Profile} {weight offset : ℕ} {old here left : Option (List ℕ)}
       → at ≡ offset + 8 → IsHalted p weight offset old left before after f
   mask_lacks a where_at = word_lacks (mask_of p weight) (from_len w.kind w.flags) w.drawn a where_at
 
-  -- if the judge refuses the mask, the decoder stops behind it
+  -- if the judge refuses the mask, the decoder stops after it
   pub mask_refused : {at x : ℕ} {new : List ℕ} {f : Fault} (judged : Result Mask Reason)
       → (a : (bytes : List ℕ) × Consumes here left bytes
       × (IsFilled 8 4 room new bytes mid after × (number bytes ≡ x)))
@@ -53,7 +53,7 @@ module _ {p : Profile} {weight offset : ℕ} {old here left : Option (List ℕ)}
   who_lacks a same where_at =
       field_lacks x.len who_of (from_padding w.kind w.flags w.mask x.len) w.drawn a same where_at
 
-  -- if the judge refuses the who, the decoder stops behind it
+  -- if the judge refuses the who, the decoder stops after it
   pub who_refused : {at size : ℕ} {new : List ℕ} {f : Fault} {X : Type 0} (view : X → List ℕ)
       (judged : Result X Reason)
       → (a : (bytes : List ℕ) × Consumes here left bytes × IsFilled 16 size room new bytes mid after)
@@ -85,7 +85,7 @@ module _ {p : Profile} {weight offset : ℕ} {old there here left : Option (List
   padding_lacks b same where_at = field_lacks (pad_len x.len) padding_of
       (λ z at. Ok (record { kind = w.kind; flags = w.flags; mask = w.mask; who = who }, at)) d b same where_at
 
-  -- if the judge refuses the padding, the decoder stops behind it
+  -- if the judge refuses the padding, the decoder stops after it
   pub padding_refused : {at size : ℕ} {new : List ℕ} {f : Fault} (judged : Result (Unit {0}) Reason)
       → (b : (bytes : List ℕ) × Consumes here left bytes × IsFilled (16 + x.len) size room new bytes mid after)
       → size ≡ pad_len x.len → Placed at judged (Err f)

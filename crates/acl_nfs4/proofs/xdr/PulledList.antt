@@ -4,11 +4,11 @@ use Rattle.acl_nfs4.specs.internal.Reading.{ace_at}
 use Rattle.acl_nfs4.specs.internal.Pulling.{DrawsCount}
 use Rattle.acl_nfs4.specs.declared.xdr.pulling.Pulled.{Pulled}
 use Rattle.acl_nfs4.specs.Fault.Stage.{count as at_count}
-use Rattle.acl_nfs4.proofs.xdr.Fields.{bytes_append, count_is, IsBytes-drop, IsBytes-take}
+use Rattle.acl_nfs4.proofs.xdr.Fields.{bytes_append, count_is, IsBytes-drop, IsBytes-take, place}
 use Rattle.acl_nfs4.proofs.xdr.OneFault.{all_taken, never_truncated}
 use Rattle.acl_nfs4.proofs.feed.Scanning.{none_scanned, scanned_on, scans}
 use Rattle.acl_nfs4.proofs.feed.Streaming.{text_ends, text_fails, text_refused, text_short}
-use Rattle.acl_nfs4.proofs.xdr.FromSource.{accepted, place, refusal}
+use Rattle.acl_nfs4.proofs.xdr.FromSource.{accepted, refusal}
 
 -- ---- the word of the count
 
@@ -136,8 +136,8 @@ pulled_on {p} {n} {seen} {total} {offset} {x = x} {body = body} text ok t lt at 
     ∙ ap (λ (k : ℕ). place k (h.given ++ [])) (sym at) in
     let fits = bytes_append body h.given (subst (λ (b : List ℕ). IsBytes b) t.parts (IsBytes-drop 4 text t.bytes))
     h.drawn.bytes in
-    let s = scans p (body ++ h.given) (record { seen = seen; used = length body; weight = total }) h.ace
-    (place (offset + x.len) []) ok fits (grown t h.given) (ap (ace_at p total) next ∙ h.drawn.leads []) in
+    let s = scans p (body ++ h.given) (record { seen = seen; used = length body; weight = total }) h.ace _
+    (place (offset + x.len) []) ok fits (grown t h.given) (sym next) (h.drawn.leads []) in
     let all : length (body ++ h.given) - 0 ≡ length (body ++ h.given) = omega arith in
     record {
       small = t.small;

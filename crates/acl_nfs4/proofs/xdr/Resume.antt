@@ -2,11 +2,11 @@
 use Rattle.acl_nfs4.proofs.Common.{[], Ace, ap, append_assoc, arith, Border, Breaks, count_of, count_ones, counted, Err, Fault, fault_at, field, flagged, flags_of, inl, inr, IsFault, IsOwed, IsProfile, Kind, kind_number, kind_of, le-ltb, length, length-append, length-replicate, List, lt-ltb, mask_of, masked, measured, named, number, Ok, pad_len, padded, padding_of, Place, Profile, Reason, refl, replicate, Result, Stage, start, suc, sym, take, Truncated, typed, weight, who_len_of, who_of, word, word_field, ℕ, ◌++◌, ◌+◌, ◌-◌, ◌<◌, ◌>>=◌, ◌∙◌, ◌∷◌, ◌≡◌, ◌≤◌, ◌⊎◌, append-nil, spelling, Xdr, subst}
 use Rattle.acl_nfs4.specs.internal.Reading.{ace_at, aces_at, from_flags, from_len, from_mask, from_padding, from_who, read_list}
 use Rattle.acl_nfs4.specs.Fault.Stage.{count as at_count, kind as at_kind, flags as at_flags, mask as at_mask, len as at_len, who as at_who, padding as at_padding}
-use Rattle.acl_nfs4.proofs.xdr.Fields.{goes_to, ok_is, word_again, field_again, count_again, kind_again, kind_lt, flags_again, mask_again, who_len_again, who_again, padding_again}
+use Rattle.acl_nfs4.proofs.xdr.Fields.{goes_to, ok_is, place, word_again, field_again, count_again, kind_again, kind_lt, flags_again, mask_again, who_len_again, who_again, padding_again}
 use Rattle.acl_nfs4.proofs.xdr.Faults.{borders_after, weight-push}
 use Rattle.acl_nfs4.proofs.list.Within.{flags_lt, mask_lt}
 
--- what is read behind these ACEs, with these ACEs in front of it
+-- what is read after these ACEs, with these ACEs in front of it
 abbrev pub behind : List Ace → Result (List Ace × Place) Fault → Result (List Ace × Place) Fault
 behind list r = r >>= λ x. Ok (list ++ x.0, x.1)
 
@@ -26,11 +26,7 @@ resume profile (at_len n list k f m) p = then_others profile n list (from_len k 
 resume profile (at_who n list k f m l) p = then_others profile n list (from_who k f m l p)
 resume profile (at_padding n list k f m w) p = then_others profile n list (from_padding k f m (length w) w p)
 
--- a place, by the number of bytes before it and the bytes behind it
-abbrev place : ℕ → List ℕ → Place
-place n rest = record { at = n; rest = rest }
-
--- if reading goes on at a border, and from there over one more field, it goes on behind that field
+-- if reading continues at a border, and from there over one more field, it continues after that field
 moves_on : (profile : Profile) (s u : Stage) (t x rest : List ℕ)
     → read_list profile (t ++ (x ++ rest)) ≡ resume profile s (place (length t) (x ++ rest))
     → resume profile s (place (length t) (x ++ rest)) ≡ resume profile u (place (length t + length x) rest)
@@ -44,7 +40,7 @@ pub behind-nil : (r : Result (List Ace × Place) Fault) → r ≡ behind [] r
 behind-nil (Ok x) = refl
 behind-nil (Err f) = refl
 
--- an ACE in front of what is read may be the last of the ACEs in front of it
+-- it is the same to put an ACE in front of what is read, and then a list, or the list with this ACE at its end
 behind-push : (list : List Ace) (a : Ace) (r : Result (List Ace × Place) Fault)
     → behind list (r >>= λ x. Ok (a ∷ x.0, x.1)) ≡ behind (list ++ a ∷ []) r
 behind-push list a (Ok x) = ap (λ (l : List Ace). Ok (l, x.1)) (sym (append_assoc list (a ∷ []) x.0))
@@ -54,7 +50,7 @@ behind-push list a (Err f) = refl
 abbrev zeros_for : List ℕ → List ℕ
 zeros_for w = replicate (pad_len (length w)) 0
 
--- at a border before an ACE, reading goes over the kind to the flags
+-- at a border before an ACE, reading continues after the kind, at the flags
 kind_step : (profile : Profile) (n : ℕ) (list : List Ace) (k : Kind) (at : ℕ) (rest : List ℕ) → length list < n
     → resume profile (at_kind n list) (place at (word (kind_number k) ++ rest))
     ≡ resume profile (at_flags n list k) (place (at + 4) rest)
@@ -65,7 +61,7 @@ kind_step profile n list k at rest lt =
     ∙ ap (then_others profile n list) (goes_to _ _ _ (word_again kind_of at (kind_number k) rest k (kind_lt k)
     (kind_again k)))
 
--- at a border before the padding, reading goes over it to the next ACE
+-- at a border before the padding, reading continues after the padding, at the next ACE
 padding_step : (profile : Profile) (n : ℕ) (list : List Ace) (k : Kind) (f m : ℕ) (w : List ℕ) (at : ℕ) (rest : List ℕ)
     → resume profile (at_padding n list k f m w) (place at (zeros_for w ++ rest))
     ≡ resume profile (at_kind n (list ++ record { kind = k; flags = f; mask = m; who = w } ∷ []))
@@ -84,7 +80,7 @@ padding_step profile n list k f m w at rest =
     ∙ ap (λ (c : ℕ). behind (list ++ a ∷ []) (aces_at profile (n - length (list ++ a ∷ [])) (weight (list ++ a ∷ []))
     (place (at + c) rest))) (sym len)
 
--- reading a text whose fields up to a border are accepted goes on at the border
+-- if the fields of a text up to a border are accepted, reading the text continues at the border
 resumes : (profile : Profile) (s : Stage) (t rest : List ℕ) → IsProfile profile → Border profile s t
     → read_list profile (t ++ rest) ≡ resume profile s (place (length t) rest)
 unfolding read_list
@@ -135,7 +131,7 @@ field_breaks size value p n r (inr h) = rw (le-ltb (length p.rest) size h.0, h.2
 pub fails : {A B E : Type 0} (r : Result A E) (f : A → Result B E) (e : E) → r ≡ Err e → (r >>= f) ≡ Err e
 fails r f e h = rw h refl
 
--- if the field behind a border is cut short or refused, reading fails with that fault
+-- if the field after a border is cut short or refused, reading fails with that fault
 breaks_is : (profile : Profile) (s : Stage) (p : Place) (n : ℕ) (r : Reason) → IsOwed s → Breaks profile s p.rest n r
     → resume profile s p ≡ Err (fault_at p r)
 unfolding aces_at ace_at

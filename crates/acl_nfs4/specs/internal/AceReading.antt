@@ -27,15 +27,15 @@ use Rattle.acl_nfs4.specs.declared.text.line.LineFields.{LineFields as HeldField
 
 -- ---- fields
 
--- the bytes before the first space, and the bytes behind it
+-- the bytes before the first space, and the bytes after it
 abbrev pub cut_space : List ℕ → Option (List ℕ × List ℕ)
 cut_space bytes = option_map (λ i. (take i bytes, drop (i + 1) bytes)) (position (λ b. b == space) bytes)
 
--- the first field and the bytes behind it, as code holds them
+-- the first field and the bytes after it, as code holds them
 abbrev pub view_first : FirstField → List ℕ × List ℕ
 view_first parts = (parts.field.now, parts.rest.now)
 
--- the last two fields, behind these two
+-- the last two fields, after these two
 abbrev pub last_fields : List ℕ → List ℕ → Option (List ℕ × List ℕ) → Option LineFields
 last_fields kind flags parts =
     option_map (λ p. record { kind = kind; flags = flags; mask = p.0; who = p.1 }) parts
@@ -94,17 +94,17 @@ read_who line column field = who_judged line column field (who_fault field)
 
 -- ---- lines
 
--- the ACE of fields of which three are already read
+-- the ACE of the fields of a line, after three of them are read
 abbrev pub after_mask : ℕ → LineFields → Kind → ℕ → ℕ → Result Ace AceTextFault
 after_mask line fields kind flags mask = read_who line (who_column fields) fields.who
     >>= λ name. Ok (record { kind = kind; flags = flags; mask = mask; who = name })
 
--- the ACE of fields of which two are already read, after ACEs of this weight
+-- the ACE of the fields of a line, after two of them are read, and after ACEs of this weight
 abbrev pub after_flags : Profile → ℕ → ℕ → LineFields → Kind → ℕ → Result Ace AceTextFault
 after_flags p heavy line fields kind flags = read_mask_field p heavy line (mask_column fields) fields.mask
     >>= λ mask. after_mask line fields kind flags mask
 
--- the ACE of fields of which one is already read
+-- the ACE of the fields of a line, after one of them is read
 abbrev pub after_kind : Profile → ℕ → ℕ → LineFields → Kind → Result Ace AceTextFault
 after_kind p heavy line fields kind = read_flags p line (flags_column fields) fields.flags
     >>= λ flags. after_flags p heavy line fields kind flags
@@ -114,17 +114,17 @@ abbrev pub read_ace_fields : Profile → ℕ → ℕ → LineFields → Result A
 read_ace_fields p heavy line fields =
     ok_or (kind_named fields.kind) (faults.AceType line 1) >>= λ kind. after_kind p heavy line fields kind
 
--- the ACE of a line, as the next ACE of a list of so many ACEs of this weight
+-- the ACE of a line, as the next ACE of a list of this many ACEs of this weight
 unfoldable pub read_ace : Profile → ℕ → ℕ → ℕ → List ℕ → Result Ace AceTextFault
 read_ace p count heavy line bytes = if nat_le most_aces count then Err (faults.TooManyAces line 1)
     else (ok_or (line_fields bytes) (faults.Fields line 1) >>= λ fields. read_ace_fields p heavy line fields)
 
--- the lines that should spell an ACE, among lines of which the first has this number
+-- the lines that should spell an ACE, among lines whose first has this number
 abbrev pub ace_lines_from : ℕ → List (List ℕ) → List TextLine
 ace_lines_from number lines =
     filter (λ line. not (is_skipped line.bytes)) (map text_line (enumerate_from number lines))
 
--- the ACEs of lines behind a list, or the first fault
+-- the ACEs of lines after a list, or the first fault
 unfoldable pub read_lines : Profile → List Ace → List TextLine → Result (List Ace) AceTextFault
 read_lines p list [] = Ok list
 read_lines p list (line ∷ lines) = do

@@ -22,7 +22,7 @@ front_ace bytes = record {
   who = take (front_who_len bytes) (drop 16 bytes);
 }
 
--- the first ACEs that the bytes spell, as many as are asked for
+-- this many of the ACEs that the bytes spell, from the first on
 unfoldable pub aces_of : ℕ → List ℕ → List Ace
 aces_of zero bytes = []
 aces_of (suc n) bytes =
@@ -34,12 +34,12 @@ pub record SpellsBody (list : List Ace) (bytes : List ℕ) : Type 0 where
   pub weight : weight list ≤ most_weight
   pub each : AllByRecursion (IsAce full) list
 
--- the bytes are the pieces of so many ACEs
+-- the bytes are the pieces of this many ACEs
 pub record IsBody (count : ℕ) (bytes : List ℕ) : Type 0 where
   pub spells : SpellsBody (aces_of count bytes) bytes
   pub whole : length (aces_of count bytes) ≡ count
 
--- the bytes are the pieces of so many ACEs, and these are no more than a list may have
+-- the bytes are the pieces of this many ACEs, and these are no more than a list may have
 pub record IsList (count : ℕ) (bytes : List ℕ) : Type 0 where
   pub body : IsBody count bytes
   pub small : count ≤ most_aces

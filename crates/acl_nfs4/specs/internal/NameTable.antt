@@ -12,7 +12,7 @@ pub use Rattle.acl_perm.specs.internal.NameTable.{bit_name_of, bit_names_of}
 abbrev pub longest_bit_name : ℕ
 longest_bit_name = 20
 
--- a row whose first name has at most so many bytes
+-- a row whose first name has at most this many bytes
 abbrev pub is_short_row : Row → Bool
 is_short_row r = nat_le (length r.name.now) longest_bit_name
 
@@ -33,7 +33,7 @@ is_rising (r ∷ rows) = list_all (λ next. nat_lt r.bit next.bit) rows && is_ri
 abbrev pub bar_before : Bool → List ℕ
 bar_before first = if first then [] else bar ∷ []
 
--- names of a field behind others, or at its front
+-- names of a field after others, or at its front
 abbrev pub joined_names : Bool → List (List ℕ) → List ℕ
 joined_names first [] = []
 joined_names first (word ∷ words) = bar_before first ++ join_with_byte bar (word ∷ words)
@@ -53,11 +53,11 @@ pub record IsFieldCut (field word : List ℕ) (after : Option (List ℕ)) : Type
   pub parts : slice_split (λ b. b == bar) field ≡ word ∷ parts_after after
   pub shorter : size_after after < length field + 1
 
--- a set, if this one has all of it
+-- a set, if `whole` has all of it
 abbrev pub set_if_within : ℕ → Option ℕ → Option ℕ
 set_if_within whole None = None
 set_if_within whole (Some set) = if is_within whole set then Some set else None
 
--- the set that a field names, if this one has all of it
+-- the set that a field names, if `whole` has all of it
 unfoldable pub set_within : List BitName → ℕ → List ℕ → Option ℕ
 set_within table whole field = set_if_within whole (set_named table field)

@@ -22,14 +22,14 @@ use Rattle.acl_nfs4.specs.declared.feed.step.Stage.TheVariants.{Open, Done, Refu
 abbrev pub IsBytes : List ℕ → Type 0
 IsBytes bytes = (i : ℕ) → get_or bytes i 0 < 256
 
--- what holds for the first word of a stream, how much of it has come, and the bytes behind it
+-- what holds for the first word of a stream, how much of it has come, and the bytes after it
 pub record IsText (head : List ℕ) (filled : ℕ) (body : List ℕ) : Type 0 where
   pub word : length head ≡ 4
   pub inside : filled ≤ 4
   pub begun : filled < 4 → body ≡ []
   pub bytes : IsBytes (take filled head ++ body)
 
--- the first bytes of a body are the pieces of so many ACEs of that weight
+-- the first bytes of a body are the pieces of this many ACEs of that weight
 pub record IsScanned (p : Profile) (body : List ℕ) (at : Progress) : Type 0 where
   pub list : List Ace
   pub spells : SpellsBody list (take at.used body)
@@ -38,7 +38,7 @@ pub record IsScanned (p : Profile) (body : List ℕ) (at : Progress) : Type 0 wh
   pub total : weight list ≡ at.weight
   pub inside : at.used ≤ length body
 
--- the place behind the ACEs that were judged; the word of the count is before the body
+-- the place after the ACEs that were judged; the word of the count is before the body
 abbrev pub behind_scanned : List ℕ → Progress → Place
 behind_scanned body at = record { at = 4 + at.used; rest = drop at.used body }
 

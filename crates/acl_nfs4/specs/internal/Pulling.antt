@@ -38,7 +38,7 @@ pub record IsLacking (offset size : ℕ) (piece : List ℕ) (left : Option (List
   pub here : f.offset ≡ offset
   pub why : HasEnded left before after f.reason
 
--- a source gave exactly so many bytes, which are in the buffer behind those that were held
+-- a source gave exactly this many bytes, which are in the buffer after those that were held
 pub record IsFilled (held size : ℕ) (old new piece : List ℕ) (before after : ℕ) : Type 0 where
   pub long : length piece ≡ size
   pub room : take (held + size) new ≡ take held old ++ piece
@@ -46,7 +46,7 @@ pub record IsFilled (held size : ℕ) (old new piece : List ℕ) (before after :
   pub bytes : IsBytes piece
   pub kept : after ≡ before
 
--- the result of asking for so many bytes
+-- the result of asking for this many bytes
 abbrev pub Fills : ℕ → ℕ → ℕ → List ℕ → List ℕ → List ℕ → Option (List ℕ) → ℕ → ℕ → Result (Unit {0}) Fault → Type 0
 Fills offset held size room new piece left before after (Ok _) = IsFilled held size room new piece before after
 Fills offset held size room new piece left before after (Err f) = IsLacking offset size piece left before after f
@@ -150,7 +150,7 @@ DrawsAce next old left before after room (Err f) =
 
 -- ---- the list so far
 
--- a decoder has taken exactly this text: the word of the count, and so many whole ACEs of that weight, which its body
+-- a decoder has taken exactly this text: the word of the count, and that many whole ACEs of that weight, which its body
 -- holds
 pub record IsPulled (p : Profile) (n seen total : ℕ) (body text : List ℕ) : Type 0 where
   pub small : n ≤ most_aces

@@ -66,11 +66,11 @@ abbrev pub Placed : {A : Type 0} → ℕ → Result A Reason → Result A Fault 
 Placed offset (Ok x) result = result ≡ Ok x
 Placed offset (Err r) result = result ≡ Err (record { offset = offset; reason = r })
 
--- a place so many bytes further on
+-- a place this many bytes further on
 abbrev pub moved : ℕ → Place → Place
 moved n p = record { at = p.at + n; rest = drop n p.rest }
 
--- the result of a whole field of n bytes: the reason for which it is refused, or its value and the place behind it
+-- the result of a whole field of n bytes: the reason for which it is refused, or its value and the place after it
 abbrev pub judged : {A : Type 0} → ℕ → Place → Result A Reason → Result (A × Place) Fault
 judged n p (Ok x) = Ok (x, moved n p)
 judged n p (Err r) = Err (fault_at p r)
@@ -121,7 +121,7 @@ ace_at p weight at = do
   kind ← word_field kind_of at
   from_flags p weight kind.0 kind.1
 
--- so many ACEs from a place on, after ACEs of this weight
+-- this many ACEs from a place on, after ACEs of this weight
 unfoldable pub aces_at : Profile → ℕ → ℕ → Place → Result (List Ace × Place) Fault
 aces_at p zero weight at = Ok ([], at)
 aces_at p (suc n) weight at = do
@@ -129,7 +129,7 @@ aces_at p (suc n) weight at = do
   others ← aces_at p n (weight + count_ones first.0.mask) first.1
   Ok (first.0 ∷ others.0, others.1)
 
--- the list at the front of bytes, and the place behind it
+-- the list at the front of bytes, and the place after it
 unfoldable pub read_list : Profile → List ℕ → Result (List Ace × Place) Fault
 read_list p bytes = do
   count ← word_field count_of (record { at = 0; rest = bytes })

@@ -17,7 +17,8 @@ pub enum Fed {
 }
 
 impl Fed {
-    /// Returns the answer to a piece as the answer to this number of bytes and the piece behind them.
+    /// Returns the answer to a longer piece, which has this number of bytes before the piece that was answered: `taken`
+    /// counts them too.
     pub(crate) fn behind(self, bytes: usize) -> Fed
         requires { (taken : ℕ) → self ≡ Done taken → bytes + taken < 2 ^ 64 }
         ensures { result ≡ further bytes self }

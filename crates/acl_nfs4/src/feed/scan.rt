@@ -16,7 +16,7 @@ pub(crate) struct Progress {
     pub weight: u32,
 }
 
-/// Where the judging ended: the ACEs that are whole, and the fault behind them, if there is one.
+/// Where the judging ended: the ACEs that are whole, and the fault after them, if there is one.
 #[derive(Clone, Copy)]
 pub(crate) struct Reach {
     pub progress: Progress,
@@ -24,7 +24,7 @@ pub(crate) struct Reach {
 }
 
 impl Reach {
-    /// Returns that the judging ended at this fault.
+    /// Makes the end of the judging at a fault, after the ACEs that are whole.
     pub(crate) fn at_fault(progress: Progress, fault: Fault) -> Reach
         ensures { result ≡ record { progress = progress; fault = Some fault } }
     {
@@ -35,7 +35,7 @@ impl Reach {
     }
 }
 
-/// Judges the ACEs of a body behind those that were judged before, up to the first that is not whole or is refused.
+/// Judges the ACEs of a body after those that were judged before, up to the first that is not whole or is refused.
 #[inline(always)]
 pub(crate) fn scan(body: &[u8], count: u32, from: Progress, profile: Profile) -> Reach
     requires scanned { IsScanned (profile_of profile) body.now from }

@@ -8,7 +8,7 @@ ghost use Rattle.acl_nfs4.specs.internal.Progress.{IsFeed, IsProgress, Judged, s
 
 use crate::feed::fed::Fed;
 use crate::feed::scan::{Progress, Reach, scan};
-use crate::feed::stream::Text;
+use crate::feed::stream::StreamBytes;
 use crate::xdr::fault::{Fault, Reason};
 use crate::xdr::judges;
 use acl_perm::Profile;
@@ -68,9 +68,14 @@ impl Step {
     }
 }
 
-/// Adds one more piece to bytes that are cut short. It cuts off the bytes behind a list, so that a feed that is done
+/// Adds one more piece to bytes that are cut short. It cuts off the bytes after a list, so that a feed that is done
 /// holds the list alone.
-pub(crate) fn advance(text: &mut Text, piece: &[u8], from: Progress, profile: Profile) -> Step
+pub(crate) fn advance(
+    text: &mut StreamBytes,
+    piece: &[u8],
+    from: Progress,
+    profile: Profile,
+) -> Step
     requires progress { IsProgress (profile_of profile) text.old from }
     requires cut { IsCutShort (profile_of profile) text.old }
     ensures feed { IsFeed (profile_of profile) result.stage result.progress text.new }
@@ -96,8 +101,8 @@ pub(crate) fn advance(text: &mut Text, piece: &[u8], from: Progress, profile: Pr
     }
 }
 
-// Judges the bytes behind the ACEs that were judged before, so that no whole ACE is judged again at each piece.
-fn judge(text: &Text, from: Progress, profile: Profile) -> Reach
+// Judges the bytes after the ACEs that were judged before, so that no whole ACE is judged again at each piece.
+fn judge(text: &StreamBytes, from: Progress, profile: Profile) -> Reach
     requires { IsProgress (profile_of profile) text.now from }
     ensures progress { IsProgress (profile_of profile) text.now result.progress }
     ensures judged { Judged (profile_of profile) text.now result.progress result.fault }

@@ -8,15 +8,15 @@ use byteorder::{BigEndian, ByteOrder};
 use std::alloc::{AllocError, Global};
 use std::marker::Model;
 
-/// The bytes of a stream so far. The first word needs no memory, and the bytes behind it are in a vector.
+/// The bytes of a stream so far. The first word needs no memory, and the bytes after it are in a vector.
 #[derive(Drop)]
-pub(crate) struct Text {
+pub(crate) struct StreamBytes {
     head: [u8; 4],
     filled: usize,
     body: Vec<u8>,
 }
 
-impl Model for Text {
+impl Model for StreamBytes {
     ghost use Rattle.std.specs.Prelude.{List, ℕ, take, ◌++◌};
     ghost use Rattle.acl_nfs4.specs.internal.Progress.{IsText};
 
@@ -27,11 +27,11 @@ impl Model for Text {
     ghost invariant = { λ s. IsText s.head s.filled s.body.items };
 }
 
-impl Text {
-    pub(crate) fn new(alloc: Global) -> Text
+impl StreamBytes {
+    pub(crate) fn new(alloc: Global) -> StreamBytes
         ensures { result ≡ [] }
     {
-        Text {
+        StreamBytes {
             head: [0; 4],
             filled: 0,
             body: Vec::new(alloc),
@@ -44,7 +44,7 @@ impl Text {
         self.filled + self.body.len()
     }
 
-    /// Returns the number of the first word, if all of the word has arrived.
+    /// Returns the number that the first word spells, or `None` if fewer than four bytes have arrived.
     pub(crate) fn count(&self) -> Option<u32>
         ensures whole { IsSome result ↔ (4 ≤ length self.now) }
         ensures value { IfSome result (λ n. n ≡ number (take 4 self.now)) }
@@ -57,14 +57,14 @@ impl Text {
         Some(BigEndian::read_u32(&self.head))
     }
 
-    /// Returns the bytes behind the first word.
+    /// Returns the bytes after the first word.
     pub(crate) fn body(&self) -> &[u8]
         ensures { result.now ≡ drop 4 self.now }
     {
         &self.body
     }
 
-    /// Appends one more piece.
+    /// Appends one more piece. Fails if memory runs out, and then leaves the bytes as they were.
     pub(crate) fn extend(&mut self, piece: &[u8]) -> Result<(), AllocError>
         ensures { Extended self.old self.new piece.now result }
     {
@@ -76,7 +76,7 @@ impl Text {
         Ok(())
     }
 
-    /// Keeps this number of bytes behind the first word.
+    /// Keeps this number of bytes after the first word.
     pub(crate) fn cut(&mut self, used: usize)
         requires { 4 + used ≤ length self.old }
         ensures { drop 4 self.new ≡ take used (drop 4 self.old) }
@@ -84,7 +84,7 @@ impl Text {
         self.body.truncate(used);
     }
 
-    /// Returns the bytes behind the first word alone.
+    /// Returns the bytes after the first word alone.
     pub(crate) fn into_body(self) -> Vec<u8>
         ensures { result.items ≡ drop 4 self }
     {

@@ -16,7 +16,7 @@ use byteorder::{BigEndian, ByteOrder};
 use std::alloc::AllocError;
 use std::marker::Model;
 
-/// The ACEs of a list in order.
+/// An iterator over the ACEs of a list, in order. It knows how many are left, and takes no memory.
 #[derive(Drop)]
 pub struct Aces<'a> {
     pub(crate) left: u32,
@@ -113,7 +113,7 @@ fn kind_named(number: u32) -> Kind
     if number == 0 { Kind::Allow } else { Kind::Deny }
 }
 
-// An ACE, and the bytes behind it.
+// An ACE, and the bytes after it.
 #[derive(Drop)]
 struct FirstAce<'a> {
     ace: AceRef<'a>,

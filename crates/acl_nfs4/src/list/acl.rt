@@ -66,14 +66,14 @@ impl Acl {
     pub fn len(&self) -> usize
         ensures { result ≡ length self.now }
     {
-        self.count as usize
+        self.view().len()
     }
 
     /// Returns whether there is no ACE, in constant time.
     pub fn is_empty(&self) -> bool
         ensures { IsTrue result ↔ (self.now ≡ []) }
     {
-        self.count == 0
+        self.view().is_empty()
     }
 
     /// Returns the number of mask bits that are set, over all ACEs, in constant time.
@@ -87,13 +87,9 @@ impl Acl {
     /// Returns the ACEs in order. To visit all of them takes time linear in their bytes, and no memory.
     pub fn aces(&self) -> Aces<'_>
         ensures same { result ≡ self.now }
-        // Every list of this type is accepted.
         ensures accepted { IsAccepted full self.now }
     {
-        Aces {
-            left: self.count,
-            rest: &self.body,
-        }
+        self.view().aces()
     }
 
     /// Lends the list as a view, which the calls that only read a list take. Constant time, and no memory.
@@ -110,7 +106,6 @@ impl Acl {
     /// memory.
     pub fn fits(&self, profile: Profile) -> bool
         ensures exact { IsTrue result ↔ Fits (profile_of profile) self.now }
-        // A list fits a profile if and only if it is accepted under it.
         ensures accepted { IsTrue result ↔ IsAccepted (profile_of profile) self.now }
     {
         self.view().fits(profile)
@@ -155,16 +150,13 @@ impl Acl {
     /// assert!(rt; list.len() == 1);
     /// ```
     pub fn push(&mut self, item: AceRef<'_>) -> Result<(), PushFault>
-        // At `Ok` the ACE is at the end.
         ensures ok { OnOk result (self.new ≡ self.old ++ ace item.entry ∷ []) }
-        // A refusal leaves the list as it was.
         ensures err { OnErr result (self.new ≡ self.old) }
-        // A fault is the first condition that refuses. Memory is requested only if no condition refuses.
+        // A fault is the first condition that refuses.
         ensures fault { PushAnswers result (push_refusal self.old (ace item.entry)) }
         // `Memory` is returned only if no condition refuses.
         ensures wanted { IfErr result (λ f. f ≡ Memory
             → push_refusal self.old (ace item.entry) ≡ None) }
-        // At `Ok` the list is accepted.
         ensures accepted { OnOk result (IsAccepted full (self.old ++ ace item.entry ∷ [])) }
         // An ACE with which the list stays accepted is not refused.
         ensures only { IsAccepted full (self.old ++ ace item.entry ∷ [])
@@ -186,9 +178,7 @@ impl Acl {
     #[inline(always)]
     pub fn push_accepted(&mut self, item: AceRef<'_>) -> Result<(), AllocError>
         requires { IsAccepted full (self.old ++ ace item ∷ []) }
-        // At `Ok` the ACE is at the end.
         ensures ok { OnOk result (self.new ≡ self.old ++ ace item.entry ∷ []) }
-        // If memory runs out, the list is as it was.
         ensures err { OnErr result (self.new ≡ self.old) }
     {
         self.append(item)
@@ -344,6 +334,6 @@ impl<'a> IntoIterator for &'a Acl {
     ghost into_iter_gives = { λ acl aces. aces ≡ acl.now };
 
     fn into_iter(self) -> Aces<'a> {
-        self.aces()
+        self.view().into_iter()
     }
 }

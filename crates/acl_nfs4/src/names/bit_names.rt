@@ -7,7 +7,7 @@ ghost use Rattle.acl_nfs4.specs.Within.{IsWithin};
 
 use acl_perm::internal::{BitName, place_of};
 
-/// Returns the set that a field names, if this set has all of it.
+/// Returns the set that a field names, or `None` if it names no set, or a set that `whole` does not contain.
 #[tactic(auto, unfolding(crate::specs::internal::NameTable::set_within))]
 pub(crate) fn set_within(table: &[BitName], field: &[u8], whole: u32) -> Option<u32>
     ensures exact { result ≡ set_within (bit_names_of table.now) whole field.now }
@@ -69,24 +69,21 @@ fn bar_in(field: &[u8]) -> Option<usize>
     place_of(field, b'|')
 }
 
-// Returns the bit that a word names.
+// Returns `None` if no row of the table has the word as a name.
 fn bit_in(table: &[BitName], word: &[u8]) -> Option<u32>
     ensures { result ≡ bit_in (bit_names_of table.now) word.now }
 {
-    match row_named(table, word) {
-        Some(row) => Some(row.bit),
-        None => None,
-    }
+    Some(row_named(table, word)?.bit)
 }
 
-// Returns the row that a word names.
+// The first row is found that has the word as its first or its second name.
 fn row_named<'a>(table: &'a [BitName], word: &[u8]) -> Option<&'a BitName>
     ensures { option_copied result ≡ find (λ r. is_name_of word.now (bit_name_of r)) table.now }
 {
     table.iter().find(|row| is_named(row, word))
 }
 
-// Returns whether the word is one of the row's names.
+// Names are compared as bytes, so upper and lower case differ.
 fn is_named(row: &BitName, word: &[u8]) -> bool
     ensures { result ≡ is_name_of word.now (bit_name_of row.now) }
 {

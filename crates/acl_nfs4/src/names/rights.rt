@@ -16,11 +16,10 @@ use acl_perm::internal::{RIGHTS, first_name};
 /// assert!(rt; mask.bits() == 0x21);
 /// ```
 pub fn read_mask(field: &[u8]) -> Option<Mask>
-    // The field spells the mask that is returned.
     ensures named { IfSome result (λ mask. SpellsMask field.now mask.bits) }
     // A mask that the field spells is returned.
     ensures only { (mask : ℕ) → SpellsMask field.now mask → IsSomeAnd result (λ m. m.bits ≡ mask) }
-    // The definition that computes gives the same.
+    // The definition that computes has the same result.
     ensures value { option_map (λ mask. mask.bits) result ≡ mask_named field.now }
 {
     mask_in(field)
@@ -36,7 +35,6 @@ fn mask_in(field: &[u8]) -> Option<Mask>
 /// mask. It takes no memory.
 pub fn bit_name(bit: Mask) -> Option<&'static str>
     ensures value { option_map (λ name. name.now) result ≡ first_name rights bit.bits }
-    // The name spells the mask.
     ensures named { IfSome result (λ name. SpellsMask name.now bit.bits) }
 {
     first_name(&RIGHTS, bit.bits())

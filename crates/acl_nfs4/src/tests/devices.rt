@@ -1,11 +1,12 @@
-//! Sources and sinks, some of which fail.
+//! The properties that a source is read no further than its list, and that a call ends at a read or a write that fails.
+//! The bytes are in the layout of RFC 4506 over RFC 8881, section 6.2.1.
 
 use super::readers::{ONE, THREE, decoded, fault, parsed, same_list};
 use crate::*;
 use std::alloc::{AllocError, Global};
 use std::process::Abort;
 
-// Reads two lists from one source, by reads of at most `step` bytes. Each list is read, and no byte behind it is taken.
+// Reads two lists from one source, by reads of at most `step` bytes. Each list is read, and no byte after it is taken.
 fn check_both(rt: &impl Abort, alloc: Global, both: &[u8], step: usize) {
     let mut source = Counted::new(Fused::new(both, u64::MAX, step));
     assert!(rt; same_list(decode(alloc, &mut source), parsed(alloc, &ONE)));

@@ -1,4 +1,5 @@
-//! The examples of the doc comments. Each test has the lines of the example of one call, in the same order.
+//! The examples of the doc comments. Each test has the lines of the example of one call, in the same order. The bytes
+//! are in the layout of RFC 4506, and the numbers of the rights are those of RFC 8881, section 6.2.1.3.1.
 
 use crate::*;
 use std::test::Fail;

@@ -1,4 +1,5 @@
-//! Lists that arrive in pieces.
+//! The property that a list that arrives in pieces is the list of all its bytes, with the same fault if it has one. The
+//! offsets are those of the fields in the layout of RFC 4506 over RFC 8881, section 6.2.1.
 
 use super::readers::{ONE, THREE, fault, parsed, same_list};
 use crate::*;
@@ -51,7 +52,7 @@ fn fed_narrowly(alloc: Global, bytes: &[u8], first: usize) -> Result<Acl, Fault>
     feed.finish()
 }
 
-// Returns a list that has ALLOW READ_DATA for alice this many times, and zero bytes behind the list.
+// Returns a list that has ALLOW READ_DATA for alice this many times, and zero bytes after the list.
 fn many(alloc: Global, count: u32, zeros: u32) -> Result<Vec<u8>, AllocError> {
     let mut bytes = Vec::new(alloc);
     bytes.extend_from_slice(&count.to_be_bytes())?;
@@ -64,7 +65,7 @@ fn many(alloc: Global, count: u32, zeros: u32) -> Result<Vec<u8>, AllocError> {
     Ok(bytes)
 }
 
-// Feeds pieces of `size` bytes.
+// Feeds the bytes in pieces of `size` bytes, and returns how the feed ends.
 fn fed_in_pieces(alloc: Global, bytes: &[u8], size: usize) -> Result<Acl, Fault> {
     let mut feed = Feed::new(alloc);
     for piece in bytes.chunks(size.max(1)) {
@@ -135,7 +136,7 @@ mod ample {
         Ok(())
     }
 
-    // If a piece goes on behind the list, the feed keeps little more than the list. The requested memory is counted.
+    // If a piece continues after the list, the feed keeps little more than the list. The requested memory is counted.
     #[test]
     fn bytes_behind_a_list_are_not_kept(rt: HostRuntime) -> Result<(), AllocError> {
         let bytes = many(rt.alloc(), 200, 1_000)?;

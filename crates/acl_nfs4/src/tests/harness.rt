@@ -1,4 +1,4 @@
-//! What the tests of this crate share: failed allocations as a fault, and the lines of faults.
+//! What the tests of this crate share, without expected values: failed allocations as a fault, and the lines of faults.
 
 use crate::PushFault;
 use std::alloc::{AllocError, Global};

@@ -1,4 +1,7 @@
-//! Owned lists: copies of lists and of views, their order, and the profiles that they fit.
+//! Owned lists. The properties are that a copy and the list of a view are the same list, and that lists are ordered by
+//! their bytes (RFC 4506, sections 4.2, 4.10 and 4.13). The profiles, and the lines that display ACEs, are those of
+//! docs/formats.md and docs/contracts.md, with the names and numbers of RFC 8881, sections 6.2.1.3.1, 6.2.1.4.1 and
+//! 6.2.1.5.
 
 use super::harness::{is_displayed_as, kept};
 use super::rows::{
@@ -41,7 +44,7 @@ fn gives_rows(list: &Acl, rows: &[Row]) -> bool {
     aces.len() == rows.len() && shows(aces, rows) && again.is_ok_and(|again| shows(again, rows))
 }
 
-/// Checks that a copy is the same list.
+/// Copies each list of `LISTS`, and compares the copy and the ways through the list with the rows.
 pub fn a_copy_is_the_same_list(rt: &impl Abort, alloc: Global) -> Result<(), PushFault> {
     for rows in LISTS {
         let list = built(alloc, rows)?;
@@ -97,7 +100,7 @@ fn check_view(
     Ok(())
 }
 
-/// Checks that the list of a view has the ACEs of the view.
+/// Makes a view of each list of `LISTS`, and an owned list of the view.
 pub fn a_list_from_a_view_is_what_the_view_shows(
     rt: &impl Abort,
     alloc: Global,
@@ -121,7 +124,7 @@ static RISING: [&[Row]; 7] = [
     &[(Kind::Allow, 0, 0, b"a"), (Kind::Allow, 0, 0, b"a")],
 ];
 
-/// Checks that lists are ordered by their bytes, and that a clone is equal to its list.
+/// Compares each list of `RISING` with a clone of each list: the order has to be that of the places.
 pub fn lists_are_ordered_by_their_bytes(rt: &impl Abort, alloc: Global) -> Result<(), PushFault> {
     for (place, rows) in RISING.iter().enumerate() {
         let list = built(alloc, rows)?;
@@ -150,7 +153,7 @@ static SHOWN: [(Row, &str); 4] = [
     ((Kind::Allow, 0, 0, b"\xff"), "ALLOW - - \u{fffd}"),
 ];
 
-/// Checks that an ACE is displayed as its line.
+/// Displays each ACE of `SHOWN`, and reads the row twice: the same row gives equal ACEs.
 pub fn an_ace_is_shown_as_its_line(rt: &impl Abort, alloc: Global) -> Result<(), PushFault> {
     for (row, line) in SHOWN {
         let Some(ace) = item(row) else {
@@ -172,7 +175,7 @@ static PRINCIPALS: [(Principal<'static>, &str); 6] = [
     (Principal::GroupNamed(b"\xff"), "\u{fffd}"),
 ];
 
-/// Checks that a principal is displayed as its who.
+/// Displays each principal of `PRINCIPALS`.
 pub fn a_principal_is_shown_as_its_who(rt: &impl Abort, alloc: Global) -> Result<(), PushFault> {
     for (principal, who) in PRINCIPALS {
         let name = PrincipalName { principal };
@@ -210,7 +213,7 @@ fn fitted(list: &Acl) -> [bool; 3] {
     ]
 }
 
-/// Checks that a list fits exactly the profiles that have all of its bits.
+/// Fits a list with the bits of each row of `PROFILES` into the three profiles.
 pub fn a_list_fits_the_profile_of_its_bits(
     rt: &impl Abort,
     alloc: Global,

@@ -1,4 +1,5 @@
-//! The names and the numbers of the standard.
+//! The names and the numbers of RFC 8881: those of rights (section 6.2.1.3.1), of flags (section 6.2.1.4.1), and of the
+//! special identifiers (section 6.2.1.5). The tests of `acl_perm` compare the table of the rights with the standard.
 
 use crate::*;
 use acl_perm::internal::RIGHTS;
@@ -148,7 +149,7 @@ static JUDGED: [(&[u8], Option<Reason>); 14] = [
     (b"BATCH@", Some(Reason::SpecialWho)),
 ];
 
-// Returns the list of ALLOW READ_DATA for a who of up to 16 bytes, and zero bytes behind it.
+// Returns the list of ALLOW READ_DATA for a who of up to 16 bytes, and zero bytes after it.
 fn list_with(who: &[u8]) -> [u8; 36] {
     let mut bytes = [0u8; 36];
     bytes[3] = 1;
@@ -161,7 +162,7 @@ fn list_with(who: &[u8]) -> [u8; 36] {
 }
 
 // Checks that a list with this who is refused for this reason, at the first byte of the who. If there is no reason, it
-// checks that the list ends behind the padding.
+// checks that the list ends after the padding.
 fn is_judged(who: &[u8], reason: Option<Reason>) -> bool {
     match AclView::parse(&list_with(who)) {
         Ok((_, len)) => reason.is_none() && len == 24,

@@ -1,15 +1,11 @@
-//! Bytes that spell a list, and bytes that have a fault.
+//! Bytes that spell a list, and bytes that have a fault. The offsets are those of the fields in the layout of RFC 4506,
+//! sections 4.2, 4.10 and 4.13, over RFC 8881, section 6.2.1; the limits and the reasons are those of docs/formats.md.
 
 use super::harness::{is_displayed_as, kept};
+use super::readers::ONE;
 use crate::*;
 use std::alloc::{AllocError, Global};
 use std::process::Abort;
-
-// A list of one ACE: ALLOW, no flag, READ_DATA, EVERYONE@.
-const ONE: [u8; 32] = [
-    0, 0, 0, 1, 0, 0, 0, 0, 0, 0, 0, 0, 0, 0, 0, 1, 0, 0, 0, 9, 0x45, 0x56, 0x45, 0x52, 0x59, 0x4f,
-    0x4e, 0x45, 0x40, 0, 0, 0,
-];
 
 fn fault(offset: u64, reason: Reason) -> Option<Fault> {
     Some(Fault { offset, reason })

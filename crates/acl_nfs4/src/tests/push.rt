@@ -1,4 +1,5 @@
-//! The answers when an ACE is pushed.
+//! The answers when an ACE is pushed. RFC 3629, sections 3 and 4, says which bytes are UTF-8, and RFC 8881, section
+//! 6.2.1.5, has the special identifiers; the limits and the order of the answers are those of docs/formats.md.
 
 use super::harness::is_displayed_as;
 use super::rows::{EVERYONE, built, check_copy, item, repeated, shows};
@@ -30,7 +31,7 @@ fn check_push(
     Ok(())
 }
 
-/// Checks that a push is refused or not as its who says.
+/// Pushes an ACE with each of nine whos: valid ones, and at least one for each fault of a who.
 pub fn a_push_is_judged_by_its_who(rt: &impl Abort, alloc: Global) -> Result<(), PushFault> {
     let rows: [(&'static [u8], Result<(), PushFault>); 9] = [
         (b"", Err(WhoLength)),

@@ -1,4 +1,5 @@
-//! The bytes of three lists, and the three ways to read a list: whole, from a source, and in pieces.
+//! What the tests of readers share: three lists as the bytes of RFC 4506, sections 4.2, 4.10 and 4.13, over RFC 8881,
+//! section 6.2.1, and the three ways to read a list: whole, from a source, and in pieces.
 
 use crate::*;
 use std::alloc::Global;
@@ -36,7 +37,7 @@ pub fn parsed(alloc: Global, bytes: &[u8]) -> Result<Acl, Fault> {
     }
 }
 
-/// Returns the list of a source whose reads give at most `step` bytes and fail after `reads` of them.
+/// Returns the list of a source whose reads give at most `step` bytes and fail after `calls` of them.
 pub fn decoded(alloc: Global, bytes: &[u8], calls: u64, step: usize) -> Result<Acl, Fault> {
     decode(alloc, &mut Counted::new(Fused::new(bytes, calls, step)))
 }

@@ -1,4 +1,4 @@
-//! Lists as rows, and the bytes that spell them.
+//! Lists as rows, and the bytes that spell them by RFC 4506, sections 4.2, 4.10 and 4.13, over RFC 8881, section 6.2.1.
 
 use crate::*;
 use std::alloc::{AllocError, Global};
@@ -20,7 +20,7 @@ pub fn item((kind, flags, mask, who): Row) -> Option<AceRef<'static>> {
     })
 }
 
-/// Returns the list of these rows.
+/// Builds the list of these rows, without a row that has a bit of no flag or no right. Fails as `push` does.
 pub fn built(alloc: Global, rows: &[Row]) -> Result<Acl, PushFault> {
     let mut list = Acl::new(alloc);
     for row in rows {
@@ -40,7 +40,7 @@ fn word_of(len: usize) -> u32 {
     u32::try_from(len).unwrap_or(u32::MAX)
 }
 
-/// Adds the bytes of an ACE.
+/// Adds the bytes that spell the ACE of a row, with its padding.
 pub fn append_ace(bytes: &mut Vec<u8>, (kind, flags, mask, who): Row) -> Result<(), AllocError> {
     append_word(bytes, if kind == Kind::Allow { 0 } else { 1 })?;
     append_word(bytes, flags)?;
@@ -96,7 +96,7 @@ pub fn repeated(alloc: Global, count: u32, row: Row) -> Result<Acl, PushFault> {
     Ok(list)
 }
 
-/// Checks that a copy of a list is the same list.
+/// Copies a list of any length. Fails if memory runs out.
 pub fn check_copy(rt: &impl Abort, alloc: Global, list: &Acl) -> Result<(), AllocError> {
     let copy = list.copy(alloc)?;
     assert!(rt; copy == *list);

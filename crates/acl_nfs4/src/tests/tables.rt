@@ -1,5 +1,5 @@
-//! Tables whose rows need memory. If an allocation fails, the table stops with `Memory`. A second test holds each table
-//! with ample memory.
+//! The property that each table of the other files holds. If an allocation fails, a table stops with `Memory`. A second
+//! test holds each table with ample memory.
 
 use super::{list, parse, push, text};
 use crate::PushFault;

@@ -1,4 +1,5 @@
-//! Texts that spell a list, and texts that have a fault.
+//! Texts that spell a list, and texts that have a fault, by the grammar of docs/formats.md. The names of the rights are
+//! those of RFC 8881, section 6.2.1.3.1, and those of the flags shorten the names of section 6.2.1.4.1.
 
 use super::harness::{is_displayed_as, kept};
 use crate::*;
@@ -102,7 +103,7 @@ fn is_written(list: &Acl, text: &[u8]) -> bool {
     fault.is_none() && size == text.len() && room.starts_with(text)
 }
 
-// Returns whether a text spells the list with this written text, or memory ran out.
+// Returns whether a text spells the list with this written text. Fails if memory runs out.
 fn spells(alloc: Global, text: &[u8], written: &[u8]) -> Result<bool, PushFault> {
     match parse_text(alloc, text) {
         Ok(list) => {
@@ -114,7 +115,7 @@ fn spells(alloc: Global, text: &[u8], written: &[u8]) -> Result<bool, PushFault>
     }
 }
 
-// Returns whether a text is refused with this message, or because memory ran out.
+// Returns whether a text is refused with this message. Fails if memory runs out.
 fn is_refused(alloc: Global, text: &[u8], line: &str) -> Result<bool, PushFault> {
     match parse_text(alloc, text) {
         Ok(_) => Ok(false),
@@ -123,7 +124,7 @@ fn is_refused(alloc: Global, text: &[u8], line: &str) -> Result<bool, PushFault>
     }
 }
 
-/// Checks that texts spell their lists.
+/// Reads each text of `SPELLED`, and writes its list again.
 pub fn texts_spell_their_lists(rt: &impl Abort, alloc: Global) -> Result<(), PushFault> {
     for (text, written) in &SPELLED {
         assert!(rt; spells(alloc, text, written)?);
@@ -131,7 +132,7 @@ pub fn texts_spell_their_lists(rt: &impl Abort, alloc: Global) -> Result<(), Pus
     Ok(())
 }
 
-/// Checks that texts that spell no list are refused.
+/// Reads each text of `REFUSED`, and compares the message with that of the row.
 pub fn texts_that_spell_no_list_are_refused(
     rt: &impl Abort,
     alloc: Global,

@@ -18,7 +18,7 @@ use crate::who::{WhoFault, judge};
 use acl_perm::internal::{RIGHTS, is_all_blank, place_of};
 use acl_perm::{Flags, Kind, Mask, Profile};
 
-/// The fields of a line.
+/// The four fields of a line that should spell an ACE.
 #[derive(Clone, Copy)]
 pub(crate) struct LineFields<'a> {
     pub kind: &'a [u8],
@@ -84,14 +84,15 @@ pub(crate) fn read_ace(
     })
 }
 
-/// The bytes before the first space, and the bytes behind it.
+/// The bytes before the first space, and the bytes after it.
 #[derive(Clone, Copy)]
 pub(crate) struct FirstField<'a> {
     pub field: &'a [u8],
     pub rest: &'a [u8],
 }
 
-// Returns the fields of a line, if it has four.
+// Returns the fields of a line, or `None` if it has fewer than three spaces. The who is all that follows the third
+// space.
 #[tactic(auto, unfolding(crate::specs::internal::AceReading::line_fields))]
 fn fields(line: &[u8]) -> Option<LineFields<'_>>
     ensures value { option_map viewed_fields result ≡ line_fields line.now }
@@ -176,7 +177,7 @@ fn mask_at(
     Ok(Mask { bits })
 }
 
-// Returns the who of a field.
+// Returns the field as a who, or the first reason for which it is not one, at its line and column.
 fn who_at(field: &[u8], line: usize, column: usize) -> Result<&[u8], AceTextFault>
     ensures exact { Gives (λ who. who.now) result (read_who line column field.now) }
     ensures who { IfOk result (λ who. IsWho who.now) }

@@ -26,12 +26,10 @@ use std::alloc::Global;
 /// assert!(rt; list.weight() == 2);
 /// ```
 pub fn parse_text(alloc: Global, text: &[u8]) -> Result<Acl, AceTextFault>
-    // The text spells the list that is returned.
     ensures found { IfOk result (λ list. IsAceText full list text.now) }
     // If the text spells a list, that list is returned.
     ensures only { (list : List Ace) → IsAceText full list text.now
         → MatchResult result (λ read. read ≡ list) (λ fault. fault ≡ Memory) }
-    // A refusal is the fault of the text.
     ensures fault { IfErr result (IsTextRefusal full text.now) }
     // A text with a fault is refused with that fault.
     ensures refused { (wrong : FaultValue) → IsAceTextFault full text.now wrong
@@ -42,15 +40,12 @@ pub fn parse_text(alloc: Global, text: &[u8]) -> Result<Acl, AceTextFault>
 
 /// Returns the list that a text spells, as `parse_text` does, if the profile has its flags and masks. The name of
 /// another flag or right is Flag or Mask.
+#[tactic(auto, using(crate::proofs::text::AceLines::text_founds, crate::proofs::text::AceLines::refusals))]
 pub fn parse_text_with(alloc: Global, text: &[u8], profile: Profile) -> Result<Acl, AceTextFault>
-    // The text spells the list that is returned.
     ensures found { IfOk result (λ list. IsAceText (profile_of profile) list text.now) }
-    // If the text spells a list, that list is returned.
     ensures only { (list : List Ace) → IsAceText (profile_of profile) list text.now
         → MatchResult result (λ read. read ≡ list) (λ fault. fault ≡ Memory) }
-    // A refusal is the fault of the text.
     ensures fault { IfErr result (IsTextRefusal (profile_of profile) text.now) }
-    // A text with a fault is refused with that fault.
     ensures refused { (wrong : FaultValue) → IsAceTextFault (profile_of profile) text.now wrong
         → MatchResult result (λ _. ⊥) (λ fault. (fault ≡ wrong) ⊎ (fault ≡ Memory)) }
 {

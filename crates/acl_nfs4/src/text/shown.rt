@@ -44,7 +44,6 @@ pub struct RightNames {
 impl fmt::Display for RightNames {
     ghost output = { λ shown. Some (set_text rights shown.mask.bits) };
 
-    #[tactic(auto, using(crate::proofs::names::Shown::rights_shown))]
     fn fmt<W: fmt::Write>(&self, f: &mut fmt::Formatter<W>) -> fmt::Result {
         f.write_str(as_text(&rights_text(self.mask)))
     }

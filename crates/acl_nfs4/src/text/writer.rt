@@ -40,8 +40,8 @@ impl Acl {
     }
 
     /// Writes the text of the list: one line per ACE, with the names of its flags and rights in ascending order of
-    /// their bits. It ends at the first put that fails: then `written` bytes went out. It tries nothing again. No
-    /// memory; time linear in the text.
+    /// their bits. It ends at the first put that fails: then `written` bytes went out. It tries nothing again. It
+    /// takes no memory, and time linear in the text.
     pub fn write_text<S: Sink>(&self, sink: &mut S) -> Result<(), WriteFault>
         ensures written { Writes S.contents S.failure_count sink.old sink.new
             (ace_text self.now) result }
@@ -55,12 +55,11 @@ impl Acl {
 
 impl<'a> AclView<'a> {
     /// Writes the text of the list: one line per ACE, with the names of its flags and rights in ascending order of
-    /// their bits. It ends at the first put that fails: then `written` bytes went out. It tries nothing again. No
-    /// memory; time linear in the text.
+    /// their bits. It ends at the first put that fails: then `written` bytes went out. It tries nothing again. It
+    /// takes no memory, and time linear in the text.
     pub fn write_text<S: Sink>(&self, sink: &mut S) -> Result<(), WriteFault>
         ensures written { Writes S.contents S.failure_count sink.old sink.new
             (ace_text self.now) result }
-        // The text that is written spells this list and no other.
         ensures again { (other : List Ace) → IsAceText full other (ace_text self.now)
             ↔ (other ≡ self.now) }
     {
@@ -114,7 +113,7 @@ fn kind_name(kind: Kind) -> &'static [u8]
     }
 }
 
-/// Adds the field of a set.
+/// Adds the names of a set with `|` between them, or `-` for the empty set.
 #[tactic(auto, unfolding(crate::specs::BitNames::set_text))]
 pub(crate) fn add_set(line: &mut Line, table: &[BitName], set: u32)
     requires short { list_all is_short_row table.now ≡ true }

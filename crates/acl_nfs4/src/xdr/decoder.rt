@@ -1,4 +1,4 @@
-//! Reads a list from a source and takes no byte behind the list.
+//! Reads a list from a source and takes no byte after the list.
 ghost use Rattle.std.specs.Prelude.{◌≡◌, ◌≤◌, ◌⊎◌, ◌++◌, ℕ, List, Some, IfErr, IfOk, OnOk, length};
 ghost use Rattle.std.specs.Io.KnownBytes.{Consumes, IsAtEnd};
 ghost use Rattle.acl_perm.specs.Devices.{one_more};
@@ -57,22 +57,17 @@ pub fn decode<S: Source>(alloc: Global, source: &mut S) -> Result<Acl, Fault>
 /// Reads the list at the front of a source, as `decode` does, if the profile has its flags and masks. A bit of another
 /// flag or right is FlagBits or MaskBits.
 pub fn decode_with<S: Source>(alloc: Global, source: &mut S, profile: Profile) -> Result<Acl, Fault>
-    // The bytes that were taken are the value, or what the fault says.
     ensures given { (given : List ℕ)
         × Consumes (S.remaining source.old) (S.remaining source.new) given
         × Decodes (profile_of profile) given (IsAtEnd (S.remaining source.new)) result }
-    // A list at the front is found.
     ensures only { (list : List Ace) (text rest : List ℕ) → Xdr (profile_of profile) list text
         → S.remaining source.old ≡ Some (text ++ rest) → IsOrFails result list }
-    // An encoded list is read again, whatever follows it.
     ensures again { (list : List Ace) (rest : List ℕ) → IsAccepted (profile_of profile) list
         → S.remaining source.old ≡ Some (spelling list ++ rest) → IsOrFails result list }
-    // An input with a fault is refused with that fault.
     ensures refused { (input : List ℕ) (o : ℕ) (r : Reason) → S.remaining source.old ≡ Some input
         → IsFault (profile_of profile) input o r
         → FaultsOrFails result (record { offset = o; reason = r }) }
     ensures none_failed { OnOk result (S.failure_count source.new ≡ S.failure_count source.old) }
-    // Read is returned if and only if a pull failed.
     ensures read { IfErr result (λ f. f.reason ≡ Read
         → S.failure_count source.new ≡ one_more (S.failure_count source.old)) }
     ensures unread { IfErr result (λ f. (f.reason ≡ Read)
@@ -112,7 +107,7 @@ fn read_value<S: Source>(alloc: Global, source: &mut S, profile: Profile) -> Res
     })
 }
 
-// Reads the number of ACEs.
+// Reads the number of ACEs. A number that is too great is refused here, before anything is read after it.
 fn pull_count<S: Source>(source: &mut S, room: &mut [u8]) -> Result<u32, Fault>
     requires { 4 ≤ length room.old }
     ensures drawn { (piece : List ℕ)

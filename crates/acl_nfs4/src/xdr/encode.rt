@@ -1,8 +1,8 @@
 //! Writes the bytes of a list to a sink or into memory.
-ghost use Rattle.std.specs.Prelude.{◌≡◌, ◌<◌, ◌^◌, ℕ, List, IfOk, OnOk, length};
-ghost use Rattle.std.specs.Io.KnownBytes.{Appends};
+ghost use Rattle.std.specs.Prelude.{◌≡◌, ◌<◌, ◌^◌, IfOk, length};
 ghost use Rattle.acl_perm.specs.Pieces.{Writes};
-ghost use Rattle.acl_perm.specs.Profile.{Profile, full};
+ghost use Rattle.acl_perm.specs.Profile.{full};
+ghost use Rattle.acl_nfs4.specs.Programs.{WritesAsRead};
 ghost use Rattle.acl_nfs4.specs.Spelling.{Xdr, spelling, word};
 
 use crate::list::acl::Acl;
@@ -41,8 +41,7 @@ impl Acl {
         ensures written { Writes K.contents K.failure_count sink.old sink.new
             (spelling self.now) result }
         // If the list was read from bytes, the same bytes are written.
-        ensures read { (p : Profile) (text : List ℕ) → Xdr p self.now text
-            → OnOk result (Appends (K.contents sink.old) (K.contents sink.new) text) }
+        ensures read { WritesAsRead (K.contents sink.old) (K.contents sink.new) self.now result }
         // The bytes that are written spell the list, and are read again as this list.
         ensures again { Xdr full self.now (spelling self.now) }
     {
@@ -76,10 +75,7 @@ impl<'a> AclView<'a> {
     pub fn encode<K: Sink>(&self, sink: &mut K) -> Result<(), WriteFault>
         ensures written { Writes K.contents K.failure_count sink.old sink.new
             (spelling self.now) result }
-        // If the list was read from bytes, the same bytes are written.
-        ensures read { (p : Profile) (text : List ℕ) → Xdr p self.now text
-            → OnOk result (Appends (K.contents sink.old) (K.contents sink.new) text) }
-        // The bytes that are written spell the list, and are read again as this list.
+        ensures read { WritesAsRead (K.contents sink.old) (K.contents sink.new) self.now result }
         ensures again { Xdr full self.now (spelling self.now) }
     {
         put_all(sink, &count_word(self.count))?;

@@ -2,11 +2,11 @@
 ghost use Rattle.std.specs.Prelude.{◌≡◌};
 
 use std::alloc::AllocError;
+use std::fmt;
 use thiserror::Error;
 
 /// What is wrong with a field.
 #[derive(Clone, Copy, Debug, PartialEq, Eq, Error)]
-#[error("{:?}", self)]
 pub enum Reason {
     /// The bytes end before the end of the field.
     Truncated,
@@ -30,14 +30,21 @@ pub enum Reason {
     WhoControl,
     /// The who ends in `@` and is none of `OWNER@`, `GROUP@` and `EVERYONE@`.
     SpecialWho,
-    /// A byte of the padding behind the who is not zero.
+    /// A byte of the padding after the who is not zero.
     Padding,
-    /// There is a byte behind the list, where none may be.
+    /// There is a byte after the list, where none may be.
     TrailingBytes,
     /// The source failed. The offset is that of the field that was being read.
     Read,
     /// Memory ran out for the list. The offset has no meaning.
     Memory,
+}
+
+/// Writes the name of the reason, such as `Truncated`.
+impl fmt::Display for Reason {
+    fn fmt<W: fmt::Write>(&self, f: &mut fmt::Formatter<W>) -> fmt::Result {
+        write!(f, "{self:?}")
+    }
 }
 
 /// The first field that is refused, with the place of its first byte.
@@ -51,7 +58,7 @@ pub struct Fault {
 }
 
 impl Fault {
-    /// The fault of a list as a whole, at its first byte.
+    /// Makes the fault of a list as a whole: its place is the first byte of the list.
     pub(crate) fn at_front(reason: Reason) -> Fault
         ensures { result ≡ record { offset = 0; reason = reason } }
     {

@@ -14,7 +14,7 @@ use crate::xdr::fault::Reason;
 use acl_perm::{Flags, Kind, Mask, Profile};
 use byteorder::{ByteOrder, LittleEndian};
 
-/// Returns the number of ACEs, or why it is refused.
+/// Returns the number as a number of ACEs, or refuses it as too great.
 #[inline(always)]
 pub(crate) fn count_of(number: u32) -> Result<u32, Reason>
     ensures exact { Gives (λ x. x) result (count_of number) }
@@ -26,7 +26,7 @@ pub(crate) fn count_of(number: u32) -> Result<u32, Reason>
     Ok(number)
 }
 
-/// Returns the kind that a number stands for, or why it is refused.
+/// Returns the kind that a number means, or why it is refused.
 #[inline(always)]
 pub(crate) fn kind_of(number: u32) -> Result<Kind, Reason>
     ensures { Gives (λ x. x) result (kind_of number) }
@@ -68,7 +68,7 @@ pub(crate) fn mask_of(number: u32, weight: u32, profile: Profile) -> Result<Mask
     Ok(Mask { bits: number })
 }
 
-/// Returns the length of the who, or why it is refused.
+/// Returns the number as the length of a who, or refuses it if no who has this length.
 #[inline(always)]
 pub(crate) fn who_len_of(number: u32) -> Result<usize, Reason>
     ensures exact { Gives (λ x. x) result (who_len_of number) }

@@ -1,4 +1,4 @@
-//! The fields of an ACE from a source. Each field is judged before the next is asked for.
+//! The fields of an ACE from a source. Each field is judged before the next is read.
 ghost use Rattle.std.specs.Prelude.{◌≡◌, ◌+◌, ◌-◌, ◌<◌, ◌≤◌, ◌^◌, ℕ, List, length};
 ghost use Rattle.std.specs.Io.KnownBytes.{Consumes};
 ghost use Rattle.acl_nfs4.specs.Limits.{most_weight};
@@ -22,7 +22,7 @@ pub(crate) struct Pulled {
 }
 
 /// Reads the next ACE of the source. Each pull asks for no more bytes than the field that is being read lacks, and a
-/// field is judged before the next one is asked for.
+/// field is judged before the next one is read.
 #[inline(always)]
 pub(crate) fn pull_ace<S: Source>(
     source: &mut S,
@@ -54,7 +54,7 @@ pub(crate) fn pull_ace<S: Source>(
     })
 }
 
-// Reads the four words of an ACE. Each is judged before the next is asked for.
+// Reads the four words of an ACE. Each is judged before the next is read.
 #[inline(always)]
 fn pull_words<S: Source>(source: &mut S, room: &mut [u8], next: NextAce) -> Result<Words, Fault>
     requires room { length room.old ≡ longest_ace }
@@ -77,7 +77,7 @@ fn pull_words<S: Source>(source: &mut S, room: &mut [u8], next: NextAce) -> Resu
     })
 }
 
-// Reads the kind and the flags of an ACE. The kind is judged before the flags are asked for.
+// Reads the kind and the flags of an ACE. The kind is judged before the flags are read.
 #[inline(always)]
 fn pull_head<S: Source>(source: &mut S, room: &mut [u8], next: NextAce) -> Result<(), Fault>
     requires room { length room.old ≡ longest_ace }
@@ -110,7 +110,7 @@ struct Words {
     bits: u32,
 }
 
-// Reads the next word of the source.
+// Reads the next four bytes of the source, and returns them as a number. They are kept in the buffer from `held` on.
 #[inline(always)]
 pub(crate) fn word<S: Source>(
     source: &mut S,

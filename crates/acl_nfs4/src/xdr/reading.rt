@@ -1,4 +1,4 @@
-//! Reads the fields of a list in memory, one after the other, and gives the offset of a field that is refused.
+//! Reads the fields of a list in memory, one after the other, and reports the offset of a field that is refused.
 ghost use Rattle.std.specs.Prelude.{◌≡◌, ◌+◌, ◌≤◌, Ok, IfOk, IfSome, count_ones, false};
 ghost use Rattle.acl_perm.specs.Profile.{profile_of};
 ghost use Rattle.acl_nfs4.specs.Fields.{kind_of, flags_of, mask_of, who_len_of, who_of, padding_of};
@@ -199,7 +199,7 @@ pub(crate) fn placed<T>(offset: u64, judged: Result<T, Reason>) -> Result<T, Fau
     }
 }
 
-// Reads the next `n` bytes.
+// Reads the next `n` bytes, or fails with Truncated at the place where they should begin.
 #[inline(always)]
 fn bytes<'a>(cursor: &mut Cursor<'a>, n: usize) -> Result<&'a [u8], Fault>
     ensures { Gives (λ x. (x.now, place cursor.new)) result

@@ -6,7 +6,7 @@ ghost use Rattle.acl_nfs4.specs.Spelling.{Fits, IsAccepted, Xdr};
 ghost use Rattle.acl_nfs4.specs.Spelling as spelled;
 ghost use Rattle.acl_nfs4.specs.Front.{IsListOf, IsAtFront};
 ghost use Rattle.acl_perm.specs.Profile.{full, profile_of};
-ghost use Rattle.acl_nfs4.specs.Fault.{IsFault, IsWholeFault};
+ghost use Rattle.acl_nfs4.specs.Fault.{HasFault, HasWholeFault, IsFault, IsWholeFault};
 ghost use Rattle.acl_nfs4.specs.declared.xdr.fault.Reason.{Reason};
 ghost use Rattle.acl_nfs4.specs.internal.Progress.{Judged};
 
@@ -43,13 +43,11 @@ impl<'a> AclView<'a> {
     /// are slices of the input, and it takes no memory. Fails with the fault of the first field that is refused, at its
     /// first byte (RFC 8881, section 6.2.1, in the layout of RFC 4506).
     pub fn parse(bytes: &'a [u8]) -> Result<(AclView<'a>, usize), Fault>
-        // The bytes begin with the list that is returned.
         ensures found { IfOk result (IsAtFront full bytes.now) }
         // If the bytes begin with a list, that list is returned.
         ensures only { (list : List Ace) (text rest : List ℕ) → Xdr full list text
             → bytes.now ≡ text ++ rest → IsOkAnd result (IsListOf list text) }
-        // A fault is the fault of the bytes.
-        ensures fault { IfErr result (λ f. IsFault full bytes.now f.offset f.reason) }
+        ensures fault { IfErr result (HasFault full bytes.now) }
         // Bytes with a fault are refused with that fault.
         ensures refused { (offset : ℕ) (r : Reason) → IsFault full bytes.now offset r
             → result ≡ Err (record { offset = offset; reason = r }) }
@@ -61,15 +59,10 @@ impl<'a> AclView<'a> {
     /// right is FlagBits or MaskBits.
     #[inline(always)]
     pub fn parse_with(bytes: &'a [u8], profile: Profile) -> Result<(AclView<'a>, usize), Fault>
-        // The bytes begin with the list that is returned.
         ensures found { IfOk result (IsAtFront (profile_of profile) bytes.now) }
-        // If the bytes begin with a list, that list is returned.
         ensures only { (list : List Ace) (text rest : List ℕ) → Xdr (profile_of profile) list text
             → bytes.now ≡ text ++ rest → IsOkAnd result (IsListOf list text) }
-        // A fault is the fault of the bytes.
-        ensures fault { IfErr result (λ f. IsFault
-            (profile_of profile) bytes.now f.offset f.reason) }
-        // Bytes with a fault are refused with that fault.
+        ensures fault { IfErr result (HasFault (profile_of profile) bytes.now) }
         ensures refused { (offset : ℕ) (r : Reason)
             → IsFault (profile_of profile) bytes.now offset r
             → result ≡ Err (record { offset = offset; reason = r }) }
@@ -78,7 +71,7 @@ impl<'a> AclView<'a> {
     }
 
     /// Returns the list that all of the bytes spell. Fails as `parse` does, and also with TrailingBytes if there is a
-    /// byte behind the list.
+    /// byte after the list.
     ///
     /// ```rust
     /// let bytes = b"\0\0\0\x01\0\0\0\0\0\0\0\0\0\0\0\x01\0\0\0\x06OWNER@\0\0";
@@ -89,14 +82,11 @@ impl<'a> AclView<'a> {
     /// }
     /// ```
     pub fn parse_whole(bytes: &'a [u8]) -> Result<AclView<'a>, Fault>
-        // The bytes spell the list that is returned.
         ensures found { IfOk result (λ list. Xdr full list bytes.now) }
         // If the bytes spell a list, that list is returned.
         ensures only { (list : List Ace) → Xdr full list bytes.now
             → IsOkAnd result (λ x. x ≡ list) }
-        // A fault is the fault of the bytes.
-        ensures fault { IfErr result (λ f. IsWholeFault full bytes.now f.offset f.reason) }
-        // Bytes with a fault are refused with that fault.
+        ensures fault { IfErr result (HasWholeFault full bytes.now) }
         ensures refused { (offset : ℕ) (r : Reason) → IsWholeFault full bytes.now offset r
             → result ≡ Err (record { offset = offset; reason = r }) }
     {
@@ -106,15 +96,10 @@ impl<'a> AclView<'a> {
     /// Returns the list that all of the bytes spell, as `parse_whole` does, if the profile has its flags and masks.
     #[inline(always)]
     pub fn parse_whole_with(bytes: &'a [u8], profile: Profile) -> Result<AclView<'a>, Fault>
-        // The bytes spell the list that is returned.
         ensures found { IfOk result (λ list. Xdr (profile_of profile) list bytes.now) }
-        // If the bytes spell a list, that list is returned.
         ensures only { (list : List Ace) → Xdr (profile_of profile) list bytes.now
             → IsOkAnd result (λ x. x ≡ list) }
-        // A fault is the fault of the bytes.
-        ensures fault { IfErr result (λ f. IsWholeFault
-            (profile_of profile) bytes.now f.offset f.reason) }
-        // Bytes with a fault are refused with that fault.
+        ensures fault { IfErr result (HasWholeFault (profile_of profile) bytes.now) }
         ensures refused { (offset : ℕ) (r : Reason)
             → IsWholeFault (profile_of profile) bytes.now offset r
             → result ≡ Err (record { offset = offset; reason = r }) }
@@ -149,16 +134,14 @@ impl<'a> AclView<'a> {
     /// memory.
     pub fn fits(&self, profile: Profile) -> bool
         ensures exact { IsTrue result ↔ Fits (profile_of profile) self.now }
-        // A list fits a profile if and only if it is accepted under it.
         ensures accepted { IsTrue result ↔ IsAccepted (profile_of profile) self.now }
     {
         fit(self.aces(), profile)
     }
 
-    /// Returns the ACEs in order.
+    /// Returns the ACEs in order. To visit all of them takes time linear in their bytes, and no memory.
     pub fn aces(&self) -> Aces<'a>
         ensures same { result ≡ self.now }
-        // Every list of a view is accepted.
         ensures accepted { IsAccepted full self.now }
     {
         Aces {
@@ -211,12 +194,11 @@ impl<'a> IntoIterator for &'a AclView<'_> {
     }
 }
 
-// Returns the list that all of the bytes spell, or the fault of the bytes.
+// Returns the list that all of the bytes spell. A byte after the list is a fault too.
 #[inline(always)]
 fn whole_of(bytes: &[u8], profile: Profile) -> Result<AclView<'_>, Fault>
     ensures found { IfOk result (λ list. Xdr (profile_of profile) list bytes.now) }
-    ensures fault { IfErr result (λ f. IsWholeFault
-        (profile_of profile) bytes.now f.offset f.reason) }
+    ensures fault { IfErr result (HasWholeFault (profile_of profile) bytes.now) }
 {
     let (view, len) = view_of(bytes, profile)?;
     if len < bytes.len() {
@@ -228,11 +210,11 @@ fn whole_of(bytes: &[u8], profile: Profile) -> Result<AclView<'_>, Fault>
     Ok(view)
 }
 
-// Returns the list at the front, or the fault of the bytes.
+// Returns the list at the front, with the number of its bytes, or the fault of the bytes.
 #[inline(always)]
 fn view_of(bytes: &[u8], profile: Profile) -> Result<(AclView<'_>, usize), Fault>
     ensures found { IfOk result (IsAtFront (profile_of profile) bytes.now) }
-    ensures fault { IfErr result (λ f. IsFault (profile_of profile) bytes.now f.offset f.reason) }
+    ensures fault { IfErr result (HasFault (profile_of profile) bytes.now) }
 {
     let reach = judge(bytes, profile);
     match reach.fault {

@@ -3,7 +3,7 @@ use Rattle.acl_normal.proofs.Common.{Ace, ace, AceRef, aces_in, and_parts, ap, A
 use Rattle.acl_normal.proofs.comparison.FirstPlaceLemmas.{whom_at}
 use Rattle.acl_normal.proofs.comparison.Numbers.{is_of_own}
 use Rattle.acl_normal.proofs.unique.Columns.{column_first}
-use Rattle.acl_normal.proofs.unique.Names.{principal_eq_same}
+use Rattle.acl_normal.proofs.unique.Names.{kind_eq_same, principal_eq_same}
 use Rattle.acl_normal.specs.internal.comparison.FirstPlaces.{names_any, same_whom}
 use Rattle.acl_normal.specs.internal.comparison.RightsApart.{HasOpenBits, say_the_same}
 use Rattle.acl_normal.specs.declared.comparison.apart.Statement.{Statement}
@@ -49,7 +49,7 @@ passed whole refs ws x w i apart mask bit lt at wi all h e f =
     ∙ ap (λ t. cond t ((principal_of (ace x), x.kind) ∷ column (aces_in (drop (i + 1) refs)) bit)
     (column (aces_in (drop (i + 1) refs)) bit)) test
 
--- two ACEs that name the same, one of which takes part, have one principal
+-- two ACEs that name the same have one principal, if one of the ACEs takes part
 same_principal : (whole : List Principal) (a b : Ace) (w : Whom) → IsWhom whole a w → IsWhom whole b w
     → takes_part a ≡ true → principal_of a ≡ principal_of b
 same_principal whole a b w h i t = own a w h t ∙ sym (own b w i (i.part ∙ sym h.part ∙ t))
@@ -76,7 +76,7 @@ pub record AreWalked (refs others : List AceRef) (here there apart : ℕ) : Type
       → column (aces_in (drop here refs)) bit ≡ column (aces_in (drop there others)) bit
       → column (aces_in refs) bit ≡ column (aces_in others) bit
 
--- the walk goes on after an ACE of the first list without open rights
+-- the walk continues after an ACE of the first list without open rights
 pub walk_here : (whole : List Principal) (refs others : List AceRef) (ws : List Whom) (x : AceRef) (w : Whom)
     (here there apart own : ℕ) → here < length refs → x ≡ slice_index_or refs here x → w ≡ slice_index_or ws here Nobody
     → AreWhoms whole (aces_in refs) ws → HasOpenBits (ace x) w apart own → own ≡ 0
@@ -86,7 +86,7 @@ walk_here whole refs others ws x w here there apart own lt at wi all h none inv 
       (passed whole refs ws x w here apart own bit lt at wi all h e (ap (λ m. has_bit m bit) none ∙ no_bit bit) ∙ rest);
 }
 
--- the walk goes on after an ACE of the second list without open rights
+-- the walk continues after an ACE of the second list without open rights
 pub walk_there : (whole : List Principal) (refs others : List AceRef) (ws : List Whom) (x : AceRef) (w : Whom)
     (here there apart own : ℕ) → there < length others → x ≡ slice_index_or others there x
     → w ≡ slice_index_or ws there Nobody → AreWhoms whole (aces_in others) ws → HasOpenBits (ace x) w apart own
@@ -97,7 +97,7 @@ walk_there whole refs others ws x w here there apart own lt at wi all h none inv
       (ap (λ m. has_bit m bit) none ∙ no_bit bit)));
 }
 
--- the walk goes on after two ACEs whose open rights are apart from now on
+-- the walk continues after two ACEs whose open rights are apart from now on
 pub walk_apart : (whole : List Principal) (refs others : List AceRef) (ws vs : List Whom) (x y : AceRef) (w v : Whom)
     (here there apart own theirs more new : ℕ) → here < length refs → there < length others
     → x ≡ slice_index_or refs here x → y ≡ slice_index_or others there y → w ≡ slice_index_or ws here Nobody
@@ -114,7 +114,7 @@ walk_apart whole refs others ws vs x y w v here there apart own theirs more new 
           ∙ sym (passed whole others vs y v there apart theirs bit lt ya vi hv ht inner.0 outer.1));
     }
 
--- the walk goes on after two ACEs with the same open rights, kind and principal
+-- the walk continues after two ACEs with the same open rights, kind and principal
 pub walk_both : (whole : List Principal) (refs others : List AceRef) (ws vs : List Whom) (x y : AceRef) (w v : Whom)
     (here there apart own theirs : ℕ) → here < length refs → there < length others
     → x ≡ slice_index_or refs here x → y ≡ slice_index_or others there y → w ≡ slice_index_or ws here Nobody
@@ -169,5 +169,5 @@ pub alike_is : (s t : Statement) → say_the_same s t ≡ true → AreAlike s t
 alike_is s t h = record {
   rights = eqb-true s.rights.bits t.rights.bits (grind arith);
   whom = named_alike s.whom t.whom (grind arith);
-  kind = grind arith;
+  kind = kind_eq_same s.kind t.kind (grind arith);
 }

@@ -184,7 +184,7 @@ fast_pair xs ys ps v z w empty l le m lt n lw =
       );
     }
 
--- the first member of a differing pair has a partner behind it
+-- the first member of a differing pair has a partner after it
 pub fast_partner : (xs ys : List Ace) (ps : List Principal) (v z w : ℕ)
     → IsLeast (OnAll (AlikeAlone xs ys ps)) (length ps) v → length ps ≤ v
     → IsLeast (OnAll (AlikeWithAll xs ys ps)) (length ps) z → z < length ps

@@ -4,7 +4,7 @@ use Rattle.std.proofs.lemmas.List.{get_or_past}
 use Rattle.acl_normal.proofs.Each.{zip_at, zip_length}
 use Rattle.acl_normal.proofs.comparison.SetEvaluation.{granted_to-cons}
 use Rattle.acl_normal.specs.internal.comparison.FirstPlaces.{IsFirstFrom, IsWhomWithin, is_of, no_first, put, stops, stops_at}
-use Rattle.acl_normal.specs.declared.comparison.standing.First.{First}
+use Rattle.acl_normal.specs.declared.comparison.placing.First.{First}
 
 -- as many are named as there are ACEs
 pub whoms_length : (ps : List Principal) (aces : List AceRef) (ws : List Whom) → AreWhoms ps (aces_in aces) ws
@@ -16,7 +16,7 @@ pub whom_at : (ps : List Principal) (xs : List Ace) (ws : List Whom) (i : ℕ) �
     → IsWhom ps (slice_index_or xs i no_ace) (slice_index_or ws i Nobody)
 whom_at ps xs ws i lt z = zip_at (IsWhom ps) xs ws i no_ace Nobody lt z
 
--- the ACE at a place decides if it has the bit and is of the principal, and else the ACEs behind it do
+-- the ACE at a place decides if it has the bit and is of the principal, and else the ACEs after it do
 first_cons : (xs : List Ace) (a : Ace) (b i : ℕ) (p : Principal) → drop i xs ≡ a ∷ drop (i + 1) xs
     → (first_place (p ∷ []) b (drop i xs)
     ≡ cond (has_bit a.mask b && is_of a p) 0 (first_place (p ∷ []) b (drop (i + 1) xs) + 1))

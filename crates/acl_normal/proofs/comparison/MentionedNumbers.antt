@@ -49,7 +49,7 @@ numbers_skip table i d names numbers new number l none is e n =
     (n.whole_is ∙ sym (held_more table i d l ∙ ap (λ v. held (take i table) ++ held (v ∷ [])) none
     ∙ append-nil (held (take i table)))) n
 
--- after a row with a principal, the numbers are those of one row more, with its name behind the others
+-- after a row with a principal, the numbers are those of one row more, with its name after the others
 numbers_more : (table : List (Option PrincipalRef)) (i : ℕ) (d : Option PrincipalRef) (p : PrincipalRef)
     (names more : List PrincipalRef) (numbers new : List ℕ) (number : ℕ) → i < length table
     → slice_index_or table i d ≡ Some p → more ≡ names ++ p ∷ [] → number ≡ length names

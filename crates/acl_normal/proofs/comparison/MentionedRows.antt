@@ -1,5 +1,5 @@
 -- The principals that a list mentions, by row.
-use Rattle.acl_normal.proofs.Common.{[], Ace, ace, AceRef, aces_in, ap, AreRowNumbers, arith, Bool, cases_eq, cases_lt, false, get_or-map, get_or-set_other, get_or-set_same, get_or_default, inl, inr, is_among, is_mentioning, is_principal_of, key_here, length, length-map, length-set, List, mentioned_in, no_ace, None, Option, option_map, Principal, principal, principal_of, refl, row_of, same_Some, slice_index_or, slice_set, Some, subst, sym, true, ℕ, ◌+◌, ◌<◌, ◌∙◌, ◌≡◌, ◌≤◌, ◌⊎◌, ColumnKey}
+use Rattle.acl_normal.proofs.Common.{Ace, ace, AceRef, aces_in, ap, AreRowNumbers, arith, Bool, cases_eq, cases_lt, false, get_or-map, get_or-set_other, get_or-set_same, get_or_default, inl, inr, is_among, is_mentioning, is_principal_of, key_here, length, length-map, length-set, List, mentioned_in, no_ace, None, Option, option_map, Principal, principal, principal_of, refl, row_of, same_Some, slice_index_or, slice_set, Some, subst, sym, true, ℕ, ◌+◌, ◌<◌, ◌∙◌, ◌≡◌, ◌≤◌, ◌⊎◌, ColumnKey}
 use Rattle.acl_normal.proofs.Each.{all_at}
 use Rattle.acl_normal.proofs.rows.Rows.{named_here, row_below, row_same}
 use Rattle.acl_normal.proofs.comparison.MentionedPrincipals.{among_mentioned}

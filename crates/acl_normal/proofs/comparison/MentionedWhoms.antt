@@ -69,7 +69,7 @@ rows_mentioned xs rows table whole numbers r t n = record {
         (subst (HasNumber (held table) (principal_of (ace_at xs i))) (sym here)
         (held_at table row (principal_of (ace_at xs i)) e))
 
--- the value of the next ACE, behind those before it, says whom the ACEs up to it name
+-- the value of the next ACE, after those before it, says whom the ACEs up to it name
 pub whoms_more : (ps : List Principal) (refs : List AceRef) (a z : AceRef) (rows numbers : List ℕ) (ws new : List Whom)
     (w : Whom) (number row i d e : ℕ) → i < length refs → a ≡ slice_index_or refs i z
     → AreMentionedRows (aces_in refs) rows ps numbers → row ≡ slice_index_or rows i d

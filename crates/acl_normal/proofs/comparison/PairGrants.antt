@@ -1,5 +1,5 @@
 -- What two principals are granted, by what each is granted alone and which comes first.
-use Rattle.acl_normal.proofs.Common.{[], Ace, AgreesAt, AllByRecursion, AllZip, and_parts, ap, append_assoc, arith, Bool, cond, differ, everyone, false, FindsFirst, first_place, has_bit, inl, inr, inverts, inverts_any, is_allow, is_granted_to, is_user, is_users, IsStanding, List, may_overlap, nat_lt, None, not, Option, or_cases, or_parts, principal_pairs, partners, Principal, principal_eq, principal_of, refl, SameAlone, Standing, subst, sym, takes_part, true, user, ℕ, ◌&&◌, ◌++◌, ◌+◌, ◌||◌, ◌∙◌, ◌∷◌, ◌≡◌, ◌≢◌, ◌⊎◌}
+use Rattle.acl_normal.proofs.Common.{[], Ace, AgreesAt, AllByRecursion, AllZip, and_parts, ap, append_assoc, arith, Bool, cond, differ, everyone, false, FindsFirst, first_place, has_bit, inl, inr, inverts, inverts_any, is_allow, is_granted_to, is_user, is_users, IsPlacing, List, may_overlap, nat_lt, None, not, Option, or_cases, or_parts, principal_pairs, partners, Principal, principal_eq, principal_of, refl, SameAlone, Placing, subst, sym, takes_part, true, user, ℕ, ◌&&◌, ◌++◌, ◌+◌, ◌||◌, ◌∙◌, ◌∷◌, ◌≡◌, ◌≢◌, ◌⊎◌}
 use Rattle.std.proofs.lemmas.Bool.{cond_both}
 use Rattle.std.proofs.lemmas.Bool.Decides.{nat_tests}
 use Rattle.acl_normal.proofs.unique.Names.{bytes_eq_same}
@@ -38,7 +38,7 @@ both_users (user a) (user b) h i o = ap user (bytes_eq_same a b o)
 both_users (user a) _ h i o = cc
 both_users _ q h i o = cc
 
--- two principals of which one is no user overlap
+-- two principals overlap if one of them is no user
 not_both_users : (p q : Principal) → (is_user p && is_user q) ≡ false → may_overlap p q ≡ true
 not_both_users p q h = grind arith
 
@@ -50,25 +50,25 @@ same_choice l m vp vq h = grind arith
 other_choice : (l m vp vq : Bool) → (differ vp vq && differ l m) ≡ true → cond l vq vp ≡ cond m vq vp → ⊥
 other_choice l m vp vq h e = grind arith
 
--- the first list grants to a pair what the standing with the earlier place there says
-pub here_is : (xs ys : List Ace) (b : ℕ) (p q : Principal) (r s : Standing) → IsStanding xs ys b p r
-    → IsStanding xs ys b q s
+-- the first list grants to a pair what the placing with the earlier place there says
+pub here_is : (xs ys : List Ace) (b : ℕ) (p q : Principal) (r s : Placing) → IsPlacing xs ys b p r
+    → IsPlacing xs ys b q s
     → is_granted_to xs (p ∷ q ∷ []) b
     ≡ cond (nat_lt s.here.place r.here.place) (is_allow s.here.kind) (is_allow r.here.kind)
 here_is xs ys b p q r s h i = pair_granted xs p q b
     ∙ rw (← h.here.place, ← i.here.place, ← h.here.allows, ← i.here.allows) refl
 
--- the second list grants to a pair what the standing with the earlier place there says
-pub there_is : (xs ys : List Ace) (b : ℕ) (p q : Principal) (r s : Standing) → IsStanding xs ys b p r
-    → IsStanding xs ys b q s
+-- the second list grants to a pair what the placing with the earlier place there says
+pub there_is : (xs ys : List Ace) (b : ℕ) (p q : Principal) (r s : Placing) → IsPlacing xs ys b p r
+    → IsPlacing xs ys b q s
     → SameAlone r → SameAlone s → is_granted_to ys (p ∷ q ∷ []) b
     ≡ cond (nat_lt s.there.place r.there.place) (is_allow s.here.kind) (is_allow r.here.kind)
 there_is xs ys b p q r s h i u v =
     pair_granted ys p q b ∙ rw (← h.there.place, ← i.there.place, ← h.there.allows, ← i.there.allows, ← u, ← v) refl
 
 -- the lists grant alike to a pair that overlaps and is not inverted
-pub not_inverted : (xs ys : List Ace) (b : ℕ) (p q : Principal) (r s : Standing) → IsStanding xs ys b p r
-    → IsStanding xs ys b q s
+pub not_inverted : (xs ys : List Ace) (b : ℕ) (p q : Principal) (r s : Placing) → IsPlacing xs ys b p r
+    → IsPlacing xs ys b q s
     → SameAlone r → SameAlone s → inverts r s ≡ false → may_overlap p q ≡ true
     → is_granted_to xs (p ∷ q ∷ []) b ≡ is_granted_to ys (p ∷ q ∷ []) b
 not_inverted xs ys b p q r s h i u v e o = here_is xs ys b p q r s h i ∙ go (is_users r.class && is_users s.class) refl
@@ -90,8 +90,8 @@ not_inverted xs ys b p q r s h i u v e o = here_is xs ys b p q r s h i ∙ go (i
         (nat_lt s.here.place r.here.place) (nat_lt s.there.place r.there.place)) k) ∙ e)
 
 -- the principals of an inverted pair overlap, and the lists do not grant the same to the pair
-pub inverted : (xs ys : List Ace) (b : ℕ) (p q : Principal) (r s : Standing) → IsStanding xs ys b p r
-    → IsStanding xs ys b q s
+pub inverted : (xs ys : List Ace) (b : ℕ) (p q : Principal) (r s : Placing) → IsPlacing xs ys b p r
+    → IsPlacing xs ys b q s
     → SameAlone r → SameAlone s → inverts r s ≡ true
     → (may_overlap p q ≡ true) × (is_granted_to xs (p ∷ q ∷ []) b ≢ is_granted_to ys (p ∷ q ∷ []) b)
 inverted xs ys b p q r s h i u v e = (
@@ -101,10 +101,10 @@ inverted xs ys b p q r s h i u v e = (
       (sym (here_is xs ys b p q r s h i) ∙ same ∙ there_is xs ys b p q r s h i u v),
 )
 
--- a principal agrees with all on the bit if its standing inverts none of theirs
-pub agrees_from_rows : (xs ys : List Ace) (b : ℕ) (p : Principal) (r : Standing) (ps : List Principal)
-    (rows : List Standing)
-    → IsStanding xs ys b p r → SameAlone r → AllZip (IsStanding xs ys b) ps rows → AllByRecursion SameAlone rows
+-- a principal agrees with all on the bit if its placing inverts none of theirs
+pub agrees_from_rows : (xs ys : List Ace) (b : ℕ) (p : Principal) (r : Placing) (ps : List Principal)
+    (rows : List Placing)
+    → IsPlacing xs ys b p r → SameAlone r → AllZip (IsPlacing xs ys b) ps rows → AllByRecursion SameAlone rows
     → inverts_any r rows ≡ false → AgreesAt xs ys ps b p
 agrees_from_rows xs ys b p r [] [] h u z all e = tt
 agrees_from_rows xs ys b p r (q ∷ ps) (s ∷ rows) h u z all e =
@@ -112,9 +112,9 @@ agrees_from_rows xs ys b p r (q ∷ ps) (s ∷ rows) h u z all e =
     (not_inverted xs ys b p q r s h z.0 u all.0 parts.0, agrees_from_rows xs ys b p r ps rows h u z.1 all.1 parts.1)
 agrees_from_rows xs ys b p r _ _ h u z all e = absurd z
 
--- a principal does not agree with all on the bit if its standing inverts one of theirs
-pub not_agrees_from_rows : (xs ys : List Ace) (b : ℕ) (p : Principal) (r : Standing) (ps : List Principal)
-    (rows : List Standing) → IsStanding xs ys b p r → SameAlone r → AllZip (IsStanding xs ys b) ps rows
+-- a principal does not agree with all on the bit if its placing inverts one of theirs
+pub not_agrees_from_rows : (xs ys : List Ace) (b : ℕ) (p : Principal) (r : Placing) (ps : List Principal)
+    (rows : List Placing) → IsPlacing xs ys b p r → SameAlone r → AllZip (IsPlacing xs ys b) ps rows
     → AllByRecursion SameAlone rows → inverts_any r rows ≡ true → AgreesAt xs ys ps b p → ⊥
 not_agrees_from_rows xs ys b p r [] [] h u z all e a = cc
 not_agrees_from_rows xs ys b p r (q ∷ ps) (s ∷ rows) h u z all e a =
@@ -126,7 +126,7 @@ not_agrees_from_rows xs ys b p r (q ∷ ps) (s ∷ rows) h u z all e a =
     go (inr k) later = later k
 not_agrees_from_rows xs ys b p r _ _ h u z all e a = absurd z
 
--- if a principal agrees with all, no pair of it differs
+-- if the lists agree on a principal with each later one, no pair of the principal is found
 pub partners_agree : (xs ys : List Ace) (p : Principal) (ps : List Principal) → Agrees xs ys ps p
     → FindsFirst xs ys (partners p ps) None
 partners_agree xs ys p [] h = refl

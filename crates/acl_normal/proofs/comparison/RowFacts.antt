@@ -1,33 +1,34 @@
 -- The least number of a principal at which two lists do not grant the same, bit by bit.
-use Rattle.acl_normal.proofs.Common.{[], Ace, AgreesAt, all_mentioned, all_rights, AllByRecursion, AllZip, ap, AreFirstFrom, AreStandings, arith, cases_eq, cases_lt, drop, everyone, false, get_or_read, has_bit, inl, inr, inverts, inverts_any, is_allow, is_among, is_granted_to, is_user, is_users, IsStanding, length, length-map, List, map-append, no_standing, Principal, principal, principals, SameAlone, slice_index_or, Standing, subst, sym, take, take_more, true, TwoLists, verdict, ℕ, ◌++◌, ◌+◌, ◌<◌, ◌∙◌, ◌∷◌, ◌≡◌, ◌≤◌, ◌⊎◌}
+use Rattle.acl_normal.proofs.Common.{[], Ace, AgreesAt, all_mentioned, all_rights, AllByRecursion, AllZip, ap, AreFirstFrom, ArePlacings, arith, Bool, cases_eq, cases_lt, drop, everyone, false, get_or_read, has_bit, inl, inr, inverts, inverts_any, is_allow, is_among, is_granted_to, is_user, is_users, IsPlacing, length, length-map, List, map-append, no_placing, Principal, principal, principals, SameAlone, slice_index_or, Placing, subst, sym, take, take_more, true, TwoLists, verdict, ℕ, ◌++◌, ◌+◌, ◌<◌, ◌∙◌, ◌∷◌, ◌≡◌, ◌≤◌, ◌⊎◌}
 use Rattle.std.proofs.Common.{suc}
 use Rattle.acl_perm.specs.declared.principal.Principal.{Principal as PrincipalRef}
 use Rattle.acl_normal.proofs.Each.{all_at, all_drop, zip_at, zip_length, zip_push, zip_drop}
 use Rattle.acl_normal.proofs.unique.Bits.{below}
 use Rattle.acl_normal.proofs.comparison.Numbers.{numbered}
 use Rattle.acl_normal.proofs.comparison.PairGrants.{agrees_from_rows, inverted, not_agrees_from_rows, not_inverted}
-use Rattle.acl_normal.specs.internal.comparison.FirstPlaces.{AlikeAlone, AlikeWith, AlikeWithAll, IsFirst, IsFirstFrom, IsLeast, OnAll, no_first}
+use Rattle.acl_normal.specs.internal.comparison.FirstPlaces.{AlikeAlone, AlikeWith, AlikeWithAll, IsFirst, IsFirstBelow, IsFirstFrom, IsLeast, OnAll, is_unlike, no_first}
+use Rattle.acl_normal.specs.internal.comparison.SetSearch.{differ}
 use Rattle.acl_normal.specs.internal.comparison.TwoLists.{AlikeToOne, AlikeToPair, AlikeToPairs, HaveSameColumn, later_than, principal_at}
 use Rattle.acl_normal.specs.declared.class.Class.{Class}
-use Rattle.acl_normal.specs.declared.comparison.standing.First.{First}
+use Rattle.acl_normal.specs.declared.comparison.placing.First.{First}
 
 -- the first ACE of a principal from place 0 on is its first ACE in the list
 pub first_of_all : (xs : List Ace) (b : ℕ) (p : Principal) (f : First) → IsFirstFrom xs b 0 p f → IsFirst xs b p f
 first_of_all xs b p f h = let place = h.place in record { place = omega arith; allows = h.allows }
 
--- the standings with that of the next principal are those of the principals up to it
+-- the placings with that of the next principal are those of the principals up to it
 pub rows_more : (names : List PrincipalRef) (q : PrincipalRef) (xs ys : List Ace) (b i : ℕ)
-    (heres theres : List First) (h t : First) (u : Class) (old new : List Standing) → i < length names
+    (heres theres : List First) (h t : First) (u : Class) (old new : List Placing) → i < length names
     → h ≡ slice_index_or heres i h → t ≡ slice_index_or theres i t
     → is_users u ≡ is_user (principal (slice_index_or names i q)) → AreFirstFrom (principals names) xs b 0 heres
     → AreFirstFrom (principals names) ys b 0 theres → new ≡ old ++ record { here = h; there = t; class = u } ∷ []
-    → AreStandings (principals (take i names)) xs ys b old → AreStandings (principals (take (i + 1) names)) xs ys b new
+    → ArePlacings (principals (take i names)) xs ys b old → ArePlacings (principals (take (i + 1) names)) xs ys b new
 rows_more names q xs ys b i heres theres h t u old new lt hi ti ui hs ts is all =
     let inside : i < length (principals names) = omega (arith, length-map names principal) in
     let s : Principal = slice_index_or (principals names) i everyone in
     let here : h ≡ slice_index_or heres i no_first = get_or_read heres i h (omega (arith, hs.count)) hi no_first in
     let there : t ≡ slice_index_or theres i no_first = get_or_read theres i t (omega (arith, ts.count)) ti no_first in
-    let row : IsStanding xs ys b s (record { here = h; there = t; class = u }) = record {
+    let row : IsPlacing xs ys b s (record { here = h; there = t; class = u }) = record {
       here = subst (λ v. IsFirst xs b s v) (sym here)
           (first_of_all xs b s (slice_index_or heres i no_first) (hs.each i inside));
       there = subst (λ v. IsFirst ys b s v) (sym there)
@@ -38,26 +39,26 @@ rows_more names q xs ys b i heres theres h t u old new lt hi ti ui hs ts is all 
     ap principals (take_more names i q lt) ∙ map-append principal (take i names) (slice_index_or names i q ∷ [])
     ∙ ap (λ v. principals (take i names) ++ v ∷ []) (sym (numbered names q i lt)) in
     record {
-      each = subst (λ v. AllZip (IsStanding xs ys b) v new) (sym longer)
-          (subst (λ v. AllZip (IsStanding xs ys b) (principals (take i names) ++ s ∷ []) v) (sym is)
-          (zip_push (IsStanding xs ys b) (principals (take i names)) old s (record { here = h; there = t; class = u })
+      each = subst (λ v. AllZip (IsPlacing xs ys b) v new) (sym longer)
+          (subst (λ v. AllZip (IsPlacing xs ys b) (principals (take i names) ++ s ∷ []) v) (sym is)
+          (zip_push (IsPlacing xs ys b) (principals (take i names)) old s (record { here = h; there = t; class = u })
           all.each row));
     }
 
--- the standing at a number is that of the principal there
-pub row_at : (ps : List Principal) (xs ys : List Ace) (b k : ℕ) (rows : List Standing) → k < length ps
-    → AllZip (IsStanding xs ys b) ps rows
-    → IsStanding xs ys b (slice_index_or ps k everyone) (slice_index_or rows k no_standing)
-row_at ps xs ys b k rows lt z = zip_at (IsStanding xs ys b) ps rows k everyone no_standing lt z
+-- the placing at a number is that of the principal there
+pub row_at : (ps : List Principal) (xs ys : List Ace) (b k : ℕ) (rows : List Placing) → k < length ps
+    → AllZip (IsPlacing xs ys b) ps rows
+    → IsPlacing xs ys b (slice_index_or ps k everyone) (slice_index_or rows k no_placing)
+row_at ps xs ys b k rows lt z = zip_at (IsPlacing xs ys b) ps rows k everyone no_placing lt z
 
--- there are as many standings as principals
-pub rows_length : (ps : List Principal) (xs ys : List Ace) (b : ℕ) (rows : List Standing) → AreStandings ps xs ys b rows
+-- there are as many placings as principals
+pub rows_length : (ps : List Principal) (xs ys : List Ace) (b : ℕ) (rows : List Placing) → ArePlacings ps xs ys b rows
     → length rows ≡ length ps
-rows_length ps xs ys b rows h = zip_length (IsStanding xs ys b) ps rows h.each
+rows_length ps xs ys b rows h = zip_length (IsPlacing xs ys b) ps rows h.each
 
--- a limit within the principals is within their standings
-pub rows_limit : (ps : List Principal) (xs ys : List Ace) (b : ℕ) (rows shown : List Standing) (limit : ℕ)
-    → AreStandings ps xs ys b rows → shown ≡ rows → limit ≤ length ps → limit ≤ length shown
+-- a limit within the principals is within their placings
+pub rows_limit : (ps : List Principal) (xs ys : List Ace) (b : ℕ) (rows shown : List Placing) (limit : ℕ)
+    → ArePlacings ps xs ys b rows → shown ≡ rows → limit ≤ length ps → limit ≤ length shown
 rows_limit ps xs ys b rows shown limit h is within =
     omega (arith, rows_length ps xs ys b rows h, ap length is, within)
 
@@ -100,33 +101,46 @@ pub least_done : (Q : ℕ → ℕ → Type 0) (n bit least : ℕ) → 21 ≤ bit
 least_done Q n bit least le h =
     record { within = h.within; before = λ k l b has. h.before k l b (omega (arith, below b has)) has; at = h.at }
 
--- the lists grant alike to a principal alone if its standing has one kind in both lists
-pub alone_from_row : (ps : List Principal) (xs ys : List Ace) (b k : ℕ) (rows : List Standing) → k < length ps
-    → AreStandings ps xs ys b rows → SameAlone (slice_index_or rows k no_standing) → AlikeAlone xs ys ps b k
+-- kinds that do not differ are the same
+same_alone : (r : Placing) → is_unlike r ≡ false → SameAlone r
+same_alone r e = go (is_allow r.here.kind) (is_allow r.there.kind) e
+  where
+    go : (s t : Bool) → differ s t ≡ false → s ≡ t
+    go s t h = grind arith
+
+-- kinds that differ are not the same
+not_same_alone : (r : Placing) → is_unlike r ≡ true → SameAlone r → ⊥
+not_same_alone r e = go (is_allow r.here.kind) (is_allow r.there.kind) e
+  where
+    go : (s t : Bool) → differ s t ≡ true → s ≡ t → ⊥
+    go s t h same = grind arith
+
+-- the lists grant alike to a principal alone if its placing has one kind in both lists
+pub alone_from_row : (ps : List Principal) (xs ys : List Ace) (b k : ℕ) (rows : List Placing) → k < length ps
+    → ArePlacings ps xs ys b rows → is_unlike (slice_index_or rows k no_placing) ≡ false → AlikeAlone xs ys ps b k
 alone_from_row ps xs ys b k rows lt h e = let r = row_at ps xs ys b k rows lt h.each in
-    sym r.here.allows ∙ e ∙ r.there.allows
+    sym r.here.allows ∙ same_alone (slice_index_or rows k no_placing) e ∙ r.there.allows
 
--- the lists do not grant the same to a principal alone if its standing has two kinds
-pub not_alone_from_row : (ps : List Principal) (xs ys : List Ace) (b k : ℕ) (rows : List Standing) → k < length ps
-    → AreStandings ps xs ys b rows → (SameAlone (slice_index_or rows k no_standing) → ⊥) → AlikeAlone xs ys ps b k → ⊥
+-- the lists do not grant the same to a principal alone if its placing has two kinds
+pub not_alone_from_row : (ps : List Principal) (xs ys : List Ace) (b k : ℕ) (rows : List Placing) → k < length ps
+    → ArePlacings ps xs ys b rows → is_unlike (slice_index_or rows k no_placing) ≡ true → AlikeAlone xs ys ps b k → ⊥
 not_alone_from_row ps xs ys b k rows lt h n e = let r = row_at ps xs ys b k rows lt h.each in
-    n (r.here.allows ∙ e ∙ sym r.there.allows)
+    not_same_alone (slice_index_or rows k no_placing) n (r.here.allows ∙ e ∙ sym r.there.allows)
 
--- the search for the first single principal goes on to the next bit
-pub single_step : (ps : List Principal) (xs ys : List Ace) (bit old new : ℕ) (rows : List Standing)
-    → AreStandings ps xs ys bit rows → has_bit all_rights bit ≡ true → new ≤ old
-    → ((k : ℕ) → k < new → SameAlone (slice_index_or rows k no_standing))
-    → (new < old → SameAlone (slice_index_or rows new no_standing) → ⊥)
+-- the search for the first single principal continues with the next bit
+pub single_step : (ps : List Principal) (xs ys : List Ace) (bit old new : ℕ) (rows : List Placing)
+    → ArePlacings ps xs ys bit rows → has_bit all_rights bit ≡ true → IsFirstBelow is_unlike rows old new
     → Least (AlikeAlone xs ys ps) (length ps) bit old
     → Least (AlikeAlone xs ys ps) (length ps) (bit + 1) new
-single_step ps xs ys bit old new rows h has le each stop l =
+single_step ps xs ys bit old new rows h has first l =
+    let le = first.within in
     least_step (AlikeAlone xs ys ps) (length ps) bit old new le
-    (λ k lt. alone_from_row ps xs ys bit k rows (omega (arith, l.within)) h (each k lt))
-    (λ lt all. not_alone_from_row ps xs ys bit new rows (omega (arith, l.within)) h (stop lt) (all bit has)) l
+    (λ k lt. alone_from_row ps xs ys bit k rows (omega (arith, l.within)) h (first.before k lt))
+    (λ lt all. not_alone_from_row ps xs ys bit new rows (omega (arith, l.within)) h (first.at lt) (all bit has)) l
 
--- if the lists grant alike to each principal alone, each standing has one kind in both lists
-pub all_alone : (ps : List Principal) (xs ys : List Ace) (b : ℕ) (rows : List Standing)
-    → AllZip (IsStanding xs ys b) ps rows
+-- if the lists grant alike to each principal alone, each placing has one kind in both lists
+pub all_alone : (ps : List Principal) (xs ys : List Ace) (b : ℕ) (rows : List Placing)
+    → AllZip (IsPlacing xs ys b) ps rows
     → ((k : ℕ) → k < length ps → AlikeAlone xs ys ps b k) → AllByRecursion SameAlone rows
 all_alone [] xs ys b [] z h = tt
 all_alone (p ∷ ps) xs ys b (r ∷ rows) z h = (
@@ -136,77 +150,73 @@ all_alone (p ∷ ps) xs ys b (r ∷ rows) z h = (
 )
 all_alone _ xs ys b _ z h = absurd z
 
--- the search for the first member of a pair goes on to the next bit
-pub member_step : (ps : List Principal) (xs ys : List Ace) (bit old new : ℕ) (rows : List Standing)
-    → AreStandings ps xs ys bit rows → ((k : ℕ) → k < length ps → OnAll (AlikeAlone xs ys ps) k)
-    → has_bit all_rights bit ≡ true → new ≤ old
-    → ((k : ℕ) → k < new → inverts_any (slice_index_or rows k no_standing) rows ≡ false)
-    → (new < old → inverts_any (slice_index_or rows new no_standing) rows ≡ true)
+-- the search for the first member of a pair continues with the next bit
+pub member_step : (ps : List Principal) (xs ys : List Ace) (bit old new : ℕ) (rows : List Placing)
+    → ArePlacings ps xs ys bit rows → ((k : ℕ) → k < length ps → OnAll (AlikeAlone xs ys ps) k)
+    → has_bit all_rights bit ≡ true → IsFirstBelow (λ r. inverts_any r rows) rows old new
     → Least (AlikeWithAll xs ys ps) (length ps) bit old → Least (AlikeWithAll xs ys ps) (length ps) (bit + 1) new
-member_step ps xs ys bit old new rows h alone has le each stop l =
+member_step ps xs ys bit old new rows h alone has first l =
+    let le = first.within in
     let same : AllByRecursion SameAlone rows = all_alone ps xs ys bit rows h.each (λ k lt. alone k lt bit has) in
     let count : length rows ≡ length ps = rows_length ps xs ys bit rows h in
     least_step (AlikeWithAll xs ys ps) (length ps) bit old new le
-    (λ k lt. agrees_from_rows xs ys bit (slice_index_or ps k everyone) (slice_index_or rows k no_standing) ps rows
+    (λ k lt. agrees_from_rows xs ys bit (slice_index_or ps k everyone) (slice_index_or rows k no_placing) ps rows
     (row_at ps xs ys bit k rows (omega (arith, l.within)) h.each)
-    (all_at SameAlone rows k no_standing (omega (arith, l.within)) same)
-    h.each same (each k lt))
+    (all_at SameAlone rows k no_placing (omega (arith, l.within)) same)
+    h.each same (first.before k lt))
     (λ lt all. not_agrees_from_rows xs ys bit (slice_index_or ps new everyone)
-    (slice_index_or rows new no_standing) ps rows
+    (slice_index_or rows new no_placing) ps rows
     (row_at ps xs ys bit new rows (omega (arith, l.within)) h.each)
-    (all_at SameAlone rows new no_standing (omega (arith, l.within)) same) h.each same (stop lt) (all bit has)) l
+    (all_at SameAlone rows new no_placing (omega (arith, l.within)) same) h.each same (first.at lt) (all bit has)) l
 
--- the search for the first partner of a principal goes on to the next bit
-pub partner_step : (p : Principal) (r : Standing) (ps : List Principal) (xs ys : List Ace) (bit old new : ℕ)
-    (rows : List Standing) → IsStanding xs ys bit p r → SameAlone r → AreStandings ps xs ys bit rows
-    → AllByRecursion SameAlone rows
-    → has_bit all_rights bit ≡ true → new ≤ old
-    → ((k : ℕ) → k < new → inverts r (slice_index_or rows k no_standing) ≡ false)
-    → (new < old → inverts r (slice_index_or rows new no_standing) ≡ true)
+-- the search for the first partner of a principal continues with the next bit
+pub partner_step : (p : Principal) (r : Placing) (ps : List Principal) (xs ys : List Ace) (bit old new : ℕ)
+    (rows : List Placing) → IsPlacing xs ys bit p r → SameAlone r → ArePlacings ps xs ys bit rows
+    → AllByRecursion SameAlone rows → has_bit all_rights bit ≡ true → IsFirstBelow (inverts r) rows old new
     → Least (AlikeWith xs ys p ps) (length ps) bit old → Least (AlikeWith xs ys p ps) (length ps) (bit + 1) new
-partner_step p r ps xs ys bit old new rows hp sp h same has le each stop l =
+partner_step p r ps xs ys bit old new rows hp sp h same has first l =
+    let le = first.within in
     let count : length rows ≡ length ps = rows_length ps xs ys bit rows h in
     least_step (AlikeWith xs ys p ps) (length ps) bit old new le
-    (λ k lt o. not_inverted xs ys bit p (slice_index_or ps k everyone) r (slice_index_or rows k no_standing) hp
+    (λ k lt o. not_inverted xs ys bit p (slice_index_or ps k everyone) r (slice_index_or rows k no_placing) hp
     (row_at ps xs ys bit k rows (omega (arith, l.within)) h.each) sp
-    (all_at SameAlone rows k no_standing (omega (arith, l.within)) same) (each k lt) o)
-    (λ lt all. let d = inverted xs ys bit p (slice_index_or ps new everyone) r (slice_index_or rows new no_standing) hp
+    (all_at SameAlone rows k no_placing (omega (arith, l.within)) same) (first.before k lt) o)
+    (λ lt all. let d = inverted xs ys bit p (slice_index_or ps new everyone) r (slice_index_or rows new no_placing) hp
     (row_at ps xs ys bit new rows (omega (arith, l.within)) h.each) sp
-    (all_at SameAlone rows new no_standing (omega (arith, l.within)) same) (stop lt) in d.1 (all bit has d.0)) l
+    (all_at SameAlone rows new no_placing (omega (arith, l.within)) same) (first.at lt) in d.1 (all bit has d.0)) l
 
--- there are as many later standings as later principals
-pub others_length : (ps : List Principal) (xs ys : List Ace) (b at : ℕ) (items slice others : List Standing)
-    → AreStandings ps xs ys b items → slice ≡ items → others ≡ drop (at + 1) slice
+-- there are as many later placings as later principals
+pub others_length : (ps : List Principal) (xs ys : List Ace) (b at : ℕ) (items slice others : List Placing)
+    → ArePlacings ps xs ys b items → slice ≡ items → others ≡ drop (at + 1) slice
     → length others ≡ length (drop (at + 1) ps)
 others_length ps xs ys b at items slice others h is split = ap length (split ∙ ap (drop (at + 1)) is)
-    ∙ zip_length (IsStanding xs ys b) (drop (at + 1) ps) (drop (at + 1) items)
-    (zip_drop (IsStanding xs ys b) (at + 1) ps items h.each)
+    ∙ zip_length (IsPlacing xs ys b) (drop (at + 1) ps) (drop (at + 1) items)
+    (zip_drop (IsPlacing xs ys b) (at + 1) ps items h.each)
 
--- the search for the first partner goes on to the next bit, with the standings as the code holds them
-pub partner_loop : (ps : List Principal) (xs ys : List Ace) (bit at old new : ℕ) (row : Standing)
-    (items slice others : List Standing) → at < length ps → AreStandings ps xs ys bit items → slice ≡ items
+-- the search for the first partner continues with the next bit, with the placings as the code holds them
+pub partner_loop : (ps : List Principal) (xs ys : List Ace) (bit at old new : ℕ) (row : Placing)
+    (items slice others : List Placing) → at < length ps → ArePlacings ps xs ys bit items → slice ≡ items
     → others ≡ drop (at + 1) slice → row ≡ slice_index_or items at row
-    → ((k : ℕ) → k < length ps → OnAll (AlikeAlone xs ys ps) k) → has_bit all_rights bit ≡ true → new ≤ old
-    → ((k : ℕ) → k < new → inverts row (slice_index_or others k no_standing) ≡ false)
-    → (new < old → inverts row (slice_index_or others new no_standing) ≡ true)
+    → ((k : ℕ) → k < length ps → OnAll (AlikeAlone xs ys ps) k) → has_bit all_rights bit ≡ true
+    → IsFirstBelow (inverts row) others old new
     → Least (AlikeWith xs ys (slice_index_or ps at everyone) (drop (at + 1) ps)) (length (drop (at + 1) ps)) bit old
     → Least (AlikeWith xs ys (slice_index_or ps at everyone) (drop (at + 1) ps)) (length (drop (at + 1) ps))
     (bit + 1) new
-partner_loop ps xs ys bit at old new row items slice others lt h is split read alone has le each stop l =
+partner_loop ps xs ys bit at old new row items slice others lt h is split read alone has first l =
     let count : length items ≡ length ps = rows_length ps xs ys bit items h in
     let same : AllByRecursion SameAlone items = all_alone ps xs ys bit items h.each (λ k lk. alone k lk bit has) in
-    let own : row ≡ slice_index_or items at no_standing = get_or_read items at row (omega arith) read no_standing in
+    let own : row ≡ slice_index_or items at no_placing = get_or_read items at row (omega arith) read no_placing in
     let rest : others ≡ drop (at + 1) items = split ∙ ap (drop (at + 1)) is in
     partner_step (slice_index_or ps at everyone) row (drop (at + 1) ps) xs ys bit old new others
-    (subst (λ v. IsStanding xs ys bit (slice_index_or ps at everyone) v) (sym own)
+    (subst (λ v. IsPlacing xs ys bit (slice_index_or ps at everyone) v) (sym own)
     (row_at ps xs ys bit at items lt h.each))
-    (subst (λ v. SameAlone v) (sym own) (all_at SameAlone items at no_standing (omega arith) same))
+    (subst (λ v. SameAlone v) (sym own) (all_at SameAlone items at no_placing (omega arith) same))
     (record {
-      each = subst (λ v. AllZip (IsStanding xs ys bit) (drop (at + 1) ps) v) (sym rest)
-          (zip_drop (IsStanding xs ys bit) (at + 1) ps items h.each);
+      each = subst (λ v. AllZip (IsPlacing xs ys bit) (drop (at + 1) ps) v) (sym rest)
+          (zip_drop (IsPlacing xs ys bit) (at + 1) ps items h.each);
     })
     (subst (λ v. AllByRecursion SameAlone v) (sym rest) (all_drop SameAlone (at + 1) items same))
-    has le each stop l
+    has first l
 
 -- ---- two lists that are compared
 
@@ -230,7 +240,7 @@ same_one both bit h k = same_alike both bit (principal_at both k ∷ []) h
 pub same_pairs : (both : TwoLists) (bit : ℕ) → HaveSameColumn both bit → (k : ℕ) → AlikeToPairs both bit k
 same_pairs both bit h k = same_agree both bit (principal_at both k) (all_mentioned both) h
 
--- lists with the same column at a bit grant it alike to a principal with each one behind it
+-- lists with the same column at a bit grant it alike to a principal with each one after it
 pub same_pair : (both : TwoLists) (at bit : ℕ) → HaveSameColumn both bit → (k : ℕ) → AlikeToPair both at bit k
 same_pair both at bit h k _ =
     same_alike both bit (principal_at both at ∷ slice_index_or (later_than both at) k everyone ∷ []) h

@@ -155,7 +155,7 @@ pub copies_long : (ws now : List Whom) (places : List ℕ) → now ≡ with_copi
 copies_long ws now places is =
     omega (arith, ap length is, length-append ws (map (λ q. slice_index_or ws q Nobody) places))
 
--- each place of which a copy is made is one of the values
+-- each place that is copied is the place of one of the values
 pub copies_there : (whole : List Principal) (refs others : List AceRef) (ws : List Whom) (places shown : List ℕ) (n : ℕ)
     → ArePlacesOf refs others (length others) places → shown ≡ places → AreWhoms whole (aces_in refs) ws
     → n ≡ length ws → (i : ℕ) → i < length shown → slice_index_or shown i 0 < n

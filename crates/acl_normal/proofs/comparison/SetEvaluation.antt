@@ -1,5 +1,5 @@
 -- What a list grants to a small set of principals, as the code finds it: for all rights at once.
-use Rattle.acl_normal.proofs.Common.{Ace, ace, AceRef, aces_in, all_rights, Allow, ap, IsGrantedTo, arith, at_drop_more, bit_at, bits_from_mask, Bool, column, cond, Deny, differ, drop, eq-eqb, everyone, false, false_from_ne_true, false≢true, GrantAlikeTo, has_bit, is_allow, is_among, is_granted_to, IsDifference, IsMask, IsMask-lt, IsSubset, IsTrue, IsUnion, length, List, ne_eqb, no_bit, not, or_parts, Principal, principal_of, refl, same_set, slice_index_or, subst, sym, takes_part, trailing_zeros, true, w32, ℕ, ◌&&◌, ◌+◌, ◌<◌, ◌==◌, ◌^◌, ◌||◌, ◌↔◌, ◌∙◌, ◌∷◌, ◌≡◌, ◌≢◌, only_bit, same_answers, one_bit}
+use Rattle.acl_normal.proofs.Common.{Ace, ace, AceRef, aces_in, all_rights, ap, IsGrantedTo, arith, at_drop_more, bit_at, bits_from_mask, Bool, column, cond, differ, drop, eq-eqb, everyone, false, false_from_ne_true, false≢true, GrantAlikeTo, has_bit, is_allow, is_among, is_granted_to, IsMask, IsMask-lt, IsSubset, IsTrue, IsUnion, Kind, length, List, ne_eqb, no_bit, not, or_parts, Principal, principal_of, refl, same_set, slice_index_or, subst, sym, takes_part, trailing_zeros, true, w32, ℕ, ◌&&◌, ◌+◌, ◌<◌, ◌==◌, ◌^◌, ◌||◌, ◌↔◌, ◌∙◌, ◌∷◌, ◌≡◌, ◌≢◌, only_bit, same_answers, one_bit}
 use Rattle.std.specs.Bool.{OnFalse}
 use Rattle.std.proofs.lemmas.Nat.Bits.{bit_at-trailing_zeros}
 use Rattle.acl_normal.specs.Left.{IsLowest}
@@ -17,51 +17,31 @@ granted_to-cons a rest set bit = grind arith
 abbrev pub decides : ℕ → ℕ → List Ace → List Principal → ℕ → Bool
 decides granted decided rest set bit = has_bit granted bit || (not (has_bit decided bit) && is_granted_to rest set bit)
 
--- an ACE that allows grants its bits that were not decided before
-step_allow : (a : Ace) (rest : List Ace) (set : List Principal) (granted decided own less new more bit : ℕ)
-    → IsDifference own decided less → IsUnion granted less new → IsUnion decided own more → HasBitsOf a set own
-    → a.kind ≡ Allow → decides new more rest set bit ≡ decides granted decided (a ∷ rest) set bit
-step_allow a rest set granted decided own less new more bit d u v h k =
-    grind (arith, granted_to-cons a rest set bit, d bit, u bit, v bit, h.bits bit)
+-- the bits that an ACE grants: none if it denies, and otherwise those that were not decided before
+abbrev pub IsGrantedAnew : Kind → ℕ → ℕ → ℕ → Type 0
+IsGrantedAnew kind own decided anew =
+    (bit : ℕ) → has_bit anew bit ≡ (is_allow kind && (has_bit own bit && not (has_bit decided bit)))
 
--- an ACE that denies decides its bits and grants none
-step_deny : (a : Ace) (rest : List Ace) (set : List Principal) (granted decided own more bit : ℕ)
-    → IsUnion decided own more → HasBitsOf a set own → a.kind ≡ Deny
-    → decides granted more rest set bit ≡ decides granted decided (a ∷ rest) set bit
-step_deny a rest set granted decided own more bit v h k =
-    grind (arith, granted_to-cons a rest set bit, v bit, h.bits bit)
+-- an ACE decides its bits, and grants those that it grants anew
+step : (a : Ace) (rest : List Ace) (set : List Principal) (granted decided own anew new more bit : ℕ)
+    → IsGrantedAnew a.kind own decided anew → IsUnion granted anew new → IsUnion decided own more → HasBitsOf a set own
+    → decides new more rest set bit ≡ decides granted decided (a ∷ rest) set bit
+step a rest set granted decided own anew new more bit d u v h =
+    grind (arith, granted_to-cons a rest set bit, d bit, u bit, v bit, h.bits bit)
 
 -- after the first i ACEs, what is granted and decided, with the rest, decides as the whole list
 pub record DecidesAll (refs : List AceRef) (set : List Principal) (i granted decided : ℕ) : Type 0 where
   pub bits : (bit : ℕ) → decides granted decided (aces_in (drop i refs)) set bit ≡ is_granted_to (aces_in refs) set bit
 
--- after an ACE that allows, what is granted and decided still decides as the whole list
-pub loop_allow : (refs : List AceRef) (x : AceRef) (set : List Principal)
-    (granted decided was own less new now more i : ℕ) → i < length refs → x ≡ slice_index_or refs i x → was ≡ decided
-    → now ≡ new → IsDifference own decided less → IsUnion granted less new → IsUnion was own more
-    → HasBitsOf (ace x) set own → x.kind ≡ Allow
-    → DecidesAll refs set i granted decided → DecidesAll refs set (i + 1) now more
-loop_allow refs x set granted decided was own less new now more i lt at old later d u v h k inv = record {
+-- after one more ACE, what is granted and decided still decides as the whole list
+pub loop_more : (refs : List AceRef) (x : AceRef) (set : List Principal) (granted decided own anew new more i : ℕ)
+    → i < length refs → x ≡ slice_index_or refs i x → IsGrantedAnew x.kind own decided anew → IsUnion granted anew new
+    → IsUnion decided own more → HasBitsOf (ace x) set own → DecidesAll refs set i granted decided
+    → DecidesAll refs set (i + 1) new more
+loop_more refs x set granted decided own anew new more i lt at d u v h inv = record {
   bits = λ bit.
-      ap (λ m. decides m more (aces_in (drop (i + 1) refs)) set bit) later
-      ∙ step_allow (ace (slice_index_or refs i x)) (aces_in (drop (i + 1) refs)) set granted decided own less new more
-      bit
-      d u (subst (λ m. IsUnion m own more) old v) (subst (λ a. HasBitsOf (ace a) set own) at h)
-      (sym (ap (λ (a : AceRef). a.kind) at) ∙ k)
-      ∙ sym (at_drop_more (λ r. decides granted decided (aces_in r) set bit) refs i x lt) ∙ inv.bits bit;
-}
-
--- after an ACE that denies, what is granted and decided still decides as the whole list
-pub loop_deny : (refs : List AceRef) (x : AceRef) (set : List Principal) (granted decided was own now more i : ℕ)
-    → i < length refs → x ≡ slice_index_or refs i x → was ≡ decided → now ≡ granted → IsUnion was own more
-    → HasBitsOf (ace x) set own → x.kind ≡ Deny
-    → DecidesAll refs set i granted decided → DecidesAll refs set (i + 1) now more
-loop_deny refs x set granted decided was own now more i lt at old later v h k inv = record {
-  bits = λ bit.
-      ap (λ m. decides m more (aces_in (drop (i + 1) refs)) set bit) later
-      ∙ step_deny (ace (slice_index_or refs i x)) (aces_in (drop (i + 1) refs)) set granted decided own more bit
-      (subst (λ m. IsUnion m own more) old v) (subst (λ a. HasBitsOf (ace a) set own) at h)
-      (sym (ap (λ (a : AceRef). a.kind) at) ∙ k)
+      step (ace x) (aces_in (drop (i + 1) refs)) set granted decided own anew new more bit d u v h
+      ∙ ap (λ (a : AceRef). decides granted decided (ace a ∷ aces_in (drop (i + 1) refs)) set bit) at
       ∙ sym (at_drop_more (λ r. decides granted decided (aces_in r) set bit) refs i x lt) ∙ inv.bits bit;
 }
 

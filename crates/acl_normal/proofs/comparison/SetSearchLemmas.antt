@@ -17,7 +17,7 @@ pub found_here : (xs ys : List Ace) (ps : List Principal) (rest whole : List (Li
     → (GrantAlikeTo xs ys ps → ⊥) → GoesOn xs ys (ps ∷ rest) whole → FindsSet xs ys whole (Some ps)
 found_here xs ys ps rest whole d g = record { first = g.found (Some ps) (inr (d, refl)) }
 
--- the search goes on behind a set at which the lists grant alike
+-- the search continues after a set at which the lists grant alike
 pub found_later : (xs ys : List Ace) (ps : List Principal) (rest whole : List (List Principal))
     → GrantAlikeTo xs ys ps → GoesOn xs ys (ps ∷ rest) whole → GoesOn xs ys rest whole
 found_later xs ys ps rest whole a g = record { found = λ r h. g.found r (inl (a, h)) }
@@ -35,7 +35,7 @@ single_here xs ys names p whole i lt d g =
     found_here xs ys _ (singles (principals (drop (i + 1) names))) whole d
     (subst (λ v. GoesOn xs ys (singles (principals v)) whole) (drop_more names i p lt) g)
 
--- the search goes on behind a principal to whom alone the lists grant alike
+-- the search continues after a principal to whom alone the lists grant alike
 pub single_later : (xs ys : List Ace) (names : List PrincipalRef) (p : PrincipalRef) (whole : List (List Principal))
     (i : ℕ) → i < length names → GrantAlikeTo xs ys (principal (slice_index_or names i p) ∷ [])
     → GoesOn xs ys (singles (principals (drop i names))) whole
@@ -64,7 +64,7 @@ partner_here xs ys s others q whole i lt o d g =
     subst (λ v. GoesOn xs ys (partners s (principals v)) whole) (drop_more others i q lt) g in
     found_here xs ys _ rest whole d (subst (λ b. GoesOn xs ys (cond b ((s ∷ t ∷ []) ∷ rest) rest) whole) o here)
 
--- the search goes on behind a partner with whom the lists grant alike, if the two may overlap
+-- the search continues after a partner with whom the lists grant alike, if the two may overlap
 pub partner_later : (xs ys : List Ace) (s : Principal) (others : List PrincipalRef) (q : PrincipalRef)
     (whole : List (List Principal)) (i : ℕ) → i < length others
     → (may_overlap s (principal (slice_index_or others i q)) ≡ true
@@ -118,7 +118,7 @@ pair_here xs ys names others p whole i ps lt is h g =
           h.first));
     }
 
--- the search goes on behind the pairs of one principal of which none is found
+-- the search continues after the pairs of one principal if none of them is found
 pub pair_later : (xs ys : List Ace) (names others : List PrincipalRef) (p : PrincipalRef)
     (whole : List (List Principal)) (i : ℕ) → i < length names → others ≡ drop (i + 1) names
     → FindsSet xs ys (partners (principal (slice_index_or names i p)) (principals others)) None

@@ -68,7 +68,7 @@ of_singles : (Q : List Principal → Type 0) (ps : List Principal) → AllByRecu
 of_singles Q [] h = tt
 of_singles Q (p ∷ ps) h = (h.0, of_singles Q ps h.1)
 
--- what holds of the sets of a principal and a later one holds of it with each later one that may overlap
+-- what holds for the pairs of a principal holds for the principal with each later one that may overlap
 of_partners : (Q : List Principal → Type 0) (p : Principal) (ps : List Principal) → AllByRecursion Q (partners p ps)
     → AllByRecursion (λ q. may_overlap p q ≡ true → Q (p ∷ q ∷ [])) ps
 of_partners Q p [] h = tt

@@ -1,9 +1,11 @@
--- Tables that show which standings invert another.
-use Rattle.acl_normal.proofs.Common.{Ace, AllByRecursion, AllZip, Bool, IsStanding, Kind, List, Principal, StandAs, Standing, TwoLists, [], all_mentioned, and_parts, ap, arith, cases_eq, cond, differ, eq-eqb, false, first_place, get_or-replicate, get_or-set_other, get_or-set_same, get_or_default, get_or_read, inl, inr, inverts, inverts_any, is_of_camp, is_users, le-ltb, length, length-replicate, length-set, max, nat_lt, ne_eqb, no_standing, not, refl, replicate, slice_index_or, slice_set, subst, sym, take, take_more, true, ℕ, ◌&&◌, ◌++◌, ◌+◌, ◌-◌, ◌<◌, ◌==◌, ◌||◌, ◌∙◌, ◌∷◌, ◌≡◌, ◌≤◌, ◌⊎◌}
+-- Tables that show which placings invert another.
+use Rattle.acl_normal.proofs.Common.{Ace, AllByRecursion, AllZip, Bool, IsPlacing, Kind, List, Principal, ArePlacingsOf, Placing, TwoLists, [], all_mentioned, and_parts, ap, arith, cases_eq, cond, differ, eq-eqb, false, first_place, get_or-replicate, get_or-set_other, get_or-set_same, get_or_default, get_or_read, inl, inr, inverts, inverts_any, is_of_camp, is_users, le-ltb, length, length-replicate, length-set, max, nat_lt, ne_eqb, no_placing, not, refl, replicate, slice_index_or, slice_set, subst, sym, take, take_more, true, ℕ, ◌&&◌, ◌++◌, ◌+◌, ◌-◌, ◌<◌, ◌==◌, ◌||◌, ◌∙◌, ◌∷◌, ◌≡◌, ◌≤◌, ◌⊎◌}
+use borrow.Author.Count.{below_more}
 use Rattle.std.proofs.lemmas.Bool.Decides.{nat_tests}
 use Rattle.std.proofs.lemmas.List.{get_or-take, length-take-le}
 use Rattle.acl_normal.proofs.Each.{all_at}
-use Rattle.acl_normal.specs.internal.comparison.PlaceTables.{IsFirstOf, IsPlaceTable, IsScattered, IsStandingWithin, Raises, is_counted, is_inverting, most_at, most_before, other_place, place_of}
+use Rattle.acl_normal.specs.internal.comparison.FirstPlaces.{IsFirstBelow}
+use Rattle.acl_normal.specs.internal.comparison.PlaceTables.{IsFirstOf, IsPlaceTable, IsScattered, IsPlacingWithin, Raises, is_counted, is_inverting, most_at, most_before, other_place, place_of}
 use Rattle.acl_normal.specs.internal.comparison.TwoLists.{AreWithin}
 use Rattle.acl_normal.specs.declared.class.Class.{Class}
 use Rattle.acl_normal.specs.declared.comparison.inversions.Camp.{Camp}
@@ -11,34 +13,34 @@ use Rattle.acl_normal.specs.declared.comparison.inversions.Side.{Side}
 use Rattle.acl_normal.specs.declared.comparison.inversions.Side.TheVariants.{Here, There}
 use Rattle.acl_perm.specs.Kind.{is_allow}
 
--- the camp of a standing
-abbrev pub camp_of : Standing → Camp
+-- the camp of a placing
+abbrev pub camp_of : Placing → Camp
 camp_of r = record { kind = r.here.kind; class = r.class }
 
 -- the greatest of two parts is the greater of theirs
-pub most_at-append : (q : Camp) (w : Side) (k : ℕ) (xs ys : List Standing)
+pub most_at-append : (q : Camp) (w : Side) (k : ℕ) (xs ys : List Placing)
     → most_at q w k (xs ++ ys) ≡ max (most_at q w k xs) (most_at q w k ys)
 most_at-append q w k [] ys = omega arith
 most_at-append q w k (r ∷ xs) ys = let ih = most_at-append q w k xs ys in omega arith
 
--- no standing is just before place 0
-pub at_zero : (q : Camp) (w : Side) (rows : List Standing) → most_at q w 0 rows ≡ 0
+-- no placing is just before place 0
+pub at_zero : (q : Camp) (w : Side) (rows : List Placing) → most_at q w 0 rows ≡ 0
 at_zero q w [] = refl
 at_zero q w (r ∷ rows) =
     grind (arith, at_zero q w rows, ne_eqb (place_of w r + 1) 0 (λ e. absurd (omega arith)))
 
--- no standing is before place 0
-pub before_zero : (q : Camp) (w : Side) (rows : List Standing) → most_before q w 0 rows ≡ 0
+-- no placing is before place 0
+pub before_zero : (q : Camp) (w : Side) (rows : List Placing) → most_before q w 0 rows ≡ 0
 before_zero q w [] = refl
 before_zero q w (r ∷ rows) = grind (arith, before_zero q w rows, le-ltb (place_of w r) 0 (omega arith))
 
--- what a standing adds one place on is the greater of what it adds there and what it adds before
+-- what a placing adds one place on is the greater of what it adds there and what it adds before
 one_more : (t : Bool) (k j v : ℕ)
     → cond (t && nat_lt j (k + 1)) v 0 ≡ max (cond (t && (j + 1 == k + 1)) v 0) (cond (t && nat_lt j k) v 0)
 one_more t k j v = grind (arith, nat_tests)
 
 -- the greatest before the next place is the greater of the greatest at that place and that before it
-pub before_more : (q : Camp) (w : Side) (k : ℕ) (rows : List Standing)
+pub before_more : (q : Camp) (w : Side) (k : ℕ) (rows : List Placing)
     → most_before q w (k + 1) rows ≡ max (most_at q w (k + 1) rows) (most_before q w k rows)
 before_more q w k [] = refl
 before_more q w k (r ∷ rows) =
@@ -46,19 +48,19 @@ before_more q w k (r ∷ rows) =
     let ih = before_more q w k rows in
     omega arith
 
--- some standing counts, is before k in its list, and isn't before v in the other list
-abbrev pub any_over : Camp → Side → ℕ → ℕ → List Standing → Bool
+-- some placing counts, is before k in its list, and isn't before v in the other list
+abbrev pub any_over : Camp → Side → ℕ → ℕ → List Placing → Bool
 any_over q w k v [] = false
 any_over q w k v (r ∷ rows) =
     (is_counted q r && (nat_lt (place_of w r) k && not (nat_lt (other_place w r) v))) || any_over q w k v rows
 
--- the greatest is over a number if and only if the first standing is, or that of the others is
+-- the greatest is over a number if and only if the first placing is, or that of the others is
 over_head : (t l : Bool) (v x m : ℕ)
     → nat_lt v (max (cond (t && l) (x + 1) 0) m) ≡ ((t && (l && not (nat_lt x v))) || nat_lt v m)
 over_head t l v x m = grind (arith, nat_tests)
 
--- the greatest is over a number if and only if that of some standing is
-pub over_is : (q : Camp) (w : Side) (k v : ℕ) (rows : List Standing)
+-- the greatest is over a number if and only if that of some placing is
+pub over_is : (q : Camp) (w : Side) (k v : ℕ) (rows : List Placing)
     → nat_lt v (most_before q w k rows) ≡ any_over q w k v rows
 over_is q w k v [] = le-ltb v 0 (omega arith)
 over_is q w k v (r ∷ rows) =
@@ -71,8 +73,8 @@ either_order : (c l m x y : Bool)
     → ((c && differ l m) || (x || y)) ≡ (((c && (l && not m)) || x) || ((c && (m && not l)) || y))
 either_order c l m x y = grind arith
 
--- a standing inverts another if and only if one is over its place, in one direction or in the other
-pub inverts_is : (r : Standing) (rows : List Standing)
+-- a placing inverts another if and only if one is over its place, in one direction or in the other
+pub inverts_is : (r : Placing) (rows : List Placing)
     → inverts_any r rows ≡ (any_over (camp_of r) Here r.here.place r.there.place rows || any_over
     (camp_of r) There r.there.place r.here.place rows)
 inverts_is r [] = refl
@@ -82,8 +84,8 @@ inverts_is r (s ∷ rows) =
     (nat_lt s.there.place r.there.place) (any_over (camp_of r) Here r.here.place r.there.place rows)
     (any_over (camp_of r) There r.there.place r.here.place rows)
 
--- a standing inverts another if and only if one of two greatest values is over its place
-pub inverts_by_tables : (r : Standing) (rows : List Standing) (f s : ℕ)
+-- a placing inverts another if and only if one of two greatest values is over its place
+pub inverts_by_tables : (r : Placing) (rows : List Placing) (f s : ℕ)
     → f ≡ most_before (camp_of r) Here r.here.place rows
     → s ≡ most_before (camp_of r) There r.there.place rows
     → inverts_any r rows ≡ (nat_lt r.there.place f || nat_lt r.here.place s)
@@ -96,8 +98,8 @@ inverts_by_tables r rows f s h i =
           (camp_of r) There r.there.place r.here.place rows,
     ) refl
 
--- a standing that counts raises the value behind its place
-pub raises_set : (q : Camp) (w : Side) (r : Standing) (old new : List ℕ) (j v : ℕ) → j < length old
+-- a placing that counts raises the value after its place
+pub raises_set : (q : Camp) (w : Side) (r : Placing) (old new : List ℕ) (j v : ℕ) → j < length old
     → is_counted q r ≡ true
     → j ≡ place_of w r + 1 → v ≡ other_place w r + 1 → new ≡ slice_set old j (max (slice_index_or old j 0) v)
     → Raises q w r old new
@@ -118,11 +120,11 @@ raises_set q w r old new j v lt c jk vk is =
     at k (inr n) = get_or-set_other old j k (max (slice_index_or old j 0) v) 0 n
         ∙ rw (c, ne_eqb (place_of w r + 1) k (λ e. n (sym e ∙ sym jk))) (omega arith)
 
--- a standing that does not count raises nothing
-pub raises_none : (q : Camp) (w : Side) (r : Standing) (old : List ℕ) → is_counted q r ≡ false → Raises q w r old old
+-- a placing that does not count raises nothing
+pub raises_none : (q : Camp) (w : Side) (r : Placing) (old : List ℕ) → is_counted q r ≡ false → Raises q w r old old
 raises_none q w r old c = record { count = refl; each = λ k lk. rw c (omega arith) }
 
--- before the first standing the table is zero everywhere
+-- before the first placing the table is zero everywhere
 pub scatter_start : (q : Camp) (w : Side) (size n : ℕ) (table : List ℕ) → table ≡ replicate n 0 → n ≡ size + 2
     → IsScattered q w size [] table
 scatter_start q w size n table is e =
@@ -132,8 +134,8 @@ scatter_start q w size n table is e =
           ∙ get_or-replicate n k 0 0 (omega arith);
     }
 
--- a table that is raised by the next standing is scattered of the standings up to it
-pub scatter_more : (q : Camp) (w : Side) (size i : ℕ) (rows : List Standing) (d : Standing) (old new : List ℕ)
+-- a table that is raised by the next placing is scattered of the placings up to it
+pub scatter_more : (q : Camp) (w : Side) (size i : ℕ) (rows : List Placing) (d : Placing) (old new : List ℕ)
     → i < length rows
     → Raises q w (slice_index_or rows i d) old new → IsScattered q w size (take i rows) old
     → IsScattered q w size (take (i + 1) rows) new
@@ -154,13 +156,13 @@ scatter_more q w size i rows d old new lt up h = record {
     whole k e = omega arith
 
 -- the places below k are finished
-pub record IsSummed (q : Camp) (w : Side) (size k : ℕ) (rows : List Standing) (table : List ℕ) : Type 0 where
+pub record IsSummed (q : Camp) (w : Side) (size k : ℕ) (rows : List Placing) (table : List ℕ) : Type 0 where
   pub count : length table ≡ size + 2
   pub done : (j : ℕ) → j < k → slice_index_or table j 0 ≡ most_before q w j rows
   pub left : (j : ℕ) → k ≤ j → j < size + 2 → slice_index_or table j 0 ≡ most_at q w j rows
 
--- a scattered table is finished below place 1, since no standing is before place 0
-pub summed_start : (q : Camp) (w : Side) (size : ℕ) (rows : List Standing) (table : List ℕ)
+-- a scattered table is finished below place 1, since no placing is before place 0
+pub summed_start : (q : Camp) (w : Side) (size : ℕ) (rows : List Placing) (table : List ℕ)
     → IsScattered q w size rows table
     → IsSummed q w size 1 rows table
 summed_start q w size rows table h = record {
@@ -172,7 +174,7 @@ summed_start q w size rows table h = record {
 }
 
 -- with the greater of its own and the value before it at place k, a table is finished below k + 1
-pub summed_more : (q : Camp) (w : Side) (size k x y : ℕ) (rows : List Standing) (old new : List ℕ) → 0 < k
+pub summed_more : (q : Camp) (w : Side) (size k x y : ℕ) (rows : List Placing) (old new : List ℕ) → 0 < k
     → k < size + 2
     → x ≡ slice_index_or old k x → y ≡ slice_index_or old (k - 1) y → new ≡ slice_set old k (max x y)
     → IsSummed q w size k rows old → IsSummed q w size (k + 1) rows new
@@ -203,9 +205,12 @@ summed_more q w size k x y rows old new pos lt xi yi is h = record {
     at j l (inr n) = get_or-set_other old k j (max x y) 0 n ∙ h.done j (omega arith)
 
 -- after the last place the table is finished
-pub summed_done : (q : Camp) (w : Side) (size k : ℕ) (rows : List Standing) (table : List ℕ) → size + 2 ≤ k
+pub summed_done : (q : Camp) (w : Side) (size k : ℕ) (rows : List Placing) (table : List ℕ) → size + 2 ≤ k
     → IsSummed q w size k rows table → IsPlaceTable q w size rows table
 summed_done q w size k rows table le h = record { count = h.count; each = λ j lt. h.done j (omega arith) }
+
+-- where the two loops of a table begin and end
+pub ruleset table_ends = (scatter_start, summed_done)
 
 -- kinds that don't differ are the same
 pub same_kind : (k l : Kind) → not (differ (is_allow k) (is_allow l)) ≡ true → k ≡ l
@@ -215,17 +220,17 @@ same_kind k l h = grind arith
 same_class : (k l : Class) → not (differ (is_users k) (is_users l)) ≡ true → k ≡ l
 same_class k l h = grind arith
 
--- a standing of a camp has that camp
-pub camp_is : (q : Camp) (r : Standing) → is_of_camp q r ≡ true → q ≡ camp_of r
+-- a placing of a camp has that camp
+pub camp_is : (q : Camp) (r : Placing) → is_of_camp q r ≡ true → q ≡ camp_of r
 camp_is q r h = let p = and_parts (not (differ (is_allow q.kind) (is_allow r.here.kind)))
     (not (differ (is_users q.class) (is_users r.class))) h in
     ap (λ v. record { kind = v; class = q.class }) (same_kind q.kind r.here.kind p.0)
     ∙ ap (λ v. record { kind = r.here.kind; class = v }) (same_class q.class r.class p.1)
 
--- a standing of a camp inverts another if and only if one of the camp's two tables is over its place
-pub by_camp : (q : Camp) (size : ℕ) (rows : List Standing) (r : Standing) (forward back : List ℕ)
+-- a placing of a camp inverts another if and only if one of the camp's two tables is over its place
+pub by_camp : (q : Camp) (size : ℕ) (rows : List Placing) (r : Placing) (forward back : List ℕ)
     → is_of_camp q r ≡ true
-    → IsStandingWithin size r → IsPlaceTable q Here size rows forward → IsPlaceTable q There size rows back
+    → IsPlacingWithin size r → IsPlaceTable q Here size rows forward → IsPlaceTable q There size rows back
     → inverts_any r rows ≡ (nat_lt r.there.place (slice_index_or forward r.here.place 0) || nat_lt r.here.place
     (slice_index_or back r.there.place 0))
 by_camp q size rows r forward back k p f b =
@@ -236,9 +241,9 @@ by_camp q size rows r forward back k p f b =
     (f.each r.here.place (omega arith) ∙ ap (λ v. most_before v Here r.here.place rows) own)
     (b.each r.there.place (omega arith) ∙ ap (λ v. most_before v There r.there.place rows) own)
 
--- a standing that the tables report inverts another
-pub found_true : (q : Camp) (size : ℕ) (rows : List Standing) (r : Standing) (forward back : List ℕ) (t : Bool)
-    → t ≡ is_inverting q r forward back → t ≡ true → IsStandingWithin size r → IsPlaceTable q Here size rows forward
+-- a placing that the tables report inverts another
+pub found_true : (q : Camp) (size : ℕ) (rows : List Placing) (r : Placing) (forward back : List ℕ) (t : Bool)
+    → t ≡ is_inverting q r forward back → t ≡ true → IsPlacingWithin size r → IsPlaceTable q Here size rows forward
     → IsPlaceTable q There size rows back → inverts_any r rows ≡ true
 found_true q size rows r forward back t h e p f b =
     let parts = and_parts (is_of_camp q r)
@@ -246,9 +251,9 @@ found_true q size rows r forward back t h e p f b =
     (slice_index_or back r.there.place 0)) (sym h ∙ e) in
     by_camp q size rows r forward back parts.0 p f b ∙ parts.1
 
--- a standing of the camp that the tables do not report inverts none
-pub found_false : (q : Camp) (size : ℕ) (rows : List Standing) (r : Standing) (forward back : List ℕ) (t : Bool)
-    → t ≡ is_inverting q r forward back → t ≡ false → IsStandingWithin size r → IsPlaceTable q Here size rows forward
+-- a placing of the camp that the tables do not report inverts none
+pub found_false : (q : Camp) (size : ℕ) (rows : List Placing) (r : Placing) (forward back : List ℕ) (t : Bool)
+    → t ≡ is_inverting q r forward back → t ≡ false → IsPlacingWithin size r → IsPlaceTable q Here size rows forward
     → IsPlaceTable q There size rows back → is_of_camp q r ≡ true → inverts_any r rows ≡ false
 found_false q size rows r forward back t h e p f b k =
     by_camp q size rows r forward back k p f b
@@ -261,9 +266,9 @@ pub first_place_within : (ps : List Principal) (b : ℕ) (xs : List Ace) → fir
 first_place_within ps b [] = omega arith
 first_place_within ps b (a ∷ xs) = grind (arith, first_place_within ps b xs)
 
--- the places of standings are within the lists
-pub rows_within : (ps : List Principal) (xs ys : List Ace) (b size : ℕ) (rows : List Standing) → length xs ≤ size
-    → length ys ≤ size → AllZip (IsStanding xs ys b) ps rows → AllByRecursion (IsStandingWithin size) rows
+-- the places of placings are within the lists
+pub rows_within : (ps : List Principal) (xs ys : List Ace) (b size : ℕ) (rows : List Placing) → length xs ≤ size
+    → length ys ≤ size → AllZip (IsPlacing xs ys b) ps rows → AllByRecursion (IsPlacingWithin size) rows
 rows_within [] xs ys b size [] lx ly z = tt
 rows_within (p ∷ ps) xs ys b size (r ∷ rows) lx ly z = (
   record {
@@ -275,55 +280,87 @@ rows_within (p ∷ ps) xs ys b size (r ∷ rows) lx ly z = (
 )
 rows_within _ xs ys b size _ lx ly z = absurd z
 
--- the places of the standings that the code holds are within the lists
-pub slice_within : (both : TwoLists) (bit size : ℕ) (items slice : List Standing) → slice ≡ items → AreWithin both size
-    → StandAs both bit items → AllByRecursion (IsStandingWithin size) slice
+-- the places of the placings that the code holds are within the lists
+pub slice_within : (both : TwoLists) (bit size : ℕ) (items slice : List Placing) → slice ≡ items → AreWithin both size
+    → ArePlacingsOf both bit items → AllByRecursion (IsPlacingWithin size) slice
 slice_within both bit size items slice is within h =
-    subst (AllByRecursion (IsStandingWithin size)) (sym is)
+    subst (AllByRecursion (IsPlacingWithin size)) (sym is)
     (rows_within (all_mentioned both) both.first both.second bit size items within.first within.second h.each)
 
--- a standing of the first part of a list has its place in the whole list too
-pub near_is : (rows near : List Standing) (limit k : ℕ) (d : Standing) → near ≡ take limit rows → limit ≤ length rows
-    → k < length near → (k < limit) × (slice_index_or near k d ≡ slice_index_or rows k no_standing)
+-- a placing of the first part of a list has its place in the whole list too
+pub near_is : (rows near : List Placing) (limit k : ℕ) (d : Placing) → near ≡ take limit rows → limit ≤ length rows
+    → k < length near → (k < limit) × (slice_index_or near k d ≡ slice_index_or rows k no_placing)
 near_is rows near limit k d is within below =
     let lt : k < limit = omega (arith, below, ap length is, length-take-le limit rows within) in (
       lt,
-      get_or_default near k d no_standing below ∙ ap (λ v. slice_index_or v k no_standing) is
-          ∙ get_or-take limit rows k no_standing lt,
+      get_or_default near k d no_placing below ∙ ap (λ v. slice_index_or v k no_placing) is
+          ∙ get_or-take limit rows k no_placing lt,
     )
 
--- behind the first part of a list is its limit
-pub near_end : (rows near : List Standing) (limit k : ℕ) → near ≡ take limit rows → limit ≤ length rows
+-- after the first part of a list is its limit
+pub near_end : (rows near : List Placing) (limit k : ℕ) → near ≡ take limit rows → limit ≤ length rows
     → length near ≤ k → limit ≤ k
 near_end rows near limit k is within past = omega (arith, past, ap length is, length-take-le limit rows within)
 
--- the first standing of a camp that the tables report is the first of the camp that inverts another
-pub first_of_camp : (q : Camp) (size limit k : ℕ) (rows : List Standing) (forward back fs bs : List ℕ) (t : Bool)
+-- the search for the first that passes a test ends at one
+pub found_below : (test : Placing → Bool) (rows near : List Placing) (limit k : ℕ) (d : Placing) (t : Bool)
+    → near ≡ take limit rows → limit ≤ length rows → k < length near → t ≡ test (slice_index_or near k d) → t ≡ true
+    → ((j : ℕ) → j < k → test (slice_index_or rows j no_placing) ≡ false) → IsFirstBelow test rows limit k
+found_below test rows near limit k d t is within below tells passes before =
+    let here = near_is rows near limit k d is within below in record {
+      within = omega (arith, here.0);
+      before = before;
+      at = λ _. ap test (sym here.1) ∙ sym tells ∙ passes;
+    }
+
+-- the search continues after one that does not pass the test
+pub passed_below : (test : Placing → Bool) (rows near : List Placing) (limit k : ℕ) (d : Placing) (t : Bool)
+    → near ≡ take limit rows → limit ≤ length rows → k < length near → t ≡ test (slice_index_or near k d) → t ≡ false
+    → ((j : ℕ) → j < k → test (slice_index_or rows j no_placing) ≡ false)
+    → (j : ℕ) → j < k + 1 → test (slice_index_or rows j no_placing) ≡ false
+passed_below test rows near limit k d t is within below tells fails before =
+    below_more _ _ before (ap test (sym (near_is rows near limit k d is within below).1) ∙ sym tells ∙ fails)
+
+-- the search ends at the limit if none passes the test
+pub none_below : (test : Placing → Bool) (rows near : List Placing) (limit k : ℕ) → near ≡ take limit rows
+    → limit ≤ length rows → length near ≤ k
+    → ((j : ℕ) → j < k → test (slice_index_or rows j no_placing) ≡ false) → IsFirstBelow test rows limit limit
+none_below test rows near limit k is within past before = record {
+  within = omega arith;
+  before = λ j l. before j (omega (arith, l, near_end rows near limit k is within past));
+  at = λ l. absurd (omega (arith, l));
+}
+
+-- how the search for the first that passes a test continues and ends
+pub ruleset first_below = (found_below, passed_below, none_below)
+
+-- the first placing of a camp that the tables report is the first of the camp that inverts another
+pub first_of_camp : (q : Camp) (size limit k : ℕ) (rows : List Placing) (forward back fs bs : List ℕ) (t : Bool)
     → k < limit → limit ≤ length rows
-    → ((j : ℕ) → j < k → is_of_camp q (slice_index_or rows j no_standing) ≡ true
-    → inverts_any (slice_index_or rows j no_standing) rows ≡ false) → AllByRecursion (IsStandingWithin size) rows
+    → ((j : ℕ) → j < k → is_of_camp q (slice_index_or rows j no_placing) ≡ true
+    → inverts_any (slice_index_or rows j no_placing) rows ≡ false) → AllByRecursion (IsPlacingWithin size) rows
     → IsPlaceTable q Here size rows forward → IsPlaceTable q There size rows back → fs ≡ forward → bs ≡ back
-    → t ≡ is_inverting q (slice_index_or rows k no_standing) fs bs → t ≡ true → IsFirstOf q rows limit k
+    → t ≡ is_inverting q (slice_index_or rows k no_placing) fs bs → t ≡ true → IsFirstOf q rows limit k
 first_of_camp q size limit k rows forward back fs bs t lt le before places f b fe be h e = record {
   within = omega arith;
   before = before;
-  at = λ _. found_true q size rows (slice_index_or rows k no_standing) fs bs t h e
-      (all_at (IsStandingWithin size) rows k no_standing (omega arith) places)
+  at = λ _. found_true q size rows (slice_index_or rows k no_placing) fs bs t h e
+      (all_at (IsPlacingWithin size) rows k no_placing (omega arith) places)
       (subst (λ v. IsPlaceTable q Here size rows v) (sym fe) f)
       (subst (λ v. IsPlaceTable q There size rows v) (sym be) b);
 }
 
--- a standing of the camp that the code's tables do not report inverts none
-pub not_of_camp : (q : Camp) (size k : ℕ) (rows : List Standing) (forward back fs bs : List ℕ) (t : Bool)
-    → k < length rows → AllByRecursion (IsStandingWithin size) rows → IsPlaceTable q Here size rows forward
+-- a placing of the camp that the code's tables do not report inverts none
+pub not_of_camp : (q : Camp) (size k : ℕ) (rows : List Placing) (forward back fs bs : List ℕ) (t : Bool)
+    → k < length rows → AllByRecursion (IsPlacingWithin size) rows → IsPlaceTable q Here size rows forward
     → IsPlaceTable q There size rows back → fs ≡ forward → bs ≡ back
-    → t ≡ is_inverting q (slice_index_or rows k no_standing) fs bs → t ≡ false
-    → is_of_camp q (slice_index_or rows k no_standing) ≡ true
-    → inverts_any (slice_index_or rows k no_standing) rows ≡ false
+    → t ≡ is_inverting q (slice_index_or rows k no_placing) fs bs → t ≡ false
+    → is_of_camp q (slice_index_or rows k no_placing) ≡ true
+    → inverts_any (slice_index_or rows k no_placing) rows ≡ false
 not_of_camp q size k rows forward back fs bs t lt places f b fe be h e =
-    found_false q size rows (slice_index_or rows k no_standing) fs bs t h e
-    (all_at (IsStandingWithin size) rows k no_standing lt places)
+    found_false q size rows (slice_index_or rows k no_placing) fs bs t h e
+    (all_at (IsPlacingWithin size) rows k no_placing lt places)
     (subst (λ v. IsPlaceTable q Here size rows v) (sym fe) f) (subst (λ v. IsPlaceTable q There size rows v) (sym be) b)
 
--- a standing raises the table, or leaves it
+-- a placing raises the table, or leaves it
 pub ruleset raising = (raises_set, raises_none)

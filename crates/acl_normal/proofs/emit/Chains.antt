@@ -10,7 +10,7 @@ link_before [] l at h = absurd (omega (arith, h))
 link_before (x ∷ links) l zero h = refl
 link_before (x ∷ links) l (suc at) h = link_before links l at (omega (arith, h))
 
--- a link that comes behind all others has their number
+-- a link that comes after all others has their number
 link_last : (links : List Link) (l : Link) → link_in (links ++ l ∷ []) (length links) ≡ l
 link_last [] l = refl
 link_last (x ∷ links) l = link_last links l
@@ -21,7 +21,7 @@ pub chain_within : (links : List Link) (at : ℕ) (places : List ℕ) → 0 < le
 chain_within links at [] some chain = omega (arith, some, chain)
 chain_within links at (place ∷ places) some chain = chain.0.within
 
--- a chain stays one when a link comes behind all others
+-- a chain stays one when a link comes after all others
 pub chain_grows : (links : List Link) (l : Link) (at : ℕ) (places : List ℕ) → IsChain links at places
     → IsChain (links ++ l ∷ []) at places
 chain_grows links l at [] chain = chain
@@ -60,7 +60,7 @@ pub record Goes (links : List Link) (at : ℕ) (places : List ℕ) : Type 0 wher
   pub falls : (link_in links at).next < at
   pub chain : IsChain links (link_in links at).next rest
 
--- a chain that has not ended goes on by its link
+-- a chain that has not ended continues with its link
 pub chain_goes : (links : List Link) (at : ℕ) (places : List ℕ) → IsChain links at places → at ≢ 0
     → Goes links at places
 chain_goes links at [] chain some = absurd (some chain)
@@ -85,7 +85,7 @@ pub record Step (links : List Link) (at : ℕ) (places : List ℕ) (l : Link) : 
   pub falls : l.next < at
   pub chain : IsChain links l.next rest
 
--- a chain that has not ended goes on by the link that indexing gives
+-- a chain that has not ended continues with the link that indexing gives
 pub chain_step : (links : List Link) (at : ℕ) (places : List ℕ) (d l : Link) → IsChain links at places → at ≢ 0
     → l ≡ slice_index_or links at d → Step links at places l
 chain_step links at places d l chain some e =

@@ -11,7 +11,7 @@ kinds_differ Allow Deny h = refl
 kinds_differ Deny Deny h = cc
 kinds_differ Allow Allow h = cc
 
--- of two different principals that overlap one is no user name
+-- if two different principals overlap, one of them is no user
 pub one_is_other : (p q : Principal) → may_overlap p q ≡ true → principal_eq q p ≡ false
     → (is_user p && is_user q) ≡ false
 one_is_other (user a) (user b) o n =

@@ -20,7 +20,7 @@ times_moved m xs ys p = sum_by-IsPermutation (λ r. cond (r.0 == m) 1 0) xs ys p
 none_more : (n : ℕ) → 0 + n ≡ n
 none_more n = omega arith
 
--- one more than n is the number behind n
+-- one more than n is the number after n
 one_more : (n : ℕ) → 1 + n ≡ suc n
 one_more n = omega arith
 

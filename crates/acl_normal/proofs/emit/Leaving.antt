@@ -1,4 +1,4 @@
--- The list that is left, without its empty ACEs, and what is emitted of it.
+-- The list that is left, without its empty ACEs, and what is emitted from it.
 use Rattle.acl_normal.proofs.Common.{[], Ace, ace_key, all_rights, ap, arith, bit_at-zero, Bool, Column, column, cond, count_left, counts, eqb-true, false, first_kind, has_bit, HasMasks, is_either, IsAlike, IsEmission, IsIrreducibleList, IsNormal, IsOnce, IsQuiet, Kind, left, length, List, None, Principal, principal_eq, refl, SameGrants, Some, subst, suc, sym, true, without_principal, zero, ℕ, ◌==◌, ◌∙◌, ◌∷◌, ◌≡◌}
 use mathlib.Core.Logic.Iff.{symm, trans}
 use Rattle.acl_normal.proofs.unique.Names.{overlaps_itself, either_first, principal_eq_itself, principal_eq_same}
@@ -30,7 +30,7 @@ pub quiet_left : (xs : List Ace) → IsQuiet xs → IsQuiet (left xs)
 quiet_left [] q = tt
 quiet_left (a ∷ xs) q = grind (arith, quiet_left xs q.1, q.0)
 
--- what is emitted of a list is emitted of it without its empty ACEs
+-- what is emitted from a list is also emitted from the list without its empty ACEs
 pub emission_left : (xs ns : List Ace) → IsEmission xs ns → IsEmission (left xs) ns
 emission_left xs ns e = record {
   alike = λ b. subst (λ c. IsAlike c (column ns b)) (sym (column_left b xs)) (e.alike b);
@@ -70,19 +70,19 @@ masks_of_quiet (a ∷ xs) q h =
         go true g = cc (rw g at e)
         go false g = rw g at e
 
--- what is emitted of a list that is irreducible without its empty ACEs has only rights
+-- what is emitted from a list that is irreducible without its empty ACEs has only rights
 pub has_masks : (xs ns : List Ace) → IsIrreducibleList (left xs) → IsEmission xs ns → HasMasks ns
 has_masks xs ns irr e =
     masks_of_quiet ns (quiet_flags ns e.flags) (λ b out. alike_nothing (column ns b)
     (subst (λ c. IsAlike c (column ns b)) (no_other_bits (left xs) b irr out) ((emission_left xs ns e).alike b)))
 
--- what is emitted of a list that is irreducible without its empty ACEs is normal and grants the same
+-- what is emitted from a list that is irreducible without its empty ACEs is normal and grants the same
 pub left_normal : (xs ns : List Ace) → IsIrreducibleList (left xs) → IsEmission xs ns
     → IsNormal ns × SameGrants all_rights xs ns
 left_normal xs ns irr e =
     emission_of_irreducible xs (left xs) ns irr (same_left xs) (emission_left xs ns e) (has_masks xs ns irr e)
 
--- what is emitted of such a list is the only normal list that grants the same
+-- what is emitted from such a list is the only normal list that grants the same
 pub left_only : (xs ns : List Ace) → IsIrreducibleList (left xs) → IsEmission xs ns → (ms : List Ace) → IsNormal ms
     → SameGrants all_rights xs ms → ms ≡ ns
 left_only xs ns irr e ms normal same =
@@ -116,7 +116,7 @@ alike_length ((p, k) ∷ c) d oc od a =
     subst (λ v. IsAlike v (without_principal p d)) rest (alike_without p ((p, k) ∷ c) d a) in
     omega (arith, alike_length c (without_principal p d) oc.1 (once_without p d od) less, one_less p d k od there)
 
--- a list and what is emitted of it have the same number of keys in all
+-- a list and what is emitted from the list have the same number of keys in all
 pub alike_count : (n : ℕ) (xs ns : List Ace) → ((b : ℕ) → IsOnce (column xs b)) → IsEmission xs ns
     → count_left n ns ≡ count_left n xs
 alike_count zero xs ns once e = refl

@@ -1,6 +1,8 @@
 -- What becomes free when bits of a key are taken out.
-use Rattle.acl_normal.proofs.Common.{Ace, Bool, ColumnKey, Enters, Grows, List, Marked, Principal, ap, arith, cases_eq, cases_lt, column, false, has_bit, inl, inr, is_free, is_user, other_kind, refl, subst, sym, true, ℕ, ⊎_elim, ◌&&◌, ◌+◌, ◌<◌, ◌∙◌, ◌≡◌, ◌≤◌, ◌⊎◌}
+use Rattle.acl_normal.proofs.Common.{Ace, Bool, ColumnKey, Enters, Grows, Kind, List, Marked, Principal, ap, arith, cases_eq, cases_lt, column, false, has_bit, inl, inr, is_free, is_user, other_kind, refl, subst, sym, true, ℕ, ⊎_elim, ◌&&◌, ◌+◌, ◌<◌, ◌∙◌, ◌≡◌, ◌≤◌, ◌⊎◌}
+use Rattle.acl_normal.specs.internal.NextRight.{LacksFrom}
 use Rattle.acl_normal.specs.internal.emit.Ready.{Frees}
+use Rattle.acl_normal.proofs.unique.NextRight.{past_absent}
 
 -- what `Frees` says, of the bits below a number
 pub record FreesBelow (k : ColumnKey) (bits : ℕ) (xs : List Ace) (old new : Marked) (n : ℕ) : Type 0 where
@@ -41,6 +43,12 @@ frees_on_absent k bits xs old new n f none = record {
     go q b l has class free (inr d) =
         f.all q b (⊎_elim (λ g. g) (λ g. absurd (d (omega (arith, g, l)))) (cases_lt b n)) has class free
 
+-- if no bit from m up to n was taken out, no key becomes free at them
+pub frees_up_to : (k : ColumnKey) (bits : ℕ) (xs : List Ace) (old new : Marked) (m n : ℕ) → m ≤ n → LacksFrom bits m n
+    → FreesBelow k bits xs old new m → FreesBelow k bits xs old new n
+frees_up_to k bits xs old new m n from lacks f =
+    past_absent (FreesBelow k bits xs old new) bits m n (frees_on_absent k bits xs old new) from lacks f
+
 -- if the keys that are free at bit n are marked, those at the bits below n + 1 are
 pub frees_on : (k : ColumnKey) (bits : ℕ) (xs : List Ace) (old new next : Marked) (n : ℕ)
     → FreesBelow k bits xs old new n → Grows xs new next
@@ -62,20 +70,27 @@ frees_on k bits xs old new next n f g here = record {
         (⊎_elim (λ g. g) (λ g. absurd (d (omega (arith, g, l)))) (cases_lt b n)) has class free)
 
 -- at bit n only keys of others become free if the key that was taken out is of a user
-pub frees_on_user : (k : ColumnKey) (bits : ℕ) (xs : List Ace) (old new next : Marked) (n : ℕ)
-    → FreesBelow k bits xs old new n → is_user k.0 ≡ true → Enters (other_kind k.1) false n xs new next
+pub frees_on_user : (k : ColumnKey) (j : Kind) (bits : ℕ) (xs : List Ace) (old new next : Marked) (n : ℕ)
+    → j ≡ other_kind k.1 → FreesBelow k bits xs old new n → is_user k.0 ≡ true → Enters j false n xs new next
     → FreesBelow k bits xs old next (n + 1)
-frees_on_user k bits xs old new next n f user e =
+frees_on_user k j bits xs old new next n is f user entered =
+    let e = subst (λ v. Enters v false n xs new next) is entered in
     frees_on k bits xs old new next n f e.grows (λ q class free. e.all q (rw user at class) free)
 
 -- at bit n keys of both classes become free if the key that was taken out is of no user
-pub frees_on_other : (k : ColumnKey) (bits : ℕ) (xs : List Ace) (old new mid next : Marked) (n : ℕ)
-    → FreesBelow k bits xs old new n → Enters (other_kind k.1) false n xs new mid
-    → Enters (other_kind k.1) true n xs mid next → FreesBelow k bits xs old next (n + 1)
-frees_on_other k bits xs old new mid next n f e g =
+pub frees_on_other : (k : ColumnKey) (j : Kind) (bits : ℕ) (xs : List Ace) (old new mid next : Marked) (n : ℕ)
+    → j ≡ other_kind k.1 → FreesBelow k bits xs old new n → Enters j false n xs new mid → Enters j true n xs mid next
+    → FreesBelow k bits xs old next (n + 1)
+frees_on_other k j bits xs old new mid next n is f others users =
     frees_on k bits xs old new next n f (grows_on xs new mid next e.grows g.grows)
     (λ q class free. go q free (is_user q) refl)
   where
+    e : Enters (other_kind k.1) false n xs new mid
+    e = subst (λ v. Enters v false n xs new mid) is others
+
+    g : Enters (other_kind k.1) true n xs mid next
+    g = subst (λ v. Enters v true n xs mid next) is users
+
     go : (q : Principal) → is_free (column xs n) (q, other_kind k.1) ≡ true → (t : Bool) → is_user q ≡ t
         → has_bit (next (q, other_kind k.1)) n ≡ true
     go q free true u = g.all q u free

@@ -1,6 +1,8 @@
 -- The queues of a list are made from the last place to the first, bit by bit.
 use Rattle.acl_normal.proofs.Common.{Ace, AreNoted, AreQueues, Bool, Kind, List, [], and_parts, ap, arith, cases_eq, cases_lt, counts, false, has_bit, inl, inr, is_at, is_user, kind_eq, length, length-append, length-set, list_any, mask_here, nat_cmp, or_cases, or_right, principal_here, principal_of, refl, same_class, slot_of, subst, suc, sym, true, waits, zero, ℕ, ⊎_elim, ◌&&◌, ◌++◌, ◌+◌, ◌<◌, ◌∙◌, ◌∷◌, ◌≡◌, ◌≤◌, ◌⊎◌}
+use Rattle.acl_normal.specs.internal.NextRight.{LacksFrom}
 use Rattle.acl_normal.specs.internal.Places.{kind_here}
+use Rattle.acl_normal.proofs.unique.NextRight.{past_absent}
 use Rattle.acl_normal.specs.internal.emit.Queues.{IsChain, IsNoted, IsNotedAt, PutsPlace, head_in}
 use Rattle.acl_normal.specs.internal.rows.Remaining.{IsRemainder}
 use Rattle.acl_normal.specs.declared.emit.queues.Link.{Link}
@@ -85,6 +87,13 @@ noted_skip xs place m queues lacks qs = record {
             ap (λ v. has_bit (mask_here xs v) m) (omega (arith, h.0))
             ∙ ap (has_bit (mask_here xs i)) (sym e) ∙ waits_has k u b xs i w in
             cc (sym has ∙ lacks)
+
+-- if the place lacks the bits from m up to n, the queues with it below m are those with it below n
+pub noted_up_to : (xs : List Ace) (place mask m n : ℕ) (queues : Queues) → mask ≡ mask_here xs place → m ≤ n
+    → LacksFrom mask m n → AreNoted xs (place + 1) m queues → AreNoted xs (place + 1) n queues
+noted_up_to xs place mask m n queues is from lacks qs =
+    past_absent (λ v. AreNoted xs (place + 1) v queues) mask m n
+    (λ v so none. noted_skip xs place v queues (ap (λ w. has_bit w v) (sym is) ∙ none) so) from lacks qs
 
 -- if the place was put into the queue of bit m, its bits below m + 1 are noted
 pub noted_on : (kind : Kind) (users : Bool) (xs : List Ace) (place m : ℕ) (old new : Queues)

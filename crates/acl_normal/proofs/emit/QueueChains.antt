@@ -12,7 +12,7 @@ use Rattle.acl_normal.proofs.rows.TakeOut.{none_taken}
 use Rattle.acl_normal.proofs.emit.Chains.{Step, chain_ends, chain_goes, chain_step}
 use Rattle.acl_normal.proofs.rows.Slots.{slot_below, slot_same}
 
--- a queue whose first place waits no more goes on behind it
+-- a queue whose first place no longer waits continues after that place
 pub queue_next : (k : Kind) (u : Bool) (b : ℕ) (xs : List Ace) (links : List Link) (at : ℕ) (l : Link)
     → (q : IsQueueAt k u b xs links at) → Step links at q.places l → has_bit (mask_here xs l.place) b ≡ false
     → IsQueueAt k u b xs links l.next
@@ -37,7 +37,7 @@ pub record WalksAt (k : Kind) (u : Bool) (b : ℕ) (xs : List Ace) (links : List
 -- the place of the link that a walk has reached
 module _ {k : Kind} {u : Bool} {b : ℕ} {xs : List Ace} {links : List Link} {at : ℕ} {l : Link} {old new : Marked}
     (w : WalksAt k u b xs links at old new) (d : Link) (some : at ≢ 0) (e : l ≡ slice_index_or links at d) where
-  -- the chain goes on by the link that the walk has reached
+  -- the chain continues with the link that the walk has reached
   step : Step links at w.places l
   step = chain_step links at w.places d l w.chain some e
 
@@ -57,7 +57,7 @@ module _ {k : Kind} {u : Bool} {b : ℕ} {xs : List Ace} {links : List Link} {at
   pub reached_blocked : IsOnce (column xs b) → is_blocked k u b xs l.place ≡ true → Enters k u b xs old new
   reached_blocked once blocked = walk_stops k u b xs l.place w.places step.rest old new once w.walks step.is blocked
 
-  -- if the place of the link waits no more, the walk goes on
+  -- if the place of the link no longer waits, the walk continues
   pub reached_past : has_bit (mask_here xs l.place) b ≡ false → WalksAt k u b xs links l.next old new
   reached_past lacks = record {
     places = step.rest;
@@ -65,7 +65,7 @@ module _ {k : Kind} {u : Bool} {b : ℕ} {xs : List Ace} {links : List Link} {at
     walks = walk_past k u b xs l.place w.places step.rest old new w.walks step.is lacks;
   }
 
-  -- if the place of the link is not blocked and its key is marked, the walk goes on
+  -- if the place of the link is not blocked and its key is marked, the walk continues
   pub reached_free : {more : Marked} → IsOnce (column xs b) → is_blocked k u b xs l.place ≡ false
       → has_bit (mask_here xs l.place) b ≡ true → AddsMark (key_here xs l.place) b new more
       → WalksAt k u b xs links l.next old more
@@ -80,7 +80,7 @@ pub reached_link : {k : Kind} {u : Bool} {b : ℕ} {xs : List Ace} {links : List
     → WalksAt k u b xs links at old new → at ≢ 0 → at < length links
 reached_link {k} {u} {b} {xs} {links} {at} w some = (chain_goes links at w.places w.chain some).within
 
--- behind the last link the walk ends
+-- after the last link the walk ends
 pub walk_over : {k : Kind} {u : Bool} {b : ℕ} {xs : List Ace} {links : List Link} {at : ℕ} {old new : Marked}
     → WalksAt k u b xs links at old new → IsOnce (column xs b) → at ≡ 0 → Enters k u b xs old new
 walk_over {k} {u} {b} {xs} {links} {at} {old} {new} w once none =

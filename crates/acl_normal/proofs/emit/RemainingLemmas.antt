@@ -1,4 +1,5 @@
--- What remains of a list while it is emitted: masks by place of which masks by row leave a part, and queues of places.
+-- What remains of a list while it is emitted: masks by place, masks by row that leave a part of them, and queues of
+-- places.
 use Rattle.acl_normal.proofs.Common.{[], Ace, AceRef, and_parts, ap, arith, bit_and, Bool, cases_eq, counts, false, false_from_ne_true, get_or-set_other, get_or-set_same, has_bit, has_bit-without, inl, inr, is_at, is_inherit_only, is_waiting, IsQueue, IsQuiet, key_here, Kind, length, List, list_any, mask_here, masks_left, nat_cmp, not, or_cases, or_right, Principal, principal_eq, principal_of, refl, slice_index_or, slice_set, subst, suc, sym, take_out, true, waits, waits_before, with_masks, without, without_bits, zero, ℕ, ⊎_elim, ◌&&◌, ◌<◌, ◌∙◌, ◌∷◌, ◌≡◌, ◌≤◌, ◌⊎◌, ace, has_bit-and}
 use Rattle.std.proofs.lemmas.Map.Keys.{sorted_head, sorted_tail}
 use Rattle.acl_normal.proofs.rows.TakeOut.{waiting_left}
@@ -162,7 +163,7 @@ queue_taken k u b p m xs places q = record {
   all = λ i h. q.all i (waited k u b p m xs i h);
 }
 
--- a queue whose first place waits no more goes on behind it
+-- a queue whose first place no longer waits continues after that place
 pub queue_on : (k : Kind) (u : Bool) (b : ℕ) (xs : List Ace) (place : ℕ) (places : List ℕ)
     → IsQueue k u b xs (place ∷ places) → has_bit (mask_here xs place) b ≡ false → IsQueue k u b xs places
 queue_on k u b xs place places q none = record {

@@ -183,7 +183,7 @@ abbrev pub shown : AceRef → Mask → Ace
 shown a m = record { kind = a.kind; flags = a.flags.bits; mask = m.bits; who = a.who.now }
 
 -- the ACE at a place of the shown list is the code's ACE with the mask there
-pub shown_at : (aces : List AceRef) (masks : List Mask) (i : ℕ) (x : AceRef) (m : Mask) → i < length masks
+shown_at : (aces : List AceRef) (masks : List Mask) (i : ℕ) (x : AceRef) (m : Mask) → i < length masks
     → i < length (with_masks aces (mask_numbers masks)) → x ≡ slice_index_or aces i x → m ≡ slice_index_or masks i m
     → slice_index_or (with_masks aces (mask_numbers masks)) i (shown x m) ≡ shown x m
 shown_at aces masks i x m within inside is of_mask =
@@ -196,6 +196,28 @@ shown_at aces masks i x m within inside is of_mask =
     }) (sym is)
     ∙ ap (λ (n : ℕ). record { kind = x.kind; flags = x.flags.bits; mask = n; who = x.who.now })
     (bits_at masks i m.bits m within of_mask)
+
+-- an ACE and a mask of the code at one place, and the list that the code shows there
+pub record IsShown (aces : List AceRef) (masks : List Mask) (i : ℕ) (x : AceRef) (m : Mask) : Type 0 where
+  pub within : i < length (with_masks aces (mask_numbers masks))
+  pub item : slice_index_or (with_masks aces (mask_numbers masks)) i (shown x m) ≡ shown x m
+  pub mask : mask_here (with_masks aces (mask_numbers masks)) i ≡ m.bits
+
+-- what the code reads at a place is what the shown list has there
+pub shown_here : (aces : List AceRef) (masks : List Mask) (i : ℕ) (x : AceRef) (m : Mask) → length masks ≡ length aces
+    → i < length aces → x ≡ slice_index_or aces i x → m ≡ slice_index_or masks i m → IsShown aces masks i x m
+shown_here aces masks i x m same l is of_mask =
+    let within : i < length (with_masks aces (mask_numbers masks)) = omega (arith, masked_count aces masks same, l) in
+    record {
+      within = within;
+      item = shown_at aces masks i x m (omega (arith, same, l)) within is of_mask;
+      mask = mask_of aces masks i m same l of_mask;
+    }
+
+-- after the last ACE of the code the shown list has no place
+pub shown_end : (aces : List AceRef) (masks : List Mask) (i : ℕ) → length masks ≡ length aces → length aces ≤ i
+    → length (with_masks aces (mask_numbers masks)) ≤ i
+shown_end aces masks i same end = omega (arith, masked_count aces masks same, end)
 
 -- the cleared list of the places before the next one is accepted with the next ACE
 pub next_cleared : (xs : List Ace) (i : ℕ) (e : Ace) (list : List Ace) → IsAccepted full (all_cleared (left xs))

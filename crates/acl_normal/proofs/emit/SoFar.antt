@@ -17,7 +17,7 @@ completes_more whole out new left rest a is once step h ns e =
     ∙ append_assoc (emitted_aces out) (emitted_ace a ∷ []) ns in
     subst (λ v. IsEmission whole v) (sym same) more
 
--- nothing is emitted of a list with empty columns
+-- nothing is emitted from a list with empty columns
 pub nothing_completes : (left : List Ace) → HasEmptyColumns left → IsEmission left []
 nothing_completes left h = record {
   alike = λ b p q o. rw (h b) refl;
@@ -27,7 +27,7 @@ nothing_completes left h = record {
   masks = tt;
 }
 
--- when nothing is left, what was emitted is emitted of the whole
+-- when nothing is left, what was emitted is emitted from the whole
 pub completes_all : (whole : List Ace) (out : List Emitted) (left : List Ace) → Completes whole out left
     → HasEmptyColumns left → IsEmission whole (emitted_aces out)
 completes_all whole out left h empty =

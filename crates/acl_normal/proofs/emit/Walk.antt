@@ -130,7 +130,7 @@ pub head_kind : (k : Kind) (u : Bool) (b : ℕ) (xs : List Ace) (i : ℕ) (all r
 head_kind k u b xs i all rest old new once w e has =
     (key_at k u b xs i once (head_waits k u b xs i all rest old new w e has)).kind
 
--- the walk goes on behind a place whose mask lacks the bit
+-- the walk continues after a place whose mask lacks the bit
 pub walk_past : (k : Kind) (u : Bool) (b : ℕ) (xs : List Ace) (i : ℕ) (all rest : List ℕ) (old new : Marked)
     → Walks k u b xs all old new → all ≡ i ∷ rest → has_bit (mask_here xs i) b ≡ false
     → Walks k u b xs rest old new
@@ -158,7 +158,7 @@ walk_past k u b xs i all rest old new before is lacks = go (subst (λ v. Walks k
             let apart : is_at (nat_cmp j) i ≡ false = false_from_ne_true _ (λ t. n (is_eq_same j i t)) in
             w.covers j h (rw (apart, gone) refl)
 
--- the walk goes on behind a place that is not blocked, when its key was marked
+-- the walk continues after a place that is not blocked, when its key was marked
 pub walk_on : (k : Kind) (u : Bool) (b : ℕ) (xs : List Ace) (i : ℕ) (all rest : List ℕ) (old new more : Marked)
     → IsOnce (column xs b) → Walks k u b xs all old new → all ≡ i ∷ rest → is_blocked k u b xs i ≡ false
     → has_bit (mask_here xs i) b ≡ true → AddsMark (key_here xs i) b new more → Walks k u b xs rest old more
@@ -242,7 +242,7 @@ walk_stops k u b xs i all rest old new once before is stop =
         here : l ≡ i → i ≤ l
         here e = omega (arith, e)
 
--- the walk ends behind the last place
+-- the walk ends after the last place
 pub walk_done : (k : Kind) (u : Bool) (b : ℕ) (xs : List Ace) (all : List ℕ) (old new : Marked) → IsOnce (column xs b)
     → Walks k u b xs all old new → all ≡ [] → Enters k u b xs old new
 walk_done k u b xs all old new once before is =

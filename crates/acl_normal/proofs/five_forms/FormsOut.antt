@@ -1,4 +1,4 @@
--- Lists that go out one behind the other.
+-- Lists that go out one after the other.
 use Rattle.std.proofs.Common.{ℕ, List, [], ◌∷◌, Option, Result, Ok, Err, refl}
 use Rattle.std.specs.List.{flat_map}
 use Rattle.acl_perm.specs.Pieces.{WritesFrom}
@@ -8,7 +8,7 @@ use Rattle.acl_normal.proofs.Common.{Ace, spelling}
 use Rattle.acl_normal.specs.FiveForms.{five_lists, five_spellings}
 use Rattle.acl_normal.specs.declared.five_forms.FiveForms.{FiveForms}
 
--- the bytes of some lists, one behind the other
+-- the bytes of some lists, one after the other
 abbrev pub spellings : List (List Ace) → List ℕ
 spellings lists = flat_map spelling lists
 
@@ -20,7 +20,7 @@ AreLeft held holds done whole lists = IsOut 0 done held holds whole (spellings l
 pub all_left : (held : Option (List ℕ)) (lists : List (List Ace)) → AreLeft held held 0 (spellings lists) lists
 all_left held lists = out_none 0 held (spellings lists) (spellings lists) refl
 
--- when the first list that is left was written, the lists behind it are left
+-- when the first list that is left was written, the lists after it are left
 pub one_out : (a b c : Option (List ℕ)) (done count : ℕ) (whole : List ℕ) (list : List Ace) (lists : List (List Ace))
     → AreLeft a b done whole (list ∷ lists) → WritesFrom b c done (spelling list) (Ok count)
     → AreLeft a c count whole lists
@@ -44,36 +44,36 @@ last_out a b c done whole list (Err fault) h said = cut_out a b c done fault who
 
 -- ---- the five normal forms
 
--- the list behind the fourth one
+-- the list after the fourth one
 abbrev pub after_inner_file : FiveForms → List (List Ace)
 after_inner_file f = f.directory_in_directory ∷ []
 
--- the lists behind the third one
+-- the lists after the third one
 abbrev pub after_directory : FiveForms → List (List Ace)
 after_directory f = f.file_in_directory ∷ after_inner_file f
 
--- the lists behind the second one
+-- the lists after the second one
 abbrev pub after_file : FiveForms → List (List Ace)
 after_file f = f.directory ∷ after_directory f
 
--- the lists behind the first one
+-- the lists after the first one
 abbrev pub after_object : FiveForms → List (List Ace)
 after_object f = f.file ∷ after_file f
 
--- after the first list, the lists behind it are left
+-- after the first list, the other four are left
 pub object_out : (f : FiveForms) (a b : Option (List ℕ)) (count : ℕ) → WritesFrom a b 0 (spelling f.object) (Ok count)
     → AreLeft a b count (five_spellings f) (after_object f)
 object_out f a b count said =
     one_out a a b 0 count (five_spellings f) f.object (after_object f) (all_left a (five_lists f)) said
 
--- after the second list, the lists behind it are left
+-- after the second list, the other three are left
 pub file_out : (f : FiveForms) (a b c : Option (List ℕ)) (first count : ℕ)
     → WritesFrom a b 0 (spelling f.object) (Ok first) → WritesFrom b c first (spelling f.file) (Ok count)
     → AreLeft a c count (five_spellings f) (after_file f)
 file_out f a b c first count object said =
     one_out a b c first count (five_spellings f) f.file (after_file f) (object_out f a b first object) said
 
--- after the third list, the lists behind it are left
+-- after the third list, the other two are left
 pub directory_out : (f : FiveForms) (a b c d : Option (List ℕ)) (first second count : ℕ)
     → WritesFrom a b 0 (spelling f.object) (Ok first) → WritesFrom b c first (spelling f.file) (Ok second)
     → WritesFrom c d second (spelling f.directory) (Ok count)

@@ -20,7 +20,7 @@ kept_twice h c = grind arith
 set_twice : (h c e : Bool) → ((((h && c) || e) && c) || e) ≡ ((h && c) || e)
 set_twice h c e = grind arith
 
--- an ACE that goes on twice has the flags of one that goes on once
+-- an ACE that is passed on twice has the flags of one that is passed on once
 goes_on_again : (flags : ℕ) → goes_on (goes_on flags) ≡ goes_on flags
 goes_on_again flags = same_set _ _ (λ k.
     has_bit-and (goes_on flags) 0x77 k ∙ ap (λ (b : Bool). b && has_bit 0x77 k) (has_bit-and flags 0x77 k)
@@ -58,7 +58,7 @@ nothing_behind flags kind = by kind (has_bit (ends flags) no_propagate_inherit) 
     by Directory true e = directory_ended_before (ends flags) e no_directory
     by Directory false e = directory_absent (ends flags) e no_directory no_file
 
--- an ACE that goes on to directories is passed on to the next directory with the flags that it has
+-- an ACE that a directory passes on to directories has the same flags in the next directory
 on_again : (flags : ℕ) → has_bit flags directory_inherit ≡ true → has_bit flags no_propagate_inherit ≡ false
     → child_flags Directory (goes_on flags) ≡ Some (goes_on flags)
 on_again flags d n =

@@ -98,7 +98,7 @@ module _ (left rest : List Ace) (a : Ace) (least : IsLeastCandidate left left a)
     flags = all_append (λ a. a.flags ≡ flags_for (principal_of a)) out (a ∷ []) h.flags (least.candidate.flags, tt);
   }
 
--- when nothing is left, what has come is what is emitted of the whole
+-- when nothing is left, what has come is what is emitted from the whole
 pub emitting_all : (whole out left : List Ace) → HasEmptyColumns left → Emitting whole out left → IsEmission whole out
 emitting_all whole out left empty h =
     subst (IsEmission whole) (append-nil out) (h.completes [] (record {

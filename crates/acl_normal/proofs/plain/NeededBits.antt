@@ -16,7 +16,7 @@ one_needed : (y r : Ace) (d : Kind) (c : Column) (bit : ℕ) → ace_key r ≡ a
     → column (r ∷ []) bit ++ needed_keys d c ≡ needed_keys d (column (y ∷ []) bit ++ c)
 one_needed y r d c bit entry part bits = grind arith
 
--- the ACEs from a place on are the one at the place and those behind it
+-- the ACEs from a place on are the one at the place and those after it
 pub list_of-from : (xs : List AceRef) (x : AceRef) (i : ℕ) → i < length xs → x ≡ slice_index_or xs i x
     → aces_in (drop i xs) ≡ ace x ∷ aces_in (drop (i + 1) xs)
 list_of-from xs x i lt is =

@@ -1,4 +1,4 @@
--- What is emitted of the plain reduction of a list is its normal form.
+-- What is emitted from the plain reduction of a list is its normal form.
 use Rattle.std.proofs.Common.{◌≡◌, ℕ, ◌≤◌, List, [], length}
 use Rattle.acl_normal.proofs.Common.{Ace, all_rights, AllByRecursion, ap, arith, column, count_left, default, Err, full, HasOnceColumns, IfOk, IsAccepted, IsAce, IsEmission, IsNormal, IsNormalFormOf, IsOnce, KeepsProfiles, needed_keys, Ok, Result, SameGrants, subst, sym, unshadowed, ◌∙◌}
 use Rattle.acl_nfs4.specs.Limits.{most_weight}
@@ -36,7 +36,7 @@ pub reduced_small : (source needed : List Ace) → IsAccepted full source → Is
 reduced_small source needed accepted h =
     omega (arith, count_falls 32 source needed (reduced_fewer source needed h), count_within 32 source, accepted.weight)
 
--- what is emitted of the plain reduction of a list is its normal form
+-- what is emitted from the plain reduction of a list is its normal form
 pub reduced_form : (source needed result : List Ace) → IsAccepted full source → IsPlainReduction source needed
     → IsEmission needed result → ((bit : ℕ) → length (column result bit) ≤ length (column needed bit))
     → KeepsProfiles needed result → IsNormalFormOf source result
@@ -64,7 +64,7 @@ passes_reduce list source aces reached lent (Ok v) same first kept loan second k
 }
 passes_reduce list source aces reached lent (Err fault) same first kept loan second kept_again = tt
 
--- if what is emitted of the plain reduction is returned, it is the normal form
+-- if what is emitted from the plain reduction is returned, it is the normal form
 pub emitted_form : {E : Type 0} (source needed : List Ace) (answer : Result (List Ace) E) → IsAccepted full source
     → IsPlainReduction source needed → IfOk answer (IsEmission needed)
     → IfOk answer (λ list. (bit : ℕ) → length (column list bit) ≤ length (column needed bit))

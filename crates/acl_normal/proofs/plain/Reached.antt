@@ -4,7 +4,7 @@ use Rattle.acl_normal.proofs.Common.{Ace, ace, ace_key, AceRef, aces_in, ap, app
 use Rattle.acl_normal.proofs.plain.Passes.{Marks, list_of-append, list_of-more}
 use Rattle.acl_normal.proofs.unique.Columns.{column-append}
 
--- the unshadowed keys of two columns are those of the first, and those of the second behind the first
+-- the unshadowed keys of two columns are those of the first, and those of the second after the first
 unshadowed-append : (before c d : Column)
     → unshadowed before (c ++ d) ≡ unshadowed before c ++ unshadowed (before ++ c) d
 unshadowed-append before [] d = grind (arith, append-nil)

@@ -72,13 +72,13 @@ pub record IsOther (d : Kind) (p : Principal) (c : Column) (q : Principal) : Typ
   pub source : first_kind (is_either q q) c ≡ Some (opposite d)
   pub kind : first_kind (is_either q q) (needed_keys d c) ≡ Some (opposite d)
 
--- which needed key of two principals comes first is the same behind a key of a third
+-- which needed key of two principals comes first is the same after a key of a third
 kept_behind : (d : Kind) (p q x : Principal) (j : Kind) (c : Column) (i : Kind) → principal_eq x p ≡ false
     → principal_eq x q ≡ false → first_kind (is_either p q) (needed_keys d c) ≡ Some i
     → first_kind (is_either p q) (needed_keys d ((x, j) ∷ c)) ≡ Some i
 kept_behind d p q x j c i e f h = grind arith
 
--- another principal with such a key still has it behind a key of a third
+-- another principal with such a key still has it after a key of a third
 other_behind : (d : Kind) (p : Principal) (c : Column) (q x : Principal) (j : Kind) → principal_eq x q ≡ false
     → IsOther d p c q → IsOther d p ((x, j) ∷ c) q
 other_behind d p c q x j f h = record {
@@ -147,13 +147,13 @@ kept_before : (d : Kind) (p x : Principal) (j : Kind) (c : Column) → principal
     → first_kind (is_either p p) (needed_keys d c) ≡ Some d
 kept_before d p x j c e h = grind arith
 
--- a key of the default kind that is needed has an opposite key behind it
+-- a key of the default kind that is needed has an opposite key after it
 needs_opposite : (d : Kind) (p x : Principal) (j : Kind) (c : Column) → principal_eq x p ≡ true
     → principal_eq x everyone ≡ false → is_needed d x j c ≡ true
     → first_kind (is_either p p) (needed_keys d ((x, j) ∷ c)) ≡ Some d → has_opposite d x c ≡ true
 needs_opposite d p x j c e f n h = grind (arith, kind_eq_itself d)
 
--- a needed key of the default kind has a needed key of the other kind behind it that overlaps
+-- a needed key of the default kind has a needed key of the other kind after it that overlaps
 find_witness : (d : Kind) (p : Principal) (c : Column) → IsClean c → default c ≡ d → principal_eq p everyone ≡ false
     → first_kind (is_either p p) (needed_keys d c) ≡ Some d
     → (q : Principal) × IsOther d p c q × (first_kind (is_either p q) (needed_keys d c) ≡ Some d)

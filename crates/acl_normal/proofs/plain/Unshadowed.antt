@@ -33,7 +33,7 @@ shadowed_lacks x j before ((p, k) ∷ c) h =
     same : principal_eq p x ≡ true → first_kind (is_either p everyone) before ≡ Some j
     same e = subst (λ v. first_kind (is_either v everyone) before ≡ Some j) (sym (principal_eq_same p x e)) h
 
--- behind a key of everyone no key is unshadowed
+-- after a key of everyone no key is unshadowed
 pub shadowed_nothing : (j : Kind) (before c : Column) → first_kind (is_either everyone everyone) before ≡ Some j
     → unshadowed before c ≡ []
 shadowed_nothing j before [] h = refl

@@ -238,7 +238,7 @@ pub named_there : (whole : List Ace) (i : ℕ) (a : Ace) → i < length whole �
 named_there whole i a l is =
     ap (λ k. is_principal_of k.0 whole) (sym (key_at_index whole i a l ∙ ap ace_key is)) ∙ named_here whole i l
 
--- the row of a place is one of those of which the bits are known
+-- the row of a place is one of the rows whose bits are known
 pub row_seen : (aces : List AceRef) (rows : List ℕ) (seen : List Mask) (place all : ℕ) (xs : List Ace) (x : AceRef)
     → AreRowNumbers (aces_in aces) rows → place < length aces → x ≡ slice_index_or aces place x
     → HoldsSeen (aces_in aces) (mask_numbers seen) all xs → slice_index_or rows place 0 < length seen

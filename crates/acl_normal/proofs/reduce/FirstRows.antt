@@ -1,4 +1,4 @@
--- What one ACE more behind a list adds to a column, to its unshadowed keys, and to the first ACEs of principals.
+-- What one ACE more after a list adds to a column, to its unshadowed keys, and to the first ACEs of principals.
 use Rattle.acl_normal.proofs.Common.{Ace, Bool, Column, ColumnKey, Kind, List, None, Option, Principal, Some, [], ace_key, add-one, ap, append-nil, append_assoc, arith, column, cond, counts, everyone, first_at, first_kind, is_either, is_none, is_some, length, not, principal_eq, principal_of, refl, slice_index_or, subst, suc, sym, take, take_more, true, unshadowed, zero, ℕ, ◌&&◌, ◌++◌, ◌<◌, ◌||◌, ◌∙◌, ◌∷◌, ◌≡◌}
 use Rattle.acl_normal.proofs.unique.Names.{either_second}
 use Rattle.acl_normal.proofs.unique.Columns.{column-append, column_first}
@@ -24,7 +24,7 @@ pub none_from : (o : Option Kind) → is_none o ≡ true → o ≡ None
 none_from None h = refl
 none_from (Some k) h = cc
 
--- the column, and a key behind it where none of the same principal or of everyone is in it
+-- the column, and a key after it where none of the same principal or of everyone is in it
 abbrev pub first_then : ColumnKey → Column → Column
 first_then k c = cond (is_none (first_kind (is_either k.0 everyone) c)) (c ++ k ∷ []) c
 
@@ -68,14 +68,14 @@ column_more b i xs a h is =
 
 -- ---- keys that borrow their names
 
--- ---- one ACE behind a list
+-- ---- one ACE after a list
 
 -- the column of a list with one ACE more has its key at the end, if the ACE counts
 pub column_push : (b : ℕ) (xs : List Ace) (a : Ace)
     → column (xs ++ a ∷ []) b ≡ column xs b ++ cond (counts b a) (ace_key a ∷ []) []
 column_push b xs a = column-append b xs (a ∷ []) ∙ ap (λ v. column xs b ++ v) (column_first b a [])
 
--- the first ACE of a principal is the first with more ACEs behind the list
+-- the first ACE of a principal is the first with more ACEs after the list
 pub first_front : (b : ℕ) (p : Principal) (xs ys : List Ace) (e : Kind × ℕ) → first_at b p xs ≡ Some e
     → first_at b p (xs ++ ys) ≡ Some e
 first_front b p [] ys e h = cc

@@ -1,5 +1,6 @@
 -- A list with reduced columns is irreducible and grants the same.
 use Rattle.acl_normal.proofs.Common.{[], Ace, all_rights, ap, arith, cases_lt, column, default, false, full, has_bit, HasMasks, HasNames, HasNoEmptyMask, IsAccepted, IsIrreducible, IsIrreducibleList, IsNormal, IsTidy, left, List, matches, needed_keys, nothing_left, reduced, refl, SameGrants, subst, sym, unshadowed, verdict, ℕ, ⊎_elim, ◌<◌, ◌∙◌, ◌∷◌, ◌≡◌, equivalence}
+use Rattle.acl_normal.specs.internal.Reduced.{IsReducedOf, IsThinned}
 use Rattle.acl_normal.proofs.unique.Accepted.{accepted_masks, accepted_names}
 use Rattle.acl_normal.proofs.unique.ListColumns.{names_in_column, same_grants_from_columns}
 use Rattle.acl_normal.proofs.unique.FirstKind.{clique_of}
@@ -103,6 +104,24 @@ pub reduction_grants : (xs ys : List Ace) → ((b : ℕ) → b < 21 → column y
 reduction_grants xs ys columns = same_grants_from_columns xs ys (λ b inside s valid.
     sym (same_reduced (matches s) (column xs b) (clique_of s) refl)
     ∙ ap (verdict (matches s)) (sym (columns b (below b inside))))
+
+-- the two passes leave the source without the rights that no situation needs
+pub reduced_in_two : (xs ys zs : List Ace) → IsAccepted full xs → IsThinned xs ys
+    → ((b : ℕ) → column ys b ≡ unshadowed [] (column xs b)) → IsThinned ys zs
+    → ((b : ℕ) → b < 21 → column zs b ≡ needed_keys (default (column ys b)) (column ys b)) → IsReducedOf xs zs
+reduced_in_two xs ys zs accepted first f second g =
+    let r = two_passes xs ys zs accepted first.outline f second.outline second.tidy g in record {
+      accepted = accepted;
+      thinned = record {
+        outline = r.outline;
+        tidy = r.tidy;
+        firsts = λ b p k i h. first.firsts b p k i (second.firsts b p k i h);
+      };
+      rights = reduction_rights xs zs r;
+      columns = r.columns;
+      grants = reduction_grants xs zs r.columns;
+      irreducible = reduction_irreducible xs zs r;
+    }
 
 -- ---- the normal form is the only normal list with the grants
 

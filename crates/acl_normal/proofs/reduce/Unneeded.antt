@@ -1,14 +1,15 @@
 -- The needless bits dropped, from the last ACE to the first.
-use Rattle.acl_normal.proofs.Common.{Ace, AceRef, Bool, Column, ColumnKey, HasOnceColumns, IsOnce, IsTidy, KeepsFirsts, Kind, List, None, Principal, Some, [], ace, ace_key, and_parts, ap, arith, column, counts, default, default_at, drop, false, first_at, first_kind, get_or-set_other, get_or-set_same, has_bit, has_bit-without, has_opposite, is_either, is_inherit_only, is_needed, is_user, kind_eq, length, length-set, mask_here, needed_keys, not, other_kind, principal_eq, principal_here, principal_of, refl, same_class, slice_index_or, slice_set, subst, suc, sym, take_out, true, with_masks, without, without_bits, zero, ℕ, ⊎_elim, ◌&&◌, ◌-◌, ◌<◌, ◌||◌, ◌∙◌, ◌∷◌, ◌≡◌}
+use Rattle.acl_normal.proofs.Common.{Ace, AceRef, Bool, Column, ColumnKey, HasOnceColumns, IsDifference, IsOnce, IsTidy, KeepsFirsts, Kind, List, Mask, None, Principal, Some, [], ace, ace_key, and_parts, ap, arith, column, counts, default, default_at, drop, false, first_at, first_kind, get_or-set_other, get_or-set_same, has_bit, has_bit-without, has_opposite, is_either, is_inherit_only, is_needed, is_user, kind_eq, length, length-set, mask_here, mask_numbers, needed_keys, not, other_kind, principal_eq, principal_here, principal_of, refl, same_class, slice_index_or, slice_set, subst, suc, sym, take_out, true, with_masks, without, without_bits, zero, ℕ, ⊎_elim, ◌&&◌, ◌<◌, ◌||◌, ◌∙◌, ◌∷◌, ◌≡◌}
 use Rattle.std.proofs.lemmas.List.{drop-set-lt}
 use Rattle.acl_normal.specs.declared.reduce.needless.Later.{Later}
 use Rattle.acl_normal.specs.internal.Needed.{is_kept, is_of_kind_and_class, later_mask, opposes, some_of}
-use Rattle.acl_normal.proofs.unique.Bits.{masks_same}
+use Rattle.acl_normal.proofs.unique.Bits.{difference_is, masks_same}
 use Rattle.acl_normal.proofs.unique.Columns.{column_first, column_has}
 use Rattle.acl_normal.proofs.unique.Names.{principal_eq_same, principal_eq_turned}
 use Rattle.acl_normal.proofs.unique.Normal.{counts_mask}
 use Rattle.acl_normal.proofs.unique.Outline.{length_shown}
 use Rattle.acl_normal.proofs.rows.ByPlace.{mask_there, masked, masked_at, masks_none, quiet_index}
+use Rattle.acl_normal.proofs.rows.MaskNumbers.{bits_at, bits_length, bits_set}
 use Rattle.acl_normal.proofs.rows.FirstPlaces.{first_by_place, first_here}
 use Rattle.acl_normal.proofs.rows.Quiet.{tidy_taken}
 use Rattle.acl_normal.proofs.rows.TakeOut.{first_gone, first_kept, take_absent, without_absent_bits}
@@ -67,7 +68,7 @@ left_bools : (x p m k n : Bool) → (x && p) ≡ x → m ≡ (x && not k) → ((
     → ((x && not m) && p) ≡ ((x && p) && n)
 left_bools x p m k n e f g = grind arith
 
--- an ACE without its needless bits, before the needed keys behind it, has the needed keys of both
+-- an ACE without its needless bits, before the needed keys after it, has the needed keys of both
 needed_here : (b allowed : ℕ) (l : Later) (a : Ace) (m : ℕ) (tail back : List Ace)
     → (is_inherit_only a ≡ true → a.mask ≡ 0) → IsOnce (column (a ∷ back) b) → AreLater l back
     → AreNeedless allowed l (ace_key a) a.mask m
@@ -181,7 +182,7 @@ taken_firsts p m xs b q k i h = grind (arith, first_kept b p q m xs, first_gone 
 abbrev pub shown_from : List AceRef → List ℕ → ℕ → List Ace
 shown_from aces masks i = with_masks (drop i aces) (drop i masks)
 
--- the ACEs from a place on are the one there with its mask, and those behind it
+-- the ACEs from a place on are the one there with its mask, and those after it
 shown_next : (aces : List AceRef) (masks : List ℕ) (i : ℕ) (x : AceRef) → i < length aces → length masks ≡ length aces
     → x ≡ slice_index_or aces i x
     → shown_from aces masks i ≡ masked (ace x) (slice_index_or masks i 0) ∷ shown_from aces masks (suc i)
@@ -306,12 +307,39 @@ dropping_more aces given masks place allowed m x l l' whole d t = record {
               d.tidy.quiet (has b h) inside),
         ))
 
+-- a turn of the code, which holds masks, keeps what the loop keeps
+pub dropping_turn : (aces : List AceRef) (given : List ℕ) (masks : List Mask) (place allowed : ℕ) (x : AceRef)
+    (m dropped less : Mask) (l l' : Later) → IsTidy (with_masks aces given) → place < length aces
+    → length given ≡ length aces → length masks ≡ length aces → x ≡ slice_index_or aces place x
+    → m ≡ slice_index_or masks place m
+    → ((b : ℕ) → default_at allowed b ≡ default (column (with_masks aces given) b))
+    → AreNeedless allowed l (ace_key (ace x)) m.bits dropped.bits → IsWith l (ace_key (ace x)) m.bits l'
+    → IsDifference m.bits dropped.bits less.bits → Dropping aces given (mask_numbers masks) (suc place) l
+    → Dropping aces given (mask_numbers (slice_set masks place less)) place l'
+dropping_turn aces given masks place allowed x m dropped less l l' tidy within given_count count is of_mask allowed_is
+    needless later apart so =
+    subst (λ v. Dropping aces given v place l') (sym new)
+    (dropping_more aces given (mask_numbers masks) place allowed dropped.bits x l l' tidy so (record {
+      within = within;
+      given_count = given_count;
+      count = bits_length masks ∙ count;
+      is = is;
+      allowed_is = allowed_is;
+      needless = subst (λ n. AreNeedless allowed l (ace_key (ace x)) n dropped.bits) (sym at) needless;
+      later = subst (λ n. IsWith l (ace_key (ace x)) n l') (sym at) later;
+    }))
+  where
+    at : slice_index_or (mask_numbers masks) place 0 ≡ m.bits
+    at = bits_at masks place 0 m (omega (arith, within, count)) of_mask
+
+    new : mask_numbers (slice_set masks place less) ≡ clear_at (mask_numbers masks) place dropped.bits
+    new =
+        bits_set masks place less
+        ∙ ap (slice_set (mask_numbers masks) place)
+        (difference_is _ _ _ apart ∙ ap (λ v. without v dropped.bits) (sym at))
+
 -- after the last turn each column has just its needed keys
 pub dropping_end : (aces : List AceRef) (given masks : List ℕ) (l : Later) → Dropping aces given masks 0 l
     → (b : ℕ) → column (with_masks aces masks) b
     ≡ needed_keys (default (column (with_masks aces given) b)) (column (with_masks aces given) b)
 dropping_end aces given masks l d b = d.drops.columns b
-
--- a list that keeps the first ACEs of one that keeps those of a third keeps those of the third
-pub firsts_through : (xs ys zs : List Ace) → KeepsFirsts xs ys → KeepsFirsts ys zs → KeepsFirsts xs zs
-firsts_through xs ys zs f g b p k i h = f b p k i (g b p k i h)

@@ -1,4 +1,4 @@
--- The bytes with which the names of a list begin, and heads of what is behind them.
+-- The bytes with which the names of a list begin, and heads of what is after them.
 use Rattle.acl_normal.proofs.Common.{[], Ace, ace, AceRef, aces_in, ap, arith, BeginsWith, Bool, cases_lt, false, inl, inr, length, length-map, List, map, named_at, named_from, nat_cmp, Principal, principal_cmp, principal_here, principal_of, refl, slice_cmp, slice_index_or, subst, suc, sym, take, take_all, true, zero, ℕ, ◌+◌, ◌<◌, ◌∙◌, ◌∷◌, ◌≡◌, ◌≤◌, ◌⊎◌}
 use Rattle.std.specs.List.{All, Contains}
 use Rattle.acl_normal.specs.declared.rows.numbers.HeadedPlace.{HeadedPlace}
@@ -42,7 +42,7 @@ pub record IsHeaded (common : ℕ) (xs : List Ace) (n : HeadedPlace) : Type 0 wh
   pub within : n.place < length xs
   pub head : IsHeadOf common n.head (principal_here xs n.place)
 
--- heads of the names behind a common beginning show the order of the places
+-- heads of the names after a common beginning show the order of the places
 pub heads_tell : (start : List ℕ) (xs : List Ace) (places : List HeadedPlace) → AllBegin start xs
     → All (IsHeaded (length start) xs) places → DoHeadsTell xs places
 heads_tell start xs places begin h = record {

@@ -11,14 +11,14 @@ pub record IsHere (b : ℕ) (p : Principal) (a : Ace) (j : Kind) (i : ℕ) : Typ
   pub kind : a.kind ≡ j
   pub place : i ≡ 0
 
--- the principal's first ACE with the bit is behind the first of the list
+-- the principal's first ACE with the bit is after the first of the list
 pub record IsThere (b : ℕ) (p : Principal) (a : Ace) (xs : List Ace) (j : Kind) (i : ℕ) : Type 0 where
   pub before : ℕ
   pub place : i ≡ suc before
   pub first : first_at b p xs ≡ Some (j, before)
   pub other : (counts b a && principal_eq (principal_of a) p) ≡ false
 
--- the principal's first ACE with the bit is the first of the list or behind it
+-- the principal's first ACE with the bit is the first of the list or after it
 pub first_cases : (b : ℕ) (p : Principal) (a : Ace) (xs : List Ace) (j : Kind) (i : ℕ)
     → first_at b p (a ∷ xs) ≡ Some (j, i) → IsHere b p a j i ⊎ IsThere b p a xs j i
 first_cases b p a xs j i h = go (counts b a && principal_eq (principal_of a) p) refl (first_at b p xs) refl
@@ -50,14 +50,14 @@ absent_first b p (a ∷ xs) h = grind (arith, absent_first b p xs, column_first 
 pub once_rest : (b : ℕ) (a : Ace) (xs : List Ace) → IsOnce (column (a ∷ xs) b) → IsOnce (column xs b)
 once_rest b a xs h = grind (arith, column_first b a xs)
 
--- behind the first ACE of a principal, the column has no other key of the principal
+-- after the first ACE of a principal, the column has no other key of the principal
 pub none_column : (b : ℕ) (p : Principal) (a : Ace) (xs : List Ace) (j : Kind) (i : ℕ) → IsOnce (column (a ∷ xs) b)
     → IsHere b p a j i → first_kind (is_either p p) (column xs b) ≡ None
 none_column b p a xs j i once here =
     let all : IsOnce ((principal_of a, a.kind) ∷ column xs b) = rw here.counts at once in
     subst (λ v. first_kind (is_either v v) (column xs b) ≡ None) (principal_eq_same (principal_of a) p here.same) all.0
 
--- behind the first ACE of a principal there is none of the principal with the bit
+-- after the first ACE of a principal there is none of the principal with the bit
 pub none_behind : (b : ℕ) (p : Principal) (a : Ace) (xs : List Ace) (j : Kind) (i : ℕ) → IsOnce (column (a ∷ xs) b)
     → IsHere b p a j i → first_at b p xs ≡ None
 none_behind b p a xs j i once here = absent_first b p xs (none_column b p a xs j i once here)

@@ -94,14 +94,14 @@ decided b c m k rest below above same =
     (λ l. rw (greater b c l) (agrees m k Greater (λ h. absurd (omega (arith, h, above l))) (λ h. refl)))
     (λ e. rw (equal b c e) (same e))
 
--- the counts of two names, of which so many bytes were passed
+-- the counts of two names, after this many of their bytes were passed
 record AreCounts (n before c d : ℕ) (xs ys : List ℕ) : Type 0 where
   first : c ≡ before + count_to (suc n) xs
   second : d ≡ before + count_to (suc n) ys
   low : c < 256
   also : d < 256
 
--- the counts of two names are those of what is behind one byte more
+-- the counts of two names are those of what is after one byte more
 counts_on : (n before c d b e : ℕ) (xs ys : List ℕ) → AreCounts (suc n) before c d (b ∷ xs) (e ∷ ys)
     → AreCounts n (before + 1) c d xs ys
 counts_on n before c d b e xs ys h = record {
@@ -111,7 +111,7 @@ counts_on n before c d b e xs ys h = record {
   also = h.also;
 }
 
--- behind equal bytes, the heads never say other than the names
+-- after equal bytes, the heads never say other than the names
 names_agree : (n before m k c d : ℕ) (xs ys : List ℕ) → AreCounts n before c d xs ys → IsBytes xs → IsBytes ys → m ≡ k
     → Agrees (head_from m n xs c) (head_from k n ys d) (slice_cmp nat_cmp xs ys)
 names_agree zero before m k c d [] [] h f g e =
@@ -171,7 +171,7 @@ names_same (suc n) before m k c (x ∷ xs) (y ∷ ys) h w f g e is =
     ∙ names_same n (before + 1) (m * 256 + x) (k * 256 + y) c xs ys (counts_on n before c c x y xs ys h)
     (omega (arith, w)) (tail_bytes x xs f) (tail_bytes y ys g) (omega (arith, e, l)) is)
 
--- names with equal first bytes are ordered as what is behind these bytes
+-- names with equal first bytes are ordered as what is after these bytes
 compared_behind : (c : ℕ) (xs ys : List ℕ) → take c xs ≡ take c ys
     → slice_cmp nat_cmp (drop c xs) (drop c ys) ≡ slice_cmp nat_cmp xs ys
 compared_behind zero xs ys e = refl
@@ -182,15 +182,15 @@ compared_behind (suc c) (x ∷ xs) (y ∷ ys) e =
     compared_behind c xs ys (ap (drop 1) e)
     ∙ sym (ap (λ o. ordering_then o (slice_cmp nat_cmp xs ys)) (equal x y (ap (λ v. get_or v 0 0) e)))
 
--- the bytes of a name behind the first ones
+-- the bytes of a name after the first ones
 abbrev rest_of : ℕ → Principal → List ℕ
 rest_of c p = drop c (principal_name p)
 
--- how many bytes of a name are behind the first ones, where 7 is for more
+-- how many bytes of a name are after the first ones, where 7 is for more
 abbrev count_of : ℕ → Principal → ℕ
 count_of c p = count_to 7 (rest_of c p)
 
--- the counts of two names are those of their bytes behind the first ones
+-- the counts of two names are those of their bytes after the first ones
 counts_of : (c : ℕ) (p q : Principal) → AreCounts 6 0 (count_of c p) (count_of c q) (rest_of c p) (rest_of c q)
 counts_of c p q = record {
   first = omega arith;

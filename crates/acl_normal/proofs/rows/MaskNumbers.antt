@@ -11,7 +11,7 @@ pub bits_at : (masks : List Mask) (i d : ℕ) (m : Mask) → i < length masks �
     → slice_index_or (mask_numbers masks) i d ≡ m.bits
 bits_at masks i d m within is = get_or-map (λ m. m.bits) masks i m d within ∙ ap (λ v. v.bits) (sym is)
 
--- one mask more adds its number behind the others
+-- one mask more adds its number after the others
 pub bits_push : (masks : List Mask) (m : Mask) → mask_numbers (masks ++ m ∷ []) ≡ mask_numbers masks ++ m.bits ∷ []
 bits_push masks m = map-append (λ m. m.bits) masks (m ∷ [])
 

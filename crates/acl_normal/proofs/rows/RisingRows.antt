@@ -14,14 +14,14 @@ pub record AreRisingTo (xs : List Ace) (numbers : List ℕ) (now : ℕ) (last : 
   pub top : (k : ℕ) → k < length xs → is_lt (principal_cmp last (principal_here xs k)) ≡ false
   pub row : now ≡ row_of last xs
 
--- the ACEs of a list name the same principals with one ACE more behind them
+-- the ACEs of a list name the same principals with one ACE more after them
 here_before : (xs : List Ace) (a : Ace) (k : ℕ) → k < length xs
     → principal_here (xs ++ a ∷ []) k ≡ principal_here xs k
 here_before [] a k l = absurd (omega (arith, l))
 here_before (b ∷ xs) a zero l = refl
 here_before (b ∷ xs) a (suc k) l = here_before xs a k (omega (arith, l))
 
--- one ACE more behind a list is at the place of its length
+-- one ACE more after a list is at the place of its length
 here_last : (xs : List Ace) (a : Ace) → principal_here (xs ++ a ∷ []) (length xs) ≡ principal_of a
 here_last [] a = refl
 here_last (b ∷ xs) a = here_last xs a

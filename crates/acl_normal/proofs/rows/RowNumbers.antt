@@ -178,7 +178,7 @@ module _ (xs : List Ace) (places : List HeadedPlace) (s : AreSorted xs places) w
     both = principals_same (principal_here xs n.place) (principal_here xs first.place)
 
     -- if the test fails, the row of the next place begins with it
-    pub numbered_unlike : (now : ℕ) → alike ≡ false → now ≡ i
+    numbered_unlike : (now : ℕ) → alike ≡ false → now ≡ i
         → AreNumberedTo xs names (slice_set rows n.place now) now (i + 1)
     numbered_unlike now h e =
         rw e
@@ -193,7 +193,7 @@ module _ (xs : List Ace) (places : List HeadedPlace) (s : AreSorted xs places) w
             cc
 
     -- if the test is passed, the row of the next place is the one that begins at `start`
-    pub numbered_like : (now : ℕ) → alike ≡ true → now ≡ start
+    numbered_like : (now : ℕ) → alike ≡ true → now ≡ start
         → AreNumberedTo xs names (slice_set rows n.place now) now (i + 1)
     numbered_like now h e =
         rw e
@@ -202,3 +202,9 @@ module _ (xs : List Ace) (places : List HeadedPlace) (s : AreSorted xs places) w
       where
         same : (name i).0 ≡ (name start).0
         same = ap (λ m. m.0) this ∙ both.0 (sym by_principals ∙ h) ∙ ap (λ m. m.0) (sym that)
+
+    -- the row of the next place is the one that begins at `start` if the test is passed, and else begins with the place
+    pub numbered_next : (now : ℕ) → (alike ≡ true) × (now ≡ start) ⊎ (alike ≡ false) × (now ≡ i)
+        → AreNumberedTo xs names (slice_set rows n.place now) now (i + 1)
+    numbered_next now (inl h) = numbered_like now h.0 h.1
+    numbered_next now (inr h) = numbered_unlike now h.0 h.1

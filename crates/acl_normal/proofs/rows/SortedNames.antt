@@ -1,4 +1,4 @@
--- The names of the principals of a list, in order: where each principal begins, and of which ACE each name is.
+-- The names of the principals of a list, in order: where each principal begins, and which ACE each name comes from.
 use Rattle.acl_normal.proofs.Common.{Ace, AceRef, Bool, Equal, Greater, Less, List, Ordering, Principal, [], ace, aces_in, ap, arith, cases_lt, cond, everyone, false, get_or_default, inl, inr, is_le, is_lt, key_here, length, length-map, length-take-le, map, map-append, named_from, ordering_reverse, principal_cmp, principal_exact, principal_here, principal_of, principal_order, principal_total, refl, row_of, slice_index_or, subst, suc, sym, take, take_more, true, zero, ℕ, ◌++◌, ◌+◌, ◌<◌, ◌∙◌, ◌∷◌, ◌≡◌, ◌≤◌, ◌⊎◌}
 use Rattle.std.specs.List.{Contains}
 use Rattle.std.specs.List.Sorted.{IsPartitionPoint, IsPartitionedBy}
@@ -49,7 +49,7 @@ le_then_less a b p h l = go (principal_cmp a b) refl
         let turned : principal_cmp b a ≡ Less = principal_order.reversed a b ∙ ap ordering_reverse e in
         absurd (cc)
 
--- two principals of which neither is below the other are equal
+-- two principals are equal if neither is below the other
 pub neither : (a b : Principal) → is_lt (principal_cmp a b) ≡ false → is_lt (principal_cmp b a) ≡ false → a ≡ b
 neither a b h l = grind (arith, principal_order.reversed a b, principal_exact a b)
 
@@ -57,7 +57,7 @@ neither a b h l = grind (arith, principal_order.reversed a b, principal_exact a 
 pub not_above : (a b : Principal) → is_lt (principal_cmp b a) ≡ false → is_le (principal_cmp a b) ≡ true
 not_above a b h = grind (arith, principal_order.reversed a b)
 
--- one ACE more behind a list adds its principal, with its place, to the names
+-- one ACE more after a list adds its principal, with its place, to the names
 named_push : (i : ℕ) (xs : List Ace) (a : Ace)
     → named_from i (xs ++ a ∷ []) ≡ named_from i xs ++ (principal_of a, i + length xs) ∷ []
 named_push i [] a = ap (λ n. (principal_of a, n) ∷ []) (omega arith)

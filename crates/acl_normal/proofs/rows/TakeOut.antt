@@ -1,5 +1,5 @@
 -- Bits of a principal taken out of a list.
-use Rattle.acl_normal.proofs.Common.{[], Ace, ap, Bool, column, cond, counts, false, first_at, has_bit, has_bit-without, HasOnceColumns, is_inherit_only, is_waiting, IsOnce, Kind, List, None, not, Principal, principal_eq, principal_of, refl, Some, subst, suc, sym, take_out, true, waits, without, without_bits, without_principal, zero, ℕ, ◌&&◌, ◌^◌, ◌∙◌, ◌∷◌, ◌≡◌, ◌≢◌, ◌≤◌, ◌⊎◌, arith, ⊎_elim, Column, only_bit, and_false_right, Option, option_map, kind_eq, same_class, is_user}
+use Rattle.acl_normal.proofs.Common.{[], Ace, ap, Bool, column, cond, counts, false, first_at, has_bit, has_bit-without, HasOnceColumns, is_inherit_only, is_waiting, IsOnce, Kind, List, None, not, Principal, principal_eq, principal_of, refl, Some, subst, suc, sym, take_out, true, waits, without, without_bits, without_principal, zero, ℕ, ◌&&◌, ◌^◌, ◌∙◌, ◌∷◌, ◌≡◌, ◌≢◌, ◌≤◌, arith, ⊎_elim, Column, only_bit, and_false_right, Option, option_map, kind_eq, same_class, is_user}
 use Rattle.acl_normal.proofs.unique.Names.{principal_eq_same, principal_eq_turned}
 use Rattle.acl_normal.proofs.unique.Bits.{masks_same}
 use Rattle.acl_normal.proofs.unique.Columns.{column_first}
@@ -160,7 +160,7 @@ waits_kept k u b p m [] i h = refl
 waits_kept k u b p m (a ∷ xs) zero h = grind (arith, waiting_left k u b p m a)
 waits_kept k u b p m (a ∷ xs) (suc i) h = waits_kept k u b p m xs i h
 
--- the place of a principal's first ACE with a bit that was taken out waits no more
+-- the place of a principal's first ACE with a bit that was taken out no longer waits
 pub waits_gone : (k : Kind) (u : Bool) (b : ℕ) (p : Principal) (m : ℕ) (xs : List Ace) (j : Kind) (i : ℕ)
     → has_bit m b ≡ true → first_at b p xs ≡ Some (j, i) → waits k u b (take_out p m xs) i ≡ false
 waits_gone k u b p m [] j i h f = refl

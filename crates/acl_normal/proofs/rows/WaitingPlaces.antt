@@ -98,7 +98,7 @@ same_next i n = ⊎_elim
     suc_same : suc i ≡ suc n → i ≡ n
     suc_same e = omega (arith, e)
 
--- with one ACE more behind a list the same places wait, and the last if that ACE does
+-- with one ACE more after a list the same places wait, and the last if that ACE does
 waits_more : (k : Kind) (u : Bool) (b : ℕ) (xs : List Ace) (a : Ace) (i : ℕ)
     → waits k u b (xs ++ a ∷ []) i ≡ (waits k u b xs i || (is_at (nat_cmp (length xs)) i && is_waiting k u b a))
 waits_more k u b [] a zero = refl

@@ -1,5 +1,5 @@
 -- Single bits of a mask.
-use Rattle.acl_normal.proofs.Common.{ap, arith, bit_and, bit_at, bit_at-lt, bit_at-zero, cases_eq, cases_lt, eqb-false, false, has_bit, has_bit-without, inl, inr, IsDifference, ne_eqb, refl, suc, sym, true, without, zero, ℕ, ⊎_elim, ◌-◌, ◌<◌, ◌==◌, ◌^◌, ◌∙◌, ◌≡◌, ◌≢◌, ◌≤◌, ◌⊎◌, all_rights, false_from_ne_true, Bool, eq-eqb, only_bit, one_bit}
+use Rattle.acl_normal.proofs.Common.{ap, arith, bit_and, bit_at, bit_at-lt, bit_at-zero, cases_eq, cases_lt, eqb-false, false, has_bit, has_bit-without, inl, inr, IsDifference, ne_eqb, refl, suc, sym, true, without, zero, ℕ, ⊎_elim, ◌<◌, ◌==◌, ◌^◌, ◌∙◌, ◌≡◌, ◌≢◌, ◌≤◌, ◌⊎◌, all_rights, false_from_ne_true, Bool, eq-eqb, only_bit, one_bit}
 use Rattle.std.proofs.lemmas.Nat.Bits.{bit_at_xor, bit_at_and, bit_at-pow_same, bit_at-pow_other, same_from_bits}
 -- sets with the same bits are equal, 0 has no bit, and a right is one of the first 21 bits
 pub use Rattle.acl_perm.proofs.Sets.{same_set as masks_same, no_bit as no_bits_of_zero, right_below as below}

@@ -1,4 +1,4 @@
--- What comes first of a list, and what is emitted of the rest.
+-- What comes first in a list, and what is emitted from the rest.
 use Rattle.acl_normal.proofs.Common.{Ace, Bool, Column, ColumnKey, HasOnceColumns, IsAlike, IsEmission, IsOnce, IsStep, Kind, List, Principal, Some, ace_key, ap, arith, column, false, first_kind, has_bit, is_either, is_free, may_overlap, principal_of, refl, subst, sym, true, without_principal, ℕ, ⊎_elim, ◌∙◌, ◌∷◌, ◌≡◌}
 use Rattle.acl_normal.proofs.unique.Names.{overlaps_back, overlaps_itself}
 use Rattle.acl_normal.proofs.unique.FirstKind.{first_kind_same}
@@ -30,7 +30,7 @@ move_front c d p k free a x y o = go (is_either x y p) refl
         (either_is x y p e) in
         found ∙ rw e refl
 
--- what comes first of a list, before what is emitted of the rest, is emitted of the list
+-- what comes first in a list, before what is emitted from the rest, is emitted from the list
 pub emission_step : (xs rest ns : List Ace) (a : Ace) → ((b : ℕ) → IsOnce (column xs b)) → IsStep xs a rest
     → IsEmission rest ns → IsEmission xs (a ∷ ns)
 emission_step xs rest ns a once step h = record {

@@ -134,7 +134,7 @@ alike_agree m c d q a =
     any [] = tt
     any (e ∷ c) = (tt, any c)
 
--- the columns agree at each two principals of which P holds that overlap, with everyone
+-- the columns agree at each two overlapping principals with P, together with everyone
 abbrev pub AgreeWhere : (Principal → Type 0) → Column → Column → Type 0
 AgreeWhere P c d = (p q : Principal) → P p → P q → may_overlap p q ≡ true
     → verdict (is_either_or_everyone p q) c ≡ verdict (is_either_or_everyone p q) d

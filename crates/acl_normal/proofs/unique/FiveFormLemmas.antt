@@ -123,7 +123,7 @@ five_tell p source other forms other_forms is taken h taken_other k = (
 
 -- ---- equal bytes
 
--- accepted lists with which equal bytes begin are equal, and so are the bytes behind them
+-- accepted lists with which equal bytes begin are equal, and so are the bytes after them
 first_of_both : (p : Profile) (list other : List Ace) (rest other_rest : List ℕ) → IsProfile p → IsAccepted p list
     → IsAccepted p other → spelling list ++ rest ≡ spelling other ++ other_rest
     → (list ≡ other) × (rest ≡ other_rest)

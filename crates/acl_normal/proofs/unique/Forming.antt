@@ -25,7 +25,7 @@ pub record IsSource (b : ℕ) (xs : List Ace) (e : ColumnKey) : Type 0 where
   pub has : has_bit item.mask b ≡ true
   pub entry : ace_key item ≡ e
 
--- columns that are the same begin with the same key, and go on the same
+-- columns that are the same begin with the same key, and have the same keys after it
 pub first_same : (e f : ColumnKey) (c d : Column) → e ∷ c ≡ f ∷ d → (e ≡ f) × (c ≡ d)
 first_same e f c d h = (cc, cc)
 

@@ -13,7 +13,7 @@ IsAhead c p k = (q : Principal) → may_overlap p q ≡ true → first_kind (is_
 pub no_conflict : (z p : Principal) (j k : Kind) → may_overlap z p ≡ true → not (conflicts (z, j) (p, k)) ≡ true → j ≡ k
 no_conflict z p j k o n = grind (arith, kind_eq_same)
 
--- a free key comes ahead behind one key in front, if it does in the rest
+-- a free key comes ahead after one key in front, if it does in the rest
 ahead_step : (c : Column) (p q z : Principal) (k j : Kind) → may_overlap p q ≡ true
     → is_free ((z, j) ∷ c) (p, k) ≡ true → (is_free c (p, k) ≡ true → first_kind (is_either p q) c ≡ Some k)
     → first_kind (is_either p q) ((z, j) ∷ c) ≡ Some k
@@ -25,7 +25,7 @@ pub ahead_from_free : (c : Column) (p : Principal) (k : Kind) → is_free c (p, 
 ahead_from_free [] p k h = cc
 ahead_from_free ((z, j) ∷ c) p k h = λ q o. ahead_step c p q z k j o h (λ free. ahead_from_free c p k free q o)
 
--- a key that comes ahead is free behind one key in front, if it is free in the rest
+-- a key that comes ahead is free after one key in front, if it is free in the rest
 free_step : (c : Column) (p z : Principal) (k j : Kind) → first_kind (is_either p p) ((z, j) ∷ c) ≡ Some k
     → (may_overlap z p ≡ true → first_kind (is_either p z) ((z, j) ∷ c) ≡ Some k)
     → (principal_eq z p ≡ false → is_free c (p, k) ≡ true) → is_free ((z, j) ∷ c) (p, k) ≡ true
@@ -49,7 +49,7 @@ same_free c d k oc od a =
     (λ h. free_from_ahead d k.0 k.1 od (λ q o. sym (a k.0 q o) ∙ ahead_from_free c k.0 k.1 h q o))
     (λ h. free_from_ahead c k.0 k.1 oc (λ q o. a k.0 q o ∙ ahead_from_free d k.0 k.1 h q o))
 
--- a test that the first key fails goes on behind it
+-- a test that the first key fails continues after this key
 pub skip_head : (m : Principal → Bool) (p : Principal) (k : Kind) (c : Column) → m p ≡ false
     → first_kind m ((p, k) ∷ c) ≡ first_kind m c
 skip_head m p k c h = rw h refl

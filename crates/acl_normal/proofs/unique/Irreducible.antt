@@ -9,7 +9,7 @@ without_key : (m : Principal → Bool) (l r : Column) (p : Principal) (k : Kind)
 without_key m [] r p k h = grind arith
 without_key m ((q, j) ∷ l) r p k h = grind (arith, without_key m l r p k)
 
--- wherever the key would decide, what comes after it decides alike
+-- in each situation in which the key would decide, the keys after it decide the same
 abbrev pub IsNeedless : Column → Principal → Kind → Column → Type 0
 IsNeedless l p k r =
     (s : Situation) → IsSituation s → first_kind (matches s) l ≡ None → matches s p ≡ true → verdict (matches s) r ≡ k
@@ -25,7 +25,7 @@ none_right : (m : Principal → Bool) (l r : Column) → first_kind m (l ++ r) �
 none_right m [] r h = h
 none_right m ((p, k) ∷ l) r h = grind (arith, none_right m l r)
 
--- a key is not needed after one that matches wherever it does
+-- a key is not needed after a key that matches in all the same situations
 shadowed : (c l r t : Column) (p q : Principal) (k j : Kind) → IsIrreducible c → c ≡ l ++ (p, k) ∷ (r ++ (q, j) ∷ t)
     → ((s : Situation) → matches s q ≡ true → matches s p ≡ true) → ⊥
 shadowed c l r t p q k j irr is over =

@@ -13,7 +13,7 @@ abbrev pub are_bytes : List ℕ → Bool
 are_bytes [] = true
 are_bytes (b ∷ a) = nat_lt b 256 && are_bytes a
 
--- the test for bytes of which there are some decides what is a name
+-- the test for bytes, at least one, decides what is a name
 Decides-is_name : (a : List ℕ) → Decides (nat_lt 0 (length a) && are_bytes a) (IsName a)
 Decides-is_name a =
     Decides-and (nat_lt 0 (length a)) (are_bytes a) (Decides-ltb 0 (length a))

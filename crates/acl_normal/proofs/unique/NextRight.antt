@@ -58,7 +58,7 @@ no_right_left m n None fits some = λ i from below. ap (λ v. has_bit m v) (spli
         clash : IsSome {T = Bit} None → ⊥
         clash h = cc
 
--- what goes on past each bit that a mask lacks goes on to its next right
+-- what continues past each bit that a mask lacks continues up to the next right of the mask
 pub past_absent : (P : ℕ → Type 0) (m n b : ℕ) → ((i : ℕ) → P i → has_bit m i ≡ false → P (i + 1)) → n ≤ b
     → LacksFrom m n b → P n → P b
 past_absent P m n b step from lacks start = subst P (omega (arith, from)) (go (b - n) (omega (arith, from)))

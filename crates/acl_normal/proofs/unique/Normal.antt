@@ -68,7 +68,7 @@ irreducible_list xs full masks quiet irr = record {
       ∙ ap (verdict (matches s)) less);
 }
 
--- what is emitted of the reduced columns of a list is its normal form
+-- what is emitted from the reduced columns of a list is its normal form
 pub emitted_is_normal : (xs rest ns : List Ace) → ((b : ℕ) → column rest b ≡ reduced (column xs b)) → HasNames rest
     → IsEmission rest ns → HasMasks ns → IsNormal ns × SameGrants all_rights xs ns
 emitted_is_normal xs rest ns columns names emitted masks = (
@@ -90,7 +90,7 @@ emitted_is_normal xs rest ns columns names emitted masks = (
         (settled_alike (column rest b) (column ns b) (default (unshadowed [] (column xs b))) (emitted.alike b)
         (rw (columns b) (reduced_settled (column xs b))))
 
--- what is emitted of an irreducible list with the grants of another is the normal form of both
+-- what is emitted from an irreducible list with the grants of another is the normal form of both
 pub emission_of_irreducible : (xs rest ns : List Ace) → IsIrreducibleList rest → SameGrants all_rights xs rest
     → IsEmission rest ns → HasMasks ns → IsNormal ns × SameGrants all_rights xs ns
 emission_of_irreducible xs rest ns irr same emitted masks = (

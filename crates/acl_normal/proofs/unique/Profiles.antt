@@ -21,7 +21,7 @@ pub denied_outside : (p : Profile) (list : List Ace) (s : Situation) (bit : ℕ)
     → has_bit p.masks bit ≡ false → grants_bit list s bit ≡ false
 denied_outside p list s bit h out = ap (λ c. is_allow (verdict (matches s) c)) (column_outside p list bit h out)
 
--- lists that fit a profile grant the same rights of it if and only if they grant the same rights
+-- lists that fit a profile grant the same rights of the profile if and only if they grant the same rights
 pub same_within : (p : Profile) (list other : List Ace) → IsProfile p → Fits p list → Fits p other
     → SameGrants p.masks list other ↔ SameGrants all_rights list other
 same_within p list other is fits fits_other = (

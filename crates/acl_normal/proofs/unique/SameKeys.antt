@@ -7,7 +7,7 @@ use Rattle.acl_normal.proofs.unique.Irreducible.{allows_everyone, clean, either_
 use Rattle.acl_normal.proofs.unique.Shorter.{names_without, without_key, without_other}
 use Rattle.acl_normal.proofs.Each.{cond_holds}
 
--- a test that passes no key up to a principal finds what is behind it
+-- a test that passes no key up to a principal finds what is after it
 pub skip_to : (n : Principal → Bool) (l r : Column) (x : Principal) (k : Kind) → first_kind n l ≡ None → n x ≡ false
     → first_kind n (l ++ (x, k) ∷ r) ≡ first_kind n r
 skip_to n l r x k none skip = append_none n l ((x, k) ∷ r) none ∙ rw skip refl

@@ -8,7 +8,7 @@ pub without_no_longer : (p : Principal) (c : Column) → length (without_princip
 without_no_longer p [] = omega arith
 without_no_longer p ((s, i) ∷ c) = grind (arith, without_no_longer p c)
 
--- a column has fewer keys without a principal of which it has one
+-- if a column has a key of a principal, it has fewer keys without this principal
 pub without_shorter : (p : Principal) (c : Column) (k : Kind) → first_kind (is_either p p) c ≡ Some k
     → length (without_principal p c) < length c
 without_shorter p [] k h = cc
@@ -41,7 +41,7 @@ once_before ((q, j) ∷ l) p k r h =
       principal_eq_itself,
     )
 
--- behind the key of a principal, a column without repetition lacks it
+-- after the key of a principal, a column without repetition lacks it
 pub once_after : (l : Column) (p : Principal) (k : Kind) (r : Column) → IsOnce (l ++ (p, k) ∷ r)
     → first_kind (is_either p p) r ≡ None
 once_after [] p k r h = h.0
@@ -52,7 +52,7 @@ pub without_absent : (p : Principal) (c : Column) → first_kind (is_either p p)
 without_absent p [] h = refl
 without_absent p ((q, j) ∷ c) h = grind (arith, without_absent p c)
 
--- a column with one key of a principal is without it what is before the key and what is behind it
+-- a column with one key of a principal is without it what is before the key and what is after it
 without_split : (l : Column) (p : Principal) (k : Kind) (r : Column) → first_kind (is_either p p) l ≡ None
     → first_kind (is_either p p) r ≡ None → without_principal p (l ++ (p, k) ∷ r) ≡ l ++ r
 without_split [] p k r h i = grind (arith, principal_eq_itself, without_absent p r i)

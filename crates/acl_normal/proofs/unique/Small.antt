@@ -6,7 +6,7 @@ use Rattle.acl_normal.proofs.unique.Realised.{AreShort, one_user, small_matches,
 use Rattle.acl_normal.proofs.comparison.Ordered.{principal_greater}
 use Rattle.acl_normal.proofs.unique.Columns.{HasOnly}
 
--- none, one, or two overlapping principals, the lesser first, of which P holds, everyone excepted
+-- none, one, or two overlapping principals with P, the lesser first, and none of them everyone
 pub data IsSmallSet (P : Principal → Type 0) : List Principal → Type 0 where
   none : IsSmallSet P []
   one : (p : Principal) → P p → principal_eq p everyone ≡ false → IsSmallSet P (p ∷ [])

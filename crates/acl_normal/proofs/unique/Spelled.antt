@@ -1,8 +1,10 @@
 -- Normal forms have equal spellings if and only if their sources grant the same.
-use Rattle.std.proofs.Common.{◌≡◌, List, [], refl}
+use Rattle.std.proofs.Common.{◌≡◌, ℕ, List, [], refl}
 use Rattle.acl_normal.proofs.Common.{Ace, ap, append-nil, equivalence, Fits, IsAccepted, IsEquivalence, IsNormalFormOf, IsProfile, Profile, SameGrants, spelling, subst, sym, ◌↔◌, ◌∙◌}
+use Rattle.acl_nfs4.specs.Spelling.{Xdr}
 use Rattle.acl_nfs4.proofs.Exports.{accepted_where_it_fits, one}
 pub use Rattle.acl_normal.specs.Laws.{IsForm}
+use Rattle.acl_normal.specs.NormalForm.{Normalizes}
 use Rattle.acl_normal.proofs.unique.Unique.{unique}
 use Rattle.acl_normal.proofs.unique.Profiles.{same_within}
 
@@ -41,3 +43,10 @@ form_of p source result is taken h =
       normal = h.normal;
       grants = (same_within p source result is fits (h.fits p fits)).1 h.grants;
     }
+
+-- the list that was written is a form of the list that was read
+pub form_is : (p : Profile) (list : List Ace) (x a : List ℕ) → IsProfile p → Xdr p list x → (h : Normalizes p x a)
+    → IsForm p list h.form
+form_is p list x a is read h =
+    let same = one p h.source list x x [] [] is h.read read refl in
+    subst (λ source. IsForm p source h.form) same.0 (form_of p h.source h.form is h.read.accepted h.is_form)

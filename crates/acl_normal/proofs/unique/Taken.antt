@@ -15,7 +15,7 @@ use Rattle.acl_normal.proofs.unique.IrreducibleLists.{alike_columns, irreducible
 
 -- ---- the reduction adds no key
 
--- a key of a column is a key of it behind one more
+-- a key of a column is also a key of the column with one more key in front
 behind : (f e : ColumnKey) (c : Column) → Has c e → Has (f ∷ c) e
 behind f e c h = record { before = f ∷ h.before; after = h.after; is = ap (λ v. f ∷ v) h.is }
 

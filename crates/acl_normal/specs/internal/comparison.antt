@@ -18,5 +18,5 @@ pub mod RightsApart
 pub mod SamePlaces
 -- the search for the first small set of principals at which two lists differ
 pub mod SetSearch
--- two lists that are compared, and what is asked about them
+-- two lists that are compared, and questions about them
 pub mod TwoLists

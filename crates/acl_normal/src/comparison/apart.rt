@@ -4,7 +4,7 @@ ghost use Rattle.acl_normal.specs.Common.{ace, aces_in, AreWhoms, length, List, 
 ghost use Rattle.acl_normal.specs.internal.comparison.RightsApart.{AreApart, HasOpenBits, say_the_same};
 
 use super::evaluation::rights_of;
-use super::standing::Whom;
+use super::placing::Whom;
 use acl_nfs4::AceRef;
 use acl_perm::{Kind, Mask};
 
@@ -55,13 +55,11 @@ pub(crate) fn rights_apart(
         .union(rights_of(&other[there..]))
 }
 
-// Whether two ACEs allow the same rights to the same principal, or deny them.
+// Returns whether two ACEs allow the same rights to the same principal, or deny them.
 fn say_the_same(own: Statement, theirs: Statement) -> bool
     ensures { result ≡ say_the_same own theirs }
 {
-    own.rights.bits() == theirs.rights.bits()
-        && own.kind.is_allow() == theirs.kind.is_allow()
-        && own.whom.is_same(theirs.whom)
+    own.rights == theirs.rights && own.kind == theirs.kind && own.whom.is_same(theirs.whom)
 }
 
 // What an ACE says about all rights except those that are apart.

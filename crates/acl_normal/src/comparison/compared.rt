@@ -2,14 +2,14 @@
 //! mention, which of these each ACE names, and on which rights the lists may differ.
 ghost use Rattle.std.specs.Prelude.{◌<◌, ◌^◌, ◌≡◌};
 ghost use Rattle.acl_normal.specs.Common.{AreAlikeTo, AreMentioned, AreNumbered, IfOk, IsGrantedTo, OnFalse, OnTrue, [], aces_in, all_mentioned, all_rights, false, has_bit, length, members_of, principal, set_of, true, two_lists};
-ghost use Rattle.acl_normal.specs.internal.comparison.TwoLists.{AreWithin, HaveSameColumn, StandAs, principal_at};
+ghost use Rattle.acl_normal.specs.internal.comparison.TwoLists.{AreWithin, HaveSameColumn, ArePlacingsOf, principal_at};
 
 use super::apart::rights_apart;
 use super::evaluation::{granted_to, unlike};
 use super::members::Members;
 use super::mentioned::Mentions;
+use super::placing::{Placing, Whom, firsts};
 use super::small_set::SmallSet;
-use super::standing::{Standing, Whom, firsts};
 use crate::class::Class;
 use acl_nfs4::AceRef;
 use acl_perm::internal::Bit;
@@ -65,7 +65,7 @@ impl<'a, 'b> Compared<'a, 'b> {
         }
     }
 
-    /// Returns the principals with these numbers.
+    /// Returns the set of the principals with these numbers.
     pub(crate) fn set(&self, members: Members) -> SmallSet<'a>
         requires { AreNumbered (all_mentioned self.now) members }
         ensures { set_of result ≡ members_of (all_mentioned self.now) members }
@@ -77,7 +77,7 @@ impl<'a, 'b> Compared<'a, 'b> {
         }
     }
 
-    /// Returns how many principals the lists mention.
+    /// Returns how many principals the lists mention. Their numbers are below this.
     pub(crate) fn count(&self) -> usize
         ensures { result ≡ length (all_mentioned self.now) }
     {
@@ -142,20 +142,20 @@ impl<'a, 'b> Compared<'a, 'b> {
     }
 
     /// Returns, for each mentioned principal, the first ACE with the right that concerns it in each list.
-    pub(crate) fn standings(&self, alloc: Global, right: Bit) -> Result<Vec<Standing>, AllocError>
-        ensures { IfOk result (λ v. StandAs self.now right.bit v.items) }
+    pub(crate) fn placings(&self, alloc: Global, right: Bit) -> Result<Vec<Placing>, AllocError>
+        ensures { IfOk result (λ v. ArePlacingsOf self.now right.bit v.items) }
     {
         let mentioned = self.mentioned;
         let here = firsts(alloc, mentioned, self.first, self.first_whoms, right)?;
         let there = firsts(alloc, mentioned, self.second, self.second_whoms, right)?;
-        let mut standings = Vec::new(alloc);
+        let mut placings = Vec::new(alloc);
         for (i, p) in mentioned.iter().enumerate() {
-            standings.push(Standing {
+            placings.push(Placing {
                 here: here[i],
                 there: there[i],
                 class: Class::of(*p),
             })?;
         }
-        Ok(standings)
+        Ok(placings)
     }
 }

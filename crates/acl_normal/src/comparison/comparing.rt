@@ -54,13 +54,9 @@ pub fn compare_views(
     first: &AclView<'_>,
     second: &AclView<'_>,
 ) -> Result<Option<Difference>, AllocError>
-    // None if and only if both lists grant the same.
     ensures same { IfOk result (λ r. IsNone r ↔ SameGrants all_rights first.now second.now) }
-    // Otherwise the first small situation in which they do not, the lowest right on which they differ there, and what
-    // the first list grants.
     ensures first { IfOk result (λ r. IfSome r (λ d. IsFirstDifference first.now second.now
         (situation_of d) d.bit.bits d.first_grants)) }
-    // Its names are names of an object and a requester, to whom one list grants that right and the other does not.
     ensures requester { IfOk result (λ r. IfSome r (λ d. TellsApart first.now second.now
         (situation_of d) d.bit.bits d.first_grants)) }
 {

@@ -1,24 +1,15 @@
 //! The rights that a list grants if only the principals of a small set match, and everyone.
 ghost use Rattle.std.specs.Prelude.{◌&&◌, ◌^◌, ◌≡◌, ◌≢◌};
-ghost use Rattle.acl_normal.specs.Common.{ace, aces_in, AreNumbered, AreWhoms, GrantAlikeTo, has_bit, is_matched, IsGrantedTo, IsLowest, length, List, members_of, OnFalse, OnTrue, Principal, set_of, ℕ};
+ghost use Rattle.acl_normal.specs.Common.{ace, aces_in, AreNumbered, AreWhoms, has_bit, is_matched, IsGrantedTo, IsLowest, length, List, members_of, not, Principal, set_of, ℕ};
 ghost use Rattle.std.specs.Int.{trailing_zeros, w32};
+ghost use Rattle.acl_perm.specs.Kind.{is_allow};
 ghost use Rattle.acl_normal.specs.internal.comparison.SetSearch.{AreRightsOf, HasBitsOf, differ};
 
 use super::members::Members;
+use super::placing::Whom;
 use super::small_set::SmallSet;
-use super::standing::Whom;
 use acl_nfs4::AceRef;
 use acl_perm::{Kind, Mask};
-
-/// Returns whether two lists grant the same if only the principals of a set match, and everyone.
-pub(crate) fn grant_alike(list: &[AceRef<'_>], other: &[AceRef<'_>], set: SmallSet<'_>) -> bool
-    ensures alike { OnTrue result
-        (GrantAlikeTo (aces_in list.now) (aces_in other.now) (set_of set.entry)) }
-    ensures differ { OnFalse result
-        (GrantAlikeTo (aces_in list.now) (aces_in other.now) (set_of set.entry) → ⊥) }
-{
-    unlike(granted(list, set), granted(other, set)).bits() == 0
-}
 
 /// Returns the rights that exactly one of the masks has.
 pub(crate) fn unlike(here: Mask, there: Mask) -> Mask
@@ -36,10 +27,7 @@ pub(crate) fn granted(list: &[AceRef<'_>], set: SmallSet<'_>) -> Mask
     let mut granted = Mask::NONE;
     for item in list {
         let rights = own_rights(item, set);
-        match item.kind {
-            Kind::Allow => granted = granted.union(rights.difference(decided)),
-            Kind::Deny => {}
-        }
+        granted = granted.union(granted_anew(item.kind, rights, decided));
         decided = decided.union(rights);
     }
     granted
@@ -57,13 +45,21 @@ pub(crate) fn granted_to(list: &[AceRef<'_>], whoms: &[Whom], set: Members) -> M
     let mut granted = Mask::NONE;
     for (place, item) in list.iter().enumerate() {
         let rights = rights_matched(item, whoms[place], set);
-        match item.kind {
-            Kind::Allow => granted = granted.union(rights.difference(decided)),
-            Kind::Deny => {}
-        }
+        granted = granted.union(granted_anew(item.kind, rights, decided));
         decided = decided.union(rights);
     }
     granted
+}
+
+// The rights that an ACE with these rights grants: none if it denies, and otherwise those that no earlier ACE decided.
+fn granted_anew(kind: Kind, rights: Mask, decided: Mask) -> Mask
+    ensures { (bit : ℕ) → has_bit result.bits bit
+        ≡ (is_allow kind && (has_bit rights.bits bit && not (has_bit decided.bits bit))) }
+{
+    match kind {
+        Kind::Allow => rights.difference(decided),
+        Kind::Deny => Mask::NONE,
+    }
 }
 
 // The mask of an ACE that names a principal of the set or everyone, and otherwise no rights.
@@ -89,7 +85,7 @@ fn own_rights(item: &AceRef<'_>, set: SmallSet<'_>) -> Mask
     }
 }
 
-/// Returns the lowest of some rights.
+/// Returns the right with the lowest bit, as a mask. There must be at least one right.
 pub(crate) fn lowest(rights: Mask) -> Mask
     requires { rights.bits ≢ 0 }
     ensures value { result.bits ≡ 2 ^ trailing_zeros w32 rights.bits }

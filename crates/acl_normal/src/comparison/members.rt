@@ -3,7 +3,7 @@ ghost use Rattle.std.specs.Prelude.{◌≡◌};
 ghost use Rattle.acl_normal.specs.Common.{is_matched};
 ghost use Rattle.acl_normal.specs.internal.comparison.Members.{has_number};
 
-use super::standing::Whom;
+use super::placing::Whom;
 
 /// The numbers of none, one or two of the mentioned principals. Of two, the lesser is first.
 #[derive(Clone, Copy)]

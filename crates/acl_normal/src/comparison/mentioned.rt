@@ -6,8 +6,8 @@ ghost use Rattle.acl_normal.specs.SmallSituations.{longest};
 ghost use Rattle.acl_normal.specs.internal.comparison.MentionedRows.{AreByRow, AreMentionedNumbers, AreMentionedRows, AreMentionsOf, mentioned_by, noted, whom_of, with_found};
 ghost use Rattle.acl_normal.specs.internal.comparison.SamePlaces.{with_copies};
 
+use super::placing::Whom;
 use super::same_places::same_places;
-use super::standing::Whom;
 use crate::rows::numbers::row_numbers;
 use acl_nfs4::AceRef;
 use acl_perm::Principal;
@@ -133,7 +133,6 @@ fn numbers_of<'a>(alloc: Global, table: &[Option<Principal<'a>>]) -> Result<Numb
     Ok(Numbers { whole, by_row })
 }
 
-// Adds a principal, if there is one.
 fn add<'a>(whole: &mut Vec<Principal<'a>>, found: Option<Principal<'a>>) -> Result<(), AllocError>
     ensures { OnOk result (whole.new.items ≡ with_found whole.old.items found.entry) }
 {

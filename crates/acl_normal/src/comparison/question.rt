@@ -25,7 +25,7 @@ impl<'a> RequesterNames<'a> {
 }
 
 impl Difference {
-    /// Returns the right on which the lists differ.
+    /// Returns the right of the difference as the number of its bit.
     pub fn right(&self) -> Right
         ensures { self.now.bit.bits ≡ 2 ^ result.bit }
     {

@@ -50,7 +50,7 @@ fn place_near(list: &[AceRef<'_>], item: &AceRef<'_>, expected: usize) -> Option
     None
 }
 
-// Whether there is an ACE at the place, and it names the same principal.
+// Returns whether there is an ACE at the place, and it names the same principal.
 fn is_at(list: &[AceRef<'_>], item: &AceRef<'_>, place: usize) -> bool
     ensures { result ≡ true → HasSameWho list.now item.now place }
 {
@@ -60,7 +60,7 @@ fn is_at(list: &[AceRef<'_>], item: &AceRef<'_>, place: usize) -> bool
     }
 }
 
-// Whether two ACEs have the same flags and the same who, and so name the same principal.
+// Returns whether two ACEs have the same flags and the same who, and so name the same principal.
 fn names_same(item: &AceRef<'_>, other: &AceRef<'_>) -> bool
     ensures { result ≡ true → HaveOneWho item.now other.now }
 {

@@ -43,8 +43,8 @@ impl Compared<'_, '_> {
         for bit in 0..Bit::COUNT {
             let right = Bit { bit };
             if self.may_differ(right) {
-                let standings = self.standings(alloc, right)?;
-                least = first_unlike(&standings, least);
+                let placings = self.placings(alloc, right)?;
+                least = first_unlike(&placings, least);
             }
         }
         Ok(least)
@@ -62,8 +62,8 @@ impl Compared<'_, '_> {
         for bit in 0..Bit::COUNT {
             let right = Bit { bit };
             if self.may_differ(right) {
-                let standings = self.standings(alloc, right)?;
-                least = first_inverting(alloc, &standings, size, least)?;
+                let placings = self.placings(alloc, right)?;
+                least = first_inverting(alloc, &placings, size, least)?;
             }
         }
         Ok(least)
@@ -81,9 +81,9 @@ impl Compared<'_, '_> {
         for bit in 0..Bit::COUNT {
             let right = Bit { bit };
             if self.may_differ(right) {
-                let standings = self.standings(alloc, right)?;
-                let (_, others) = standings.as_slice().split_at(at + 1);
-                least = first_inverted(standings[at], others, least);
+                let placings = self.placings(alloc, right)?;
+                let (_, others) = placings.as_slice().split_at(at + 1);
+                least = first_inverted(placings[at], others, least);
             }
         }
         Ok(least)

@@ -7,7 +7,7 @@ use super::small_set::SmallSet;
 use acl_perm::Principal;
 use std::alloc::{AllocError, Global};
 
-/// Returns the object's owner in the small situation of a set.
+/// Returns the object's owner in the small situation of a set. A name that no list mentions has `n` bytes.
 pub(crate) fn owner_in(alloc: Global, set: SmallSet<'_>, n: usize) -> Result<Vec<u8>, AllocError>
     ensures { IfOk result (λ v. v.items ≡ (small_situation n (set_of set.entry)).owner_name) }
 {
@@ -18,7 +18,7 @@ pub(crate) fn owner_in(alloc: Global, set: SmallSet<'_>, n: usize) -> Result<Vec
     }
 }
 
-/// Returns the user in the small situation of a set.
+/// Returns the user in the small situation of a set. A name that no list mentions has `n` bytes.
 pub(crate) fn user_in(alloc: Global, set: SmallSet<'_>, n: usize) -> Result<Vec<u8>, AllocError>
     ensures { IfOk result (λ v. v.items ≡ (small_situation n (set_of set.entry)).user_name) }
 {
@@ -28,7 +28,7 @@ pub(crate) fn user_in(alloc: Global, set: SmallSet<'_>, n: usize) -> Result<Vec<
     }
 }
 
-/// Returns the object's owning group in the small situation of a set.
+/// Returns the object's owning group in the small situation of a set. A name that no list mentions has `n` bytes.
 pub(crate) fn owning_group_in(
     alloc: Global,
     set: SmallSet<'_>,
@@ -45,7 +45,7 @@ pub(crate) fn owning_group_in(
     strange(alloc, b'g', n)
 }
 
-/// Returns the groups of the user in the small situation of a set.
+/// Returns the groups of the user in the small situation of a set. A name that no list mentions has `n` bytes.
 pub(crate) fn groups_in(
     alloc: Global,
     set: SmallSet<'_>,
@@ -61,7 +61,7 @@ pub(crate) fn groups_in(
     Ok(groups)
 }
 
-// The names of the groups in the set that have a name.
+// Returns the names of the groups in the set, except the owning group, which has no name there.
 fn groups_of(alloc: Global, set: SmallSet<'_>) -> Result<Vec<Vec<u8>>, AllocError>
     ensures { IfOk result (λ v. map (λ g. g.items) v.items ≡ group_names (set_of set.entry)) }
 {

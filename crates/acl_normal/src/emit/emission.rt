@@ -3,8 +3,8 @@
 ghost use Rattle.std.specs.Prelude.{◌*◌, ◌+◌, ◌<◌, ◌^◌, ◌≡◌};
 ghost use Rattle.acl_normal.specs.Common.{Ace, AreQueues, IfNone, IfOk, IfSome, IsEmission, IsIrreducibleList, IsNormal, List, OnOk, SameGrants, AreInRows, all_rights, bit_count, count_left, emitted_aces, has_bit, is_user, is_users, key_here, kind_here, left, length, nothing_left, plain_key, principal, replicate, slice_index_or, true, ℕ};
 ghost use Rattle.acl_perm.specs.Order.{kind_rank};
-ghost use Rattle.acl_normal.specs.internal.emit.Queues.{BeginsWaiting};
-ghost use Rattle.acl_normal.specs.internal.emit.Ready.{AddsMark, Enters, FitsKeys, Frees, HoldsFree, TakesBits, marks};
+ghost use Rattle.acl_normal.specs.internal.emit.Queues.{BeginsWaiting, IsQueueAt};
+ghost use Rattle.acl_normal.specs.internal.emit.Ready.{AddsMark, ChangesMarks, Enters, FitsKeys, Frees, HoldsFree, TakesBits, marks};
 
 use crate::bits::next_right;
 use crate::class::Class;
@@ -125,10 +125,8 @@ fn free_after<'a>(
 ) -> Result<(), AllocError>
     requires queues { AreQueues rows.now queues.now }
     requires keys { FitsKeys (nothing_left rows.now) ready.old }
-    ensures keys { OnOk result (FitsKeys (nothing_left rows.now) ready.new) }
-    ensures marks { OnOk result (Frees (plain_key at.entry) mask.bits rows.now
-        (marks (nothing_left rows.now) ready.old)
-        (marks (nothing_left rows.now) ready.new)) }
+    ensures { OnOk result (ChangesMarks rows.now (Frees (plain_key at.entry) mask.bits rows.now)
+        ready.old ready.new) }
 {
     let opposite = at.kind.other();
     let mut from = 0;
@@ -154,36 +152,37 @@ fn enter(
 ) -> Result<(), AllocError>
     requires queues { AreQueues rows.now queues.now }
     requires keys { FitsKeys (nothing_left rows.now) ready.old }
-    ensures keys { OnOk result (FitsKeys (nothing_left rows.now) ready.new) }
-    ensures marks { OnOk result (Enters kind (is_users class) right.bit rows.now
-        (marks (nothing_left rows.now) ready.old)
-        (marks (nothing_left rows.now) ready.new)) }
+    ensures { OnOk result (ChangesMarks rows.now (Enters kind (is_users class) right.bit rows.now)
+        ready.old ready.new) }
 {
     // Mostly no ACE waits, and then nothing that may block it has to be looked up.
-    if queues.head(kind, class, right) == 0 {
+    let first = queues.head(kind, class, right);
+    if first == 0 {
         return Ok(());
     }
-    walk(rows, queues, kind, class, right, ready)
+    walk(rows, queues, first, kind, class, right, ready)
 }
 
-/// Marks what is free in a queue: all places before the first place that a conflicting ACE blocks.
+/// Marks what is free in the queue that begins with a link: all places before the first place that a conflicting ACE
+/// blocks.
 fn walk(
     rows: &Remaining<'_>,
     queues: &Queues,
+    first: usize,
     kind: Kind,
     class: Class,
     right: Bit,
     ready: &mut Ready,
 ) -> Result<(), AllocError>
+    requires first { IsQueueAt kind (is_users class) right.bit rows.now
+        queues.now.links.items first }
     requires queues { AreQueues rows.now queues.now }
     requires keys { FitsKeys (nothing_left rows.now) ready.old }
-    ensures keys { OnOk result (FitsKeys (nothing_left rows.now) ready.new) }
-    ensures marks { OnOk result (Enters kind (is_users class) right.bit rows.now
-        (marks (nothing_left rows.now) ready.old)
-        (marks (nothing_left rows.now) ready.new)) }
+    ensures { OnOk result (ChangesMarks rows.now (Enters kind (is_users class) right.bit rows.now)
+        ready.old ready.new) }
 {
     let last = queues.last_clear(rows, kind, class, right);
-    let mut at = queues.head(kind, class, right);
+    let mut at = first;
     while at != 0 {
         let link = queues.links[at];
         if link.place > last {
@@ -208,10 +207,8 @@ fn add(
     requires place { place < length rows.now }
     requires kind { kind_here rows.now place ≡ kind }
     requires keys { FitsKeys (nothing_left rows.now) ready.old }
-    ensures keys { OnOk result (FitsKeys (nothing_left rows.now) ready.new) }
-    ensures marks { OnOk result (AddsMark (key_here rows.now place) right.bit
-        (marks (nothing_left rows.now) ready.old)
-        (marks (nothing_left rows.now) ready.new)) }
+    ensures { OnOk result (ChangesMarks rows.now (AddsMark (key_here rows.now place) right.bit)
+        ready.old ready.new) }
 {
     let number = key_number(rows.row_at(place), kind);
     ready.add(number, right)

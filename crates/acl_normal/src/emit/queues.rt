@@ -30,7 +30,7 @@ pub(crate) struct Queues {
 }
 
 impl Queues {
-    /// Makes the queues of all that waits.
+    /// Makes the queues of all places that wait. Fails if memory runs out.
     pub(crate) fn of(alloc: Global, rows: &Remaining<'_>) -> Result<Queues, AllocError>
         ensures { IfOk result (λ queues. AreQueues rows.now queues) }
     {

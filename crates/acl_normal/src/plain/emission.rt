@@ -140,7 +140,7 @@ fn lesser<'a>(best: Option<AceRef<'a>>, next: AceRef<'a>) -> AceRef<'a>
     }
 }
 
-// Whether the key of the first ACE is not greater.
+// Returns whether the key of the first ACE is not greater.
 fn is_first(first: &AceRef<'_>, second: &AceRef<'_>) -> bool
     ensures { result ≡ is_le (compare_keys (ace_key (ace first.now)) (ace_key (ace second.now))) }
 {

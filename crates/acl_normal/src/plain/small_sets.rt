@@ -1,6 +1,6 @@
 //! The comparison that tries all small sets. It is slow, and tests compare the fast comparison with it.
 ghost use Rattle.std.specs.Prelude.{◌∷◌, ◌≡◌};
-ghost use Rattle.acl_normal.specs.Common.{[], aces_in, GrantAlikeTo, IfOk, OnFalse, OnTrue, principal, principals, set_or_none, true};
+ghost use Rattle.acl_normal.specs.Common.{[], aces_in, GrantAlikeTo, IfOk, OnFalse, OnTrue, principal, principals, set_of, set_or_none, true};
 ghost use Rattle.acl_perm.specs.Overlap.{may_overlap};
 ghost use Rattle.acl_normal.specs.Difference.{IsComparison};
 ghost use Rattle.acl_normal.specs.SmallSets.{principal_pairs, partners, singles, small_sets};
@@ -8,13 +8,20 @@ ghost use Rattle.acl_normal.specs.internal.comparison.SetSearch.{FindsSet};
 
 use crate::comparison::Difference;
 use crate::comparison::compared::Compared;
-use crate::comparison::evaluation::grant_alike;
+use crate::comparison::evaluation::{granted, unlike};
 use crate::comparison::mentioned::mentioned;
 use crate::comparison::small_set::SmallSet;
 use crate::reduce::collected::collect;
-use acl_nfs4::{AceRef, Acl, AclView};
+use acl_nfs4::{AceRef, Acl};
 use acl_perm::{Principal, overlaps};
 use std::alloc::{AllocError, Global};
+
+/// The two lists of a comparison, in one value that each step of the search is given.
+#[derive(Clone, Copy)]
+struct Lists<'l, 'a> {
+    first: &'l [AceRef<'a>],
+    second: &'l [AceRef<'a>],
+}
 
 /// Returns the same as [`crate::compare`], but tries all small situations. Its time grows with the third power of the
 /// number of principals. Fails if memory runs out.
@@ -22,56 +29,52 @@ pub fn compare(alloc: Global, first: &Acl, second: &Acl) -> Result<Option<Differ
     // The same result: `None` if and only if both lists grant the same, and otherwise the first difference.
     ensures { IfOk result (IsComparison first.now second.now) }
 {
-    first_difference(alloc, &first.view(), &second.view())
+    first_difference(alloc, first, second)
 }
 
 // The first difference of two lists. They are borrowed for the same lifetime, because one value holds both.
 fn first_difference<'a>(
     alloc: Global,
-    first: &AclView<'a>,
-    second: &AclView<'a>,
+    first: &'a Acl,
+    second: &'a Acl,
 ) -> Result<Option<Difference>, AllocError>
     ensures { IfOk result (IsComparison first.now second.now) }
 {
-    let list = collect(alloc, first)?;
-    let other = collect(alloc, second)?;
-    let mentions = mentioned(alloc, &list, &other)?;
-    let found = first_set(&list, &other, &mentions.principals);
-    Compared::of(&list, &other, &mentions).difference(alloc, found)
+    let first = collect(alloc, &first.view())?;
+    let second = collect(alloc, &second.view())?;
+    let mentions = mentioned(alloc, &first, &second)?;
+    let lists = Lists {
+        first: &first,
+        second: &second,
+    };
+    let found = first_set(lists, &mentions.principals);
+    Compared::of(&first, &second, &mentions).difference(alloc, found)
 }
 
 // The first small set at which the lists differ.
 #[tactic(auto, using(crate::proofs::comparison::SetSearchLemmas::empty_differs))]
-fn first_set<'a>(
-    list: &[AceRef<'_>],
-    other: &[AceRef<'_>],
-    whole: &[Principal<'a>],
-) -> Option<SmallSet<'a>>
-    ensures { FindsSet (aces_in list.now) (aces_in other.now) (small_sets (principals whole.now))
-        (set_or_none result) }
+fn first_set<'a>(lists: Lists<'_, '_>, whole: &[Principal<'a>]) -> Option<SmallSet<'a>>
+    ensures { FindsSet (aces_in lists.entry.first.now) (aces_in lists.entry.second.now)
+        (small_sets (principals whole.now)) (set_or_none result) }
 {
-    if !grant_alike(list, other, SmallSet::Empty) {
+    if !lists.are_alike(SmallSet::Empty) {
         return Some(SmallSet::Empty);
     }
-    if let Some(set) = first_single(list, other, whole) {
+    if let Some(set) = first_single(lists, whole) {
         return Some(set);
     }
-    first_pair(list, other, whole)
+    first_pair(lists, whole)
 }
 
 // The first principal at which alone the lists differ.
 #[tactic(auto, using(crate::proofs::comparison::SetSearchLemmas::single_ends))]
-fn first_single<'a>(
-    list: &[AceRef<'_>],
-    other: &[AceRef<'_>],
-    whole: &[Principal<'a>],
-) -> Option<SmallSet<'a>>
-    ensures { FindsSet (aces_in list.now) (aces_in other.now) (singles (principals whole.now))
-        (set_or_none result) }
+fn first_single<'a>(lists: Lists<'_, '_>, whole: &[Principal<'a>]) -> Option<SmallSet<'a>>
+    ensures { FindsSet (aces_in lists.entry.first.now) (aces_in lists.entry.second.now)
+        (singles (principals whole.now)) (set_or_none result) }
 {
     for p in whole {
         let set = SmallSet::One(*p);
-        if !grant_alike(list, other, set) {
+        if !lists.are_alike(set) {
             return Some(set);
         }
     }
@@ -80,17 +83,13 @@ fn first_single<'a>(
 
 // The first pair at which the lists differ.
 #[tactic(auto, using(crate::proofs::comparison::SetSearchLemmas::pair_ends))]
-fn first_pair<'a>(
-    list: &[AceRef<'_>],
-    other: &[AceRef<'_>],
-    whole: &[Principal<'a>],
-) -> Option<SmallSet<'a>>
-    ensures { FindsSet (aces_in list.now) (aces_in other.now)
+fn first_pair<'a>(lists: Lists<'_, '_>, whole: &[Principal<'a>]) -> Option<SmallSet<'a>>
+    ensures { FindsSet (aces_in lists.entry.first.now) (aces_in lists.entry.second.now)
         (principal_pairs (principals whole.now)) (set_or_none result) }
 {
     for (i, p) in whole.iter().enumerate() {
         let (_, rest) = whole.split_at(i + 1);
-        if let Some(set) = first_partner(list, other, *p, rest) {
+        if let Some(set) = first_partner(lists, *p, rest) {
             return Some(set);
         }
     }
@@ -100,35 +99,43 @@ fn first_pair<'a>(
 // The first pair of the principal and one of the rest at which the lists differ.
 #[tactic(auto, using(crate::proofs::comparison::SetSearchLemmas::partner_ends))]
 fn first_partner<'a>(
-    list: &[AceRef<'_>],
-    other: &[AceRef<'_>],
+    lists: Lists<'_, '_>,
     p: Principal<'a>,
     rest: &[Principal<'a>],
 ) -> Option<SmallSet<'a>>
-    ensures { FindsSet (aces_in list.now) (aces_in other.now)
+    ensures { FindsSet (aces_in lists.entry.first.now) (aces_in lists.entry.second.now)
         (partners (principal p.entry) (principals rest.now)) (set_or_none result) }
 {
     for q in rest {
-        if pair_differs(list, other, p, *q) {
+        if lists.differ_at_pair(p, *q) {
             return Some(SmallSet::Two(p, *q));
         }
     }
     None
 }
 
-// Whether the principals may overlap, and the lists differ at the two.
-fn pair_differs(
-    list: &[AceRef<'_>],
-    other: &[AceRef<'_>],
-    p: Principal<'_>,
-    q: Principal<'_>,
-) -> bool
-    ensures overlap { OnTrue result (may_overlap (principal p.entry) (principal q.entry) ≡ true) }
-    ensures differ { OnTrue result (GrantAlikeTo (aces_in list.now) (aces_in other.now)
-        (principal p.entry ∷ principal q.entry ∷ []) → ⊥) }
-    ensures agree { OnFalse result (may_overlap (principal p.entry) (principal q.entry) ≡ true
-        → GrantAlikeTo (aces_in list.now) (aces_in other.now)
-        (principal p.entry ∷ principal q.entry ∷ [])) }
-{
-    overlaps(p, q) && !grant_alike(list, other, SmallSet::Two(p, q))
+impl Lists<'_, '_> {
+    // Returns whether the principals may overlap, and the lists differ at the two.
+    fn differ_at_pair(self, p: Principal<'_>, q: Principal<'_>) -> bool
+        ensures overlap { OnTrue result
+            (may_overlap (principal p.entry) (principal q.entry) ≡ true) }
+        ensures differ { OnTrue result
+            (GrantAlikeTo (aces_in self.entry.first.now) (aces_in self.entry.second.now)
+            (principal p.entry ∷ principal q.entry ∷ []) → ⊥) }
+        ensures agree { OnFalse result (may_overlap (principal p.entry) (principal q.entry) ≡ true
+            → GrantAlikeTo (aces_in self.entry.first.now) (aces_in self.entry.second.now)
+            (principal p.entry ∷ principal q.entry ∷ [])) }
+    {
+        overlaps(p, q) && !self.are_alike(SmallSet::Two(p, q))
+    }
+
+    // Returns whether the lists grant the same if only the principals of the set match, and everyone.
+    fn are_alike(self, set: SmallSet<'_>) -> bool
+        ensures alike { OnTrue result (GrantAlikeTo (aces_in self.entry.first.now)
+            (aces_in self.entry.second.now) (set_of set.entry)) }
+        ensures differ { OnFalse result (GrantAlikeTo (aces_in self.entry.first.now)
+            (aces_in self.entry.second.now) (set_of set.entry) → ⊥) }
+    {
+        unlike(granted(self.first, set), granted(self.second, set)).bits() == 0
+    }
 }

@@ -26,7 +26,7 @@ impl ByClass {
         others: Mask::NONE,
     };
 
-    /// Adds rights to one class.
+    /// Returns these rights, with the rights of a mask added to one class.
     fn with(self, class: Class, mask: Mask) -> ByClass
         ensures { (users : Bool) (b : ℕ) → has_bit (class_mask result users) b
             ≡ (has_bit (class_mask self users) b

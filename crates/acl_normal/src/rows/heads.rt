@@ -54,7 +54,7 @@ pub(crate) fn head(p: Principal<'_>, common: usize) -> u64
     packed(p.rank(), behind(p.name(), common))
 }
 
-/// Returns whether a head has the whole name.
+/// Returns whether a head has the whole name, so that equal heads need no look at the names.
 pub(crate) fn is_whole(head: u64) -> bool
     ensures { result ≡ is_whole head }
 {

@@ -1,4 +1,5 @@
-//! The rows of the principals of a list. A row is a number, and the numbers are in the order of the principals.
+//! The rows of the principals of a list. Here a row is the number of a principal in the order of the principals, and
+//! not a line of the table of a right.
 ghost use Rattle.std.specs.Prelude.{◌&&◌, ◌≡◌, ◌==◌};
 ghost use Rattle.acl_normal.specs.Common.{aces_in, AreRowNumbers, false, IfNone, IfOk, IfSome, is_principal_of, IsRowOf, map, nat_cmp, principal, principal_here};
 ghost use Rattle.std.specs.List.{range_with_len};
@@ -150,7 +151,7 @@ fn rows_of(
     Ok(rows)
 }
 
-// Whether the ACEs at two places name one principal.
+// Returns whether the ACEs at two places name one principal.
 fn is_same(aces: &[AceRef<'_>], at: HeadedPlace, other: HeadedPlace) -> bool
     ensures { result ≡ ((at.head == other.head)
         && bytes_eq (tail_here (aces_in aces.now) at) (tail_here (aces_in aces.now) other)) }

@@ -113,7 +113,7 @@ impl<'a> Remaining<'a> {
         None
     }
 
-    /// Returns whether the ACE at a place still has a right.
+    /// Returns whether the ACE at a place has a right that was not emitted yet.
     pub(crate) fn has(&self, place: usize, right: Bit) -> bool
         requires { place < length self.now }
         ensures { result ≡ has_bit (mask_here self.now place) right.bit }

@@ -65,7 +65,7 @@ fn put(
     Ok(())
 }
 
-/// Returns the number of the set of a kind, a class and a right.
+/// Returns the slot of a kind, a class and a right: the number of their set.
 pub(crate) fn slot(kind: Kind, class: Class, right: Bit) -> usize
     ensures { result ≡ slot_of kind (is_users class) right.bit }
 {

@@ -1,4 +1,5 @@
-//! The bytes that spell normal forms.
+//! The bytes that spell normal forms. The bytes are written by hand (RFC 8881, section 6.2.1, and RFC 4506, sections
+//! 4.10 and 4.13).
 
 use super::harness::{ALLOW, AceRow, EVERYONE, NO_WRITE_FORM, built};
 use crate::{normal_bytes, normal_bytes_with};
@@ -28,7 +29,7 @@ fn fault(offset: u64, reason: Reason) -> Spelled {
     Err(Fault { offset, reason })
 }
 
-// Whether these bytes spell the list of these rows.
+// Returns whether these bytes spell the list of these rows.
 fn is_spelled(alloc: Global, bytes: &[u8], rows: &[AceRow]) -> bool {
     let Ok(view) = AclView::parse_whole(bytes) else {
         return false;

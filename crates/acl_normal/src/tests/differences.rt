@@ -1,4 +1,5 @@
-//! Differences of worked pairs of lists.
+//! Differences of worked pairs of lists. The small situations and their order are those of docs/lists.md, and what the
+//! lists grant there follows from the first match (RFC 8881, section 6.2.1). `grants` shows each difference too.
 
 use super::harness::{
     ALLOW, AceRow, DENY, EXECUTE, GROUP, INHERIT_ONLY, READ_DATA, WRITE_DATA, built, kept, passes,
@@ -201,8 +202,8 @@ fn is_expected(answer: &Option<Difference>, expected: Option<Expected>) -> bool 
     }
 }
 
-/// Whether the first list grants the right to the requester of the difference just as the difference says, and the
-/// second list does the opposite.
+/// Returns whether the first list grants the requester the right exactly as the difference says, and the second list
+/// does the opposite.
 pub fn is_shown_by_grants(first: &Acl, second: &Acl, d: &Difference) -> bool {
     let names = d.requester_names();
     let (object, requester) = (d.object(), names.requester());
@@ -211,7 +212,7 @@ pub fn is_shown_by_grants(first: &Acl, second: &Acl, d: &Difference) -> bool {
     one == d.first_grants && other != d.first_grants && Mask::from(d.right()) == d.bit
 }
 
-// Whether the search finds this difference, and `grants` shows it.
+// Returns whether the search finds this difference, and `grants` shows it.
 fn is_found(
     alloc: Global,
     first: &Acl,
@@ -226,7 +227,7 @@ fn is_found(
     Ok(is_shown && is_expected(&found, expected))
 }
 
-// Whether the plain search finds this difference.
+// Returns whether the plain search finds this difference.
 fn is_found_plainly(
     alloc: Global,
     first: &Acl,

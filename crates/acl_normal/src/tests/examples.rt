@@ -10,9 +10,7 @@ mod ample {
     use super::*;
 
     #[test]
-    fn the_normal_form_of_two_aces_with_a_needed_deny_has_three_aces(
-        rt: HostRuntime,
-    ) -> Result<(), Fail> {
+    fn a_needed_deny_is_in_the_normal_form_and_in_the_table(rt: HostRuntime) -> Result<(), Fail> {
         let alloc = rt.alloc();
         let list = parse_text(
             alloc,
@@ -21,23 +19,30 @@ mod ample {
         let form = normalize(alloc, &list)?;
         assert!(rt; form.len() == 3);
         assert!(rt; is_normal(alloc, &form)?);
+        let rows = table(alloc, &list, Mask::WRITE_DATA)?;
+        assert!(rt; rows.len() == 2);
+        assert!(rt;
+            rows.first()
+                .is_some_and(|row| row.kind == Kind::Deny && row.source == 0)
+        );
         Ok(())
     }
 
     #[test]
-    fn the_normal_bytes_of_a_repeated_ace_spell_one_ace(rt: HostRuntime) -> Result<(), Fail> {
+    fn a_repeated_ace_is_written_once_and_has_one_row(rt: HostRuntime) -> Result<(), Fail> {
         let alloc = rt.alloc();
         let list = parse_text(alloc, b"ALLOW - READ_DATA amy\nALLOW - READ_DATA amy\n")?;
         let bytes = list.to_bytes(alloc)?;
         let form = normal_bytes(alloc, &bytes)?;
         assert!(rt; AclView::parse_whole(&form)?.len() == 1);
+        let rows = borrowed_rows(alloc, &AclView::parse_whole(&bytes)?, Mask::READ_DATA)?;
+        assert!(rt; rows.len() == 1);
+        assert!(rt; rows.first().is_some_and(|row| row.who == b"amy".as_slice()));
         Ok(())
     }
 
     #[test]
-    fn a_deny_of_bob_at_the_front_decides_the_difference_of_two_lists(
-        rt: HostRuntime,
-    ) -> Result<(), Fail> {
+    fn a_deny_of_bob_decides_the_difference_of_two_lists(rt: HostRuntime) -> Result<(), Fail> {
         let alloc = rt.alloc();
         let first = parse_text(alloc, b"ALLOW - READ_DATA EVERYONE@")?;
         let second = parse_text(
@@ -49,35 +54,6 @@ mod ample {
         let (object, requester) = (difference.object(), names.requester());
         let decision = deciding_ace(second.aces(), &object, &requester, difference.right());
         assert!(rt; decision.is_some_and(|decision| decision.place == 0));
-        Ok(())
-    }
-
-    #[test]
-    fn the_table_of_write_data_begins_with_the_deny_of_the_first_ace(
-        rt: HostRuntime,
-    ) -> Result<(), Fail> {
-        let alloc = rt.alloc();
-        let list = parse_text(
-            alloc,
-            b"DENY - WRITE_DATA bob\nALLOW - READ_DATA|WRITE_DATA OWNER@\n",
-        )?;
-        let rows = table(alloc, &list, Mask::WRITE_DATA)?;
-        assert!(rt; rows.len() == 2);
-        assert!(rt;
-            rows.first()
-                .is_some_and(|row| row.kind == Kind::Deny && row.source == 0)
-        );
-        Ok(())
-    }
-
-    #[test]
-    fn the_table_of_a_repeated_ace_has_one_borrowed_row(rt: HostRuntime) -> Result<(), Fail> {
-        let alloc = rt.alloc();
-        let list = parse_text(alloc, b"ALLOW - READ_DATA amy\nALLOW - READ_DATA amy\n")?;
-        let bytes = list.to_bytes(alloc)?;
-        let rows = borrowed_rows(alloc, &AclView::parse_whole(&bytes)?, Mask::READ_DATA)?;
-        assert!(rt; rows.len() == 1);
-        assert!(rt; rows.first().is_some_and(|row| row.who == b"amy".as_slice()));
         Ok(())
     }
 

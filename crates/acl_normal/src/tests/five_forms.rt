@@ -1,4 +1,5 @@
-//! The five forms of lists of one ACE, by its flags (the rules of creation in docs/lists.md).
+//! The five forms of lists of one ACE, by its flags (the rules of creation in docs/lists.md, over RFC 8881, section
+//! 6.2.1.4.1).
 
 use super::harness::{ALLOW, READ_DATA, built, kept, passes};
 use crate::*;
@@ -29,7 +30,7 @@ fn forms_of(alloc: Global, flags: u32) -> Result<FiveForms, PushFault> {
     kept(normalize_inherit(alloc, &list))
 }
 
-// Whether the form lets alice read, or is empty if she may not.
+// Returns whether the form lets alice read, or is empty if she may not.
 fn is_form(form: &Acl, reads: bool, alice: &Acl) -> bool {
     if reads {
         form == alice

@@ -1,4 +1,4 @@
-//! Normal forms of worked lists.
+//! Normal forms of worked lists, worked by hand from docs/lists.md ("The normal form", over RFC 8881, section 6.2.1).
 
 use super::harness::{
     ALLOW, AMY, AceRow, DENY, EVERYONE, EXECUTE, FOR_FILES, GROUP, NO_STAFF, NO_WRITE,
@@ -92,7 +92,8 @@ fn has_form(alloc: Global, list: &Acl, wanted: &Acl) -> Result<bool, AllocError>
     Ok(form == *wanted)
 }
 
-// Whether the list has this normal form, the normal form is its own, and the list is normal only if it is its own form.
+// Returns whether the list has this normal form, the normal form is its own, and the list is normal only if it is its
+// own form.
 fn is_normalized(alloc: Global, list: &Acl, wanted: &Acl) -> Result<bool, AllocError> {
     let is_form = has_form(alloc, list, wanted)?;
     let is_own_form = has_form(alloc, wanted, wanted)?;
@@ -142,7 +143,7 @@ mod ample {
         Ok(())
     }
 
-    // Whether a list of this many equal ACEs is not normal, and its bytes normalize to one such ACE.
+    // Returns whether a list of this many equal ACEs is not normal, and its bytes normalize to one such ACE.
     fn is_reduced_to_one(alloc: Global, times: usize) -> Result<bool, PushFault> {
         let wanted = built(alloc, &[ALICE])?;
         let list = repeated(alloc, &wanted, times)?;

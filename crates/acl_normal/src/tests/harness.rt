@@ -59,7 +59,7 @@ pub const STAFF: [AceRow; 3] = [
 /// An ACE for new files, and one for the object.
 pub const FOR_FILES: [AceRow; 2] = [(ALLOW, FILE_INHERIT | INHERIT_ONLY, READ_DATA, b"amy"), AMY];
 
-/// The ACE, or `None` if the flags or the mask are not valid.
+/// Returns the ACE, or `None` if the flags or the mask are not valid.
 pub fn ace_of(kind: Kind, flags: u32, mask: u32, who: &[u8]) -> Option<AceRef<'_>> {
     let (Some(flags), Some(mask)) = (Flags::new(flags), Mask::new(mask)) else {
         return None;
@@ -92,7 +92,7 @@ pub fn kept<T>(answer: Result<T, AllocError>) -> Result<T, PushFault> {
     }
 }
 
-/// Whether a table of tests holds, or memory ran out.
+/// Returns whether a table of tests holds. It also does if memory runs out.
 pub fn passes(answer: Result<(), PushFault>) -> bool {
     matches!(answer, Ok(()) | Err(PushFault::Memory))
 }
@@ -104,7 +104,7 @@ pub struct Dice {
 }
 
 impl Dice {
-    /// A number below a bound.
+    /// Returns the next number, below a bound.
     pub fn below(&mut self, bound: u32) -> u32 {
         self.state = self
             .state

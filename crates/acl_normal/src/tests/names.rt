@@ -1,4 +1,5 @@
-//! The order of names that begin with the same bytes.
+//! The order of names that begin with the same bytes. It is the order of byte strings in Rust: byte by byte, and the
+//! beginning of a name before the name.
 
 use super::harness::{ALLOW, GROUP, READ_DATA, ace_of, kept, passes};
 use crate::normalize;

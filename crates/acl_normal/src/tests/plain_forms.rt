@@ -1,4 +1,5 @@
-//! The normal forms of the plain function, compared with those of worked lists and of `normalize`.
+//! Checks that the plain function finds the normal forms of the worked lists, and that it and `normalize` find the same
+//! normal form.
 
 use super::forms::forms;
 use super::harness::{
@@ -77,9 +78,7 @@ mod ample {
 
     // 2,400 lists of up to four ACEs.
     #[test]
-    fn normalize_and_the_plain_function_find_the_same_normal_form(
-        rt: HostRuntime,
-    ) -> Result<(), PushFault> {
+    fn normalize_finds_the_form_of_the_plain_function(rt: HostRuntime) -> Result<(), PushFault> {
         let mut dice = Dice { state: 1 };
         for round in 0..2400usize {
             let count = round % 4 + 1;

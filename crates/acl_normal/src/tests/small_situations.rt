@@ -1,4 +1,4 @@
-//! The comparison, compared with the plain search, which tries all small situations.
+//! Checks that the comparison finds the same as the plain search, which tries all small situations.
 
 use super::differences::is_shown_by_grants;
 use super::harness::{
@@ -58,7 +58,7 @@ fn other_rows(alloc: Global, dice: &mut Dice, rows: &[AceRow]) -> Result<Vec<Ace
     }
 }
 
-// Whether two mentioned principals match the requester of the difference. A name that begins with `u` or `g` is
+// Returns whether two mentioned principals match the requester of the difference. A name that begins with `u` or `g` is
 // strange, because no name of these lists begins so.
 fn is_of_two(d: &Difference) -> bool {
     let is_named = !d.user.starts_with(b"u");
@@ -88,7 +88,7 @@ fn same_difference(d: &Option<Difference>, e: &Option<Difference>) -> bool {
     }
 }
 
-// Whether the plain search finds the same.
+// Returns whether the plain search finds the same.
 fn is_same_plainly(
     alloc: Global,
     first: &Acl,

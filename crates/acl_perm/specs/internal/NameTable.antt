@@ -3,10 +3,10 @@ use Rattle.std.specs.Prelude.{List, map, option_map}
 use Rattle.acl_perm.specs.Names.{BitName}
 use Rattle.acl_perm.specs.declared.bit_names.BitName.{BitName as Row}
 
--- the row of the specification that a row of the code stands for
+-- the row of the specification for a row of the code
 abbrev pub bit_name_of : Row → BitName
 bit_name_of r = record { bit = r.bit; name = r.name.now; second = option_map (λ s. s.now) r.second }
 
--- the table of the specification that a table of the code stands for
+-- the table of the specification for a table of the code
 abbrev pub bit_names_of : List Row → List BitName
 bit_names_of rows = map bit_name_of rows

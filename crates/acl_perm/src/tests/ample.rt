@@ -1,4 +1,4 @@
-//! The answers with enough memory.
+//! Whole reads and whole writes with ample memory: they succeed, or they end at the call that fails.
 
 use super::harness::Slip;
 use super::whole::{read_ended, write_ended};

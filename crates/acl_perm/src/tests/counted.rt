@@ -1,4 +1,5 @@
-//! Sources and sinks over devices: what they pass on, and which calls they count.
+//! Sources and sinks over devices: they give and take the same bytes as the device, make each call once, and count the
+//! calls that fail.
 ghost use Rattle.std.specs.Prelude.{◌≤◌, IfSome, length};
 
 use super::harness::{FailsOnce, Slip};

@@ -1,4 +1,5 @@
-//! Devices that stop after some calls.
+//! Devices that stop after some calls. Rust's documentation of `Read::read_exact` and `Write::write_all` says what the
+//! calls for a whole buffer then answer.
 
 use crate::*;
 use std::io::{Read, Write};

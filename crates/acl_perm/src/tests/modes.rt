@@ -1,4 +1,5 @@
-//! The digits of a mode, and how permissions and modes are shown.
+//! The digits of a mode, which are the octal digits of chmod(1), and how permissions and modes are shown: as the
+//! letters of acl(5), "LONG TEXT FORM", and as these digits.
 
 use crate::*;
 

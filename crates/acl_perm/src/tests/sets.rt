@@ -1,4 +1,5 @@
-//! The numbers of rights and flags, by the tables of RFC 8881, and the operations on sets.
+//! The numbers of rights and flags, by the tables of RFC 8881, sections 6.2.1.3.1 and 6.2.1.4.1, and the operations on
+//! sets, by hand.
 
 use crate::bit_names::BitName;
 use crate::right_names::RIGHTS;
@@ -130,17 +131,14 @@ fn kinds_and_rights_are_shown_by_name(rt: HostRuntime) {
     }
 }
 
-// Each set, and the set of the others.
+// All permissions together are 7, so the numbers of a set and of the others add up to 7.
 #[test]
 fn the_complement_of_a_set_stays_within_all(rt: HostRuntime) {
-    for (perm, lacks) in [
-        (Perm::NONE, 7),
-        (Perm::READ, 3),
-        (Perm::WRITE, 5),
-        (Perm::EXECUTE, 6),
-        (Perm::ALL, 0),
-    ] {
-        assert_eq!(rt; (!perm).bits(), lacks);
+    for number in 0..8u8 {
+        assert_eq!(rt;
+            Perm::new(number).map(|perm| (!perm).bits()),
+            Some(7 - number)
+        );
     }
     assert_eq!(rt;
         (!Mode::from_parts(!Perm::EXECUTE, Perm::READ, Perm::NONE)).bits(),

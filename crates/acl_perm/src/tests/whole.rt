@@ -1,4 +1,4 @@
-//! Whole reads and whole writes with devices that fail.
+//! Whole reads and whole writes with devices that fail: they end at the first failure, and report it.
 
 use super::harness::{FailsOnce, Slip};
 use crate::*;

@@ -38,7 +38,7 @@ some_digit (b ∷ bs) h = omega arith
 pub digits_all : (bs : List ℕ) → is_number bs ≡ true → list_all is_ascii_digit bs ≡ true
 digits_all bs h = (and_true _ _ h).1
 
--- the value of digits with one more behind them: ten times their value, and that digit
+-- the value of digits with one more after them: ten times their value, and that digit
 pub digit_more : (bs : List ℕ) (i : ℕ) → i < length bs → is_ascii_digit (get_or bs i 0) ≡ true
     → digits_value 10 (take (i + 1) bs) ≡ digits_value 10 (take i bs) * 10 + (get_or bs i 0 - 48)
 digit_more bs i lt h = digits_value_more 10 bs i lt

@@ -23,7 +23,7 @@ unpacked_packed e h =
     let perm_is : packed e % 8 ≡ e.1 = omega (arith, h.1) in
     rw (rank_is, qualifier_is, perm_is, tag_again e.0) refl
 
--- the numbers of a list of entries stand for entries
+-- the numbers of a list of entries mean entries
 pub all_packed : (ps : List (Tag × ℕ)) → All IsEntry ps → All IsPacked (map packed ps)
 all_packed ps h = All-map IsPacked packed ps (λ k d lt.
     let again = unpacked_packed _ (h k d lt) in
@@ -36,7 +36,7 @@ all_unpacked ps h =
 
 -- ---- numbers rise as tags do
 
--- a number that stands for an entry, without the permissions, is the number of the tag of the entry
+-- a number that means an entry, without the permissions, is the number of the tag of the entry
 number_of : (key : ℕ) → IsPacked key → key / 8 ≡ number (unpacked key).0
 number_of key h = ap (λ n. n / 8) (sym h.again) ∙ packed_tag (unpacked key) h.entry
 

@@ -50,11 +50,11 @@ named_spelled : (names : Table) (fields : EntryFields) (w : TagWord) (ids : Ids)
     → word_of (trimmed fields.tag.bytes) ≡ Some w → qualifier_names names w ≡ Some ids
     → 0 < length (trimmed fields.qualifier.bytes) → id_in ids (trimmed fields.qualifier.bytes) ≡ Some id
     → HasTag names fields (tag_with w id)
-named_spelled names fields User ids id is has some found = (is, some, cc)
-named_spelled names fields Group ids id is has some found = (is, some, cc)
+named_spelled names fields User ids id is has some found = record { is_word = is; filled = some; is_id = cc }
+named_spelled names fields Group ids id is has some found = record { is_word = is; filled = some; is_id = cc }
 named_spelled names fields w ids id is has some found = absurd cc
 
--- a piece with a qualifier behind a tag word that may have one spells an entry or has a fault
+-- a piece with a qualifier after a tag word that may have one spells an entry or has a fault
 named_judged : (names : Table) (piece : TextPiece) (fields : EntryFields) (ids : Ids)
     → MayName names piece.span fields ids → 0 < length (trimmed fields.qualifier.bytes) → Judged names piece
 named_judged names piece fields ids named some =
@@ -126,8 +126,8 @@ piece_judged names piece =
 tag_read : (names : Table) (line : ℕ) (fields : EntryFields) (tag : Tag) → HasTag names fields tag
     → read_both names line fields ≡ Ok tag
 unfolding read_word read_tag
-tag_read names line fields (user id) h = rw (h.0, h.2, not_empty _ h.1) refl
-tag_read names line fields (group id) h = rw (h.0, h.2, not_empty _ h.1) refl
+tag_read names line fields (user id) h = rw (h.is_word, h.is_id, not_empty _ h.filled) refl
+tag_read names line fields (group id) h = rw (h.is_word, h.is_id, not_empty _ h.filled) refl
 tag_read names line fields tag h = rw (h.0, h.1) refl
 
 -- the entry that a piece spells is read
@@ -175,7 +175,7 @@ cut_rest separator s (first, None) rest h e = absurd cc
 cut_rest separator s (first, Some x) rest h e = let same : x ≡ rest = cc in
     subst (λ (y : Piece). IsCutRest separator s (span_of first) (span_of y)) same h
 
--- three spans with more spans behind them are not three fields
+-- three spans with more spans after them are not three fields
 four : (part : Part) (a b c : Span) (column : ℕ) (more : List (List ℕ)) → 0 < length more
     → three_of part (a ∷ b ∷ c ∷ spans column more) ≡ None
 four part a b c column [] h = absurd (omega (arith, h))

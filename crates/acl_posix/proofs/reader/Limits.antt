@@ -39,8 +39,8 @@ qualifier_within ids bytes id h e = let named = h bytes in grind (arith, id_with
 -- the id of a tag that a word and a qualifier spell is within the limit, if the ids of the table are
 tag_within : (names : Table) (word qualifier : List ℕ) (tag : Tag) → IsNameTable names
     → SpellsTag names word qualifier tag → IsTag tag
-tag_within names word qualifier (user id) h s = qualifier_within names.users qualifier id h.users s.2
-tag_within names word qualifier (group id) h s = qualifier_within names.groups qualifier id h.groups s.2
+tag_within names word qualifier (user id) h s = qualifier_within names.users qualifier id h.users s.is_id
+tag_within names word qualifier (group id) h s = qualifier_within names.groups qualifier id h.groups s.is_id
 tag_within names word qualifier tag h s = tt
 
 -- ---- entries

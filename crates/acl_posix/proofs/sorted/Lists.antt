@@ -1,14 +1,11 @@
 -- The list of a set, in canonical order: the place of a tag, the permissions there, and edits of one entry.
 use Rattle.acl_posix.proofs.Common.{[], All, All-map, AllByRecursion, ap, arith, as_set, below_all, Bool, both_hold, cases_lt, code_cmp, codes_total, cond, Entries, Entry, eq_by_cmp, eq_by_cmp_equiv, Err, false, filter, find-where_key, get_or, get_or-map, get_or_default, Greater, inl, inr, insert, is_eq, is_lt, is_sorted-where_key, IsBinarySearchResult, IsEntry, IsGap, IsSearchInRange, IsSome, IsSorted, IsSortedBy, IsStrictlySortedBy, IsTag, IsTagAt, length, Less, Less-from_sorted, List, list_any, list_any_at, map-set, MatchResult, None, not, Ok, Option, Ordering, pair_of, pairs, refl, Result, searchable_from_sorted, set, Some, sorted_tail, subst, suc, sym, T, Tag, tag_cmp, tag_of, TagOfCode, tags, tags_total, tied_itself, true, where_key, zero, ℕ, ◌&&◌, ◌+◌, ◌<◌, ◌↔◌, ◌∙◌, ◌∷◌, ◌≡◌}
 use Rattle.acl_posix.proofs.tag.Tags.{exact_tags, length-tags, length-tags_of, list_any-map, pairs-insert, tag_read}
+use Rattle.acl_perm.proofs.Orders.{passes_less}
 use Rattle.std.specs.FinMap as fin
 use Rattle.acl_posix.specs.declared.tag.Tag.TheVariants as code
 
 -- ---- the set of entries in order has these entries, in this order
-
--- an order that the test for less accepts is less
-is_less : (o : Ordering) → T (is_lt o) → o ≡ Less
-is_less o h = grind arith
 
 -- if each of two tests holds, both hold together
 both : (a b : Bool) → T a → T b → T (a && b)
@@ -20,7 +17,7 @@ below_is : (l : Tag) (ps : List (Tag × ℕ))
 below_is l [] = (λ h. tt, λ h. tt)
 below_is l (p ∷ ps) = (
   λ h. let parts = both_hold (is_lt (tag_cmp l p.0)) (below_all tag_cmp l ps) h in
-      (is_less (tag_cmp l p.0) parts.0, (below_is l ps).0 parts.1),
+      (passes_less (tag_cmp l p.0) parts.0, (below_is l ps).0 parts.1),
   λ h. rw h.0 ((below_is l ps).1 h.1),
 )
 

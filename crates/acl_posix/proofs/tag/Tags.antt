@@ -65,7 +65,7 @@ rank_below tag = omega arith
 abbrev pub number : Tag → ℕ
 number tag = rank tag * 4294967296 + qualifier tag
 
--- numbers of two parts, of which the second is below 2^32, compare by the first part, then by the second
+-- numbers of two parts, the second below 2^32, compare by the first part, then by the second
 by_parts : (a b x y : ℕ) → x < 4294967296 → y < 4294967296
     → nat_cmp (a * 4294967296 + x) (b * 4294967296 + y) ≡ ordering_then (nat_cmp a b) (nat_cmp x y)
 by_parts a b x y p q = grind arith

@@ -24,7 +24,7 @@ digits_short : (number : Option ℕ) → IfSome number IsId → length (unwrap_o
 digits_short None h = omega arith
 digits_short (Some id) h = length-decimal-le 20 id (omega arith) (omega (arith, h)) (omega (arith, h))
 
--- the bytes behind an entry are at most 16
+-- the bytes after an entry are at most 16
 ending_short : (form : Form) (eff perm : ℕ) → length (ending form eff perm) ≤ 16
 ending_short form eff perm = grind arith
 

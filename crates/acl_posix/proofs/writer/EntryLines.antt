@@ -1,5 +1,6 @@
 -- Lines with one entry each spell these entries.
-use Rattle.acl_posix.proofs.Common.{[], All, All-append, All-push, AllByRecursion, ap, append-nil, append_assoc, arith, before_mark, Bool, cut_at, eqb, false, flat_map, inl, inr, is_all_blank, IsEntry, length, line, line_pieces, lines_of, List, list_all, map, not, numbered, PartEntry, pieces_from, pieces_of, position_or_len, recursion_from_All, refl, slice_split_at, slice_split_none, Span, SpellAll, Spells, subst, sym, Table, take, take-append_seam, true, ℕ, ◌++◌, ◌+◌, ◌==◌, ◌∙◌, ◌∷◌, ◌≡◌, ◌⊎◌}
+use Rattle.acl_posix.proofs.Common.{[], All, All-append, All-push, AllByRecursion, ap, append-nil, append_assoc, arith, before_mark, cut_at, eqb, false, flat_map, inl, inr, is_all_blank, IsEntry, length, line, line_pieces, lines_of, List, list_all, map, numbered, PartEntry, pieces_from, pieces_of, position_or_len, recursion_from_All, refl, slice_split_at, slice_split_none, Span, SpellAll, Spells, subst, sym, Table, take, take-append_seam, true, ℕ, ◌++◌, ◌+◌, ◌∙◌, ◌∷◌, ◌≡◌, ◌⊎◌}
+use Rattle.acl_perm.proofs.Cuts.{not_feed}
 use Rattle.acl_posix.proofs.writer.WrittenEntries.{absent, is_text, IsWritten, Text}
 use Rattle.acl_posix.proofs.writer.TextFiles.{Within}
 
@@ -11,13 +12,13 @@ record IsLineOf (names : Table) (bytes : List ℕ) (entry : PartEntry) : Type 0 
   one : line_pieces bytes ≡ record { column = 1; bytes = piece } ∷ []
   spells : Spells names (record { column = 1; bytes = piece }) entry
 
--- the first comment mark, if there is one, is behind the bytes that are no mark
+-- the first comment mark, if there is one, is after the bytes that are no mark
 marked_at : (xs rest : List ℕ) → AllByRecursion (λ b. eqb b 35 ≡ false) xs → position_or_len (λ b. eqb b 35) rest ≡ 0
     → position_or_len (λ b. eqb b 35) (xs ++ rest) ≡ length xs
 marked_at [] rest h e = e
 marked_at (x ∷ xs) rest h e = rw h.0 (omega (arith, marked_at xs rest h.1 e))
 
--- bytes that are no comment mark, with nothing or a comment behind them, are what is before the comment
+-- bytes that are no comment mark, with nothing or a comment after them, are what is before the comment
 uncommented : (xs rest : List ℕ) → All (λ b. eqb b 35 ≡ false) xs → position_or_len (λ b. eqb b 35) rest ≡ 0
     → before_mark 35 (xs ++ rest) ≡ xs
 uncommented xs rest h e =
@@ -41,16 +42,12 @@ text_piece bytes text some =
     one_piece bytes bytes (no_comment bytes (absent is_text 35 bytes refl text))
     (absent is_text 44 bytes refl text) some
 
--- the test that a byte is no line feed
-abbrev pub not_feed : ℕ → Bool
-not_feed b = not (b == 10)
-
--- what may be behind an entry: nothing, or a tab and a comment
+-- what may be after an entry: nothing, or a tab and a comment
 pub record IsBehind (bytes : List ℕ) : Type 0 where
   pub no_feed : list_all not_feed bytes ≡ true
   pub form : (bytes ≡ []) ⊎ ((rest : List ℕ) × (bytes ≡ 9 ∷ 35 ∷ rest))
 
--- an entry as it is written, with what may be behind it, is a line of that entry
+-- an entry as it is written, with what may be after it, is a line of that entry
 line_of : (names : Table) (text : PartEntry → List ℕ) (e : PartEntry) (behind : List ℕ) → IsWritten text → IsEntry e.1
     → IsBehind behind → IsLineOf names (text e ++ behind) e
 line_of names text e behind is h b = elim b.form [
@@ -100,7 +97,7 @@ lines_spell names f n (e ∷ es) lines h =
     subst (λ (ss : List Span). SpellAll names (numbered n ss ++ pieces_from (n + 1) (map f es ++ [] ∷ [])) (e ∷ es))
     (sym first.one) (first.spells, lines_spell names f (n + 1) es lines h.1)
 
--- the lines of entries, each with what is behind it, spell the entries
+-- the lines of entries, each with what is after it, spell the entries
 pub text_spells : (names : Table) (text behind : PartEntry → List ℕ) (es : List PartEntry) → IsWritten text
     → ((e : PartEntry) → IsBehind (behind e)) → Within es
     → SpellAll names (pieces_of (flat_map (λ e. line (text e ++ behind e)) es)) es

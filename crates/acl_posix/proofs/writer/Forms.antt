@@ -1,5 +1,5 @@
 -- The texts that the code puts together are those of the definitions.
-use Rattle.acl_posix.proofs.Common.{[], Access, ap, append-nil, append_assoc, Canonical, canonical_text, codes, Default, effective_mark, effective_of, Entries, entry_lead, entry_out, false, flat_map, flat_map-append, flat_map-map, Form, form_text, line, List, long_default, long_entry, map, missing, None, Option, Part, part_out, refl, Short, short_default, short_entry, short_text, Shown, shown_text, Some, sym, Tag, text_out, true, with_commas, ℕ, ◌++◌, ◌∙◌, ◌∷◌, ◌≡◌}
+use Rattle.acl_posix.proofs.Common.{[], Access, ap, append-nil, append_assoc, Canonical, canonical_text, codes, Default, effective_mark, effective_of, Entries, entry_lead, entry_out, false, flat_map, flat_map-append, flat_map-map, Form, form_text, join_with_byte, line, List, long_default, long_entry, map, missing, None, Option, Part, part_out, refl, Short, short_default, short_entry, short_text, Shown, shown_text, Some, sym, Tag, text_out, true, ℕ, ◌++◌, ◌∙◌, ◌∷◌, ◌≡◌}
 use Rattle.std.specs.FinMap as fin
 use Rattle.acl_posix.proofs.writer.TextFiles.{has_owner}
 
@@ -44,7 +44,7 @@ lines_are form acl (e ∷ es) same = rw same (part_is form Access acl (e ∷ es)
 -- ---- the short text
 
 -- parts with commas between them are the first part, and a comma before each part after it
-commas_led : (x : List ℕ) (xs : List (List ℕ)) → with_commas (x ∷ xs) ≡ x ++ flat_map (λ part. 44 ∷ part) xs
+commas_led : (x : List ℕ) (xs : List (List ℕ)) → join_with_byte 44 (x ∷ xs) ≡ x ++ flat_map (λ part. 44 ∷ part) xs
 commas_led x [] = sym (append-nil x)
 commas_led x (y ∷ ys) = ap (λ (l : List ℕ). x ++ 44 ∷ l) (commas_led y ys)
 
@@ -56,7 +56,7 @@ short_first eff e = append-nil _
 -- the entries of a short text are put together with commas between them
 short_row : (acl : Entries) (es ds : List (Tag × ℕ)) → (es ≡ [] → ⊥)
     → part_out Short Access acl true es ++ flat_map (λ e. 44 ∷ short_default e) ds
-    ≡ with_commas (map short_entry es ++ map short_default ds)
+    ≡ join_with_byte 44 (map short_entry es ++ map short_default ds)
 short_row acl [] ds some = absurd (some refl)
 short_row acl (e ∷ es) ds some =
     rw (

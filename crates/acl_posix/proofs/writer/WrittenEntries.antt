@@ -38,7 +38,7 @@ trimmed_plain [] h = refl
 trimmed_plain (b ∷ bs) h = let both = and_true _ _ h in
     rw (not_blank b both.0, not_blank b both.0) (ap (λ (xs : List ℕ). b ∷ xs) (end_plain bs both.1))
 
--- a tab behind plain bytes is trimmed
+-- a tab after plain bytes is trimmed
 trimmed_tab : (bs : List ℕ) → Plain bs → trimmed (bs ++ 9 ∷ []) ≡ bs
 unfolding trimmed
 trimmed_tab [] h = refl
@@ -143,8 +143,12 @@ short_mark = record { plain = refl; some_byte = omega arith; means = refl }
 -- a word of a tag and the qualifier as it is written spell the tag
 tag_spelled : (names : Table) (w : List ℕ) (t : Tag) → IsTag t → word_of w ≡ Some (tag_row t).word
     → SpellsTag names w (qualifier_text t) t
-tag_spelled names w (user id) h e = let again = id_again names.users id (omega (arith, h)) in (e, again.0, again.1)
-tag_spelled names w (group id) h e = let again = id_again names.groups id (omega (arith, h)) in (e, again.0, again.1)
+tag_spelled names w (user id) h e =
+    let again = id_again names.users id (omega (arith, h)) in
+    record { is_word = e; filled = again.0; is_id = again.1 }
+tag_spelled names w (group id) h e =
+    let again = id_again names.groups id (omega (arith, h)) in
+    record { is_word = e; filled = again.0; is_id = again.1 }
 tag_spelled names w t h e = (e, refl)
 
 -- the bytes of a last field that spell permissions
@@ -159,7 +163,7 @@ perm_alone p lt = record {
   no_colon = absent is_plain 58 (perm_text p) refl (perm_plain p lt);
 }
 
--- permissions with a tab behind them are a field
+-- permissions with a tab after them are a field
 pub perm_tab : (p : ℕ) → p < 8 → IsPermText p (perm_text p ++ 9 ∷ [])
 perm_tab p lt = record {
   trims = trimmed_tab (perm_text p) (perm_plain p lt);
@@ -168,17 +172,17 @@ perm_tab p lt = record {
 
 -- ---- pieces
 
--- plain bytes with a colon behind them are cut off at that colon
+-- plain bytes with a colon after them are cut off at that colon
 colon_next : (bs rest : List ℕ) → Plain bs → slice_split (λ b. eqb b 58) (bs ++ 58 ∷ rest)
     ≡ bs ∷ slice_split (λ b. eqb b 58) rest
 colon_next bs rest h = slice_split_at (λ b. eqb b 58) bs 58 rest (absent is_plain 58 bs refl h) refl
 
--- a qualifier that spells a tag behind the word of the tag
+-- a qualifier that spells a tag after the word of the tag
 pub record IsQualifierOf (t : Tag) (q : List ℕ) : Type 0 where
   pub plain : Plain q
   pub spells : (names : Table) (w : List ℕ) → word_of w ≡ Some (tag_row t).word → SpellsTag names w q t
 
--- a qualifier as it is written spells its tag behind the word of the tag
+-- a qualifier as it is written spells its tag after the word of the tag
 pub written_qualifier : (t : Tag) → IsTag t → IsQualifierOf t (qualifier_text t)
 written_qualifier t h =
     record { plain = qualifier_plain t h; spells = λ names w means. tag_spelled names w t h means }
@@ -234,7 +238,7 @@ access_spelled names column w t q p ps hq lt hw hp =
       cut = rw (three_split w t q p ps hq hw hp, trimmed_plain w hw.plain, hw.no_default) refl;
     }) hq lt hw hp
 
--- three written fields behind a mark spell their entry of the default part
+-- three written fields after a mark spell their entry of the default part
 pub default_spelled : (names : Table) (column : ℕ) (d w : List ℕ) (t : Tag) (q : List ℕ) (p : ℕ) (ps : List ℕ)
     → IsMark d → IsQualifierOf t q → p < 8 → IsWordOf (tag_row t).word w → IsPermText p ps
     → Spells names (record { column = column; bytes = d ++ 58 ∷ fields_text w q ps }) (Default, (t, p))
@@ -271,7 +275,7 @@ all_also p q each bs h = list_all-from_AllPass q bs
 pub text_from_plain : (bs : List ℕ) → Plain bs → Text bs
 text_from_plain bs h = all_also is_plain is_text (λ b is. ap (λ t. t || eqb b 58) is) bs h
 
--- plain bytes and colons with such bytes behind them are plain bytes and colons
+-- plain bytes and colons with such bytes after them are plain bytes and colons
 pub text_append : (xs ys : List ℕ) → Text xs → Text ys → Text (xs ++ ys)
 text_append xs ys hx hy = list_all-append is_text xs ys ∙ ap (λ t. t && list_all is_text ys) hx ∙ hy
 
@@ -317,7 +321,7 @@ last_spells mark word marks is names column (Access, (t, p)) ps h perm =
 last_spells mark word marks is names column (Default, (t, p)) ps h perm =
     default_spelled names column mark (word t) t (qualifier_text t) p ps marks (written_qualifier t h.0) h.1 (is t) perm
 
--- an entry with a tab in its last field is the entry as it is written with a tab behind it
+-- an entry with a tab in its last field is the entry as it is written with a tab after it
 tab_behind : (mark : List ℕ) (word : Tag → List ℕ) (e : PartEntry)
     → with_last mark word e (perm_text e.1.1 ++ 9 ∷ []) ≡ written mark word e ++ 9 ∷ []
 tab_behind mark word (Access, e) = simp append_assoc

@@ -75,11 +75,11 @@ qualifies : (t : Tag) (q : List ℕ) → is_named t ≡ true → is_number q ≡
     → IsQualifierOf t q
 qualifies (user n) q named number id = record {
   plain = digits_plain q (digits_all q number);
-  spells = λ names w means. (means, some_digit q number, rw number id);
+  spells = λ names w means. record { is_word = means; filled = some_digit q number; is_id = rw number id };
 }
 qualifies (group n) q named number id = record {
   plain = digits_plain q (digits_all q number);
-  spells = λ names w means. (means, some_digit q number, rw number id);
+  spells = λ names w means. record { is_word = means; filled = some_digit q number; is_id = rw number id };
 }
 qualifies t q named number id = absurd cc
 
@@ -90,7 +90,7 @@ pub record IsLineBefore (bytes : List ℕ) (t : Tag) (perm : ℕ) (rest : List �
   pub is : IsQualifierOf t digits
   pub within : perm < 8
 
--- the line of an entry with an id is its three written fields, and the rest is behind the line feed
+-- the line of an entry with an id is its three written fields, and the rest is after the line feed
 line_before : (bytes : List ℕ) (entry : Tag × ℕ) (rest : List ℕ) → IsEntryBefore bytes entry rest
     → IsLineBefore bytes entry.0 entry.1 rest
 line_before bytes entry rest h = record {
@@ -132,7 +132,7 @@ access_first text entry rest h =
     (starts_filled w (58 ∷ (l.digits ++ 58 ∷ p)) word.plain word.some_byte)
     (λ names. access_spelled names 1 w entry.0 l.digits entry.1 p l.is l.within word (perm_alone entry.1 l.within))
 
--- the line of an entry with an id behind `default:` is a first line of the default part
+-- the line of an entry with an id after `default:` is a first line of the default part
 pub default_first : (text bytes : List ℕ) (entry : Tag × ℕ) (rest : List ℕ) → text ≡ codes "default:" ++ bytes
     → IsEntryBefore bytes entry rest → IsFirstLine text Default entry rest
 default_first text bytes entry rest is h =

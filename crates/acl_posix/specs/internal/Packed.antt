@@ -8,11 +8,11 @@ use Rattle.acl_posix.specs.internal.TagCode.{tag_from}
 unfoldable pub packed : Tag × ℕ → ℕ
 packed entry = (rank entry.0 * 4294967296 + qualifier entry.0) * 8 + entry.1
 
--- the entry that a number stands for
+-- the entry that a number means
 unfoldable pub unpacked : ℕ → Tag × ℕ
 unpacked key = (tag_from (key / 8 / 4294967296) (key / 8 % 4294967296), key % 8)
 
--- the number stands for an entry
+-- the number means an entry
 pub record IsPacked (key : ℕ) : Type 0 where
   pub entry : IsEntry (unpacked key)
   pub again : packed (unpacked key) ≡ key

@@ -73,11 +73,11 @@ view_fields fields = record {
   permissions = span_of fields.permissions;
 }
 
--- a part of a piece does not end behind the piece
+-- a part of a piece does not end after the piece
 abbrev pub FitsIn : Piece → Piece → Type 0
 FitsIn part whole = part.column + length part.bytes.now ≤ whole.column + length whole.bytes.now
 
--- the fields of a piece do not end behind the piece
+-- the fields of a piece do not end after the piece
 pub record FieldsFit (fields : EntryPieces) (whole : Piece) : Type 0 where
   pub tag : FitsIn fields.tag whole
   pub qualifier : FitsIn fields.qualifier whole
@@ -124,7 +124,7 @@ lists_of lists = record { access = pairs lists.access.items; default = pairs lis
 abbrev pub no_lists : Lists
 no_lists = record { access = []; default = [] }
 
--- the lists with one more entry, behind the others of its part
+-- the lists with one more entry, after the others of its part
 abbrev pub added : Lists → PartEntry → Lists
 added lists (Access, entry) = record { access = lists.access ++ entry ∷ []; default = lists.default }
 added lists (Default, entry) = record { access = lists.access; default = lists.default ++ entry ∷ [] }
@@ -145,7 +145,7 @@ abbrev pub FailsWith : {Y : Type 0} → TextFault → Result Y TextFault → Typ
 FailsWith faults.Memory read = Unit {0}
 FailsWith fault read = read ≡ Err fault
 
--- the pieces of lines, of which the first has this number
+-- the pieces of lines; the first line has this number
 abbrev pub pieces_from : ℕ → List (List ℕ) → List TextPiece
 pieces_from number lines = pieces_of_lines (enumerate_from number lines)
 

@@ -65,13 +65,13 @@ form_word Canonical tag = long_word tag
 form_word Shown tag = long_word tag
 form_word Short tag = short_word tag
 
--- the bytes behind the fields of an entry
+-- the bytes after the fields of an entry
 abbrev pub ending : Form → ℕ → ℕ → List ℕ
 ending Canonical effective perm = line_feed ∷ []
 ending Shown effective perm = mark_text effective perm ++ line_feed ∷ []
 ending Short effective perm = []
 
--- what is written for an entry: the bytes before it, its fields, and the bytes behind it
+-- what is written for an entry: the bytes before it, its fields, and the bytes after it
 unfoldable pub entry_out : Form → Part → Bool → ℕ → Tag × ℕ → List ℕ
 entry_out form part first effective entry =
     entry_lead form part first ++ (entry_text (form_word form entry.0) entry ++ ending form effective entry.1)

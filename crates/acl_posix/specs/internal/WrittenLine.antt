@@ -39,7 +39,7 @@ pub record IsEntryBefore (bytes : List ℕ) (entry : Tag × ℕ) (rest : List �
   pub word : bytes ≡ long_word entry.0 ++ colon ∷ fields
   pub are : AreFieldsBefore fields (qualifier entry.0) entry.1 rest
 
--- the first line of a text has one piece, which spells an entry whatever the names are, and the rest is behind the line
+-- the first line of a text has one piece, which spells an entry whatever the names are, and the rest is after the line
 pub record IsFirstLine (text : List ℕ) (part : Part) (entry : Tag × ℕ) (rest : List ℕ) : Type 0 where
   pub bytes : List ℕ
   pub lines : lines_of text ≡ bytes ∷ lines_of rest

@@ -1,28 +1,21 @@
 //! The tables again with ample memory: no call fails for lack of memory.
 
-use super::faults::{FAULTS, is_judged, is_refused, is_refused_repeated, zeros_are_read};
+use super::faults::{
+    FAULTS, MESSAGES, is_judged, is_refused, is_refused_repeated, is_shown, zeros_are_read,
+};
 use super::harness::Who::{Group, Mask, Other, Owner};
 use super::harness::{DEFAULT, Memory, NO_OWNER, has_rows};
 use super::names::add_each;
 use super::samples::{LISTED, is_read, names_of};
+use super::worked_lists;
 use super::writing::TEXTS;
-use super::{changes, checks, creation, lists};
 use crate::*;
 use acl_perm::Perm;
 use std::test::Fail;
 
 #[test]
 fn each_worked_list_gives_its_answers(rt: HostRuntime) {
-    let memory = Memory::ample(rt.alloc());
-    lists::whole_lists(&rt, memory);
-    lists::cut_lists(&rt, memory);
-    lists::messages(&rt, memory);
-    changes::effective_permissions(&rt, memory);
-    changes::modes(&rt, memory);
-    changes::changed_lists(&rt, memory);
-    changes::changed_entries(&rt, memory);
-    checks::requests(&rt, memory);
-    creation::new_files(&rt, memory);
+    worked_lists(&rt, Memory::ample(rt.alloc()));
 }
 
 // Makes a list of a hundred entries.
@@ -78,6 +71,13 @@ fn the_first_fault_of_a_text_is_reported(rt: HostRuntime) -> Result<(), Fail> {
     let unknown = TextFault::UnknownName { line: 5, column: 6 };
     assert!(rt; is_refused(rt.alloc(), &nobody, LISTED, unknown));
     Ok(())
+}
+
+#[test]
+fn the_message_of_an_invalid_text_names_its_cause(rt: HostRuntime) {
+    for (fault, message) in MESSAGES {
+        assert!(rt; is_shown(rt.alloc(), fault, message), "{message}");
+    }
 }
 
 #[test]

@@ -1,4 +1,5 @@
-//! The mode and the mask of a list, before and after a change.
+//! The mode and the mask of a list (acl(5), "CORRESPONDENCE BETWEEN ACL ENTRIES AND FILE PERMISSION BITS"), and changes
+//! of one entry as `setfacl -n` makes them.
 
 use super::harness::Who::{Amy, Bob, Eve, Group, Guests, Mask, Other, Owner, Staff};
 use super::harness::{
@@ -25,8 +26,16 @@ fn is_effective(acl: &PosixAcl, tag: Tag, perm: u8, effective: u8) -> bool {
     }
 }
 
-/// The mask limits the entries of a list.
-pub fn effective_permissions<A: Abort>(rt: &A, memory: Memory) {
+/// Runs the tables of this file.
+pub fn tables<A: Abort>(rt: &A, memory: Memory) {
+    effective_permissions(rt, memory);
+    modes(rt, memory);
+    changed_lists(rt, memory);
+    changed_entries(rt, memory);
+}
+
+// The mask limits the entries of a list.
+fn effective_permissions<A: Abort>(rt: &A, memory: Memory) {
     let acl = match memory.acl(SHARED) {
         Ok(acl) => acl,
         Err(fault) => {
@@ -50,8 +59,8 @@ fn has_mode(memory: Memory, rows: Rows, mode: u16) -> bool {
     }
 }
 
-/// Lists with a mask and without one have these modes.
-pub fn modes<A: Abort>(rt: &A, memory: Memory) {
+// Lists with a mask and without one have these modes.
+fn modes<A: Abort>(rt: &A, memory: Memory) {
     let table: [(Rows, u16); 4] = [
         (SHARED, 0o644),
         (MASKED, 0o747),
@@ -63,8 +72,8 @@ pub fn modes<A: Abort>(rt: &A, memory: Memory) {
     }
 }
 
-/// A list has these entries after its mode is set, and after its mask is calculated.
-pub fn changed_lists<A: Abort>(rt: &A, memory: Memory) {
+// A list has these entries after its mode is set, and after its mask is calculated.
+fn changed_lists<A: Abort>(rt: &A, memory: Memory) {
     match memory.acl(SHARED) {
         Ok(mut acl) => {
             acl.chmod(Mode { bits: 0o660 });
@@ -139,29 +148,9 @@ fn is_changed(
     }
 }
 
-/// One entry of a list is set or removed.
-pub fn changed_entries<A: Abort>(rt: &A, memory: Memory) {
+// One entry of a list is set or removed.
+fn changed_entries<A: Abort>(rt: &A, memory: Memory) {
     for row in ONE_ENTRY {
         assert!(rt; is_changed(memory, row));
     }
-}
-
-#[test]
-fn modes_and_masks_are_set_unless_memory_runs_out(rt: HostRuntime) {
-    let memory = Memory::scarce(rt.alloc());
-    effective_permissions(&rt, memory);
-    modes(&rt, memory);
-    changed_lists(&rt, memory);
-    changed_entries(&rt, memory);
-}
-
-#[test]
-fn a_call_that_fails_adds_no_mask(rt: HostRuntime) {
-    let memory = Memory::scarce(rt.alloc());
-    // A copy has no spare room, so another entry takes memory.
-    let Ok(Ok(mut acl)) = memory.acl(NO_OWNER).map(|acl| acl.copy(memory.alloc)) else {
-        return;
-    };
-    let is_added = acl.calc_mask().is_ok();
-    assert!(rt; acl.entries().len() == (if is_added { 4 } else { 3 }));
 }

@@ -1,4 +1,4 @@
-//! The access check for an owner, for users and for members of groups.
+//! The access check for an owner, for users and for members of groups (acl(5), "ACCESS CHECK ALGORITHM").
 
 use super::harness::Who::{Group, Other, Owner};
 use super::harness::{MASKED, Memory, NO_OWNER, Rows, SHARED, TWO_GROUPS};
@@ -61,9 +61,4 @@ pub fn requests<A: Abort>(rt: &A, memory: Memory) {
             "{want} of {asker:?}"
         );
     }
-}
-
-#[test]
-fn requests_are_granted_or_denied_unless_memory_runs_out(rt: HostRuntime) {
-    requests(&rt, Memory::scarce(rt.alloc()));
 }

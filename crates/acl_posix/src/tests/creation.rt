@@ -52,8 +52,3 @@ pub fn new_files<A: Abort>(rt: &A, memory: Memory) {
         }
     }
 }
-
-#[test]
-fn new_files_get_their_lists_unless_memory_runs_out(rt: HostRuntime) {
-    new_files(&rt, Memory::scarce(rt.alloc()));
-}

@@ -1,4 +1,5 @@
-//! The first fault of a text, and texts of great length.
+//! The first fault of a text, and texts of great length. The faults and their places are this library's own, as
+//! docs/formats.md states them ("Faults of POSIX texts").
 
 use super::samples::{holds, write};
 use crate::*;
@@ -84,6 +85,30 @@ pub const FAULTS: [(&[u8], TextFault); 30] = [
     ),
     (b"u:\xff:r", TextFault::UnknownName { line: 1, column: 3 }),
 ];
+
+/// The message of each cause of an invalid text.
+pub const MESSAGES: [(TextFault, &str); 3] = [
+    (
+        TextFault::Invalid(Part::Access, Cause::Multi(3)),
+        "Invalid access: Multi at entry 3",
+    ),
+    (
+        TextFault::Invalid(Part::Default, Cause::Duplicate(2)),
+        "Invalid default: Duplicate at entry 2",
+    ),
+    (
+        TextFault::Invalid(Part::Access, Cause::Miss(Tag::Mask)),
+        "Invalid access: Miss MASK",
+    ),
+];
+
+/// Returns whether a fault has this message.
+pub fn is_shown(alloc: Global, fault: TextFault, message: &str) -> bool {
+    match fault.to_string(alloc) {
+        Ok(text) => text.as_str() == message,
+        Err(_) => false,
+    }
+}
 
 /// Returns whether a fault of a text of twelve lines is in one of the lines, or is an invalid list.
 pub fn is_judged(fault: Option<TextFault>) -> bool {

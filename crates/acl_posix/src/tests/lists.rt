@@ -1,4 +1,5 @@
-//! Which lists of entries are valid, and the fault of each that is not (acl(5), "VALID ACLs").
+//! Which lists of entries are valid (acl(5), "VALID ACLs"), and the fault of each that is not, which is this library's
+//! own (docs/lists.md, "POSIX ACLs").
 
 use super::harness::Who::{Amy, Bob, Group, Guests, Mask, Other, Owner, Staff};
 use super::harness::{DEFAULT, MASKED, Memory, NO_OWNER, Rows, SHARED, TWO_GROUPS};
@@ -28,8 +29,15 @@ fn is_judged(memory: Memory, rows: Rows, fault: Option<AclFault>) -> bool {
     found == fault || memory.may_run_out(found)
 }
 
-/// Valid lists are accepted, and each other list is refused with its fault.
-pub fn whole_lists<A: Abort>(rt: &A, memory: Memory) {
+/// Runs the tables of this file.
+pub fn tables<A: Abort>(rt: &A, memory: Memory) {
+    whole_lists(rt, memory);
+    cut_lists(rt, memory);
+    messages(rt, memory);
+}
+
+// Valid lists are accepted, and each other list is refused with its fault.
+fn whole_lists<A: Abort>(rt: &A, memory: Memory) {
     let table: [(Rows, Option<AclFault>); 12] = [
         (SHARED, None),
         (TWO_GROUPS, None),
@@ -49,8 +57,8 @@ pub fn whole_lists<A: Abort>(rt: &A, memory: Memory) {
     }
 }
 
-/// A list without an entry that it needs is refused.
-pub fn cut_lists<A: Abort>(rt: &A, memory: Memory) {
+// A list without an entry that it needs is refused.
+fn cut_lists<A: Abort>(rt: &A, memory: Memory) {
     let table: [(Rows, Tag); 6] = [
         ((&[Other, Mask, Staff], b"446"), Tag::UserObj),
         ((&[Other, Mask, Staff, Owner, Amy], b"44666"), Tag::GroupObj),
@@ -82,19 +90,11 @@ fn has_message(memory: Memory, fault: AclFault, message: &str) -> bool {
     }
 }
 
-/// Each fault has this message.
-pub fn messages<A: Abort>(rt: &A, memory: Memory) {
+// Each fault has this message.
+fn messages<A: Abort>(rt: &A, memory: Memory) {
     for (fault, message) in MESSAGES {
         assert!(rt; has_message(memory, fault, message), "of {message}");
     }
-}
-
-#[test]
-fn valid_lists_are_accepted_and_others_are_refused_unless_memory_runs_out(rt: HostRuntime) {
-    let memory = Memory::scarce(rt.alloc());
-    whole_lists(&rt, memory);
-    cut_lists(&rt, memory);
-    messages(&rt, memory);
 }
 
 #[test]

@@ -1,4 +1,5 @@
-//! Texts of worked examples with their names, and functions that write and compare texts.
+//! Texts of worked examples in the forms of acl(5), "LONG TEXT FORM" and "SHORT TEXT FORM", with their names, and
+//! functions that write and compare texts.
 
 use crate::*;
 use acl_perm::Counted;

@@ -1,4 +1,5 @@
-//! Texts in their three forms: a text that is read is written again, and each write fails in turn.
+//! Texts in their three forms (acl(5), "LONG TEXT FORM" and "SHORT TEXT FORM", and getfacl(1) for the comments): a text
+//! that is read is written again, and each write fails in turn.
 
 use super::samples::{
     CANONICAL, LISTED, LISTED_CANONICAL, LISTED_SHORT, SHORT, SHOWN, TWO_MASKS, TWO_MASKS_SHOWN,

@@ -1,5 +1,5 @@
 -- `table`: its words, and what it makes of an input (this library's own, over RFC 8881, section 6.2.1).
-use Rattle.std.specs.Prelude.{◌≡◌, ◌==◌, ◌||◌, ◌∷◌, [], List, ℕ, Option, None, codes, if◌then◌else◌}
+use Rattle.std.specs.Prelude.{◌==◌, ◌||◌, ◌∷◌, [], List, ℕ, Option, None, codes, if◌then◌else◌}
 use Rattle.std.specs.List.{list_any}
 use Rattle.std.specs.Option.{option_and_then, option_map}
 use Rattle.std.specs.Str.{bytes_eq}
@@ -8,22 +8,17 @@ use Rattle.acl_perm.specs.Profile.{Profile, profile_of}
 use Rattle.acl_nfs4.specs.BitNames.{bar, no_names}
 use Rattle.acl_nfs4.specs.Rights.{mask_named}
 use Rattle.acl_normal.specs.Programs.{Tabulates}
-use Rattle.aclck.specs.Line.{Term, value_of}
+use Rattle.aclck.specs.Line.{value_of}
 use Rattle.aclck.specs.Options.{bit_term, profile_term}
 use Rattle.aclck.specs.ProfileArgument.{profile_in}
 use Rattle.aclck.specs.Values.{within}
-use Rattle.aclck.specs.Answer.{Answer, IsXdrFault, done, refused}
-use Rattle.aclck.specs.declared.answer.Outcome.TheVariants as outcome
-use Rattle.aclck.specs.declared.task.table.BitTable.{BitTable}
+use Rattle.aclck.specs.Answer.{Answer, AnswersYes, IsXdrFault}
+use Rattle.aclck.specs.declared.task.values.BitTable.{BitTable}
 use Rattle.aclck.specs.Definition.{Definition, on_list}
 
 -- ---- words
 
--- `table --bit NAME [--profile full|narrow]`
-abbrev pub table_terms : List Term
-table_terms = bit_term ∷ profile_term ∷ []
-
--- the mask of the one right that is asked for, and the profile
+-- the mask of the one right that is requested, and the profile
 pub record TableValues : Type 0 where
   pub bit : ℕ
   pub profile : Profile
@@ -52,11 +47,10 @@ table_held v = record { bit = v.bit.bits; profile = profile_of v.profile }
 
 -- ---- the answer
 
--- the text of the rows of the right, with an outcome that is never No, or a fault that the input has
+-- the text of the rows of the right, or a fault that the input has
 abbrev pub TableAnswer : TableValues → List ℕ → Answer → Type 0
-TableAnswer v input (done o text) = (o ≡ outcome.Yes) × Tabulates v.profile v.bit input text
-TableAnswer v input (refused f) = IsXdrFault v.profile input f
+TableAnswer v input = AnswersYes (Tabulates v.profile v.bit input) (IsXdrFault v.profile input)
 
--- the command
+-- the command, `table --bit NAME [--profile full|narrow]`
 abbrev pub table : Definition
-table = on_list (codes "table") table_terms table_in TableAnswer (λ v. v.profile)
+table = on_list (codes "table") (bit_term ∷ profile_term ∷ []) table_in TableAnswer (λ v. v.profile)

@@ -4,14 +4,13 @@ use Rattle.std.specs.Prelude.{◌≡◌, ◌⊎◌, List, ℕ, codes}
 use Rattle.acl_posix.specs.Grammar.{Reads}
 use Rattle.acl_posix.specs.Names.{Table}
 use Rattle.acl_eval.specs.Programs.{Bridges, IsPastLimits}
-use Rattle.aclck.specs.Answer.{Answer, done, refused}
+use Rattle.aclck.specs.Answer.{Answer, AnswersYes}
 use Rattle.aclck.specs.PosixAnswer.{IsPosixFault}
-use Rattle.aclck.specs.declared.answer.Outcome.TheVariants as outcome
 use Rattle.aclck.specs.declared.answer.RunFault.{RunFault}
 use Rattle.aclck.specs.declared.answer.RunFault.TheVariants as fault
 use Rattle.aclck.specs.Definition.{Definition, of_names}
 
--- the fault says that the list of the access ACL of the file, of which the input is the text, is above a limit
+-- the fault says that the list of the access ACL is above a limit; the input is the text of the file
 abbrev pub IsLimits : Table → List ℕ → RunFault → Type 0
 IsLimits names input f = (f ≡ fault.Limits) × IsPastLimits (Reads input names)
 
@@ -21,8 +20,7 @@ IsBridgeRefusal names input f = IsPosixFault names input f ⊎ IsLimits names in
 
 -- the bytes of the list, or a fault that the input has
 abbrev pub BridgeAnswer : Table → List ℕ → Answer → Type 0
-BridgeAnswer names input (done o text) = (o ≡ outcome.Yes) × Bridges (Reads input names) text
-BridgeAnswer names input (refused f) = IsBridgeRefusal names input f
+BridgeAnswer names input = AnswersYes (Bridges (Reads input names)) (IsBridgeRefusal names input)
 
 -- the command, `bridge [NAMES..]`
 abbrev pub bridge : Definition

@@ -8,21 +8,17 @@ use Rattle.acl_eval.specs.Programs.{Decides}
 use Rattle.acl_eval.specs.Situation.{groups_of, owner_of, owning_group_of, user_of}
 use Rattle.acl_eval.specs.declared.situation.Object.{Object}
 use Rattle.acl_eval.specs.declared.situation.Requester.{Requester}
-use Rattle.aclck.specs.Line.{Term, any_words, value_of}
+use Rattle.aclck.specs.Line.{any_words, value_of}
 use Rattle.aclck.specs.Options.{group_term, mask_term, owner_term, profile_term, user_term}
 use Rattle.aclck.specs.ProfileArgument.{profile_in}
 use Rattle.aclck.specs.Values.{are_names, is_name, mask_within}
 use Rattle.aclck.specs.Answer.{Answer, IsXdrFault, decision_line, done, is_yes, refused}
 use Rattle.aclck.specs.declared.answer.Outcome.{Outcome}
-use Rattle.aclck.specs.declared.task.check_nfs.CheckNfs.{CheckNfs}
+use Rattle.aclck.specs.declared.task.values.CheckNfs.{CheckNfs}
 use Rattle.aclck.specs.Definition.{Definition}
 use Rattle.aclck.specs.Run.{of_list}
 
 -- ---- words
-
--- `check-nfs --owner NAME --group NAME --user NAME --mask MASK [--profile full|narrow] [GROUPS..]`
-abbrev pub check_nfs_terms : List Term
-check_nfs_terms = owner_term ∷ group_term ∷ user_term ∷ mask_term ∷ profile_term ∷ any_words ∷ []
 
 -- the owner and the owning group of the object
 pub record ObjectNames : Type 0 where
@@ -107,11 +103,11 @@ abbrev pub CheckNfsAnswer : CheckNfsValues → List ℕ → Answer → Type 0
 CheckNfsAnswer values input (done o text) = DecidesNfs values input o × (text ≡ decision_line o)
 CheckNfsAnswer values input (refused f) = IsXdrFault values.profile input f
 
--- the command
+-- the command, `check-nfs --owner NAME --group NAME --user NAME --mask MASK [--profile full|narrow] [GROUPS..]`
 abbrev pub check_nfs : Definition
 check_nfs = record {
   word = codes "check-nfs";
-  terms = check_nfs_terms;
+  terms = owner_term ∷ group_term ∷ user_term ∷ mask_term ∷ profile_term ∷ any_words ∷ [];
   Values = CheckNfsValues;
   read = check_nfs_in;
   Answers = CheckNfsAnswer;

@@ -6,21 +6,17 @@ use Rattle.acl_posix.specs.Check.{Object, Requester, ids}
 use Rattle.acl_posix.specs.Grammar.{Reads}
 use Rattle.acl_posix.specs.Names.{Table}
 use Rattle.acl_posix.specs.Programs.{Checks}
-use Rattle.aclck.specs.Line.{Term, any_words, value_of, words_of}
+use Rattle.aclck.specs.Line.{any_words, value_of, words_of}
 use Rattle.aclck.specs.NameWords.{names_value}
 use Rattle.aclck.specs.Options.{group_term, groups_term, owner_term, user_term, want_term}
 use Rattle.aclck.specs.Values.{id_value, ids_value, of_both, want_value}
 use Rattle.aclck.specs.Answer.{Answer, decision_line, done, is_yes, refused}
 use Rattle.aclck.specs.PosixAnswer.{IsPosixFault}
 use Rattle.aclck.specs.declared.answer.Outcome.{Outcome}
-use Rattle.aclck.specs.declared.task.check_posix.CheckPosix.{CheckPosix}
+use Rattle.aclck.specs.declared.task.values.CheckPosix.{CheckPosix}
 use Rattle.aclck.specs.Definition.{Definition, on_text}
 
 -- ---- words
-
--- `check-posix --owner ID --group ID --user ID [--groups IDS] --want WANT [NAMES..]`
-abbrev pub check_posix_terms : List Term
-check_posix_terms = owner_term ∷ group_term ∷ user_term ∷ groups_term ∷ want_term ∷ any_words ∷ []
 
 -- the requester, the object, the permissions that are requested, and which names a text may have
 pub record CheckPosixValues : Type 0 where
@@ -78,6 +74,7 @@ abbrev pub CheckPosixAnswer : CheckPosixValues → List ℕ → Answer → Type 
 CheckPosixAnswer v input (done o text) = ChecksPosix v input o × (text ≡ decision_line o)
 CheckPosixAnswer v input (refused f) = IsPosixFault v.names input f
 
--- the command
+-- the command, `check-posix --owner ID --group ID --user ID [--groups IDS] --want WANT [NAMES..]`
 abbrev pub check_posix : Definition
-check_posix = on_text (codes "check-posix") check_posix_terms check_posix_in CheckPosixAnswer
+check_posix = on_text (codes "check-posix")
+    (owner_term ∷ group_term ∷ user_term ∷ groups_term ∷ want_term ∷ any_words ∷ []) check_posix_in CheckPosixAnswer

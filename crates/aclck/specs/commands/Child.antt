@@ -7,20 +7,16 @@ use Rattle.acl_perm.specs.Profile.{Profile, profile_of}
 use Rattle.acl_eval.specs.Programs.{child_bytes}
 use Rattle.acl_eval.specs.declared.inherit.ChildKind.{ChildKind}
 use Rattle.acl_eval.specs.declared.inherit.ChildKind.TheVariants as kind
-use Rattle.aclck.specs.Line.{Term, value_of}
+use Rattle.aclck.specs.Line.{value_of}
 use Rattle.aclck.specs.Options.{kind_term, profile_term}
 use Rattle.aclck.specs.ProfileArgument.{profile_in}
 use Rattle.aclck.specs.Values.{of_both}
 use Rattle.aclck.specs.Answer.{Answer}
 use Rattle.aclck.specs.XdrAnswer.{MakesAnswer}
-use Rattle.aclck.specs.declared.task.child.Child.{Child}
+use Rattle.aclck.specs.declared.task.values.Child.{Child}
 use Rattle.aclck.specs.Definition.{Definition, on_list}
 
 -- ---- words
-
--- `child --kind file|dir [--profile full|narrow]`
-abbrev pub child_terms : List Term
-child_terms = kind_term ∷ profile_term ∷ []
 
 -- what is created, and the profile
 pub record ChildValues : Type 0 where
@@ -47,6 +43,6 @@ child_held v = record { created = v.kind; profile = profile_of v.profile }
 abbrev pub ChildAnswer : ChildValues → List ℕ → Answer → Type 0
 ChildAnswer v = MakesAnswer v.profile (child_bytes v.created)
 
--- the command
+-- the command, `child --kind file|dir [--profile full|narrow]`
 abbrev pub child : Definition
-child = on_list (codes "child") child_terms child_in ChildAnswer (λ v. v.profile)
+child = on_list (codes "child") (kind_term ∷ profile_term ∷ []) child_in ChildAnswer (λ v. v.profile)

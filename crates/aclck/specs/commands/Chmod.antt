@@ -5,20 +5,16 @@ use Rattle.std.specs.Option.{option_and_then}
 use Rattle.clap.specs.Words.{Row}
 use Rattle.acl_posix.specs.Names.{Table}
 use Rattle.acl_posix.specs.Programs.{chmod_text}
-use Rattle.aclck.specs.Line.{Term, any_words, value_of, words_of}
+use Rattle.aclck.specs.Line.{any_words, value_of, words_of}
 use Rattle.aclck.specs.NameWords.{names_value}
 use Rattle.aclck.specs.Options.{mode_term}
 use Rattle.aclck.specs.Values.{mode_value, of_both}
 use Rattle.aclck.specs.Answer.{Answer}
 use Rattle.aclck.specs.PosixAnswer.{WritesAnswer}
-use Rattle.aclck.specs.declared.task.chmod.Chmod.{Chmod}
+use Rattle.aclck.specs.declared.task.values.Chmod.{Chmod}
 use Rattle.aclck.specs.Definition.{Definition, on_text}
 
 -- ---- words
-
--- `chmod --mode OCT [NAMES..]`
-abbrev pub chmod_terms : List Term
-chmod_terms = mode_term ∷ any_words ∷ []
 
 -- the mode, and which names a text may have
 pub record ChmodValues : Type 0 where
@@ -40,6 +36,6 @@ chmod_held v = record { mode = v.mode.bits; names = v.names }
 abbrev pub ChmodAnswer : ChmodValues → List ℕ → Answer → Type 0
 ChmodAnswer v = WritesAnswer v.names (chmod_text v.mode)
 
--- the command
+-- the command, `chmod --mode OCT [NAMES..]`
 abbrev pub chmod : Definition
-chmod = on_text (codes "chmod") chmod_terms chmod_in ChmodAnswer
+chmod = on_text (codes "chmod") (mode_term ∷ any_words ∷ []) chmod_in ChmodAnswer

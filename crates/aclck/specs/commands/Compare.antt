@@ -32,7 +32,7 @@ pub record AreTwo (p : Profile) (list other : List Ace) (input : List ℕ) : Typ
   pub second_spelled : Xdr p other second
 
 -- the fault of an input that should be two lists and nothing more: that of the first list, or else that of the bytes
--- behind it, which should be one list and nothing more; both count from the start of the input
+-- after it, which should be one list and nothing more; both count from the start of the input
 pub data IsFaultOfTwo (p : Profile) (input : List ℕ) : ℕ → Reason → Type 0 where
   of_first : (offset : ℕ) (r : Reason) → IsFault p input offset r → IsFaultOfTwo p input offset r
   of_second : (list : List Ace) (first rest : List ℕ) (offset : ℕ) (r : Reason)
@@ -61,7 +61,7 @@ situation_lines s =
     ++ (compare_line (codes "user") s.user_name
     ++ flat_map (compare_line (codes "member")) s.groups))
 
--- the right that is asked for, and what both lists answer
+-- the right on which the lists differ, and what each list answers
 abbrev pub answer_lines : ℕ → Bool → List ℕ
 answer_lines mask first_grants =
     compare_line (codes "mask") (unwrap_or (first_name rights mask) [])

@@ -5,20 +5,16 @@ use Rattle.std.specs.Option.{option_and_then, option_map}
 use Rattle.clap.specs.Words.{Row}
 use Rattle.acl_posix.specs.Names.{Table}
 use Rattle.acl_posix.specs.Programs.{created_text}
-use Rattle.aclck.specs.Line.{Term, any_words, is_given, value_of, words_of}
+use Rattle.aclck.specs.Line.{any_words, is_given, value_of, words_of}
 use Rattle.aclck.specs.NameWords.{names_value}
 use Rattle.aclck.specs.Options.{dir_term, mode_term, umask_term}
 use Rattle.aclck.specs.Values.{mode_value}
 use Rattle.aclck.specs.Answer.{Answer}
 use Rattle.aclck.specs.PosixAnswer.{WritesAnswer}
-use Rattle.aclck.specs.declared.task.create.Create.{Create}
+use Rattle.aclck.specs.declared.task.values.Create.{Create}
 use Rattle.aclck.specs.Definition.{Definition, on_text}
 
 -- ---- words
-
--- `create --mode OCT --umask OCT [--dir] [NAMES..]`
-abbrev pub create_terms : List Term
-create_terms = mode_term ∷ umask_term ∷ dir_term ∷ any_words ∷ []
 
 -- the mode and the umask, whether the new object is a directory, and which names a text may have
 pub record CreateValues : Type 0 where
@@ -47,6 +43,6 @@ create_held v = record { mode = v.mode.bits; umask = v.umask.bits; is_directory 
 abbrev pub CreateAnswer : CreateValues → List ℕ → Answer → Type 0
 CreateAnswer v = WritesAnswer v.names (created_text v.mode v.umask v.is_directory)
 
--- the command
+-- the command, `create --mode OCT --umask OCT [--dir] [NAMES..]`
 abbrev pub create : Definition
-create = on_text (codes "create") create_terms create_in CreateAnswer
+create = on_text (codes "create") (mode_term ∷ umask_term ∷ dir_term ∷ any_words ∷ []) create_in CreateAnswer

@@ -4,8 +4,7 @@ use Rattle.acl_perm.specs.Profile.{Profile}
 use Rattle.acl_nfs4.specs.AceTextFault.{IsAceTextFault}
 use Rattle.acl_nfs4.specs.Programs.{Encodes}
 use Rattle.acl_nfs4.specs.declared.text.fault.AceTextFault.{AceTextFault}
-use Rattle.aclck.specs.Answer.{Answer, done, refused}
-use Rattle.aclck.specs.declared.answer.Outcome.TheVariants as outcome
+use Rattle.aclck.specs.Answer.{Answer, AnswersYes}
 use Rattle.aclck.specs.declared.answer.RunFault.{RunFault}
 use Rattle.aclck.specs.declared.answer.RunFault.TheVariants as fault
 use Rattle.aclck.specs.Definition.{Definition, of_profile}
@@ -17,10 +16,9 @@ pub record IsNfsTextFault (p : Profile) (input : List ℕ) (f : RunFault) : Type
   pub is : f ≡ fault.NfsText found
   pub has : IsAceTextFault p input found
 
--- the bytes that spell the list of the text, with an outcome that is never No, or a fault that the input has
+-- the bytes that spell the list of the text, or a fault that the input has
 abbrev pub EncodeAnswer : Profile → List ℕ → Answer → Type 0
-EncodeAnswer p input (done o bytes) = (o ≡ outcome.Yes) × Encodes p input bytes
-EncodeAnswer p input (refused f) = IsNfsTextFault p input f
+EncodeAnswer p input = AnswersYes (Encodes p input) (IsNfsTextFault p input)
 
 -- the command
 abbrev pub encode : Definition

@@ -5,7 +5,7 @@ use Rattle.std.specs.Str.{bytes_eq}
 use Rattle.clap.specs.Words.{Row, Text}
 use Rattle.acl_posix.specs.Names.{Table}
 use Rattle.acl_posix.specs.Programs.{file_text}
-use Rattle.aclck.specs.Line.{Term, any_words, value_of, words_of}
+use Rattle.aclck.specs.Line.{any_words, value_of, words_of}
 use Rattle.aclck.specs.NameWords.{names_value}
 use Rattle.aclck.specs.Options.{form_term}
 use Rattle.aclck.specs.Values.{of_both}
@@ -13,14 +13,10 @@ use Rattle.aclck.specs.Answer.{Answer}
 use Rattle.aclck.specs.PosixAnswer.{WritesAnswer}
 use Rattle.acl_posix.specs.declared.form.Form.{Form}
 use Rattle.acl_posix.specs.declared.form.Form.TheVariants as form
-use Rattle.aclck.specs.declared.task.show_posix.ShowPosix.{ShowPosix}
+use Rattle.aclck.specs.declared.task.values.ShowPosix.{ShowPosix}
 use Rattle.aclck.specs.Definition.{Definition, on_text}
 
 -- ---- words
-
--- `show-posix [--form canonical|shown|short] [NAMES..]`
-abbrev pub show_posix_terms : List Term
-show_posix_terms = form_term ∷ any_words ∷ []
 
 -- the form, and which names a text may have
 pub record ShowPosixValues : Type 0 where
@@ -48,6 +44,6 @@ show_posix_held v = record { form = v.form; names = v.names }
 abbrev pub ShowPosixAnswer : ShowPosixValues → List ℕ → Answer → Type 0
 ShowPosixAnswer v = WritesAnswer v.names (file_text v.form)
 
--- the command
+-- the command, `show-posix [--form canonical|shown|short] [NAMES..]`
 abbrev pub show_posix : Definition
-show_posix = on_text (codes "show-posix") show_posix_terms show_posix_in ShowPosixAnswer
+show_posix = on_text (codes "show-posix") (form_term ∷ any_words ∷ []) show_posix_in ShowPosixAnswer

@@ -45,14 +45,9 @@ abbrev pub has_failed : (CommandFault → Bool) → Result Outcome CommandFault 
 has_failed test (Ok o) = false
 has_failed test (Err e) = test e
 
--- the effect of a run of the command whose words ask for this task, on a source and a sink, before and after, as in
--- `Runs`
-pub record RunsTask {S K : Type 0} (task : Option Task)
-    (left : S → Option (List ℕ)) (reads_failed : S → ℕ) (source source_after : S)
-    (holds : K → Option (List ℕ)) (writes_failed : K → ℕ) (sink sink_after : K)
-    (r : Result Outcome CommandFault) : Type 0 where
-  -- the answer is that of the task, and its text was written, or a beginning of it if a write failed
-  pub performs : Performs task (left source) (holds sink) (holds sink_after) r
+-- the effect of a run of the command whose words ask for this task on a source, as in `RunReads`
+pub record TaskReads {S : Type 0} (task : Option Task) (left : S → Option (List ℕ)) (reads_failed : S → ℕ)
+    (source source_after : S) (r : Result Outcome CommandFault) : Type 0 where
   -- if the run ended well, the input was read to its end
   pub whole : OnOk r (IsAtEnd (left source_after))
   -- at a usage fault no input was read
@@ -63,9 +58,19 @@ pub record RunsTask {S K : Type 0} (task : Option Task)
   pub stopped : IfErr r (λ e. is_read_fault e ≡ true → IsStopped task (left source) (left source_after))
   -- a text that is refused was read to its end
   pub ended : IfErr r (λ e. status_of e ≡ 2 → IsEnded task (left source_after))
-  -- nothing was written, unless a write failed
-  pub unwritten : IfErr r (λ e. (is_write_fault e ≡ true) ⊎ (sink_after ≡ sink))
   -- one read failed if the result says so, and otherwise none
   pub reads : reads_failed source_after ≡ failures_after (reads_failed source) (has_failed is_read_fault r)
+
+-- the effect of a run of the command whose words ask for this task on a source and a sink, as in `Runs`
+pub record RunsTask {S K : Type 0} (task : Option Task)
+    (left : S → Option (List ℕ)) (reads_failed : S → ℕ) (source source_after : S)
+    (holds : K → Option (List ℕ)) (writes_failed : K → ℕ) (sink sink_after : K)
+    (r : Result Outcome CommandFault) : Type 0 where
+  -- the answer is that of the task, and its text was written, or a beginning of it if a write failed
+  pub performs : Performs task (left source) (holds sink) (holds sink_after) r
+  -- what was read
+  pub reading : TaskReads task left reads_failed source source_after r
+  -- nothing was written, unless a write failed
+  pub unwritten : IfErr r (λ e. (is_write_fault e ≡ true) ⊎ (sink_after ≡ sink))
   -- one write failed if the result says so, and otherwise none
   pub writes : writes_failed sink_after ≡ failures_after (writes_failed sink) (has_failed is_write_fault r)

@@ -11,11 +11,11 @@ use Rattle.acl_nfs4.specs.internal.Progress.{IsBytes}
 use Rattle.acl_nfs4.specs.Stream.{IsCutShort}
 use Rattle.acl_nfs4.specs.declared.xdr.fault.Fault.{Fault}
 use Rattle.acl_nfs4.specs.declared.xdr.fault.Reason.TheVariants.{Memory, TrailingBytes, Truncated}
-use Rattle.aclck.specs.Answer.{IsXdrFault, cause_of, has_read_failed, is_read}
+use Rattle.aclck.specs.Answer.{IsXdrFault, origin_of, has_read_failed, is_read}
 use Rattle.aclck.specs.commands.Compare.{IsRefusedTwo}
 use Rattle.aclck.specs.ListInput.{AreOpen, IsOpen, ListEnds, RefusalEnds, TakesPart, TakesTo, TwoEnd, ValueEnds, piece_len}
-use Rattle.aclck.specs.declared.answer.Cause.{Cause}
-use Rattle.aclck.specs.declared.answer.Cause.TheVariants as cause
+use Rattle.aclck.specs.declared.answer.Origin.{Origin}
+use Rattle.aclck.specs.declared.answer.Origin.TheVariants as origin
 use Rattle.aclck.specs.declared.answer.RunFault.{RunFault}
 use Rattle.aclck.specs.declared.answer.RunFault.TheVariants as fault
 use Rattle.aclck.specs.declared.input.xdr.ListFault.{ListFault}
@@ -44,7 +44,7 @@ abbrev pub has_pull_failed : {X : Type 0} → Result X ListFault → Bool
 has_pull_failed (Ok x) = false
 has_pull_failed (Err e) = is_failed_pull e
 
--- the fault of the bytes behind so many bytes, counted from the start of these
+-- the fault of the bytes after this many bytes, counted from the start of these
 abbrev pub later : ListFault → ℕ → ListFault
 later (unread.Refused f) n = unread.Refused (record { offset = f.offset + n; reason = f.reason })
 later unread.Read n = unread.Read
@@ -65,11 +65,11 @@ pub record HasInput (Holds : List ℕ → Type 0) (known : Option (List ℕ)) : 
   pub holds : Holds input
 
 -- why an input was not read: it is refused, or a read failed, or memory ran out
-abbrev pub Unread : Type 0 → Cause → Type 0
-Unread Refused cause.Input = Refused
-Unread Refused cause.Source = Unit {0}
-Unread Refused (cause.Sink w) = ⊥
-Unread Refused cause.Memory = Unit {0}
+abbrev pub Unread : Type 0 → Origin → Type 0
+Unread Refused origin.Input = Refused
+Unread Refused origin.Source = Unit {0}
+Unread Refused (origin.Sink w) = ⊥
+Unread Refused origin.Memory = Unit {0}
 
 -- what kind an input is: which faults it may have, where it ends, and which beginnings of it may continue
 pub record InputKind : Type 1 where
@@ -94,7 +94,7 @@ pub record ReadsInput {X : Type 0} (k : InputKind) (Is : X → List ℕ → Type
   -- the input was read to its end
   pub whole : OnOk r (IsAtEnd left)
   -- why the input was not read
-  pub not_read : IfErr r (λ e. Unread (HasInput (λ input. k.HasFault input e) known) (cause_of e))
+  pub not_read : IfErr r (λ e. Unread (HasInput (λ input. k.HasFault input e) known) (origin_of e))
   -- little of the source was taken
   pub bound : TakesTo k.EndsAt known left
   -- if a read failed, what was taken is not refused
@@ -104,7 +104,7 @@ pub record ReadsInput {X : Type 0} (k : InputKind) (Is : X → List ℕ → Type
 
 -- ---- one value
 
--- a value was read from the rest of the last pull and from what the source gave: so many bytes, and the rest then
+-- a value was read from the rest of the last pull and from what the source gave: this many bytes, and the rest then
 pub record ReadsValue (p : Profile) (left now_left : List ℕ) (known now_known : Option (List ℕ)) (list : List Ace)
     (len : ℕ) : Type 0 where
   pub given : List ℕ
@@ -151,14 +151,14 @@ ReadsNone p left known now_known unread.Memory = ReadsLittle p left known now_kn
 
 -- ---- the end
 
--- there is a byte behind the last value, in the rest of the last pull or in what the source gave
+-- there is a byte after the last value, in the rest of the last pull or in what the source gave
 pub record ReadsMore (left : List ℕ) (known now_known : Option (List ℕ)) : Type 0 where
   pub given : List ℕ
   pub taken : Consumes known now_known given
   pub some : 0 < length (left ++ given)
   pub near : length (left ++ given) ≤ piece_len
 
--- why an input does not end behind a value of so many bytes
+-- why an input does not end after a value of this many bytes
 abbrev pub EndsNot : ℕ → List ℕ → Option (List ℕ) → Option (List ℕ) → ListFault → Type 0
 EndsNot len left known now_known (unread.Refused f) =
     (f ≡ record { offset = len; reason = TrailingBytes }) × ReadsMore left known now_known

@@ -15,7 +15,8 @@ use acl_perm::{Sink, Source, read_all};
 use acl_posix::{Form, Names, PosixFile, TextFault, parse};
 use std::alloc::Global;
 
-/// Reads the file whose text an input is, to its end.
+/// Reads an input to its end, and returns the file that its text spells. Fails if the text is refused, a read fails, or
+/// memory runs out.
 pub(crate) fn read_file<S: Source>(
     alloc: Global,
     source: &mut S,
@@ -33,7 +34,7 @@ pub(crate) fn read_file<S: Source>(
     file_of(alloc, &input, names)
 }
 
-// The file whose text these bytes are.
+// `parse` reports memory that runs out as a fault of the text. Here it becomes a fault of the run.
 fn file_of(alloc: Global, input: &[u8], names: &Names) -> Result<PosixFile, RunFault>
     ensures read { IfOk result (Reads input.now names.now) }
     ensures refused { IfErr result (λ e. (e ≡ RunFault.Memory)
@@ -46,8 +47,8 @@ fn file_of(alloc: Global, input: &[u8], names: &Names) -> Result<PosixFile, RunF
     }
 }
 
-/// Writes the text of a file in a form, after which a command ends with Yes. The short text gets a line feed after it.
-/// Nothing is written before all of the text is made.
+/// Writes the text of a file in a form, and returns Yes. The short text gets a line feed after it. Nothing is written
+/// before all of the text is made.
 pub(crate) fn write_file<K: Sink>(
     alloc: Global,
     sink: &mut K,

@@ -49,7 +49,7 @@ impl From<Fault> for ListFault {
 }
 
 /// Reads an input that should be one list of the profile and nothing more, by pulls of at most 4,096 bytes. It reads
-/// nothing after a refusal, or after a byte behind the list.
+/// nothing after a refusal, or after a byte that follows the list.
 pub(crate) fn read_list<S: Source>(
     alloc: Global,
     source: &mut S,
@@ -59,13 +59,13 @@ pub(crate) fn read_list<S: Source>(
         (S.remaining source.old) (S.remaining source.new)
         (S.failure_count source.old) (S.failure_count source.new) result }
 {
-    let mut pulled = Pulled::new();
+    let mut pulled = LastPull::new();
     let Value { list, len } = read_value(alloc, source, &mut pulled, profile)?;
     read_end(source, &mut pulled, len)?;
     Ok(list)
 }
 
-/// Two lists.
+/// The lists of an input that spells two, one after the other.
 #[derive(Drop)]
 pub(crate) struct TwoLists {
     pub(crate) first: Acl,
@@ -84,7 +84,7 @@ pub(crate) fn read_two<S: Source>(
         (S.remaining source.old) (S.remaining source.new)
         (S.failure_count source.old) (S.failure_count source.new) result }
 {
-    let mut pulled = Pulled::new();
+    let mut pulled = LastPull::new();
     let first = read_value(alloc, source, &mut pulled, profile)?;
     match read_value(alloc, source, &mut pulled, profile) {
         Ok(second) => {
@@ -98,7 +98,7 @@ pub(crate) fn read_two<S: Source>(
     }
 }
 
-// The fault of the bytes behind so many bytes, counted from the start of these.
+// Returns the fault with its place counted from the start of the input, if `len` bytes are before the list that has it.
 fn behind(fault: ListFault, len: u64) -> ListFault
     requires fault { IsOffsetBelow (2 ^ 32) fault }
     requires len { len < 2 ^ 32 }
@@ -114,19 +114,19 @@ fn behind(fault: ListFault, len: u64) -> ListFault
     }
 }
 
-/// A list, and how many bytes of the input spell it.
+/// A list from the front of an input, and how many bytes of the input spell it.
 #[derive(Drop)]
 pub(crate) struct Value {
     pub(crate) list: Acl,
     pub(crate) len: u64,
 }
 
-/// Reads one list of the profile, from the rest of the last pull on. It does not read what the input has behind the
+/// Reads one list of the profile, from the rest of the last pull on. It does not read what the input has after the
 /// list. A fault counts from the list's first byte. After a refusal it reads nothing more.
 pub(crate) fn read_value<S: Source>(
     alloc: Global,
     source: &mut S,
-    pulled: &mut Pulled,
+    pulled: &mut LastPull,
     profile: Profile,
 ) -> Result<Value, ListFault>
     ensures value { IfOk result (λ value. ReadsValue (profile_of profile) pulled.old pulled.new
@@ -155,7 +155,7 @@ pub(crate) fn read_value<S: Source>(
     }
 }
 
-// What a feed is if it gets no more bytes.
+// Returns the list of a feed that gets no more bytes, with its number of bytes, or the fault of the feed.
 fn finish(feed: Feed, len: u64) -> Result<Value, ListFault>
     ensures list { IfOk result (λ value. (value.len ≡ len) × FinishesStream feed (Ok value.list)) }
     ensures fault { IfErr result (λ e. (e ≡ ListFault.Memory)
@@ -167,10 +167,10 @@ fn finish(feed: Feed, len: u64) -> Result<Value, ListFault>
     })
 }
 
-/// Fails unless the input ends behind a value of so many bytes. The last pull may have given more.
+/// Fails unless the input ends after a value of this many bytes. The last pull may have given more.
 pub(crate) fn read_end<S: Source>(
     source: &mut S,
-    pulled: &mut Pulled,
+    pulled: &mut LastPull,
     len: u64,
 ) -> Result<(), ListFault>
     ensures end { OnOk result
@@ -200,13 +200,13 @@ const PIECE: usize = 4096;
 
 /// The bytes of the last pull of an input that belong to no value yet.
 #[derive(Drop)]
-pub(crate) struct Pulled {
+pub(crate) struct LastPull {
     room: [u8; PIECE],
     start: usize,
     end: usize,
 }
 
-impl Model for Pulled {
+impl Model for LastPull {
     ghost use Rattle.std.specs.Prelude.{◌≤◌, ◌-◌, List, ℕ, drop, take};
     ghost use Rattle.aclck.specs.ListInput.{piece_len};
 
@@ -217,19 +217,19 @@ impl Model for Pulled {
     ghost invariant = { λ s. (s.start ≤ s.end) × (s.end ≤ piece_len) };
 }
 
-impl Pulled {
-    /// Returns the bytes of a source from which nothing was pulled yet.
-    pub(crate) fn new() -> Pulled
+impl LastPull {
+    /// Returns the state before the first pull: no bytes.
+    pub(crate) fn new() -> LastPull
         ensures { result ≡ [] }
     {
-        Pulled {
+        LastPull {
             room: [0; PIECE],
             start: 0,
             end: 0,
         }
     }
 
-    /// Returns the rest.
+    /// Returns the bytes that belong to no value yet.
     fn left(&self) -> &[u8]
         ensures is { result.now ≡ self.now }
         ensures short { length self.now ≤ piece_len }
@@ -238,7 +238,7 @@ impl Pulled {
         seen(&self.room[self.start..self.end])
     }
 
-    // Removes so many bytes, which belong to a value.
+    // Removes `count` bytes, which belong to a value.
     fn take(&mut self, count: usize)
         requires { count ≤ length self.old }
         ensures { self.new ≡ drop count self.old }
@@ -246,7 +246,8 @@ impl Pulled {
         self.start += count;
     }
 
-    // Replaces the rest, which is not needed any more, by what one more pull gives. Returns whether that is any byte.
+    // Replaces the rest, which is not needed any more, by the bytes of one more pull. Returns `false` at the end of the
+    // input.
     fn pull<S: Source>(&mut self, source: &mut S) -> Result<bool, ListFault>
         ensures given { OnOk result
             (Consumes (S.remaining source.old) (S.remaining source.new) self.new) }

@@ -1,6 +1,6 @@
 //! `bridge`: the NFSv4 list of a POSIX ACL.
-ghost use Rattle.aclck.specs.Common.{Runs, of_text};
-ghost use Rattle.aclck.specs.commands.Bridge.{BridgeAnswer};
+ghost use Rattle.aclck.specs.Common.{RunsCommand};
+ghost use Rattle.aclck.specs.commands.Bridge.{bridge};
 
 use crate::answer::{Outcome, RunFault, write_list_answer};
 use crate::input::posix::read_file;
@@ -9,10 +9,7 @@ use acl_perm::{Sink, Source};
 use acl_posix::Names;
 use std::alloc::Global;
 
-/// The word that names the command.
-pub(crate) const WORD: &str = "bridge";
-
-/// Writes the XDR of the NFSv4 list of the access ACL of a file, of which the input is the text (this library's own,
+/// Writes the XDR of the NFSv4 list of the access ACL of the file that the input spells (this library's own,
 /// over POSIX.1e draft 17, section 23, and RFC 8881, section 6.2.1). The default ACL does not change the list, but if
 /// it is invalid, the input is refused. Nothing is written before the list is ready.
 pub fn run_bridge<S: Source, K: Sink>(
@@ -21,7 +18,7 @@ pub fn run_bridge<S: Source, K: Sink>(
     sink: &mut K,
     names: &Names,
 ) -> Result<Outcome, RunFault>
-    ensures { Runs (BridgeAnswer names.now) of_text
+    ensures { RunsCommand bridge names.now
         S.remaining S.failure_count source.old source.new
         K.contents K.failure_count sink.old sink.new result }
 {

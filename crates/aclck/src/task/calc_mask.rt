@@ -1,6 +1,6 @@
 //! `calc-mask`: the canonical text of a file with its mask calculated.
-ghost use Rattle.aclck.specs.Common.{Runs, of_text};
-ghost use Rattle.aclck.specs.commands.CalcMask.{CalcMaskAnswer};
+ghost use Rattle.aclck.specs.Common.{RunsCommand};
+ghost use Rattle.aclck.specs.commands.CalcMask.{calc_mask};
 
 use crate::answer::{Outcome, RunFault};
 use crate::input::posix::{read_file, write_file};
@@ -8,10 +8,7 @@ use acl_perm::{Sink, Source};
 use acl_posix::{Form, Names};
 use std::alloc::Global;
 
-/// The word that names the command.
-pub(crate) const WORD: &str = "calc-mask";
-
-/// Writes the canonical text of a file, of which the input is the text, with the mask of its access ACL calculated, and
+/// Writes the canonical text of the file that the input spells, with the mask of its access ACL calculated, and
 /// added if there is none (POSIX.1e draft 17, section 23.4). The default ACL stays. Nothing is written before the input
 /// is accepted.
 pub fn run_calc_mask<S: Source, K: Sink>(
@@ -20,7 +17,7 @@ pub fn run_calc_mask<S: Source, K: Sink>(
     sink: &mut K,
     names: &Names,
 ) -> Result<Outcome, RunFault>
-    ensures { Runs (CalcMaskAnswer names.now) of_text
+    ensures { RunsCommand calc_mask names.now
         S.remaining S.failure_count source.old source.new
         K.contents K.failure_count sink.old sink.new result }
 {

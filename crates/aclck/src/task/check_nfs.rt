@@ -2,38 +2,28 @@
 ghost use Rattle.std.specs.Prelude.{◌≡◌, ◌↔◌, IsTrue};
 ghost use Rattle.acl_eval.specs.Grant.{Grant};
 ghost use Rattle.acl_eval.specs.Situation.{situation};
-ghost use Rattle.aclck.specs.Common.{IfOk, ReadsValues, Runs, is_yes, of_list, option_and_then, option_map, profile_of, rows_in, text_if_any, texts};
+ghost use Rattle.aclck.specs.Common.{IfOk, ReadsValues, RunsCommand, is_yes, option_and_then, option_map, rows_in, text_if_any, texts};
 ghost use Rattle.aclck.specs.Values.{mask_value, mask_within};
-ghost use Rattle.aclck.specs.commands.CheckNfs.{CheckNfsAnswer, check_nfs_held, check_nfs_in, object_named, object_names, requester_named, requester_names};
+ghost use Rattle.aclck.specs.commands.CheckNfs.{check_nfs, check_nfs_held, check_nfs_in, object_named, object_names, requester_named, requester_names};
 
 use crate::answer::{Outcome, RunFault, decision_line};
 use crate::input::xdr::read_list;
 use crate::line::{Argument, LineFault, text_of};
+use crate::task::values::CheckNfs;
 use crate::words::options::{GROUP, MASK, OWNER, PROFILE, USER};
 use crate::words::profile::profile_in;
 use crate::words::values::within;
 use acl_eval::{Object, Requester, grants_by_table};
 use acl_nfs4::{Acl, read_mask};
-use acl_perm::{Mask, Profile, Sink, Source, put_all};
+use acl_perm::{Mask, Sink, Source, put_all};
 use clap::ArgMatches;
 use std::alloc::{AllocError, Global};
 
-/// The word that names the command.
-pub(crate) const WORD: &str = "check-nfs";
-
-/// The arguments of `check-nfs`.
+/// The options of `check-nfs`. Its other words are the groups of the requester.
 pub(crate) const ARGUMENTS: [Argument; 6] = [OWNER, GROUP, USER, MASK, PROFILE, Argument::Words];
 
-/// The object, the requester, the rights that are requested, and the profile.
-#[derive(Clone, Copy, Debug)]
-pub struct CheckNfs<'a> {
-    pub object: Object<'a>,
-    pub requester: Requester<'a>,
-    pub mask: Mask,
-    pub profile: Profile,
-}
-
-/// Returns the values that the words give.
+/// Returns the request and the profile. Fails with `Usage` if a name is empty, the mask has a right outside the
+/// profile, or an option has a bad value.
 #[tactic(auto, unfolding(crate::specs::commands::CheckNfs::check_nfs_in))]
 pub(crate) fn read<'a, 'w: 'a>(
     matches: &ArgMatches<'w>,
@@ -79,7 +69,7 @@ fn requester_of_bytes<'a>(user: &'a [u8], groups: &'a [&'a [u8]]) -> Option<Requ
     Requester::new(user, groups)
 }
 
-// The value of `--mask`, if all its rights are among these.
+// Returns the value of `--mask`. The rights are those of the profile, and the mask may have no other.
 fn mask_in(word: Option<&str>, rights: Mask) -> Option<Mask>
     ensures { option_map (λ mask. mask.bits) result
         ≡ option_and_then (mask_within rights.bits) (text_if_any word.entry) }
@@ -110,8 +100,7 @@ pub fn run_check_nfs<S: Source, K: Sink>(
     sink: &mut K,
     task: &CheckNfs<'_>,
 ) -> Result<Outcome, RunFault>
-    ensures { Runs (CheckNfsAnswer (check_nfs_held task.now))
-        (of_list (profile_of task.now.profile))
+    ensures { RunsCommand check_nfs (check_nfs_held task.now)
         S.remaining S.failure_count source.old source.new
         K.contents K.failure_count sink.old sink.new result }
 {
@@ -121,7 +110,7 @@ pub fn run_check_nfs<S: Source, K: Sink>(
     Ok(outcome)
 }
 
-// Whether the list grants the request.
+// Returns Yes if the list grants the request. The groups are put into a table where that saves time.
 fn decide(alloc: Global, list: &Acl, task: &CheckNfs<'_>) -> Result<Outcome, AllocError>
     ensures { IfOk result (λ outcome. IsTrue (is_yes outcome)
         ↔ Grant list.now (situation task.now.object task.now.requester) task.now.mask.bits) }

@@ -3,40 +3,27 @@ ghost use Rattle.std.specs.Prelude.{◌≡◌, ◌==◌, count_by};
 ghost use Rattle.std.specs.List.{list_all, slice_split};
 ghost use Rattle.acl_posix.specs.Check.{ids};
 ghost use Rattle.acl_posix.specs.Grammar.{comma};
-ghost use Rattle.aclck.specs.Common.{IfOk, ReadsValues, Runs, of_text, option_and_then, option_map, rows_in, text_if_any, texts};
+ghost use Rattle.aclck.specs.Common.{IfOk, ReadsValues, RunsCommand, option_and_then, option_map, rows_in, text_if_any, texts};
 ghost use Rattle.aclck.specs.Values.{each_value, id_value, ids_value, is_letter, letters_value, want_value};
-ghost use Rattle.aclck.specs.commands.CheckPosix.{CheckPosixAnswer, check_posix_held, check_posix_in, groups_value};
+ghost use Rattle.aclck.specs.commands.CheckPosix.{check_posix, check_posix_held, check_posix_in, groups_value};
 
 use crate::answer::{Outcome, RunFault, decision_line, write_answer};
 use crate::input::posix::read_file;
 use crate::line::{Argument, LineFault, text_of};
+use crate::task::values::CheckPosix;
 use crate::words::names::names_in;
 use crate::words::options::{GROUP, GROUPS, OWNER, USER, WANT};
 use crate::words::values::id_value;
 use acl_perm::{Perm, Sink, Source};
-use acl_posix::{Id, Names};
+use acl_posix::Id;
 use clap::ArgMatches;
 use std::alloc::{AllocError, Global};
 
-/// The word that names the command.
-pub(crate) const WORD: &str = "check-posix";
-
-/// The arguments of `check-posix`.
+/// The options of `check-posix`. Its other words are names with their ids.
 pub(crate) const ARGUMENTS: [Argument; 6] = [OWNER, GROUP, USER, GROUPS, WANT, Argument::Words];
 
-/// The object by its owner and its owning group, the requester, the permissions that are requested, and which names a
-/// text may have.
-#[derive(Drop)]
-pub struct CheckPosix {
-    pub owner: Id,
-    pub group: Id,
-    pub user: Id,
-    pub groups: Vec<Id>,
-    pub want: Perm,
-    pub names: Names,
-}
-
-/// Returns the values that the words give.
+/// Returns the request and the names. Fails with `Usage` if an option has a bad value or a name is refused, and with
+/// `Memory` if memory runs out.
 #[tactic(auto, unfolding(crate::specs::commands::CheckPosix::check_posix_in))]
 pub(crate) fn read(alloc: Global, matches: &ArgMatches<'_>) -> Result<CheckPosix, LineFault>
     ensures { ReadsValues check_posix_held (check_posix_in (rows_in matches.now)) result }
@@ -78,7 +65,7 @@ fn ids_value(alloc: Global, word: &str) -> Result<Vec<Id>, LineFault>
     each_id(alloc, items.as_slice())
 }
 
-// The parts between the commas.
+// Returns the parts between the commas. A part may be empty, which is no ID.
 fn items_of<'a>(alloc: Global, word: &'a str) -> Result<Vec<&'a str>, AllocError>
     ensures { IfOk result (λ v. texts v.items ≡ slice_split (λ b. b == comma) word.entry.now) }
 {
@@ -108,7 +95,8 @@ fn want_value(word: &str) -> Option<Perm>
     }
 }
 
-// The set of letters, each at most once.
+// Returns the permissions of letters, or `None` if there is no letter, another byte, or a letter twice.
+#[tactic(auto, using(crate::proofs::ValueLemmas::are_permissions), unfolding(acl_posix::specs::Fields::permissions_of))]
 fn letters(bytes: &[u8]) -> Option<Perm>
     ensures { option_map (λ perm. perm.bits) result ≡ letters_value bytes.now }
 {
@@ -133,16 +121,16 @@ fn count(bytes: &[u8], letter: u8) -> usize
     bytes.iter().filter(|b| **b == letter).count()
 }
 
-/// Writes whether the access ACL of a file, of which the input is the text, grants the requester of the task the
-/// permissions on its object (acl(5), "ACCESS CHECK ALGORITHM"; POSIX.1e draft 17, section 23): `granted`, or `denied`
-/// and No. Nothing is written before the input is accepted, also its default part.
+/// Writes whether the access ACL of the file that the input spells grants the requester of the task the permissions on
+/// its object (acl(5), "ACCESS CHECK ALGORITHM"; POSIX.1e draft 17, section 23): `granted`, or `denied` and No. Nothing
+/// is written before the whole input is accepted, with its default part.
 pub fn run_check_posix<S: Source, K: Sink>(
     alloc: Global,
     source: &mut S,
     sink: &mut K,
     task: &CheckPosix,
 ) -> Result<Outcome, RunFault>
-    ensures { Runs (CheckPosixAnswer (check_posix_held task.now)) of_text
+    ensures { RunsCommand check_posix (check_posix_held task.now)
         S.remaining S.failure_count source.old source.new
         K.contents K.failure_count sink.old sink.new result }
 {

@@ -1,41 +1,31 @@
 //! `child`: the list that a new object gets from its directory.
 ghost use Rattle.std.specs.Prelude.{◌≡◌};
-ghost use Rattle.aclck.specs.Common.{ReadsValues, Runs, of_list, profile_of, rows_in};
-ghost use Rattle.aclck.specs.commands.Child.{ChildAnswer, child_held, child_in, kind_value};
+ghost use Rattle.aclck.specs.Common.{ReadsValues, RunsCommand, rows_in};
+ghost use Rattle.aclck.specs.commands.Child.{child, child_held, child_in, kind_value};
 
 use crate::answer::{Outcome, RunFault};
 use crate::input::xdr::read_list;
 use crate::line::{Argument, LineFault, text_of};
+use crate::task::values::Child;
 use crate::words::options::{KIND, PROFILE};
 use crate::words::profile::profile_in;
 use acl_eval::{ChildKind, child};
-use acl_perm::{Profile, Sink, Source};
+use acl_perm::{Sink, Source};
 use clap::ArgMatches;
 use std::alloc::Global;
 
-/// The word that names the command.
-pub(crate) const WORD: &str = "child";
-
-/// The arguments of `child`.
+/// The options of `child`, which takes no other word.
 pub(crate) const ARGUMENTS: [Argument; 2] = [KIND, PROFILE];
 
-/// What is created, and the profile.
-#[derive(Clone, Copy, Debug)]
-pub struct Child {
-    pub kind: ChildKind,
-    pub profile: Profile,
-}
-
-/// Returns the values that the words give.
+/// Returns what is created, and the profile. Fails with `Usage` if an option has a bad value.
 #[tactic(auto, unfolding(crate::specs::commands::Child::child_in))]
 pub(crate) fn read(matches: &ArgMatches<'_>) -> Result<Child, LineFault>
     ensures { ReadsValues child_held (child_in (rows_in matches.now)) result }
 {
-    let kind = text_of(matches, KIND)
-        .and_then(kind_value)
-        .ok_or(LineFault::Usage)?;
     Ok(Child {
-        kind,
+        kind: text_of(matches, KIND)
+            .and_then(kind_value)
+            .ok_or(LineFault::Usage)?,
         profile: profile_in(matches)?,
     })
 }
@@ -59,17 +49,17 @@ pub fn run_child<S: Source, K: Sink>(
     alloc: Global,
     source: &mut S,
     sink: &mut K,
-    kind: ChildKind,
-    profile: Profile,
+    values: Child,
 ) -> Result<Outcome, RunFault>
-    ensures { Runs (ChildAnswer (record { created = kind; profile = profile_of profile }))
-        (of_list (profile_of profile))
+    ensures { RunsCommand child (child_held values)
         S.remaining S.failure_count source.old source.new
         K.contents K.failure_count sink.old sink.new result }
 {
-    let parent = read_list(alloc, source, profile)?;
-    let list = child(alloc, &parent, kind)?;
-    drop(parent);
+    let list = child(
+        alloc,
+        &read_list(alloc, source, values.profile)?,
+        values.kind,
+    )?;
     list.encode(sink)?;
     Ok(Outcome::Yes)
 }

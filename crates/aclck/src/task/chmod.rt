@@ -1,10 +1,11 @@
 //! `chmod`: the canonical text of a file with its mode set.
-ghost use Rattle.aclck.specs.Common.{ReadsValues, Runs, of_text, rows_in};
-ghost use Rattle.aclck.specs.commands.Chmod.{ChmodAnswer, chmod_held, chmod_in};
+ghost use Rattle.aclck.specs.Common.{ReadsValues, RunsCommand, rows_in};
+ghost use Rattle.aclck.specs.commands.Chmod.{chmod, chmod_held, chmod_in};
 
 use crate::answer::{Outcome, RunFault};
 use crate::input::posix::{read_file, write_file};
 use crate::line::{Argument, LineFault, text_of};
+use crate::task::values::Chmod;
 use crate::words::names::names_in;
 use crate::words::options::MODE;
 use crate::words::values::mode_in;
@@ -13,20 +14,11 @@ use acl_posix::{Form, Names};
 use clap::ArgMatches;
 use std::alloc::Global;
 
-/// The word that names the command.
-pub(crate) const WORD: &str = "chmod";
-
-/// The arguments of `chmod`.
+/// The option of `chmod`. Its other words are names with their ids.
 pub(crate) const ARGUMENTS: [Argument; 2] = [MODE, Argument::Words];
 
-/// The mode, and which names a text may have.
-#[derive(Drop)]
-pub struct Chmod {
-    pub mode: Mode,
-    pub names: Names,
-}
-
-/// Returns the values that the words give.
+/// Returns the mode and the names. Fails with `Usage` if the mode is bad or a name is refused, and with `Memory` if
+/// memory runs out.
 #[tactic(auto, unfolding(crate::specs::commands::Chmod::chmod_in))]
 pub(crate) fn read(alloc: Global, matches: &ArgMatches<'_>) -> Result<Chmod, LineFault>
     ensures { ReadsValues chmod_held (chmod_in (rows_in matches.now)) result }
@@ -38,7 +30,7 @@ pub(crate) fn read(alloc: Global, matches: &ArgMatches<'_>) -> Result<Chmod, Lin
     })
 }
 
-/// Writes the canonical text of a file, of which the input is the text, with the mode of its access ACL set (acl(5),
+/// Writes the canonical text of the file that the input spells, with the mode of its access ACL set (acl(5),
 /// "CORRESPONDENCE BETWEEN ACL ENTRIES AND FILE PERMISSION BITS"). The default ACL stays. Nothing is written before the
 /// input is accepted.
 pub fn run_chmod<S: Source, K: Sink>(
@@ -48,7 +40,7 @@ pub fn run_chmod<S: Source, K: Sink>(
     mode: Mode,
     names: &Names,
 ) -> Result<Outcome, RunFault>
-    ensures { Runs (ChmodAnswer (record { mode = mode.bits; names = names.now })) of_text
+    ensures { RunsCommand chmod (record { mode = mode.bits; names = names.now })
         S.remaining S.failure_count source.old source.new
         K.contents K.failure_count sink.old sink.new result }
 {

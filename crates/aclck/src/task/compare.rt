@@ -3,10 +3,10 @@ ghost use Rattle.std.specs.Prelude.{◌≡◌, ◌++◌, codes, flat_map, map, u
 ghost use Rattle.acl_nfs4.specs.BitNames.{first_name};
 ghost use Rattle.acl_nfs4.specs.Rights.{rights};
 ghost use Rattle.acl_normal.specs.Difference.{situation_of};
-ghost use Rattle.aclck.specs.Common.{[], IfOk, OnOk, Runs, of_two, profile_of};
+ghost use Rattle.aclck.specs.Common.{[], IfOk, OnOk, RunsCommand, profile_of};
 ghost use Rattle.aclck.specs.Answer.{decision};
-ghost use Rattle.aclck.specs.commands.Compare.{CompareAnswer, Compares, compare_line, difference_text};
-ghost use Rattle.aclck.specs.internal.Compared.{compared_outcome, compared_text};
+ghost use Rattle.aclck.specs.commands.Compare.{Compares, compare, compare_line, difference_text};
+ghost use Rattle.aclck.specs.internal.Compared.{compared_text};
 
 use crate::answer::{Outcome, RunFault};
 use crate::input::xdr::{TwoLists, read_two};
@@ -14,9 +14,6 @@ use acl_nfs4::bit_name;
 use acl_normal::{Difference, compare};
 use acl_perm::{Mask, Profile, Sink, Source, put_all};
 use std::alloc::{AllocError, Global};
-
-/// The word that names the command.
-pub(crate) const WORD: &str = "compare";
 
 /// Writes whether the two lists that the whole input spells, one after the other, grant the same (this library's own,
 /// over RFC 8881, section 6.2.1): `same`; or the first small situation in which they differ, the lowest right on which
@@ -28,7 +25,7 @@ pub fn run_compare<S: Source, K: Sink>(
     sink: &mut K,
     profile: Profile,
 ) -> Result<Outcome, RunFault>
-    ensures { Runs (CompareAnswer (profile_of profile)) (of_two (profile_of profile))
+    ensures { RunsCommand compare (profile_of profile)
         S.remaining S.failure_count source.old source.new
         K.contents K.failure_count sink.old sink.new result }
 {
@@ -40,22 +37,22 @@ pub fn run_compare<S: Source, K: Sink>(
 
 // The outcome of a comparison, with its text.
 #[derive(Drop)]
-struct Compared {
+struct Comparison {
     outcome: Outcome,
     text: Vec<u8>,
 }
 
-fn answer_of(alloc: Global, lists: &TwoLists) -> Result<Compared, AllocError>
+fn answer_of(alloc: Global, lists: &TwoLists) -> Result<Comparison, AllocError>
     ensures { IfOk result (λ answer.
         Compares lists.now.first lists.now.second answer.outcome answer.text.items) }
 {
     let difference = compare(alloc, &lists.first, &lists.second)?;
     let text = text_of_answer(alloc, &difference)?;
-    let outcome = outcome_of(&difference);
-    Ok(Compared { outcome, text })
+    let outcome = Outcome::of(difference.is_none());
+    Ok(Comparison { outcome, text })
 }
 
-// `same`, or the lines of the difference.
+// Returns `same` with a line feed, or the lines of the difference.
 fn text_of_answer(alloc: Global, difference: &Option<Difference>) -> Result<Vec<u8>, AllocError>
     ensures { IfOk result (λ text. text.items ≡ compared_text difference.now) }
 {
@@ -80,7 +77,7 @@ fn text_of_difference(alloc: Global, found: &Difference) -> Result<Vec<u8>, Allo
     Ok(text)
 }
 
-// A line for each group.
+// Adds one line for each group.
 fn add_members(text: &mut Vec<u8>, groups: &[Vec<u8>]) -> Result<(), AllocError>
     ensures { OnOk result (text.new.items ≡ text.old.items
         ++ flat_map (compare_line (codes "member")) (map (λ g. g.items) groups.now)) }
@@ -91,7 +88,7 @@ fn add_members(text: &mut Vec<u8>, groups: &[Vec<u8>]) -> Result<(), AllocError>
     Ok(())
 }
 
-// A line of a word and what follows it.
+// Adds a word, a space, the value and a line feed.
 fn add_line(text: &mut Vec<u8>, word: &[u8], value: &[u8]) -> Result<(), AllocError>
     ensures { OnOk result (text.new.items ≡ text.old.items ++ compare_line word.now value.now) }
 {
@@ -102,7 +99,7 @@ fn add_line(text: &mut Vec<u8>, word: &[u8], value: &[u8]) -> Result<(), AllocEr
     Ok(())
 }
 
-// The name of a right. Each right has one.
+// Returns the first name of a right. Each right has a name, so the empty text is never returned for a right.
 fn right_name(bit: Mask) -> &'static [u8]
     ensures { result.now ≡ unwrap_or (first_name rights bit.bits) [] }
 {
@@ -116,14 +113,4 @@ fn decision(is_granted: bool) -> &'static [u8]
     ensures { result.now ≡ decision is_granted }
 {
     if is_granted { b"granted" } else { b"denied" }
-}
-
-// Yes if there is no difference.
-fn outcome_of(difference: &Option<Difference>) -> Outcome
-    ensures { result ≡ compared_outcome difference.now }
-{
-    match difference {
-        None => Outcome::Yes,
-        Some(_) => Outcome::No,
-    }
 }

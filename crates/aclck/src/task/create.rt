@@ -1,34 +1,24 @@
 //! `create`: the canonical text of a new object.
-ghost use Rattle.aclck.specs.Common.{ReadsValues, Runs, of_text, rows_in};
-ghost use Rattle.aclck.specs.commands.Create.{CreateAnswer, create_held, create_in};
+ghost use Rattle.aclck.specs.Common.{ReadsValues, RunsCommand, rows_in};
+ghost use Rattle.aclck.specs.commands.Create.{create, create_held, create_in};
 
 use crate::answer::{Outcome, RunFault};
 use crate::input::posix::{read_file, write_file};
 use crate::line::{Argument, LineFault, is_set, text_of};
+use crate::task::values::Create;
 use crate::words::names::names_in;
 use crate::words::options::{DIR, MODE, UMASK};
 use crate::words::values::mode_in;
-use acl_perm::{Mode, Sink, Source};
-use acl_posix::{Form, Names, create};
+use acl_perm::{Sink, Source};
+use acl_posix::{Form, create};
 use clap::ArgMatches;
 use std::alloc::Global;
 
-/// The word that names the command.
-pub(crate) const WORD: &str = "create";
-
-/// The arguments of `create`.
+/// The options of `create`. Its other words are names with their ids.
 pub(crate) const ARGUMENTS: [Argument; 4] = [MODE, UMASK, DIR, Argument::Words];
 
-/// The mode and the umask, whether the new object is a directory, and which names a text may have.
-#[derive(Drop)]
-pub struct Create {
-    pub mode: Mode,
-    pub umask: Mode,
-    pub dir: bool,
-    pub names: Names,
-}
-
-/// Returns the values that the words give.
+/// Returns the modes, what is created, and the names. Fails with `Usage` if an option has a bad value or a name is
+/// refused, and with `Memory` if memory runs out.
 #[tactic(auto, unfolding(crate::specs::commands::Create::create_in))]
 pub(crate) fn read(alloc: Global, matches: &ArgMatches<'_>) -> Result<Create, LineFault>
     ensures { ReadsValues create_held (create_in (rows_in matches.now)) result }
@@ -41,7 +31,7 @@ pub(crate) fn read(alloc: Global, matches: &ArgMatches<'_>) -> Result<Create, Li
     })
 }
 
-/// Writes the canonical text of a new object in a directory, of which the input is the text. The object is a file, or a
+/// Writes the canonical text of a new object in the directory that the input spells. The object is a file, or a
 /// directory if `dir` of the task is true (acl(5), "OBJECT CREATION AND DEFAULT ACLs"). The umask is ignored if the
 /// directory has a default ACL. Nothing is written before the input is accepted.
 pub fn run_create<S: Source, K: Sink>(
@@ -50,7 +40,7 @@ pub fn run_create<S: Source, K: Sink>(
     sink: &mut K,
     task: &Create,
 ) -> Result<Outcome, RunFault>
-    ensures { Runs (CreateAnswer (create_held task.now)) of_text
+    ensures { RunsCommand create (create_held task.now)
         S.remaining S.failure_count source.old source.new
         K.contents K.failure_count sink.old sink.new result }
 {

@@ -1,27 +1,24 @@
 //! `encode`: the bytes that spell the list of a text.
 ghost use Rattle.acl_nfs4.specs.AceText.{IsAceText};
 ghost use Rattle.std.specs.Prelude.{◌≡◌, ◌⊎◌};
-ghost use Rattle.aclck.specs.Common.{IfErr, IfOk, Runs, is_input_fault, of_text, profile_of, true};
-ghost use Rattle.aclck.specs.commands.Encode.{EncodeAnswer, IsNfsTextFault};
+ghost use Rattle.aclck.specs.Common.{IfErr, IfOk, RunsCommand, is_input_fault, profile_of, true};
+ghost use Rattle.aclck.specs.commands.Encode.{IsNfsTextFault, encode};
 
 use crate::answer::{Outcome, RunFault};
 use acl_nfs4::{AceTextFault, Acl, parse_text_with};
 use acl_perm::{Profile, Sink, Source, read_all};
 use std::alloc::Global;
 
-/// The word that names the command.
-pub(crate) const WORD: &str = "encode";
-
-/// Writes the bytes that spell the list of which the whole input is the text (RFC 4506 over RFC 8881, section 6.2.1;
-/// the text is this library's own). Nothing is written before the input is accepted as the text of a list of the
-/// profile.
+/// Reads the whole input as the text of a list, and writes the bytes that spell the list (RFC 4506 over RFC 8881,
+/// section 6.2.1; the text is this library's own). Nothing is written before the input is accepted as the text of a
+/// list of the profile.
 pub fn run_encode<S: Source, K: Sink>(
     alloc: Global,
     source: &mut S,
     sink: &mut K,
     profile: Profile,
 ) -> Result<Outcome, RunFault>
-    ensures { Runs (EncodeAnswer (profile_of profile)) of_text
+    ensures { RunsCommand encode (profile_of profile)
         S.remaining S.failure_count source.old source.new
         K.contents K.failure_count sink.old sink.new result }
 {
@@ -31,7 +28,7 @@ pub fn run_encode<S: Source, K: Sink>(
     Ok(Outcome::Yes)
 }
 
-// The list of which an input is the text.
+// Returns the list that a text spells.
 fn list_of_text(alloc: Global, input: Vec<u8>, profile: Profile) -> Result<Acl, RunFault>
     ensures read { IfOk result (λ list. IsAceText (profile_of profile) list input.items) }
     ensures refused { IfErr result (λ e. (e ≡ RunFault.Memory)

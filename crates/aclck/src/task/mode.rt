@@ -1,16 +1,13 @@
 //! `mode`: the mode of a list.
 ghost use Rattle.std.specs.Prelude.{◌≡◌};
-ghost use Rattle.aclck.specs.Common.{Runs, of_list, profile_of};
-ghost use Rattle.aclck.specs.commands.ListMode.{ModeAnswer, mode_line, octal_digit};
+ghost use Rattle.aclck.specs.Common.{RunsCommand, profile_of};
+ghost use Rattle.aclck.specs.commands.ListMode.{mode, mode_line, octal_digit};
 
 use crate::answer::{Outcome, RunFault};
 use crate::input::xdr::read_list;
 use acl_eval::mode_of;
 use acl_perm::{Mode, Perm, Profile, Sink, Source, put_all};
 use std::alloc::Global;
-
-/// The word that names the command.
-pub(crate) const WORD: &str = "mode";
 
 /// Writes the mode of the list that the whole input spells (RFC 8881, section 6.3.2), as three octal digits and a line
 /// feed. Nothing is written before the input is accepted as a list of the profile. Nothing is read after a refusal.
@@ -20,12 +17,11 @@ pub fn run_mode<S: Source, K: Sink>(
     sink: &mut K,
     profile: Profile,
 ) -> Result<Outcome, RunFault>
-    ensures { Runs (ModeAnswer (profile_of profile)) (of_list (profile_of profile))
+    ensures { RunsCommand mode (profile_of profile)
         S.remaining S.failure_count source.old source.new
         K.contents K.failure_count sink.old sink.new result }
 {
-    let list = read_list(alloc, source, profile)?;
-    let line = mode_line(mode_of(list.aces()));
+    let line = mode_line(mode_of(read_list(alloc, source, profile)?.aces()));
     put_all(sink, &line)?;
     Ok(Outcome::Yes)
 }

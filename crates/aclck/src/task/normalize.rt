@@ -1,11 +1,11 @@
 //! `normalize`: the normal form of a list, or its five normal forms.
-ghost use Rattle.std.specs.Prelude.{◌≡◌};
-ghost use Rattle.aclck.specs.Common.{ReadsValues, Runs, of_list, profile_of, rows_in};
-ghost use Rattle.aclck.specs.commands.Normalize.{NormalizeAnswer, NormalizeInheritAnswer, NormalizedAnswer, normalize_held, normalize_in};
+ghost use Rattle.aclck.specs.Common.{ReadsValues, RunsCommand, rows_in};
+ghost use Rattle.aclck.specs.commands.Normalize.{five_forms, normalize, normalize_held, normalize_in, one_form};
 
 use crate::answer::{Outcome, RunFault};
 use crate::input::xdr::read_list;
 use crate::line::{Argument, LineFault, is_set};
+use crate::task::values::Normalize;
 use crate::words::options::{INHERIT, PROFILE};
 use crate::words::profile::profile_in;
 use acl_normal::{normalize, normalize_inherit};
@@ -13,20 +13,10 @@ use acl_perm::{Profile, Sink, Source};
 use clap::ArgMatches;
 use std::alloc::Global;
 
-/// The word that names the command.
-pub(crate) const WORD: &str = "normalize";
-
-/// The arguments of `normalize`.
+/// The options of `normalize`, which takes no other word.
 pub(crate) const ARGUMENTS: [Argument; 2] = [INHERIT, PROFILE];
 
-/// Whether inheritance counts, and the profile.
-#[derive(Clone, Copy, Debug)]
-pub struct Normalize {
-    pub inherit: bool,
-    pub profile: Profile,
-}
-
-/// Returns the values that the words give.
+/// Returns whether inheritance counts, and the profile. Fails with `Usage` if the profile is bad.
 #[tactic(auto, unfolding(crate::specs::commands::Normalize::normalize_in))]
 pub(crate) fn read(matches: &ArgMatches<'_>) -> Result<Normalize, LineFault>
     ensures { ReadsValues normalize_held (normalize_in (rows_in matches.now)) result }
@@ -43,7 +33,7 @@ pub(crate) fn run<S: Source, K: Sink>(
     sink: &mut K,
     values: Normalize,
 ) -> Result<Outcome, RunFault>
-    ensures { Runs (NormalizedAnswer (normalize_held values)) (of_list (profile_of values.profile))
+    ensures { RunsCommand normalize (normalize_held values)
         S.remaining S.failure_count source.old source.new
         K.contents K.failure_count sink.old sink.new result }
 {
@@ -63,18 +53,16 @@ pub fn run_normalize<S: Source, K: Sink>(
     sink: &mut K,
     profile: Profile,
 ) -> Result<Outcome, RunFault>
-    ensures { Runs (NormalizeAnswer (profile_of profile)) (of_list (profile_of profile))
+    ensures { RunsCommand normalize (one_form profile)
         S.remaining S.failure_count source.old source.new
         K.contents K.failure_count sink.old sink.new result }
 {
-    let list = read_list(alloc, source, profile)?;
-    let form = normalize(alloc, &list)?;
-    drop(list);
+    let form = normalize(alloc, &read_list(alloc, source, profile)?)?;
     form.encode(sink)?;
     Ok(Outcome::Yes)
 }
 
-/// Writes the bytes that spell the five normal forms of the list that the whole input spells, one behind the other: of
+/// Writes the bytes that spell the five normal forms of the list that the whole input spells, one after the other: of
 /// the list itself, of a new file, of a new directory, and of a new file and a new directory in that new directory
 /// (this library's own, over RFC 8881, section 6.2.1). Nothing is written before the input is accepted as a list of the
 /// profile and all five are made. Nothing is read after a refusal.
@@ -84,13 +72,11 @@ pub fn run_normalize_inherit<S: Source, K: Sink>(
     sink: &mut K,
     profile: Profile,
 ) -> Result<Outcome, RunFault>
-    ensures { Runs (NormalizeInheritAnswer (profile_of profile)) (of_list (profile_of profile))
+    ensures { RunsCommand normalize (five_forms profile)
         S.remaining S.failure_count source.old source.new
         K.contents K.failure_count sink.old sink.new result }
 {
-    let parent = read_list(alloc, source, profile)?;
-    let forms = normalize_inherit(alloc, &parent)?;
-    drop(parent);
+    let forms = normalize_inherit(alloc, &read_list(alloc, source, profile)?)?;
     forms.encode(sink)?;
     Ok(Outcome::Yes)
 }

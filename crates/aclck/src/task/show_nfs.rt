@@ -1,14 +1,11 @@
 //! `show-nfs`: the text of a list.
-ghost use Rattle.aclck.specs.Common.{Runs, of_list, profile_of};
-ghost use Rattle.aclck.specs.commands.ShowNfs.{ShowNfsAnswer};
+ghost use Rattle.aclck.specs.Common.{RunsCommand, profile_of};
+ghost use Rattle.aclck.specs.commands.ShowNfs.{show_nfs};
 
 use crate::answer::{Outcome, RunFault};
 use crate::input::xdr::read_list;
 use acl_perm::{Profile, Sink, Source, put_all};
 use std::alloc::Global;
-
-/// The word that names the command.
-pub(crate) const WORD: &str = "show-nfs";
 
 /// Writes the text of the list that the whole input spells (this library's own, over RFC 8881, section 6.2.1). Nothing
 /// is written before the input is accepted as a list of the profile. Nothing is read after a refusal.
@@ -18,13 +15,11 @@ pub fn run_show_nfs<S: Source, K: Sink>(
     sink: &mut K,
     profile: Profile,
 ) -> Result<Outcome, RunFault>
-    ensures { Runs (ShowNfsAnswer (profile_of profile)) (of_list (profile_of profile))
+    ensures { RunsCommand show_nfs (profile_of profile)
         S.remaining S.failure_count source.old source.new
         K.contents K.failure_count sink.old sink.new result }
 {
-    let list = read_list(alloc, source, profile)?;
-    let text = list.to_text(alloc)?;
-    drop(list);
+    let text = read_list(alloc, source, profile)?.to_text(alloc)?;
     put_all(sink, text.as_slice())?;
     Ok(Outcome::Yes)
 }

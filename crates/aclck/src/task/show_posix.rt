@@ -1,11 +1,12 @@
 //! `show-posix`: the text of a file in a form.
 ghost use Rattle.std.specs.Prelude.{◌≡◌};
-ghost use Rattle.aclck.specs.Common.{ReadsValues, Runs, of_text, rows_in};
-ghost use Rattle.aclck.specs.commands.ShowPosix.{ShowPosixAnswer, form_value, show_posix_held, show_posix_in};
+ghost use Rattle.aclck.specs.Common.{ReadsValues, RunsCommand, rows_in};
+ghost use Rattle.aclck.specs.commands.ShowPosix.{form_value, show_posix, show_posix_held, show_posix_in};
 
 use crate::answer::{Outcome, RunFault};
 use crate::input::posix::{read_file, write_file};
 use crate::line::{Argument, LineFault, text_of};
+use crate::task::values::ShowPosix;
 use crate::words::names::names_in;
 use crate::words::options::FORM;
 use acl_perm::{Sink, Source};
@@ -13,29 +14,19 @@ use acl_posix::{Form, Names};
 use clap::ArgMatches;
 use std::alloc::Global;
 
-/// The word that names the command.
-pub(crate) const WORD: &str = "show-posix";
-
-/// The arguments of `show-posix`.
+/// The option of `show-posix`. Its other words are names with their ids.
 pub(crate) const ARGUMENTS: [Argument; 2] = [FORM, Argument::Words];
 
-/// The form, and which names a text may have.
-#[derive(Drop)]
-pub struct ShowPosix {
-    pub form: Form,
-    pub names: Names,
-}
-
-/// Returns the values that the words give.
+/// Returns the form and the names. Fails with `Usage` if the form is bad or a name is refused, and with `Memory` if
+/// memory runs out.
 #[tactic(auto, unfolding(crate::specs::commands::ShowPosix::show_posix_in))]
 pub(crate) fn read(alloc: Global, matches: &ArgMatches<'_>) -> Result<ShowPosix, LineFault>
     ensures { ReadsValues show_posix_held (show_posix_in (rows_in matches.now)) result }
 {
-    let form = text_of(matches, FORM)
-        .and_then(form_value)
-        .ok_or(LineFault::Usage)?;
     Ok(ShowPosix {
-        form,
+        form: text_of(matches, FORM)
+            .and_then(form_value)
+            .ok_or(LineFault::Usage)?,
         names: names_in(alloc, matches)?,
     })
 }
@@ -53,7 +44,7 @@ fn form_value(word: &str) -> Option<Form>
     }
 }
 
-/// Writes the text in a form of a file, of which the input is the text (acl(5), "LONG TEXT FORM", "SHORT TEXT FORM").
+/// Writes the text in a form of the file that the input spells (acl(5), "LONG TEXT FORM", "SHORT TEXT FORM").
 /// The short text has a line feed after it. Nothing is written before the input is accepted.
 pub fn run_show_posix<S: Source, K: Sink>(
     alloc: Global,
@@ -62,7 +53,7 @@ pub fn run_show_posix<S: Source, K: Sink>(
     form: Form,
     names: &Names,
 ) -> Result<Outcome, RunFault>
-    ensures { Runs (ShowPosixAnswer (record { form = form; names = names.now })) of_text
+    ensures { RunsCommand show_posix (record { form = form; names = names.now })
         S.remaining S.failure_count source.old source.new
         K.contents K.failure_count sink.old sink.new result }
 {

@@ -1,34 +1,26 @@
 //! `table`: what the normal form of a list says about one right.
 ghost use Rattle.std.specs.Prelude.{◌≡◌};
-ghost use Rattle.aclck.specs.Common.{ReadsValues, Runs, of_list, option_and_then, option_map, profile_of, rows_in, text_if_any};
-ghost use Rattle.aclck.specs.commands.BitTable.{TableAnswer, bit_value, right_named, table_held, table_in};
+ghost use Rattle.aclck.specs.Common.{ReadsValues, RunsCommand, option_and_then, option_map, rows_in, text_if_any};
+ghost use Rattle.aclck.specs.commands.BitTable.{bit_value, right_named, table, table_held, table_in};
 
 use crate::answer::{Outcome, RunFault};
 use crate::input::xdr::read_list;
 use crate::line::{Argument, LineFault, text_of};
+use crate::task::values::BitTable;
 use crate::words::options::{BIT, PROFILE};
 use crate::words::profile::profile_in;
 use crate::words::values::within;
 use acl_nfs4::read_mask;
 use acl_normal::table_text;
-use acl_perm::{Mask, Profile, Sink, Source, put_all};
+use acl_perm::{Mask, Sink, Source, put_all};
 use clap::ArgMatches;
 use std::alloc::Global;
 
-/// The word that names the command.
-pub(crate) const WORD: &str = "table";
-
-/// The arguments of `table`.
+/// The options of `table`, which takes no other word.
 pub(crate) const ARGUMENTS: [Argument; 2] = [BIT, PROFILE];
 
-/// The mask of the one right that is asked for, and the profile.
-#[derive(Clone, Copy, Debug)]
-pub struct BitTable {
-    pub bit: Mask,
-    pub profile: Profile,
-}
-
-/// Returns the values that the words give.
+/// Returns the right and the profile. Fails with `Usage` if the value of `--bit` is not one right of the profile, or
+/// the profile is bad.
 #[tactic(auto, unfolding(crate::specs::commands::BitTable::table_in))]
 pub(crate) fn read(matches: &ArgMatches<'_>) -> Result<BitTable, LineFault>
     ensures { ReadsValues table_held (table_in (rows_in matches.now)) result }
@@ -38,7 +30,7 @@ pub(crate) fn read(matches: &ArgMatches<'_>) -> Result<BitTable, LineFault>
     Ok(BitTable { bit, profile })
 }
 
-// The right that a word names, if it is among these.
+// Returns the right that a word names. The rights are those of the profile, and the right must be one of them.
 fn bit_in(word: Option<&str>, rights: Mask) -> Option<Mask>
     ensures { option_map (λ mask. mask.bits) result
         ≡ option_and_then (bit_value rights.bits) (text_if_any word.entry) }
@@ -46,7 +38,7 @@ fn bit_in(word: Option<&str>, rights: Mask) -> Option<Mask>
     within(rights, right_named(word?.as_bytes())?)
 }
 
-// The right of a field with one name.
+// Returns the right of one name. `read_mask` also takes `-` and several names, which are refused here.
 #[tactic(auto, unfolding(crate::specs::commands::BitTable::right_named))]
 fn right_named(word: &[u8]) -> Option<Mask>
     ensures { option_map (λ mask. mask.bits) result ≡ right_named word.now }
@@ -65,17 +57,17 @@ pub fn run_table<S: Source, K: Sink>(
     alloc: Global,
     source: &mut S,
     sink: &mut K,
-    bit: Mask,
-    profile: Profile,
+    values: BitTable,
 ) -> Result<Outcome, RunFault>
-    ensures { Runs (TableAnswer (record { bit = bit.bits; profile = profile_of profile }))
-        (of_list (profile_of profile))
+    ensures { RunsCommand table (table_held values)
         S.remaining S.failure_count source.old source.new
         K.contents K.failure_count sink.old sink.new result }
 {
-    let list = read_list(alloc, source, profile)?;
-    let text = table_text(alloc, &list, bit)?;
-    drop(list);
+    let text = table_text(
+        alloc,
+        &read_list(alloc, source, values.profile)?,
+        values.bit,
+    )?;
     put_all(sink, text.as_slice())?;
     Ok(Outcome::Yes)
 }

@@ -1,4 +1,5 @@
-//! What every command answers if there is enough memory. What only one command is asked is in the file of that command.
+//! Every row of every command with enough memory, over devices that work and over devices that fail. The expected
+//! values are in the files of the commands. A test of only one command is in the file of that command.
 
 use crate::tests::harness::{Trial, Way};
 use crate::tests::{
@@ -9,25 +10,25 @@ use std::process::Abort;
 
 // The commands that read a text.
 fn texts_hold<A: Abort>(rt: &A, trial: Trial) {
-    bridge::holds(rt, trial);
-    calc_mask::holds(rt, trial);
-    check_posix::holds(rt, trial);
-    chmod::holds(rt, trial);
-    create::holds(rt, trial);
-    encode::holds(rt, trial);
-    show_posix::holds(rt, trial);
+    bridge::TABLE.holds(rt, trial);
+    calc_mask::TABLE.holds(rt, trial);
+    check_posix::TABLE.holds(rt, trial);
+    chmod::TABLE.holds(rt, trial);
+    create::TABLE.holds(rt, trial);
+    encode::TABLE.holds(rt, trial);
+    show_posix::TABLE.holds(rt, trial);
 }
 
 // The commands that read lists.
 fn lists_hold<A: Abort>(rt: &A, trial: Trial) {
     check_nfs::holds(rt, trial);
-    child::holds(rt, trial);
+    child::TABLE.holds(rt, trial);
     compare::holds(rt, trial);
-    mode::holds(rt, trial);
-    normalize::holds(rt, trial);
+    mode::TABLE.holds(rt, trial);
+    normalize::TABLE.holds(rt, trial);
     normalize_inherit::holds(rt, trial);
-    show_nfs::holds(rt, trial);
-    table::holds(rt, trial);
+    show_nfs::TABLE.holds(rt, trial);
+    table::TABLE.holds(rt, trial);
 }
 
 #[test]

@@ -1,11 +1,11 @@
-//! `bridge` over texts of POSIX ACLs.
+//! `bridge` over texts of POSIX ACLs (docs/lists.md, "From POSIX to NFSv4"). The bytes are those of RFC 8881, section
+//! 6.2.1, as XDR (RFC 4506).
 
 use crate::command::command;
-use crate::tests::harness::{Table, Trial};
+use crate::tests::harness::Table;
 use crate::tests::texts::{GROUPS, PLAIN};
 use acl_perm::Counted;
 use std::alloc::{AllocError, Global};
-use std::process::Abort;
 use std::test::Fail;
 
 // ---- texts and lists
@@ -37,8 +37,8 @@ const IDS_LIST: &[u8] = b"\0\0\0\x05\
 
 // ---- rows
 
-// Texts with the lists that mean the same; lines whose input is refused; and lines that ask for nothing.
-static TABLE: Table = Table {
+/// Texts with the lists that mean the same; lines whose input is refused; and lines that ask for nothing.
+pub static TABLE: Table = Table {
     answers: &[
         (
             "bridge",
@@ -54,6 +54,7 @@ static TABLE: Table = Table {
             )],
         ),
     ],
+    asked: &[],
     refusals: &[(
         "bridge",
         &[(
@@ -65,14 +66,9 @@ static TABLE: Table = Table {
     unread: PLAIN,
 };
 
-/// Tests that each row is answered or refused as it says.
-pub fn holds<A: Abort>(rt: &A, trial: Trial) {
-    TABLE.holds(rt, trial);
-}
-
 // ---- many users
 
-// The text of an ACL with so many users. Each user costs four of the 65,536 mask bits of a list, as USER_OBJ and
+// The text of an ACL with this many users. Each user costs four of the 65,536 mask bits of a list, as USER_OBJ and
 // GROUP_OBJ do.
 fn users(alloc: Global, count: u32, other: &str) -> Result<Vec<u8>, AllocError> {
     let mut text = Vec::new(alloc);
@@ -102,12 +98,12 @@ fn bridged(alloc: Global, input: &[u8], err: &mut [u8]) -> (u8, Vec<u8>) {
     (status, out.into_inner())
 }
 
-// The text at the front of a buffer, without what is behind it.
+// The text at the front of a buffer, without what is after it.
 fn is_line(room: &[u8], text: &str) -> bool {
     room.starts_with(text.as_bytes()) && room.iter().skip(text.len()).all(|byte| *byte == 0)
 }
 
-// Whether `bridge` gives this status for a text with so many users.
+// Returns whether `bridge` gives this status for a text with this many users.
 fn bridges_users(
     alloc: Global,
     count: u32,

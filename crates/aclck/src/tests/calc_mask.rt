@@ -1,11 +1,10 @@
-//! `calc-mask` over texts of POSIX ACLs.
+//! `calc-mask` over texts of POSIX ACLs (POSIX.1e draft 17, section 23.4; acl(5), "LONG TEXT FORM").
 
-use crate::tests::harness::{Table, Trial};
+use crate::tests::harness::Table;
 use crate::tests::texts::{MASKED, PLAIN};
-use std::process::Abort;
 
-// A text with a mask and one without.
-static TABLE: Table = Table {
+/// A text with a mask and one without.
+pub static TABLE: Table = Table {
     answers: &[(
         "calc-mask",
         0,
@@ -17,12 +16,8 @@ static TABLE: Table = Table {
             (PLAIN, b"user::rwx\ngroup::r-x\nmask::r-x\nother::---\n"),
         ],
     )],
+    asked: &[],
     refusals: &[],
     usage: &[],
     unread: PLAIN,
 };
-
-/// Tests that each row is answered or refused as it says.
-pub fn holds<A: Abort>(rt: &A, trial: Trial) {
-    TABLE.holds(rt, trial);
-}

@@ -1,7 +1,9 @@
-//! `check-nfs` over devices that fail once and then work, or that fail at every later call.
+//! `check-nfs` over devices that fail once and then work, or that fail at every later call: each failure is reported at
+//! once. The answers over devices that work are in `check_nfs`.
 
 use crate::answer::{Outcome, RunFault};
-use crate::task::check_nfs::{CheckNfs, run_check_nfs};
+use crate::task::check_nfs::run_check_nfs;
+use crate::task::values::CheckNfs;
 use crate::tests::check_nfs::changed;
 use crate::tests::harness::{Calls, Devices, FINE, fails_at_read, fails_at_write, run};
 use crate::tests::lists::READ_OF_ALL;
@@ -25,7 +27,7 @@ fn asking(mask: &'static str) -> [&'static str; 9] {
     ]
 }
 
-// The rights that are asked for, the write that fails, and what was written before.
+// The rights that are requested, the write that fails, and what was written before.
 const WRITES: [(&str, u64, &[u8]); 6] = [
     ("READ_DATA", 1, b""),
     ("READ_DATA", 2, b"gra"),
@@ -35,7 +37,7 @@ const WRITES: [(&str, u64, &[u8]); 6] = [
     ("WRITE_DATA", 3, b"denied"),
 ];
 
-// The rights that are asked for, the byte at place 3 of a list, the read that fails, the status, and what is written.
+// The rights that are requested, the byte at place 3 of a list, the read that fails, the status, and what is written.
 const STATUSES: [(&str, u8, u64, u8, &[u8]); 5] = [
     ("READ_DATA", 1, 10, 0, b"granted\n"),
     ("WRITE_DATA", 1, 10, 1, b"denied\n"),
@@ -53,7 +55,7 @@ const ERRS: [(u64, u64, usize); 5] = [
     (1, u64::MAX, 1),
 ];
 
-// Whether a status stays the same over such an `err`, and nothing is reported again.
+// Returns whether a status stays the same over such an `err`, and nothing is reported again.
 fn keeps_status(
     alloc: Global,
     mask: &'static str,

@@ -1,11 +1,10 @@
-//! `check-posix` over texts of POSIX ACLs.
+//! `check-posix` over texts of POSIX ACLs (acl(5), "ACCESS CHECK ALGORITHM").
 
-use crate::tests::harness::{Asked, Table, Trial, lines_hold};
+use crate::tests::harness::{Asked, Table};
 use crate::tests::texts::{GROUPS, PLAIN};
-use std::process::Abort;
 
 // A text, and what `check-posix` answers about it.
-static CHECKS: [Asked; 1] = [(
+const CHECKS: &[Asked] = &[(
     GROUPS,
     &[
         (
@@ -36,9 +35,10 @@ static CHECKS: [Asked; 1] = [(
     ],
 )];
 
-// A text with an invalid default ACL, and words that ask for nothing.
-static TABLE: Table = Table {
+/// A text with an invalid default ACL, and words that ask for nothing.
+pub static TABLE: Table = Table {
     answers: &[],
+    asked: CHECKS,
     refusals: &[(
         "check-posix --owner 1 --group 2 --user 3 --want r",
         &[(b"u::r,g::r,o::r,d:u::r", "Invalid default: Miss GROUP_OBJ")],
@@ -51,9 +51,3 @@ static TABLE: Table = Table {
     ],
     unread: PLAIN,
 };
-
-/// Tests that each check is answered or refused as its row says.
-pub fn holds<A: Abort>(rt: &A, trial: Trial) {
-    lines_hold(rt, trial, &CHECKS);
-    TABLE.holds(rt, trial);
-}

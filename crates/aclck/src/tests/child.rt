@@ -1,8 +1,7 @@
 //! `child` over lists in bytes (the rules of creation in docs/lists.md).
 
-use crate::tests::harness::{Table, Trial};
+use crate::tests::harness::Table;
 use crate::tests::lists::{EMPTY, READ_OF_ALICE, READ_OF_THE_GROUP};
-use std::process::Abort;
 
 // ---- lists
 
@@ -29,8 +28,8 @@ const OF_STAFF: &[u8] = b"\0\0\0\x01\0\0\0\x01\0\0\0\x52\0\0\0\x02\0\0\0\x05staf
 
 // ---- rows
 
-// Lists with the list that a child gets; lines whose input is refused; and lines that ask for nothing.
-static TABLE: Table = Table {
+/// Lists with the list that a child gets; lines whose input is refused; and lines that ask for nothing.
+pub static TABLE: Table = Table {
     answers: &[
         (
             "child --kind dir",
@@ -63,6 +62,7 @@ static TABLE: Table = Table {
             &[(OF_STAFF, OF_STAFF)],
         ),
     ],
+    asked: &[],
     refusals: &[
         (
             "child --kind file --profile narrow",
@@ -82,8 +82,3 @@ static TABLE: Table = Table {
     ],
     unread: EMPTY,
 };
-
-/// Tests that each row is answered or refused as it says.
-pub fn holds<A: Abort>(rt: &A, trial: Trial) {
-    TABLE.holds(rt, trial);
-}

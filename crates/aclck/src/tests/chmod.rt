@@ -1,11 +1,10 @@
-//! `chmod` over texts of POSIX ACLs.
+//! `chmod` over texts of POSIX ACLs (acl(5), "CORRESPONDENCE BETWEEN ACL ENTRIES AND FILE PERMISSION BITS").
 
-use crate::tests::harness::{Table, Trial};
+use crate::tests::harness::Table;
 use crate::tests::texts::{MASKED, PLAIN};
-use std::process::Abort;
 
-// A text in which the mode sets the mask, and a line whose mode has one digit too many.
-static TABLE: Table = Table {
+/// A text in which the mode sets the mask, and a line whose mode has one digit too many.
+pub static TABLE: Table = Table {
     answers: &[(
         "chmod --mode 660",
         0,
@@ -14,12 +13,8 @@ static TABLE: Table = Table {
             b"user::rw-\nuser:1001:rw-\ngroup::r--\ngroup:50:rw-\nmask::rw-\nother::---\n",
         )],
     )],
+    asked: &[],
     refusals: &[],
     usage: &["chmod --mode 00660"],
     unread: PLAIN,
 };
-
-/// Tests that each row is answered or refused as it says.
-pub fn holds<A: Abort>(rt: &A, trial: Trial) {
-    TABLE.holds(rt, trial);
-}

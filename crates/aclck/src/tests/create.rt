@@ -1,14 +1,13 @@
 //! `create` over texts of directories (acl(5), "OBJECT CREATION AND DEFAULT ACLs").
 
-use crate::tests::harness::{Table, Trial};
+use crate::tests::harness::Table;
 use crate::tests::texts::PLAIN;
-use std::process::Abort;
 
 // A directory with a default ACL.
 const PARENT: &[u8] = b"u::rwx,g::r-x,o::---,d:u::rwx,d:u:5:rwx,d:g::r-x,d:m::rwx,d:o::r-x";
 
-// Directories with a default ACL and without one, and a line that lacks the umask.
-static TABLE: Table = Table {
+/// Directories with a default ACL and without one, and a line that lacks the umask.
+pub static TABLE: Table = Table {
     answers: &[
         (
             "create --mode 666 --umask 022",
@@ -38,12 +37,8 @@ static TABLE: Table = Table {
             )],
         ),
     ],
+    asked: &[],
     refusals: &[],
     usage: &["create --mode 666"],
     unread: PLAIN,
 };
-
-/// Tests that each row is answered or refused as it says.
-pub fn holds<A: Abort>(rt: &A, trial: Trial) {
-    TABLE.holds(rt, trial);
-}

@@ -1,11 +1,11 @@
-//! `encode` over texts of lists (the format in docs/formats.md).
+//! `encode` over texts of lists (the format in docs/formats.md). The bytes are those of RFC 8881, section 6.2.1, as XDR
+//! (RFC 4506).
 
-use crate::tests::harness::{Table, Trial};
+use crate::tests::harness::Table;
 use crate::tests::lists::{BLANKS, GROUP_FLAGGED, INHERITED_OF_BOB, NO_RIGHTS};
-use std::process::Abort;
 
-// Texts with their lists; lines whose input is refused; and lines that ask for nothing.
-static TABLE: Table = Table {
+/// Texts with their lists; lines whose input is refused; and lines that ask for nothing.
+pub static TABLE: Table = Table {
     answers: &[
         (
             "encode",
@@ -26,6 +26,7 @@ static TABLE: Table = Table {
             &[(b"ALLOW INHERITED READ_DATA bob", INHERITED_OF_BOB)],
         ),
     ],
+    asked: &[],
     refusals: &[
         (
             "encode",
@@ -51,8 +52,3 @@ static TABLE: Table = Table {
     usage: &["encode --profile wide"],
     unread: b"",
 };
-
-/// Tests that each row is answered or refused as it says.
-pub fn holds<A: Abort>(rt: &A, trial: Trial) {
-    TABLE.holds(rt, trial);
-}

@@ -10,6 +10,6 @@ mod trial;
 pub use devices::{Calls, Devices, FINE};
 pub use failures::{fails_at_read, fails_at_write};
 pub use lists::{repeated, repeated_ace};
-pub use rows::{Asked, Table, lines_hold};
+pub use rows::{Asked, Table};
 pub use runs::run;
 pub use trial::{Answer, Trial, Way};

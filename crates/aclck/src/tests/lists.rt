@@ -1,4 +1,5 @@
-//! Lists that the tests of several commands read, each with its text.
+//! Lists that the tests of several commands read, each with its text. The bytes are those of RFC 8881, section 6.2.1,
+//! as XDR (RFC 4506).
 
 /// No ACE.
 pub const EMPTY: &[u8] = b"\0\0\0\0";
@@ -24,7 +25,7 @@ pub const NO_RIGHTS: &[u8] = b"\0\0\0\x01\0\0\0\x01\0\0\0\0\0\0\0\0\0\0\0\x06OWN
 /// ALLOW - WRITE_RETENTION bob.
 pub const RETENTION_OF_BOB: &[u8] = b"\0\0\0\x01\0\0\0\0\0\0\0\0\0\0\x02\0\0\0\0\x03bob\0";
 
-/// ALLOW - READ_DATA EVERYONE@, and a byte behind it.
+/// ALLOW - READ_DATA EVERYONE@, and a byte after it.
 pub const WITH_A_BYTE: &[u8] = b"\0\0\0\x01\0\0\0\0\0\0\0\0\0\0\0\x01\0\0\0\x09EVERYONE@\0\0\0\0";
 
 /// DENY - READ_DATA bob, ALLOW - READ_DATA alice.

@@ -1,8 +1,7 @@
 //! `mode` over lists in bytes (RFC 8881, section 6.3.2).
 
-use crate::tests::harness::{Table, Trial};
+use crate::tests::harness::Table;
 use crate::tests::lists::{EMPTY, RETENTION_OF_BOB};
-use std::process::Abort;
 
 // ---- lists
 
@@ -21,8 +20,8 @@ const OF_ALL: &[u8] = b"\0\0\0\x04\
 
 // ---- rows
 
-// Lists with their modes; lines whose input is refused; and lines that ask for nothing.
-static TABLE: Table = Table {
+/// Lists with their modes; lines whose input is refused; and lines that ask for nothing.
+pub static TABLE: Table = Table {
     answers: &[
         (
             "mode",
@@ -33,6 +32,7 @@ static TABLE: Table = Table {
         ("mode --", 0, &[(OF_ALL, b"511\n")]),
         ("mode --profile full", 0, &[(RETENTION_OF_BOB, b"000\n")]),
     ],
+    asked: &[],
     refusals: &[
         (
             "mode --profile=narrow",
@@ -49,8 +49,3 @@ static TABLE: Table = Table {
     usage: &["mode x", "mode --profile wide", "mode --kind file"],
     unread: EMPTY,
 };
-
-/// Tests that each row is answered or refused as it says.
-pub fn holds<A: Abort>(rt: &A, trial: Trial) {
-    TABLE.holds(rt, trial);
-}

@@ -1,4 +1,5 @@
-//! `normalize` over lists in bytes, some of which are cut short or damaged.
+//! `normalize` over lists in bytes, some of which are cut short or damaged. Each normal form follows from the rules of
+//! docs/lists.md, and the faults are those of docs/formats.md, "XDR".
 
 use crate::tests::harness::{Answer, FINE, Table, Trial, Way, repeated_ace, run};
 use crate::tests::lists::{
@@ -49,8 +50,8 @@ const AMY_FIRST: &[u8] = b"\0\0\0\x02\
     \0\0\0\0\0\0\0\0\0\0\0\x01\0\0\0\x03amy\0\
     \0\0\0\0\0\0\0\0\0\0\0\x01\0\0\0\x03zoe\0";
 
-// ALLOW - READ_DATA frontend2, and the same of amy, of frontend1 and of fronte: three names that begin with the same
-// six bytes.
+// ALLOW - READ_DATA frontend2, and the same for amy, frontend1 and fronte: three names that begin with the same six
+// bytes.
 const FRONTEND_FIRST: &[u8] = b"\0\0\0\x04\
     \0\0\0\0\0\0\0\0\0\0\0\x01\0\0\0\x09frontend2\0\0\0\
     \0\0\0\0\0\0\0\0\0\0\0\x01\0\0\0\x03amy\0\
@@ -72,8 +73,8 @@ const ALL_OF_ALL: &[u8] = b"\0\0\0\x01\0\0\0\0\0\0\0\0\0\x1f\x07\xff\0\0\0\x09EV
 
 // ---- rows
 
-// Lists with their normal forms; lines whose input is refused; and lines that ask for nothing.
-static TABLE: Table = Table {
+/// Lists with their normal forms; lines whose input is refused; and lines that ask for nothing.
+pub static TABLE: Table = Table {
     answers: &[
         (
             "normalize",
@@ -102,6 +103,7 @@ static TABLE: Table = Table {
         ("normalize --profile=full", 0, &[(ALICE_TWICE, ALICE_ONCE)]),
         ("normalize --", 0, &[(NO_RIGHTS, EMPTY)]),
     ],
+    asked: &[],
     refusals: &[
         (
             "normalize --profile narrow",
@@ -112,11 +114,6 @@ static TABLE: Table = Table {
     usage: &["normalize x", "normalize --profile wide"],
     unread: EMPTY,
 };
-
-/// Tests that each row is answered or refused as it says.
-pub fn holds<A: Abort>(rt: &A, trial: Trial) {
-    TABLE.holds(rt, trial);
-}
 
 // Each normal form that a line writes is its own normal form.
 fn forms_stay<A: Abort>(rt: &A, trial: Trial, line: &str, rows: &[(&[u8], &[u8])]) {

@@ -1,4 +1,4 @@
-//! `normalize --inherit` over lists of one ACE, by its flags.
+//! `normalize --inherit` over lists of one ACE, by its flags (the rules of creation in docs/lists.md).
 
 use crate::answer::Outcome;
 use crate::task::normalize::run_normalize_inherit;
@@ -35,14 +35,14 @@ static FORMS: [(u8, &[u8; 5]); 8] = [
     (0x80, b"x...."),
 ];
 
-// A text of at most five forms, and its length.
+// The bytes of at most five forms, and how many they are.
 #[derive(Clone, Copy)]
-struct Text {
+struct FormBytes {
     room: [u8; ROOM],
     len: usize,
 }
 
-impl Text {
+impl FormBytes {
     fn add(&mut self, bytes: &[u8]) {
         for byte in bytes {
             if let Some(at) = self.room.get_mut(self.len) {
@@ -57,9 +57,9 @@ impl Text {
     }
 }
 
-// The bytes of the five forms.
-fn text_of(present: &[u8; 5]) -> Text {
-    let mut text = Text {
+// Returns the bytes of five forms: those that `present` marks have the ACE, and the others are empty.
+fn text_of(present: &[u8; 5]) -> FormBytes {
+    let mut text = FormBytes {
         room: [0; ROOM],
         len: 0,
     };
@@ -90,6 +90,7 @@ fn is_outside(line: &str, flags: u8) -> bool {
 // A line whose input is refused, and lines that ask for nothing: no other command takes the flag.
 static TABLE: Table = Table {
     answers: &[],
+    asked: &[],
     refusals: &[(
         "normalize --inherit --profile narrow",
         &[(INHERITED, "FlagBits at byte 8")],

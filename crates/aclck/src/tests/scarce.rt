@@ -1,5 +1,6 @@
-//! What every command answers if memory may run out, which is then an accepted answer to each line. Each command has a
-//! test of its own, because each request for memory that a test makes is refused in turn.
+//! Every row of every command if memory may run out, which is then an accepted answer to each line. The expected values
+//! are in the files of the commands. Each command has a test of its own, because each request for memory that a test
+//! makes is refused in turn.
 
 use crate::tests::harness::{Trial, Way};
 use crate::tests::{
@@ -9,12 +10,12 @@ use crate::tests::{
 
 #[test]
 fn bridge_writes_each_list_or_runs_out_of_memory(rt: HostRuntime) {
-    bridge::holds(&rt, Trial::new(rt.alloc(), Way::Scarce));
+    bridge::TABLE.holds(&rt, Trial::new(rt.alloc(), Way::Scarce));
 }
 
 #[test]
 fn calc_mask_writes_each_text_or_runs_out_of_memory(rt: HostRuntime) {
-    calc_mask::holds(&rt, Trial::new(rt.alloc(), Way::Scarce));
+    calc_mask::TABLE.holds(&rt, Trial::new(rt.alloc(), Way::Scarce));
 }
 
 #[test]
@@ -24,17 +25,17 @@ fn check_nfs_answers_each_row_or_runs_out_of_memory(rt: HostRuntime) {
 
 #[test]
 fn check_posix_answers_each_row_or_runs_out_of_memory(rt: HostRuntime) {
-    check_posix::holds(&rt, Trial::new(rt.alloc(), Way::Scarce));
+    check_posix::TABLE.holds(&rt, Trial::new(rt.alloc(), Way::Scarce));
 }
 
 #[test]
 fn child_writes_each_list_or_runs_out_of_memory(rt: HostRuntime) {
-    child::holds(&rt, Trial::new(rt.alloc(), Way::Scarce));
+    child::TABLE.holds(&rt, Trial::new(rt.alloc(), Way::Scarce));
 }
 
 #[test]
 fn chmod_writes_each_text_or_runs_out_of_memory(rt: HostRuntime) {
-    chmod::holds(&rt, Trial::new(rt.alloc(), Way::Scarce));
+    chmod::TABLE.holds(&rt, Trial::new(rt.alloc(), Way::Scarce));
 }
 
 #[test]
@@ -44,22 +45,22 @@ fn compare_answers_each_pair_or_runs_out_of_memory(rt: HostRuntime) {
 
 #[test]
 fn create_writes_each_text_or_runs_out_of_memory(rt: HostRuntime) {
-    create::holds(&rt, Trial::new(rt.alloc(), Way::Scarce));
+    create::TABLE.holds(&rt, Trial::new(rt.alloc(), Way::Scarce));
 }
 
 #[test]
 fn encode_writes_each_list_or_runs_out_of_memory(rt: HostRuntime) {
-    encode::holds(&rt, Trial::new(rt.alloc(), Way::Scarce));
+    encode::TABLE.holds(&rt, Trial::new(rt.alloc(), Way::Scarce));
 }
 
 #[test]
 fn mode_writes_each_mode_or_runs_out_of_memory(rt: HostRuntime) {
-    mode::holds(&rt, Trial::new(rt.alloc(), Way::Scarce));
+    mode::TABLE.holds(&rt, Trial::new(rt.alloc(), Way::Scarce));
 }
 
 #[test]
 fn normalize_writes_each_normal_form_or_runs_out_of_memory(rt: HostRuntime) {
-    normalize::holds(&rt, Trial::new(rt.alloc(), Way::Scarce));
+    normalize::TABLE.holds(&rt, Trial::new(rt.alloc(), Way::Scarce));
 }
 
 #[test]
@@ -69,15 +70,15 @@ fn normalize_writes_five_forms_or_runs_out_of_memory(rt: HostRuntime) {
 
 #[test]
 fn show_nfs_writes_each_text_or_runs_out_of_memory(rt: HostRuntime) {
-    show_nfs::holds(&rt, Trial::new(rt.alloc(), Way::Scarce));
+    show_nfs::TABLE.holds(&rt, Trial::new(rt.alloc(), Way::Scarce));
 }
 
 #[test]
 fn show_posix_writes_each_text_or_runs_out_of_memory(rt: HostRuntime) {
-    show_posix::holds(&rt, Trial::new(rt.alloc(), Way::Scarce));
+    show_posix::TABLE.holds(&rt, Trial::new(rt.alloc(), Way::Scarce));
 }
 
 #[test]
 fn table_writes_the_rows_of_a_bit_or_runs_out_of_memory(rt: HostRuntime) {
-    table::holds(&rt, Trial::new(rt.alloc(), Way::Scarce));
+    table::TABLE.holds(&rt, Trial::new(rt.alloc(), Way::Scarce));
 }

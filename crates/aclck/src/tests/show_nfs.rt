@@ -1,11 +1,10 @@
-//! `show-nfs` over lists in bytes (the format in docs/formats.md).
+//! `show-nfs` over lists in bytes (the format in docs/formats.md; the bytes are those of RFC 8881, section 6.2.1).
 
-use crate::tests::harness::{Table, Trial};
+use crate::tests::harness::Table;
 use crate::tests::lists::{BLANKS, EMPTY, GROUP_FLAGGED, INHERITED_OF_BOB, NO_RIGHTS, WITH_A_BYTE};
-use std::process::Abort;
 
-// Lists with their texts; lines whose input is refused; and lines that ask for nothing.
-static TABLE: Table = Table {
+/// Lists with their texts; lines whose input is refused; and lines that ask for nothing.
+pub static TABLE: Table = Table {
     answers: &[
         (
             "show-nfs",
@@ -26,6 +25,7 @@ static TABLE: Table = Table {
             &[(INHERITED_OF_BOB, b"ALLOW INHERITED READ_DATA bob\n")],
         ),
     ],
+    asked: &[],
     refusals: &[
         (
             "show-nfs --profile narrow",
@@ -42,8 +42,3 @@ static TABLE: Table = Table {
     usage: &["show-nfs bob"],
     unread: EMPTY,
 };
-
-/// Tests that each row is answered or refused as it says.
-pub fn holds<A: Abort>(rt: &A, trial: Trial) {
-    TABLE.holds(rt, trial);
-}

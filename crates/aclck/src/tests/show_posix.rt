@@ -1,14 +1,14 @@
-//! `show-posix` over texts of POSIX ACLs.
+//! `show-posix` over texts of POSIX ACLs (acl(5), "LONG TEXT FORM" and "SHORT TEXT FORM"; the faults are those of
+//! docs/formats.md).
 
-use crate::tests::harness::{Asked, FINE, Table, Trial, lines_hold, repeated, run};
+use crate::tests::harness::{Asked, FINE, Table, repeated, run};
 use crate::tests::texts::{MASKED, PLAIN, PRINTED};
-use std::process::Abort;
 use std::test::Fail;
 
 // ---- rows
 
 // Texts that `show-posix` writes again.
-static SHOWN: [Asked; 5] = [
+const SHOWN: &[Asked] = &[
     (
         b"u::rw-,u:5:rw-,g::r--,m::r--,o::---,d:u::rwx,d:u:5:rwx,d:g::r--,d:m::rwx,d:o::---",
         &[(
@@ -62,9 +62,10 @@ static SHOWN: [Asked; 5] = [
     ),
 ];
 
-// Texts with names that have no id, texts that have a fault, and words that ask for nothing.
-static TABLE: Table = Table {
+/// Texts with names that have no id, texts that have a fault, and words that ask for nothing.
+pub static TABLE: Table = Table {
     answers: &[],
+    asked: SHOWN,
     refusals: &[
         (
             "show-posix g:bob=1002",
@@ -104,12 +105,6 @@ static TABLE: Table = Table {
     ],
     unread: PLAIN,
 };
-
-/// Tests that each text is shown or refused as its row says.
-pub fn holds<A: Abort>(rt: &A, trial: Trial) {
-    lines_hold(rt, trial, &SHOWN);
-    TABLE.holds(rt, trial);
-}
 
 // ---- texts that are cut short or very long
 

@@ -1,13 +1,12 @@
 //! `table` over lists in bytes (the format in docs/formats.md).
 
-use crate::tests::harness::{Asked, Table, Trial, lines_hold};
+use crate::tests::harness::{Asked, Table};
 use crate::tests::lists::{
     AMY_AND_ALL, AMY_INHERITED, BOB_AND_OWNER, EMPTY, GROUP_FLAGGED, RETENTION_OF_BOB,
 };
-use std::process::Abort;
 
 // Lists, with their rows for a right.
-static ROWS: [Asked; 5] = [
+const ROWS: &[Asked] = &[
     (
         BOB_AND_OWNER,
         &[
@@ -49,9 +48,10 @@ static ROWS: [Asked; 5] = [
     ),
 ];
 
-// Lines whose input is refused, and lines that ask for nothing.
-static TABLE: Table = Table {
+/// Lines whose input is refused, and lines that ask for nothing.
+pub static TABLE: Table = Table {
     answers: &[],
+    asked: ROWS,
     refusals: &[
         (
             "table --bit READ_DATA --profile=narrow",
@@ -72,9 +72,3 @@ static TABLE: Table = Table {
     ],
     unread: EMPTY,
 };
-
-/// Tests that each row is answered or refused as it says.
-pub fn holds<A: Abort>(rt: &A, trial: Trial) {
-    lines_hold(rt, trial, &ROWS);
-    TABLE.holds(rt, trial);
-}

@@ -26,14 +26,14 @@ impl From<NameFault> for LineFault {
     }
 }
 
-// A half of a table of names.
+// Whether a name is that of a user or of a group. A table keeps the two apart.
 #[derive(Clone, Copy, Debug, PartialEq, Eq)]
 enum Half {
     Users,
     Groups,
 }
 
-// A name with its id.
+// What a word `u:NAME=ID` or `g:NAME=ID` spells.
 #[derive(Clone, Copy, Debug)]
 struct NamedId<'a> {
     half: Half,
@@ -41,7 +41,8 @@ struct NamedId<'a> {
     id: Id,
 }
 
-/// Returns the table of the words that are no option.
+/// Returns the table of the names that the words outside options spell. Fails with `Usage` if a word spells no name
+/// with an id or the table refuses the name, and with `Memory` if memory runs out.
 #[tactic(auto, unfolding(crate::specs::NameWords::names_value))]
 pub(crate) fn names_in(alloc: Global, matches: &ArgMatches<'_>) -> Result<Names, LineFault>
     ensures { ReadsValues (λ n. n) (names_in (rows_in matches.now)) result }
@@ -69,7 +70,7 @@ fn names_of(alloc: Global, words: &[&str]) -> Result<Names, LineFault>
     Ok(names)
 }
 
-// Adds the name that a word spells.
+// Fails with `Usage` if the word spells no name, or the table refuses it.
 fn add_word(names: &mut Names, word: &str) -> Result<(), LineFault>
     ensures { Adds names.old (named_id word.now) names.new result }
 {
@@ -89,7 +90,8 @@ fn add_name(names: &mut Names, named: NamedId<'_>) -> Result<(), LineFault>
     Ok(())
 }
 
-// What a word spells.
+// Returns the name that a word spells. A name may have colons and equals signs, because only the first colon and the
+// last equals sign separate the parts.
 #[tactic(auto, unfolding(crate::specs::NameWords::named_id))]
 fn named_id<'a>(word: &'a str) -> Option<NamedId<'a>>
     ensures { option_map named_of result ≡ named_id word.entry.now }
@@ -105,14 +107,12 @@ fn named_id<'a>(word: &'a str) -> Option<NamedId<'a>>
     Some(NamedId { half, name, id })
 }
 
-// The parts before and behind the last equals sign.
 fn last_cut<'a>(word: &'a str) -> Option<(&'a str, &'a str)>
     ensures { option_map cut_of result ≡ last_cut equals_sign word.entry.now }
 {
     word.rsplit_once('=')
 }
 
-// The parts before and behind the first colon.
 fn first_cut<'a>(word: &'a str) -> Option<(&'a str, &'a str)>
     ensures { option_map cut_of result ≡ first_cut colon word.entry.now }
 {

@@ -4,50 +4,50 @@ use crate::line::Argument;
 
 // ---- who asks, and about which object
 
-/// The owner of the object.
+/// `--owner`, the owner of the object: a name for `check-nfs`, and an id for `check-posix`.
 pub(crate) const OWNER: Argument = Argument::Required("owner");
 
-/// The owning group of the object.
+/// `--group`, the owning group of the object: a name for `check-nfs`, and an id for `check-posix`.
 pub(crate) const GROUP: Argument = Argument::Required("group");
 
-/// The user who requests access.
+/// `--user`, who requests access: a name for `check-nfs`, and an id for `check-posix`.
 pub(crate) const USER: Argument = Argument::Required("user");
 
-/// The groups of that user.
+/// `--groups`, the groups of the requesting user: ids with commas between them. If it is absent, there are none.
 pub(crate) const GROUPS: Argument = Argument::Optional("groups");
 
-// ---- what is asked for
+// ---- what is requested
 
-/// The rights that are requested.
+/// `--mask`, the rights that are requested: names with `|` between them, or `none`.
 pub(crate) const MASK: Argument = Argument::Required("mask");
 
-/// The permissions that are requested.
+/// `--want`, the permissions that are requested: r, w and x in any order, or `none`.
 pub(crate) const WANT: Argument = Argument::Required("want");
 
-/// The one right of a table.
+/// `--bit`, the right of a table: one of its names.
 pub(crate) const BIT: Argument = Argument::Required("bit");
 
 // ---- how a list is read and written
 
-/// The rights and flags that a list may have.
+/// `--profile`, the rights and flags that a list may have: `full` or `narrow`.
 pub(crate) const PROFILE: Argument = Argument::Default("profile", "full");
 
-/// The form of a text.
+/// `--form`, the form of a text: `canonical`, `shown` or `short`.
 pub(crate) const FORM: Argument = Argument::Default("form", "canonical");
 
-/// Inheritance counts.
+/// `--inherit`: the five normal forms are written, and not only that of the list itself.
 pub(crate) const INHERIT: Argument = Argument::Flag("inherit");
 
 // ---- a new mode, and a new object
 
-/// The mode that is set or asked for.
+/// `--mode`, the mode that `chmod` sets, or that a program requests for a new object: one to four octal digits.
 pub(crate) const MODE: Argument = Argument::Required("mode");
 
-/// The umask of the program that creates the object.
+/// `--umask`, the umask of the program that creates the object: one to four octal digits.
 pub(crate) const UMASK: Argument = Argument::Required("umask");
 
-/// What is created.
+/// `--kind`, what is created: `file` or `dir`.
 pub(crate) const KIND: Argument = Argument::Required("kind");
 
-/// The new object is a directory.
+/// `--dir`: the new object is a directory. If it is absent, the object is a file.
 pub(crate) const DIR: Argument = Argument::Flag("dir");

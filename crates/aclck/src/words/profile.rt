@@ -11,7 +11,8 @@ use clap::ArgMatches;
 /// The arguments of a command that takes `--profile` and no other word.
 pub(crate) const ARGUMENTS: [Argument; 1] = [PROFILE];
 
-/// Returns the profile that the words give.
+/// Returns the value of `--profile`, which is the full profile if the option is absent. Fails with `Usage` for a word
+/// that names no profile.
 #[tactic(auto, unfolding(crate::specs::ProfileArgument::profile_in))]
 pub(crate) fn profile_in(matches: &ArgMatches<'_>) -> Result<Profile, LineFault>
     ensures { ReadsValues profile_of (profile_in (rows_in matches.now)) result }

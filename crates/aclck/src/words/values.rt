@@ -19,7 +19,7 @@ const OCTAL: u32 = 8;
 const MODE_DIGITS: usize = 4;
 
 /// Returns the value of an ID: decimal digits within the limit, with any number of zeros in front.
-#[tactic(auto, unfolding(crate::specs::Values::id_value))]
+#[tactic(auto, unfolding(crate::specs::Values::id_value, acl_posix::specs::Fields::id_of))]
 pub(crate) fn id_value(word: &str) -> Option<Id>
     ensures { option_map (λ id. id.value) result ≡ id_value word.now }
 {
@@ -29,7 +29,7 @@ pub(crate) fn id_value(word: &str) -> Option<Id>
     Id::new(digits(word, DECIMAL).ok()?)
 }
 
-/// Returns the mode that an option's value spells.
+/// Returns the mode that an option's value spells. Fails with `Usage` if there is no value, or it is not a mode.
 pub(crate) fn mode_in(word: Option<&str>) -> Result<Mode, LineFault>
     ensures { ReadsValues (λ mode. mode.bits)
         (option_and_then mode_value (text_if_any word.entry)) result }
@@ -48,7 +48,7 @@ fn mode_value(word: &str) -> Option<Mode>
     Mode::new(u16::try_from(digits(word, OCTAL).ok()?).ok()?)
 }
 
-/// Returns the mask, if the set of rights has all of its rights.
+/// Returns the mask if all its rights are among `rights`, and otherwise `None`.
 pub(crate) fn within(rights: Mask, mask: Mask) -> Option<Mask>
     ensures { option_map (λ m. m.bits) result ≡ within rights.bits mask.bits }
 {
@@ -59,7 +59,7 @@ pub(crate) fn within(rights: Mask, mask: Mask) -> Option<Mask>
     }
 }
 
-// Whether there are digits alone, and at least one.
+// Returns whether there are digits alone, and at least one.
 fn are_digits(word: &str, radix: u32) -> bool
     requires { IsRadix radix }
     ensures { result ≡ are_digits radix word.now }
@@ -74,7 +74,7 @@ fn all_digits(bytes: &[u8], radix: u32) -> bool
     bytes.iter().all(|b| char::from(*b).is_digit(radix))
 }
 
-// The number that digits spell.
+// Returns the number that digits spell. Fails if it does not fit into 32 bits.
 fn digits(word: &str, radix: u32) -> Result<u32, ParseIntError>
     requires radix { IsDigitRadix radix }
     requires digits { are_digits radix word.now ≡ true }

@@ -5,10 +5,8 @@ use Rattle.acl_perm.specs.Bits.{all_rights}
 use Rattle.acl_perm.specs.Profile.{Profile}
 use Rattle.acl_perm.specs.Situation.{Situation}
 use Rattle.acl_nfs4.specs.Ace.{Ace}
-use Rattle.acl_nfs4.specs.Spelling.{Xdr}
 use Rattle.acl_eval.specs.Grant.{SameGrants}
-use Rattle.acl_normal.specs.SmallSets.{IsFirstDifference}
-use Rattle.aclck_c.specs.Compare.{raw_difference, names_text}
+use Rattle.aclck_c.specs.Compare.{AreFirstNames, SpellLists, names_text, raw_difference}
 use Rattle.aclck_c.specs.declared.nfs4.compare.Named.{Named}
 
 -- the situation's names, the right, and what the first list grants
@@ -16,23 +14,14 @@ pub record IsReportOf (s : Situation) (right : ℕ) (first_grants : Bool) (found
   pub at : found.at ≡ raw_difference right first_grants
   pub names : found.names.items ≡ names_text s
 
--- the report is the first difference of two lists
-pub record IsFirstReported (list other : List Ace) (found : Named) : Type 0 where
-  pub situation : Situation
-  pub right : ℕ
-  pub first_grants : Bool
-  pub is_first : IsFirstDifference list other situation right first_grants
-  pub report : IsReportOf situation right first_grants found
-
 -- nothing if two lists grant the same, and otherwise their first difference
 abbrev pub Reports : List Ace → List Ace → Option Named → Type 0
 Reports list other None = SameGrants all_rights list other
-Reports list other (Some found) = IsFirstReported list other found
+Reports list other (Some found) = AreFirstNames list other found.at found.names.items
 
 -- both spell lists, and this is the report of their first difference
 pub record ReportsOfBoth (p : Profile) (first second : List ℕ) (found : Option Named) : Type 0 where
   pub list : List Ace
   pub other : List Ace
-  pub first_spelled : Xdr p list first
-  pub second_spelled : Xdr p other second
+  pub spelled : SpellLists p first second list other
   pub reports : Reports list other found

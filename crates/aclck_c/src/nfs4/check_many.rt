@@ -58,7 +58,7 @@ pub extern "C" fn aclck_check_many(
     }
 }
 
-// The object, the rights that are requested, and the profile.
+// What is the same for all requesters: the object, the rights that are requested, and the profile.
 #[derive(Clone, Copy, Debug)]
 struct Many<'a> {
     object: Object<'a>,
@@ -80,7 +80,7 @@ fn asked<'a>(owner: &'a [u8], group: &'a [u8], mask: u32, options: u32) -> Optio
     })
 }
 
-// Whether no name of the requesters is empty.
+// Returns whether no name of the requesters is empty.
 fn are_good(requesters: &[RawRequester<'_>]) -> bool
     ensures { IsTrue result ↔ All IsGoodRequester requesters.now }
 {

@@ -4,7 +4,7 @@ ghost use Rattle.aclck_c.specs.Common.{IfErr, IfOk, profile_of, situation, Looks
 ghost use Rattle.aclck_c.specs.Status as status;
 
 use crate::failure::Failure;
-use crate::nfs4::request::{Request, asked};
+use crate::nfs4::request::{NfsRequest, asked};
 use crate::refusal::Refusal;
 use crate::status::{BAD_ARGUMENT, NO, YES};
 use acl_eval::grants;
@@ -40,8 +40,8 @@ pub extern "C" fn aclck_check_nfs(
     }
 }
 
-// Whether the list grants the request.
-fn decide(acl: &[u8], request: &Request<'_>) -> Result<bool, Failure>
+// Returns whether the list grants the request. Fails if the bytes are refused.
+fn decide(acl: &[u8], request: &NfsRequest<'_>) -> Result<bool, Failure>
     ensures ok { IfOk result (Decides (profile_of request.now.profile) acl.now
         (situation request.now.object request.now.requester) request.now.mask.bits) }
     ensures err { IfErr result (IsViewFailure (profile_of request.now.profile) acl.now) }

@@ -29,8 +29,8 @@ pub struct RawDifference {
 /// Returns whether two lists grant everybody the same (this library's own, over RFC 8881, section 6.2.1): 0 if they do;
 /// 1 if they do not; 2 if the bytes of a list are refused, with the reason in `fault`; 3 if an option has no meaning; 4
 /// if memory ran out; 5 if they do not, and `out` is too short. At 1 `out` begins with the names of a requester for
-/// whom they differ, each with a zero byte behind it: the owner, the owning group, the user, the groups of the user. At
-/// 1 and 5 `needed` is the number of these bytes, and `at` is the right.
+/// whom they differ, each with a zero byte after it: the owner, the owning group, the user, the groups of the user. At
+/// 1 and 5 `needed` is the number of these bytes, and `at` is the right and which list grants it.
 #[unsafe(no_mangle)]
 pub extern "C" fn aclck_compare(
     alloc: Global,
@@ -67,7 +67,7 @@ pub extern "C" fn aclck_compare(
     }
 }
 
-// A difference, with its names as a text.
+// A difference, with its names as one text: a zero byte ends each name.
 #[derive(Drop)]
 struct Named {
     at: RawDifference,
@@ -130,7 +130,7 @@ fn names_of(alloc: Global, found: &Difference) -> Result<Vec<u8>, AllocError>
     Ok(text)
 }
 
-// A name for each group.
+// Adds the name of each group.
 fn add_members(text: &mut Vec<u8>, groups: &[Vec<u8>]) -> Result<(), AllocError>
     ensures { OnOk result (text.new.items
         ≡ text.old.items ++ flat_map ended (map (λ g. g.items) groups.now)) }
@@ -141,7 +141,7 @@ fn add_members(text: &mut Vec<u8>, groups: &[Vec<u8>]) -> Result<(), AllocError>
     Ok(())
 }
 
-// A name and a zero byte.
+// Adds a name and a zero byte.
 fn add_name(text: &mut Vec<u8>, name: &[u8]) -> Result<(), AllocError>
     ensures { OnOk result (text.new.items ≡ text.old.items ++ ended name.now) }
 {

@@ -6,7 +6,7 @@ ghost use Rattle.std.specs.Prelude.{◌≡◌};
 ghost use Rattle.aclck_c.specs.Common.{IfErr, IfOk, IfSome, IsNone, None, Some, profile_of, situation, LooksAtList, profile_from, WritesValue, AreGood, asked, IsViewFailure};
 
 use crate::failure::Failure;
-use crate::nfs4::request::{Request, asked};
+use crate::nfs4::request::{NfsRequest, asked};
 use crate::refusal::Refusal;
 use crate::status::{BAD_ARGUMENT, NO, YES};
 use acl_eval::{Decision, deciding_ace};
@@ -65,7 +65,7 @@ pub extern "C" fn aclck_deciding(
     }
 }
 
-// The right of a mask that is exactly one right.
+// Returns the right of the mask, or `None` if the mask is not exactly one right.
 fn right_of(mask: Mask) -> Option<Right>
     ensures right { IfSome result (λ right. IsRight mask.bits right.bit) }
     ensures none { IsNone result → IsSomeRight mask.bits → ⊥ }
@@ -78,8 +78,8 @@ fn right_of(mask: Mask) -> Option<Right>
     None
 }
 
-// The ACE that decides the right.
-fn decide(acl: &[u8], request: &Request<'_>, right: Right) -> Result<Option<Decision>, Failure>
+// Fails if the bytes are refused. `None` means that no ACE decides the right.
+fn decide(acl: &[u8], request: &NfsRequest<'_>, right: Right) -> Result<Option<Decision>, Failure>
     ensures ok { IfOk result (Finds (profile_of request.now.profile) acl.now
         (situation request.now.object request.now.requester) right.bit) }
     ensures err { IfErr result (IsViewFailure (profile_of request.now.profile) acl.now) }

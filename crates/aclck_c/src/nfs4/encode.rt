@@ -38,7 +38,7 @@ pub extern "C" fn aclck_encode(
     answer(bytes_of(alloc, text, profile), out, needed, fault)
 }
 
-// The bytes that spell the list of a text.
+// Fails if the text is refused or memory runs out.
 fn bytes_of(alloc: Global, text: &[u8], profile: Profile) -> Result<Vec<u8>, Failure>
     ensures ok { IfOk result (λ bytes. Encodes (profile_of profile) text.now bytes.items) }
     ensures err { IfErr result (IsTextFailure (profile_of profile) text.now) }
@@ -49,7 +49,7 @@ fn bytes_of(alloc: Global, text: &[u8], profile: Profile) -> Result<Vec<u8>, Fai
     }
 }
 
-// The fault of a text, by numbers; none if memory ran out.
+// Returns the fault of a text by its numbers for C, or `None` if memory ran out.
 fn ace_text_refusal(fault: AceTextFault) -> Option<Refusal>
     ensures { result ≡ ace_text_refusal fault }
 {

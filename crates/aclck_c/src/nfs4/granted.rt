@@ -4,7 +4,7 @@ ghost use Rattle.aclck_c.specs.Common.{IfErr, IfOk, profile_of, situation, Looks
 ghost use Rattle.aclck_c.specs.Status as status;
 
 use crate::failure::Failure;
-use crate::nfs4::request::{Request, asked};
+use crate::nfs4::request::{NfsRequest, asked};
 use crate::refusal::Refusal;
 use crate::status::{BAD_ARGUMENT, DONE};
 use acl_eval::granted;
@@ -43,8 +43,8 @@ pub extern "C" fn aclck_granted(
     }
 }
 
-// The rights of the request that the list grants.
-fn granted_in(acl: &[u8], request: &Request<'_>) -> Result<u32, Failure>
+// Returns those rights of the request that the list grants. Fails if the bytes are refused.
+fn granted_in(acl: &[u8], request: &NfsRequest<'_>) -> Result<u32, Failure>
     ensures ok { IfOk result (HasGranted (profile_of request.now.profile) acl.now
         (situation request.now.object request.now.requester) request.now.mask.bits) }
     ensures err { IfErr result (IsViewFailure (profile_of request.now.profile) acl.now) }

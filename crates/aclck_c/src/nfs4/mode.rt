@@ -31,7 +31,7 @@ pub extern "C" fn aclck_mode(acl: &[u8], options: u32, mode: &mut u32, fault: &m
     }
 }
 
-// The mode of the list that the bytes spell.
+// Fails if the bytes are refused.
 fn mode_in(acl: &[u8], profile: Profile) -> Result<u32, Failure>
     ensures ok { IfOk result (HasMode (profile_of profile) acl.now) }
     ensures err { IfErr result (IsViewFailure (profile_of profile) acl.now) }

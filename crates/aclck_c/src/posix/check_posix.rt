@@ -9,7 +9,7 @@ ghost use Rattle.aclck_c.specs.Common.{All, IfErr, IfOk, IfSome, IsSome, IsTrue,
 
 use crate::failure::Failure;
 use crate::posix::file::file_of;
-use crate::posix::names::Name;
+use crate::posix::names::RawName;
 use crate::refusal::Refusal;
 use crate::status::{BAD_ARGUMENT, MEMORY, NO, YES};
 use acl_perm::Perm;
@@ -24,7 +24,7 @@ use std::alloc::{AllocError, Global};
 pub extern "C" fn aclck_check_posix(
     alloc: Global,
     text: &[u8],
-    names: &[Name<'_>],
+    names: &[RawName<'_>],
     owner: u32,
     group: u32,
     user: u32,
@@ -43,9 +43,8 @@ pub extern "C" fn aclck_check_posix(
     if !are_ids(groups) {
         return BAD_ARGUMENT;
     }
-    let groups = match ids_of(alloc, groups) {
-        Ok(groups) => groups,
-        Err(_) => return MEMORY,
+    let Ok(groups) = ids_of(alloc, groups) else {
+        return MEMORY;
     };
     match decide(alloc, text, names, &request, &groups) {
         Ok(true) => YES,
@@ -54,17 +53,17 @@ pub extern "C" fn aclck_check_posix(
     }
 }
 
-// The requester, the object, and the permissions that are requested.
+// The numbers of a request, once they are judged.
 #[derive(Clone, Copy, Debug)]
-struct Request {
+struct PosixRequest {
     owner: Id,
     group: Id,
     user: Id,
     want: Perm,
 }
 
-// The request of these numbers.
-fn asked(owner: u32, group: u32, user: u32, want: u32) -> Option<Request>
+// Returns `None` if a number is not an id, or `want` is not a set of permissions.
+fn asked(owner: u32, group: u32, user: u32, want: u32) -> Option<PosixRequest>
     ensures good { IsSome result ↔ AreNumbers owner group user want }
     ensures owner { IfSome result (λ r. r.owner.value ≡ owner) }
     ensures group { IfSome result (λ r. r.group.value ≡ group) }
@@ -74,7 +73,7 @@ fn asked(owner: u32, group: u32, user: u32, want: u32) -> Option<Request>
     if want > 7 {
         return None;
     }
-    Some(Request {
+    Some(PosixRequest {
         owner: Id::new(owner)?,
         group: Id::new(group)?,
         user: Id::new(user)?,
@@ -88,12 +87,12 @@ fn are_ids(numbers: &[u32]) -> bool
     numbers.iter().all(|number| Id::new(*number).is_some())
 }
 
-// Whether the access ACL of the text grants the request of a user in these groups.
+// Returns whether the access ACL of the text grants the request of a user in these groups.
 fn decide(
     alloc: Global,
     text: &[u8],
-    names: &[Name<'_>],
-    request: &Request,
+    names: &[RawName<'_>],
+    request: &PosixRequest,
     groups: &[Id],
 ) -> Result<bool, Failure>
     ensures ok { IfOk result (Checks (SpellsFile names.now text.now)

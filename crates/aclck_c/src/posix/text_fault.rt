@@ -1,15 +1,13 @@
 //! What is wrong with the text of POSIX ACLs, by numbers.
 ghost use Rattle.std.specs.Prelude.{◌≡◌};
-ghost use Rattle.aclck_c.specs.Posix.{part_number, posix_refusal, tag_number};
+ghost use Rattle.aclck_c.specs.Posix.{invalid_refusal, part_number, posix_refusal, tag_number};
+ghost use Rattle.aclck_c.specs.internal.Failures.{of_posix_text};
 
 use crate::failure::Failure;
 use crate::refusal::Refusal;
 use acl_posix::{Cause, Part, Tag, TextFault};
 
 impl From<TextFault> for Failure {
-    ghost use Rattle.std.specs.Prelude.{◌≡◌};
-    ghost use Rattle.aclck_c.specs.internal.Failures.{of_posix_text};
-
     ghost from_gives = { λ fault failure. failure ≡ of_posix_text fault };
 
     fn from(fault: TextFault) -> Failure {
@@ -17,7 +15,7 @@ impl From<TextFault> for Failure {
     }
 }
 
-// The fault of a text, by numbers; none if memory ran out.
+// Returns the fault of a text by its numbers for C, or `None` if memory ran out.
 fn posix_refusal(fault: TextFault) -> Option<Refusal>
     ensures { result ≡ posix_refusal fault }
 {
@@ -29,27 +27,21 @@ fn posix_refusal(fault: TextFault) -> Option<Refusal>
         TextFault::UnknownName { line, column } => Refusal::at_place(22, line, column),
         TextFault::Permission { line, column } => Refusal::at_place(23, line, column),
         TextFault::EmptyEntry { line, column } => Refusal::at_place(24, line, column),
-        TextFault::Invalid(part, Cause::Multi(place)) => Refusal::in_part(
-            25,
-            part_number(part),
-            place,
-            0,
-        ),
-        TextFault::Invalid(part, Cause::Duplicate(place)) => Refusal::in_part(
-            26,
-            part_number(part),
-            place,
-            0,
-        ),
-        TextFault::Invalid(part, Cause::Miss(tag)) => Refusal::in_part(
-            27,
-            part_number(part),
-            0,
-            tag_number(tag),
-        ),
+        TextFault::Invalid(part, cause) => invalid_refusal(part_number(part), cause),
         TextFault::Memory => return None,
     };
     Some(refusal)
+}
+
+// Returns by its numbers for C why the part with this number is not a valid ACL.
+fn invalid_refusal(part: u32, cause: Cause) -> Refusal
+    ensures { result ≡ invalid_refusal part cause }
+{
+    match cause {
+        Cause::Multi(place) => Refusal::in_part(25, part, place, 0),
+        Cause::Duplicate(place) => Refusal::in_part(26, part, place, 0),
+        Cause::Miss(tag) => Refusal::in_part(27, part, 0, tag_number(tag)),
+    }
 }
 
 // The numbers are those of `enum aclck_part`.

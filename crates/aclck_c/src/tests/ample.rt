@@ -1,7 +1,8 @@
-//! Calls that take memory, with enough of it.
+//! Calls that take memory, with enough of it: they do what they promise, and do not report that memory ran out. What a
+//! text grants is by acl(5), "ACCESS CHECK ALGORITHM", and the numbers of statuses and reasons are those of `aclck.h`.
 use super::{LIST, no_fault, normalize_into};
 use crate::status::{BAD_ARGUMENT, DONE, NO, REFUSED, SHORT, YES};
-use crate::{Name, aclck_check_posix};
+use crate::{RawName, aclck_check_posix};
 use std::test::Fail;
 
 #[test]
@@ -22,13 +23,13 @@ fn a_short_buffer_stays_as_it_was(rt: HostRuntime) -> Result<(), Fail> {
 #[test]
 fn a_text_may_use_the_names_of_a_table(rt: HostRuntime) -> Result<(), Fail> {
     let text = b"user::rw-,user:bob:r--,group::---,mask::r--,other::---";
-    let bob = Name {
+    let bob = RawName {
         name: b"bob",
         id: 7,
         is_group: 0,
     };
     let twice = [bob, bob];
-    let no_half = [Name { is_group: 2, ..bob }];
+    let no_half = [RawName { is_group: 2, ..bob }];
     let alloc = rt.alloc();
     let mut fault = no_fault();
     let rows = [

@@ -5,7 +5,7 @@ use Rattle.acl_nfs4.specs.Limits.{most_weight}
 use Rattle.acl_eval.proofs.BridgeWeight.{cost}
 use Rattle.acl_eval.proofs.bridging.is_within.Given as goal
 
--- the entries so far cost so many bits
+-- the entries so far cost this many bits
 abbrev pub invariant-loop-entry : goal.invariant-loop-entry
 invariant-loop-entry l =
     record {

@@ -1,11 +1,12 @@
 use Rattle.acl_posix.specs.Check.{ids}
-use Rattle.acl_eval.specs.BridgeLaws.{IsAccess, IsAsked}
+use Rattle.acl_posix.specs.Texts.{IsAcl}
+use Rattle.acl_eval.specs.BridgeLaws.{IsAsked}
 use Rattle.acl_eval.proofs.BridgeLaws.{all_ids, grants_singles, keeps_grants}
 use Rattle.acl_eval.proofs.laws.bridge_and_check.Goals as goal
 
 pub returns : goal.returns
 returns c =
-    let access : IsAccess c.args.acl.now =
+    let access : IsAcl c.args.acl.now =
     record { valid = c.entries.ensures.valid; within = c.entries.ensures.within } in
     let asked : IsAsked (record { user = c.args.owner.value; group = c.args.group.value })
     (record { user = c.args.user.value; groups = ids c.args.groups.now }) = record {

@@ -1,26 +1,22 @@
--- A stream whose first word is kept apart from the bytes behind it.
+-- A stream whose first word is kept apart from the bytes after it.
 use Rattle.acl_nfs4.proofs.Common.{[], ap, append-nil, append_assoc, arith, cases_lt, drop, drop_all, drop_at, inl, inr, IsBytes, IsText, length, length-append, length-drop, length-take, List, put_mid, refl, same_len_mid, subst, sym, take, take-append-add, take-append-drop, take_all, ℕ, ◌++◌, ◌+◌, ◌-◌, ◌<◌, ◌∙◌, ◌≡◌, ◌≤◌}
 use Rattle.std.proofs.lemmas.Slice.{take-put_mid}
 use Rattle.acl_nfs4.proofs.xdr.Fields.{IsBytes-take, bytes_append}
 
--- the bytes that are kept apart are those behind the first word of the stream
+-- the bytes that are kept apart are those after the first word of the stream
 pub behind_word : (head body : List ℕ) (filled : ℕ) → IsText head filled body → body ≡ drop 4 (take filled head ++ body)
 behind_word head body filled is =
     elim (cases_lt filled 4) [
-      | inl few ↦ is.begun few
-          ∙ sym (drop_all 4 (take filled head ++ body)
-          (omega (
-            arith,
-            few,
-            length-append (take filled head) body,
-            length-take filled head,
-            ap length (is.begun few),
-          )))
+      | inl few ↦
+          let none = ap length (is.begun few) in
+          let short : length (take filled head ++ body) ≤ 4 =
+          omega (arith, length-append (take filled head) body, length-take filled head) in
+          is.begun few ∙ sym (drop_all 4 (take filled head ++ body) short)
       | inr all ↦ sym (drop_at (take filled head) body 4
           (omega (arith, length-take filled head, is.word, is.inside, all)))
     ]
 
--- after a cut behind the first word the fields still hold a stream
+-- a cut after the first word leaves fields that still hold a stream
 pub cut_text : (head body kept : List ℕ) (filled used : ℕ) → kept ≡ take used body → IsText head filled body
     → IsText head filled kept
 cut_text head body kept filled used e is = record {

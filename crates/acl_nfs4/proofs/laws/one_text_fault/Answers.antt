@@ -1,8 +1,5 @@
-use Rattle.acl_nfs4.proofs.text.AceLines.{no_text_fault, one_list, one_text_fault}
+use Rattle.acl_nfs4.proofs.text.AceLines.{no_text_fault, one_text_fault}
 use Rattle.acl_nfs4.proofs.laws.one_text_fault.Goals as goal
-
-pub returns-clause-list : goal.returns-clause-list
-returns-clause-list c = one_list
 
 pub returns-clause-one : goal.returns-clause-one
 returns-clause-one c = one_text_fault

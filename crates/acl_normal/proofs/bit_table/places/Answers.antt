@@ -1,6 +1,6 @@
-use Rattle.std.proofs.Common.{◌≡◌, ◌+◌, ◌<◌, length}
-use Rattle.acl_normal.proofs.Common.{ap, arith, mask_numbers, has_bit, subst, sym, vec_len, with_masks, ◌∙◌}
-use Rattle.acl_normal.proofs.NotedPlaces.{NotesTo, noted_all, noted_more, noted_past, row_inside}
+use Rattle.std.proofs.Common.{◌≡◌, ◌<◌, length}
+use Rattle.acl_normal.proofs.Common.{ap, arith, mask_here, mask_numbers, has_bit, sym, with_masks, ◌∙◌}
+use Rattle.acl_normal.proofs.NotedPlaces.{noted_all, noted_more, noted_past, row_inside}
 use Rattle.acl_normal.proofs.emit.Risen.{has_row, mask_of}
 use Rattle.acl_normal.proofs.unique.Outline.{masked_count}
 use Rattle.acl_normal.proofs.bit_table.places.Goals as goal
@@ -32,21 +32,19 @@ loop-place-preserved c =
     let count = masked_count c.args.aces.now c.args.masks.now c.requires.masks in
     let mask = mask_of c.args.aces.now c.args.masks.now place c.index-masks-place.result c.requires.masks
     (omega (arith, c.loop-place-test.true, c.requires.masks)) c.index-masks-place.is in
+    let has : has_bit (mask_here xs place) b ≡ c.is_in.result = ap (λ m. has_bit m b) mask ∙ sym c.is_in.ensures in
     elim c.if-is_in.branch [
-      | then-is_in w ↦
-          subst (λ v. (vec_len v ≡ length c.args.aces.now) × NotesTo b xs v.items (place + 1)) (sym w.places-is) (
-            c.loop-place.invariant.0,
-            noted_more b xs c.args.rows.now c.loop-place.places.items place c.requires.rows
-                c.requires.tidy (omega (arith, count, c.loop-place-test.true, c.requires.masks))
-                (omega (arith, count, c.loop-place.places.ok, c.loop-place.invariant.0))
-                (ap (λ m. has_bit m b) mask ∙ sym c.is_in.ensures ∙ w.if-is_in.true) c.loop-place.invariant.1,
-          )
-      | else-is_in w ↦
-          subst (λ v. (vec_len v ≡ length c.args.aces.now) × NotesTo b xs v.items (place + 1)) (sym w.places-is) (
-            c.loop-place.invariant.0,
-            noted_past b xs c.loop-place.places.items place
-                (ap (λ m. has_bit m b) mask ∙ sym c.is_in.ensures ∙ w.if-is_in.false) c.loop-place.invariant.1,
-          )
+      | then-is_in w ↦ rw w.places-is (
+        c.loop-place.invariant.0,
+        noted_more b xs c.args.rows.now c.loop-place.places.items place c.requires.rows c.requires.tidy
+            (omega (arith, count, c.loop-place-test.true, c.requires.masks))
+            (omega (arith, count, c.loop-place.places.ok, c.loop-place.invariant.0))
+            (has ∙ w.if-is_in.true) c.loop-place.invariant.1,
+      )
+      | else-is_in w ↦ rw w.places-is (
+        c.loop-place.invariant.0,
+        noted_past b xs c.loop-place.places.items place (has ∙ w.if-is_in.false) c.loop-place.invariant.1,
+      )
     ]
 
 pub returns-clause-places : goal.returns-clause-places

@@ -10,10 +10,10 @@ use Rattle.acl_normal.specs.internal.comparison.SetSearch.{GrantAlikeTo, differ,
 use Rattle.acl_normal.specs.Keys.{principal_eq}
 use Rattle.acl_normal.specs.SmallSituations.{is_among}
 use Rattle.acl_normal.specs.declared.class.Class.TheVariants.{Users}
-use Rattle.acl_normal.specs.declared.comparison.standing.First.{First}
-use Rattle.acl_normal.specs.declared.comparison.standing.Standing.{Standing}
-use Rattle.acl_normal.specs.declared.comparison.standing.Whom.{Whom}
-use Rattle.acl_normal.specs.declared.comparison.standing.Whom.TheVariants.{Everyone, Nobody, One}
+use Rattle.acl_normal.specs.declared.comparison.placing.First.{First}
+use Rattle.acl_normal.specs.declared.comparison.placing.Placing.{Placing}
+use Rattle.acl_normal.specs.declared.comparison.placing.Whom.{Whom}
+use Rattle.acl_normal.specs.declared.comparison.placing.Whom.TheVariants.{Everyone, Nobody, One}
 use Rattle.acl_perm.specs.Bits.{all_rights, has_bit}
 use Rattle.acl_perm.specs.Overlap.{may_overlap}
 use Rattle.acl_perm.specs.Principal.{Principal, everyone, is_user}
@@ -33,18 +33,18 @@ pub record IsFirst (list : List Ace) (bit : ℕ) (p : Principal) (f : First) : T
   pub allows : is_allow f.kind ≡ is_granted_to list (p ∷ []) bit
 
 -- the first ACE that concerns a principal in each of both lists
-pub record IsStanding (list other : List Ace) (bit : ℕ) (p : Principal) (r : Standing) : Type 0 where
+pub record IsPlacing (list other : List Ace) (bit : ℕ) (p : Principal) (r : Placing) : Type 0 where
   pub here : IsFirst list bit p r.here
   pub there : IsFirst other bit p r.there
   pub class : is_users r.class ≡ is_user p
 
 -- of two that may overlap and are of different kinds, the one comes first in one list, and not in the other
-abbrev pub inverts : Standing → Standing → Bool
+abbrev pub inverts : Placing → Placing → Bool
 inverts r s = (not (is_users r.class && is_users s.class) && differ (is_allow r.here.kind) (is_allow s.here.kind))
     && differ (nat_lt s.here.place r.here.place) (nat_lt s.there.place r.there.place)
 
 -- a principal inverts one of the others
-abbrev pub inverts_any : Standing → List Standing → Bool
+abbrev pub inverts_any : Placing → List Placing → Bool
 inverts_any r = list_any (inverts r)
 
 -- on one right, the lists grant the same wherever this principal and another that may overlap match
@@ -119,10 +119,10 @@ pub record AreFirstFrom (whole : List Principal) (list : List Ace) (bit i : ℕ)
   pub each : (k : ℕ) → k < length whole
       → IsFirstFrom list bit i (slice_index_or whole k everyone) (slice_index_or firsts k no_first)
 
--- the standing of each principal
-pub record AreStandings (whole : List Principal) (list other : List Ace) (bit : ℕ) (standings : List Standing) :
+-- the placing of each principal
+pub record ArePlacings (whole : List Principal) (list other : List Ace) (bit : ℕ) (placings : List Placing) :
     Type 0 where
-  pub each : AllZip (IsStanding list other bit) whole standings
+  pub each : AllZip (IsPlacing list other bit) whole placings
 
 -- the default for an ACE after the end of a list
 abbrev pub no_ace : Ace
@@ -145,37 +145,29 @@ put firsts a (One i) place bit =
     if has_bit a.mask bit then slice_set firsts i (record { place = place; kind = a.kind }) else firsts
 put firsts a Everyone place bit = firsts
 
--- the default for a standing after the end of a list
-abbrev pub no_standing : Standing
-no_standing = record { here = no_first; there = no_first; class = Users }
+-- the default for a placing after the end of a list
+abbrev pub no_placing : Placing
+no_placing = record { here = no_first; there = no_first; class = Users }
 
 -- both lists say the same of the principal alone
-abbrev pub SameAlone : Standing → Type 0
+abbrev pub SameAlone : Placing → Type 0
 SameAlone r = is_allow r.here.kind ≡ is_allow r.there.kind
 
--- the first below a limit of which the lists say different things, or the limit
-pub record IsFirstUnlike (standings : List Standing) (limit first : ℕ) : Type 0 where
-  pub within : first ≤ limit
-  pub before : (k : ℕ) → k < first → SameAlone (slice_index_or standings k no_standing)
-  pub at : first < limit → SameAlone (slice_index_or standings first no_standing) → ⊥
+-- the lists say different things of the principal alone
+abbrev pub is_unlike : Placing → Bool
+is_unlike r = differ (is_allow r.here.kind) (is_allow r.there.kind)
 
--- the first below a limit that inverts another, or the limit
-pub record IsFirstInverting (standings : List Standing) (limit first : ℕ) : Type 0 where
+-- the first below a limit that passes a test, or the limit
+pub record IsFirstBelow (test : Placing → Bool) (placings : List Placing) (limit first : ℕ) : Type 0 where
   pub within : first ≤ limit
-  pub before : (k : ℕ) → k < first → inverts_any (slice_index_or standings k no_standing) standings ≡ false
-  pub at : first < limit → inverts_any (slice_index_or standings first no_standing) standings ≡ true
+  pub before : (k : ℕ) → k < first → test (slice_index_or placings k no_placing) ≡ false
+  pub at : first < limit → test (slice_index_or placings first no_placing) ≡ true
 
--- the first of the others below a limit that one inverts, or the limit
-pub record IsFirstInverted (one : Standing) (others : List Standing) (limit first : ℕ) : Type 0 where
-  pub within : first ≤ limit
-  pub before : (k : ℕ) → k < first → inverts one (slice_index_or others k no_standing) ≡ false
-  pub at : first < limit → inverts one (slice_index_or others first no_standing) ≡ true
-
--- what is asked of each right
+-- Q holds for each right
 abbrev pub OnAll : (ℕ → ℕ → Type 0) → ℕ → Type 0
 OnAll Q k = (bit : ℕ) → has_bit all_rights bit ≡ true → Q bit k
 
--- the least number below n of which it doesn't hold, or n
+-- the least number below n for which P doesn't hold, or n
 pub record IsLeast (P : ℕ → Type 0) (n least : ℕ) : Type 0 where
   pub within : least ≤ n
   pub before : (k : ℕ) → k < least → P k

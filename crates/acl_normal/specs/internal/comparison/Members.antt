@@ -3,8 +3,8 @@ use Rattle.std.specs.Prelude.{ℕ, ◌<◌, Bool, true, false, ◌||◌, ◌==�
 use Rattle.acl_perm.specs.Principal.{Principal, everyone}
 use Rattle.acl_normal.specs.declared.comparison.members.Members.{Members}
 use Rattle.acl_normal.specs.declared.comparison.members.Members.TheVariants as code
-use Rattle.acl_normal.specs.declared.comparison.standing.Whom.{Whom}
-use Rattle.acl_normal.specs.declared.comparison.standing.Whom.TheVariants.{Everyone, Nobody, One}
+use Rattle.acl_normal.specs.declared.comparison.placing.Whom.{Whom}
+use Rattle.acl_normal.specs.declared.comparison.placing.Whom.TheVariants.{Everyone, Nobody, One}
 
 -- the principals of these numbers
 abbrev pub members_of : List Principal → Members → List Principal

@@ -9,8 +9,8 @@ use Rattle.acl_normal.specs.Keys.{principal_eq}
 use Rattle.acl_normal.specs.SmallSets.{is_mentioning, mentioned_in}
 use Rattle.acl_normal.specs.SmallSituations.{is_among}
 use Rattle.acl_normal.specs.declared.comparison.mentioned.Mentions.{Mentions}
-use Rattle.acl_normal.specs.declared.comparison.standing.Whom.{Whom}
-use Rattle.acl_normal.specs.declared.comparison.standing.Whom.TheVariants.{Everyone, Nobody, One}
+use Rattle.acl_normal.specs.declared.comparison.placing.Whom.{Whom}
+use Rattle.acl_normal.specs.declared.comparison.placing.Whom.TheVariants.{Everyone, Nobody, One}
 use Rattle.acl_normal.specs.internal.comparison.FirstPlaces.{AreWhoms, no_ace}
 use Rattle.acl_normal.specs.internal.rows.Rows.{is_principal_of, row_of}
 use Rattle.acl_normal.specs.internal.comparison.SetSearch.{IsRisingSet, principals}

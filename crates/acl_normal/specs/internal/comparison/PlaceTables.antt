@@ -1,84 +1,84 @@
 -- Tables that show at once whether a principal inverts another (this library's own).
 use Rattle.std.specs.Prelude.{◌≡◌, ℕ, ◌<◌, ◌≤◌, ◌+◌, Bool, true, false, not, ◌&&◌, ◌||◌, ◌==◌, if◌then◌else◌, nat_lt, List, [], ◌∷◌, max, length, slice_index_or}
-use Rattle.acl_normal.specs.internal.comparison.FirstPlaces.{inverts_any, no_standing}
+use Rattle.acl_normal.specs.internal.comparison.FirstPlaces.{inverts_any, no_placing}
 use Rattle.acl_normal.specs.internal.comparison.SetSearch.{differ}
 use Rattle.acl_normal.specs.Classes.{is_users}
 use Rattle.acl_perm.specs.Kind.{is_allow}
 use Rattle.acl_normal.specs.declared.comparison.inversions.Camp.{Camp}
 use Rattle.acl_normal.specs.declared.comparison.inversions.Side.{Side}
 use Rattle.acl_normal.specs.declared.comparison.inversions.Side.TheVariants.{Here, There}
-use Rattle.acl_normal.specs.declared.comparison.standing.Standing.{Standing}
+use Rattle.acl_normal.specs.declared.comparison.placing.Placing.{Placing}
 
 -- a principal is of the other kind, and may overlap with those of the camp
-abbrev pub is_counted : Camp → Standing → Bool
+abbrev pub is_counted : Camp → Placing → Bool
 is_counted camp r = not (is_users camp.class && is_users r.class) && differ (is_allow camp.kind) (is_allow r.here.kind)
 
 -- the place in the list of a side
-abbrev pub place_of : Side → Standing → ℕ
+abbrev pub place_of : Side → Placing → ℕ
 place_of Here r = r.here.place
 place_of There r = r.there.place
 
 -- the place in the other list
-abbrev pub other_place : Side → Standing → ℕ
+abbrev pub other_place : Side → Placing → ℕ
 other_place Here r = r.there.place
 other_place There r = r.here.place
 
 -- one more than the greatest place in the other list of the counted principals before a place in the one list
-abbrev pub most_before : Camp → Side → ℕ → List Standing → ℕ
+abbrev pub most_before : Camp → Side → ℕ → List Placing → ℕ
 most_before camp side k [] = 0
-most_before camp side k (r ∷ standings) =
+most_before camp side k (r ∷ placings) =
     max (if is_counted camp r && nat_lt (place_of side r) k then other_place side r + 1 else 0)
-    (most_before camp side k standings)
+    (most_before camp side k placings)
 
 -- one more than the greatest place in the other list of the counted principals just before a place in the one list
-abbrev pub most_at : Camp → Side → ℕ → List Standing → ℕ
+abbrev pub most_at : Camp → Side → ℕ → List Placing → ℕ
 most_at camp side k [] = 0
-most_at camp side k (r ∷ standings) =
+most_at camp side k (r ∷ placings) =
     max (if is_counted camp r && (place_of side r + 1 == k) then other_place side r + 1 else 0)
-    (most_at camp side k standings)
+    (most_at camp side k placings)
 
 -- places within lists of this length
-pub record IsStandingWithin (size : ℕ) (r : Standing) : Type 0 where
+pub record IsPlacingWithin (size : ℕ) (r : Placing) : Type 0 where
   pub here : r.here.place ≤ size
   pub there : r.there.place ≤ size
 
 -- the table has, at each place, the number of `most_before`
-pub record IsPlaceTable (camp : Camp) (side : Side) (size : ℕ) (standings : List Standing) (table : List ℕ)
+pub record IsPlaceTable (camp : Camp) (side : Side) (size : ℕ) (placings : List Placing) (table : List ℕ)
     : Type 0 where
   pub count : length table ≡ size + 2
-  pub each : (k : ℕ) → k < size + 2 → slice_index_or table k 0 ≡ most_before camp side k standings
+  pub each : (k : ℕ) → k < size + 2 → slice_index_or table k 0 ≡ most_before camp side k placings
 
 -- the table has, at each place, the number of `most_at`
-pub record IsScattered (camp : Camp) (side : Side) (size : ℕ) (standings : List Standing) (table : List ℕ) :
+pub record IsScattered (camp : Camp) (side : Side) (size : ℕ) (placings : List Placing) (table : List ℕ) :
     Type 0 where
   pub count : length table ≡ size + 2
-  pub each : (k : ℕ) → k < size + 2 → slice_index_or table k 0 ≡ most_at camp side k standings
+  pub each : (k : ℕ) → k < size + 2 → slice_index_or table k 0 ≡ most_at camp side k placings
 
 -- the number after a principal's place is raised, if the principal is counted
-pub record Raises (camp : Camp) (side : Side) (r : Standing) (old new : List ℕ) : Type 0 where
+pub record Raises (camp : Camp) (side : Side) (r : Placing) (old new : List ℕ) : Type 0 where
   pub count : length new ≡ length old
   pub each : (k : ℕ) → k < length old → slice_index_or new k 0
       ≡ max (slice_index_or old k 0)
       (if is_counted camp r && (place_of side r + 1 == k) then other_place side r + 1 else 0)
 
 -- a principal is of the camp
-abbrev pub is_of_camp : Camp → Standing → Bool
+abbrev pub is_of_camp : Camp → Placing → Bool
 is_of_camp camp r = not (differ (is_allow camp.kind) (is_allow r.here.kind))
     && not (differ (is_users camp.class) (is_users r.class))
 
 -- no principal is of the camp
-pub record HasNone (camp : Camp) (standings : List Standing) : Type 0 where
-  pub each : (k : ℕ) → k < length standings → is_of_camp camp (slice_index_or standings k no_standing) ≡ false
+pub record HasNone (camp : Camp) (placings : List Placing) : Type 0 where
+  pub each : (k : ℕ) → k < length placings → is_of_camp camp (slice_index_or placings k no_placing) ≡ false
 
--- a principal is of a camp, and by the tables of it inverts another
-abbrev pub is_inverting : Camp → Standing → List ℕ → List ℕ → Bool
+-- a principal is of a camp, and inverts another principal by the tables of the camp
+abbrev pub is_inverting : Camp → Placing → List ℕ → List ℕ → Bool
 is_inverting camp r forward back = is_of_camp camp r
     && (nat_lt r.there.place (slice_index_or forward r.here.place 0)
     || nat_lt r.here.place (slice_index_or back r.there.place 0))
 
 -- the first of a camp, below a limit, that inverts another
-pub record IsFirstOf (camp : Camp) (standings : List Standing) (limit first : ℕ) : Type 0 where
+pub record IsFirstOf (camp : Camp) (placings : List Placing) (limit first : ℕ) : Type 0 where
   pub within : first ≤ limit
-  pub before : (k : ℕ) → k < first → is_of_camp camp (slice_index_or standings k no_standing) ≡ true
-      → inverts_any (slice_index_or standings k no_standing) standings ≡ false
-  pub at : first < limit → inverts_any (slice_index_or standings first no_standing) standings ≡ true
+  pub before : (k : ℕ) → k < first → is_of_camp camp (slice_index_or placings k no_placing) ≡ true
+      → inverts_any (slice_index_or placings k no_placing) placings ≡ false
+  pub at : first < limit → inverts_any (slice_index_or placings first no_placing) placings ≡ true

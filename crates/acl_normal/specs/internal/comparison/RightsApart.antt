@@ -3,11 +3,10 @@ use Rattle.std.specs.Prelude.{◌≡◌, ℕ, Bool, false, not, ◌&&◌, ◌==�
 use Rattle.acl_eval.specs.Column.{column}
 use Rattle.acl_nfs4.specs.Ace.{Ace}
 use Rattle.acl_normal.specs.internal.comparison.FirstPlaces.{names_any, same_whom}
-use Rattle.acl_normal.specs.internal.comparison.SetSearch.{differ}
+use Rattle.acl_normal.specs.Keys.{kind_eq}
 use Rattle.acl_normal.specs.declared.comparison.apart.Statement.{Statement}
-use Rattle.acl_normal.specs.declared.comparison.standing.Whom.{Whom}
+use Rattle.acl_normal.specs.declared.comparison.placing.Whom.{Whom}
 use Rattle.acl_perm.specs.Bits.{has_bit}
-use Rattle.acl_perm.specs.Kind.{is_allow}
 
 -- on each right but these, both lists have the same ACEs that take part, in the same order
 pub record AreApart (list other : List Ace) (mask : ℕ) : Type 0 where
@@ -19,5 +18,4 @@ pub record HasOpenBits (a : Ace) (w : Whom) (apart mask : ℕ) : Type 0 where
 
 -- two ACEs allow the same rights to the same, or deny them
 abbrev pub say_the_same : Statement → Statement → Bool
-say_the_same s t = ((s.rights.bits == t.rights.bits) && not (differ (is_allow t.kind) (is_allow s.kind)))
-    && same_whom s.whom t.whom
+say_the_same s t = ((s.rights.bits == t.rights.bits) && kind_eq s.kind t.kind) && same_whom s.whom t.whom

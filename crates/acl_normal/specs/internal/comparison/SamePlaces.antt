@@ -1,8 +1,8 @@
 -- Where a list names the same as another (this library's own).
 use Rattle.std.specs.Prelude.{◌≡◌, ℕ, ◌<◌, List, ◌++◌, length, map, slice_index_or}
 use Rattle.acl_nfs4.specs.declared.ace.AceRef.{AceRef}
-use Rattle.acl_normal.specs.declared.comparison.standing.Whom.{Whom}
-use Rattle.acl_normal.specs.declared.comparison.standing.Whom.TheVariants.{Nobody}
+use Rattle.acl_normal.specs.declared.comparison.placing.Whom.{Whom}
+use Rattle.acl_normal.specs.declared.comparison.placing.Whom.TheVariants.{Nobody}
 
 -- two ACEs have the same flags and the same who, so that both name one principal and both take part or neither does
 pub record HaveOneWho (a b : AceRef) : Type 0 where
@@ -20,6 +20,6 @@ pub record ArePlacesOf (refs others : List AceRef) (n : ℕ) (places : List ℕ)
   pub within : (i : ℕ) → i < n → slice_index_or places i 0 < length refs
   pub each : (i : ℕ) (z : AceRef) → i < n → HasSameWho refs (slice_index_or others i z) (slice_index_or places i 0)
 
--- whom some ACEs name, and behind it, by place, whom those at the places name
+-- whom some ACEs name, and after it, by place, whom those at the places name
 abbrev pub with_copies : List Whom → List ℕ → List Whom
 with_copies whoms places = whoms ++ map (λ p. slice_index_or whoms p Nobody) places

@@ -1,4 +1,4 @@
--- Two lists that are compared, and what is asked of them, right by right (this library's own).
+-- Two lists that are compared, and questions about them, right by right (this library's own).
 use Rattle.std.specs.Prelude.{◌≡◌, ℕ, ◌<◌, ◌≤◌, ◌+◌, List, Option, drop, length, slice_index_or}
 use Rattle.acl_eval.specs.Column.{column}
 use Rattle.acl_nfs4.specs.Ace.{Ace}
@@ -8,10 +8,10 @@ use Rattle.acl_normal.specs.Difference.{situation_of}
 use Rattle.acl_normal.specs.internal.Tidy.{HasNames}
 use Rattle.acl_normal.specs.SmallSets.{mentioned, small_sets, strange_length}
 use Rattle.acl_normal.specs.SmallSituations.{small_situation}
-use Rattle.acl_normal.specs.internal.comparison.FirstPlaces.{AlikeAlone, AlikeWith, AlikeWithAll, AreStandings, IsLeast, OnAll}
+use Rattle.acl_normal.specs.internal.comparison.FirstPlaces.{AlikeAlone, AlikeWith, AlikeWithAll, ArePlacings, IsLeast, OnAll}
 use Rattle.acl_normal.specs.internal.comparison.SetSearch.{FindsSet, GrantAlikeTo, IsLowestDifference}
 use Rattle.acl_normal.specs.declared.comparison.Difference.{Difference}
-use Rattle.acl_normal.specs.declared.comparison.standing.Standing.{Standing}
+use Rattle.acl_normal.specs.declared.comparison.placing.Placing.{Placing}
 
 -- the two lists
 pub record TwoLists : Type 0 where
@@ -30,7 +30,7 @@ all_mentioned both = mentioned both.first both.second
 abbrev pub principal_at : TwoLists → ℕ → Principal
 principal_at both k = slice_index_or (all_mentioned both) k everyone
 
--- the mentioned principals behind that of a number
+-- the mentioned principals after that of a number
 abbrev pub later_than : TwoLists → ℕ → List Principal
 later_than both k = drop (k + 1) (all_mentioned both)
 
@@ -48,9 +48,9 @@ pub record AreWithin (both : TwoLists) (size : ℕ) : Type 0 where
   pub first : length both.first ≤ size
   pub second : length both.second ≤ size
 
--- the standings are those of the mentioned principals in both lists, on a right
-abbrev pub StandAs : TwoLists → ℕ → List Standing → Type 0
-StandAs both bit standings = AreStandings (all_mentioned both) both.first both.second bit standings
+-- the placings are those of the mentioned principals, on a right
+abbrev pub ArePlacingsOf : TwoLists → ℕ → List Placing → Type 0
+ArePlacingsOf both bit placings = ArePlacings (all_mentioned both) both.first both.second bit placings
 
 -- both lists grant alike where exactly these principals match, and everyone
 abbrev pub AreAlikeTo : TwoLists → List Principal → Type 0
@@ -64,7 +64,7 @@ AlikeToOne both = AlikeAlone both.first both.second (all_mentioned both)
 abbrev pub AlikeToPairs : TwoLists → ℕ → ℕ → Type 0
 AlikeToPairs both = AlikeWithAll both.first both.second (all_mentioned both)
 
--- on a right, both lists grant alike to the principal of a number and one of those behind it that it may overlap
+-- on a right, both lists grant alike to the principal of a number and one of those after it that it may overlap
 abbrev pub AlikeToPair : TwoLists → ℕ → ℕ → ℕ → Type 0
 AlikeToPair both at = AlikeWith both.first both.second (principal_at both at) (later_than both at)
 
@@ -82,7 +82,7 @@ IsFirstSingle both least = IsLeast (OnAll (AlikeToOne both)) (length (all_mentio
 abbrev pub IsFirstMember : TwoLists → ℕ → Type 0
 IsFirstMember both least = IsLeast (OnAll (AlikeToPairs both)) (length (all_mentioned both)) least
 
--- among the principals behind one, the number of the first with whom it is a pair to whom the lists do not grant the
+-- among the principals after one, the number of the first with whom it is a pair to whom the lists do not grant the
 -- same; if there is none, the number of these principals
 abbrev pub IsFirstPartner : TwoLists → ℕ → ℕ → Type 0
 IsFirstPartner both at least = IsLeast (OnAll (AlikeToPair both at)) (length (later_than both at)) least
@@ -99,6 +99,7 @@ situation_at both set = small_situation (strange_length both.first both.second) 
 abbrev pub ShowsSituation : TwoLists → List Principal → Difference → Type 0
 ShowsSituation both set d = situation_of d ≡ situation_at both set
 
--- a difference names the lowest right on which the lists do not grant the same at a set, and whether the first grants it
+-- a difference names the lowest right on which the lists do not grant the same at a set, and says whether the first
+-- list grants it
 abbrev pub DifferLowestOn : TwoLists → List Principal → Difference → Type 0
 DifferLowestOn both set d = IsLowestDifference both.first both.second set d.bit.bits d.first_grants

@@ -23,7 +23,7 @@ HasOnceColumns list = (bit : ℕ) → IsOnce (column list bit)
 abbrev pub HasEmptyColumns : List Ace → Type 0
 HasEmptyColumns list = (bit : ℕ) → column list bit ≡ []
 
--- what is emitted of a list: columns that are alike, in order
+-- what is emitted from a list: columns that are alike, in order
 pub record IsEmission (list emitted : List Ace) : Type 0 where
   pub alike : (bit : ℕ) → IsAlike (column list bit) (column emitted bit)
   pub once : (bit : ℕ) → IsOnce (column emitted bit)
@@ -31,7 +31,7 @@ pub record IsEmission (list emitted : List Ace) : Type 0 where
   pub flags : HasNormalFlags emitted
   pub masks : HasNoEmptyMask emitted
 
--- the ACE a is the first that is emitted of a list, and rest is what is left
+-- the ACE a is the first that is emitted from a list, and rest is what is left
 pub record IsStep (list : List Ace) (a : Ace) (rest : List Ace) : Type 0 where
   pub flags : a.flags ≡ flags_for (principal_of a)
   pub mask : a.mask ≢ 0

@@ -65,6 +65,11 @@ pub record Frees (k : ColumnKey) (bits : ℕ) (xs : List Ace) (old new : Marked)
   pub all : (q : Principal) (b : ℕ) → b < bit_count → has_bit bits b ≡ true → (is_user k.0 && is_user q) ≡ false
       → is_free (column xs b) (q, other_kind k.1) ≡ true → has_bit (new (q, other_kind k.1)) b ≡ true
 
+-- the marks of the keys of a list changed in some way
+pub record ChangesMarks (xs : List Ace) (Changes : Marked → Marked → Type 0) (old new : List ℕ) : Type 0 where
+  pub keys : FitsKeys (nothing_left xs) new
+  pub marks : Changes (marks (nothing_left xs) old) (marks (nothing_left xs) new)
+
 -- each key is marked on exactly the rights on which it is free
 abbrev pub HoldsFree : Marked → List Ace → Type 0
 HoldsFree es xs = (k : ColumnKey) (b : ℕ) → has_bit (es k) b ≡ is_free (column xs b) k

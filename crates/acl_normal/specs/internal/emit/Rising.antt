@@ -8,7 +8,7 @@ use Rattle.acl_normal.specs.Normal.{flags_for}
 use Rattle.acl_normal.specs.internal.Places.{key_here, mask_here}
 use Rattle.acl_normal.specs.internal.rows.Rows.{key_number}
 
--- each key is less than those behind it
+-- each key is less than those after it
 abbrev pub IsRising : List Ace → Type 0
 IsRising list = IsStrictlySortedBy (λ (a b : Ace). compare_keys (ace_key a) (ace_key b)) list
 

@@ -1,4 +1,5 @@
--- Heads of principals (this library's own): a number each, of which two are compared in place of two names.
+-- Heads of principals (this library's own): each principal has a number, and two numbers are compared in place of two
+-- names.
 use Rattle.std.specs.Prelude.{◌≡◌, ℕ, ◌+◌, ◌*◌, ◌%◌, ◌<◌, zero, suc, Bool, nat_lt, List, [], ◌∷◌, drop, get_or, length, take, Option, Some, None}
 use Rattle.acl_perm.specs.Order.{principal_name, principal_rank}
 use Rattle.acl_perm.specs.Principal.{Principal, owner, user, group, group_named, everyone, principal}
@@ -13,12 +14,12 @@ count_to zero bytes = 0
 count_to (suc n) [] = 0
 count_to (suc n) (b ∷ bytes) = suc (count_to n bytes)
 
--- a number, behind it so many bytes, the first of them the highest, with zeros past the last, and behind them a count
+-- a number, after it this many bytes, the first of them the highest, with zeros past the last, and after them a count
 abbrev pub head_from : ℕ → ℕ → List ℕ → ℕ → ℕ
 head_from before zero bytes count = before * 256 + count
 head_from before (suc n) bytes count = head_from (before * 256 + get_or bytes 0 0) n (drop 1 bytes) count
 
--- the rank, behind it six bytes of the name, without the first ones, and how many bytes those are, where 7 is for more
+-- the rank, after it six bytes of the name, without the first ones, and how many bytes those are, where 7 is for more
 abbrev pub principal_head : ℕ → Principal → ℕ
 principal_head common p =
     head_from (principal_rank p) 6 (drop common (principal_name p)) (count_to 7 (drop common (principal_name p)))

@@ -1,4 +1,5 @@
--- What is left of a list while it is emitted (this library's own): by row a mask, and of it the queues of places.
+-- What is left of a list while it is emitted (this library's own): a mask for each row, and the queues of places that
+-- follow from the masks.
 use Rattle.std.specs.Prelude.{◌≡◌, ℕ, ◌<◌, ◌^◌, Bool, true, false, List, [], ◌∷◌, bit_and, vec_len, length, slice_index_or}
 use Rattle.std.specs.Ordering.{nat_cmp}
 use Rattle.std.specs.List.{list_any}

@@ -32,7 +32,7 @@ pub record AreSortedNames (xs : List Ace) (names : List (Principal × ℕ)) : Ty
   pub permutation : IsPermutation (named_from 0 xs) names
   pub sorted : IsSortedByKey (λ n. n.0) principal_cmp names
 
--- the who of the ACE at a place, and no bytes behind the last
+-- the who of the ACE at a place, and no bytes after the last
 abbrev pub who_here : List Ace → ℕ → List ℕ
 who_here [] i = []
 who_here (a ∷ xs) zero = a.who

@@ -11,7 +11,7 @@ pub fn fails_at_read(alloc: Global, words: &[&str], input: &[u8], source: Calls)
     ran.is_failed_read(source.first)
 }
 
-/// Returns whether the words report a source that fails at each read in turn, also at the read behind the input. Each
+/// Returns whether the words report a source that fails at each read in turn, also at the read after the input. Each
 /// read gives `step` bytes.
 pub fn fails_at_each_read(alloc: Global, words: &[&str], input: &[u8], step: usize) -> bool {
     let reads = input.len() / step.max(1);
@@ -59,8 +59,8 @@ pub fn asks_for_nothing(alloc: Global, words: &[&str], input: &[u8]) -> bool {
     ran.gives(Answer::Usage) && ran.reads == 0
 }
 
-// Whether a refusal is reported over a source that gives single bytes and fails after so many reads, and nothing is
-// read after the refusal.
+// Returns whether a refusal is reported over a source that gives single bytes and fails after this many reads, and
+// nothing is read after the refusal.
 fn refuses_by(alloc: Global, words: &[&str], input: &[u8], reads: u64, fault: &str) -> bool {
     let source = Calls::since(reads.saturating_add(1), 1);
     let ran = run(alloc, words, input, Devices { source, ..FINE });
@@ -77,8 +77,8 @@ fn refused_part(alloc: Global, words: &[&str], input: &[u8], fault: &str) -> usi
     input.len()
 }
 
-/// Returns whether the words refuse an input like this over a source that fails just after the refusal: behind the end
-/// of a text or of a list that is cut short, and otherwise behind the refused field.
+/// Returns whether the words refuse an input like this over a source that fails just after the refusal: after the end
+/// of a text or of a list that is cut short, and otherwise after the refused field.
 pub fn refuses_at_once(alloc: Global, words: &[&str], input: &[u8], fault: &str) -> bool {
     let is_read_whole = !fault.contains(" at byte ") || fault.contains("Truncated");
     let reads = if is_read_whole {

@@ -2,7 +2,7 @@
 
 use std::alloc::{AllocError, Global};
 
-/// Repeats a part so many times, between what is before and behind it.
+/// Repeats a part this many times, between what is before and after it.
 pub fn repeated(
     alloc: Global,
     before: &[u8],
@@ -14,7 +14,7 @@ pub fn repeated(
     [before, &parts, behind].concat(alloc)
 }
 
-/// Makes the list that has one ACE so many times.
+/// Makes the list that has one ACE this many times.
 pub fn repeated_ace(alloc: Global, count: u32, ace: &[u8]) -> Result<Vec<u8>, AllocError> {
     repeated(alloc, &count.to_be_bytes(), ace, count as usize, b"")
 }

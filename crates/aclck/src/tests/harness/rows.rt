@@ -13,10 +13,11 @@ pub type Asked = (&'static [u8], &'static [(&'static str, u8, &'static [u8])]);
 /// A line of words, and inputs with the fault that is reported.
 pub type Refused = (&'static str, &'static [(&'static [u8], &'static str)]);
 
-/// What a command answers, what it refuses, and the lines that ask for nothing.
+/// What a command answers, by its lines and by its inputs, what it refuses, and the lines that ask for nothing.
 #[derive(Clone, Copy)]
 pub struct Table {
     pub answers: &'static [Answered],
+    pub asked: &'static [Asked],
     pub refusals: &'static [Refused],
     pub usage: &'static [&'static str],
     /// The input of the lines that ask for nothing, which they do not read.
@@ -28,6 +29,9 @@ impl Table {
     pub fn holds<A: Abort>(self, rt: &A, trial: Trial) {
         for (line, status, rows) in self.answers {
             answers_hold(rt, trial, line, *status, rows);
+        }
+        for (input, lines) in self.asked {
+            lines_hold(rt, trial, input, lines);
         }
         for (line, rows) in self.refusals {
             refusals_hold(rt, trial, line, rows);
@@ -45,15 +49,12 @@ fn answers_hold<A: Abort>(rt: &A, trial: Trial, line: &str, status: u8, rows: &[
     }
 }
 
-/// Tests that each line gives what it says about its input.
-pub fn lines_hold<A: Abort>(rt: &A, trial: Trial, rows: &[Asked]) {
-    for (input, lines) in rows {
-        for (line, status, text) in *lines {
-            assert!(rt;
-                trial.passes(line, input, Answer::Text(*status, text)),
-                "{line}: {input:?}"
-            );
-        }
+fn lines_hold<A: Abort>(rt: &A, trial: Trial, input: &[u8], lines: &[(&str, u8, &[u8])]) {
+    for (line, status, text) in lines {
+        assert!(rt;
+            trial.passes(line, input, Answer::Text(*status, text)),
+            "{line}: {input:?}"
+        );
     }
 }
 

@@ -33,7 +33,7 @@ impl Ran {
         self.status == status && self.wrote(out) && self.reports_fault(fault)
     }
 
-    /// Returns whether it is this answer.
+    /// Returns whether the run gave this answer, with its status and its text or fault.
     pub fn gives(&self, answer: Answer<'_>) -> bool {
         match answer {
             Answer::Text(status, text) => self.is(status, text, ""),
@@ -47,7 +47,7 @@ impl Ran {
         self.written == text.len() && self.out.starts_with(text)
     }
 
-    /// Returns whether it reports what the other reports.
+    /// Returns whether both runs wrote the same to `err`.
     pub fn reports_as(&self, other: &Ran) -> bool {
         self.err == other.err
     }
@@ -61,7 +61,7 @@ impl Ran {
         }
     }
 
-    // Whether one line reports this fault, or nothing is reported if the fault is empty.
+    // Returns whether one line reports this fault, or nothing is reported if the fault is empty.
     fn reports_fault(&self, fault: &str) -> bool {
         if fault.is_empty() {
             return self.reported == 0;

@@ -23,10 +23,10 @@ pub enum Way {
     Ample,
     /// Over devices that work, where running out of memory is an accepted answer to every line.
     Scarce,
-    /// Over devices that fail at each call in turn: the reads, also behind the input, which give four bytes each, and
+    /// Over devices that fail at each call in turn: the reads, also after the input, which give four bytes each, and
     /// the writes, which take one byte each. A refusal is reported over a source that fails just after it.
     Failing,
-    /// Over a source that fails at each read in turn, also behind the input. Each read gives eight bytes. A text is
+    /// Over a source that fails at each read in turn, also after the input. Each read gives eight bytes. A text is
     /// judged after it was read to its end, so no fault of a text is reported.
     Unread,
 }
@@ -51,7 +51,7 @@ impl Trial {
         }
     }
 
-    /// Returns whether a line gives this answer over two inputs, one behind the other.
+    /// Returns whether a line gives this answer over two inputs, one after the other.
     pub fn passes_joined(
         self,
         line: &str,

@@ -14,13 +14,7 @@ loop-taken-preserved c = record {
 pub behind-requires : goal.behind-requires
 behind-requires c = λ taken e.
     let inside = taken_within c.loop-taken.self _ c.take.result c.take.new.self c.take.ensures taken e in
-    omega (
-      arith,
-      inside,
-      ap length c.split_at-in-loop-taken.ensures.front,
-      ap length c.split_at.ensures.back,
-      c.loop-taken.invariant.inside,
-    )
+    omega (arith, ap length c.split_at-in-loop-taken.ensures.front, ap length c.split_at.ensures.back)
 
 pub returns-in_default : goal.returns-in_default
 returns-in_default c = rw c.behind.ensures (end_chunk c.args.self.now c.loop-taken.self c.take.new.self c.args.piece.now
@@ -31,7 +25,7 @@ returns-in_default c = rw c.behind.ensures (end_chunk c.args.self.now c.loop-tak
 pub behind-requires-2 : goal.behind-requires-2
 behind-requires-2 c = λ taken e.
     let inside = taken_within c.loop-taken.self _ c.take-2.result c.take-2.new.self c.take-2.ensures taken e in
-    omega (arith, inside, ap length c.split_at-2.ensures.back, c.loop-taken.invariant.inside)
+    omega (arith, ap length c.split_at-2.ensures.back)
 
 pub returns : goal.returns
 returns c = rw c.behind-2.ensures (end_rest c.args.self.now c.loop-taken.self c.take-2.new.self c.args.piece.now _

@@ -1,24 +1,20 @@
-use Rattle.acl_nfs4.proofs.Common.{ace, ace_at, ap, arith, place, profile_of, sym, ◌∙◌}
+use Rattle.acl_nfs4.proofs.Common.{ace, arith, place, profile_of}
 use Rattle.acl_nfs4.proofs.feed.Scanning.{scans, place_is}
 use Rattle.acl_nfs4.proofs.list.Within.{code_profile}
 use Rattle.acl_nfs4.proofs.feed.scan.scan.Goals as goal
 
 pub overflow_sub-progress : goal.overflow_sub-progress
 overflow_sub-progress c =
-    let s = scans (profile_of c.args.profile) c.args.body.now c.loop-progress.progress (ace c.in-Ok.ace)
-    (place c.next_ace.new.cursor) (code_profile c.args.profile (omega arith))
-    (λ i. omega (arith, c.type_inv.body i)) c.loop-progress.invariant.scanned
-    (ap (ace_at (profile_of c.args.profile) c.loop-progress.progress.weight)
-    (sym c.loop-progress.invariant.here) ∙ c.in-Ok.ensures.exact) in
+    let s = scans (profile_of c.args.profile) c.args.body.now c.loop-progress.progress (ace c.in-Ok.ace) _
+    (place c.next_ace.new.cursor) (code_profile c.args.profile (omega arith)) (λ i. omega (arith, c.type_inv.body i))
+    c.loop-progress.invariant.scanned c.loop-progress.invariant.here c.in-Ok.ensures.exact in
     s.inside
 
 pub loop-progress-preserved : goal.loop-progress-preserved
 loop-progress-preserved c =
-    let s = scans (profile_of c.args.profile) c.args.body.now c.loop-progress.progress (ace c.in-Ok.ace)
-    (place c.next_ace.new.cursor) (code_profile c.args.profile (omega arith))
-    (λ i. omega (arith, c.type_inv.body i)) c.loop-progress.invariant.scanned
-    (ap (ace_at (profile_of c.args.profile) c.loop-progress.progress.weight)
-    (sym c.loop-progress.invariant.here) ∙ c.in-Ok.ensures.exact) in
+    let s = scans (profile_of c.args.profile) c.args.body.now c.loop-progress.progress (ace c.in-Ok.ace) _
+    (place c.next_ace.new.cursor) (code_profile c.args.profile (omega arith)) (λ i. omega (arith, c.type_inv.body i))
+    c.loop-progress.invariant.scanned c.loop-progress.invariant.here c.in-Ok.ensures.exact in
     rw c.bits.ensures.value (record {
       scanned = s.scanned;
       seen = let h = c.loop-progress-test.true in omega arith;

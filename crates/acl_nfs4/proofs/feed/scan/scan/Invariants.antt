@@ -1,7 +1,7 @@
 use Rattle.acl_nfs4.proofs.Common.{behind_scanned, IsScanned, place, profile_of, ◌-◌, ◌≡◌, ◌≤◌}
 use Rattle.acl_nfs4.proofs.feed.scan.scan.Given as goal
 
--- the ACEs that were judged are whole, and the cursor is behind them
+-- the ACEs that were judged are whole, and the cursor is after them
 abbrev pub invariant-loop-progress : goal.invariant-loop-progress
 invariant-loop-progress l = record {
   scanned : IsScanned (profile_of l.profile) l.body l.progress;

@@ -10,18 +10,16 @@ judge-reach-requires c = rw c.in-Ok.ensures
 
 pub overflow_sub-reach : goal.overflow_sub-reach
 overflow_sub-reach c =
-    let whole = judged_whole (profile_of c.args.profile) c.extend.new.self c.judge-reach.result.progress _
-    c.judge-reach.ensures.judged c.in-None.is in
     let e = ended (profile_of c.args.profile) c.args.text.now c.args.piece.now c.extend.new.self
-    c.judge-reach.result.progress (code_profile c.args.profile (omega arith)) c.in-Ok.ensures whole c.requires.cut in
+    c.judge-reach.result.progress _ (code_profile c.args.profile (omega arith)) c.in-Ok.ensures
+    c.judge-reach.ensures.judged c.in-None.is c.requires.cut in
     subst (λ (k : ℕ). k ≤ 4 + c.judge-reach.result.progress.used) (sym c.len-before.ensures) e.after
 
 pub returns-in-None-clause-feeds : goal.returns-in-None-clause-feeds
 returns-in-None-clause-feeds c =
-    let whole = judged_whole (profile_of c.args.profile) c.extend.new.self c.judge-reach.result.progress _
-    c.judge-reach.ensures.judged c.in-None.is in
     let e = ended (profile_of c.args.profile) c.args.text.now c.args.piece.now c.extend.new.self
-    c.judge-reach.result.progress (code_profile c.args.profile (omega arith)) c.in-Ok.ensures whole c.requires.cut in
+    c.judge-reach.result.progress _ (code_profile c.args.profile (omega arith)) c.in-Ok.ensures
+    c.judge-reach.ensures.judged c.in-None.is c.requires.cut in
     let n : length c.args.text.now ≡ c.len-before.result = sym c.len-before.ensures in
     let list : List Ace =
     aces_of c.judge-reach.result.progress.seen (body_in c.extend.new.self c.judge-reach.result.progress) in

@@ -1,4 +1,5 @@
-use Rattle.acl_nfs4.proofs.Common.{Ace, ace, ace_line, err_from_is_err_and, ace_text, ap, arith, flat_map-cons, length, List, out_cut, out_more, ℕ, ◌++◌, ◌∙◌, ◌∷◌, ◌≡◌}
+use Rattle.acl_nfs4.proofs.Common.{Ace, ace, ace_line, ace_text, ap, arith, flat_map-cons, length, List, out_cut, out_more, ℕ, ◌++◌, ◌∙◌, ◌∷◌, ◌≡◌}
+use Rattle.acl_nfs4.proofs.Exits.{exit_is}
 use Rattle.acl_nfs4.proofs.text.writer.put_lines.Goals as goal
 
 -- the text of ACEs is the line of the first and the text of the others
@@ -8,12 +9,11 @@ next_line list rest a line piece e is same = rw (e, same, is) (flat_map-cons ace
 
 pub returns-in_err-done-clause-written : goal.returns-in_err-done-clause-written
 returns-in_err-done-clause-written g c =
-    let p = err_from_is_err_and c.from_residual.result c.from_residual.ensures.1 in
     let next = next_line c.loop-ace.ace-iterator c.next.new.self (ace c.in-Some.ace) _ _ c.in-Some.ensures.steps.0
     c.fill.ensures.text c.deref.ensures.0 in
     let said = c.in_err-done.ensures.written in
-    rw (p.1, p.2) (out_cut 0 c.loop-ace.done _ _ _ _ _ _ _ _ c.loop-ace.invariant.2 next
-    said.0 said.1 said.2)
+    rw (exit_is c.from_residual.result c.from_residual.ensures.1)
+    (out_cut 0 c.loop-ace.done _ _ _ _ _ _ _ _ c.loop-ace.invariant.2 next said.0 said.1 said.2)
 
 pub loop-ace-preserved : goal.loop-ace-preserved
 loop-ace-preserved g c =

@@ -1,12 +1,12 @@
-use Rattle.acl_nfs4.proofs.Common.{err_from_is_err_and}
+use Rattle.acl_nfs4.proofs.Exits.{exit_is}
 use Rattle.acl_nfs4.proofs.xdr.PulledList.{count_answers, count_lacks}
 use Rattle.acl_nfs4.proofs.xdr.decoder.pull_count.Goals as goal
 
 pub returns-in_err-number-clause-drawn : goal.returns-in_err-number-clause-drawn
 returns-in_err-number-clause-drawn g c =
-    let p = err_from_is_err_and c.from_residual.result c.from_residual.ensures.1 in
     let h = c.in_err-number.ensures in
-    rw (p.1, p.2) (h.0, h.1, λ q. count_lacks q h.0 _ _ _ c.in_err-number.field-0.0 h.2)
+    rw (exit_is c.from_residual.result c.from_residual.ensures.1)
+    (h.0, h.1, λ q. count_lacks q h.0 _ _ _ c.in_err-number.field-0.0 h.2)
 
 pub returns-clause-drawn : goal.returns-clause-drawn
 returns-clause-drawn g c =

@@ -1,13 +1,13 @@
-use Rattle.acl_nfs4.proofs.Common.{ap, arith, Consumes-trans, err_from_is_err_and, inl, inr, List, profile_of, refl, ℕ, ◌++◌, ◌∙◌}
+use Rattle.acl_nfs4.proofs.Common.{ap, arith, Consumes-trans, inl, inr, List, profile_of, refl, ℕ, ◌++◌, ◌∙◌}
+use Rattle.acl_nfs4.proofs.Exits.{exit_is}
 use Rattle.acl_nfs4.proofs.xdr.PulledList.{pulled_all, pulled_light, pulled_on, pulled_stops}
 use Rattle.acl_nfs4.proofs.list.Within.{code_profile}
 use Rattle.acl_nfs4.proofs.xdr.decoder.read_value.Goals as goal
 
 pub returns-in_err-count-clause-given : goal.returns-in_err-count-clause-given
 returns-in_err-count-clause-given g c =
-    let p = err_from_is_err_and c.from_residual.result c.from_residual.ensures.1 in
     let h = c.in_err-count.ensures.drawn in
-    rw (p.1, p.2) (h.0, h.1, h.2 (profile_of c.args.profile))
+    rw (exit_is c.from_residual.result c.from_residual.ensures.1) (h.0, h.1, h.2 (profile_of c.args.profile))
 
 pub loop-init : goal.loop-init
 loop-init g c =
@@ -20,10 +20,9 @@ pull_ace-requires-clause-light g c = pulled_light c.loop.invariant.so_far
 
 pub returns-in_err-ace-clause-given : goal.returns-in_err-ace-clause-given
 returns-in_err-ace-clause-given g c =
-    let p = err_from_is_err_and c.from_residual-in_err-ace.result c.from_residual-in_err-ace.ensures.1 in
     let inv = c.loop.invariant in
     let r = c.in_err-ace.ensures in
-    rw (p.1, p.2) (
+    rw (exit_is c.from_residual-in_err-ace.result c.from_residual-in_err-ace.ensures.1) (
       inv.given ++ r.given,
       Consumes-trans _ _ _ _ _ inv.taken r.taken,
       pulled_stops inv.given (code_profile c.args.profile (omega arith)) inv.so_far c.loop-test.true (omega arith) r,
@@ -31,11 +30,9 @@ returns-in_err-ace-clause-given g c =
 
 pub returns-in_err-extend_from_slice-clause-given : goal.returns-in_err-extend_from_slice-clause-given
 returns-in_err-extend_from_slice-clause-given g c =
-    let p = err_from_is_err_and c.from_residual-in_err-extend_from_slice.result
-    c.from_residual-in_err-extend_from_slice.ensures.1 in
     let inv = c.loop.invariant in
     let r = c.in_ok-ace.ensures in
-    rw (p.1, p.2)
+    rw (exit_is c.from_residual-in_err-extend_from_slice.result c.from_residual-in_err-extend_from_slice.ensures.1)
     (inv.given ++ r.given, Consumes-trans _ _ _ _ _ inv.taken r.drawn.taken, inr (inr (inl refl)))
 
 pub loop-preserved : goal.loop-preserved
@@ -58,6 +55,4 @@ invariant_of-result g c = (pulled_all c.loop.invariant.so_far
 pub returns-clause-given : goal.returns-clause-given
 returns-clause-given g c =
     let inv = c.loop.invariant in
-    let all = pulled_all inv.so_far
-    (omega (arith, c.loop-test.false, c.loop.auto.counter-end)) in
-    (inv.given, inv.taken, all.0)
+    (inv.given, inv.taken, (pulled_all inv.so_far (omega (arith, c.loop-test.false, c.loop.auto.counter-end))).0)

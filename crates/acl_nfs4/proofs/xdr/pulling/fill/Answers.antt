@@ -6,12 +6,7 @@ pub loop-filled-preserved : goal.loop-filled-preserved
 loop-filled-preserved g c =
     let inv = c.loop-filled.invariant in
     let n : c.in-Ok.n ≤ length c.pull.new.buf = c.in-Ok.ensures.bound.0 in
-    let piece : length (take c.in-Ok.n c.pull.new.buf) ≡ c.in-Ok.n = omega (
-      arith,
-      length-take c.in-Ok.n
-          c.pull.new.buf,
-      n,
-    ) in
+    let piece : length (take c.in-Ok.n c.pull.new.buf) ≡ c.in-Ok.n = omega (arith, length-take {A = ℕ}) in
     let so_far = filled_on c.args.room.now c.loop-filled.room inv.piece c.pull.new.buf c.args.held c.loop-filled.filled
     (c.args.end - c.loop-filled.filled) c.in-Ok.n (omega arith) n inv.so_far in
     record {

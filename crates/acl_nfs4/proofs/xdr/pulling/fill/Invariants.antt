@@ -1,7 +1,7 @@
 use Rattle.acl_nfs4.proofs.Common.{Consumes, IsBytes, length, List, take, ℕ, ◌++◌, ◌+◌, ◌-◌, ◌≡◌, ◌≤◌}
 use Rattle.acl_nfs4.proofs.xdr.pulling.fill.Given as goal
 
--- the bytes that the source gave are in the buffer, behind those that were held
+-- the bytes that the source gave are in the buffer, after those that were held
 abbrev pub invariant-loop-filled : goal.invariant-loop-filled
 invariant-loop-filled g l = record {
   piece : List ℕ;

@@ -1,4 +1,5 @@
-use Rattle.acl_nfs4.proofs.Common.{err_from_is_err_and, refl, who_len_of}
+use Rattle.acl_nfs4.proofs.Common.{refl, who_len_of}
+use Rattle.acl_nfs4.proofs.Exits.{exit_is}
 use Rattle.acl_nfs4.specs.internal.Reading.{from_who}
 use Rattle.acl_nfs4.proofs.xdr.Fields.{who_len_some}
 use Rattle.acl_nfs4.proofs.xdr.FromSource.{accepted, placed_light, word_drawn, word_lacks, word_refused}
@@ -7,37 +8,32 @@ use Rattle.acl_nfs4.proofs.xdr.OneFault.{len_never}
 use Rattle.acl_nfs4.proofs.xdr.pulling.pull_words.Goals as goal
 
 pub returns-in_err-pull_head : goal.returns-in_err-pull_head
-returns-in_err-pull_head g c =
-    let p = err_from_is_err_and c.from_residual.result c.from_residual.ensures.1 in
-    rw (p.1, p.2) c.in_err-pull_head.ensures
+returns-in_err-pull_head g c = rw (exit_is c.from_residual.result c.from_residual.ensures.1) c.in_err-pull_head.ensures
 
 pub returns-in_err-rights : goal.returns-in_err-rights
-returns-in_err-rights g c =
-    let p = err_from_is_err_and c.from_residual-in_err-rights.result c.from_residual-in_err-rights.ensures.1 in
-    rw (p.1, p.2) (mask_lacks c.in_ok-pull_head.ensures c.in_err-rights.ensures refl)
+returns-in_err-rights g c = rw (exit_is c.from_residual-in_err-rights.result c.from_residual-in_err-rights.ensures.1)
+    (mask_lacks c.in_ok-pull_head.ensures c.in_err-rights.ensures refl)
 
 pub returns-in_err-mask : goal.returns-in_err-mask
-returns-in_err-mask g c =
-    let p = err_from_is_err_and c.from_residual-in_err-mask.result c.from_residual-in_err-mask.ensures.1 in
-    rw (p.1, p.2) (mask_refused c.in_ok-pull_head.ensures c.mask_of.result c.in_ok-rights.ensures
-    c.mask_of.ensures.exact c.in_err-mask.ensures refl)
+returns-in_err-mask g c = rw (exit_is c.from_residual-in_err-mask.result c.from_residual-in_err-mask.ensures.1)
+    (mask_refused c.in_ok-pull_head.ensures c.mask_of.result c.in_ok-rights.ensures c.mask_of.ensures.exact
+    c.in_err-mask.ensures refl)
 
 pub returns-in_err-number : goal.returns-in_err-number
 returns-in_err-number g c =
-    let p = err_from_is_err_and c.from_residual-in_err-number.result c.from_residual-in_err-number.ensures.1 in
     let w = c.in_ok-pull_head.ensures in
-    let m = c.in_ok-mask.mask in
-    let d = mask_drawn w _ c.mask_of.result m c.in_ok-rights.ensures c.in_ok-mask.ensures c.mask_of.ensures.exact in
-    rw (p.1, p.2) (word_lacks who_len_of (from_who w.kind w.flags m.bits) d c.in_err-number.ensures refl)
+    let d = mask_drawn w _ c.mask_of.result c.in_ok-mask.mask c.in_ok-rights.ensures c.in_ok-mask.ensures
+    c.mask_of.ensures.exact in rw (exit_is c.from_residual-in_err-number.result c.from_residual-in_err-number.ensures.1)
+    (word_lacks who_len_of (from_who w.kind w.flags c.in_ok-mask.mask.bits) d c.in_err-number.ensures refl)
 
 pub returns-in_err-len : goal.returns-in_err-len
 returns-in_err-len g c =
-    let p = err_from_is_err_and c.from_residual-in_err-len.result c.from_residual-in_err-len.ensures.1 in
     let w = c.in_ok-pull_head.ensures in
     let m = c.in_ok-mask.mask in
     let d = mask_drawn w _ c.mask_of.result m c.in_ok-rights.ensures c.in_ok-mask.ensures c.mask_of.ensures.exact in
-    rw (p.1, p.2) (word_refused _ (λ z. z) c.who_len_of.result who_len_of (from_who w.kind w.flags m.bits) d
-    c.in_ok-number.ensures c.who_len_of.ensures.exact c.in_err-len.ensures refl len_never)
+    rw (exit_is c.from_residual-in_err-len.result c.from_residual-in_err-len.ensures.1)
+    (word_refused _ (λ z. z) c.who_len_of.result who_len_of (from_who w.kind w.flags m.bits) d c.in_ok-number.ensures
+    c.who_len_of.ensures.exact c.in_err-len.ensures refl len_never)
 
 pub returns : goal.returns
 returns g c =

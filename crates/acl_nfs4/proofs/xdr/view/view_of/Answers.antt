@@ -8,14 +8,13 @@ returns-in-Some-clause-fault c = rw c.in-Some.is at c.judge-reach.ensures
 pub split_at-requires : goal.split_at-requires
 split_at-requires c =
     let w = judged_whole (profile_of c.args.profile) c.args.bytes.now c.judge-reach.result.progress _
-    c.judge-reach.ensures c.in-None.is in
-    omega (arith, w.inside)
+    c.judge-reach.ensures c.in-None.is in omega arith
 
 pub split_at-requires-in-None : goal.split_at-requires-in-None
 split_at-requires-in-None c =
     let w = judged_whole (profile_of c.args.profile) c.args.bytes.now c.judge-reach.result.progress _
     c.judge-reach.ensures c.in-None.is in
-    omega (arith, w.inside, ap length c.split_at.ensures.back)
+    omega (arith, ap length c.split_at.ensures.back)
 
 pub invariant_of-result : goal.invariant_of-result
 invariant_of-result c =

@@ -1,11 +1,11 @@
-use Rattle.acl_nfs4.proofs.Common.{err_from_is_err_and, of_value, profile_of}
+use Rattle.acl_nfs4.proofs.Common.{of_value, profile_of}
+use Rattle.acl_nfs4.proofs.Exits.{exit_is}
 use Rattle.acl_nfs4.proofs.xdr.OneFault.{trails}
 use Rattle.acl_nfs4.proofs.xdr.view.whole_of.Goals as goal
 
 pub returns-in_err-view-clause-fault : goal.returns-in_err-view-clause-fault
 returns-in_err-view-clause-fault c =
-    let p = err_from_is_err_and c.from_residual.result c.from_residual.ensures.1 in
-    rw (p.1, p.2) (of_value _ _ c.in_err-view.ensures.fault)
+    rw (exit_is c.from_residual.result c.from_residual.ensures.1) (of_value _ _ c.in_err-view.ensures.fault)
 
 pub returns-then-len-bytes-clause-fault : goal.returns-then-len-bytes-clause-fault
 returns-then-len-bytes-clause-fault c =

@@ -1,6 +1,6 @@
 use borrow.Author.Count.{below_more}
 use Rattle.std.proofs.Common.{ap, arith, ◌∙◌}
-use Rattle.acl_normal.proofs.Common.{no_standing}
+use Rattle.acl_normal.proofs.Common.{no_placing}
 use Rattle.acl_normal.proofs.comparison.inversions.first_of.Goals as goal
 use Rattle.acl_normal.proofs.comparison.TableFacts.{first_of_camp, near_end, near_is, not_of_camp}
 use Rattle.acl_normal.specs.internal.comparison.PlaceTables.{is_inverting}
@@ -8,7 +8,7 @@ use Rattle.acl_normal.specs.internal.comparison.PlaceTables.{is_inverting}
 pub returns-then-is_inverting : goal.returns-then-is_inverting
 returns-then-is_inverting c =
     first_of_camp _ _ _ _ _ _ _ _ _ _
-    (near_is _ _ _ _ no_standing c.split_at.ensures.front c.requires.limit c.loop-k-test.true).0
+    (near_is _ _ _ _ no_placing c.split_at.ensures.front c.requires.limit c.loop-k-test.true).0
     c.requires.limit c.loop-k.invariant c.requires.places
     c.in_ok-forward.ensures c.in_ok-back.ensures c.deref.ensures.value c.deref-in-loop-k.ensures.value
     (c.is_inverting.ensures
@@ -22,7 +22,7 @@ loop-k-preserved c =
     (not_of_camp _ _ _ _ _ _ _ _ _
     (omega (
       arith,
-      (near_is _ _ _ _ no_standing c.split_at.ensures.front c.requires.limit c.loop-k-test.true).0,
+      (near_is _ _ _ _ no_placing c.split_at.ensures.front c.requires.limit c.loop-k-test.true).0,
       c.requires.limit,
     )) c.requires.places
     c.in_ok-forward.ensures c.in_ok-back.ensures c.deref.ensures.value c.deref-in-loop-k.ensures.value

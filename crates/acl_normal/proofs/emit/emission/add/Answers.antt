@@ -18,25 +18,18 @@ add-requires c =
     c.row_at.ensures.row (ap kind_rank (sym c.requires.kind)) in
     omega (arith, is.below, c.key_number-number.ensures.value, c.requires.keys.count, outline_length c.args.rows.now)
 
-pub returns-clause-keys : goal.returns-clause-keys
-returns-clause-keys c =
+pub returns : goal.returns
+returns c =
+    let xs = c.args.rows.now in
     let is =
-    number_at (key_here c.args.rows.now c.args.place) c.args.rows.now c.row_at.result (kind_rank c.args.kind)
+    number_at (key_here xs c.args.place) xs c.row_at.result (kind_rank c.args.kind)
     c.row_at.ensures.row (ap kind_rank (sym c.requires.kind)) in
-    on_ok_weaker c.add.result (λ e. fits_written (nothing_left c.args.rows.now) c.args.ready.now c.add.new.self _ _
-    c.requires.keys (record {
-      key = key_here c.args.rows.now c.args.place;
-      named = is.named;
-      is = c.key_number-number.ensures.value ∙ is.is;
-    }) e) c.add.ensures
-
-pub returns-clause-marks : goal.returns-clause-marks
-returns-clause-marks c =
-    let is =
-    number_at (key_here c.args.rows.now c.args.place) c.args.rows.now c.row_at.result (kind_rank c.args.kind)
-    c.row_at.ensures.row (ap kind_rank (sym c.requires.kind)) in
+    let number = c.key_number-number.ensures.value ∙ is.is in
     let within : c.key_number-number.result < length c.args.ready.now =
-    omega (arith, is.below, c.key_number-number.ensures.value, c.requires.keys.count, outline_length c.args.rows.now) in
-    on_ok_weaker c.add.result (λ e. adds (nothing_left c.args.rows.now) c.args.ready.now c.add.new.self _
-    c.args.right.bit (key_here c.args.rows.now c.args.place) is.named (c.key_number-number.ensures.value ∙ is.is)
-    within e) c.add.ensures
+    omega (arith, is.below, c.key_number-number.ensures.value, c.requires.keys.count, outline_length xs) in
+    on_ok_weaker c.add.result (λ e. record {
+      keys = fits_written (nothing_left xs) c.args.ready.now c.add.new.self _ _ c.requires.keys
+          (record { key = key_here xs c.args.place; named = is.named; is = number }) e;
+      marks = adds (nothing_left xs) c.args.ready.now c.add.new.self _ c.args.right.bit (key_here xs c.args.place)
+          is.named number within e;
+    }) c.add.ensures

@@ -6,12 +6,15 @@ pub index-link-requires : goal.index-link-requires
 index-link-requires c =
     omega (arith, reached_link c.loop-at.invariant.0 c.loop-at-test.true, c.args.queues.now.links.ok)
 
-pub returns-then-link-last-clause-marks : goal.returns-then-link-last-clause-marks
-returns-then-link-last-clause-marks c =
+pub returns-then-link-last : goal.returns-then-link-last
+returns-then-link-last c =
     let once = c.requires.queues.list.tidy.once c.args.right.bit in
-    let within = reached_within c.loop-at.invariant.0 _ c.loop-at-test.true c.index-link.ensures in
-    reached_blocked c.loop-at.invariant.0 _ c.loop-at-test.true c.index-link.ensures once
-    (c.last_clear-last.ensures.blocked _ c.if-link-last.true (omega (arith, within, c.requires.queues.list.few)))
+    let within = reached_within c.loop-at.invariant.0 _ c.loop-at-test.true c.index-link.ensures in record {
+      keys = c.loop-at.invariant.1;
+      marks = reached_blocked c.loop-at.invariant.0 _ c.loop-at-test.true c.index-link.ensures once
+          (c.last_clear-last.ensures.blocked _ c.if-link-last.true
+          (omega (arith, within, c.requires.queues.list.few)));
+    }
 
 pub has-requires : goal.has-requires
 has-requires c = reached_within c.loop-at.invariant.0 _ c.loop-at-test.true c.index-link.ensures
@@ -46,7 +49,8 @@ loop-at-preserved c = (
   c.loop-at.invariant.1,
 )
 
-pub returns-clause-marks : goal.returns-clause-marks
-returns-clause-marks c =
-    walk_over c.loop-at.invariant.0 (c.requires.queues.list.tidy.once c.args.right.bit)
-    c.loop-at-test.false
+pub returns : goal.returns
+returns c = record {
+  keys = c.loop-at.invariant.1;
+  marks = walk_over c.loop-at.invariant.0 (c.requires.queues.list.tidy.once c.args.right.bit) c.loop-at-test.false;
+}

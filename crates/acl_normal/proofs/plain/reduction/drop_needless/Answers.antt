@@ -1,5 +1,5 @@
 use Rattle.std.proofs.Common.{◌+◌, refl}
-use Rattle.acl_normal.proofs.Common.{ace, aces_in, ap, arith, column, default, default_at, drop, has_bit, is_needed, KeepsProfiles, needed_keys, principal_of, subst, sym, ◌&&◌, ◌++◌, ◌∙◌, and_parts}
+use Rattle.acl_normal.proofs.Common.{ace, aces_in, arith, column, default_at, drop, has_bit, is_needed, principal_of, sym, ◌&&◌, ◌∙◌, and_parts}
 use Rattle.acl_normal.proofs.plain.Passes.{Marks}
 use Rattle.acl_normal.proofs.unique.Kept.{ace_at, fewer_bits, keeps_more}
 use Rattle.acl_normal.proofs.plain.NeededBits.{needed_more}
@@ -8,22 +8,15 @@ use Rattle.acl_normal.proofs.plain.reduction.drop_needless.Goals as goal
 pub loop-place-preserved : goal.loop-place-preserved
 loop-place-preserved c =
     let y = c.index-aces-place.result in
-    let later = drop (c.loop-place.place + 1) c.args.aces.now in
     let mask : Marks c.needed-mask.result.bits (λ bit. has_bit y.mask.bits bit
     && is_needed (default_at c.allowed_to_everyone-allowed.result.bits bit) (principal_of (ace y)) y.kind
-    (column (aces_in later) bit)) =
-    λ bit. c.needed-mask.ensures bit
-    ∙ ap (λ v. has_bit y.mask.bits bit
-    && is_needed (default_at c.allowed_to_everyone-allowed.result.bits bit) (principal_of (ace y)) y.kind
-    (column (aces_in v) bit)) c.split_at.ensures.back in
+    (column (aces_in (drop (c.loop-place.place + 1) c.args.aces.now)) bit)) =
+    λ bit. rw (← c.split_at.ensures.back) (c.needed-mask.ensures bit) in
     record {
-      columns = λ bit.
-          ap (λ v. column (aces_in v) bit ++ needed_keys (default (column (aces_in c.args.aces.now) bit))
-          (column (aces_in later) bit)) c.in_ok-push.ensures.items
-          ∙ needed_more c.args.aces.now y c.loop-place.kept.items _ c.loop-place.place
-          c.allowed_to_everyone-allowed.result.bits (omega arith) c.index-aces-place.is refl refl
-          c.allowed_to_everyone-allowed.ensures mask bit _ (c.loop-place.invariant.columns bit);
-      profiles = subst (λ v. KeepsProfiles (aces_in c.args.aces.now) (aces_in v)) (sym c.in_ok-push.ensures.items)
+      columns = λ bit. rw c.in_ok-push.ensures.items (needed_more c.args.aces.now y c.loop-place.kept.items _
+          c.loop-place.place c.allowed_to_everyone-allowed.result.bits (omega arith) c.index-aces-place.is refl refl
+          c.allowed_to_everyone-allowed.ensures mask bit _ (c.loop-place.invariant.columns bit));
+      profiles = rw c.in_ok-push.ensures.items
           (keeps_more (aces_in c.args.aces.now) c.loop-place.kept.items _ c.loop-place.invariant.profiles
           (λ p h. fewer_bits p (ace y) _ refl refl (λ k has. (and_parts _ _ (sym (mask k) ∙ has)).0)
           (ace_at c.args.aces.now y c.loop-place.place (omega arith) c.index-aces-place.is p h)));

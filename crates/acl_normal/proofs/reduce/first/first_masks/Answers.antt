@@ -1,5 +1,5 @@
-use Rattle.acl_normal.proofs.Common.{ap, arith, mask_numbers, has_bit, IsDifference, refl, subst, sym, ◌+◌, ◌||◌, ◌∙◌, slice_set, slice_index_or}
-use Rattle.acl_normal.proofs.reduce.FirstMasks.{Reaches, reaches_more, reaches_none, reaches_thinned, row_seen}
+use Rattle.acl_normal.proofs.Common.{ap, arith, mask_numbers, has_bit, IsDifference, refl, subst, ◌||◌, ◌∙◌}
+use Rattle.acl_normal.proofs.reduce.FirstMasks.{reaches_more, reaches_none, reaches_thinned, row_seen}
 use Rattle.acl_normal.proofs.reduce.first.first_masks.Goals as goal
 use Rattle.acl_normal.proofs.rows.MaskNumbers.{bits_all, bits_length}
 
@@ -21,10 +21,7 @@ pub loop-place-preserved : goal.loop-place-preserved
 loop-place-preserved c = record {
   within = c.union-everyone.result.within;
   reaches =
-      subst (λ v. Reaches c.args.aces.now (c.loop-place.place + 1) (mask_numbers v)
-      (mask_numbers (slice_set c.loop-place.seen.items (slice_index_or c.args.rows.now c.loop-place.place 0)
-      c.union-in-loop-place.result)) c.union-everyone.result.bits)
-      (sym c.in_ok-push.ensures.items)
+      rw c.in_ok-push.ensures.items
       (reaches_more c.args.aces.now c.args.rows.now c.loop-place.place c.loop-place.masks.items
       c.loop-place.seen.items _ _ c.index-aces-place.result c.index_mut-here.result.now
       c.union-in-loop-place.result c.difference-fresh.result c.loop-place.invariant.reaches (record {

@@ -1,5 +1,5 @@
 use Rattle.acl_posix.proofs.Common.{Entry, IsSorted, List, pairs, subst, sym}
-use Rattle.acl_posix.proofs.one_entry.OneEntry.{three_sorted}
+use Rattle.acl_posix.proofs.sorted.OneEntry.{three_sorted}
 use Rattle.acl_posix.proofs.sorted.SortedEntries.of_mode.Goals as goal
 
 pub invariant_of-result : goal.invariant_of-result

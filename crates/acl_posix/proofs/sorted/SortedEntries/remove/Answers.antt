@@ -1,15 +1,10 @@
-use Rattle.acl_posix.proofs.Common.{Entry, filter, IsValid, List, not, rules, subst, sym, tag_of, ◌∙◌}
+use Rattle.acl_posix.proofs.Common.{Entry, filter, List, not, rules, subst, sym, tag_of, ◌∙◌}
 use Rattle.std.specs.FinMap as set
 use Rattle.std.proofs.lemmas.Fn.{filter_same}
 use Rattle.acl_posix.specs.contracts.tag.TagOrd.TheImpl.Laws as laws
 use Rattle.acl_posix.specs.contracts.tag.TagPartialEq.TheImpl.{ghosts as tags}
-use Rattle.acl_posix.proofs.one_entry.OneEntry.{lacks, valid_without}
 use Rattle.acl_posix.proofs.sorted.Lists.{entries_of, IsListOf, without}
 use Rattle.acl_posix.proofs.sorted.SortedEntries.remove.Goals as goal
-
-pub returns-then-needs-clause-fault : goal.returns-then-needs-clause-fault
-returns-then-needs-clause-fault c =
-    lacks c.args.self.now (tag_of c.args.tag) c.requires (sym c.needs.ensures ∙ c.if-needs.true)
 
 -- what is left is the list of the set without the entry
 left : (c : goal.After-retain) → IsListOf (set.remove c.args.self.now (tag_of c.args.tag)) c.retain.new.self.items
@@ -23,10 +18,5 @@ left c = subst (λ (es : List Entry). IsListOf (set.remove c.args.self.now (tag_
 pub invariant_of-self : goal.invariant_of-self
 invariant_of-self c = (left c).sorted
 
-pub returns-clause-ok : goal.returns-clause-ok
-returns-clause-ok c = (left c).set
-
-pub returns-clause-valid : goal.returns-clause-valid
-returns-clause-valid c =
-    subst IsValid (sym (left c).set)
-    (valid_without c.args.self.now (tag_of c.args.tag) c.requires (sym c.needs.ensures ∙ c.if-needs.false))
+pub returns : goal.returns
+returns c = (left c).set

@@ -1,6 +1,6 @@
 use Rattle.acl_posix.proofs.Common.{ap, class_union, List, mask, on_ok_weaker, Tag, ℕ, ◌∙◌}
 use Rattle.std.specs.FinMap as fin
-use Rattle.acl_posix.proofs.one_entry.OneEntry.{masked_or_kept}
+use Rattle.acl_posix.proofs.sorted.OneEntry.{masked_or_kept}
 use Rattle.acl_posix.proofs.sorted.SortedEntries.set_mask.Goals as goal
 
 pub returns-clause-ok : goal.returns-clause-ok

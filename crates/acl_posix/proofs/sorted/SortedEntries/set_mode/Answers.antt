@@ -1,5 +1,5 @@
 use Rattle.acl_posix.proofs.Common.{group_class, other, tag_of, user_obj}
-use Rattle.acl_posix.proofs.one_entry.OneEntry.{class_present, complete, still, valid_mode}
+use Rattle.acl_posix.proofs.sorted.OneEntry.{class_present, complete, still, valid_mode}
 use Rattle.acl_posix.proofs.sorted.SortedEntries.set_mode.Goals as goal
 
 pub set-requires : goal.set-requires

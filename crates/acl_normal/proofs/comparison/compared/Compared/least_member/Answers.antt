@@ -1,29 +1,25 @@
-use Rattle.std.proofs.Common.{sym, subst, ◌+◌}
+use Rattle.std.proofs.Common.{sym, subst}
 use Rattle.acl_normal.proofs.comparison.compared.Compared.least_member.Goals as goal
-use Rattle.acl_normal.proofs.comparison.compared.Compared.least_member.Goals.{then-may_differ+in_ok-standings+in_ok-least, else-may_differ}
-use Rattle.acl_normal.proofs.comparison.RowFacts.{LeastMember, least_done, least_skip, member_step, rows_limit, same_pairs}
+use Rattle.acl_normal.proofs.comparison.compared.Compared.least_member.Goals.{then-may_differ+in_ok-placings+in_ok-least, else-may_differ}
+use Rattle.acl_normal.proofs.comparison.RowFacts.{least_done, least_skip, member_step, rows_limit, same_pairs}
 use Rattle.acl_normal.proofs.comparison.TableFacts.{slice_within}
-use Rattle.acl_normal.specs.internal.comparison.TwoLists.{StandAs, all_mentioned}
+use Rattle.acl_normal.specs.internal.comparison.TwoLists.{ArePlacingsOf, all_mentioned}
 
 pub first_inverting-requires-clause-limit : goal.first_inverting-requires-clause-limit
 first_inverting-requires-clause-limit c =
-    rows_limit (all_mentioned c.args.self.now) _ _ _ _ _ _ c.in_ok-standings.ensures c.deref.ensures.value
+    rows_limit (all_mentioned c.args.self.now) _ _ _ _ _ _ c.in_ok-placings.ensures c.deref.ensures.value
     c.loop-bit.invariant.within
 
 pub first_inverting-requires-clause-places : goal.first_inverting-requires-clause-places
 first_inverting-requires-clause-places c =
-    slice_within c.args.self.now _ _ _ _ c.deref.ensures.value c.longer-size.ensures.within c.in_ok-standings.ensures
+    slice_within c.args.self.now _ _ _ _ c.deref.ensures.value c.longer-size.ensures.within c.in_ok-placings.ensures
 
 pub loop-bit-preserved : goal.loop-bit-preserved
 loop-bit-preserved c = elim c.if-may_differ.branch [
-  | then-may_differ+in_ok-standings+in_ok-least w ↦ subst (LeastMember c.args.self.now (c.loop-bit.bit + 1))
-      (sym w.least-is)
-      (member_step _ _ _ _ _ _ _
-      (subst (StandAs c.args.self.now c.loop-bit.bit) (sym w.deref.ensures.value) w.in_ok-standings.ensures)
-      c.requires (c.may_differ.ensures.right w.if-may_differ.true) w.in_ok-least.ensures.within
-      w.in_ok-least.ensures.before w.in_ok-least.ensures.at c.loop-bit.invariant)
-  | else-may_differ w ↦ subst (LeastMember c.args.self.now (c.loop-bit.bit + 1)) (sym w.least-is)
-      (least_skip _ _ _ _
+  | then-may_differ+in_ok-placings+in_ok-least w ↦ rw w.least-is (member_step _ _ _ _ _ _ _
+      (subst (ArePlacingsOf c.args.self.now c.loop-bit.bit) (sym w.deref.ensures.value) w.in_ok-placings.ensures)
+      c.requires (c.may_differ.ensures.right w.if-may_differ.true) w.in_ok-least.ensures c.loop-bit.invariant)
+  | else-may_differ w ↦ rw w.least-is (least_skip _ _ _ _
       (same_pairs c.args.self.now c.loop-bit.bit (c.may_differ.ensures.same w.if-may_differ.false))
       c.loop-bit.invariant)
 ]

@@ -2,10 +2,9 @@ use Rattle.std.proofs.Common.{◌≡◌, ◌+◌, true}
 use Rattle.acl_normal.proofs.Common.{ap, AreNoted, arith, has_bit, is_user, is_users, mask_here, principal_here, slot_of, subst, sym, ◌∙◌}
 use Rattle.acl_normal.specs.internal.Places.{kind_here}
 use Rattle.acl_normal.specs.internal.emit.Queues.{PutsPlace}
-use Rattle.acl_normal.proofs.emit.NotedQueues.{noted_on, noted_place, noted_skip}
+use Rattle.acl_normal.proofs.emit.NotedQueues.{noted_on, noted_place, noted_up_to}
 use Rattle.acl_normal.proofs.rows.FirstPlaces.{waits_here}
 use Rattle.acl_normal.proofs.emit.queues.Queues.note.Goals as goal
-use Rattle.acl_normal.proofs.unique.NextRight.{past_absent}
 
 pub loop-right-preserved : goal.loop-right-preserved
 loop-right-preserved c =
@@ -15,10 +14,7 @@ loop-right-preserved c =
     let b = c.in-Some.right.bit in
     let next = c.in-Some.ensures.some in
     let before : AreNoted xs (place + 1) b old =
-    past_absent (λ n. AreNoted xs (place + 1) n old) c.mask_at-mask.result.bits c.loop-right.from b
-    (λ n is lacks. noted_skip xs place n old (ap (λ v. has_bit v n) (sym c.mask_at-mask.ensures.mask) ∙ lacks) is)
-    next.above
-    next.lacks c.loop-right.invariant.0 in
+    noted_up_to xs place _ _ _ old c.mask_at-mask.ensures.mask next.above next.lacks c.loop-right.invariant.0 in
     let has : has_bit (mask_here xs place) b ≡ true =
     ap (λ v. has_bit v b) (sym c.mask_at-mask.ensures.mask) ∙ next.has in
     let slot : c.slot.result ≡ slot_of (kind_here xs place) (is_user (principal_here xs place)) b =
@@ -32,10 +28,6 @@ loop-right-preserved c =
 
 pub returns : goal.returns
 returns c =
-    let xs = c.args.rows.now in
-    let place = c.args.place in
-    let old = c.loop-right.self in
-    noted_place xs place old (past_absent (λ n. AreNoted xs (place + 1) n old) c.mask_at-mask.result.bits
-    c.loop-right.from 21
-    (λ n is lacks. noted_skip xs place n old (ap (λ v. has_bit v n) (sym c.mask_at-mask.ensures.mask) ∙ lacks) is)
+    noted_place c.args.rows.now c.args.place c.loop-right.self
+    (noted_up_to c.args.rows.now c.args.place _ _ 21 c.loop-right.self c.mask_at-mask.ensures.mask
     c.loop-right.invariant.1 c.in_default.ensures.none c.loop-right.invariant.0)

@@ -25,11 +25,10 @@ returns-clause-mask c =
     let s = c.self.inside in
     let within : c.args.place < length (remaining_of s) =
     subst (λ v. c.args.place < length v) (sym c.self.view_is) c.requires in
-    let within_masks : c.args.place < length s.masks.items =
-    omega (arith, within, length_remaining s c.self.invariant, c.self.invariant.masks, s.masks.ok) in
     let row = c.index-2.ensures ∙ row_there s _ _ c.self.invariant within in
     let mask : slice_index_or (mask_numbers s.masks.items) c.args.place 0 ≡ c.index.result.now.bits =
-    bits_at s.masks.items c.args.place 0 _ within_masks c.index.ensures in
+    bits_at s.masks.items c.args.place 0 _
+    (omega (arith, within, length_remaining s c.self.invariant, c.self.invariant.masks, s.masks.ok)) c.index.ensures in
     let left_below : c.index-2.result.now < length s.left.items =
     omega (arith, row, row_of_place s c.args.place c.self.invariant within) in
     let left : slice_index_or (mask_numbers s.left.items) (slice_index_or s.rows.items c.args.place 0) 0

@@ -1,0 +1,22 @@
+//! The tables again with memory that may run out: each call succeeds with the same answer, or it fails and changes
+//! nothing.
+
+use super::harness::{Memory, NO_OWNER};
+use super::worked_lists;
+use crate::*;
+
+#[test]
+fn each_worked_list_gives_its_answers_unless_memory_runs_out(rt: HostRuntime) {
+    worked_lists(&rt, Memory::scarce(rt.alloc()));
+}
+
+#[test]
+fn a_call_that_fails_adds_no_mask(rt: HostRuntime) {
+    let memory = Memory::scarce(rt.alloc());
+    // A copy has no spare room, so another entry takes memory.
+    let Ok(Ok(mut acl)) = memory.acl(NO_OWNER).map(|acl| acl.copy(memory.alloc)) else {
+        return;
+    };
+    let is_added = acl.calc_mask().is_ok();
+    assert!(rt; acl.entries().len() == (if is_added { 4 } else { 3 }));
+}

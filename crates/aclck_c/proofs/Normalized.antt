@@ -1,0 +1,22 @@
+-- The bytes that `aclck_normalize` puts into a buffer.
+use Rattle.std.proofs.Common.{◌≡◌, ◌∙◌, ℕ, List, true, false, ap, cond, drop, eqb, length, refl, take}
+use Rattle.std.specs.Prelude.{bit_and}
+use Rattle.std.proofs.Math.Seq.{take-append_seam}
+use Rattle.acl_perm.specs.Profile.{full, narrow}
+use Rattle.acl_nfs4.specs.Within.{IsProfile}
+use Rattle.aclck_c.specs.Options.{profile_from}
+use Rattle.aclck_c.specs.Out.{HandsOut}
+
+-- the profile of options is one
+pub is_profile : (options : ℕ) → IsProfile (profile_from options)
+is_profile options = elim (eqb (bit_and options 1) 1) as (λ t. IsProfile (cond t narrow full)) [
+  | true ↦ record { masks = refl; flags = refl }
+  | false ↦ record { masks = refl; flags = refl }
+]
+
+-- what was put at the front of the buffer is the text
+pub front : (Means : List ℕ → Type 0) (buffer filled : List ℕ) (needed : ℕ)
+    → (h : HandsOut Means buffer filled needed) → take needed filled ≡ h.text
+front Means buffer filled needed h =
+    ap (λ n. take n filled) h.reported ∙ ap (λ xs. take (length h.text) xs) h.puts.put
+    ∙ take-append_seam h.text (drop (length h.text) buffer)
