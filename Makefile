@@ -21,14 +21,12 @@ try:
 	@echo 'Then try a list of your own: getfattr --only-values -n system.nfs4_acl FILE | aclck show-nfs'
 	@echo 'docs/recipes.md answers common questions, one by one.'
 
-# Proves and builds aclck, and runs the example, with one job per processor. The crates are proved one after the other,
-# since an `rt` waits until every other `rt` in the same tree has ended.
+# Proves and builds aclck, and runs the example, with one job per processor.
 JOBS ?= $(shell nproc)
 run:
-	for crate in acl_perm acl_posix acl_nfs4 acl_eval acl_normal; do \
-	  (cd crates/$$crate && rt lib --jobs $(JOBS)) || exit 1; done
-	cd crates/aclck && rt run --jobs $(JOBS) -- $(EXAMPLE)
+	tools/prove --jobs $(JOBS) aclck
 	$(MAKE) --no-print-directory $(STATIC)
+	cd crates/aclck && out/aclck-static $(EXAMPLE)
 
 # For work on one crate: `make quick CRATE=acl_nfs4` formats the crate, proves it and its tests, and tries its must-fail
 # edits. It uses what earlier checks kept.
@@ -87,9 +85,9 @@ uninstall-tree:
 crates/aclck/out/aclck:
 	@echo 'aclck is not built: make run' >&2; exit 1
 
-# `rt run` leaves the object next to the program. If `rt ci` took a program that it had kept, there is no object.
+# The object is next to the program. If `rt ci` took a program that it had kept, there is no object.
 crates/aclck/out/aclck.o: | crates/aclck/out/aclck
-	cd crates/aclck && rt run -- $(EXAMPLE) > /dev/null
+	tools/prove aclck
 
 # Makes the Debian packages and a tarball in debian/out. Needs dpkg-deb and what `run` and `library` leave.
 package: $(STATIC)

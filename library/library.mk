@@ -13,11 +13,11 @@ OBJCOPY ?= objcopy
 
 # Proves the exports, and makes both forms of the library.
 library:
-	cd crates/aclck_c && rt lib
+	tools/prove aclck_c
 	$(MAKE) --no-print-directory $(MADE)/$(SHARED) $(MADE)/libaclck.a $(MADE)/aclck.pc
 
 $(PROVED):
-	cd crates/aclck_c && rt lib
+	tools/prove aclck_c
 
 # Only the names of the exports are visible.
 $(MADE)/$(SHARED): $(PROVED) library/aclck.map
