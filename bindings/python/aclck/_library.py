@@ -156,8 +156,8 @@ def judged(status: int, fault: Fault) -> int:
     if status <= NO:
         return status
     if status == REFUSED:
-        raise refused(reason_name(fault.reason), fault.reason, fault.offset, fault.line, fault.column, fault.list,
-                      fault.part, fault.tag)
+        raise refused(reason_name(fault.reason), fault.offset, fault.line, fault.column, fault.list, fault.part,
+                      fault.tag)
     if status == BAD_ARGUMENT:
         raise ValueError("a name is empty, or a number is outside its range")
     raise MemoryError

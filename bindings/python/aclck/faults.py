@@ -43,14 +43,14 @@ class Refused(ValueError):
         return self.reason
 
 
-def refused(name: str, reason: int, offset: int, line: int, column: int, second: int, part: int, tag: int) -> Refused:
-    """Makes the exception for the numbers with which the library describes a fault."""
+def refused(name: str, offset: int, line: int, column: int, second: int, part: int, tag: int) -> Refused:
+    """Makes the exception for the name of a reason and the numbers with which the library describes a fault."""
     if line:
         return Refused(name, line=line, column=column)
-    if reason == 27:
+    if name == "Miss":
         return Refused(name, part=_PARTS[part], tag=_TAGS[tag])
-    if reason in (25, 26):
+    if name in ("Multi", "Duplicate"):
         return Refused(name, part=_PARTS[part], offset=offset)
-    if reason == 28:
+    if name == "Limits":
         return Refused(name)
     return Refused(name, offset=offset, second=bool(second))

@@ -29,7 +29,7 @@ use Rattle.acl_nfs4.proofs.Exports.{weight-cons}
 use Rattle.acl_eval.specs.Bridge.{image, bridged_who, bridged_flags, ace_of, each, is_user_tag, is_group_tag, is_other_tag, allow_of, deny_of, decide_of, bridge_list}
 use Rattle.acl_eval.specs.BridgeNames.{NamesDiffer, NamesAreValid, OnlyLimitsRefuse}
 use Rattle.acl_eval.proofs.Images.{image_mask, image_some}
-use Rattle.acl_eval.proofs.EntryRuns.{effective_lt, everywhere}
+use Rattle.acl_eval.proofs.EntryRuns.{effective_lt, each_weaker}
 use Rattle.acl_eval.proofs.BridgeNames.{not_owner, not_group, not_everyone}
 
 -- ---- names
@@ -85,26 +85,26 @@ pub names_valid : NamesAreValid
 names_valid n lt = (is_who-decimal n lt, rw (not_owner n lt, not_group n lt, not_everyone n lt) refl)
 
 -- bytes that are all below 128 are ASCII
-ascii : (bs : List ℕ) → list_all (λ b. ltb b 128) bs ≡ true → IsAscii bs
-ascii [] h i = omega arith
-ascii (b ∷ bs) h zero = ltb-true b 128 (and_true (ltb b 128) (list_all (λ c. ltb c 128) bs) h).0
-ascii (b ∷ bs) h (suc i) = ascii bs (and_true (ltb b 128) (list_all (λ c. ltb c 128) bs) h).1 i
+IsAscii-below_128 : (bs : List ℕ) → list_all (λ b. ltb b 128) bs ≡ true → IsAscii bs
+IsAscii-below_128 [] h i = omega arith
+IsAscii-below_128 (b ∷ bs) h zero = ltb-true b 128 (and_true (ltb b 128) (list_all (λ c. ltb c 128) bs) h).0
+IsAscii-below_128 (b ∷ bs) h (suc i) = IsAscii-below_128 bs (and_true (ltb b 128) (list_all (λ c. ltb c 128) bs) h).1 i
 
 -- bytes that are all below 128 are UTF-8
-text : (bs : List ℕ) → list_all (λ b. ltb b 128) bs ≡ true → is_utf8 bs ≡ true
-text bs h = is_utf8-from_IsUtf8 bs (IsUtf8-from_ascii bs (ascii bs h))
+is_utf8-below_128 : (bs : List ℕ) → list_all (λ b. ltb b 128) bs ≡ true → is_utf8 bs ≡ true
+is_utf8-below_128 bs h = is_utf8-from_IsUtf8 bs (IsUtf8-from_ascii bs (IsAscii-below_128 bs h))
 
 -- `OWNER@` is valid as a who
 is_who-owner : IsWho owner_name
-is_who-owner = no_fault owner_name refl (text owner_name refl) refl refl
+is_who-owner = no_fault owner_name refl (is_utf8-below_128 owner_name refl) refl refl
 
 -- `GROUP@` is valid as a who
 is_who-group : IsWho group_name
-is_who-group = no_fault group_name refl (text group_name refl) refl refl
+is_who-group = no_fault group_name refl (is_utf8-below_128 group_name refl) refl refl
 
 -- `EVERYONE@` is valid as a who
 is_who-everyone : IsWho everyone_name
-is_who-everyone = no_fault everyone_name refl (text everyone_name refl) refl refl
+is_who-everyone = no_fault everyone_name refl (is_utf8-below_128 everyone_name refl) refl refl
 
 -- ---- ACEs
 
@@ -138,9 +138,9 @@ each_ace k mask p lt is h = absurd cc
 each_ace k other p lt is h = with_who k other p lt refl is_who-everyone
 
 -- if the ACEs of two lists may be in a list, so may those of both lists together
-together : (xs ys : List Ace) → AllByRecursion Good xs → AllByRecursion Good ys → AllByRecursion Good (xs ++ ys)
-together [] ys h g = g
-together (a ∷ xs) ys h g = (h.0, together xs ys h.1 g)
+good-append : (xs ys : List Ace) → AllByRecursion Good xs → AllByRecursion Good ys → AllByRecursion Good (xs ++ ys)
+good-append [] ys h g = g
+good-append (a ∷ xs) ys h g = (h.0, good-append xs ys h.1 g)
 
 -- the ACEs of a part may be in a list if those of each of its entries may
 of_part : (which : Tag → Bool) (f : Tag × ℕ → List Ace) (es : List (Tag × ℕ))
@@ -151,7 +151,7 @@ of_part which f (e ∷ es) g all =
     let rest = of_part which f es g all.1 in
     elim (which e.0) as (λ t. which e.0 ≡ t
     → AllByRecursion Good (flat_map f (cond t (e ∷ filter (λ x. which x.0) es) (filter (λ x. which x.0) es)))) [
-      | true ↦ λ is. together (f e) (each which f es) (g e all.0 is) rest
+      | true ↦ λ is. good-append (f e) (each which f es) (g e all.0 is) rest
       | false ↦ λ is. rest
     ] refl
 
@@ -178,7 +178,7 @@ aces_good E all =
     (effective_lt E e is.1) is.0 n in
     let denies = λ (e : Tag × ℕ) (is : IsEntry e) (n : has_aces e.0 ≡ true). each_ace Deny e.0 (7 - effective_of E e)
     (omega arith) is.0 n in
-    let a = of_part is_user_tag (decide_of E) es (λ e is u. together (allow_of E e) (deny_of E e)
+    let a = of_part is_user_tag (decide_of E) es (λ e is u. good-append (allow_of E e) (deny_of E e)
     (allows e is (user_has e.0 u)) (denies e is (user_has e.0 u))) all in
     let b = of_part is_group_tag (allow_of E) es (λ e is g. allows e is (group_has e.0 g)) all in
     let c = of_part is_group_tag (deny_of E) es (λ e is g. denies e is (group_has e.0 g)) all in
@@ -186,12 +186,12 @@ aces_good E all =
     let users = each is_user_tag (decide_of E) es in
     let group_allows = each is_group_tag (allow_of E) es in
     let group_denies = each is_group_tag (deny_of E) es in
-    together (users ++ group_allows ++ group_denies) (each is_other_tag (allow_of E) es)
-    (together (users ++ group_allows) group_denies (together users group_allows a b) c) d
+    good-append (users ++ group_allows ++ group_denies) (each is_other_tag (allow_of E) es)
+    (good-append (users ++ group_allows) group_denies (good-append users group_allows a b) c) d
 
 -- each ACE of the bridged list may be in a list
 pub aces_valid : (E : Entries) → AllByRecursion IsEntry (fin.entries E) → AllByRecursion (IsAce full) (bridge_list E)
-aces_valid E all = everywhere Good (IsAce full) (λ a g. g.0) (bridge_list E) (aces_good E all)
+aces_valid E all = each_weaker Good (IsAce full) (λ a g. g.0) (bridge_list E) (aces_good E all)
 
 -- a list of ACEs whose masks are not empty has no more ACEs than mask bits
 no_longer : (xs : List Ace) → AllByRecursion Good xs → length xs ≤ weight xs

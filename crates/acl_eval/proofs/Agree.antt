@@ -20,15 +20,15 @@ use Rattle.acl_posix.specs.Texts.{IsAcl}
 use Rattle.acl_posix.specs.Mode.{perm_at}
 use Rattle.acl_posix.specs.Check as posix
 use Rattle.acl_posix.specs.Check.{Object, Requester, contains, grants}
-use Rattle.acl_eval.proofs.ValidChecks.{mask_contains, plain, complete, plain_check}
+use Rattle.acl_eval.proofs.ValidChecks.{mask_contains, plain, valid_is_complete, plain_check}
 use Rattle.acl_posix.proofs.Exports.{same_tag}
 use Rattle.acl_eval.specs.Bridge.{is_user_tag, is_group_tag, is_other_tag, bridge_list}
 use Rattle.acl_eval.specs.BridgeLaws.{by_name, IsAsked}
 use Rattle.acl_eval.proofs.Runs.{run}
 use Rattle.acl_eval.proofs.Bits.{contains_power}
 use Rattle.acl_eval.proofs.Images.{Belongs}
-use Rattle.acl_eval.proofs.BridgeNames.{concerns, user_test, group_test, same_name}
-use Rattle.acl_eval.proofs.EntryRuns.{first, bit_of, users_test, allows_test, denies_test, others_test, class_answer, everywhere, run_bridge}
+use Rattle.acl_eval.proofs.BridgeNames.{tag_applies, user_test, group_test, same_name}
+use Rattle.acl_eval.proofs.EntryRuns.{first, bit_of, users_test, allows_test, denies_test, others_test, class_answer, each_weaker, run_bridge}
 
 -- a permission, its bit, and the bit of one of its rights
 pub record IsRight (want j b : ℕ) : Type 0 where
@@ -66,9 +66,9 @@ masked_bit (Some m) n j want e pos all =
     ∙ ap (λ (z : Bool). contains n want && z) (sym (contains_power m j want e pos))
 
 -- an entry that MASK limits has a bit if and only if the entry and MASK have it
-masked : (E : Entries) (e : Tag × ℕ) (want j b : ℕ) → IsRight want j b → is_masked e.0 ≡ true
+masked_agrees : (E : Entries) (e : Tag × ℕ) (want j b : ℕ) → IsRight want j b → is_masked e.0 ≡ true
     → bit_of E j e ≡ (contains e.1 want && mask_contains E want)
-masked E e want j b right is =
+masked_agrees E e want j b right is =
     ap (λ (t : Bool). has_bit (cond t (bit_and e.1 (unwrap_or (fin.get E mask) e.1)) e.1) j) is
     ∙ masked_bit (fin.get E mask) e.1 j want right.power right.some right.whole
 
@@ -111,7 +111,7 @@ other_last l h = other_only l (ap is_eq (passes_less (tag_cmp other l) h))
 -- ---- the owner
 
 -- if USER_OBJ matches the requester, its permissions decide the bit
-owner_decides : (E : Entries) (s : Situation) (j p : ℕ) (r : Bool) (ps : List (Tag × ℕ)) → concerns s user_obj ≡ true
+owner_decides : (E : Entries) (s : Situation) (j p : ℕ) (r : Bool) (ps : List (Tag × ℕ)) → tag_applies s user_obj ≡ true
     → T (is_sorted tag_cmp ps) → fin.find tag_cmp user_obj ps ≡ Some p
     → first (users_test s) (bit_of E j) ps r ≡ has_bit p j
 owner_decides E s j p r [] meets sorted f = absurd cc
@@ -120,7 +120,7 @@ owner_decides E s j p r (e ∷ ps) meets sorted f =
     → cond t (Some e.1) (fin.find tag_cmp user_obj ps) ≡ Some p → first (users_test s) (bit_of E j) (e ∷ ps) r
     ≡ has_bit p j) [
       | true ↦ λ same g.
-          ap (λ (l : Tag). cond (is_user_tag l && concerns s l) (bit_of E j (l, e.1))
+          ap (λ (l : Tag). cond (is_user_tag l && tag_applies s l) (bit_of E j (l, e.1))
           (first (users_test s) (bit_of E j) ps r)) (sym (same_tag user_obj e.0 same))
           ∙ ap (λ (t : Bool). cond t (has_bit e.1 j) (first (users_test s) (bit_of E j) ps r)) meets
           ∙ ap (λ (n : ℕ). has_bit n j) (same_Some e.1 p g)
@@ -145,7 +145,7 @@ user_decides E object requester want j b r (e ∷ ps) right a all differ =
     ∙ elim (eq_by_cmp tag_cmp q e.0) as (λ t. eq_by_cmp tag_cmp q e.0 ≡ t → cond t (bit_of E j e) rest
     ≡ cond (is_some (cond t (Some e.1) (fin.find tag_cmp q ps)))
     (contains (unwrap_or (cond t (Some e.1) (fin.find tag_cmp q ps)) 0) want && mask_contains E want) r) [
-      | true ↦ λ same. masked E e want j b right (ap is_masked (sym (same_tag q e.0 same)))
+      | true ↦ λ same. masked_agrees E e want j b right (ap is_masked (sym (same_tag q e.0 same)))
       | false ↦ λ same. user_decides E object requester want j b r ps right a all.1 differ
     ] refl
 
@@ -161,30 +161,30 @@ group_masked mask h = absurd cc
 group_masked other h = absurd cc
 
 -- an entry that matches allows or denies
-split : (g v m : Bool) → (g && m) ≡ ((g && (v && m)) || (g && (not v && m)))
-split false v m = refl
-split true true true = refl
-split true true false = refl
-split true false m = refl
+and_split : (g v m : Bool) → (g && m) ≡ ((g && (v && m)) || (g && (not v && m)))
+and_split false v m = refl
+and_split true true true = refl
+and_split true true false = refl
+and_split true false m = refl
 
 -- four alternatives can be paired in two ways
-join : (a b c d : Bool) → ((a || b) || (c || d)) ≡ ((a || c) || (b || d))
-join true b c d = refl
-join false true true d = refl
-join false false true d = refl
-join false true false d = refl
-join false false false d = refl
+or_swap_middle : (a b c d : Bool) → ((a || b) || (c || d)) ≡ ((a || c) || (b || d))
+or_swap_middle true b c d = refl
+or_swap_middle false true true d = refl
+or_swap_middle false false true d = refl
+or_swap_middle false true false d = refl
+or_swap_middle false false false d = refl
 
 -- some entry of a group matches if and only if one matches and allows, or one matches and denies
 any_split : (E : Entries) (s : Situation) (j : ℕ) (ps : List (Tag × ℕ))
-    → list_any (λ e. is_group_tag e.0 && concerns s e.0) ps ≡ (list_any (allows_test E s j) ps || list_any
+    → list_any (λ e. is_group_tag e.0 && tag_applies s e.0) ps ≡ (list_any (allows_test E s j) ps || list_any
     (denies_test E s j) ps)
 any_split E s j [] = refl
 any_split E s j (e ∷ ps) =
-    ap (λ (z : Bool). z || list_any (λ x. is_group_tag x.0 && concerns s x.0) ps)
-    (split (is_group_tag e.0) (bit_of E j e) (concerns s e.0))
+    ap (λ (z : Bool). z || list_any (λ x. is_group_tag x.0 && tag_applies s x.0) ps)
+    (and_split (is_group_tag e.0) (bit_of E j e) (tag_applies s e.0))
     ∙ ap (λ (z : Bool). (allows_test E s j e || denies_test E s j e) || z) (any_split E s j ps)
-    ∙ join (allows_test E s j e) (denies_test E s j e) (list_any (allows_test E s j) ps)
+    ∙ or_swap_middle (allows_test E s j e) (denies_test E s j e) (list_any (allows_test E s j) ps)
     (list_any (denies_test E s j) ps)
 
 -- if some group allows or denies, the answer is whether one allows, and otherwise that of OTHER
@@ -193,9 +193,9 @@ class_is true d o = refl
 class_is false d o = refl
 
 -- where a test is two others together, it can be replaced by them, in another order
-reorder : (g v h c m : Bool) → (g ≡ true → v ≡ (h && c)) → (g && (v && m)) ≡ (((g && m) && h) && c)
-reorder false v h c m e = refl
-reorder true v h c m e = ap (λ (z : Bool). z && m) (e refl) ∙ and_swap (h && c) m ∙ sym (and_regroup m h c)
+and_reorder : (g v h c m : Bool) → (g ≡ true → v ≡ (h && c)) → (g && (v && m)) ≡ (((g && m) && h) && c)
+and_reorder false v h c m e = refl
+and_reorder true v h c m e = ap (λ (z : Bool). z && m) (e refl) ∙ and_swap (h && c) m ∙ sym (and_regroup m h c)
 
 -- ---- OTHER
 
@@ -204,7 +204,7 @@ none_behind : (E : Entries) (s : Situation) (j : ℕ) (ps : List (Tag × ℕ)) �
     → list_any (others_test E s j) ps ≡ false
 none_behind E s j [] h = refl
 none_behind E s j (e ∷ ps) h =
-    ap (λ (z : Bool). (z && (bit_of E j e && concerns s e.0)) || list_any (others_test E s j) ps)
+    ap (λ (z : Bool). (z && (bit_of E j e && tag_applies s e.0)) || list_any (others_test E s j) ps)
     (other_last e.0 (both_hold (is_lt (tag_cmp other e.0)) (below_all tag_cmp other ps) h).0)
     ∙ none_behind E s j ps (both_hold (is_lt (tag_cmp other e.0)) (below_all tag_cmp other ps) h).1
 
@@ -223,11 +223,11 @@ others_decide E s want j b (e ∷ ps) right sorted =
           (both_hold (below_all tag_cmp e.0 ps) (is_sorted tag_cmp ps) sorted).0) in
           ap (λ (z : Bool). others_test E s j e || z) behind
           ∙ or_false_right (others_test E s j e)
-          ∙ ap (λ (l : Tag). is_other_tag l && (bit_of E j (l, e.1) && concerns s l)) is
+          ∙ ap (λ (l : Tag). is_other_tag l && (bit_of E j (l, e.1) && tag_applies s l)) is
           ∙ and_true_right (has_bit e.1 j)
           ∙ sym (contains_power e.1 j want right.power right.some)
       | false ↦ λ same.
-          ap (λ (z : Bool). (z && (bit_of E j e && concerns s e.0)) || list_any (others_test E s j) ps)
+          ap (λ (z : Bool). (z && (bit_of E j e && tag_applies s e.0)) || list_any (others_test E s j) ps)
           (other_only e.0 same)
           ∙ others_decide E s want j b ps right (both_hold (below_all tag_cmp e.0 ps) (is_sorted tag_cmp ps) sorted).1
     ] refl
@@ -251,19 +251,19 @@ class_decides E object requester want j b right a all =
     let matched : Bool = posix.any_matches E og requester.groups in
     let allowed : Bool = list_any (allows_test E s j) es in
     let last : Bool = cond (list_any (others_test E s j) es) true false in
-    let some : list_any (λ e. is_group_tag e.0 && concerns s e.0) es ≡ matched =
-    any_alike (λ e. is_group_tag e.0 && concerns s e.0) (λ e. posix.tag_matches og requester.groups e.0) es
-    (everywhere IsEntry (λ e. (is_group_tag e.0 && concerns s e.0) ≡ posix.tag_matches og requester.groups e.0)
+    let some : list_any (λ e. is_group_tag e.0 && tag_applies s e.0) es ≡ matched =
+    any_alike (λ e. is_group_tag e.0 && tag_applies s e.0) (λ e. posix.tag_matches og requester.groups e.0) es
+    (each_weaker IsEntry (λ e. (is_group_tag e.0 && tag_applies s e.0) ≡ posix.tag_matches og requester.groups e.0)
     (λ e is. group_test object requester e.0 a gs is.0) es all) in
     let one : (e : Tag × ℕ) → IsEntry e → allows_test E s j e
     ≡ ((posix.tag_matches og requester.groups e.0 && contains e.1 want) && mask_contains E want) = λ e is.
-    reorder (is_group_tag e.0) (bit_of E j e) (contains e.1 want) (mask_contains E want) (concerns s e.0)
-    (λ g. masked E e want j b right (group_masked e.0 g))
+    and_reorder (is_group_tag e.0) (bit_of E j e) (contains e.1 want) (mask_contains E want) (tag_applies s e.0)
+    (λ g. masked_agrees E e want j b right (group_masked e.0 g))
     ∙ ap (λ (z : Bool). (z && contains e.1 want) && mask_contains E want) (group_test object requester e.0 a gs is.0) in
     let granted : allowed ≡ (posix.any_contains E og requester.groups want && mask_contains E want) =
     any_alike (allows_test E s j)
     (λ e. (posix.tag_matches og requester.groups e.0 && contains e.1 want) && mask_contains E want) es
-    (everywhere IsEntry (λ e. allows_test E s j e
+    (each_weaker IsEntry (λ e. allows_test E s j e
     ≡ ((posix.tag_matches og requester.groups e.0 && contains e.1 want) && mask_contains E want)) one es all)
     ∙ any_and (λ e. posix.tag_matches og requester.groups e.0 && contains e.1 want) (mask_contains E want) es in
     let others : last ≡ contains (perm_at E other) want =
@@ -299,7 +299,7 @@ agrees_plainly E object requester want j b access a right =
     ≡ cond t (contains (perm_at E user_obj) want)
     (cond (fin.contains_key E u) (contains (perm_at E u) want && mask_contains E want) class)) [
       | true ↦ λ is.
-          let found = some_value (fin.get E user_obj) (complete E access.valid).owner in
+          let found = some_value (fin.get E user_obj) (valid_is_complete E access.valid).owner in
           owner_decides E s j found.0 class es (same_name requester.user object.user a.asker a.owner ∙ is)
           (fin.entries_sorted E) (sym (fin.get-entries E user_obj) ∙ found.1)
           ∙ sym (contains_power found.0 j want right.power right.some)

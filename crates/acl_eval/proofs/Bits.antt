@@ -34,11 +34,11 @@ contains_5 n = contains_power n 5 32 refl (omega arith)
 pub ruleset single_bits = (contains_0, contains_1, contains_2, contains_5)
 
 -- the two lowest bits of a number, doubled, are 6 if and only if the number has both
-halves : (m : ℕ) → eqb ((m % 4) * 2) 6 ≡ (eqb (m % 2) 1 && eqb (m / 2 % 2) 1)
-halves m = grind arith
+both_digits : (m : ℕ) → eqb ((m % 4) * 2) 6 ≡ (eqb (m % 2) 1 && eqb (m / 2 % 2) 1)
+both_digits m = grind arith
 
 -- a set contains 6 if and only if it has the bits 1 and 2
 pub both_1_2 : (n : ℕ) → eqb (bit_and n 6) 6 ≡ (has_bit n 1 && has_bit n 2)
 both_1_2 n =
-    ap (λ (m : ℕ). eqb m 6) (and_high n 2 1) ∙ halves (n / 2)
+    ap (λ (m : ℕ). eqb m 6) (and_high n 2 1) ∙ both_digits (n / 2)
     ∙ ap (λ (m : ℕ). has_bit n 1 && eqb (m % 2) 1) (omega arith)

@@ -42,10 +42,10 @@ contains_less p want less sub h =
     u.1 (λ k has. t.0 h k (s.0 sub k has))
 
 -- if each of two tests implies another one, both together imply the other two together
-and_less : (a b c d : Bool) → (a ≡ true → c ≡ true) → (b ≡ true → d ≡ true) → (a && b) ≡ true → (c && d) ≡ true
-and_less true true c d f g h = rw (f refl, g refl) refl
-and_less true false c d f g h = absurd cc
-and_less false b c d f g h = absurd cc
+and_less : {a b c d : Bool} → (a ≡ true → c ≡ true) → (b ≡ true → d ≡ true) → (a && b) ≡ true → (c && d) ≡ true
+and_less {a = true} {b = true} f g h = rw (f refl, g refl) refl
+and_less {a = true} {b = false} f g h = absurd cc
+and_less {a = false} f g h = absurd cc
 
 -- if one test implies another, and some element passes the first, some element passes the second
 any_less : {X : Type 0} (p q : X → Bool) (xs : List X) → ((x : X) → p x ≡ true → q x ≡ true) → list_any p xs ≡ true
@@ -58,10 +58,10 @@ any_less p q (x ∷ xs) f h =
     ] refl h
 
 -- if each of two tests implies another one, the choice between them implies the choice between the other two
-choose_less : (t a b c d : Bool) → (a ≡ true → b ≡ true) → (c ≡ true → d ≡ true) → cond t a c ≡ true
+choose_less : (t : Bool) {a b c d : Bool} → (a ≡ true → b ≡ true) → (c ≡ true → d ≡ true) → cond t a c ≡ true
     → cond t b d ≡ true
-choose_less true a b c d f g = f
-choose_less false a b c d f g = g
+choose_less true f g = f
+choose_less false f g = g
 
 -- the plain check grants each part of a request that it grants
 plain_less : (E : Entries) (object : Object) (requester : Requester) (want less : ℕ) → contains want less ≡ true
@@ -70,15 +70,14 @@ plain_less E object requester want less sub =
     let u : Tag = user requester.user in
     let og : ℕ = object.group in
     let gs : List ℕ = requester.groups in
-    let one = λ (p : ℕ). contains_less p want less sub in
-    let limit : mask_contains E want ≡ true → mask_contains E less ≡ true = one (unwrap_or (fin.get E mask) 7) in
+    let contained = λ (p : ℕ). contains_less p want less sub in
+    let limit : mask_contains E want ≡ true → mask_contains E less ≡ true = contained (unwrap_or (fin.get E mask) 7) in
     let class : any_contains E og gs want ≡ true → any_contains E og gs less ≡ true =
     any_less (λ e. tag_matches og gs e.0 && contains e.1 want) (λ e. tag_matches og gs e.0 && contains e.1 less)
-    (fin.entries E) (λ e. and_less (tag_matches og gs e.0) (contains e.1 want) (tag_matches og gs e.0)
-    (contains e.1 less) (λ m. m) (one e.1)) in
-    choose_less (requester.user == object.user) _ _ _ _ (one (perm_at E user_obj))
-    (choose_less (fin.contains_key E u) _ _ _ _ (and_less _ _ _ _ (one (perm_at E u)) limit)
-    (choose_less (any_matches E og gs) _ _ _ _ (and_less _ _ _ _ class limit) (one (perm_at E other))))
+    (fin.entries E) (λ e. and_less (λ matched. matched) (contained e.1)) in
+    choose_less (requester.user == object.user) (contained (perm_at E user_obj))
+    (choose_less (fin.contains_key E u) (and_less (contained (perm_at E u)) limit)
+    (choose_less (any_matches E og gs) (and_less class limit) (contained (perm_at E other))))
 
 -- ---- the laws
 
@@ -90,10 +89,10 @@ bit_granted E object requester want j b access a right =
     sym (run_grants (bridge_list E) (by_name object requester) b) ∙ agrees E object requester want j b access a right
 
 -- the list grants the rights of one permission if and only if the check grants the permission
-single : (E : Entries) (object : Object) (requester : Requester) (want j b : ℕ) → IsAcl E → IsAsked object requester
+image_granted : (E : Entries) (object : Object) (requester : Requester) (want j b : ℕ) → IsAcl E → IsAsked object requester
     → IsRight want j b → want < 8 → has_bit (image want) b ≡ true
     → Grant (bridge_list E) (by_name object requester) (image want) ↔ (grants E object requester want ≡ true)
-single E object requester want j b access a right lt has = (
+image_granted E object requester want j b access a right lt has = (
   λ g. sym (bit_granted E object requester want j b access a right) ∙ g b has,
   λ h k is.
       let p = image_bit want k lt is in
@@ -112,18 +111,18 @@ single E object requester want j b access a right lt has = (
 pub grants_singles : GrantsSingles
 unfolding image
 grants_singles entries object requester want access a (inl r) = rw r
-    (single entries object requester 4 2 0 access a (right_at 2 0 (omega arith) rights.read_data) (omega arith) refl)
+    (image_granted entries object requester 4 2 0 access a (right_at 2 0 (omega arith) rights.read_data) (omega arith) refl)
 grants_singles entries object requester want access a (inr (inl w)) = rw w
-    (single entries object requester 2 1 1 access a (right_at 1 1 (omega arith) rights.write_data) (omega arith) refl)
+    (image_granted entries object requester 2 1 1 access a (right_at 1 1 (omega arith) rights.write_data) (omega arith) refl)
 grants_singles entries object requester want access a (inr (inr x)) = rw x
-    (single entries object requester 1 0 5 access a (right_at 0 5 (omega arith) rights.execute) (omega arith) refl)
+    (image_granted entries object requester 1 0 5 access a (right_at 0 5 (omega arith) rights.execute) (omega arith) refl)
 
 -- a set that has one of the bits of permissions contains the permission of that bit
-part : (want j : ℕ) → j < 3 → has_bit want j ≡ true → contains want (2 ^ j) ≡ true
-part want zero lt h = contains_power want 0 1 refl (omega arith) ∙ h
-part want (suc zero) lt h = contains_power want 1 2 refl (omega arith) ∙ h
-part want (suc (suc zero)) lt h = contains_power want 2 4 refl (omega arith) ∙ h
-part want (suc (suc (suc j))) lt h = absurd (omega (arith, lt))
+contains_bit : (want j : ℕ) → j < 3 → has_bit want j ≡ true → contains want (2 ^ j) ≡ true
+contains_bit want zero lt h = contains_power want 0 1 refl (omega arith) ∙ h
+contains_bit want (suc zero) lt h = contains_power want 1 2 refl (omega arith) ∙ h
+contains_bit want (suc (suc zero)) lt h = contains_power want 2 4 refl (omega arith) ∙ h
+contains_bit want (suc (suc (suc j))) lt h = absurd (omega (arith, lt))
 
 -- read, write and execute together contain every set of permissions
 all_contain : (want : ℕ) → want < 8 → contains 7 want ≡ true
@@ -137,7 +136,7 @@ keeps_grants entries object requester want access a lt granted b has =
     let all : plain entries object requester want ≡ true =
     plain_check entries object requester want access.valid (all_contain want lt) ∙ granted in
     let one : plain entries object requester (2 ^ p.j) ≡ true =
-    plain_less entries object requester want (2 ^ p.j) (part want p.j p.small p.has) all in
+    plain_less entries object requester want (2 ^ p.j) (contains_bit want p.j p.small p.has) all in
     bit_granted entries object requester (2 ^ p.j) p.j b access a right
     ∙ sym (plain_check entries object requester (2 ^ p.j) access.valid right.whole) ∙ one
 

@@ -34,23 +34,23 @@ not_decimal n c cs h big e =
     omega (arith, digit_from_value c (subst (AllDigits 10) e (decimal_is_IsNumeral n (omega arith)).0.1).0)
 
 -- names that differ do not pass the test of equality
-unequal : (xs ys : List ℕ) → (xs ≡ ys → ⊥) → bytes_eq xs ys ≡ false
-unequal xs ys differ = elim (bytes_eq xs ys) as (λ b. bytes_eq xs ys ≡ b → b ≡ false) [
+bytes_eq-unequal : (xs ys : List ℕ) → (xs ≡ ys → ⊥) → bytes_eq xs ys ≡ false
+bytes_eq-unequal xs ys differ = elim (bytes_eq xs ys) as (λ b. bytes_eq xs ys ≡ b → b ≡ false) [
   | true ↦ λ h. absurd (differ ((bytes_eq-Decides xs ys).0 h))
   | false ↦ λ h. refl
 ] refl
 
 -- no name of an id is `OWNER@`
 pub not_owner : (n : ℕ) → IsId n → bytes_eq (decimal n) owner_name ≡ false
-not_owner n h = unequal (decimal n) owner_name (λ e. not_decimal n _ _ h (omega arith) e)
+not_owner n h = bytes_eq-unequal (decimal n) owner_name (λ e. not_decimal n _ _ h (omega arith) e)
 
 -- no name of an id is `GROUP@`
 pub not_group : (n : ℕ) → IsId n → bytes_eq (decimal n) group_name ≡ false
-not_group n h = unequal (decimal n) group_name (λ e. not_decimal n _ _ h (omega arith) e)
+not_group n h = bytes_eq-unequal (decimal n) group_name (λ e. not_decimal n _ _ h (omega arith) e)
 
 -- no name of an id is `EVERYONE@`
 pub not_everyone : (n : ℕ) → IsId n → bytes_eq (decimal n) everyone_name ≡ false
-not_everyone n h = unequal (decimal n) everyone_name (λ e. not_decimal n _ _ h (omega arith) e)
+not_everyone n h = bytes_eq-unequal (decimal n) everyone_name (λ e. not_decimal n _ _ h (omega arith) e)
 
 -- names are equal if and only if the ids are
 pub same_name : (m n : ℕ) → IsId m → IsId n → bytes_eq (decimal m) (decimal n) ≡ (m == n)
@@ -75,16 +75,16 @@ abbrev pub ace_with : Kind → Tag → ℕ → Ace
 ace_with kind tag rights = record { kind = kind; flags = bridged_flags tag; mask = rights; who = bridged_who tag }
 
 -- the ACEs of a tag match the requester
-abbrev pub concerns : Situation → Tag → Bool
-concerns s tag = applies s (ace_with Allow tag 0)
+abbrev pub tag_applies : Situation → Tag → Bool
+tag_applies s tag = applies s (ace_with Allow tag 0)
 
 -- the ACEs of a USER match the requester who has the name of its id
-concerns_user : (s : Situation) (id : ℕ) → IsId id → concerns s (user id) ≡ bytes_eq s.user_name (decimal id)
-concerns_user s id h = rw (not_owner id h, not_group id h, not_everyone id h) refl
+tag_applies-user : (s : Situation) (id : ℕ) → IsId id → tag_applies s (user id) ≡ bytes_eq s.user_name (decimal id)
+tag_applies-user s id h = rw (not_owner id h, not_group id h, not_everyone id h) refl
 
 -- the ACEs of a GROUP match a requester who is in the group that has the name of its id
-concerns_group : (s : Situation) (id : ℕ) → IsId id → concerns s (group id) ≡ is_one_of (decimal id) s.groups
-concerns_group s id h = rw (not_owner id h, not_group id h, not_everyone id h) refl
+tag_applies-group : (s : Situation) (id : ℕ) → IsId id → tag_applies s (group id) ≡ is_one_of (decimal id) s.groups
+tag_applies-group s id h = rw (not_owner id h, not_group id h, not_everyone id h) refl
 
 -- two numbers compare equal if and only if they are the same
 equal_numbers : (m n : ℕ) → is_eq (nat_cmp m n) ≡ eqb m n
@@ -93,9 +93,9 @@ equal_numbers m n = grind (arith, nat_tests)
 -- an ACE of USER_OBJ or USER matches a requester who is not the owner if and only if it is the ACE of this user
 pub user_test : (object : Object) (requester : Requester) (l : Tag) → IsAsked object requester → IsTag l
     → (requester.user == object.user) ≡ false
-    → (is_user_tag l && concerns (by_name object requester) l) ≡ eq_by_cmp tag_cmp (user requester.user) l
+    → (is_user_tag l && tag_applies (by_name object requester) l) ≡ eq_by_cmp tag_cmp (user requester.user) l
 user_test object requester user_obj a is differ = same_name requester.user object.user a.asker a.owner ∙ differ
-user_test object requester (user id) a is differ = concerns_user (by_name object requester) id is
+user_test object requester (user id) a is differ = tag_applies-user (by_name object requester) id is
     ∙ same_name requester.user id a.asker is ∙ sym (equal_numbers requester.user id)
 user_test object requester group_obj a is differ = refl
 user_test object requester (group id) a is differ = refl
@@ -105,11 +105,11 @@ user_test object requester other a is differ = refl
 -- an ACE of GROUP_OBJ or GROUP matches the requester if and only if the entry does
 pub group_test : (object : Object) (requester : Requester) (l : Tag) → IsAsked object requester
     → AllByRecursion IsId requester.groups → IsTag l
-    → (is_group_tag l && concerns (by_name object requester) l) ≡ posix.tag_matches object.group requester.groups l
+    → (is_group_tag l && tag_applies (by_name object requester) l) ≡ posix.tag_matches object.group requester.groups l
 group_test object requester user_obj a gs is = refl
 group_test object requester (user id) a gs is = refl
 group_test object requester group_obj a gs is = is_one object.group requester.groups a.owning_group gs
-group_test object requester (group id) a gs is = concerns_group (by_name object requester) id is
+group_test object requester (group id) a gs is = tag_applies-group (by_name object requester) id is
     ∙ is_one id requester.groups is gs
 group_test object requester mask a gs is = refl
 group_test object requester other a gs is = refl

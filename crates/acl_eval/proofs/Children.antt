@@ -125,12 +125,12 @@ no_more total of cons same kind (a ∷ list) =
         omega (arith, rest, l, same a f, cons a list)
 
 -- the child has no more ACEs than the parent
-pub fewer : (kind : ChildKind) (list : List Ace) → length (children kind list) ≤ length list
-fewer = no_more length (λ a. 1) (λ a list. omega arith) (λ a f. refl)
+pub length-children : (kind : ChildKind) (list : List Ace) → length (children kind list) ≤ length list
+length-children = no_more length (λ a. 1) (λ a list. omega arith) (λ a f. refl)
 
 -- the child has no more mask bits than the parent
-pub lighter : (kind : ChildKind) (list : List Ace) → weight (children kind list) ≤ weight list
-lighter = no_more weight (λ a. count_ones a.mask) weight-cons (λ a f. refl)
+pub weight-children : (kind : ChildKind) (list : List Ace) → weight (children kind list) ≤ weight list
+weight-children = no_more weight (λ a. count_ones a.mask) weight-cons (λ a f. refl)
 
 -- the child of a list that fits a profile with INHERIT_ONLY fits it
 pub child_fits : (p : Profile) (kind : ChildKind) (list : List Ace) → IsTrue (has_bit p.flags inherit_only)
@@ -143,8 +143,8 @@ child_fits p kind list h each =
 pub child_accepted : (p : Profile) (kind : ChildKind) (list : List Ace) → IsTrue (has_bit p.flags inherit_only)
     → IsAccepted p list → IsAccepted p (children kind list)
 child_accepted p kind list h ok = record {
-  count = omega (arith, fewer kind list, ok.count);
-  weight = omega (arith, lighter kind list, ok.weight);
+  count = omega (arith, length-children kind list, ok.count);
+  weight = omega (arith, weight-children kind list, ok.weight);
   each = each_child (IsAce p) kind list
       (λ a f e is. record { flags = child_within p.flags kind a.flags f h is.flags e; mask = is.mask; who = is.who })
       ok.each;

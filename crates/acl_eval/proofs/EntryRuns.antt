@@ -18,28 +18,28 @@ use Rattle.acl_eval.specs.Bridge.{image, ace_of, allow_of, deny_of, decide_of, e
 use Rattle.acl_eval.specs.Grant.{is_allow}
 use Rattle.acl_eval.proofs.Runs.{run, run-append}
 use Rattle.acl_eval.proofs.Images.{Belongs, complement}
-use Rattle.acl_eval.proofs.BridgeNames.{ace_with, concerns}
+use Rattle.acl_eval.proofs.BridgeNames.{ace_with, tag_applies}
 
 -- ---- one entry
 
 -- the ACE of a tag decides a bit if it has the permission and matches the requester
 run_ace : (k : Kind) (l : Tag) (p : ℕ) (s : Situation) (j b : ℕ) (r : Bool) → Belongs j b → p < 8
-    → run (ace_of k l p) s b r ≡ cond (has_bit p j && concerns s l) (is_allow k) r
+    → run (ace_of k l p) s b r ≡ cond (has_bit p j && tag_applies s l) (is_allow k) r
 unfolding ace_of
 run_ace k l p s j b r st lt =
     elim (eqb p 0) as (λ t. eqb p 0 ≡ t → run (cond t [] (ace_with k l (image p) ∷ [])) s b r
-    ≡ cond (has_bit p j && concerns s l) (is_allow k) r) [
+    ≡ cond (has_bit p j && tag_applies s l) (is_allow k) r) [
       | true ↦ λ e. let none : has_bit p j ≡ false = ap (λ (n : ℕ). has_bit n j) (eqb-true p 0 e) ∙ no_bit j in
-          ap (λ (h : Bool). cond (h && concerns s l) (is_allow k) r) (sym none)
-      | false ↦ λ e. ap (λ (h : Bool). cond (h && concerns s l) (is_allow k) r) (st.same p lt)
+          ap (λ (h : Bool). cond (h && tag_applies s l) (is_allow k) r) (sym none)
+      | false ↦ λ e. ap (λ (h : Bool). cond (h && tag_applies s l) (is_allow k) r) (st.same p lt)
     ] refl
 
 -- if an entry matches, its answer is whether it has the permission; otherwise the rest answers
-decided : (v m r : Bool) → cond (v && m) true (cond (not v && m) false r) ≡ cond m v r
-decided true true r = refl
-decided true false r = refl
-decided false true r = refl
-decided false false r = refl
+cond_twice : (v m r : Bool) → cond (v && m) true (cond (not v && m) false r) ≡ cond m v r
+cond_twice true true r = refl
+cond_twice true false r = refl
+cond_twice false true r = refl
+cond_twice false false r = refl
 
 -- effective permissions are permissions
 pub effective_lt : (E : Entries) (e : Tag × ℕ) → e.1 < 8 → effective_of E e < 8
@@ -50,24 +50,24 @@ effective_lt E e lt = elim (is_masked e.0) as (λ t. cond t (bit_and e.1 (unwrap
 
 -- what an entry allows decides a bit if the entry has the permission
 run_allow : (E : Entries) (e : Tag × ℕ) (s : Situation) (j b : ℕ) (r : Bool) → Belongs j b → e.1 < 8
-    → run (allow_of E e) s b r ≡ cond (has_bit (effective_of E e) j && concerns s e.0) true r
+    → run (allow_of E e) s b r ≡ cond (has_bit (effective_of E e) j && tag_applies s e.0) true r
 run_allow E e s j b r st lt = run_ace Allow e.0 (effective_of E e) s j b r st (effective_lt E e lt)
 
 -- what an entry denies decides a bit if the entry does not have the permission
 run_deny : (E : Entries) (e : Tag × ℕ) (s : Situation) (j b : ℕ) (r : Bool) → Belongs j b → j < 3 → e.1 < 8
-    → run (deny_of E e) s b r ≡ cond (not (has_bit (effective_of E e) j) && concerns s e.0) false r
+    → run (deny_of E e) s b r ≡ cond (not (has_bit (effective_of E e) j) && tag_applies s e.0) false r
 run_deny E e s j b r st js lt =
     run_ace Deny e.0 (7 - effective_of E e) s j b r st (omega arith)
-    ∙ ap (λ (h : Bool). cond (h && concerns s e.0) false r) (complement j (effective_of E e) js (effective_lt E e lt))
+    ∙ ap (λ (h : Bool). cond (h && tag_applies s e.0) false r) (complement j (effective_of E e) js (effective_lt E e lt))
 
 -- what an entry allows and denies together decides every bit, if the entry matches the requester
 run_decide : (E : Entries) (e : Tag × ℕ) (s : Situation) (j b : ℕ) (r : Bool) → Belongs j b → j < 3 → e.1 < 8
-    → run (decide_of E e) s b r ≡ cond (concerns s e.0) (has_bit (effective_of E e) j) r
+    → run (decide_of E e) s b r ≡ cond (tag_applies s e.0) (has_bit (effective_of E e) j) r
 run_decide E e s j b r st js lt =
     run-append (allow_of E e) (deny_of E e) s b r
     ∙ run_allow E e s j b (run (deny_of E e) s b r) st lt
-    ∙ ap (λ (z : Bool). cond (has_bit (effective_of E e) j && concerns s e.0) true z) (run_deny E e s j b r st js lt)
-    ∙ decided (has_bit (effective_of E e) j) (concerns s e.0) r
+    ∙ ap (λ (z : Bool). cond (has_bit (effective_of E e) j && tag_applies s e.0) true z) (run_deny E e s j b r st js lt)
+    ∙ cond_twice (has_bit (effective_of E e) j) (tag_applies s e.0) r
 
 -- ---- a list of entries
 
@@ -106,19 +106,19 @@ bit_of E j e = has_bit (effective_of E e) j
 
 -- the entry is of a user and matches
 abbrev pub users_test : Situation → Tag × ℕ → Bool
-users_test s e = is_user_tag e.0 && concerns s e.0
+users_test s e = is_user_tag e.0 && tag_applies s e.0
 
 -- the entry is of a group, allows the bit and matches
 abbrev pub allows_test : Entries → Situation → ℕ → Tag × ℕ → Bool
-allows_test E s j e = is_group_tag e.0 && (bit_of E j e && concerns s e.0)
+allows_test E s j e = is_group_tag e.0 && (bit_of E j e && tag_applies s e.0)
 
 -- the entry is of a group, denies the bit and matches
 abbrev pub denies_test : Entries → Situation → ℕ → Tag × ℕ → Bool
-denies_test E s j e = is_group_tag e.0 && (not (bit_of E j e) && concerns s e.0)
+denies_test E s j e = is_group_tag e.0 && (not (bit_of E j e) && tag_applies s e.0)
 
 -- the entry is of OTHER, allows the bit and matches
 abbrev pub others_test : Entries → Situation → ℕ → Tag × ℕ → Bool
-others_test E s j e = is_other_tag e.0 && (bit_of E j e && concerns s e.0)
+others_test E s j e = is_other_tag e.0 && (bit_of E j e && tag_applies s e.0)
 
 -- the answer of the group class and OTHER
 abbrev pub class_answer : Entries → Situation → ℕ → List (Tag × ℕ) → Bool
@@ -126,10 +126,10 @@ class_answer E s j es = cond (list_any (allows_test E s j) es) true (cond (list_
     (cond (list_any (others_test E s j) es) true false))
 
 -- a fact that holds for all elements implies any weaker fact for all elements
-pub everywhere : {X : Type 0} (P Q : X → Type 0) → ((x : X) → P x → Q x) → (xs : List X) → AllByRecursion P xs
+pub each_weaker : {X : Type 0} (P Q : X → Type 0) → ((x : X) → P x → Q x) → (xs : List X) → AllByRecursion P xs
     → AllByRecursion Q xs
-everywhere P Q f [] h = tt
-everywhere P Q f (x ∷ xs) h = (f x h.0, everywhere P Q f xs h.1)
+each_weaker P Q f [] h = tt
+each_weaker P Q f (x ∷ xs) h = (f x h.0, each_weaker P Q f xs h.1)
 
 -- the first entry of a user that matches decides for the list, and otherwise the group class and OTHER
 pub run_bridge : (E : Entries) (s : Situation) (j b : ℕ) → Belongs j b → j < 3 → AllByRecursion IsEntry (fin.entries E)
@@ -143,29 +143,29 @@ run_bridge E s j b st js all =
     let N = each is_group_tag (deny_of E) es in
     let O = each is_other_tag (allow_of E) es in
     let allows =
-    everywhere IsEntry (λ e. (t : Bool) → run (allow_of E e) s b t ≡ cond (bit_of E j e && concerns s e.0) true t)
+    each_weaker IsEntry (λ e. (t : Bool) → run (allow_of E e) s b t ≡ cond (bit_of E j e && tag_applies s e.0) true t)
     (λ e is t. run_allow E e s j b t st is.1) es all in
     let denies =
-    everywhere IsEntry (λ e. (t : Bool) → run (deny_of E e) s b t ≡ cond (not (bit_of E j e) && concerns s e.0) false
+    each_weaker IsEntry (λ e. (t : Bool) → run (deny_of E e) s b t ≡ cond (not (bit_of E j e) && tag_applies s e.0) false
     t) (λ e is t. run_deny E e s j b t st js is.1) es all in
-    let decides = everywhere IsEntry (λ e. (t : Bool) → run (decide_of E e) s b t ≡ cond (concerns s e.0)
+    let decides = each_weaker IsEntry (λ e. (t : Bool) → run (decide_of E e) s b t ≡ cond (tag_applies s e.0)
     (bit_of E j e) t) (λ e is t. run_decide E e s j b t st js is.1) es all in
     let last : run O s b false ≡ cond (list_any (others_test E s j) es) true false =
-    run_each is_other_tag (allow_of E) (λ e. bit_of E j e && concerns s e.0) (λ _. true) s b false es allows
+    run_each is_other_tag (allow_of E) (λ e. bit_of E j e && tag_applies s e.0) (λ _. true) s b false es allows
     ∙ first_const (others_test E s j) true es false in
     let refuse : run N s b (run O s b false) ≡ cond (list_any (denies_test E s j) es) false
     (cond (list_any (others_test E s j) es) true false) =
-    run_each is_group_tag (deny_of E) (λ e. not (bit_of E j e) && concerns s e.0) (λ _. false) s b
+    run_each is_group_tag (deny_of E) (λ e. not (bit_of E j e) && tag_applies s e.0) (λ _. false) s b
     (run O s b false) es denies
     ∙ first_const (denies_test E s j) false es (run O s b false)
     ∙ ap (λ (z : Bool). cond (list_any (denies_test E s j) es) false z) last in
     let class : run A s b (run N s b (run O s b false)) ≡ class_answer E s j es =
-    run_each is_group_tag (allow_of E) (λ e. bit_of E j e && concerns s e.0) (λ _. true) s b
+    run_each is_group_tag (allow_of E) (λ e. bit_of E j e && tag_applies s e.0) (λ _. true) s b
     (run N s b (run O s b false)) es allows
     ∙ first_const (allows_test E s j) true es (run N s b (run O s b false))
     ∙ ap (λ (z : Bool). cond (list_any (allows_test E s j) es) true z) refuse in
     run-append (D ++ A ++ N) O s b false ∙ run-append (D ++ A) N s b (run O s b false)
     ∙ run-append D A s b (run N s b (run O s b false))
-    ∙ run_each is_user_tag (decide_of E) (λ e. concerns s e.0) (bit_of E j) s b
+    ∙ run_each is_user_tag (decide_of E) (λ e. tag_applies s e.0) (bit_of E j) s b
     (run A s b (run N s b (run O s b false))) es decides
     ∙ ap (λ (z : Bool). first (users_test s) (bit_of E j) es z) class

@@ -9,6 +9,7 @@ use Rattle.acl_perm.specs.Situation.{Situation, is_one_of, matches}
 use Rattle.acl_nfs4.specs.Ace.{Ace}
 use Rattle.acl_eval.specs.Column.{column, verdict}
 use Rattle.acl_eval.specs.Grant.{Grant, grants_bit, is_allow}
+use Rattle.acl_eval.specs.Laws.{HaveSameNames}
 
 -- a request within a mask is granted if and only if it is within the rights of the mask that are granted
 pub within_granted : (list : List Ace) (s : Situation) (mask granted : ℕ)
@@ -20,22 +21,20 @@ within_granted list s mask granted is request within = (
 )
 
 -- requesters whose groups have the same names match the same principals
-same_matches : (s t : Situation) → t.owner_name ≡ s.owner_name → t.owning_group ≡ s.owning_group
-    → t.user_name ≡ s.user_name → ((name : List ℕ) → is_one_of name t.groups ≡ is_one_of name s.groups)
-    → (p : Principal) → matches t p ≡ matches s p
-same_matches s t o g u m owner = ap (λ (a : List ℕ). bytes_eq a t.owner_name) u ∙ ap (bytes_eq s.user_name) o
-same_matches s t o g u m (user name) = ap (λ (a : List ℕ). bytes_eq a name) u
-same_matches s t o g u m group = m t.owning_group ∙ ap (λ (a : List ℕ). is_one_of a s.groups) g
-same_matches s t o g u m (group_named name) = m name
-same_matches s t o g u m everyone = refl
+same_matches : (s t : Situation) → HaveSameNames s t → (p : Principal) → matches t p ≡ matches s p
+same_matches s t same owner =
+    ap (λ (a : List ℕ). bytes_eq a t.owner_name) same.user_name ∙ ap (bytes_eq s.user_name) same.owner_name
+same_matches s t same (user name) = ap (λ (a : List ℕ). bytes_eq a name) same.user_name
+same_matches s t same group =
+    same.groups t.owning_group ∙ ap (λ (a : List ℕ). is_one_of a s.groups) same.owning_group
+same_matches s t same (group_named name) = same.groups name
+same_matches s t same everyone = refl
 
 -- requesters whose groups have the same names are granted the same requests
-pub grants_by_names : (list : List Ace) (s t : Situation) (request : ℕ) → t.owner_name ≡ s.owner_name
-    → t.owning_group ≡ s.owning_group → t.user_name ≡ s.user_name
-    → ((name : List ℕ) → is_one_of name t.groups ≡ is_one_of name s.groups)
+pub grants_by_names : (list : List Ace) (s t : Situation) (request : ℕ) → HaveSameNames s t
     → Grant list s request ↔ Grant list t request
-grants_by_names list s t request o g u m =
-    let same : matches t ≡ matches s = λ i p. same_matches s t o g u m p i in
-    let bit : (k : ℕ) → grants_bit list t k ≡ grants_bit list s k =
-    λ k. ap (λ (test : Principal → Bool). is_allow (verdict test (column list k))) same in
-    (λ h k asked. bit k ∙ h k asked, λ h k asked. sym (bit k) ∙ h k asked)
+grants_by_names list s t request same =
+    let tests : matches t ≡ matches s = λ i p. same_matches s t same p i in
+    let same_bit : (bit : ℕ) → grants_bit list t bit ≡ grants_bit list s bit =
+    λ bit. ap (λ (test : Principal → Bool). is_allow (verdict test (column list bit))) tests in
+    (λ granted bit asked. same_bit bit ∙ granted bit asked, λ granted bit asked. sym (same_bit bit) ∙ granted bit asked)

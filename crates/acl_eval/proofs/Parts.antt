@@ -27,11 +27,11 @@ unfolding ace_of
 none_of k l p xs e = rw e (sym (append-nil xs))
 
 -- with some permissions one ACE is added
-pub one_of : (k : Kind) (l : Tag) (p flags rights : ℕ) (who : List ℕ) → (p ≡ 0 → ⊥) → flags ≡ bridged_flags l
+pub one_of : (k : Kind) (l : Tag) (p : ℕ) {flags rights : ℕ} {who : List ℕ} → (p ≡ 0 → ⊥) → flags ≡ bridged_flags l
     → rights ≡ image p → who ≡ bridged_who l
     → record { kind = k; flags = flags; mask = rights; who = who } ∷ [] ≡ ace_of k l p
 unfolding ace_of
-one_of k l p flags rights who some fe me we =
+one_of k l p {flags = flags} {rights = rights} {who = who} some fe me we =
     elim (eqb p 0) as (λ t. eqb p 0 ≡ t → ◌≡◌ {A = List Ace} (record {
       kind = k;
       flags = flags;
@@ -97,12 +97,12 @@ entry_fits E part es i e old mid lt read is so_far ok =
     let more : List Ace = bridged_part E part (pairs (drop (i + 1) es)) in
     let here : mid ++ bridged_part E part (pair_of e ∷ []) ≡ old ++ front =
     part_kept E part es i e old mid (mid ++ bridged_part E part (pair_of e ∷ [])) lt read so_far refl in
-    let whole : front ++ more ≡ bridged_part E part (fin.entries E) =
+    let joined : front ++ more ≡ bridged_part E part (fin.entries E) =
     sym (part-append E part (pairs (take (i + 1) es)) (pairs (drop (i + 1) es)))
     ∙ ap (bridged_part E part) (sym (map-append pair_of (take (i + 1) es) (drop (i + 1) es))
     ∙ ap pairs (take-append-drop (i + 1) es) ∙ is) in
     subst (λ (l : List Ace). IsAccepted full l) (sym here)
-    (first_fits old front more (subst (λ (l : List Ace). IsAccepted full (old ++ l)) (sym whole) ok))
+    (first_fits old front more (subst (λ (l : List Ace). IsAccepted full (old ++ l)) (sym joined) ok))
 
 -- ---- one part after the other
 
@@ -111,10 +111,10 @@ abbrev all_of : Entries → ListPart → List Ace
 all_of E part = bridged_part E part (fin.entries E)
 
 -- the four parts, one after the other, are the list
-pub whole : (E : Entries) (a b c d e : List Ace) → a ≡ [] → b ≡ a ++ all_of E Users → c ≡ b ++ all_of E GroupAllows
+pub four_parts : (E : Entries) (a b c d e : List Ace) → a ≡ [] → b ≡ a ++ all_of E Users → c ≡ b ++ all_of E GroupAllows
     → d ≡ c ++ all_of E GroupDenies → e ≡ d ++ all_of E Others → e ≡ bridge_list E
 unfolding bridge_list
-whole E a b c d e ae be ce de ee =
+four_parts E a b c d e ae be ce de ee =
     ee ∙ ap (λ (l : List Ace). l ++ all_of E Others) (de
     ∙ ap (λ (l : List Ace). l ++ all_of E GroupDenies) (ce
     ∙ ap (λ (l : List Ace). l ++ all_of E GroupAllows) (be
@@ -128,9 +128,9 @@ record Fronts (E : Entries) : Type 0 where
   pub others : IsAccepted full (all_of E Users ++ all_of E GroupAllows ++ all_of E GroupDenies ++ all_of E Others)
 
 -- if the list is accepted, it is accepted after each of its parts
-fronts : (E : Entries) → IsAccepted full (bridge_list E) → Fronts E
+accepted_fronts : (E : Entries) → IsAccepted full (bridge_list E) → Fronts E
 unfolding bridge_list
-fronts E ok =
+accepted_fronts E ok =
     let U = all_of E Users in
     let A = all_of E GroupAllows in
     let D = all_of E GroupDenies in
@@ -142,14 +142,14 @@ fronts E ok =
 pub users_fit : (E : Entries) (a : List Ace) → a ≡ [] → IsAccepted full (bridge_list E)
     → IsAccepted full (a ++ all_of E Users)
 users_fit E a ae ok =
-    subst (λ (l : List Ace). IsAccepted full (l ++ all_of E Users)) (sym ae) (fronts E ok).users
+    subst (λ (l : List Ace). IsAccepted full (l ++ all_of E Users)) (sym ae) (accepted_fronts E ok).users
 
 -- if the whole list is accepted, its first two parts are
 pub allows_fit : (E : Entries) (a b : List Ace) → a ≡ [] → b ≡ a ++ all_of E Users → IsAccepted full (bridge_list E)
     → IsAccepted full (b ++ all_of E GroupAllows)
 allows_fit E a b ae be ok =
     subst (λ (l : List Ace). IsAccepted full (l ++ all_of E GroupAllows))
-    (sym (be ∙ ap (λ (l : List Ace). l ++ all_of E Users) ae)) (fronts E ok).allows
+    (sym (be ∙ ap (λ (l : List Ace). l ++ all_of E Users) ae)) (accepted_fronts E ok).allows
 
 -- if the whole list is accepted, its first three parts are
 pub denies_fit : (E : Entries) (a b c : List Ace) → a ≡ [] → b ≡ a ++ all_of E Users → c ≡ b ++ all_of E GroupAllows
@@ -157,11 +157,11 @@ pub denies_fit : (E : Entries) (a b c : List Ace) → a ≡ [] → b ≡ a ++ al
 denies_fit E a b c ae be ce ok =
     subst (λ (l : List Ace). IsAccepted full (l ++ all_of E GroupDenies))
     (sym (ce ∙ ap (λ (l : List Ace). l ++ all_of E GroupAllows) (be ∙ ap (λ (l : List Ace). l ++ all_of E Users) ae)))
-    (fronts E ok).denies
+    (accepted_fronts E ok).denies
 
 -- if the whole list is accepted, its four parts together are
 pub others_fit : (E : Entries) (a b c d : List Ace) → a ≡ [] → b ≡ a ++ all_of E Users
     → c ≡ b ++ all_of E GroupAllows → d ≡ c ++ all_of E GroupDenies → IsAccepted full (bridge_list E)
     → IsAccepted full (d ++ all_of E Others)
 others_fit E a b c d ae be ce de ok =
-    subst (λ (l : List Ace). IsAccepted full l) (sym (whole E a b c d (d ++ all_of E Others) ae be ce de refl)) ok
+    subst (λ (l : List Ace). IsAccepted full l) (sym (four_parts E a b c d (d ++ all_of E Others) ae be ce de refl)) ok

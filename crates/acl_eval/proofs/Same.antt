@@ -5,10 +5,9 @@ use Rattle.std.proofs.lemmas.Nat.Bits.{bit_at-pow_same, bit_at-pow_other}
 use Rattle.std.specs.Prelude.{◌↔◌, IsTrue}
 use Rattle.std.specs.Int.{bit_at}
 use Rattle.acl_perm.proofs.Bools.{same_answers}
+use Rattle.acl_perm.proofs.Orders.{kinds_alike}
 use Rattle.acl_perm.specs.Bits.{has_bit, IsSubset}
 use Rattle.acl_perm.specs.Situation.{Situation, IsSituation}
-use Rattle.acl_perm.specs.declared.kind.Kind.{Kind}
-use Rattle.acl_perm.specs.declared.kind.Kind.TheVariants.{Deny, Allow}
 use Rattle.acl_nfs4.specs.Ace.{Ace}
 use Rattle.acl_eval.specs.Column.{column, SameVerdicts}
 use Rattle.acl_eval.specs.Grant.{Grant, SameGrants, grants_bit, is_allow}
@@ -35,13 +34,6 @@ only_bit k i h = elim (cases_eq i k) [
   | inl e ↦ e
   | inr n ↦ absurd (let zero = bit_at-pow_other k i n in let one = eqb-true (bit_at (2 ^ k) i) 1 h in omega arith)
 ]
-
--- two kinds are the same if both are ALLOW or neither is
-same_kind : (x y : Kind) → is_allow x ≡ is_allow y → x ≡ y
-same_kind Deny Deny e = refl
-same_kind Allow Allow e = refl
-same_kind Deny Allow e = absurd cc
-same_kind Allow Deny e = absurd cc
 
 -- a request of one bit is granted if and only if the bit is
 pub grant_one : (list : List Ace) (s : Situation) (k : ℕ) → Grant list s (2 ^ k) ↔ (grants_bit list s k ≡ true)
@@ -73,6 +65,6 @@ pub by_columns : (rights : ℕ) (list other : List Ace) → SameGrants rights li
     ↔ ((bit : ℕ) → IsTrue (has_bit rights bit) → SameVerdicts (column list bit) (column other bit))
 by_columns rights list other =
     let bits = by_bits rights list other in (
-      λ same bit has s valid. same_kind _ _ (bits.0 same s valid bit has),
+      λ same bit has s valid. kinds_alike _ _ (bits.0 same s valid bit has),
       λ alike. bits.1 (λ s valid bit has. ap is_allow (alike bit has s valid)),
     )

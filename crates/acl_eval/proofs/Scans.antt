@@ -22,9 +22,9 @@ none_left [] s left e = rw e refl
 none_left (a ∷ list) s left e = rw e refl
 
 -- an ACE without a bit that is left changes nothing
-pub passes : (a : Ace) (list : List Ace) (s : Situation) (left : ℕ) → bit_and left a.mask ≡ 0
+pub scan-no_common : (a : Ace) (list : List Ace) (s : Situation) (left : ℕ) → bit_and left a.mask ≡ 0
     → scan list s left ≡ scan (a ∷ list) s left
-passes a list s left none = by (eqb left 0) (applies s a) (is_allow a.kind) refl refl refl
+scan-no_common a list s left none = by (eqb left 0) (applies s a) (is_allow a.kind) refl refl refl
   where
     by : (z t k : Bool) → eqb left 0 ≡ z → applies s a ≡ t → is_allow a.kind ≡ k
         → scan list s left ≡ scan (a ∷ list) s left
@@ -43,15 +43,15 @@ not_applied a list s left e = by (eqb left 0) refl
     by false z = rw (z, e) refl
 
 -- an ACE that allows removes its bits from those that are left
-pub allowed : (a : Ace) (list : List Ace) (s : Situation) (left : ℕ) → left ≢ 0 → applies s a ≡ true
+pub scan-allowed : (a : Ace) (list : List Ace) (s : Situation) (left : ℕ) → left ≢ 0 → applies s a ≡ true
     → is_allow a.kind ≡ true → scan list s (without left a.mask) ≡ scan (a ∷ list) s left
-allowed a list s left some e k = rw (ne_eqb left 0 some, e, k) refl
+scan-allowed a list s left some e k = rw (ne_eqb left 0 some, e, k) refl
 
 -- an ACE that allows all bits that are left ends the scan
 pub last_allowed : (a : Ace) (list : List Ace) (s : Situation) (left : ℕ) → left ≢ 0 → applies s a ≡ true
     → is_allow a.kind ≡ true → bit_and left a.mask ≡ left → true ≡ scan (a ∷ list) s left
 last_allowed a list s left some e k all =
-    none_left list s _ (ap (bit_xor left) all ∙ xor_self left) ∙ allowed a list s left some e k
+    none_left list s _ (ap (bit_xor left) all ∙ xor_self left) ∙ scan-allowed a list s left some e k
 
 -- if an ACE does not have all bits that are left, some bit is left after it
 pub some_left : (m n : ℕ) → bit_and m n ≢ m → without m n ≢ 0
@@ -66,21 +66,21 @@ some_left m n some none = some (omega (
 -- ---- bits that are left
 
 -- of two binary digits, the first without their product is 1 if and only if the first is 1 and the second is not
-taken : (d e f : ℕ) → d < 2 → e < 2 → f < 2 → (eqb f 1 ≡ (eqb d 1 && eqb e 1))
+digit_taken : (d e f : ℕ) → d < 2 → e < 2 → f < 2 → (eqb f 1 ≡ (eqb d 1 && eqb e 1))
     → eqb ((d + f) % 2) 1 ≡ (eqb d 1 && not (eqb e 1))
-taken d e f dl el fl h = grind arith
+digit_taken d e f dl el fl h = grind arith
 
 -- a set without the bits of another one has a bit if and only if it had it and the other does not have it
 pub has_bit-without : (m n k : ℕ) → has_bit (without m n) k ≡ (has_bit m k && not (has_bit n k))
 has_bit-without m n k =
     ap (λ (d : ℕ). eqb d 1) (bit_at_xor m (bit_and m n) k)
-    ∙ taken (bit_at m k) (bit_at n k) (bit_at (bit_and m n) k)
+    ∙ digit_taken (bit_at m k) (bit_at n k) (bit_at (bit_and m n) k)
     (bit_at-lt m k) (bit_at-lt n k) (bit_at-lt (bit_and m n) k) (has_bit-and m n k)
 
 -- if two tests do not hold together and the first one holds, the second does not
-lacks : (x y : Bool) → x ≡ true → (x && y) ≡ false → y ≡ false
-lacks true y p e = e
-lacks false y p e = absurd cc
+second_lacks : (x y : Bool) → x ≡ true → (x && y) ≡ false → y ≡ false
+second_lacks true y p e = e
+second_lacks false y p e = absurd cc
 
 -- two tests do not hold together if the second one does not hold
 second_fails : (h t : Bool) → t ≡ false → (h && t) ≡ false
@@ -92,14 +92,14 @@ first_fails : (h t : Bool) → h ≡ false → (h && t) ≡ false
 first_fails h t e = rw e refl
 
 -- an ACE that lacks the bit, or does not match the requester, leaves the bit to the rest of the list
-skipped : (a : Ace) (list : List Ace) (s : Situation) (bit : ℕ) → (has_bit a.mask bit && applies s a) ≡ false
+grants_bit-skipped : (a : Ace) (list : List Ace) (s : Situation) (bit : ℕ) → (has_bit a.mask bit && applies s a) ≡ false
     → grants_bit (a ∷ list) s bit ≡ grants_bit list s bit
-skipped a list s bit e = bit_at_first a list s bit ∙ rw e refl
+grants_bit-skipped a list s bit e = bit_at_first a list s bit ∙ rw e refl
 
 -- an ACE that has the bit and matches the requester decides it by its kind
-decided : (a : Ace) (list : List Ace) (s : Situation) (bit : ℕ) → has_bit a.mask bit ≡ true → applies s a ≡ true
+grants_bit-decided : (a : Ace) (list : List Ace) (s : Situation) (bit : ℕ) → has_bit a.mask bit ≡ true → applies s a ≡ true
     → grants_bit (a ∷ list) s bit ≡ is_allow a.kind
-decided a list s bit h e = bit_at_first a list s bit ∙ rw (h, e) refl
+grants_bit-decided a list s bit h e = bit_at_first a list s bit ∙ rw (h, e) refl
 
 -- two lists that grant each bit of a request alike grant the request alike
 same_grant : (list other : List Ace) (s : Situation) (m : ℕ)
@@ -111,16 +111,16 @@ same_grant list other s m e = (λ g bit h. sym (e bit h) ∙ g bit h, λ g bit h
 grant_not_applied : (a : Ace) (list : List Ace) (s : Situation) (m : ℕ) → applies s a ≡ false
     → Grant (a ∷ list) s m ↔ Grant list s m
 grant_not_applied a list s m e =
-    same_grant (a ∷ list) list s m (λ bit h. skipped a list s bit (second_fails (has_bit a.mask bit) (applies s a) e))
+    same_grant (a ∷ list) list s m (λ bit h. grants_bit-skipped a list s bit (second_fails (has_bit a.mask bit) (applies s a) e))
 
 -- an ACE that has no bit of a request does not change whether the request is granted
 grant_passes : (a : Ace) (list : List Ace) (s : Situation) (m : ℕ) → bit_and m a.mask ≡ 0
     → Grant (a ∷ list) s m ↔ Grant list s m
 grant_passes a list s m none =
-    let hasnt = λ (bit : ℕ) (h : has_bit m bit ≡ true). lacks (has_bit m bit) (has_bit a.mask bit) h
+    let hasnt = λ (bit : ℕ) (h : has_bit m bit ≡ true). second_lacks (has_bit m bit) (has_bit a.mask bit) h
     (sym (has_bit-and m a.mask bit) ∙ ap (λ (n : ℕ). has_bit n bit) none ∙ no_bit bit) in
     same_grant (a ∷ list) list s m
-    (λ bit h. skipped a list s bit (first_fails (has_bit a.mask bit) (applies s a) (hasnt bit h)))
+    (λ bit h. grants_bit-skipped a list s bit (first_fails (has_bit a.mask bit) (applies s a) (hasnt bit h)))
 
 -- after an ALLOW that matches the requester, the rest of the list must grant the bits that it does not have
 grant_allows : (a : Ace) (list : List Ace) (s : Situation) (m : ℕ) → applies s a ≡ true → is_allow a.kind ≡ true
@@ -128,10 +128,10 @@ grant_allows : (a : Ace) (list : List Ace) (s : Situation) (m : ℕ) → applies
 grant_allows a list s m e k = (
   λ g bit h.
       let p = and_parts (has_bit m bit) (not (has_bit a.mask bit)) (sym (has_bit-without m a.mask bit) ∙ h) in
-      sym (skipped a list s bit (first_fails (has_bit a.mask bit) (applies s a) (not-true _ p.1))) ∙ g bit p.0,
+      sym (grants_bit-skipped a list s bit (first_fails (has_bit a.mask bit) (applies s a) (not-true _ p.1))) ∙ g bit p.0,
   λ g bit h. elim (cases_Bool (has_bit a.mask bit)) [
-    | inl has ↦ decided a list s bit has e ∙ k
-    | inr hasnt ↦ skipped a list s bit (first_fails (has_bit a.mask bit) (applies s a) hasnt)
+    | inl has ↦ grants_bit-decided a list s bit has e ∙ k
+    | inr hasnt ↦ grants_bit-skipped a list s bit (first_fails (has_bit a.mask bit) (applies s a) hasnt)
         ∙ g bit (has_bit-without m a.mask bit ∙ rw (h, hasnt) refl)
   ],
 )
@@ -143,7 +143,7 @@ grant_denies a list s m lt e k some g =
     let small : bit_and m a.mask < 2 ^ 32 = omega (arith, and_le_l m a.mask) in
     let bit = some_bit (bit_and m a.mask) small some in
     let p = and_parts (has_bit m bit.0) (has_bit a.mask bit.0) (sym (has_bit-and m a.mask bit.0) ∙ bit.1) in
-    true≢false (sym (g bit.0 p.0) ∙ decided a list s bit.0 p.1 e ∙ k)
+    true≢false (sym (g bit.0 p.0) ∙ grants_bit-decided a list s bit.0 p.1 e ∙ k)
 
 -- the empty request is granted
 grant_none : (list : List Ace) (s : Situation) (m : ℕ) → m ≡ 0 → Grant list s m
@@ -152,8 +152,8 @@ grant_none list s m e bit h = absurd (true≢false (sym h ∙ ap (λ (n : ℕ). 
 -- ---- a whole scan
 
 -- two facts that are both equivalent to a third are equivalent
-through : {A B C : Type 0} → A ↔ B → C ↔ B → A ↔ C
-through f g = (λ a. g.1 (f.0 a), λ c. f.1 (g.0 c))
+iff_through : {A B C : Type 0} → A ↔ B → C ↔ B → A ↔ C
+iff_through f g = (λ a. g.1 (f.0 a), λ c. f.1 (g.0 c))
 
 -- a test that holds is equivalent to a fact that holds
 by_true : (b : Bool) (G : Type 0) → b ≡ true → G → IsTrue b ↔ G
@@ -180,12 +180,12 @@ scan_is-below (a ∷ list) s m lt =
         → applies s a ≡ t → is_allow a.kind ≡ k → eqb (bit_and m a.mask) 0 ≡ c
         → IsTrue (scan (a ∷ list) s m) ↔ Grant (a ∷ list) s m
     by rest true t k c z e f h = by_true _ _ (rw z refl) (grant_none (a ∷ list) s m (eqb-true m 0 z))
-    by rest false false k c z e f h = rw (z, e) (through (rest m lt) (grant_not_applied a list s m e))
+    by rest false false k c z e f h = rw (z, e) (iff_through (rest m lt) (grant_not_applied a list s m e))
     by rest false true true c z e f h =
         let small = xor_lt 32 m (bit_and m a.mask) lt (omega (arith, and_le_l m a.mask)) in
-        rw (z, e, f) (through (rest (without m a.mask) small) (grant_allows a list s m e f))
+        rw (z, e, f) (iff_through (rest (without m a.mask) small) (grant_allows a list s m e f))
     by rest false true false true z e f h =
-        rw (z, e, f, h) (through (rest m lt) (grant_passes a list s m (eqb-true _ _ h)))
+        rw (z, e, f, h) (iff_through (rest m lt) (grant_passes a list s m (eqb-true _ _ h)))
     by rest false true false false z e f h =
         by_false _ _ (rw (z, e, f, h) refl) (grant_denies a list s m lt e f (λ n. true≢false (sym (eq-eqb _ _ n) ∙ h)))
 

@@ -8,7 +8,7 @@ use Rattle.acl_perm.specs.declared.kind.Kind.{Kind}
 use Rattle.acl_perm.specs.declared.kind.Kind.TheVariants.{Deny}
 use Rattle.acl_nfs4.specs.Ace.{Ace}
 use Rattle.acl_nfs4.specs.Who.{principal_of}
-use Rattle.acl_eval.proofs.Classes.{same_perm, three}
+use Rattle.acl_eval.proofs.Classes.{same_mode_of_parts, same_perm}
 use Rattle.acl_eval.specs.Column.{column, first_kind, takes_part}
 use Rattle.acl_eval.specs.Grant.{is_allow}
 use Rattle.acl_eval.specs.ListMode.{is_for_group, is_for_others, is_for_owner, is_granted_by, mode_of_list, perm_of}
@@ -45,24 +45,24 @@ same_part test skips list =
     same_perm (is_granted_by test (unnamed list)) (is_granted_by test list) (at 0) (at 1) (at 2) (at 5)
 
 -- if neither of two tests holds, the first does not and the second does not
-neither : (a b : Bool) → (a || b) ≡ false → (a ≡ false) × (b ≡ false)
-neither false b h = (refl, h)
-neither true b h = absurd cc
+or_false : (a b : Bool) → (a || b) ≡ false → (a ≡ false) × (b ≡ false)
+or_false false b h = (refl, h)
+or_false true b h = absurd cc
 
 -- ACEs of names do not decide for the owner
 owner_no_name : PassesNoName is_for_owner
-owner_no_name p e = (neither (is_for_owner p) (is_for_group p) e).0
+owner_no_name p e = (or_false (is_for_owner p) (is_for_group p) e).0
 
 -- ACEs of names do not decide for the group
 group_no_name : PassesNoName is_for_group
-group_no_name p e = (neither (is_for_owner p) (is_for_group p) e).1
+group_no_name p e = (or_false (is_for_owner p) (is_for_group p) e).1
 
 -- ACEs of names do not decide for others
 others_no_name : PassesNoName is_for_others
-others_no_name p e = (neither (principal_rank p == 0) (is_everyone p) (owner_no_name p e)).1
+others_no_name p e = (or_false (principal_rank p == 0) (is_everyone p) (owner_no_name p e)).1
 
 -- the mode of a list is the same without the ACEs of names
 pub same_mode : (list : List Ace) → mode_of_list (unnamed list) ≡ mode_of_list list
 same_mode list =
-    three _ _ _ _ _ _ (same_part is_for_owner owner_no_name list) (same_part is_for_group group_no_name list)
+    same_mode_of_parts (same_part is_for_owner owner_no_name list) (same_part is_for_group group_no_name list)
     (same_part is_for_others others_no_name list)

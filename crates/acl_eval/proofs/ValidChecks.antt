@@ -38,9 +38,9 @@ pub record Complete (E : Entries) : Type 0 where
   pub masked : (list_any is_named (fin.keys E) && not (is_some (fin.get E mask))) ≡ false
 
 -- a valid set has all entries that it must have
-pub complete : (E : Entries) → IsValid E → Complete E
+pub valid_is_complete : (E : Entries) → IsValid E → Complete E
 unfolding missing
-complete E v =
+valid_is_complete E v =
     let p = parts (is_some (fin.get E user_obj)) (is_some (fin.get E group_obj)) (is_some (fin.get E other))
     (list_any is_named (fin.keys E) && not (is_some (fin.get E mask))) v in
     record { owner = p.0; group = p.1; others = p.2; masked = p.3 }
@@ -91,21 +91,21 @@ none_named E l c named no_mask = is_none (fin.get E l) (by (is_some (fin.get E l
   where
     by : (b : Bool) → is_some (fin.get E l) ≡ b → b ≡ false
     by false e = refl
-    by true e = let there = sym (has_mask E l c named e) ∙ no_mask in absurd cc
+    by true e = let both = sym (has_mask E l c named e) ∙ no_mask in absurd cc
 
 -- ---- the check
 
 -- an entry of the set contains a request if and only if its permissions do
-pub there : (o : Option ℕ) (d want : ℕ) → is_some o ≡ true → contains (unwrap_or o d) want ≡ is_contained o want
-there None d want h = absurd cc
-there (Some n) d want h = refl
+pub contains_there : (o : Option ℕ) (d want : ℕ) → is_some o ≡ true → contains (unwrap_or o d) want ≡ is_contained o want
+contains_there None d want h = absurd cc
+contains_there (Some n) d want h = refl
 
 -- a condition on each of two alternatives can be tested once
-spread : (x c y : Bool) → (((x && c) || false) || (y && c)) ≡ ((x || y) && c)
-spread true true y = refl
-spread true false true = refl
-spread true false false = refl
-spread false c y = refl
+and_spread : (x c y : Bool) → (((x && c) || false) || (y && c)) ≡ ((x || y) && c)
+and_spread true true y = refl
+and_spread true false true = refl
+and_spread true false false = refl
+and_spread false c y = refl
 
 -- if no GROUP contains a request, a group of the requester contains it only as the owning group
 only_owning : (E : Entries) (og want : ℕ) (gs : List ℕ) → ((id : ℕ) → entry_contains E (group id) want ≡ false)
@@ -115,7 +115,7 @@ only_owning E og want (g ∷ gs) none =
     let owning : Bool = entry_contains E group_obj want in
     ap (λ (b : Bool). (((g == og) && owning) || b) || list_any (group_contains E og want) gs) (none g)
     ∙ ap (λ (b : Bool). (((g == og) && owning) || false) || b) (only_owning E og want gs none)
-    ∙ spread (g == og) owning (is_member og gs)
+    ∙ and_spread (g == og) owning (is_member og gs)
 
 -- without USER and GROUP only GROUP_OBJ can match
 owning_alone : (E : Entries) (og want : ℕ) (gs : List ℕ) → Complete E → is_some (fin.get E mask) ≡ false
@@ -158,22 +158,22 @@ class_plain E og want gs c whole matched = by (fin.get E mask) refl
         (entry_contains E group_obj want) matches_is (owning_alone E og want gs c no_mask) matched
 
 -- two choices by one test are the same if their two answers are, the first pair where the test holds
-choose : (t a b c d : Bool) → (t ≡ true → a ≡ b) → c ≡ d → cond t a c ≡ cond t b d
-choose true a b c d f e = f refl
-choose false a b c d f e = e
+same_choice : (t : Bool) {a b c d : Bool} → (t ≡ true → a ≡ b) → c ≡ d → cond t a c ≡ cond t b d
+same_choice true f e = f refl
+same_choice false f e = e
 
 -- for a valid set, the check needs no tests for missing entries
 pub plain_check : (E : Entries) (object : Object) (requester : Requester) (want : ℕ) → IsValid E
     → contains 7 want ≡ true → plain E object requester want ≡ grants E object requester want
 unfolding grants
 plain_check E object requester want valid whole =
-    let c = complete E valid in
+    let c = valid_is_complete E valid in
     let u : Tag = user requester.user in
-    choose (requester.user == object.user) _ _ _ _ (λ _. there (fin.get E user_obj) 0 want c.owner)
-    (choose (fin.contains_key E u) _ _ _ _
-    (λ has. ap (λ (b : Bool). b && mask_contains E want) (there (fin.get E u) 0 want has)
+    same_choice (requester.user == object.user) (λ _. contains_there (fin.get E user_obj) 0 want c.owner)
+    (same_choice (fin.contains_key E u)
+    (λ has. ap (λ (b : Bool). b && mask_contains E want) (contains_there (fin.get E u) 0 want has)
     ∙ ap (λ (b : Bool). entry_contains E u want && b)
-    (there (fin.get E mask) 7 want (has_mask E u c refl has)))
-    (choose (any_matches E object.group requester.groups) _ _ _ _
+    (contains_there (fin.get E mask) 7 want (has_mask E u c refl has)))
+    (same_choice (any_matches E object.group requester.groups)
     (λ matched. class_plain E object.group want requester.groups c whole matched)
-    (there (fin.get E other) 0 want c.others)))
+    (contains_there (fin.get E other) 0 want c.others)))

@@ -4,7 +4,7 @@ use Rattle.std.specs.Prelude.{ℕ, ◌+◌, ◌-◌, ◌==◌, ◌^◌, Bool, tr
 use Rattle.std.specs.List.{filter, flat_map}
 use Rattle.std.specs.Fmt.{decimal}
 use Rattle.std.specs.FinMap as set
-use Rattle.acl_perm.specs.Bits.{all_permissions, has_bit}
+use Rattle.acl_perm.specs.Bits.{all_permissions, has_bit, identifier_group_alone}
 use Rattle.acl_perm.specs.Profile.{full}
 use Rattle.acl_perm.specs.declared.kind.Kind.{Kind}
 use Rattle.acl_perm.specs.declared.kind.Kind.TheVariants.{Deny, Allow}
@@ -60,10 +60,6 @@ is_other_tag group_obj = false
 is_other_tag (group id) = false
 is_other_tag mask = false
 is_other_tag other = true
-
--- the flag IDENTIFIER_GROUP alone
-abbrev pub identifier_group_alone : ℕ
-identifier_group_alone = 0x40
 
 -- the flags of the ACEs of an entry: IDENTIFIER_GROUP for named groups, and no flag for others
 abbrev pub bridged_flags : Tag → ℕ

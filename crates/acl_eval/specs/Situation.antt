@@ -1,6 +1,6 @@
 -- What an object and a requester hold, and the situation of both (this library's own types, in the words of RFC 8881,
 -- section 6.2.1.5).
-use Rattle.std.specs.Prelude.{ℕ, List, map}
+use Rattle.std.specs.Prelude.{ℕ, ◌<◌, List, All, length, map}
 use Rattle.acl_perm.specs.Situation.{Situation}
 use Rattle.acl_eval.specs.declared.situation.Object.{Object}
 use Rattle.acl_eval.specs.declared.situation.Requester.{Requester}
@@ -21,11 +21,17 @@ user_of requester = requester.user.now
 abbrev pub groups_of : Requester → List (List ℕ)
 groups_of requester = map (λ g. g.now) requester.groups.names.now
 
+-- the situation of an object with this owner and this owning group, and of a user in these groups
+abbrev pub named_situation : List ℕ → List ℕ → List ℕ → List (List ℕ) → Situation
+named_situation owner group user groups =
+    record { owner_name = owner; owning_group = group; user_name = user; groups = groups }
+
+-- no name of the situation is empty
+abbrev pub HasNoEmptyName : Situation → Type 0
+HasNoEmptyName s = (0 < length s.owner_name) × (0 < length s.owning_group) × (0 < length s.user_name)
+    × All (λ g. 0 < length g) s.groups
+
 -- the situation in which the requester requests access to the object
 abbrev pub situation : Object → Requester → Situation
-situation object requester = record {
-  owner_name = owner_of object;
-  owning_group = owning_group_of object;
-  user_name = user_of requester;
-  groups = groups_of requester;
-}
+situation object requester =
+    named_situation (owner_of object) (owning_group_of object) (user_of requester) (groups_of requester)

@@ -10,7 +10,7 @@ ghost use Rattle.acl_eval.specs.Bridge.{IsBridgeFault, ace_of, allow_of, bridge_
 ghost use Rattle.acl_eval.specs.internal.BridgeBody.{cost_of, bridged_part, word_bits};
 
 use crate::permissions::{EXECUTE, READ, WRITE, WRITE_RIGHTS};
-use acl_nfs4::internal::is_too_heavy;
+use acl_nfs4::internal::{EVERYONE_NAME, GROUP_NAME, OWNER_NAME, is_too_heavy};
 use acl_nfs4::{AceRef, Acl, Flags, Kind, Mask};
 use acl_perm::Perm;
 use acl_posix::{Entry, PosixAcl, Tag};
@@ -233,11 +233,11 @@ fn who_of<'a>(tag: Tag, digits: &'a mut Buffer) -> &'a [u8]
     ensures { result.now ≡ bridged_who (tag_of tag) }
 {
     match tag {
-        Tag::UserObj => b"OWNER@",
+        Tag::UserObj => OWNER_NAME.as_bytes(),
         Tag::User(id) | Tag::Group(id) => digits.format(id.value()).as_bytes(),
-        Tag::GroupObj => b"GROUP@",
+        Tag::GroupObj => GROUP_NAME.as_bytes(),
         Tag::Mask => b"",
-        Tag::Other => b"EVERYONE@",
+        Tag::Other => EVERYONE_NAME.as_bytes(),
     }
 }
 

@@ -1,5 +1,5 @@
 //! A caller of the library that has a contract of its own: it decides from the bytes of the attribute alone.
-ghost use Rattle.std.specs.Prelude.{◌≡◌, ◌<◌, ◌↔◌, ◌⊎◌, List, Err, IfErr, IfOk, IsOk, IsTrue, Some, All, length, map};
+ghost use Rattle.std.specs.Prelude.{◌≡◌, ◌↔◌, ◌⊎◌, List, Err, IfErr, IfOk, IsOk, IsTrue, Some, map};
 ghost use Rattle.acl_perm.specs.Profile.{full};
 ghost use Rattle.acl_perm.specs.declared.kind.Kind.TheVariants.{Allow};
 ghost use Rattle.acl_nfs4.specs.Ace.{Ace};
@@ -8,7 +8,7 @@ ghost use Rattle.acl_nfs4.specs.Spelling.{Xdr};
 ghost use Rattle.acl_nfs4.specs.declared.xdr.fault.Fault.{Fault};
 ghost use Rattle.acl_eval.specs.Deciding.{deciding_kind};
 ghost use Rattle.acl_eval.specs.Grant.{Grant};
-ghost use Rattle.acl_eval.specs.Situation.{situation};
+ghost use Rattle.acl_eval.specs.Situation.{HasNoEmptyName, situation, named_situation};
 
 use crate::{Object, Requester, grants, laws};
 use acl_nfs4::{Aces, AclView, Fault};
@@ -45,18 +45,13 @@ pub fn decide(
 ) -> Result<bool, DecideFault>
     // The attribute spells a list, and the answer is whether that list grants the request.
     ensures answer { IfOk result (λ answer. (list : List Ace) × Xdr full list attribute.now
-        × (IsTrue answer ↔ Grant list (record {
-          owner_name = owner.now;
-          owning_group = group.now;
-          user_name = user.now;
-          groups = map (λ g. g.now) groups.now;
-        }) mask.bits)) }
+        × (IsTrue answer ↔ Grant list (named_situation owner.now group.now user.now
+        (map (λ g. g.now) groups.now)) mask.bits)) }
     // No name is empty where there is an answer, and one is where EmptyName is reported.
-    ensures named { IsOk result → (0 < length owner.now) × (0 < length group.now)
-        × (0 < length user.now) × All (λ g. 0 < length g) (map (λ g. g.now) groups.now) }
-    ensures empty { result ≡ Err DecideFault.EmptyName → ¬ ((0 < length owner.now)
-        × (0 < length group.now) × (0 < length user.now)
-        × All (λ g. 0 < length g) (map (λ g. g.now) groups.now)) }
+    ensures named { IsOk result → HasNoEmptyName (named_situation owner.now group.now user.now
+        (map (λ g. g.now) groups.now)) }
+    ensures empty { result ≡ Err DecideFault.EmptyName
+        → ¬ (HasNoEmptyName (named_situation owner.now group.now user.now (map (λ g. g.now) groups.now))) }
     // A fault of the attribute is the one that the library's definition gives, and it is always reported.
     ensures fault { IfErr result (λ e. (e ≡ DecideFault.EmptyName) ⊎ ((f : Fault)
         × (e ≡ DecideFault.Attribute f) × IsWholeFault full attribute.now f.offset f.reason)) }

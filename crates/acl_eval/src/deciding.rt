@@ -51,7 +51,7 @@ fn first_deciding(aces: Aces<'_>, standing: &Standing<'_>, right: Right) -> Opti
         ≡ decision_from 0 (decides (asked_situation standing.now) right.bit) aces.entry }
 {
     for (place, ace) in aces.enumerate() {
-        if ace.mask.has(right) && standing.is_meant_by(&ace) {
+        if ace.mask.has(right) && standing.applies(&ace) {
             return Some(Decision {
                 place,
                 kind: ace.kind,

@@ -107,7 +107,7 @@ impl DecidedSoFar {
             × (has_bit self.old.left.bits bit ≡ true) }
     {
         let decided = self.left.intersection(item.mask);
-        if decided.bits() == 0 || !standing.is_meant_by(item) {
+        if decided.bits() == 0 || !standing.applies(item) {
             return;
         }
         let decision = Decision {

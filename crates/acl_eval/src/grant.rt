@@ -85,7 +85,7 @@ fn is_granted_by(
     )
 }
 
-// Returns whether the rights that are left of a request are granted.
+// Returns whether the rights that are left of a request are granted. They are the bits of a number, as in the clause.
 #[tactic(auto, using(crate::proofs::Scans::none_left))]
 fn scan(aces: Aces<'_>, standing: &Standing<'_>, mut left: u32) -> bool
     ensures { result ≡ scan aces.entry (asked_situation standing.now) left }
@@ -95,7 +95,7 @@ fn scan(aces: Aces<'_>, standing: &Standing<'_>, mut left: u32) -> bool
     }
     for ace in aces {
         let common = left & ace.mask.bits();
-        if common != 0 && standing.is_meant_by(&ace) {
+        if common != 0 && standing.applies(&ace) {
             match ace.kind {
                 Kind::Deny => return false,
                 Kind::Allow if common == left => return true,

@@ -77,7 +77,7 @@ impl GrantedSoFar {
             ≡ granted_in (asked_situation standing.now) self (ace item.now ∷ list) bit }
     {
         let decided = self.left.intersection(item.mask);
-        if decided.bits() == 0 || !standing.is_meant_by(item) {
+        if decided.bits() == 0 || !standing.applies(item) {
             return self;
         }
         self.decide(item.kind, item.mask)

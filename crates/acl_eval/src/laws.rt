@@ -1,7 +1,7 @@
 //! Laws of the evaluation, and of the list of a POSIX ACL.
 ghost use Rattle.std.specs.Prelude.{◌≡◌, ◌↔◌, ◌^◌, ℕ, List, IsTrue, None, Some, false, not, true};
 ghost use Rattle.acl_perm.specs.Bits.{has_bit, IsMask, inherit_only};
-ghost use Rattle.acl_perm.specs.Situation.{Situation, is_one_of};
+ghost use Rattle.acl_perm.specs.Situation.{Situation};
 ghost use Rattle.acl_perm.specs.Profile.{Profile};
 ghost use Rattle.acl_posix.specs.Check.{ids};
 ghost use Rattle.acl_nfs4.specs.Ace.{Ace};
@@ -13,7 +13,7 @@ ghost use Rattle.acl_perm.specs.declared.kind.Kind.TheVariants.{Allow};
 ghost use Rattle.acl_eval.specs.Grant.{Grant, SameBits, SameColumns, SameGrants, grants_bit};
 ghost use Rattle.acl_eval.specs.Inheritance.{child_flags, children, directory_inherit, ends, file_inherit, goes_on, no_propagate_inherit, waiting_flags};
 ghost use Rattle.acl_eval.specs.InheritanceLaws.{IsByFlag};
-ghost use Rattle.acl_eval.specs.Laws.{IsEquivalence};
+ghost use Rattle.acl_eval.specs.Laws.{HaveSameNames, IsEquivalence};
 ghost use Rattle.acl_eval.specs.ListMode.{mode_of_list};
 ghost use Rattle.acl_eval.specs.declared.inherit.ChildKind.{ChildKind};
 ghost use Rattle.acl_eval.specs.declared.inherit.ChildKind.TheVariants.{Directory, File};
@@ -65,10 +65,7 @@ pub fn one_right()
 /// only in that are granted the same requests.
 pub fn groups_are_a_set()
     ensures { (list : List Ace) (s t : Situation) (request : ℕ)
-        → t.owner_name ≡ s.owner_name → t.owning_group ≡ s.owning_group
-        → t.user_name ≡ s.user_name
-        → ((name : List ℕ) → is_one_of name t.groups ≡ is_one_of name s.groups)
-        → Grant list s request ↔ Grant list t request }
+        → HaveSameNames s t → Grant list s request ↔ Grant list t request }
 {}
 
 /// The flags of an ACE in a new file: no flag of inheritance, if the ACE has FILE_INHERIT; otherwise the file does not

@@ -61,10 +61,10 @@ impl<'a> Standing<'a> {
         }
     }
 
-    /// Returns whether the ACE takes part and matches the requester. Most ACEs are for a user, and are tested first:
-    /// they have neither flag, and a who that does not end in `@` is not special.
+    /// Returns whether the ACE applies: it takes part and matches the requester. Most ACEs are for a user, and are tested
+    /// first: they have neither flag, and a who that does not end in `@` is not special.
     #[inline(always)]
-    pub(crate) fn is_meant_by(&self, item: &AceRef<'_>) -> bool
+    pub(crate) fn applies(&self, item: &AceRef<'_>) -> bool
         requires { 1 ≤ length item.now.who.now }
         ensures { result ≡ applies (asked_situation self.now) (ace item.now) }
     {
@@ -75,7 +75,7 @@ impl<'a> Standing<'a> {
         item.takes_part() && self.is_match(item.principal())
     }
 
-    // This is not part of `is_meant_by`, so that `is_meant_by` is small enough to be inlined.
+    // This is not part of `applies`, so that `applies` is small enough to be inlined.
     #[inline(never)]
     fn is_match(&self, whom: Principal<'_>) -> bool
         ensures { result

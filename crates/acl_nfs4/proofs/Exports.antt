@@ -8,7 +8,7 @@ pub use Rattle.acl_nfs4.proofs.list.Push.{each_push}
 pub use Rattle.acl_nfs4.proofs.list.Within.{accepted_where_it_fits, code_profile, each_of, fits_of, within_part}
 pub use Rattle.acl_nfs4.proofs.text.AceLines.{one_list}
 pub use Rattle.acl_nfs4.proofs.text.AceWritten.{text_again}
-pub use Rattle.acl_nfs4.proofs.xdr.Resume.{one}
+pub use Rattle.acl_nfs4.proofs.xdr.Resume.{one_spelling as one}
 pub use Rattle.acl_nfs4.proofs.xdr.Fields.{IsBytes-drop, bytes_append, who_bounds}
 pub use Rattle.acl_nfs4.proofs.xdr.Lengths.{spelling_short}
 pub use Rattle.acl_nfs4.proofs.xdr.Lists.{front_accepted, weight-cons}

@@ -7,7 +7,7 @@ use Rattle.acl_nfs4.specs.Ace.{Ace}
 use Rattle.acl_nfs4.specs.Limits.{most_aces, most_weight, longest_who}
 use Rattle.acl_nfs4.specs.Who.{IsWho}
 use Rattle.acl_nfs4.specs.Within.{IsWithin}
-use Rattle.acl_nfs4.specs.Spelling.{word, pad_len, weight, Xdr}
+use Rattle.acl_nfs4.specs.Spelling.{word, word_size, pad_len, weight, Xdr}
 use Rattle.acl_nfs4.specs.Fields.{number, count_of, kind_of, flags_of, mask_of, who_len_of, who_of, padding_of}
 use Rattle.acl_perm.specs.Kind.{kind_number}
 use Rattle.acl_perm.specs.declared.kind.Kind.{Kind}
@@ -54,7 +54,7 @@ pub data Border (p : Profile) : Stage → List ℕ → Type 0 where
 abbrev pub size : Stage → ℕ
 size (who n list k f m l) = l
 size (padding n list k f m w) = pad_len (length w)
-size _ = 4
+size _ = word_size
 
 -- the next field is refused with this reason, if it holds these bytes
 abbrev pub refuses : Profile → Stage → List ℕ → Reason → Type 0

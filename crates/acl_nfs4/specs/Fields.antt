@@ -1,11 +1,12 @@
 -- What each field of the XDR layout may hold (RFC 8881, section 6.2.1), and how it is refused if it holds anything
 -- else: the table of faults, field by field, each with its conditions in the order in which they are judged. The limits
 -- and the reasons are this library's own.
-use Rattle.std.specs.Prelude.{ℕ, ◌+◌, List, Result, Ok, Err, Option, None, Some, option_map, nat_lt, ◌==◌, not, if◌then◌else◌, count_ones}
+use Rattle.std.specs.Prelude.{ℕ, ◌+◌, List, take, drop, Result, Ok, Err, Option, None, Some, option_map, nat_lt, ◌==◌, not, if◌then◌else◌, count_ones}
 use Rattle.std.specs.Int.{w32, from_be_bytes}
 use Rattle.std.specs.List.{list_all}
 use Rattle.acl_perm.specs.Profile.{Profile}
 use Rattle.acl_nfs4.specs.Limits.{most_aces, most_weight}
+use Rattle.acl_nfs4.specs.Spelling.{word_size}
 use Rattle.acl_nfs4.specs.Who.{is_no_who_len, who_fault}
 use Rattle.acl_nfs4.specs.Within.{is_within}
 use Rattle.acl_perm.specs.declared.kind.Kind.{Kind}
@@ -18,6 +19,10 @@ use Rattle.acl_nfs4.specs.declared.who.WhoFault.TheVariants as who
 -- the number that four bytes spell
 abbrev pub number : List ℕ → ℕ
 number bytes = from_be_bytes w32 bytes
+
+-- the number that the word at a place spells
+abbrev pub number_at : ℕ → List ℕ → ℕ
+number_at place bytes = number (take word_size (drop place bytes))
 
 -- the number of ACEs that a word says, or why it is refused
 abbrev pub count_of : ℕ → Result ℕ Reason

@@ -1,14 +1,23 @@
 -- What the laws of the XDR layout say (RFC 4506, over the types of RFC 8881, section 6.2.1).
-use Rattle.std.specs.Prelude.{ℕ, List, ◌++◌, map}
-use Rattle.std.specs.List.{enumerate_from, filter, flat_map, range_with_len}
+use Rattle.std.specs.Prelude.{ℕ, List, [], ◌++◌, map}
+use Rattle.std.specs.List.{concat, enumerate_from, filter, flat_map, range_with_len}
 use Rattle.acl_perm.specs.Bits.{has_bit}
 use Rattle.acl_perm.specs.Profile.{Profile}
 use Rattle.acl_nfs4.specs.Ace.{Ace}
 use Rattle.acl_nfs4.specs.Spelling.{Xdr}
+use Rattle.acl_nfs4.specs.Stream.{Feeds, FeedsEach, SameOrFails, StreamState, more, together}
+use Rattle.acl_nfs4.specs.declared.feed.fed.Fed.{Fed}
 
 -- the text is a beginning of the spelling of some accepted list
 abbrev pub BeginsSpelling : Profile → List ℕ → Type 0
 BeginsSpelling p text = (list : List Ace) × (rest : List ℕ) × Xdr p list (text ++ rest)
+
+-- pieces that are fed one after the other to a new feed have the same answer as all of them fed at once, and the feed
+-- represents the same then, unless memory runs out in one of the two cases
+abbrev pub FedAsAtOnce : Profile → List (List ℕ) → Type 0
+FedAsAtOnce p pieces = (answers : List Fed) (new : StreamState) (once : Fed) (now : StreamState)
+    → FeedsEach (more p []) pieces answers new → Feeds (more p []) (concat pieces) once now
+    → SameOrFails (together pieces answers) new once now
 
 -- the bits of a mask of 32 bits, in ascending order
 abbrev pub bits_of : ℕ → List ℕ

@@ -1,14 +1,22 @@
 -- The one spelling of a list of ACEs as XDR (RFC 4506, sections 4.2, 4.10 and 4.13, over the types of RFC 8881, section
 -- 6.2.1), and which lists have one.
-use Rattle.std.specs.Prelude.{◌≡◌, ℕ, ◌-◌, ◌%◌, ◌≤◌, List, ◌++◌, length, replicate, count_ones, sum_by}
+use Rattle.std.specs.Prelude.{◌≡◌, ℕ, ◌+◌, ◌-◌, ◌*◌, ◌%◌, ◌^◌, ◌≤◌, List, ◌++◌, length, replicate, count_ones, sum_by}
 use Rattle.std.specs.List.{flat_map, AllByRecursion}
 use Rattle.std.specs.Int.{w32, to_be_bytes}
 use Rattle.acl_perm.specs.Kind.{kind_number}
 use Rattle.acl_perm.specs.Profile.{Profile}
 use Rattle.acl_nfs4.specs.Ace.{Ace}
-use Rattle.acl_nfs4.specs.Limits.{most_aces, most_weight}
+use Rattle.acl_nfs4.specs.Limits.{longest_who, most_aces, most_weight}
 use Rattle.acl_nfs4.specs.Who.{IsWho}
 use Rattle.acl_nfs4.specs.Within.{IsWithin}
+
+-- how many bytes a word has
+abbrev pub word_size : ℕ
+word_size = 4
+
+-- each number that a word spells is below this
+abbrev pub word_limit : ℕ
+word_limit = 2 ^ 32
 
 -- an unsigned word: four bytes, the most significant first
 abbrev pub word : ℕ → List ℕ
@@ -23,6 +31,10 @@ pad_len n = (4 - n % 4) % 4
 abbrev pub piece : Ace → List ℕ
 piece a = word (kind_number a.kind) ++ word a.flags ++ word a.mask ++ word (length a.who) ++ a.who
     ++ replicate (pad_len (length a.who)) 0
+
+-- the greatest number of bytes in an ACE: four words, and a who of the greatest length, which has no padding
+abbrev pub longest_ace : ℕ
+longest_ace = 4 * word_size + longest_who
 
 -- the bytes of a list: the word of its length, and the bytes of its ACEs in order
 abbrev pub spelling : List Ace → List ℕ

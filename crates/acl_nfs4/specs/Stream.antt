@@ -4,8 +4,7 @@ use Rattle.std.specs.Prelude.{◌≡◌, ◌≢◌, ◌⊎◌, ℕ, ◌+◌, ◌
 use Rattle.std.specs.List.{flat_map}
 use Rattle.acl_perm.specs.Profile.{Profile}
 use Rattle.acl_nfs4.specs.Ace.{Ace}
-use Rattle.acl_nfs4.specs.Spelling.{Xdr, piece, word}
-use Rattle.acl_nfs4.specs.Limits.{longest_who}
+use Rattle.acl_nfs4.specs.Spelling.{Xdr, longest_ace, piece, word, word_size}
 use Rattle.acl_nfs4.specs.Fault.{IsFault, IsFirstFault}
 use Rattle.acl_nfs4.specs.declared.xdr.fault.Fault.{Fault}
 use Rattle.acl_nfs4.specs.declared.xdr.fault.Reason.TheVariants.{Truncated, Read, Memory}
@@ -63,9 +62,9 @@ FinishesStream (refused f) result = result ≡ Err f
 
 -- a stream of whole ACEs and less than the longest ACE after them, or of less than the word of their number
 abbrev pub HoldsLittle : List ℕ → Type 0
-HoldsLittle s = (length s < 4)
+HoldsLittle s = (length s < word_size)
     ⊎ ((n : ℕ) × (list : List Ace) × (tail : List ℕ) × (s ≡ (word n ++ flat_map piece list) ++ tail)
-    × (length tail < 16 + longest_who))
+    × (length tail < longest_ace))
 
 -- a feed that answers More holds little beyond whole ACEs
 abbrev pub IsSmall : StreamState → Type 0

@@ -3,6 +3,7 @@ ghost use Rattle.std.specs.Prelude.{◌≡◌, not};
 ghost use Rattle.acl_perm.specs.Bits.{has_bit, inherit_only};
 ghost use Rattle.acl_perm.specs.Principal.{principal};
 
+use crate::who::{EVERYONE_NAME, GROUP_NAME, OWNER_NAME};
 use acl_perm::{Flags, Key, Kind, Mask, Principal};
 
 /// An ACE that borrows its who (RFC 8881, section 6.2.1).
@@ -28,11 +29,11 @@ impl<'a> AceRef<'a> {
     pub fn principal(&self) -> Principal<'a>
         ensures { principal result ≡ principal_of (ace self.now) }
     {
-        if self.who == b"OWNER@".as_slice() {
+        if self.who == OWNER_NAME.as_bytes() {
             Principal::Owner
-        } else if self.who == b"GROUP@".as_slice() {
+        } else if self.who == GROUP_NAME.as_bytes() {
             Principal::Group
-        } else if self.who == b"EVERYONE@".as_slice() {
+        } else if self.who == EVERYONE_NAME.as_bytes() {
             Principal::Everyone
         } else if self.flags.is_group() {
             Principal::GroupNamed(self.who)

@@ -1,9 +1,9 @@
 //! Laws of the bytes and of the texts of lists.
 
-ghost use Rattle.std.specs.Prelude.{◌≡◌, ◌↔◌, ◌<◌, ◌++◌, ◌^◌, ℕ, List, Some, length, take};
+ghost use Rattle.std.specs.Prelude.{◌≡◌, ◌↔◌, ◌<◌, ◌++◌, ℕ, List, Some, length, take};
 ghost use Rattle.std.specs.List.{AllByRecursion, concat};
 ghost use Rattle.acl_nfs4.specs.Ace.{Ace};
-ghost use Rattle.acl_nfs4.specs.Spelling.{Fits, IsAccepted, Xdr, weight};
+ghost use Rattle.acl_nfs4.specs.Spelling.{Fits, IsAccepted, Xdr, weight, word_limit};
 ghost use Rattle.acl_nfs4.specs.Within.{IsProfile};
 ghost use Rattle.acl_perm.specs.Profile.{Profile, full};
 ghost use Rattle.acl_nfs4.specs.Fault.{Border, IsFault, IsFirstFault, IsWholeFault, Stage};
@@ -12,14 +12,14 @@ ghost use Rattle.acl_nfs4.specs.AceTextFault.{IsAceTextFault};
 ghost use Rattle.acl_nfs4.specs.BitNames.{first_name};
 ghost use Rattle.acl_nfs4.specs.Rights.{SpellsMask, rights};
 ghost use Rattle.acl_nfs4.specs.declared.text.fault.AceTextFault.{AceTextFault};
-ghost use Rattle.acl_nfs4.specs.Laws.{BeginsSpelling, pairs_of};
+ghost use Rattle.acl_nfs4.specs.Laws.{BeginsSpelling, FedAsAtOnce, pairs_of};
 ghost use Rattle.acl_nfs4.specs.declared.xdr.fault.Reason.{Reason};
 ghost use Rattle.std.specs.Prelude.{[]};
-ghost use Rattle.acl_nfs4.specs.Stream.{Feeds, FeedsEach, SameOrFails, StreamState, more, together};
+ghost use Rattle.acl_nfs4.specs.Stream.{Feeds, FeedsEach, StreamState, more, together};
 ghost use Rattle.acl_nfs4.specs.declared.feed.fed.Fed.{Fed};
 
 /// No spelling is the beginning of another, and none spells two lists, under each profile.
-#[tactic(auto, using(crate::proofs::xdr::Resume::one))]
+#[tactic(auto, using(crate::proofs::xdr::Resume::one_spelling))]
 pub fn one_spelling()
     ensures { (p : Profile) (a b : List Ace) (s t x y : List ℕ) → IsProfile p → Xdr p a s
         → Xdr p b t
@@ -65,7 +65,7 @@ pub fn one_whole_fault()
 /// The weight of a list is the number of pairs of a place in the list and a bit of the ACE at that place.
 #[tactic(auto, using(crate::proofs::list::Weights::weight_counts))]
 pub fn weight_counts_pairs()
-    ensures { (list : List Ace) → AllByRecursion (λ a. a.mask < 2 ^ 32) list
+    ensures { (list : List Ace) → AllByRecursion (λ a. a.mask < word_limit) list
         → weight list ≡ length (pairs_of list) }
 {}
 
@@ -75,10 +75,7 @@ pub fn any_cutting()
     ensures together { (p : Profile) (pieces : List (List ℕ)) (answers : List Fed)
         (new : StreamState) → FeedsEach (more p []) pieces answers new
         → Feeds (more p []) (concat pieces) (together pieces answers) new }
-    ensures once { (p : Profile) (pieces : List (List ℕ)) (answers : List Fed) (new : StreamState)
-        (once : Fed) (now : StreamState) → IsProfile p → FeedsEach (more p []) pieces answers new
-        → Feeds (more p []) (concat pieces) once now
-        → SameOrFails (together pieces answers) new once now }
+    ensures once { (p : Profile) (pieces : List (List ℕ)) → IsProfile p → FedAsAtOnce p pieces }
 {}
 
 /// The written text of a list spells that list and no other.

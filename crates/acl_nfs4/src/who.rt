@@ -8,6 +8,15 @@ ghost use Rattle.acl_nfs4.specs.Who.{ends_in_at, is_plain, is_special, is_unknow
 use crate::limits::LONGEST_WHO;
 use crate::plain_ascii::{begins_plain_ascii, is_plain_ascii};
 
+/// The special identifier of the owner (RFC 8881, section 6.2.1.5).
+pub const OWNER_NAME: &str = "OWNER@";
+
+/// The special identifier of the owning group.
+pub const GROUP_NAME: &str = "GROUP@";
+
+/// The special identifier of everyone.
+pub const EVERYONE_NAME: &str = "EVERYONE@";
+
 /// Why bytes are not valid as a who, in the order in which this is judged.
 #[derive(Clone, Copy)]
 pub(crate) enum WhoFault {
@@ -117,5 +126,5 @@ fn has_at(who: &[u8]) -> bool
 fn is_special_who(who: &[u8]) -> bool
     ensures { result ≡ is_special who.now }
 {
-    who == b"OWNER@".as_slice() || who == b"GROUP@".as_slice() || who == b"EVERYONE@".as_slice()
+    who == OWNER_NAME.as_bytes() || who == GROUP_NAME.as_bytes() || who == EVERYONE_NAME.as_bytes()
 }

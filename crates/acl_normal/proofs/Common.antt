@@ -50,7 +50,7 @@ pub use Rattle.acl_normal.specs.internal.rows.RowNumbers.{named_at, named_from, 
 pub use Rattle.acl_normal.specs.internal.rows.Rows.{AreRowNumbers, IsByPrincipal, IsRowOf, first_place_of, is_principal_of, key_number, row_of}
 pub use Rattle.acl_normal.specs.internal.comparison.SamePlaces.{ArePlacesOf}
 pub use Rattle.acl_normal.specs.internal.comparison.SetSearch.{FindsFirst, GrantAlikeTo, IsGrantedTo, IsRisingSet, differ, is_granted_to, principals}
-pub use Rattle.acl_normal.specs.internal.Shown.{aces_in, mask_numbers, with_masks}
+pub use Rattle.acl_normal.specs.internal.Shown.{aces_in, aces_with, mask_numbers, with_masks}
 pub use Rattle.acl_normal.specs.internal.comparison.TwoLists.{FindSet, ArePlacingsOf, TwoLists, all_mentioned, two_lists}
 pub use Rattle.acl_perm.proofs.Bools.{and_false_right, same_answers}
 pub use Rattle.acl_perm.proofs.Orders.{key_order, principal_exact, principal_order}

@@ -32,11 +32,11 @@ emitted_counts : (b : ℕ) (e : Emitted) → has_bit e.mask.bits b ≡ true → 
 emitted_counts b e h = rw (h, no_inherit_only (plain_key e.key).0) refl
 
 -- the kind of a principal's key and the place of its first ACE are what the first ACE gives
-placed : (b : ℕ) (p : Principal) (xs : List Ace) (kind : Kind) (source : ℕ)
+first_ace_gives : (b : ℕ) (p : Principal) (xs : List Ace) (kind : Kind) (source : ℕ)
     → kind_in (first_at b p xs) ≡ Some kind
     → ((place : ℕ) → first_place_of b p xs ≡ Some place → source ≡ place)
     → first_at b p xs ≡ Some (kind, source)
-placed b p xs kind source there at = go (first_at b p xs) refl
+first_ace_gives b p xs kind source there at = go (first_at b p xs) refl
   where
     go : (o : Option (Kind × ℕ)) → first_at b p xs ≡ o → first_at b p xs ≡ Some (kind, source)
     go None e = cc (rw e at there)
@@ -56,7 +56,7 @@ one_row b xs e a old new r has key is at own who group more =
       kind = own ∙ ap (λ v. v.kind) is;
       who = who ∙ ap (λ v. v.who) is;
       group = group ∙ ap (λ v. has_bit v.flags identifier_group) is;
-      place = placed b p xs (emitted_ace e).kind r.source (sym (kind_first b p xs) ∙ key (emitted_counts b e has)) at
+      place = first_ace_gives b p xs (emitted_ace e).kind r.source (sym (kind_first b p xs) ∙ key (emitted_counts b e has)) at
           ∙ ap (λ k. Some (k, r.source)) (sym (own ∙ ap (λ v. v.kind) is));
     }) more
   where

@@ -8,3 +8,11 @@ pub mod LaterBits
 pub mod Unneeded
 -- a list with reduced columns is irreducible and grants the same
 pub mod Reducing
+-- loops over ACEs in memory, and what they gather bit by bit
+pub mod Passes
+-- the plain reduction of a column decides alike, and is settled
+pub mod Reduced
+-- the plain reduction takes keys away
+pub mod Shorter
+-- the unshadowed keys of a column decide as the column, and are a clean column
+pub mod Unshadowed

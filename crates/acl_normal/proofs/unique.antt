@@ -58,3 +58,5 @@ pub mod Forming
 pub mod Taken
 -- the five normal forms of a list, and what they say about the list
 pub mod FiveFormLemmas
+-- which ACE comes first: of those that are free somewhere, the one with the least key
+pub mod Candidates

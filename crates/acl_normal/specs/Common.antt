@@ -20,7 +20,7 @@ pub use Rattle.acl_normal.specs.internal.Passes.{KeepsProfiles}
 pub use Rattle.acl_normal.specs.internal.Places.{bit_count, is_blocked, key_here, kind_here, mask_here, principal_here, slot_count, slot_of, waits_before}
 pub use Rattle.acl_normal.specs.internal.Plain.{default, needed_keys, unshadowed}
 pub use Rattle.acl_normal.specs.internal.Reduced.{IsReducedOf, IsThinned}
-pub use Rattle.acl_normal.specs.internal.Shown.{aces_in, mask_numbers, with_masks}
+pub use Rattle.acl_normal.specs.internal.Shown.{aces_in, aces_with, mask_numbers, with_masks}
 pub use Rattle.acl_normal.specs.internal.Tidy.{IsTidy}
 pub use Rattle.acl_normal.specs.internal.comparison.CodeSets.{set_of, set_or_none}
 pub use Rattle.acl_normal.specs.internal.comparison.FirstPlaces.{AreWhoms}

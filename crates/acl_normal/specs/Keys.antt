@@ -5,7 +5,7 @@ use Rattle.std.specs.Str.{bytes_eq}
 use Rattle.std.specs.declared.cmp.Ordering.{Ordering}
 use Rattle.acl_perm.specs.Principal.{Principal, everyone, group, group_named, owner, principal, user}
 use Rattle.acl_perm.specs.Overlap.{may_overlap}
-use Rattle.acl_perm.specs.Order.{Key as Record, key_cmp}
+use Rattle.acl_perm.specs.Order.{Key, key_cmp}
 use Rattle.acl_perm.specs.declared.key.Key.{Key as CodeKey}
 use Rattle.acl_perm.specs.declared.kind.Kind.{Kind}
 use Rattle.acl_perm.specs.declared.kind.Kind.TheVariants.{Allow, Deny}
@@ -41,7 +41,7 @@ abbrev pub conflicts : ColumnKey → ColumnKey → Bool
 conflicts e f = may_overlap e.0 f.0 && not (kind_eq e.1 f.1)
 
 -- the key as a record, as acl_perm orders it
-abbrev pub key_record : ColumnKey → Record
+abbrev pub key_record : ColumnKey → Key
 key_record e = record { principal = e.0; kind = e.1 }
 
 -- keys are ordered as in acl_perm

@@ -1,12 +1,12 @@
 -- What the laws of normal forms say about columns and about spellings (this library's own).
-use Rattle.std.specs.Prelude.{◌≡◌, ◌↔◌, ◌∷◌, ◌++◌, List}
+use Rattle.std.specs.Prelude.{◌≡◌, ◌↔◌, ◌∷◌, ◌++◌, ℕ, true, List}
 use Rattle.acl_perm.specs.Profile.{Profile}
 use Rattle.acl_nfs4.specs.Ace.{Ace}
 use Rattle.acl_nfs4.specs.Spelling.{IsAccepted, spelling}
 use Rattle.acl_nfs4.specs.Within.{IsProfile}
-use Rattle.acl_eval.specs.Column.{Column}
+use Rattle.acl_eval.specs.Column.{Column, column}
 use Rattle.acl_eval.specs.Grant.{SameGrants}
-use Rattle.acl_normal.specs.Keys.{ColumnKey}
+use Rattle.acl_normal.specs.Keys.{ColumnKey, conflicts}
 use Rattle.acl_normal.specs.Normal.{IsNormal}
 use Rattle.acl_normal.specs.NormalForm.{IsNormalFormOf}
 
@@ -22,6 +22,15 @@ pub record Precedes (c : Column) (e f : ColumnKey) : Type 0 where
   pub between : Column
   pub after : Column
   pub is : c ≡ before ++ e ∷ (between ++ f ∷ after)
+
+-- the columns of both lists have the same keys
+abbrev pub HaveSameKeys : List Ace → List Ace → Type 0
+HaveSameKeys list other = (bit : ℕ) (e : ColumnKey) → Has (column list bit) e ↔ Has (column other bit) e
+
+-- the columns of both lists have each two keys that conflict in the same order
+abbrev pub HaveSameOrder : List Ace → List Ace → Type 0
+HaveSameOrder list other = (bit : ℕ) (e f : ColumnKey) → conflicts e f ≡ true
+    → Precedes (column list bit) e f ↔ Precedes (column other bit) e f
 
 -- a normal list that is accepted under the profile and grants the same rights of the profile as the source
 pub record IsForm (p : Profile) (source form : List Ace) : Type 0 where

@@ -3,7 +3,7 @@
 use Rattle.std.specs.Prelude.{⊤, ◌≡◌, ◌≢◌, ℕ, ◌^◌, Bool, false, not, ◌||◌, ◌&&◌, IsTrue, List, [], ◌∷◌, ◌++◌}
 use Rattle.std.specs.List.{AllByRecursion}
 use Rattle.std.specs.Ordering.{is_le}
-use Rattle.acl_perm.specs.Bits.{has_bit, all_rights, inherit_only}
+use Rattle.acl_perm.specs.Bits.{has_bit, all_rights, identifier_group_alone, inherit_only}
 use Rattle.acl_perm.specs.Principal.{Principal, owner, user, group, group_named, everyone}
 use Rattle.acl_nfs4.specs.Ace.{Ace}
 use Rattle.acl_nfs4.specs.Who.{principal_of}
@@ -50,7 +50,7 @@ abbrev pub flags_for : Principal → ℕ
 flags_for owner = 0
 flags_for (user name) = 0
 flags_for group = 0
-flags_for (group_named name) = 0x40
+flags_for (group_named name) = identifier_group_alone
 flags_for everyone = 0
 
 -- each ACE has the flags that its principal needs

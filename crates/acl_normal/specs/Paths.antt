@@ -1,6 +1,6 @@
 -- The lists at a path of creations below a directory (this library's own, over its table of inheritance), and when two
 -- lists agree there.
-use Rattle.std.specs.Prelude.{ℕ, zero, suc, List, [], ◌∷◌}
+use Rattle.std.specs.Prelude.{◌≡◌, ◌≤◌, ℕ, zero, suc, List, [], ◌∷◌}
 use Rattle.std.specs.List.{AllByRecursion}
 use Rattle.acl_nfs4.specs.Ace.{Ace}
 use Rattle.acl_eval.specs.Grant.{SameGrants}
@@ -38,3 +38,8 @@ SameAtFive rights list other = AllByRecursion (SameAt rights list other) five_pa
 -- both lists grant the same at every path
 abbrev pub SameAtEveryPath : ℕ → List Ace → List Ace → Type 0
 SameAtEveryPath rights list other = (path : Path) → SameAt rights list other path
+
+-- below more than one new directory, a new object has the list of its kind below one
+abbrev pub SameFurtherBelow : List Ace → Type 0
+SameFurtherBelow list = (count : ℕ) (kind : ChildKind) → 1 ≤ count
+    → at list (below count kind) ≡ at list (below 1 kind)

@@ -14,6 +14,8 @@ pub mod Plain
 pub mod Reduced
 -- how many keys the columns of a list have
 pub mod Counts
+-- how long lists and slices are, and how great indices
+pub mod Limits
 -- the plain way to the normal form, pass by pass
 pub mod Passes
 -- the lists of the code's ACEs, as plain data

@@ -1,9 +1,9 @@
 //! The table of one right: the ACEs of the normal form that have the right, and where they come from.
 ghost use Rattle.std.specs.Prelude.{◌<◌, ◌≡◌, All, IsOkAnd};
-ghost use Rattle.acl_normal.specs.Common.{[], Ace, ace, all_cleared, AreRowNumbers, emitted_ace, emitted_aces, first_place_of, flags_for, has_bit, IfOk, IsLowest, IsOk, IsTidy, left, length, List, map, mask_numbers, of_borrowed, OnOk, principal_of, Some, AreInRows, vec_len, with_masks, ℕ};
+ghost use Rattle.acl_normal.specs.Common.{[], ace, aces_with, AreRowNumbers, emitted_ace, flags_for, has_bit, IfOk, IsLowest, IsOk, IsTidy, length, map, of_borrowed, OnOk, principal_of, vec_len, ℕ};
 ghost use Rattle.acl_perm.specs.Bits.{identifier_group};
-ghost use Rattle.acl_normal.specs.Tables.{AreRows, IsBorrowedTable, IsTable, of_row, with_bit};
-ghost use Rattle.acl_normal.specs.internal.TableRows.{AddsRow, HasKey, HasFirstPlaces};
+ghost use Rattle.acl_normal.specs.Tables.{IsBorrowedTable, IsTable, of_row};
+ghost use Rattle.acl_normal.specs.internal.TableRows.{AddsRowOfPlace, AreRowsInPlace, AreRowsOfPlaces, HasFirstPlaces};
 
 use crate::emit::emission::{Emitted, normalize_left};
 use crate::emit::rising::rises;
@@ -44,7 +44,7 @@ pub struct BorrowedRow<'a> {
 }
 
 /// Returns the ACEs of a list's normal form that have a right, in the order of the normal form (this library's own,
-/// over RFC 8881, section 6.2.1). If `bit` has several rights, the table is that of the lowest one; if it has none, the
+/// over RFC 8881, section 6.2.1). If `right` has several rights, the table is that of the lowest one; if it has none, the
 /// table is empty. Fails if memory runs out.
 ///
 /// ```rust
@@ -53,12 +53,12 @@ pub struct BorrowedRow<'a> {
 /// assert!(rt; rows.len() == 2);
 /// assert!(rt; rows.first().is_some_and(|row| row.kind == Kind::Deny && row.source == 0));
 /// ```
-pub fn table(alloc: Global, list: &Acl, bit: Mask) -> Result<Vec<Row>, AllocError>
-    ensures rows { IfOk result (λ rows. (b : ℕ) → IsLowest b bit.bits
+pub fn table(alloc: Global, list: &Acl, right: Mask) -> Result<Vec<Row>, AllocError>
+    ensures rows { IfOk result (λ rows. (b : ℕ) → IsLowest b right.bits
         → IsTable b list.now rows.items) }
-    ensures none { bit.bits ≡ 0 → IsOkAnd result (λ rows. rows.items ≡ []) }
+    ensures none { right.bits ≡ 0 → IsOkAnd result (λ rows. rows.items ≡ []) }
 {
-    table_of_view(alloc, &list.view(), bit)
+    table_of_view(alloc, &list.view(), right)
 }
 
 /// Returns the rows of a right of the list of a view, as [`table`] does of an owned list. It does not copy the list.
@@ -144,10 +144,9 @@ fn rows_in_place<'a>(
     right: Bit,
 ) -> Result<Vec<BorrowedRow<'a>>, AllocError>
     requires masks { length masks.now ≡ length aces.now }
-    requires tidy { IsTidy (with_masks aces.now (mask_numbers masks.now)) }
-    ensures { IfOk result (λ rows. AreRows right.bit (with_masks aces.now (mask_numbers masks.now))
-        (with_bit right.bit (all_cleared (left (with_masks aces.now (mask_numbers masks.now)))))
-        (map of_borrowed rows.items)) }
+    requires tidy { IsTidy (aces_with aces.now masks.now) }
+    ensures { IfOk result (λ rows.
+        AreRowsInPlace right.bit (aces_with aces.now masks.now) rows.items) }
 {
     let mut rows = Vec::with_capacity(alloc, aces.len())?;
     for (place, ace) in aces.iter().enumerate() {
@@ -191,11 +190,11 @@ fn places(
     right: Bit,
 ) -> Result<Vec<usize>, AllocError>
     requires masks { length masks.now ≡ length aces.now }
-    requires tidy { IsTidy (with_masks aces.now (mask_numbers masks.now)) }
-    requires rows { AreRowNumbers (with_masks aces.now (mask_numbers masks.now)) rows.now }
+    requires tidy { IsTidy (aces_with aces.now masks.now) }
+    requires rows { AreRowNumbers (aces_with aces.now masks.now) rows.now }
     ensures count { IfOk result (λ places. vec_len places ≡ length aces.now) }
     ensures places { IfOk result (λ places. HasFirstPlaces right.bit
-        (with_masks aces.now (mask_numbers masks.now)) places.items) }
+        (aces_with aces.now masks.now) places.items) }
 {
     let mut places = vec![in alloc; 0; aces.len()]?;
     for (place, mask) in masks.iter().enumerate() {
@@ -214,10 +213,8 @@ fn rows_of<'a>(
     right: Bit,
 ) -> Result<Vec<BorrowedRow<'a>>, AllocError>
     requires { All (λ e. e.row < length places.now) form.now }
-    ensures { IfOk result (λ table. (list : List Ace) → HasFirstPlaces right.bit list places.now
-        → AreInRows list form.now → All (λ e. HasKey right.bit list (emitted_ace e)) form.now
-        → AreRows right.bit list (with_bit right.bit (emitted_aces form.now))
-        (map of_borrowed table.items)) }
+    ensures { IfOk result (λ table.
+        AreRowsOfPlaces right.bit places.now form.now table.items) }
 {
     let mut table = Vec::new(alloc);
     for item in form {
@@ -233,11 +230,8 @@ fn add_row<'a>(
     right: Bit,
     table: &mut Vec<BorrowedRow<'a>>,
 ) -> Result<(), AllocError>
-    ensures { OnOk result ((list : List Ace) → ((first : ℕ)
-        → first_place_of right.bit (principal_of (emitted_ace item.entry)) list ≡ Some first
-        → place ≡ first)
-        → HasKey right.bit list (emitted_ace item.entry)
-        → AddsRow right.bit list (emitted_ace item.entry) table.old.items table.new.items) }
+    ensures { OnOk result (AddsRowOfPlace right.bit place (emitted_ace item.entry)
+        table.old.items table.new.items) }
 {
     if !right.is_in(item.mask) {
         return Ok(());

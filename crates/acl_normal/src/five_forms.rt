@@ -1,13 +1,14 @@
 //! The normal forms of the list of a directory, and of the lists of everything that will ever be created below it.
-ghost use Rattle.std.specs.Prelude.{◌+◌, ◌<◌, ◌^◌, ◌≡◌, ◌≤◌, OnErr};
-ghost use Rattle.acl_normal.specs.Common.{five_spellings, IfOk, IsAccepted, IsNormalFormOf, IsProfile, OnOk, Profile, spelling, ℕ};
+ghost use Rattle.std.specs.Prelude.{◌+◌, ◌<◌, ◌≡◌, OnErr};
+ghost use Rattle.acl_normal.specs.Common.{five_spellings, IfOk, IsAccepted, IsNormalFormOf, IsProfile, OnOk, Profile, spelling};
 ghost use Rattle.acl_perm.specs.Devices.{one_more};
 ghost use Rattle.acl_perm.specs.Pieces.{Writes, WritesFrom};
 ghost use Rattle.acl_eval.specs.Inheritance.{children};
-ghost use Rattle.acl_eval.specs.declared.inherit.ChildKind.{ChildKind as Kind};
 ghost use Rattle.acl_eval.specs.declared.inherit.ChildKind.TheVariants.{Directory, File};
 ghost use Rattle.acl_normal.specs.FiveForms.{AreAccepted, AreFormsOf};
-ghost use Rattle.acl_normal.specs.Paths.{at, below, here};
+ghost use Rattle.acl_normal.specs.Paths.{SameFurtherBelow, at, below, here};
+ghost use Rattle.acl_nfs4.specs.Limits.{spelling_limit};
+ghost use Rattle.acl_normal.specs.internal.Limits.{written_limit};
 
 use crate::normal_form::normalize;
 use acl_eval::{ChildKind, child};
@@ -106,10 +107,10 @@ fn put_forms<K: Sink>(sink: &mut K, forms: &FiveForms) -> Result<u64, WriteFault
 
 // Writes the bytes that spell a list, and returns their number together with the `done` bytes that were written before.
 fn put_list<K: Sink>(sink: &mut K, done: u64, list: &Acl) -> Result<u64, WriteFault>
-    requires { done < 2 ^ 62 }
+    requires { done < written_limit }
     ensures written { WritesFrom (K.contents sink.old) (K.contents sink.new) done
         (spelling list.now) result }
-    ensures small { IfOk result (λ count. count < done + 2 ^ 31) }
+    ensures small { IfOk result (λ count. count < done + spelling_limit) }
     ensures none_failed { OnOk result (K.failure_count sink.new ≡ K.failure_count sink.old) }
     ensures failed { OnErr result (K.failure_count sink.new ≡ one_more (K.failure_count sink.old)) }
 {
@@ -133,7 +134,7 @@ fn put_list<K: Sink>(sink: &mut K, done: u64, list: &Acl) -> Result<u64, WriteFa
 /// assert!(rt; forms.directory.is_empty());
 /// assert!(rt; forms.file_in_directory == forms.file);
 /// ```
-#[tactic(auto, using(crate::proofs::five_forms::Paths::further))]
+#[tactic(auto, using(crate::proofs::five_forms::Paths::same_further_below))]
 pub fn normalize_inherit(alloc: Global, list: &Acl) -> Result<FiveForms, AllocError>
     ensures object { IfOk result (λ forms. IsNormalFormOf (at list.now here) forms.object) }
     ensures file { IfOk result (λ forms. IsNormalFormOf (at list.now (below 0 File)) forms.file) }
@@ -144,8 +145,7 @@ pub fn normalize_inherit(alloc: Global, list: &Acl) -> Result<FiveForms, AllocEr
     ensures directory_in_directory { IfOk result (λ forms.
         IsNormalFormOf (at list.now (below 1 Directory)) forms.directory_in_directory) }
     // Further below, the lists are those one directory below.
-    ensures further { (count : ℕ) (kind : Kind) → 1 ≤ count
-        → at list.now (below count kind) ≡ at list.now (below 1 kind) }
+    ensures further { SameFurtherBelow list.now }
     // Under each profile under which the list is accepted, each of the five is accepted.
     ensures accepted { IfOk result (λ forms. (p : Profile) → IsProfile p → IsAccepted p list.now
         → AreAccepted p forms) }

@@ -1,28 +1,25 @@
 //! Laws of normal forms.
 
 ghost use Rattle.std.specs.Prelude.{◌↔◌, ◌≡◌};
-ghost use Rattle.acl_normal.specs.Common.{Ace, all_rights, column, false, five_spellings, has_bit, IsIrreducibleList, IsNormal, IsProfile, List, Normalizes, Profile, SameGrants, true, ℕ};
+ghost use Rattle.acl_normal.specs.Common.{Ace, all_rights, false, five_spellings, has_bit, IsIrreducibleList, IsNormal, IsProfile, List, Normalizes, Profile, SameGrants, ℕ};
 ghost use Rattle.acl_perm.specs.Situation.{Situation};
 ghost use Rattle.acl_nfs4.specs.Spelling.{Fits, Xdr};
 ghost use Rattle.acl_eval.specs.Grant.{grants_bit};
-ghost use Rattle.acl_normal.specs.Keys.{ColumnKey, conflicts};
 ghost use Rattle.acl_normal.specs.FiveForms.{AreSpelledAlike, TellApart};
-ghost use Rattle.acl_normal.specs.Laws.{Has, IsFormOfAccepted, IsForm, Precedes, SpellingsTellApart};
+ghost use Rattle.acl_normal.specs.Laws.{HaveSameKeys, HaveSameOrder, IsForm, IsFormOfAccepted, SpellingsTellApart};
 ghost use Rattle.acl_normal.specs.Paths.{SameAtEveryPath, SameAtFive};
 ghost use Rattle.acl_normal.specs.SmallSets.{SmallSituationsSuffice};
 
 /// In irreducible lists that grant the same, each principal has the same rights, with the same kinds.
 pub fn same_bits()
     ensures { (list other : List Ace) → IsIrreducibleList list → IsIrreducibleList other
-        → SameGrants all_rights list other → (bit : ℕ) (e : ColumnKey)
-        → Has (column list bit) e ↔ Has (column other bit) e }
+        → SameGrants all_rights list other → HaveSameKeys list other }
 {}
 
 /// In irreducible lists that grant the same, each two conflicting keys of a right are in the same order.
 pub fn same_order()
     ensures { (list other : List Ace) → IsIrreducibleList list → IsIrreducibleList other
-        → SameGrants all_rights list other → (bit : ℕ) (e f : ColumnKey) → conflicts e f ≡ true
-        → Precedes (column list bit) e f ↔ Precedes (column other bit) e f }
+        → SameGrants all_rights list other → HaveSameOrder list other }
 {}
 
 /// Normal lists that grant the same are equal.

@@ -10,6 +10,7 @@ mod five_forms;
 pub mod laws;
 mod merged;
 mod normal_form;
+#[cfg(test)]
 pub mod plain;
 mod reduce;
 mod row_lines;

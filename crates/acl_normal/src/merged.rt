@@ -1,10 +1,11 @@
 //! The rows of a list that was emitted in part, with the places that wait as sets.
-ghost use Rattle.std.specs.Prelude.{◌<◌, ◌^◌, ◌||◌, ◌↔◌, ◌≡◌, ◌≤◌, None};
-ghost use Rattle.acl_normal.specs.Common.{all_rights, column, false, has_bit, IfOk, is_blocked, is_free, is_users, IsIrreducibleList, IsLowest, IsRowOf, IsTrue, left, nat_cmp, nothing_left, option_map, principal, SameGrants, Some, take_out, true, waits_before, ℕ};
+ghost use Rattle.std.specs.Prelude.{◌^◌, ◌||◌, ◌↔◌, ◌≡◌, None};
+ghost use Rattle.acl_normal.specs.Common.{all_rights, column, false, has_bit, IfOk, is_free, is_users, IsIrreducibleList, IsLowest, IsRowOf, IsTrue, left, nat_cmp, nothing_left, option_map, principal, SameGrants, Some, take_out, true, ℕ};
 ghost use Rattle.std.specs.BTreeSet.{contains};
 ghost use Rattle.acl_perm.specs.declared.kind.Kind.TheVariants.{Deny, Allow};
 ghost use Rattle.acl_normal.specs.Left.{HasFree, KeepsFirsts};
 ghost use Rattle.acl_normal.specs.Places.{waits};
+ghost use Rattle.acl_normal.specs.internal.Places.{IsBlockedPast, IsClearTo, NoneWaitsTo, SomeWaitsPast};
 
 use crate::bits::{alone, next_right};
 use crate::class::Class;
@@ -140,10 +141,8 @@ impl<'a> MergedRows<'a> {
     /// Returns the last place at which no waiting ACE before the place conflicts with an ACE of a kind and a class on a
     /// right.
     fn last_clear(&self, kind: Kind, class: Class, right: Bit) -> usize
-        ensures clear { (place : ℕ) → place ≤ result
-            → is_blocked kind (is_users class) right.bit self.now place ≡ false }
-        ensures blocked { (place : ℕ) → result < place → place < 2 ^ 64
-            → is_blocked kind (is_users class) right.bit self.now place ≡ true }
+        ensures clear { IsClearTo kind (is_users class) right.bit self.now result }
+        ensures blocked { IsBlockedPast kind (is_users class) right.bit self.now result }
     {
         let others = self.first_waiting(kind.other(), Class::Others, right);
         match class {
@@ -157,10 +156,8 @@ impl<'a> MergedRows<'a> {
 
     /// Returns the first place that waits in a kind and a class with a right, or the greatest number if none waits.
     fn first_waiting(&self, kind: Kind, class: Class, right: Bit) -> usize
-        ensures before { (place : ℕ) → place ≤ result
-            → waits_before kind (is_users class) right.bit self.now place ≡ false }
-        ensures behind { (place : ℕ) → result < place → place < 2 ^ 64
-            → waits_before kind (is_users class) right.bit self.now place ≡ true }
+        ensures before { NoneWaitsTo kind (is_users class) right.bit self.now result }
+        ensures behind { SomeWaitsPast kind (is_users class) right.bit self.now result }
     {
         match self.waiting_at(kind, class, right).first() {
             Some(place) => *place,

@@ -1,5 +1,5 @@
 //! The normal form of a list of ACEs.
-ghost use Rattle.std.specs.Prelude.{◌<◌, ◌↔◌, ◌≡◌, ◌⊎◌, Err, IfErr};
+ghost use Rattle.std.specs.Prelude.{◌↔◌, ◌≡◌, ◌⊎◌, Err, IfErr};
 ghost use Rattle.acl_normal.specs.Common.{[], Ace, ace, emitted_ace, emitted_aces, flags_for, full, IfOk, IsAccepted, IsNormal, IsNormalFormOf, IsOk, IsTrue, List, Normalizes, principal, spelling, ℕ};
 ghost use Rattle.acl_perm.specs.Profile.{profile_of};
 ghost use Rattle.acl_nfs4.specs.Fault.{IsWholeFault};
@@ -11,6 +11,7 @@ use crate::emit::emission::{Emitted, normalize_left};
 use crate::emit::rising::{cleared, rises};
 use crate::reduce::reduced_list;
 use crate::rows::remaining::Remaining;
+use acl_nfs4::internal::{EVERYONE_NAME, GROUP_NAME, OWNER_NAME};
 use acl_nfs4::{AceRef, Acl, AclView, Fault, Reason};
 use acl_perm::{Flags, Principal, Profile};
 use std::alloc::{AllocError, Global};
@@ -153,9 +154,9 @@ fn who_of<'a>(p: Principal<'a>) -> &'a [u8]
     ensures { result.now ≡ who_for (principal p.entry) }
 {
     match p {
-        Principal::Owner => b"OWNER@".as_slice(),
+        Principal::Owner => OWNER_NAME.as_bytes(),
         Principal::User(name) | Principal::GroupNamed(name) => name,
-        Principal::Group => b"GROUP@".as_slice(),
-        Principal::Everyone => b"EVERYONE@".as_slice(),
+        Principal::Group => GROUP_NAME.as_bytes(),
+        Principal::Everyone => EVERYONE_NAME.as_bytes(),
     }
 }

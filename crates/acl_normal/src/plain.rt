@@ -1,5 +1,5 @@
-//! The normal form and the comparison in a plain way, with which tests compare the fast functions: each ACE is compared
-//! with all others, and all small situations are tried.
+//! The normal form and the comparison in a plain way, with which the tests compare the fast functions: each ACE is
+//! compared with all others, and all small situations are tried. The module is compiled only with the tests.
 
 ghost use Rattle.acl_normal.specs.Common.{aces_in, full, IfOk, IsAccepted, IsNormalFormOf};
 ghost use Rattle.acl_normal.specs.internal.Passes.{IsPlainReduction};

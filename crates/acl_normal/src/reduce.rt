@@ -1,6 +1,8 @@
 //! A list without the rights that play no part.
-ghost use Rattle.std.specs.Prelude.{◌<◌, ◌^◌, ◌≡◌};
-ghost use Rattle.acl_normal.specs.Common.{aces_in, AreRowNumbers, full, IfOk, IsAccepted, IsNumbered, IsReducedOf, length, mask_numbers, vec_len, with_masks};
+ghost use Rattle.std.specs.Prelude.{◌<◌, ◌≡◌};
+ghost use Rattle.acl_normal.specs.Common.{aces_in, aces_with, AreRowNumbers, full, IfOk, IsAccepted, IsReducedOf, length, vec_len};
+ghost use Rattle.acl_normal.specs.internal.Limits.{list_limit};
+ghost use Rattle.acl_normal.specs.internal.rows.Remaining.{HasNumbers, reduced_aces};
 
 pub(crate) mod collected;
 mod first;
@@ -24,13 +26,10 @@ pub(crate) fn remaining<'a>(alloc: Global, list: &AclView<'a>) -> Result<Remaini
 
 /// Returns the list without the rights that no situation needs, with the rows of its principals.
 pub(crate) fn reduced_list<'a>(alloc: Global, list: &AclView<'a>) -> Result<Reduced<'a>, AllocError>
-    ensures few { IfOk result (λ r. vec_len r.aces < 2 ^ 32) }
+    ensures few { IfOk result (λ r. vec_len r.aces < list_limit) }
     ensures places { IfOk result (λ r. vec_len r.masks ≡ vec_len r.aces) }
-    ensures rows { IfOk result (λ r.
-        IsNumbered (with_masks r.aces.items (mask_numbers r.masks.items))
-        r.numbers.rows.items r.numbers.order.items) }
-    ensures left { IfOk result (λ r.
-        IsReducedOf list.now (with_masks r.aces.items (mask_numbers r.masks.items))) }
+    ensures rows { IfOk result HasNumbers }
+    ensures left { IfOk result (λ r. IsReducedOf list.now (reduced_aces r)) }
 {
     let aces = collect(alloc, list)?;
     let numbers = row_numbers(alloc, &aces)?;
@@ -52,7 +51,7 @@ fn reduced_masks(
     requires rows { AreRowNumbers (aces_in aces.now) numbers.now.rows.items }
     ensures places { IfOk result (λ masks. vec_len masks ≡ length aces.now) }
     ensures reduced { IfOk result (λ masks. IsReducedOf (aces_in aces.now)
-        (with_masks aces.now (mask_numbers masks.items))) }
+        (aces_with aces.now masks.items)) }
 {
     let mut masks = first_masks(alloc, aces, &numbers.rows)?;
     drop_needless(aces, &mut masks);

@@ -29,8 +29,8 @@ place p xs =
     ]
 
 -- what a result of `position` says, by its value
-pub said : (p : ℕ → Bool) (xs : List ℕ) (r value : Option ℕ) → r ≡ position p xs → r ≡ value → Says p xs value
-said p xs r value found is = subst (Says p xs) (sym found ∙ is) (place p xs)
+pub says_value : (p : ℕ → Bool) (xs : List ℕ) (r value : Option ℕ) → r ≡ position p xs → r ≡ value → Says p xs value
+says_value p xs r value found is = subst (Says p xs) (sym found ∙ is) (place p xs)
 
 -- a list without a separator is one part
 pub split_none : (p : ℕ → Bool) (xs : List ℕ) → position_or_len p xs ≡ length xs → slice_split p xs ≡ xs ∷ []

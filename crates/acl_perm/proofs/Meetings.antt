@@ -16,6 +16,10 @@ use Rattle.acl_perm.specs.Overlap.{Overlap, may_overlap}
 pub itself : (name : List ℕ) → bytes_eq name name ≡ true
 itself name = (bytes_eq-Decides name name).1 refl
 
+-- names that the test finds equal are equal
+pub bytes_eq_same : (a b : List ℕ) → bytes_eq a b ≡ true → a ≡ b
+bytes_eq_same a b = (bytes_eq-Decides a b).0
+
 -- the name of the user, if one of the two principals is a user
 common_user : Principal → Principal → List ℕ
 common_user owner q = principal_name q
@@ -85,8 +89,8 @@ overlap_is p q = (λ h. (meeting p q, meets_first p q, meets_second p q h), λ o
 -- ---- an answer by cases
 
 -- an answer that equals the test by cases says whether two principals overlap
-pub means : (p q : Principal) (answer : Bool) → answer ≡ may_overlap p q → IsTrue answer ↔ Overlap p q
-means p q answer e = rw e (overlap_is p q)
+pub answer_is_overlap : (p q : Principal) (answer : Bool) → answer ≡ may_overlap p q → IsTrue answer ↔ Overlap p q
+answer_is_overlap p q answer e = rw e (overlap_is p q)
 
 -- for two users, the test by cases compares their names
 pub two_users : (p q : PrincipalRef) (name other : Bor (List ℕ)) (answer : Bool) → p ≡ code.User name

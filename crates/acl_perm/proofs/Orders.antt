@@ -15,6 +15,7 @@ use Rattle.acl_perm.specs.Order.{principal_rank, principal_name, principal_cmp, 
 use Rattle.acl_perm.specs.internal.Totality.{key_total, principal_total}
 use Rattle.acl_perm.specs.internal.FedAlike.{then_equal, is_equal}
 pub use Rattle.acl_perm.specs.internal.FedAlike.{principal_exact}
+use Rattle.acl_perm.specs.Kind.{is_allow}
 use Rattle.acl_perm.specs.declared.kind.Kind.{Kind}
 use Rattle.acl_perm.specs.declared.kind.Kind.TheVariants.{Deny, Allow}
 
@@ -35,6 +36,13 @@ pub same_kind : (j k : Kind) → kind_rank j ≡ kind_rank k → j ≡ k
 same_kind Deny Deny h = refl
 same_kind Allow Allow h = refl
 same_kind _ _ h = absurd (omega (arith, h))
+
+-- kinds that both allow, or both deny, are the same
+pub kinds_alike : (j k : Kind) → is_allow j ≡ is_allow k → j ≡ k
+kinds_alike Deny Deny h = refl
+kinds_alike Allow Allow h = refl
+kinds_alike Deny Allow h = absurd cc
+kinds_alike Allow Deny h = absurd cc
 
 -- keys that compare equal are the same
 key_exact : (k l : Key) → key_cmp k l ≡ Equal → k ≡ l

@@ -1,9 +1,10 @@
 -- A text that is written in pieces, after some of them are written.
-use Rattle.std.proofs.Common.{◌≡◌, ◌∙◌, ◌+◌, ◌-◌, ◌^◌, ◌<◌, ◌≤◌, ◌++◌, ℕ, List, [], Option, None, Some, Result, Ok, Err, length, take, arith, refl, ap, sym, subst, append_assoc, append-nil, length-append}
+use Rattle.std.proofs.Common.{◌≡◌, ◌∙◌, ◌+◌, ◌-◌, ◌<◌, ◌≤◌, ◌++◌, ℕ, List, [], Option, None, Some, Result, Ok, Err, length, take, arith, refl, ap, sym, subst, append_assoc, append-nil, length-append}
 use Rattle.std.proofs.Math.Seq.{take-append-add}
 use Rattle.std.proofs.lemmas.List.{take-append-le}
 use Rattle.std.proofs.KnownBytes.{Appends-trans}
 use Rattle.std.specs.Io.KnownBytes.{Appends}
+use Rattle.acl_perm.specs.Counts.{count_limit}
 use Rattle.acl_perm.specs.Pieces.{WritesFrom}
 use Rattle.acl_perm.specs.declared.whole.WriteFault.{WriteFault}
 
@@ -40,9 +41,9 @@ under_whole p piece rest whole start done k at e under =
     omega (arith, n, length-append piece rest)
 
 -- the count of the bytes that are out is still right after one more piece
-pub grown : (p piece : List ℕ) (start done more : ℕ) → done ≡ start + length p → more ≡ done + length piece
+pub count_grown : (p piece : List ℕ) (start done more : ℕ) → done ≡ start + length p → more ≡ done + length piece
     → more ≡ start + length (p ++ piece)
-grown p piece start done more at e = let n = length-append p piece in omega (arith, n)
+count_grown p piece start done more at e = let n = length-append p piece in omega (arith, n)
 
 -- ---- lines one after the other
 
@@ -63,12 +64,12 @@ pub out_none : (start : ℕ) (held : Option (List ℕ)) (whole rest : List ℕ) 
     → IsOut start start held held whole rest
 out_none start held whole rest e = record { front = []; count = omega arith; known = appends_none held; order = e }
 
--- the next line ends below 2 ^ 64
-pub next_fits : (start done : ℕ) (held holds : Option (List ℕ)) (whole rest line more : List ℕ)
-    → IsOut start done held holds whole rest → rest ≡ line ++ more → start + length whole < 2 ^ 64
-    → done + length line < 2 ^ 64
-next_fits start done held holds whole rest line more h e fits =
-    piece_fits h.front line more whole start done (2 ^ 64) h.count (h.order ∙ ap (λ (xs : List ℕ). h.front ++ xs) e)
+-- the number of bytes that are out with the next line is a count
+pub next_fits : {start done : ℕ} {held holds : Option (List ℕ)} {whole rest : List ℕ} (line more : List ℕ)
+    → IsOut start done held holds whole rest → rest ≡ line ++ more → start + length whole < count_limit
+    → done + length line < count_limit
+next_fits {start} {done} {whole} line more h e fits =
+    piece_fits h.front line more whole start done count_limit h.count (h.order ∙ ap (λ (xs : List ℕ). h.front ++ xs) e)
     fits
 
 -- if the next line went out, a longer front of the whole is out
@@ -79,7 +80,7 @@ out_more start done count a b c whole rest line more h e n put =
     let order = h.order ∙ ap (λ (xs : List ℕ). h.front ++ xs) e in
     record {
       front = h.front ++ line;
-      count = grown h.front line start done count h.count n;
+      count = count_grown h.front line start done count h.count n;
       known = Appends-trans a b c h.front line h.known put;
       order = moved_on h.front line more whole order;
     }

@@ -7,21 +7,21 @@ use Rattle.acl_perm.specs.Bits.{has_bit}
 use Rattle.acl_perm.specs.internal.RightsLeft.{rights_from}
 
 -- the rights from a bit on are the bit, if the mask has it, and the rights from the next bit on
-split : (m f : ℕ) → f < 21
+rights_from-step : (m f : ℕ) → f < 21
     → rights_from m f ≡ cond (has_bit m f) (f ∷ rights_from m (f + 1)) (rights_from m (f + 1))
-split m f lt =
+rights_from-step m f lt =
     let one_more : 21 - f ≡ suc (21 - (f + 1)) = omega (arith, lt) in
     ap (λ (n : ℕ). filter (has_bit m) (range_with_len f n)) one_more
 
 -- a bit that the mask has is the first that is left
 pub left_first : (m f : ℕ) → f < 21 → has_bit m f ≡ true → rights_from m f ≡ f ∷ rights_from m (f + 1)
 left_first m f lt h =
-    split m f lt ∙ ap (λ (b : Bool). cond b (f ∷ rights_from m (f + 1)) (rights_from m (f + 1))) h
+    rights_from-step m f lt ∙ ap (λ (b : Bool). cond b (f ∷ rights_from m (f + 1)) (rights_from m (f + 1))) h
 
 -- a bit that the mask lacks is passed over
 pub left_passed : (m f : ℕ) → f < 21 → has_bit m f ≡ false → rights_from m f ≡ rights_from m (f + 1)
 left_passed m f lt h =
-    split m f lt ∙ ap (λ (b : Bool). cond b (f ∷ rights_from m (f + 1)) (rights_from m (f + 1))) h
+    rights_from-step m f lt ∙ ap (λ (b : Bool). cond b (f ∷ rights_from m (f + 1)) (rights_from m (f + 1))) h
 
 -- after the highest bit nothing is left
 pub left_none : (m f : ℕ) → 21 ≤ f → rights_from m f ≡ []

@@ -7,7 +7,7 @@ use Rattle.std.proofs.lemmas.Bool.{cases_eq, cases_lt, false≢true, eqb-true, e
 use Rattle.std.proofs.lemmas.Nat.{and_le_r, and_le_l, or_lt, pow_below}
 use Rattle.std.proofs.lemmas.Nat.Bits.{and_pow, bit_at-lt, bit_at-pow_other, bit_at_and, bit_at_or, bit_at_not, bit_at_above, bit_at-zero, bit_at-trailing_zeros, same_from_bits}
 use Rattle.acl_perm.proofs.Bools.{and_true, or_true}
-use Rattle.acl_perm.specs.Bits.{has_bit, all_mode_bits, all_rights, IsMask, IsSubset, IsUnion, IsIntersection, IsDifference}
+use Rattle.acl_perm.specs.Bits.{has_bit, all_mode_bits, all_rights, IsMask, IsPerm, IsSubset, IsUnion, IsIntersection, IsDifference}
 
 -- a set of rights is a number of 32 bits
 pub IsMask-lt : (n : ℕ) → IsMask n → n < 2 ^ 32
@@ -16,26 +16,26 @@ IsMask-lt n is = let le : n ≤ 0x001f07ff = rw (← is) (and_le_r n 0x001f07ff)
 -- ---- the bits of what the operations give
 
 -- the lesser of two binary digits is 1 if and only if both are 1
-both : (d e : ℕ) → d < 2 → e < 2 → eqb (min d e) 1 ≡ (eqb d 1 && eqb e 1)
-both d e dl el = grind arith
+min_is_one : (d e : ℕ) → d < 2 → e < 2 → eqb (min d e) 1 ≡ (eqb d 1 && eqb e 1)
+min_is_one d e dl el = grind arith
 
 -- the greater of two binary digits is 1 if and only if one of them is 1
-either : (d e : ℕ) → d < 2 → e < 2 → eqb (max d e) 1 ≡ (eqb d 1 || eqb e 1)
-either d e dl el = grind arith
+max_is_one : (d e : ℕ) → d < 2 → e < 2 → eqb (max d e) 1 ≡ (eqb d 1 || eqb e 1)
+max_is_one d e dl el = grind arith
 
 -- 1 less a binary digit is 1 if and only if the digit is not 1
-turned : (e : ℕ) → e < 2 → eqb (1 - e) 1 ≡ not (eqb e 1)
-turned e el = grind arith
+complement_is_one : (e : ℕ) → e < 2 → eqb (1 - e) 1 ≡ not (eqb e 1)
+complement_is_one e el = grind arith
 
 -- the intersection of two numbers has a bit if and only if both have it
 pub has_bit-and : (m n k : ℕ) → has_bit (bit_and m n) k ≡ (has_bit m k && has_bit n k)
 has_bit-and m n k =
-    ap (λ (d : ℕ). eqb d 1) (bit_at_and m n k) ∙ both (bit_at m k) (bit_at n k) (bit_at-lt m k) (bit_at-lt n k)
+    ap (λ (d : ℕ). eqb d 1) (bit_at_and m n k) ∙ min_is_one (bit_at m k) (bit_at n k) (bit_at-lt m k) (bit_at-lt n k)
 
 -- the union of two numbers has a bit if and only if one of them has it
 pub has_bit-or : (m n k : ℕ) → has_bit (bit_or m n) k ≡ (has_bit m k || has_bit n k)
 has_bit-or m n k =
-    ap (λ (d : ℕ). eqb d 1) (bit_at_or m n k) ∙ either (bit_at m k) (bit_at n k) (bit_at-lt m k) (bit_at-lt n k)
+    ap (λ (d : ℕ). eqb d 1) (bit_at_or m n k) ∙ max_is_one (bit_at m k) (bit_at n k) (bit_at-lt m k) (bit_at-lt n k)
 
 -- a number has no bit past its width
 pub has_bit-above : (w : Width) (n k : ℕ) → n < 2 ^ bits w → bits w ≤ k → has_bit n k ≡ false
@@ -49,21 +49,21 @@ has_bit-clear w m n k ml nl =
       | inl lt ↦
           has_bit-and m (bit_not w n) k
           ∙ ap (λ (b : Bool). has_bit m k && b)
-          (ap (λ (d : ℕ). eqb d 1) (bit_at_not w n k nl lt) ∙ turned (bit_at n k) (bit_at-lt n k))
+          (ap (λ (d : ℕ). eqb d 1) (bit_at_not w n k nl lt) ∙ complement_is_one (bit_at n k) (bit_at-lt n k))
       | inr le ↦ has_bit-and m (bit_not w n) k ∙ rw (has_bit-above w m k ml le) refl
     ]
 
 -- ---- sets of rights
 
 -- if one binary digit is 1 only where another one is, it is the lesser of the two
-least : (d e : ℕ) → d < 2 → e < 2 → (eqb d 1 ≡ true → eqb e 1 ≡ true) → min d e ≡ d
-least d e dl el h = grind arith
+min_is_left : (d e : ℕ) → d < 2 → e < 2 → (eqb d 1 ≡ true → eqb e 1 ≡ true) → min d e ≡ d
+min_is_left d e dl el h = grind arith
 
 -- a number whose bits are all rights is a set of rights
 pub mask_from_bits : (n : ℕ) → ((k : ℕ) → has_bit n k ≡ true → has_bit all_rights k ≡ true) → IsMask n
 mask_from_bits n h = same_from_bits (bit_and n all_rights) n (λ k.
     bit_at_and n all_rights k
-    ∙ least (bit_at n k) (bit_at all_rights k) (bit_at-lt n k) (bit_at-lt all_rights k) (h k))
+    ∙ min_is_left (bit_at n k) (bit_at all_rights k) (bit_at-lt n k) (bit_at-lt all_rights k) (h k))
 
 -- a set of rights has no other bit
 pub bits_from_mask : (n k : ℕ) → IsMask n → has_bit n k ≡ true → has_bit all_rights k ≡ true
@@ -109,12 +109,12 @@ right_alone b h = mask_from_bits (2 ^ b) (λ k e.
 -- ---- one set by its bits
 
 -- binary digits are equal if both are 1 or neither is
-digits : (d e : ℕ) → d < 2 → e < 2 → eqb d 1 ≡ eqb e 1 → d ≡ e
-digits d e dl el h = grind arith
+same_digit : (d e : ℕ) → d < 2 → e < 2 → eqb d 1 ≡ eqb e 1 → d ≡ e
+same_digit d e dl el h = grind arith
 
 -- two numbers that both have a bit, or both lack it, have the same digit there
 same_bit : (m n k : ℕ) → has_bit m k ≡ has_bit n k → bit_at m k ≡ bit_at n k
-same_bit m n k e = digits (bit_at m k) (bit_at n k) (bit_at-lt m k) (bit_at-lt n k) e
+same_bit m n k e = same_digit (bit_at m k) (bit_at n k) (bit_at-lt m k) (bit_at-lt n k) e
 
 -- two sets with the same bits are equal
 pub same_set : (m n : ℕ) → ((k : ℕ) → has_bit m k ≡ has_bit n k) → m ≡ n
@@ -133,17 +133,17 @@ some_bit n lt ne =
 -- ---- the test of a subset
 
 -- two tests together are the second one if the second implies the first
-narrower : (x y : Bool) → (y ≡ true → x ≡ true) → (x && y) ≡ y
-narrower true y h = refl
-narrower false true h = absurd (false≢true (h refl))
-narrower false false h = refl
+and_is_right : (x y : Bool) → (y ≡ true → x ≡ true) → (x && y) ≡ y
+and_is_right true y h = refl
+and_is_right false true h = absurd (false≢true (h refl))
+and_is_right false false h = refl
 
 -- the intersection of two sets is the second set if and only if that is a part of the first
 pub subset : (m n : ℕ) → (bit_and m n ≡ n) ↔ IsSubset n m
 subset m n = (
   λ e k h.
       (and_true (has_bit m k) (has_bit n k) (sym (has_bit-and m n k) ∙ ap (λ (x : ℕ). has_bit x k) e ∙ h)).0,
-  λ h. same_set (bit_and m n) n (λ k. has_bit-and m n k ∙ narrower (has_bit m k) (has_bit n k) (h k)),
+  λ h. same_set (bit_and m n) n (λ k. has_bit-and m n k ∙ and_is_right (has_bit m k) (has_bit n k) (h k)),
 )
 
 -- the test of the intersection holds if and only if the second set is a part of the first
@@ -163,14 +163,14 @@ bit_test n k p e pos =
     ∙ by_digit (bit_at n k) (2 ^ k) (bit_at-lt n k) (omega (arith, e))
 
 -- a number has a bit in common with 8 if and only if it has bit 3
-pub third : (n : ℕ) → not (eqb (bit_and n 8) 0) ≡ has_bit n 3
-third n = bit_test n 3 8 refl (omega arith)
+pub inherit_only_test : (n : ℕ) → not (eqb (bit_and n 8) 0) ≡ has_bit n 3
+inherit_only_test n = bit_test n 3 8 refl (omega arith)
 
 -- a number has a bit in common with 64 if and only if it has bit 6
-pub sixth : (n : ℕ) → not (eqb (bit_and n 64) 0) ≡ has_bit n 6
-sixth n = bit_test n 6 64 refl (omega arith)
+pub identifier_group_test : (n : ℕ) → not (eqb (bit_and n 64) 0) ≡ has_bit n 6
+identifier_group_test n = bit_test n 6 64 refl (omega arith)
 
-pub ruleset flag_tests = (third, sixth)
+pub ruleset flag_tests = (inherit_only_test, identifier_group_test)
 
 -- ---- what each type's operations need
 
@@ -195,7 +195,7 @@ pub mask_difference : (m n : ℕ) → IsMask m → IsMask n → IsDifference m n
 mask_difference m n p q k = has_bit-clear w32 m n k (IsMask-lt m p) (IsMask-lt n q)
 
 -- the union of two sets of permissions is a set of permissions
-pub perm_union : (m n : ℕ) → m < 8 → n < 8 → bit_or m n < 8
+pub perm_union : (m n : ℕ) → IsPerm m → IsPerm n → IsPerm (bit_or m n)
 perm_union m n p q = or_lt 3 m n p q
 
 -- the union of two modes is a mode

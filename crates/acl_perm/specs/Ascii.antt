@@ -25,6 +25,10 @@ comma = 0x2c
 abbrev pub hyphen : ℕ
 hyphen = 0x2d
 
+-- `0`
+abbrev pub zero_digit : ℕ
+zero_digit = 0x30
+
 -- `:`
 abbrev pub colon : ℕ
 colon = 0x3a

@@ -1,6 +1,6 @@
 -- Sets of bits, as numbers (this library's own; the sets of all rights and of all flags are of RFC 8881, sections
 -- 6.2.1.3.1 and 6.2.1.4).
-use Rattle.std.specs.Prelude.{◌≡◌, ℕ, ◌≤◌, bit_and, Bool, List, filter, ◌==◌, ◌&&◌, ◌||◌, not, IsTrue}
+use Rattle.std.specs.Prelude.{◌≡◌, ℕ, ◌<◌, ◌≤◌, ◌^◌, bit_and, Bool, List, filter, ◌==◌, ◌&&◌, ◌||◌, not, IsTrue}
 use Rattle.std.specs.Int.{bit_at}
 use Rattle.std.specs.List.{range_with_len}
 
@@ -27,6 +27,10 @@ IsSubset part whole = (k : ℕ) → IsTrue (has_bit part k) → IsTrue (has_bit 
 -- the permissions read, write and execute together (POSIX.1e draft 17, section 23.1.2)
 abbrev pub all_permissions : ℕ
 all_permissions = 7
+
+-- a set of permissions: a number of three bits
+abbrev pub IsPerm : ℕ → Type 0
+IsPerm n = n < 2 ^ 3
 
 -- the nine file mode bits together (POSIX.1e draft 17, section 23.1.3)
 abbrev pub all_mode_bits : ℕ
@@ -59,3 +63,7 @@ inherit_only = 3
 -- the bit of the flag IDENTIFIER_GROUP (RFC 8881, section 6.2.1.4.1)
 abbrev pub identifier_group : ℕ
 identifier_group = 6
+
+-- the flag IDENTIFIER_GROUP alone
+abbrev pub identifier_group_alone : ℕ
+identifier_group_alone = 0x40

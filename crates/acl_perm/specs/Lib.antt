@@ -1,4 +1,5 @@
 pub mod Ascii
+pub mod Counts
 pub mod Bits
 pub mod Numbers
 pub mod Kind

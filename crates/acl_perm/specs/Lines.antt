@@ -6,6 +6,7 @@ use Rattle.std.specs.List.{slice_split, list_all, before_first, position_or_len}
 use Rattle.acl_perm.specs.Ascii.{space, tab}
 -- the byte that ends a line
 pub use Rattle.acl_perm.specs.Ascii.{line_feed}
+use Rattle.acl_perm.specs.Counts.{count_limit}
 use Rattle.acl_perm.specs.declared.lines.Piece.{Piece}
 
 -- the lines of a text; the part after the last line feed is a line too
@@ -20,6 +21,10 @@ pub record Span : Type 0 where
 -- the bytes and the column of a piece
 abbrev pub span_of : Piece → Span
 span_of piece = record { column = piece.column; bytes = piece.bytes.now }
+
+-- the columns of the bytes of a piece, and of the byte after them, are counts
+abbrev pub ColumnsFit : Piece → Type 0
+ColumnsFit piece = piece.column + length piece.bytes.now < count_limit
 
 -- parts one after the other, with one byte between two of them
 abbrev pub spans : ℕ → List (List ℕ) → List Span

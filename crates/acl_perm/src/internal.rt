@@ -2,6 +2,7 @@
 
 pub use crate::bit::Bit;
 pub use crate::bit_names::{BitName, first_name};
+pub use crate::kind::kind_name;
 pub use crate::lines::{Piece, before_mark, cut_line, is_all_blank, trimmed};
 pub use crate::pieces::put_next;
 pub use crate::place::place_of;

@@ -1,7 +1,8 @@
 //! The two kinds of an NFSv4 ACE.
-ghost use Rattle.std.specs.Prelude.{◌≡◌, Some};
+ghost use Rattle.std.specs.Prelude.{◌≡◌, ◌≤◌, Some, length};
 ghost use Rattle.acl_perm.specs.Kind.{is_allow, kind_number, other_kind};
 ghost use Rattle.acl_perm.specs.Names.{kind_name};
+ghost use Rattle.acl_perm.specs.internal.NameTable.{longest_kind_name};
 
 use std::fmt;
 
@@ -52,9 +53,18 @@ impl fmt::Display for Kind {
     ghost output = { λ kind. Some (kind_name kind) };
 
     fn fmt<W: fmt::Write>(&self, f: &mut fmt::Formatter<W>) -> fmt::Result {
-        match self {
-            Kind::Deny => f.write_str("DENY"),
-            Kind::Allow => f.write_str("ALLOW"),
-        }
+        f.write_str(kind_name(*self))
+    }
+}
+
+/// Returns the name of a kind in texts: `ALLOW` or `DENY`.
+#[inline(always)]
+pub fn kind_name(kind: Kind) -> &'static str
+    ensures name { result.now ≡ kind_name kind }
+    ensures short { length result.now ≤ longest_kind_name }
+{
+    match kind {
+        Kind::Deny => "DENY",
+        Kind::Allow => "ALLOW",
     }
 }

@@ -1,5 +1,5 @@
 //! Lines of a text, and parts of a line with their columns.
-ghost use Rattle.std.specs.Prelude.{◌≡◌, ◌+◌, ◌≤◌, ◌<◌, ◌^◌, ◌==◌, length, position, not};
+ghost use Rattle.std.specs.Prelude.{◌≡◌, ◌≤◌, length, position, not};
 ghost use Rattle.acl_perm.specs.Lines.{
   before_mark,
   blanks_before,
@@ -8,6 +8,7 @@ ghost use Rattle.acl_perm.specs.Lines.{
   span_of,
   start_of,
   trimmed,
+  ColumnsFit,
   IsCut,
   IsLineCut,
 };
@@ -25,7 +26,7 @@ impl<'a> Piece<'a> {
     /// Makes a piece of the whole line, which begins at column 1.
     pub fn whole(line: &'a [u8]) -> Piece<'a>
         ensures value { span_of result ≡ record { column = 1; bytes = line.now } }
-        ensures fits { result.column + length result.bytes.now < 2 ^ 64 }
+        ensures fits { ColumnsFit result }
     {
         Piece {
             column: 1,
@@ -35,7 +36,7 @@ impl<'a> Piece<'a> {
 
     /// Returns the part before the first separator, and the part after it if there is a separator.
     pub fn cut(self, separator: u8) -> (Piece<'a>, Option<Piece<'a>>)
-        requires { self.column + length self.bytes.now < 2 ^ 64 }
+        requires { ColumnsFit self }
         ensures parts { IsCut separator (span_of self.entry) result }
     {
         match place_of(self.bytes, separator) {
@@ -57,7 +58,7 @@ impl<'a> Piece<'a> {
     /// Returns the column of the first byte that is not a blank. If there is none, returns the column of the byte after
     /// the piece.
     pub fn start(self) -> usize
-        requires { self.column + length self.bytes.now < 2 ^ 64 }
+        requires { ColumnsFit self }
         ensures { result ≡ start_of (span_of self.entry) }
     {
         self.column + blanks_before(self.bytes)

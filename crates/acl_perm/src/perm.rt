@@ -1,8 +1,8 @@
 //! Read, write and execute of a POSIX ACL entry.
-ghost use Rattle.std.specs.Prelude.{◌≡◌, ◌<◌, Some, IfSome, IsSome, IsTrue, ◌↔◌, ◌==◌, bit_and, bit_or};
+ghost use Rattle.std.specs.Prelude.{◌≡◌, Some, IfSome, IsSome, IsTrue, ◌↔◌, ◌==◌, bit_and, bit_or};
 ghost use Rattle.std.specs.Int.{bit_not, w8};
 ghost use Rattle.acl_perm.specs.Shown.{perm_text};
-ghost use Rattle.acl_perm.specs.Bits.{IsDifference, IsIntersection, IsSubset, IsUnion, all_permissions};
+ghost use Rattle.acl_perm.specs.Bits.{IsDifference, IsIntersection, IsPerm, IsSubset, IsUnion, all_permissions};
 
 use std::fmt;
 use std::ops::{BitAnd, BitOr, Not, Sub};
@@ -12,7 +12,7 @@ use std::ops::{BitAnd, BitOr, Not, Sub};
 #[derive(Clone, Copy, Debug, PartialEq, Eq, PartialOrd, Ord, Hash)]
 pub struct Perm {
     pub bits: u8,
-    ghost within: { bits < 8 },
+    ghost within: { IsPerm bits },
 }
 
 impl Perm {
@@ -33,7 +33,7 @@ impl Perm {
 
     /// Returns the set of this number, or `None` if the number is above 7.
     pub fn new(bits: u8) -> Option<Perm>
-        ensures within { IsSome result ↔ (bits < 8) }
+        ensures within { IsSome result ↔ IsPerm bits }
         ensures value { IfSome result (λ perm. perm.bits ≡ bits) }
     {
         if bits < 8 { Some(Perm { bits }) } else { None }
@@ -42,7 +42,7 @@ impl Perm {
     /// Returns the permissions as a number, from 0 to 7: the sum of read 4, write 2 and execute 1.
     pub fn bits(self) -> u8
         ensures value { result ≡ self.bits }
-        ensures within { result < 8 }
+        ensures within { IsPerm result }
     {
         self.bits
     }

@@ -2,7 +2,8 @@
 pub use Rattle.acl_perm.proofs.Bools.{and_true, and_true_right, both_hold, or_true, or_true_right, same_answers}
 pub use Rattle.acl_perm.proofs.LineLemmas.{lines_left, lines_next, no_lines, NumberFits, text_left}
 pub use Rattle.acl_perm.proofs.PieceLemmas.{IsOut, next_fits, out_all, out_cut, out_more, out_none, written_both}
-pub use Rattle.acl_perm.specs.Lines.{before_mark, end_trimmed, is_all_blank, is_blank, IsCut, IsCutRest, IsLineCut, lines_of, Span, span_of, spans, start_of}
+pub use Rattle.acl_perm.specs.Bits.{IsPerm}
+pub use Rattle.acl_perm.specs.Lines.{before_mark, ColumnsFit, end_trimmed, is_all_blank, is_blank, IsCut, IsCutRest, IsLineCut, lines_of, Span, span_of, spans, start_of}
 unfoldable pub use Rattle.acl_perm.specs.Lines.{cut_at, trimmed}
 pub use Rattle.acl_perm.specs.Pieces.{WritesFrom}
 pub use Rattle.acl_perm.specs.Shown.{perm_text}
@@ -15,16 +16,16 @@ pub use Rattle.acl_posix.specs.Fields.{id_in, is_default}
 unfoldable pub use Rattle.acl_posix.specs.Fields.{id_of, permissions_of, word_of}
 pub use Rattle.acl_posix.specs.Grammar.{access_of, colon, default_of, EntryFields, HasEntryFields, HasTag, IsAclOf, IsDefaultOf, numbered, PartEntry, pieces_of, Reads, SpellAll, Spells, SpellsTag, TextPiece, three_of}
 unfoldable pub use Rattle.acl_posix.specs.Grammar.{fields_of, line_pieces}
-pub use Rattle.acl_posix.specs.Id.{IsId}
+pub use Rattle.acl_posix.specs.Id.{greatest_id, IsId}
 pub use Rattle.acl_posix.specs.Mask.{class_union, effective_of, masked_by, with_mask}
 pub use Rattle.acl_posix.specs.Mode.{chmoded, group_class, mode_of, with_mode}
 pub use Rattle.acl_posix.specs.Names.{AreIds, Ids, is_number, IsNameTable, Table}
 pub use Rattle.acl_posix.specs.Tag.{group, group_obj, is_masked, is_named, IsTag, mask, other, qualifier, rank, Tag, tag_cmp, tag_of, tag_row, user, user_obj}
-pub use Rattle.acl_posix.specs.TextFault.{acl_fault, IsFirstInvalid, IsFirstTextFault, IsInvalidText, IsPieceFault, IsPlace, IsTextFault, IsTextFaultOrMemory, MayName, qualifier_names}
+pub use Rattle.acl_posix.specs.TextFault.{acl_fault, IsFirstInvalid, IsFirstTextFault, IsInvalidText, IsPieceFault, IsPlace, IsTextFault, IsTextFaultOrMemory, IsTextRefusedWith, MayName, qualifier_names}
 pub use Rattle.acl_posix.specs.Texts.{default_entries, default_mark, entry_text, form_text, IsAcl, IsDefault, IsFile, line, long_word, mark_text, qualifier_text, short_word, word_text}
 unfoldable pub use Rattle.acl_posix.specs.Texts.{canonical_text, effective_mark, long_default, long_entry}
 unfoldable pub use Rattle.acl_posix.specs.Texts.{short_default, short_entry, short_text, shown_text}
-pub use Rattle.acl_posix.specs.Valid.{is_refusal, IsDistinct, IsFaultOf, IsFaultOfSet, IsFirstRepeat, IsMiss, IsRepeat, IsValid, IsValidList, tag_at}
+pub use Rattle.acl_posix.specs.Valid.{is_refusal, IsDistinct, IsFaultOf, IsFaultOfSet, IsFirstRepeat, IsMiss, IsRefusedWith, IsRepeat, IsValid, IsValidList, tag_at}
 unfoldable pub use Rattle.acl_posix.specs.Valid.{missing}
 pub use Rattle.acl_posix.specs.declared.entry.Entry.{Entry}
 pub use Rattle.acl_posix.specs.declared.fault.AclFault.{AclFault}
@@ -46,13 +47,13 @@ unfoldable pub use Rattle.acl_posix.specs.internal.Packed.{packed, unpacked}
 pub use Rattle.acl_posix.specs.internal.Reading.{added, FailsWith, IsPartFault, Lists, lists_of, no_lists, pieces_from, read_both, ReadsOn, tag_alone, tag_with}
 unfoldable pub use Rattle.acl_posix.specs.internal.Reading.{read_permissions, read_piece, read_pieces}
 unfoldable pub use Rattle.acl_posix.specs.internal.Reading.{read_tag, read_word}
+pub use Rattle.acl_posix.specs.internal.RepeatFault.{repeat_fault}
 pub use Rattle.acl_posix.specs.internal.Search.{IsGap, IsTagAt}
 pub use Rattle.acl_posix.specs.internal.TagCode.{code_cmp, codes_total, tag_again, tag_from, tags_total}
-pub use Rattle.acl_posix.specs.internal.TagMap.{repeat_fault}
-pub use Rattle.acl_posix.specs.internal.Writing.{ending, entry_lead, form_word, IsPut, part_out, text_out}
+pub use Rattle.acl_posix.specs.internal.Writing.{ending, entry_lead, form_word, IsPut, part_limit, part_out, text_out}
 unfoldable pub use Rattle.acl_posix.specs.internal.Writing.{entry_out}
 pub use Rattle.acl_posix.specs.internal.WrittenLine.{IsEntryBefore, IsFirstLine, IsIdBefore, IsPermBefore, letter_of}
-pub use Rattle.std.proofs.Common.{[], ap, append-nil, append_assoc, arith, Bool, Bor, cond, drop, eqb, Err, false, get_or, inl, inr, length, length-append, length-drop, length-take, List, None, Ok, Option, refl, Result, rules, set, slice_index_or, Some, subst, suc, sym, take, true, zero, ℕ, ◌%◌, ◌*◌, ◌++◌, ◌+◌, ◌-◌, ◌/◌, ◌<◌, ◌^◌, ◌∙◌, ◌∷◌, ◌≡◌, ◌≤◌}
+pub use Rattle.std.proofs.Common.{ap, append-nil, append_assoc, arith, Bool, Bor, cond, drop, eqb, Err, false, get_or, inl, inr, length, length-append, length-drop, length-take, List, None, Ok, Option, refl, Result, rules, set, slice_index_or, Some, subst, suc, sym, take, true, zero, ℕ, [], ◌%◌, ◌*◌, ◌++◌, ◌+◌, ◌-◌, ◌/◌, ◌<◌, ◌^◌, ◌∙◌, ◌∷◌, ◌≡◌, ◌≤◌}
 pub use Rattle.std.proofs.Math.Seq.{get_or-take, take-append_seam}
 pub use Rattle.std.proofs.lemmas.Bool.{cases_lt, cond_both, eq-eqb, eqb-true, false_from_ne_true}
 pub use Rattle.std.proofs.lemmas.Bool.Decides.{Decides-eqb, nat_tests}
@@ -85,3 +86,6 @@ pub use Rattle.std.specs.Prelude.{bit_and, bit_or, codes, decimal, IfErr, IfOk, 
 pub use Rattle.std.specs.Str.Parse.{AllDigits, digits_value}
 pub use Rattle.std.specs.declared.cmp.Ordering.{Ordering}
 pub use Rattle.std.specs.declared.cmp.Ordering.TheVariants.{Equal, Greater, Less}
+pub use Rattle.acl_perm.proofs.Cuts.{end_trimmed-push_blank, not_feed}
+pub use Rattle.acl_perm.proofs.Orders.{is_less, passes_less}
+pub use Rattle.acl_posix.specs.internal.Digits.{AreFirstDigits, most_digits}

@@ -1,7 +1,8 @@
 -- Sets of entries in which no tag and qualifier occur twice (POSIX.1e draft 17, section 23.1.2).
-use Rattle.std.specs.Prelude.{ℕ, ◌<◌, List, map}
+use Rattle.std.specs.Prelude.{ℕ, List, map}
 use Rattle.std.specs.List.Sorted.{IsStrictlySortedBy}
 use Rattle.std.specs.FinMap as set
+use Rattle.acl_perm.specs.Bits.{IsPerm}
 use Rattle.acl_posix.specs.declared.entry.Entry.{Entry}
 use Rattle.acl_posix.specs.Tag.{Tag, tag_of, tag_cmp, IsTag}
 
@@ -31,4 +32,4 @@ IsSorted entries = IsStrictlySortedBy tag_cmp (tags entries)
 
 -- the id and the permissions of an entry are within their limits
 abbrev pub IsEntry : Tag × ℕ → Type 0
-IsEntry entry = IsTag entry.0 × (entry.1 < 8)
+IsEntry entry = IsTag entry.0 × (IsPerm entry.1)

@@ -1,6 +1,6 @@
 -- What each fault says about a text, without reading it: the first piece that spells no entry, and what is wrong with
 -- it; else the first part that is not a valid ACL. The reasons, their order and their places are this library's own.
-use Rattle.std.specs.Prelude.{ℕ, ◌≡◌, ◌<◌, ◌⊎◌, List, ◌∷◌, ◌++◌, length, Option, Some, None, IsTrue, IsFalse, codes}
+use Rattle.std.specs.Prelude.{ℕ, ◌≡◌, ◌<◌, ◌⊎◌, List, ◌∷◌, ◌++◌, length, Option, Some, None, Result, MatchResult, IsTrue, IsFalse, codes}
 use Rattle.std.specs.FinMap as fin
 use Rattle.acl_perm.specs.Lines.{Span, cut_at, is_all_blank, trimmed, start_of}
 use Rattle.acl_posix.specs.declared.fault.AclFault.{AclFault}
@@ -156,3 +156,7 @@ IsTextFault text names Memory = ⊥
 -- a refusal reports the text's fault, or that memory ran out
 abbrev pub IsTextFaultOrMemory : List ℕ → Table → TextFault → Type 0
 IsTextFaultOrMemory text names fault = (fault ≡ Memory) ⊎ IsTextFault text names fault
+
+-- a text is refused with this fault, or because memory ran out
+abbrev pub IsTextRefusedWith : {X : Type 0} → Result X TextFault → TextFault → Type 0
+IsTextRefusedWith result wrong = MatchResult result (λ _. ⊥) (λ fault. (fault ≡ wrong) ⊎ (fault ≡ Memory))

@@ -1,6 +1,6 @@
 -- Which lists of entries are valid, and what is wrong with the others (acl(5), "VALID ACLs"). The order in which faults
 -- are judged, and that places count from 0, are this library's own.
-use Rattle.std.specs.Prelude.{ℕ, ◌≡◌, ◌<◌, Bool, true, false, not, ◌&&◌, List, length, get_or, Option, Some, None, IsTrue, IsFalse, if◌then◌else◌}
+use Rattle.std.specs.Prelude.{ℕ, ◌≡◌, ◌<◌, Bool, true, false, not, ◌&&◌, List, length, get_or, Option, Some, None, Result, MatchResult, IsTrue, IsFalse, if◌then◌else◌}
 use Rattle.std.specs.List.{list_any}
 use Rattle.std.specs.FinMap as set
 use Rattle.acl_posix.specs.declared.fault.AclFault.{AclFault}
@@ -64,6 +64,10 @@ is_refusal (Multi place) = true
 is_refusal (Duplicate place) = true
 is_refusal (Miss tag) = true
 is_refusal Memory = false
+
+-- a call refuses with this fault, unless it reports that memory ran out
+abbrev pub IsRefusedWith : {X : Type 0} → Result X AclFault → AclFault → Type 0
+IsRefusedWith result fault = MatchResult result (λ _. ⊥) (λ found. IsTrue (is_refusal found) → found ≡ fault)
 
 -- what each fault says about a set of entries, in which nothing can occur twice: the tag is the first that is absent;
 -- `Memory` says that nothing is wrong with the set

@@ -5,7 +5,7 @@ pub mod TagCode
 -- the tests of sets of entries and of files are equivalences
 pub mod Equivalences
 -- the fault of a tag that occurs twice
-pub mod TagMap
+pub mod RepeatFault
 -- entries as single numbers, which are sorted
 pub mod Packed
 -- the place of a tag in a list in canonical order, or the place where it would be inserted
@@ -16,6 +16,8 @@ pub mod Required
 pub mod GroupSearch
 -- the table of the maps of names, and tables as numbers
 pub mod NameMaps
+-- the digits that some bytes begin with
+pub mod Digits
 -- lines that are read in one step
 pub mod WrittenLine
 -- what the reader of a text computes

@@ -1,11 +1,11 @@
 //! A valid access control list, and its calls.
-ghost use Rattle.std.specs.Prelude.{◌≡◌, All, IfErr, IfOk, IsOk, IsSome, IsTrue, MatchResult, OnErr, OnOk, option_map};
+ghost use Rattle.std.specs.Prelude.{◌≡◌, All, IfErr, IfOk, IsOk, IsSome, IsTrue, OnErr, OnOk, option_map};
 ghost use Rattle.std.specs.FinMap as set;
 ghost use Rattle.acl_posix.specs.declared.fault.AclFault.{AclFault as Fault};
 ghost use Rattle.acl_posix.specs.declared.fault.AclFault.TheVariants.{Memory};
 ghost use Rattle.acl_posix.specs.Tag.{mask, tag_of};
 ghost use Rattle.acl_posix.specs.Entries.{as_set, IsEntry, IsSorted, pair_of, pairs};
-ghost use Rattle.acl_posix.specs.Valid.{is_refusal, IsFaultOf, IsFaultOfSet, IsValid, IsValidList};
+ghost use Rattle.acl_posix.specs.Valid.{is_refusal, IsFaultOf, IsFaultOfSet, IsRefusedWith, IsValid, IsValidList};
 ghost use Rattle.acl_posix.specs.Mode.{chmoded, mode_of};
 ghost use Rattle.acl_posix.specs.Mask.{effective_of, with_mask};
 ghost use Rattle.acl_posix.specs.Check.{grants, ids};
@@ -92,7 +92,7 @@ impl PosixAcl {
             → IfErr result (λ fault. fault ≡ Memory) }
         ensures refused { (fault : Fault)
             → IsTrue (is_refusal fault) → IsFaultOf (pairs entries.items) fault
-            → MatchResult result (λ _. ⊥) (λ found. IsTrue (is_refusal found) → found ≡ fault) }
+            → IsRefusedWith result fault }
         ensures no_memory { IsSorted (pairs entries.items)
             → IfErr result (λ fault. IsTrue (is_refusal fault)) }
     {

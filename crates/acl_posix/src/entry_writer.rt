@@ -98,7 +98,7 @@ fn letter(perm: Perm, bit: u8, shown: u8) -> u8
 }
 
 // Puts the id in decimal, if the tag has one.
-#[tactic(auto, using(crate::proofs::writer::Putting::id_short))]
+#[tactic(auto, using(crate::proofs::digits::DigitLemmas::id_short))]
 fn put_qualifier(line: &mut [u8; LINE], end: usize, tag: Tag) -> usize
     requires room { qualifier_room ≤ end }
     requires inside { end ≤ line_room }

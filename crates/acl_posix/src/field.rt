@@ -5,8 +5,10 @@ ghost use Rattle.std.specs.Str.{bytes_eq};
 ghost use Rattle.std.specs.Char.{is_ascii_digit};
 ghost use Rattle.acl_posix.specs.Fields.{id_of, is_default, is_permission, permissions_of, word_of};
 ghost use Rattle.acl_posix.specs.Names.{is_number};
+ghost use Rattle.acl_posix.specs.internal.Digits.{IsWithoutZeros};
 
-use crate::id::{GREATEST, Id};
+use crate::digits::{FirstDigits, first_digits};
+use crate::id::Id;
 use acl_perm::Perm;
 
 /// The word of a tag. A qualifier may follow `User` and `Group`.
@@ -82,27 +84,37 @@ fn are_permissions(bytes: &[u8]) -> bool
 pub(crate) fn is_number(bytes: &[u8]) -> bool
     ensures { result ≡ is_number bytes.now }
 {
-    !bytes.is_empty() && are_digits(bytes)
+    !bytes.is_empty() && is_all_digits(bytes)
 }
 
-fn are_digits(bytes: &[u8]) -> bool
+fn is_all_digits(bytes: &[u8]) -> bool
     ensures { result ≡ list_all is_ascii_digit bytes.now }
 {
     bytes.iter().all(|b| b.is_ascii_digit())
 }
 
 /// Returns the id that decimal digits spell, or `None` if the number is above 4294967294.
-#[tactic(auto, using(crate::proofs::field::Digits::value_more), unfolding(crate::specs::Fields::id_of))]
+#[tactic(auto, unfolding(crate::specs::Fields::id_of))]
 pub(crate) fn read_id(digits: &[u8]) -> Option<Id>
     requires { IsTrue (is_number digits.now) }
     ensures { option_map (λ id. id.value) result ≡ id_of digits.now }
 {
-    let mut value = 0u64;
-    for digit in digits {
-        value = value * 10 + u64::from(*digit - b'0');
-        if value > u64::from(GREATEST) {
-            return None;
-        }
+    let digits = without_zeros(digits);
+    let FirstDigits { value, count } = first_digits(digits);
+    // A number with more digits than the greatest id is above it.
+    if count < digits.len() {
+        return None;
     }
-    Id::new(value as u32)
+    Id::from_number(value)
+}
+
+/// Returns digits without the zeros that they begin with.
+fn without_zeros(digits: &[u8]) -> &[u8]
+    ensures { IsWithoutZeros digits.now result.now }
+{
+    let mut left = digits;
+    while let [b'0', rest @ ..] = left {
+        left = rest;
+    }
+    left
 }

@@ -4,6 +4,7 @@
 
 mod acl;
 mod check;
+mod digits;
 mod edits;
 mod entry;
 mod entry_writer;

@@ -1,12 +1,12 @@
 //! The ACLs of a file, read from their text.
-ghost use Rattle.std.specs.Prelude.{◌≡◌, ◌⊎◌, IfErr, IfOk, MatchResult};
+ghost use Rattle.std.specs.Prelude.{◌≡◌, IfErr, IfOk, MatchResult};
 ghost use Rattle.acl_posix.specs.declared.file.PosixFile.{PosixFile as FileValue};
 ghost use Rattle.acl_posix.specs.declared.text_fault.TextFault.{TextFault as FaultValue};
 ghost use Rattle.acl_posix.specs.declared.text_fault.TextFault.TheVariants.{Memory};
 ghost use Rattle.acl_posix.specs.Entries.{pairs};
 ghost use Rattle.acl_posix.specs.Grammar.{IsAclOf, IsDefaultOf, Reads};
 ghost use Rattle.acl_posix.specs.internal.Reading.{IsDefaultFault, IsPartFault};
-ghost use Rattle.acl_posix.specs.TextFault.{IsTextFaultOrMemory, IsTextFault};
+ghost use Rattle.acl_posix.specs.TextFault.{IsTextFaultOrMemory, IsTextFault, IsTextRefusedWith};
 
 use crate::acl::PosixAcl;
 use crate::entry::Entry;
@@ -36,7 +36,7 @@ pub fn parse(alloc: Global, text: &[u8], names: &Names) -> Result<PosixFile, Tex
     ensures fault { IfErr result (IsTextFaultOrMemory text.now names.now) }
     // A text with a fault is refused with that fault.
     ensures refused { (wrong : FaultValue) → IsTextFault text.now names.now wrong
-        → MatchResult result (λ _. ⊥) (λ fault. (fault ≡ wrong) ⊎ (fault ≡ Memory)) }
+        → IsTextRefusedWith result wrong }
 {
     read_file(alloc, text, names)
 }

@@ -1,6 +1,6 @@
 //! The entry that a piece of a text spells.
-ghost use Rattle.std.specs.Prelude.{◌≡◌, ◌+◌, ◌<◌, ◌^◌, length, option_map, IfSome};
-ghost use Rattle.acl_perm.specs.Lines.{cut_at, span_of};
+ghost use Rattle.std.specs.Prelude.{◌≡◌, option_map, IfSome};
+ghost use Rattle.acl_perm.specs.Lines.{cut_at, span_of, ColumnsFit};
 ghost use Rattle.acl_posix.specs.Grammar.{colon, fields_of, three_of};
 ghost use Rattle.acl_posix.specs.internal.Reading.{mapped, read_permissions, read_piece, read_tag, read_word, view_entry, view_fields, FieldsFit};
 ghost use Rattle.acl_posix.specs.Tag.{tag_of};
@@ -31,7 +31,7 @@ pub(crate) fn read_piece(
     line: usize,
     names: &Names,
 ) -> Result<(Part, Entry), TextFault>
-    requires { piece.column + length piece.bytes.now < 2 ^ 64 }
+    requires { ColumnsFit piece }
     ensures { mapped view_entry result ≡ read_piece names.now line (span_of piece.entry) }
 {
     let column = piece.start();
@@ -50,7 +50,7 @@ pub(crate) fn read_piece(
 /// Returns the part that a piece belongs to, and its three fields.
 #[tactic(auto, unfolding(crate::specs::Grammar::fields_of))]
 fn fields<'a>(piece: Piece<'a>) -> Option<EntryPieces<'a>>
-    requires { piece.column + length piece.bytes.now < 2 ^ 64 }
+    requires { ColumnsFit piece }
     ensures value { option_map view_fields result ≡ fields_of (cut_at colon (span_of piece.entry)) }
     ensures fits { IfSome result (λ fields. FieldsFit fields piece.entry) }
 {
@@ -64,7 +64,7 @@ fn fields<'a>(piece: Piece<'a>) -> Option<EntryPieces<'a>>
 
 /// Returns the three fields that a piece has from here on, if it has no more and no fewer.
 fn three<'a>(part: Part, piece: Piece<'a>) -> Option<EntryPieces<'a>>
-    requires { piece.column + length piece.bytes.now < 2 ^ 64 }
+    requires { ColumnsFit piece }
     ensures value { option_map view_fields result
         ≡ three_of part (cut_at colon (span_of piece.entry)) }
     ensures fits { IfSome result (λ fields. FieldsFit fields piece.entry) }
@@ -85,7 +85,7 @@ fn three<'a>(part: Part, piece: Piece<'a>) -> Option<EntryPieces<'a>>
 
 #[tactic(auto, unfolding(crate::specs::internal::Reading::read_word))]
 fn word_at(field: Piece, line: usize) -> Result<TagWord, TextFault>
-    requires { field.column + length field.bytes.now < 2 ^ 64 }
+    requires { ColumnsFit field }
     ensures { result ≡ read_word line (span_of field.entry) }
 {
     let column = field.start();
@@ -94,7 +94,7 @@ fn word_at(field: Piece, line: usize) -> Result<TagWord, TextFault>
 
 #[tactic(auto, unfolding(crate::specs::internal::Reading::read_tag))]
 fn tag_at(field: Piece, line: usize, word: TagWord, names: &Names) -> Result<Tag, TextFault>
-    requires { field.column + length field.bytes.now < 2 ^ 64 }
+    requires { ColumnsFit field }
     ensures { mapped tag_of result ≡ read_tag names.now line (span_of field.entry) word }
 {
     let qualifier = trimmed(field.bytes);
@@ -118,7 +118,7 @@ fn tag_at(field: Piece, line: usize, word: TagWord, names: &Names) -> Result<Tag
 
 #[tactic(auto, unfolding(crate::specs::internal::Reading::read_permissions))]
 fn permissions_at(field: Piece, line: usize) -> Result<Perm, TextFault>
-    requires { field.column + length field.bytes.now < 2 ^ 64 }
+    requires { ColumnsFit field }
     ensures { mapped (λ perm. perm.bits) result ≡ read_permissions line (span_of field.entry) }
 {
     let column = field.start();

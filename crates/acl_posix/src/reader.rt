@@ -1,9 +1,8 @@
 //! The entries of each part of a text.
-ghost use Rattle.std.specs.Prelude.{◌≡◌, MatchResult, OnOk, Ok};
-ghost use Rattle.acl_perm.specs.Lines.{lines_of};
+ghost use Rattle.std.specs.Prelude.{◌≡◌, MatchResult, OnOk};
 ghost use Rattle.acl_posix.specs.Entries.{pair_of};
 ghost use Rattle.acl_posix.specs.Grammar.{pieces_of};
-ghost use Rattle.acl_posix.specs.internal.Reading.{added, lists_of, no_lists, pieces_from, read_entries, read_pieces, FailsWith, ReadsOn};
+ghost use Rattle.acl_posix.specs.internal.Reading.{added, lists_of, no_lists, read_entries, read_lines_from, read_pieces, AgreesWith, FailsWith, ReadsOn};
 
 use crate::entry::Entry;
 use crate::names::Names;
@@ -22,9 +21,7 @@ pub(crate) struct EntryLists {
 
 /// Returns the entries of each part of a text, or the fault of its first piece that spells no entry.
 pub(crate) fn read_text(alloc: Global, text: &[u8], names: &Names) -> Result<EntryLists, TextFault>
-    ensures { MatchResult result
-        (λ lists. read_pieces names.now no_lists (pieces_of text.now) ≡ Ok (lists_of lists))
-        (λ fault. FailsWith fault (read_pieces names.now no_lists (pieces_of text.now))) }
+    ensures { AgreesWith result lists_of (read_pieces names.now no_lists (pieces_of text.now)) }
 {
     let mut lists = EntryLists {
         access: Vec::new(alloc),
@@ -48,8 +45,7 @@ fn read_first<'a>(
 ) -> Result<Option<&'a [u8]>, TextFault>
     ensures { MatchResult result
         (ReadsOn names.now number text.now (lists_of lists.old) (lists_of lists.new))
-        (λ fault. FailsWith fault
-        (read_pieces names.now (lists_of lists.old) (pieces_from number (lines_of text.now)))) }
+        (λ fault. FailsWith fault (read_lines_from names.now (lists_of lists.old) number text.now)) }
 {
     if let Some(line) = written_line(text) {
         push(lists, line.part, line.entry)?;
@@ -67,10 +63,8 @@ fn read_line(
     names: &Names,
     lists: &mut EntryLists,
 ) -> Result<(), TextFault>
-    ensures { MatchResult result
-        (λ _. read_entries names.now (lists_of lists.old) number line.now
-        ≡ Ok (lists_of lists.new))
-        (λ fault. FailsWith fault (read_entries names.now (lists_of lists.old) number line.now)) }
+    ensures { AgreesWith result (λ _. lists_of lists.new)
+        (read_entries names.now (lists_of lists.old) number line.now) }
 {
     let content = before_mark(line, b'#');
     if is_all_blank(content) {

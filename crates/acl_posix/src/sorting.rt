@@ -4,7 +4,7 @@ ghost use Rattle.acl_posix.specs.declared.fault.AclFault.TheVariants.{Memory};
 ghost use Rattle.acl_posix.specs.Tag.{tag_of};
 ghost use Rattle.acl_posix.specs.Entries.{as_set, IsSorted, pairs};
 ghost use Rattle.acl_posix.specs.Valid.{is_refusal, IsDistinct, IsFaultOf};
-ghost use Rattle.acl_posix.specs.internal.TagMap.{repeat_fault};
+ghost use Rattle.acl_posix.specs.internal.RepeatFault.{repeat_fault};
 
 use crate::entry::Entry;
 use crate::fault::AclFault;

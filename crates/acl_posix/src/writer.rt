@@ -1,11 +1,12 @@
 //! Writes the texts of ACLs to a sink.
-ghost use Rattle.std.specs.Prelude.{◌≡◌, ◌+◌, ◌^◌, ◌<◌, OnErr, OnOk, None, length, option_map};
+ghost use Rattle.std.specs.Prelude.{◌≡◌, ◌+◌, ◌<◌, OnErr, OnOk, None, length, option_map};
 ghost use Rattle.std.specs.FinMap as set;
+ghost use Rattle.acl_perm.specs.Counts.{count_limit};
 ghost use Rattle.acl_perm.specs.Devices.{one_more};
 ghost use Rattle.acl_perm.specs.Pieces.{Writes, WritesFrom};
 ghost use Rattle.acl_posix.specs.Texts.{canonical_text, form_text, short_text, shown_text};
 ghost use Rattle.acl_posix.specs.Entries.{pairs};
-ghost use Rattle.acl_posix.specs.internal.Writing.{default_out, part_out};
+ghost use Rattle.acl_posix.specs.internal.Writing.{default_out, part_limit, part_out};
 
 use crate::acl::PosixAcl;
 use crate::entry::Entry;
@@ -129,7 +130,7 @@ fn put_default<S: Sink>(
     form: Form,
     default: Option<&PosixAcl>,
 ) -> Result<u64, WriteFault>
-    requires { done < 2 ^ 62 }
+    requires { done < part_limit }
     ensures written { WritesFrom (S.contents sink.old) (S.contents sink.new) done
         (default_out form (option_map (λ acl. acl.now) default.entry)) result }
     ensures none_failed { OnOk result (S.failure_count sink.new ≡ S.failure_count sink.old) }
@@ -156,7 +157,7 @@ fn put_part<S: Sink>(
 ) -> Result<u64, WriteFault>
     requires entries { pairs entries.now ≡ set.entries acl.now }
     requires room { done
-        + length (part_out form part acl.now is_first (set.entries acl.now)) < 2 ^ 64 }
+        + length (part_out form part acl.now is_first (set.entries acl.now)) < count_limit }
     ensures written { WritesFrom (S.contents sink.old) (S.contents sink.new) done
         (part_out form part acl.now is_first (set.entries acl.now)) result }
     ensures none_failed { OnOk result (S.failure_count sink.new ≡ S.failure_count sink.old) }

@@ -5,8 +5,9 @@ ghost use Rattle.acl_perm.specs.Ascii.{letter_r, letter_w, letter_x};
 ghost use Rattle.acl_perm.specs.Shown.{perm_text};
 ghost use Rattle.acl_posix.specs.internal.WrittenLine.{letter_of, AreFieldsBefore, IsEntryBefore, IsFirstLine, IsIdBefore, IsPermBefore};
 
+use crate::digits::{FirstDigits, first_digits};
 use crate::entry::Entry;
-use crate::id::{GREATEST, Id};
+use crate::id::Id;
 use crate::tag::Tag;
 use crate::text_fault::Part;
 use acl_perm::Perm;
@@ -99,31 +100,16 @@ fn fields_before(bytes: &[u8]) -> Option<FieldsBefore<'_>>
     Some(FieldsBefore { id, perm, rest })
 }
 
-// The number of digits of the greatest id. Ten digits fit in 64 bits.
-const MOST_DIGITS: usize = 10;
-
-/// Returns the id before the first colon, if at most ten digits are before it. `read_id` does not serve here: it takes
-/// digits that are already cut off, and finding their end first would be a second pass over them.
-#[tactic(auto, using(crate::proofs::field::Digits::ten_digits))]
+/// Returns the id before the first colon, if at most ten digits are before it.
 fn id_before(bytes: &[u8]) -> Option<IdBefore<'_>>
     ensures { IfSome result (λ found. IsIdBefore bytes.now found.id.value found.rest.now) }
 {
-    let most = bytes.len().min(MOST_DIGITS);
-    let mut value = 0u64;
-    let mut place = 0;
-    while place < most {
-        let b = bytes[place];
-        if !b.is_ascii_digit() {
-            break;
-        }
-        value = value * 10 + u64::from(b - b'0');
-        place += 1;
-    }
-    if place == 0 || place == bytes.len() || bytes[place] != b':' || value > u64::from(GREATEST) {
+    let FirstDigits { value, count } = first_digits(bytes);
+    if count == 0 || count == bytes.len() || bytes[count] != b':' {
         return None;
     }
-    let id = Id::new(value as u32)?;
-    let rest = &bytes[place + 1..];
+    let id = Id::from_number(value)?;
+    let rest = &bytes[count + 1..];
     Some(IdBefore { id, rest })
 }
 

@@ -143,7 +143,7 @@ pub ended_so : {S K E : Type 0} {words : List Text} {left : S → Option (List �
 ended_so {words} {left} {source} {holds} {out} {out_after} o status below at runs unnamed = record {
   of_words = record {
     known = omega (arith, below);
-    named = λ _. done_named _ _ _ _ _ runs.performs;
+    named = λ _. done_named (task_of words) (left source) (holds out) (holds out_after) o runs.performs;
     usage = λ three. absurd (omega (arith, below, three));
     unnamed = λ none. let e = unnamed none in absurd cc;
   };
@@ -218,10 +218,12 @@ bad_input : {S K E : Type 0} {words : List Text} {left : S → Option (List ℕ)
 bad_input {words} {left} {reads_failed} {source} {source_after} {holds} {writes_failed} {out} {out_after} f status
     refused two runs unnamed = record {
       of_words = words_ran f status (omega (arith, two)) (λ three. omega (arith, two, three))
-          (λ below. below_named _ _ _ _ (command.Run f) status runs.performs is below) unnamed;
+          (below_named (task_of words) (left source) (holds out) (holds out_after) (command.Run f) status
+          runs.performs is) unnamed;
       of_input = record {
         whole = λ below. absurd (omega (arith, two, below));
-        refused = λ _. report_refused _ _ _ _ (command.Run f) status runs.performs is two;
+        refused = report_refused (task_of words) (left source) (holds out) (holds out_after) (command.Run f) status
+            runs.performs is;
         unread = λ three. absurd (omega (arith, two, three));
         bound = runs.reading.bound;
         stopped = inl read;
@@ -270,7 +272,8 @@ bad_device {words} {left} {reads_failed} {source} {source_after} {holds} {writes
       of_output = record {
         done = λ below. absurd (omega (arith, four, below));
         unwritten = λ _ three. absurd (omega (arith, four, three));
-        begun = λ _. report_begun _ _ _ _ (command.Run f) _ _ _ runs.performs runs.unwritten runs.writes;
+        begun = λ _. report_begun (task_of words) (left source) (holds out) (holds out_after) (command.Run f)
+            (out_after ≡ out) (writes_failed out) (writes_failed out_after) runs.performs runs.unwritten runs.writes;
         unreported = λ below. absurd (omega (arith, four, below));
       };
       of_failures = record {

@@ -13,11 +13,11 @@ use Rattle.acl_nfs4.specs.declared.feed.fed.Fed.TheVariants.{Done, More, Refused
 use Rattle.acl_nfs4.specs.declared.xdr.fault.Fault.{Fault}
 use Rattle.acl_nfs4.proofs.Exports.{bytes_append, nothing_cut}
 use Rattle.aclck.specs.ListInput.{piece_len}
-use Rattle.aclck.specs.internal.Reading.{IsReaderFault, ReadsNone, ReadsValue}
+use Rattle.aclck.specs.internal.Reading.{IsReaderFault, FitsOneValue, ReadsNone, ReadsValue}
 use Rattle.aclck.specs.declared.input.xdr.ListFault.{ListFault}
 use Rattle.aclck.specs.declared.input.xdr.ListFault.TheVariants as unread
 use Rattle.aclck.specs.declared.input.xdr.Value.{Value}
-use Rattle.aclck.proofs.ListInputLemmas.{cut_short, done_none, done_reads, end_reads, next_parts, refused_reads}
+use Rattle.aclck.proofs.ListInputLemmas.{cut_short, done_none, done_reads, end_reads, next_parts, refused_reads, short_value}
 
 -- the feed has taken what was left of an earlier pull and what came since, except for what is left of the last pull
 pub record IsFed (p : Profile) (left pulled : List ℕ) (old new : Option (List ℕ)) (feed : StreamState) (fed : ℕ)
@@ -60,14 +60,14 @@ pub fed_more : {p : Profile} {left pulled pull new_pulled : List ℕ} {old mid n
     {feed feed_after : StreamState} {fed fed_after : ℕ} → IsFed p left pulled old mid feed fed → pull ≡ pulled
     → IsBytes pull → Feeds feed pull More feed_after → Consumes mid new new_pulled → fed_after ≡ fed + length pulled
     → IsFed p left new_pulled old new feed_after fed_after
-fed_more {pull} {new_pulled} h same bytes feeds next is =
+fed_more {pull} {new_pulled} {old} {mid} {new} h same bytes feeds next is =
     let d = rw h.is_more at feeds in
     record {
       given = h.given ++ new_pulled;
       text = h.text ++ pull;
       is_more = d.0;
       parts = next_parts _ h.given h.text _ pull new_pulled h.parts same;
-      taken = Consumes-trans _ _ _ _ _ h.taken next;
+      taken = Consumes-trans old mid new h.given new_pulled h.taken next;
       is_fed = omega (arith, is, h.is_fed, length-append h.text pull, ap length same);
       cut = d.1;
       bytes = bytes_append h.text pull h.bytes bytes;
@@ -83,6 +83,14 @@ fed_value {p} {left} {pulled} {pull} {new_left} {old} {new} {feed} {fed} feed_af
     let d = rw h.is_more at feeds in
     done_reads p left h.given h.text pulled pull new_left old new fed t feed_after d.0 r h.parts h.taken h.is_fed same
     after d.2 d.1 d.3 is
+
+-- the value of a feed that is done is short
+pub fed_short_value : {p : Profile} {left pulled pull new_left : List ℕ} {old new : Option (List ℕ)}
+    {feed : StreamState} {fed : ℕ} (feed_after : StreamState) (t : ℕ) → IsFed p left pulled old new feed fed → pull ≡ pulled
+    → new_left ≡ drop t pulled → Feeds feed pull (Done t) feed_after → (r : Result Value ListFault)
+    → IfOk r (λ v. (v.len ≡ fed + t) × FinishesStream feed_after (Ok v.list)) → IfOk r (λ v. FitsOneValue v.len)
+fed_short_value {p} {left} {new_left} {old} {new} feed_after t h same after feeds r is =
+    short_value p left new_left old new r (fed_value feed_after t h same after feeds r is)
 
 -- no value of a feed that is done, because memory ran out
 pub fed_none : {p : Profile} {left pulled pull : List ℕ} {old new : Option (List ℕ)} {feed : StreamState} {fed : ℕ}

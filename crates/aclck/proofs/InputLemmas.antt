@@ -1,5 +1,5 @@
 -- How an input that is one list, or two, is read whole from pulls.
-use Rattle.std.proofs.Common.{◌≡◌, ◌⊎◌, ℕ, ◌+◌, ◌^◌, ◌<◌, ◌≤◌, List, [], ◌++◌, length, take, drop, true, Option, None, Some, Result, Ok, Err, refl, sym, ap, subst, ◌∙◌, append_assoc, arith, inl, inr}
+use Rattle.std.proofs.Common.{◌≡◌, ◌⊎◌, ℕ, ◌+◌, ◌<◌, ◌≤◌, List, [], ◌++◌, length, take, drop, true, Option, None, Some, Result, Ok, Err, refl, sym, ap, subst, ◌∙◌, append_assoc, arith, inl, inr}
 use Rattle.std.specs.Prelude.{IsErrAnd}
 use Rattle.std.specs.Io.KnownBytes.{Consumes, IsAtEnd}
 use Rattle.std.proofs.KnownBytes.{Consumes-nil, Consumes-trans, Consumes-whole}
@@ -20,7 +20,7 @@ use Rattle.aclck.specs.Answer.{IsListFault, origin_of, is_read}
 use Rattle.aclck.specs.commands.Compare.{IsFaultOfTwo}
 use Rattle.aclck.specs.commands.Compare.IsFaultOfTwo.{of_first, of_second}
 use Rattle.aclck.specs.ListInput.{AreOpen, EndsBehind, IsOpen, ListEnds, RefusalEnds, TakesPart, TakesTo, TwoEnd, piece_len}
-use Rattle.aclck.specs.internal.Reading.{BytesEnd, EndsNot, HasInput, InputKind, ReadsInput, ReadsNone, ReadsValue, IsOffsetBelow, Unread, is_failed_pull, later, one_list_input, run_fault, two_list_input}
+use Rattle.aclck.specs.internal.Reading.{BytesEnd, EndsNot, HasInput, InputKind, ReadsInput, ReadsNone, ReadsValue, HasOffsetOfOneValue, Unread, is_failed_pull, later, one_list_input, run_fault, two_list_input}
 use Rattle.aclck.specs.declared.answer.RunFault.{RunFault}
 use Rattle.aclck.specs.declared.answer.RunFault.TheVariants as fault
 use Rattle.aclck.specs.declared.input.xdr.ListFault.{ListFault}
@@ -37,24 +37,25 @@ pub record HasRead (text left : List ℕ) (known now_known : Option (List ℕ)) 
   pub none_failed : now_failed ≡ failed
 
 -- before the first pull no bytes were read, and nothing is left of a pull
-pub nothing : (left : List ℕ) (known : Option (List ℕ)) (failed : ℕ) → left ≡ []
+pub has_read_nothing : {left : List ℕ} {known : Option (List ℕ)} {failed : ℕ} → left ≡ []
     → HasRead [] left known known failed failed
-nothing left known failed none =
+has_read_nothing {known} none =
     record { given = []; taken = Consumes-nil known; parts = sym none; none_failed = refl }
 
 -- what was taken is what was read, and what was taken after it
-regroup : (given text after others : List ℕ) → given ≡ text ++ after → given ++ others ≡ text ++ (after ++ others)
-regroup given text after others e = ap (λ v. v ++ others) e ∙ append_assoc text after others
+append_regrouped : (given text after others : List ℕ) → given ≡ text ++ after
+    → given ++ others ≡ text ++ (after ++ others)
+append_regrouped given text after others e = ap (λ v. v ++ others) e ∙ append_assoc text after others
 
 -- a value that is read adds its own bytes to those that were read
-pub one_more : (p : Profile) (text mid_left left : List ℕ) (old mid new : Option (List ℕ)) (failed mid_failed
-    new_failed : ℕ) (list : List Ace) (len : ℕ) → HasRead text mid_left old mid failed mid_failed
+pub has_read_value : {p : Profile} {text mid_left left : List ℕ} {old mid new : Option (List ℕ)}
+    {failed mid_failed new_failed : ℕ} {list : List Ace} {len : ℕ} → HasRead text mid_left old mid failed mid_failed
     → (v : ReadsValue p mid_left left mid new list len) → new_failed ≡ mid_failed
     → HasRead (text ++ v.text) left old new failed new_failed
-one_more p text mid_left left old mid new failed mid_failed new_failed list len h v same = record {
+has_read_value {text} {mid_left} {left} {old} {mid} {new} h v same = record {
   given = h.given ++ v.given;
   taken = Consumes-trans old mid new h.given v.given h.taken v.taken;
-  parts = regroup h.given text mid_left v.given h.parts ∙ ap (λ (y : List ℕ). text ++ y) v.parts
+  parts = append_regrouped h.given text mid_left v.given h.parts ∙ ap (λ (y : List ℕ). text ++ y) v.parts
       ∙ sym (append_assoc text v.text left);
   none_failed = same ∙ h.none_failed;
 }
@@ -185,13 +186,13 @@ two_whole p list other first second x y = record {
 -- ---- a value is not read
 
 -- a fault is where accepted fields end, and these have few bytes
-pub fault_below : (p : Profile) (left : List ℕ) (old mid : Option (List ℕ)) (e : ListFault) → ReadsNone p left old mid e
-    → IsOffsetBelow (2 ^ 32) e
-fault_below p left old mid (unread.Refused f) h =
+pub short_offset : (p : Profile) (left : List ℕ) (old mid : Option (List ℕ)) (e : ListFault)
+    → ReadsNone p left old mid e → HasOffsetOfOneValue e
+short_offset p left old mid (unread.Refused f) h =
     let b = begins p h.has.stage h.has.front h.has.border in
     omega (arith, h.has.here, length-append h.has.front b.1, spelled_short p b.0 (h.has.front ++ b.1) b.2)
-fault_below p left old mid unread.Read h = tt
-fault_below p left old mid unread.Memory h = tt
+short_offset p left old mid unread.Read h = tt
+short_offset p left old mid unread.Memory h = tt
 
 -- what holds for the bytes that were taken, with those that are left, holds for an input
 input_found : (Holds : List ℕ → Type 0) (given : List ℕ) (old new : Option (List ℕ)) → Consumes old new given
@@ -242,7 +243,7 @@ value_refused : (k : InputKind) (p : Profile) (before after given : List ℕ) (o
 value_refused k p before after given old mid new (unread.Refused f) next parts c h =
     input_found _ (given ++ h.given) old new (Consumes-trans old mid new given h.given c h.taken) (λ left end.
     subst (λ (y : List ℕ). k.HasFault y (run_fault (later (unread.Refused f) (length before))))
-    (sym (ap (λ (y : List ℕ). y ++ left) (regroup given before after h.given parts)
+    (sym (ap (λ (y : List ℕ). y ++ left) (append_regrouped given before after h.given parts)
     ∙ append_assoc before (after ++ h.given) left))
     (next.refused ((after ++ h.given) ++ left) f.offset f.reason
     (still_has p (after ++ h.given) left f h.end h.has h.has.breaks (λ t. end (h.all t)))))
@@ -256,7 +257,7 @@ value_near : (k : InputKind) (p : Profile) (before after given : List ℕ) (old 
 value_near k p before after given old mid new e next parts c h =
     let little = none_little p after mid new e h in
     let near = next.ends (after ++ little.given) little.end little.is_end little.near in
-    let all = regroup given before after little.given parts in
+    let all = append_regrouped given before after little.given parts in
     record {
       given = given ++ little.given;
       end = near.end;
@@ -274,17 +275,17 @@ value_open k p before after given old mid new e next parts c h r =
     record {
       given = given ++ part.given;
       taken = Consumes-trans old mid new given part.given c part.taken;
-      is_open = subst (λ (y : List ℕ). k.MayGoOn y) (sym (regroup given before after part.given parts))
+      is_open = subst (λ (y : List ℕ). k.MayGoOn y) (sym (append_regrouped given before after part.given parts))
           (next.goes_on (after ++ part.given) part.cut);
     }
 
 -- the reason why a value was not read is the reason why the input was not read
-pub value_unread : {X : Type 0} (k : InputKind) (p : Profile) (Is : X → List ℕ → Type 0) (before after : List ℕ)
-    (old mid new : Option (List ℕ)) (failed mid_failed new_failed : ℕ) (e : ListFault) → Continues k p before
+pub value_unread : {X : Type 0} {k : InputKind} {p : Profile} {Is : X → List ℕ → Type 0} {before after : List ℕ}
+    {old mid new : Option (List ℕ)} {failed mid_failed new_failed : ℕ} (e : ListFault) → Continues k p before
     → HasRead before after old mid failed mid_failed → ReadsNone p after mid new e
     → new_failed ≡ failures_after mid_failed (is_failed_pull e)
     → ReadsInput k Is old new failed new_failed (Err (run_fault (later e (length before))))
-value_unread k p Is before after old mid new failed mid_failed new_failed e next read h failures = record {
+value_unread {k} {p} {before} {after} {old} {mid} {new} {failed} e next read h failures = record {
   found = tt;
   whole = tt;
   not_read = value_refused k p before after read.given old mid new e next read.parts read.taken h;
@@ -296,14 +297,14 @@ value_unread k p Is before after old mid new failed mid_failed new_failed e next
 }
 
 -- the reason why the first value was not read is the reason why the input was not read, after `?` has converted it
-pub first_unread : {X : Type 0} (k : InputKind) (p : Profile) (Is : X → List ℕ → Type 0) (left : List ℕ)
-    (old new : Option (List ℕ)) (failed new_failed : ℕ) (e : ListFault) (r : Result X RunFault) → left ≡ []
+pub first_unread : {X : Type 0} {k : InputKind} {p : Profile} {Is : X → List ℕ → Type 0} {left : List ℕ}
+    {old new : Option (List ℕ)} {failed new_failed : ℕ} (e : ListFault) (r : Result X RunFault) → left ≡ []
     → IsErrAnd r (λ run. run ≡ run_fault e) → Continues k p [] → ReadsNone p left old new e
     → new_failed ≡ failures_after failed (is_failed_pull e) → ReadsInput k Is old new failed new_failed r
-first_unread k p Is left old new failed new_failed e (Ok x) none goes_up next h failures = absurd goes_up
-first_unread k p Is left old new failed new_failed e (Err run) none goes_up next h failures =
+first_unread e (Ok x) none goes_up next h failures = absurd goes_up
+first_unread {k} {Is} {old} {new} {failed} {new_failed} e (Err run) none goes_up next h failures =
     rw goes_up (subst (λ (f : ListFault). ReadsInput k Is old new failed new_failed (Err (run_fault f))) (later_none e)
-    (value_unread k p Is [] left old old new failed failed new_failed e next (nothing left old failed none) h failures))
+    (value_unread e next (has_read_nothing none) h failures))
 
 -- ---- all values are read
 
@@ -312,7 +313,7 @@ whole_near : (k : InputKind) (text after given others : List ℕ) (old mid new :
     → given ≡ text ++ after → Consumes old mid given → Consumes mid new others
     → length (after ++ others) ≤ piece_len → TakesTo k.EndsAt old new
 whole_near k text after given others old mid new all parts c d near =
-    let same = regroup given text after others parts in
+    let same = append_regrouped given text after others parts in
     record {
       given = given ++ others;
       end = length text;
@@ -335,7 +336,7 @@ end_refused k text after given old mid new len (unread.Refused f) all parts c is
     rw (h.0, is) (input_found _ (given ++ h.1.given) old new (Consumes-trans old mid new given h.1.given c h.1.taken)
     (λ left end.
     subst (λ (y : List ℕ). k.HasFault y (fault.Nfs (record { offset = length text; reason = TrailingBytes })))
-    (sym (ap (λ (y : List ℕ). y ++ left) (regroup given text after h.1.given parts)
+    (sym (ap (λ (y : List ℕ). y ++ left) (append_regrouped given text after h.1.given parts)
     ∙ append_assoc text (after ++ h.1.given) left))
     (all.refused ((after ++ h.1.given) ++ left) (omega (arith, h.1.some, length-append (after ++ h.1.given) left)))))
 end_refused k text after given old mid new len unread.Read all parts c is h = tt
@@ -354,14 +355,13 @@ end_open k text after given old mid new len e all parts c h r =
     }
 
 -- the reason why an input does not end after its values is the reason why it was not read
-pub end_unread : {X : Type 0} (k : InputKind) (Is : X → List ℕ → Type 0) (text after : List ℕ)
-    (old mid new : Option (List ℕ)) (failed mid_failed new_failed len : ℕ) (e : ListFault) (r : Result X RunFault)
+pub end_unread : {X : Type 0} {k : InputKind} {Is : X → List ℕ → Type 0} {text after : List ℕ}
+    {old mid new : Option (List ℕ)} {failed mid_failed new_failed len : ℕ} (e : ListFault) (r : Result X RunFault)
     → IsErrAnd r (λ run. run ≡ run_fault e) → Completes k text → HasRead text after old mid failed mid_failed
     → len ≡ length text → EndsNot len after mid new e → new_failed ≡ failures_after mid_failed (is_failed_pull e)
     → ReadsInput k Is old new failed new_failed r
-end_unread k Is text after old mid new failed mid_failed new_failed len e (Ok x) goes_up all read is h failures =
-    absurd goes_up
-end_unread k Is text after old mid new failed mid_failed new_failed len e (Err run) goes_up all read is h failures =
+end_unread e (Ok x) goes_up all read is h failures = absurd goes_up
+end_unread {k} {text} {after} {old} {mid} {new} {failed} {len} e (Err run) goes_up all read is h failures =
     let past = past_end len after mid new e h in
     rw goes_up (record {
       found = tt;
@@ -375,11 +375,11 @@ end_unread k Is text after old mid new failed mid_failed new_failed len e (Err r
     })
 
 -- an input that is what was read and nothing more
-pub input_read : {X : Type 0} (k : InputKind) (Is : X → List ℕ → Type 0) (x : X) (text after : List ℕ)
-    (old mid new : Option (List ℕ)) (failed mid_failed new_failed : ℕ) → Completes k text → Is x text
+pub input_read : {X : Type 0} {k : InputKind} {Is : X → List ℕ → Type 0} {x : X} {text after : List ℕ}
+    {old mid new : Option (List ℕ)} {failed mid_failed new_failed : ℕ} → Completes k text → Is x text
     → HasRead text after old mid failed mid_failed → after ≡ [] → Consumes mid new [] → IsAtEnd new
     → new_failed ≡ mid_failed → ReadsInput k Is old new failed new_failed (Ok x)
-input_read k Is x text after old mid new failed mid_failed new_failed all is read none d end same =
+input_read {k} {Is} {x} {text} {after} {old} {mid} {new} all is read none d end same =
     let c = Consumes-trans old mid new read.given [] read.taken d in
     record {
       found = record {

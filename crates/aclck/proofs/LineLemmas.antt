@@ -49,10 +49,10 @@ unfolding app_from
 one_more_term name terms t = rw (map-append rule_from terms (t ∷ [])) refl
 
 -- a command is built one argument after the other: the first i of a table and the next one are the first i + 1
-pub one_more_argument : (app next : App) (name : Text) (table : List Argument) (i : ℕ) (d : Argument)
+pub one_more_argument : {app next : App} (name : Text) (table : List Argument) (i : ℕ) (d : Argument)
     → app ≡ app_from name (map term (take i table)) → next ≡ with_rule app (rule_from (term (get_or table i d)))
     → i < length table → next ≡ app_from name (map term (take (i + 1) table))
-one_more_argument app next name table i d was is inside =
+one_more_argument name table i d was is inside =
     is ∙ ap (λ (a : App). with_rule a (rule_from (term (get_or table i d)))) was
     ∙ one_more_term name (map term (take i table)) (term (get_or table i d))
     ∙ ap (app_from name)

@@ -20,7 +20,7 @@ use Rattle.acl_nfs4.specs.declared.xdr.fault.Reason.{Reason}
 use Rattle.acl_nfs4.specs.declared.xdr.fault.Reason.TheVariants.{Truncated}
 use Rattle.acl_nfs4.proofs.Exports.{begins, breaks_whole, judges, never_truncated, one_reason, short_rest, spelling_short, stage_bounds, value_or_fault}
 use Rattle.aclck.specs.ListInput.{ListEnds, RefusalEnds, ValueEnds, piece_len}
-use Rattle.aclck.specs.internal.Reading.{EndsNot, IsReaderFault, ReadsLittle, ReadsNone, ReadsPart, ReadsValue, is_failed_pull}
+use Rattle.aclck.specs.internal.Reading.{EndsNot, IsReaderFault, FitsOneValue, ReadsLittle, ReadsNone, ReadsPart, ReadsValue, is_failed_pull}
 use Rattle.aclck.specs.declared.input.xdr.ListFault.{ListFault}
 use Rattle.aclck.specs.declared.input.xdr.ListFault.TheVariants as unread
 use Rattle.aclck.specs.declared.input.xdr.Value.{Value}
@@ -41,10 +41,10 @@ size_small p (at_len n list k f m) t b = omega arith
 size_small p (at_who n list k f m l) t b = (stage_bounds p (at_who n list k f m l) t b).1
 size_small p (at_padding n list k f m w) t b = omega arith
 
--- a text that is cut short has less than 2 ^ 32 bytes
-pub cut_short : (p : Profile) (text : List ℕ) → IsCutShort p text → length text < 2 ^ 32
+-- a text that is cut short has no more bytes than one value can have
+pub cut_short : (p : Profile) (text : List ℕ) → IsCutShort p text → FitsOneValue (length text)
 cut_short p text c =
-    let f = c.1.1 in
+    let (_, (_, f)) = c in
     let b = begins p f.stage f.front f.border in
     omega (
       arith,
@@ -65,8 +65,9 @@ Ends p text = (end : ℕ) × ListEnds p text end
 -- each text begins with a value or has a fault
 pub ends_somewhere : (p : Profile) (text : List ℕ) → IsBytes text → Ends p text
 ends_somewhere p text b = elim (judges p text b) [
-  | inl v ↦ (v.1, inl (record { list = v.0; spelled = v.2 }))
-  | inr f ↦ (f.1.0, inr (record { offset = f.0.offset; reason = f.0.reason; has = f.1.1 }))
+  | inl v ↦ let (list, end, spelled) = v in (end, inl (record { list = list; spelled = spelled }))
+  | inr f ↦
+      let (fault, (end, has)) = f in (end, inr (record { offset = fault.offset; reason = fault.reason; has = has }))
 ]
 
 -- ---- a value
@@ -119,10 +120,10 @@ done_none p left given text pulled pull old new t feed list (Err e) parts c same
     })
 
 -- a value is short
-pub reads_small : (p : Profile) (left new_left : List ℕ) (old new : Option (List ℕ)) (r : Result Value ListFault)
-    → IfOk r (λ v. ReadsValue p left new_left old new v.list v.len) → IfOk r (λ v. v.len < 2 ^ 32)
-reads_small p left new_left old new (Err e) h = tt
-reads_small p left new_left old new (Ok v) h = omega (arith, h.is_len, spelled_short p v.list h.text h.spelled)
+pub short_value : (p : Profile) (left new_left : List ℕ) (old new : Option (List ℕ)) (r : Result Value ListFault)
+    → IfOk r (λ v. ReadsValue p left new_left old new v.list v.len) → IfOk r (λ v. FitsOneValue v.len)
+short_value p left new_left old new (Err e) h = tt
+short_value p left new_left old new (Ok v) h = omega (arith, h.is_len, spelled_short p v.list h.text h.spelled)
 
 -- a refused field that ends in a beginning of a text is refused in the beginning
 in_front : (p : Profile) (text pull : List ℕ) (o end : ℕ) (r : Reason) → IsFirstFault p (text ++ pull) o end r
@@ -199,30 +200,32 @@ end_reads p left given text pulled pull new_pulled old mid new feed (Ok v) parts
 end_reads p left given text pulled pull new_pulled old mid new feed (Err e) parts same c d none end is cut bytes
     (inl m) =
     let whole = end_whole left given text pulled pull new_pulled parts same none in
+    let (offset, (end_at, has)) = cut in
     rw m (record {
       given = given ++ new_pulled;
-      end = cut.1.0;
+      end = end_at;
       taken = Consumes-trans old mid new given new_pulled c d;
       is_end = inr (record {
-        offset = cut.0;
+        offset = offset;
         reason = Truncated;
-        has = subst (λ (x : List ℕ). IsFirstFault p x cut.0 cut.1.0 Truncated) whole cut.1.1;
+        has = subst (λ (x : List ℕ). IsFirstFault p x offset end_at Truncated) whole has;
       });
-      near = omega (arith, cut_end p (text ++ pull) cut.0 cut.1.0 cut.1.1 cut.1.1.breaks, ap length whole);
+      near = omega (arith, cut_end p (text ++ pull) offset end_at has has.breaks, ap length whole);
     })
 end_reads p left given text pulled pull new_pulled old mid new feed (Err e) parts same c d none end is still bytes
     (inr (f, at, h)) =
     let cut : FinishesStream (more p (text ++ pull)) (Err f) =
     subst (λ (s : StreamState). FinishesStream s (Err f)) is h in
-    let all : IsFirstFault p (text ++ pull) f.offset cut.1.0 Truncated =
-    subst (λ (r : Reason). IsFirstFault p (text ++ pull) f.offset cut.1.0 r) cut.0 cut.1.1 in
+    let (truncated, (end_at, has)) = cut in
+    let all : IsFirstFault p (text ++ pull) f.offset end_at Truncated =
+    subst (λ (r : Reason). IsFirstFault p (text ++ pull) f.offset end_at r) truncated has in
     let whole = end_whole left given text pulled pull new_pulled parts same none in
     rw at (record {
       given = given ++ new_pulled;
-      end = cut.1.0;
+      end = end_at;
       taken = Consumes-trans old mid new given new_pulled c d;
-      has = subst (λ (x : List ℕ). IsFirstFault p x f.offset cut.1.0 f.reason) whole cut.1.1;
-      near = omega (arith, cut_end p (text ++ pull) f.offset cut.1.0 all all.breaks, ap length whole);
+      has = subst (λ (x : List ℕ). IsFirstFault p x f.offset end_at f.reason) whole has;
+      near = omega (arith, cut_end p (text ++ pull) f.offset end_at all all.breaks, ap length whole);
       all = λ t. end;
     })
 
@@ -282,15 +285,16 @@ refused_reads p left given text pulled pull old new f e ok parts c same short cu
 refused_reads p left given text pulled pull old new f e ok parts c same short cut bytes (inl m) (inr is) =
     absurd (is.1 (ap (λ (g : Fault). g.reason) m))
 refused_reads p left given text pulled pull old new f e ok parts c same short cut bytes (inr h) (inr is) =
-    let far = behind_cut p text pull f.offset h.0.0 f.reason ok cut h.0.1 h.1 in
+    let ((end_at, has), not_cut) = h in
+    let far = behind_cut p text pull f.offset end_at f.reason ok cut has not_cut in
     let whole : text ++ pull ≡ left ++ given = ap (λ (x : List ℕ). text ++ x) same ∙ sym parts in
     rw is.0 (record {
       given = given;
-      end = h.0.0;
+      end = end_at;
       taken = c;
-      has = subst (λ (x : List ℕ). IsFirstFault p x f.offset h.0.0 f.reason) whole h.0.1;
+      has = subst (λ (x : List ℕ). IsFirstFault p x f.offset end_at f.reason) whole has;
       near = omega (arith, far, short, ap length parts, length-append text pulled);
-      all = λ t. absurd (h.1 t);
+      all = λ t. absurd (not_cut t);
     })
 
 -- ---- why a value was not read, and why an input does not end after one
@@ -305,13 +309,15 @@ none_little p left old new (unread.Refused f) h = record {
   is_end = inr (record { offset = f.offset; reason = f.reason; has = h.has });
   near = h.near;
 }
-none_little p left old new unread.Read h = record {
-  given = h.given;
-  end = h.cut.1.0;
-  taken = h.taken;
-  is_end = inr (record { offset = h.cut.0; reason = Truncated; has = h.cut.1.1 });
-  near = omega (arith, cut_end p (left ++ h.given) h.cut.0 h.cut.1.0 h.cut.1.1 h.cut.1.1.breaks);
-}
+none_little p left old new unread.Read h =
+    let (offset, (end_at, has)) = h.cut in
+    record {
+      given = h.given;
+      end = end_at;
+      taken = h.taken;
+      is_end = inr (record { offset = offset; reason = Truncated; has = has });
+      near = omega (arith, cut_end p (left ++ h.given) offset end_at has has.breaks);
+    }
 none_little p left old new unread.Memory h = h
 
 -- if a read failed, what came is cut short

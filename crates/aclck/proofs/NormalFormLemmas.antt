@@ -13,7 +13,7 @@ use Rattle.acl_eval.proofs.Same.{equivalence}
 use Rattle.acl_normal.specs.Normal.{IsNormal}
 use Rattle.acl_normal.specs.NormalForm.{IsNormalFormOf, Normalizes}
 use Rattle.acl_normal.proofs.unique.Spelled.{IsForm, form_is, form_of, forms_tell}
-use Rattle.acl_normal.proofs.unique.Unique.{unique}
+use Rattle.acl_normal.proofs.unique.Unique.{normal_unique}
 use Rattle.aclck.specs.Answer.{done}
 use Rattle.aclck.specs.Laws.{TellsListsApart}
 use Rattle.aclck.specs.commands.Normalize.{NormalizeAnswer}
@@ -48,14 +48,14 @@ own_form list normal accepted = record {
   lighter = omega arith;
   accepted = accepted;
   fits = λ p h. h;
-  only = λ other is same. unique list other normal is same;
+  only = λ other is same. normal_unique list other normal is same;
   itself = λ is. refl;
 }
 
 -- the spelling of the normal form of a list that is read is written
-normalizes : (p : Profile) (source form : List Ace) (x : List ℕ) → Xdr p source x → IsNormalFormOf source form
+normalizes_spelling : (p : Profile) (source form : List Ace) (x : List ℕ) → Xdr p source x → IsNormalFormOf source form
     → IsAccepted p form → Normalizes p x (spelling form)
-normalizes p source form x read is_form accepted = record {
+normalizes_spelling p source form x read is_form accepted = record {
   source = source;
   form = form;
   read = read;
@@ -67,12 +67,12 @@ normalizes p source form x read is_form accepted = record {
 pub own_bytes : (p : Profile) (form : List Ace) → IsNormal form → IsAccepted full form → IsAccepted p form
     → Normalizes p (spelling form) (spelling form)
 own_bytes p form normal accepted taken =
-    normalizes p form form (spelling form) (record { accepted = taken; spelled = refl }) (own_form form normal accepted)
-    taken
+    normalizes_spelling p form form (spelling form) (record { accepted = taken; spelled = refl })
+    (own_form form normal accepted) taken
 
 -- of bytes that were written, the same bytes are written, and no others
-pub twice : (p : Profile) (x a b : List ℕ) → IsProfile p → Normalizes p x a → Normalizes p a b ↔ (b ≡ a)
-twice p x a b is h = (
+pub normalizes_twice : (p : Profile) (x a b : List ℕ) → IsProfile p → Normalizes p x a → Normalizes p a b ↔ (b ≡ a)
+normalizes_twice p x a b is h = (
   λ k.
       let read : k.source ≡ h.form = one_of p k.source h.form a is k.read h.spelled in
       let same : k.form ≡ k.source = k.is_form.itself (subst IsNormal (sym read) h.is_form.normal) in
@@ -84,11 +84,11 @@ twice p x a b is h = (
 )
 
 -- the spelling of the normal form of a list that was read is the answer
-pub written_form : (profile : CodeProfile) → profile.flags.bits ≤ 255 → (source form : List Ace) (x : List ℕ)
+pub written_form : {source form : List Ace} {x : List ℕ} (profile : CodeProfile) → profile.flags.bits ≤ 255
     → Xdr (profile_of profile) source x → IsNormalFormOf source form
     → NormalizeAnswer (profile_of profile) x (done outcome.Yes (spelling form))
-written_form profile le source form x read is_form = (
+written_form {source} {form} {x} profile le read is_form = (
   refl,
-  normalizes (profile_of profile) source form x read is_form
+  normalizes_spelling (profile_of profile) source form x read is_form
       (form_of (profile_of profile) source form (code_profile profile le) read.accepted is_form).accepted,
 )

@@ -68,14 +68,15 @@ one_early (any_words ∷ ts) n sound e =
     (sym one) (none_early ts (index_after 1 (filled (rule_from any_words))) 1 none)
 
 -- four facts about a table are what `clap` requires of a command, in the form in which it joins them
-shape : (a b c d : Bool) → a ≡ true → b ≡ true → c ≡ false → d ≡ true
+clap_form : {a b c d : Bool} → a ≡ true → b ≡ true → c ≡ false → d ≡ true
     → (((a && true) && ((b && not c) && true)) && (d && true)) ≡ true
-shape a b c d ea eb ec ed = rw (ea, eb, ec, ed) refl
+clap_form ea eb ec ed = rw (ea, eb, ec, ed) refl
 
 -- the exact clauses of `clap` apply to the command of each such table
 pub is_free_from : (name : Text) (terms : List Term) → is_sound terms ≡ true
     → is_simple_and_free (app_from name terms) ≡ true
 unfolding app_from
 is_free_from name terms sound =
-    let plain = all_plain terms 1 in
-    shape _ _ _ _ plain.0 plain.1 (one_early terms (placed (filled_from 1 (map rule_from terms))) sound refl) plain.2
+    let (simple, placed_simple, placed_free) = all_plain terms 1 in
+    let early = one_early terms (placed (filled_from 1 (map rule_from terms))) sound refl in
+    clap_form simple placed_simple early placed_free

@@ -9,7 +9,7 @@ use Rattle.std.proofs.lemmas.Str.Parse.{without_leading_plus_none}
 use Rattle.acl_perm.proofs.Bools.{and_true}
 use Rattle.acl_perm.specs.Ascii.{hyphen, letter_r, letter_w, letter_x}
 use Rattle.acl_posix.specs.Fields.{is_permission}
-use Rattle.aclck.specs.Values.{are_digits, is_letter}
+use Rattle.aclck.specs.Values.{is_letter, is_numeral}
 
 -- bytes that pass the test for digits are digits
 all_digits : (radix : ℕ) (bs : List ℕ) → list_all (λ b. is_digit b radix) bs ≡ true → AllDigits radix bs
@@ -33,39 +33,41 @@ some_byte [] h = absurd cc
 some_byte (b ∷ bs) h = omega arith
 
 -- a text of at least one digit, and of digits alone, is a numeral
-numeral : (radix : ℕ) (bs : List ℕ) → are_digits radix bs ≡ true → IsNumeral radix bs
-numeral radix bs h =
+is_numeral_is : (radix : ℕ) (bs : List ℕ) → is_numeral radix bs ≡ true → IsNumeral radix bs
+is_numeral_is radix bs h =
     let both = and_true (not (length bs == 0)) (list_all (λ b. is_digit b radix) bs) h in
     (some_byte bs both.0, all_digits radix bs both.1)
 
 -- a text of digits has no plus sign that is removed
-plain : (radix : ℕ) (bs : List ℕ) → radix ≤ 10 → are_digits radix bs ≡ true → without_leading_plus bs ≡ bs
-plain radix bs low h = let all = numeral radix bs h in without_leading_plus_none bs (no_plus radix bs low all.0 all.1)
+no_leading_plus : (radix : ℕ) (bs : List ℕ) → radix ≤ 10 → is_numeral radix bs ≡ true → without_leading_plus bs ≡ bs
+no_leading_plus radix bs low h =
+    let (some, digits) = is_numeral_is radix bs h in
+    without_leading_plus_none bs (no_plus radix bs low some digits)
 
 -- digits are read as their value, or the value does not fit
-pub parsed : {E : Type 0} (k radix : ℕ) (bs : List ℕ) (r : Result ℕ E) → radix ≤ 10 → are_digits radix bs ≡ true
+pub parsed_digits : {E : Type 0} (k radix : ℕ) (bs : List ℕ) (r : Result ℕ E) → radix ≤ 10 → is_numeral radix bs ≡ true
     → ParsesUnsigned k radix bs r → MatchResult r (λ v. v ≡ digits_value radix bs) (λ _. 2 ^ k ≤ digits_value radix bs)
-parsed k radix bs (Ok v) low h read = read.1 ∙ ap (digits_value radix) (plain radix bs low h)
-parsed k radix bs (Err e) low h read =
-    let same = plain radix bs low h in
+parsed_digits k radix bs (Ok v) low h read = read.1 ∙ ap (digits_value radix) (no_leading_plus radix bs low h)
+parsed_digits k radix bs (Err e) low h read =
+    let same = no_leading_plus radix bs low h in
     let large : ¬ (digits_value radix bs < 2 ^ k) = λ small.
     read (
-      subst (IsNumeral radix) (sym same) (numeral radix bs h),
+      subst (IsNumeral radix) (sym same) (is_numeral_is radix bs h),
       subst (λ ds. digits_value radix ds < 2 ^ k) (sym same) small,
     ) in
     omega (arith, large)
 
 -- if one of three tests holds, one of four holds
-wider : (r w x h : Bool) → (r || w || x) ≡ true → (r || w || x || h) ≡ true
-wider true w x h e = refl
-wider false true x h e = refl
-wider false false true h e = refl
-wider false false false h e = absurd cc
+or_wider : (r w x h : Bool) → (r || w || x) ≡ true → (r || w || x || h) ≡ true
+or_wider true w x h e = refl
+or_wider false true x h e = refl
+or_wider false false true h e = refl
+or_wider false false false h e = absurd cc
 
 -- the letters r, w and x are permissions
 pub are_permissions : (bs : List ℕ) → list_all is_letter bs ≡ true → list_all is_permission bs ≡ true
 are_permissions [] h = refl
 are_permissions (b ∷ bs) h =
     let both = and_true (is_letter b) (list_all is_letter bs) h in
-    let one = wider (b == letter_r) (b == letter_w) (b == letter_x) (b == hyphen) both.0 in
+    let one = or_wider (b == letter_r) (b == letter_w) (b == letter_x) (b == hyphen) both.0 in
     subst (λ t. (t && list_all is_permission bs) ≡ true) (sym one) (are_permissions bs both.1)

@@ -51,8 +51,8 @@ check owner user groups mask profile = record {
   profile = profile;
 }
 
--- what lines of `check-nfs` ask for, and lines that ask for nothing
-check_nfs_lines :
+-- what lines of `check-nfs` ask for by their names, masks and profiles
+check_nfs_value_lines :
     -- an option and its value in two words
     Asks (codes "check-nfs --owner o --group g --user u --mask READ_DATA")
     name.CheckNfs (check (codes "o") (codes "u") [] 1 full)
@@ -76,8 +76,14 @@ check_nfs_lines :
     × AsksNothing (codes "check-nfs --owner=o --group=g --user=u --mask=WRITE_RETENTION|READ_DATA --profile=narrow")
     -- a word that names no profile
     × AsksNothing (codes "check-nfs --owner=o --group=g --user=u --mask=none --profile=wide")
+unfolding clap_on_literals is_taken rows_at app_from task_named check_nfs_in mask_value set_named profile_in
+    profile_value
+check_nfs_value_lines = (refl, refl, refl, refl, refl, refl, refl, refl, refl)
+
+-- lines of `check-nfs` that lack a value, or have words that begin with hyphens
+check_nfs_word_lines :
     -- a required option is missing
-    × AsksNothing (codes "check-nfs --group=g --user=u --mask=none")
+    AsksNothing (codes "check-nfs --group=g --user=u --mask=none")
     -- an empty name is no name
     × AsksNothing (codes "check-nfs --owner= --group=g --user=u --mask=none")
     -- an empty group is no name either
@@ -95,7 +101,7 @@ check_nfs_lines :
     × AsksNothing (codes "check-nfs --owner=o --owner=o --group=g --user=u --mask=none")
 unfolding clap_on_literals is_taken rows_at app_from task_named check_nfs_in mask_value set_named profile_in
     profile_value
-check_nfs_lines = (refl, refl, refl, refl, refl, refl, refl, refl, refl, refl, refl, refl, refl, refl, refl, refl, refl)
+check_nfs_word_lines = (refl, refl, refl, refl, refl, refl, refl, refl)
 
 -- lines without the name of a command ask for nothing
 no_command :

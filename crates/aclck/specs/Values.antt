@@ -49,12 +49,12 @@ abbrev pub IsDigitRadix : ℕ → Type 0
 IsDigitRadix radix = (2 ≤ radix) × (radix ≤ 10)
 
 -- digits alone, and at least one
-abbrev pub are_digits : ℕ → Text → Bool
-are_digits radix text = not (length text == 0) && list_all (λ b. is_digit b radix) text
+abbrev pub is_numeral : ℕ → Text → Bool
+is_numeral radix text = not (length text == 0) && list_all (λ b. is_digit b radix) text
 
 -- an id: decimal digits alone, of at most the greatest id
 unfoldable pub id_value : Text → Option ℕ
-id_value text = if are_digits 10 text then id_of text else None
+id_value text = if is_numeral 10 text then id_of text else None
 
 -- what all of the texts spell, if each spells something
 abbrev pub each_value : (Text → Option ℕ) → List Text → Option (List ℕ)
@@ -68,7 +68,7 @@ ids_value text = each_value id_value (slice_split (λ b. b == comma) text)
 
 -- a mode: one to four octal digits, of at most 0o777
 unfoldable pub mode_value : Text → Option ℕ
-mode_value text = if are_digits 8 text && nat_le (length text) 4 && nat_le (digits_value 8 text) all_mode_bits
+mode_value text = if is_numeral 8 text && nat_le (length text) 4 && nat_le (digits_value 8 text) all_mode_bits
     then Some (digits_value 8 text) else None
 
 -- r, w or x

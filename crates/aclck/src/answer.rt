@@ -77,7 +77,7 @@ impl From<WriteFault> for RunFault {
 }
 
 /// Where a fault comes from.
-#[derive(Clone, Copy, Debug, PartialEq, Eq)]
+#[derive(Clone, Copy)]
 pub enum Origin {
     /// The input is refused.
     Input,

@@ -1,7 +1,7 @@
 //! The program over a source and sinks.
-ghost use Rattle.std.specs.Prelude.{◌≡◌, IfOk, Err, false};
+ghost use Rattle.std.specs.Prelude.{◌≡◌, IfOk, Err, Some, false};
 ghost use Rattle.aclck.specs.Line.{rows_in, texts, words_of};
-ghost use Rattle.aclck.specs.Task.{is_command, task_in, task_of};
+ghost use Rattle.aclck.specs.Task.{is_command, task_held, task_in, task_of};
 ghost use Rattle.aclck.specs.Command.{RunsWords};
 ghost use Rattle.aclck.specs.internal.Performing.{RunsTask, command_fault_of, status_of};
 
@@ -14,7 +14,7 @@ use std::alloc::{AllocError, Global};
 use std::io::Write;
 
 /// Why a command line was not carried out.
-#[derive(Clone, Copy, Debug, PartialEq, Eq)]
+#[derive(Clone, Copy, Debug)]
 pub enum CommandFault {
     /// The first word names no command, the command does not take the words, or a value is bad.
     Usage,
@@ -133,7 +133,37 @@ fn perform_named<S: Source, K: Sink>(
         K.contents K.failure_count out.old out.new result }
 {
     let texts = words_in(alloc, matches)?;
-    let task = Task::read(alloc, name, matches, texts.as_slice())?;
+    perform_at(alloc, name, matches, texts.as_slice(), source, out)
+}
+
+// Reads the values of a command, and runs it. `words` are the words outside options.
+fn perform_at<'a, 'w: 'a, S: Source, K: Sink>(
+    alloc: Global,
+    name: Name,
+    matches: &ArgMatches<'w>,
+    words: &'a [&'a [u8]],
+    source: &mut S,
+    out: &mut K,
+) -> Result<Outcome, CommandFault>
+    ensures { RunsTask (task_in name (rows_in matches.now) (texts words.entry.now))
+        S.remaining S.failure_count source.old source.new
+        K.contents K.failure_count out.old out.new result }
+{
+    let task = Task::read(alloc, name, matches, words)?;
+    run_task(alloc, &task, source, out)
+}
+
+// Runs a command. A fault of the run is a fault of the command.
+fn run_task<S: Source, K: Sink>(
+    alloc: Global,
+    task: &Task<'_>,
+    source: &mut S,
+    out: &mut K,
+) -> Result<Outcome, CommandFault>
+    ensures { RunsTask (Some (task_held task.now))
+        S.remaining S.failure_count source.old source.new
+        K.contents K.failure_count out.old out.new result }
+{
     Ok(task.run(alloc, source, out)?)
 }
 

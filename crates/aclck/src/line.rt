@@ -12,7 +12,7 @@ use clap::{Arg, ArgAction, ArgMatches, Command};
 use std::alloc::{AllocError, AllocFailed, Global};
 
 /// An option of a command, or the words that belong to no option.
-#[derive(Clone, Copy, Debug)]
+#[derive(Clone, Copy)]
 pub enum Argument {
     /// `--NAME VALUE`, which is required.
     Required(&'static str),
@@ -45,7 +45,7 @@ impl Argument {
 }
 
 /// Why words ask for nothing.
-#[derive(Clone, Copy, Debug, PartialEq, Eq)]
+#[derive(Clone, Copy, Debug)]
 pub enum LineFault {
     /// The command does not take the words, or a value is bad.
     Usage,

@@ -47,7 +47,7 @@ use table::run_table;
 use values::{BitTable, CheckNfs, CheckPosix, Child, Chmod, Create, Normalize, ShowPosix};
 
 /// A command of the program, which the first word of a line names.
-#[derive(Clone, Copy, Debug, PartialEq, Eq)]
+#[derive(Clone, Copy)]
 pub enum Name {
     ShowPosix,
     CheckPosix,

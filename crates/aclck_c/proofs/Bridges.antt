@@ -11,15 +11,15 @@ use Rattle.aclck_c.specs.declared.posix.names.RawName.{RawName}
 use Rattle.aclck_c.specs.internal.Failures.{IsBridgeFailure, IsFileFailure, of_bridge}
 
 -- the list of the file is above a limit, or memory ran out
-pub failures : (given : List RawName) (bytes : List ℕ) (found : PosixFile) (f : BridgeFault)
+pub bridge_failure : (given : List RawName) (bytes : List ℕ) (found : PosixFile) (f : BridgeFault)
     → SpellsFile given bytes found → IsBridgeFault (bridge_list found.access) f
     → IsBridgeFailure given bytes (of_bridge f)
-failures given bytes found bridge.Limits spells h = inr (record { file = found; read = spells; past = h }, refl)
-failures given bytes found bridge.Memory spells h = tt
+bridge_failure given bytes found bridge.Limits spells h = inr (record { file = found; read = spells; past = h }, refl)
+bridge_failure given bytes found bridge.Memory spells h = tt
 
 -- what is refused of the names or the text
-pub of_file : (given : List RawName) (bytes : List ℕ) (f : Failure) → IsFileFailure given bytes f
+pub file_failure : (given : List RawName) (bytes : List ℕ) (f : Failure) → IsFileFailure given bytes f
     → IsBridgeFailure given bytes f
-of_file given bytes failure.BadArgument h = h
-of_file given bytes (failure.Refused shown) h = inl h
-of_file given bytes failure.Memory h = tt
+file_failure given bytes failure.BadArgument h = h
+file_failure given bytes (failure.Refused shown) h = inl h
+file_failure given bytes failure.Memory h = tt

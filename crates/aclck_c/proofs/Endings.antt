@@ -16,28 +16,31 @@ use Rattle.aclck_c.specs.internal.Endings.{EndsCall, ReportsFailure}
 use Rattle.aclck_c.specs.internal.Failures.{IsFailure, IsListFailure}
 
 -- a call that fails returns neither 0 nor 5
-failed : (f : Failure) (fault after : Refusal) (returned : ℕ) → ReportsFailure f fault after returned
+fails_without_bytes : (f : Failure) (fault after : Refusal) (returned : ℕ) → ReportsFailure f fault after returned
     → (returned ≡ status.done → ⊥) × (returned ≡ status.short → ⊥)
-failed failure.BadArgument fault after returned h = (λ is. omega (arith, is, h.0), λ is. omega (arith, is, h.0))
-failed (failure.Refused shown) fault after returned h = (λ is. omega (arith, is, h.0), λ is. omega (arith, is, h.0))
-failed failure.Memory fault after returned h = (λ is. omega (arith, is, h.0), λ is. omega (arith, is, h.0))
+fails_without_bytes failure.BadArgument fault after returned h =
+    (λ is. omega (arith, is, h.0), λ is. omega (arith, is, h.0))
+fails_without_bytes (failure.Refused shown) fault after returned h =
+    (λ is. omega (arith, is, h.0), λ is. omega (arith, is, h.0))
+fails_without_bytes failure.Memory fault after returned h =
+    (λ is. omega (arith, is, h.0), λ is. omega (arith, is, h.0))
 
 -- a call that made bytes returns 0 or 5
-puts : (bytes : Vec ℕ) {buffer buffer_after : List ℕ} {needed needed_after : ℕ} {fault fault_after : Refusal}
+puts_no_other : (bytes : Vec ℕ) {buffer buffer_after : List ℕ} {needed needed_after : ℕ} {fault fault_after : Refusal}
     {returned : ℕ} → EndsCall (Ok bytes) buffer buffer_after needed needed_after fault fault_after returned
     → (number : ℕ) → 0 < number → number < 5 → returned ≡ number → ⊥
-puts bytes ends number above below is = elim ends.put.known [
+puts_no_other bytes ends number above below is = elim ends.put.known [
   | inl put ↦ omega (arith, above, is, put)
   | inr put ↦ omega (arith, below, is, put)
 ]
 
 -- the bytes that a call made are in the buffer
-pub written : (Means : List ℕ → Type 0) (made : Result (Vec ℕ) Failure) {buffer buffer_after : List ℕ}
+pub writes_bytes : (Means : List ℕ → Type 0) (made : Result (Vec ℕ) Failure) {buffer buffer_after : List ℕ}
     {needed needed_after : ℕ} {fault fault_after : Refusal} {returned : ℕ}
     → IfOk made (λ bytes. Means bytes.items)
     → EndsCall made buffer buffer_after needed needed_after fault fault_after returned
     → WritesBytes status.done Means buffer buffer_after needed needed_after returned
-written Means (Ok bytes) means ends = record {
+writes_bytes Means (Ok bytes) means ends = record {
   done = λ is. record { text = bytes.items; means = means; puts = ends.put.put is; reported = ends.put.reported };
   short = λ is. record { text = bytes.items; means = means; short = ends.put.short is; reported = ends.put.reported };
   unwritten = λ not. elim ends.put.known [
@@ -49,8 +52,8 @@ written Means (Ok bytes) means ends = record {
     | inr is ↦ absurd (fits is)
   ];
 }
-written Means (Err f) {fault} {fault_after} {returned} means ends =
-    let fails = failed f fault fault_after returned ends.reported in
+writes_bytes Means (Err f) {fault} {fault_after} {returned} means ends =
+    let fails = fails_without_bytes f fault fault_after returned ends.reported in
     record {
       done = λ is. absurd (fails.0 is);
       short = λ is. absurd (fails.1 is);
@@ -66,119 +69,121 @@ in_words Means Says (Ok bytes) follows h = follows bytes.items h
 in_words Means Says (Err f) follows h = tt
 
 -- the fault of the caller is that of the failure
-pub reported : (AreGood Known : Type 0) (IsRefused : Refusal → Type 0) (made : Result (Vec ℕ) Failure)
+pub reports_fault : (AreGood Known : Type 0) (IsRefused : Refusal → Type 0) (made : Result (Vec ℕ) Failure)
     {buffer buffer_after : List ℕ} {needed needed_after : ℕ} {fault fault_after : Refusal} {returned : ℕ}
     → IfErr made (IsFailure AreGood IsRefused Known)
     → EndsCall made buffer buffer_after needed needed_after fault fault_after returned
     → ReportsFault IsRefused fault fault_after returned
-reported AreGood Known IsRefused (Ok bytes) says ends =
-    record { refused = λ is. absurd (puts bytes ends 2 (omega arith) (omega arith) is); kept = λ _. ends.kept }
-reported AreGood Known IsRefused (Err failure.BadArgument) says ends =
+reports_fault AreGood Known IsRefused (Ok bytes) says ends =
+    record { refused = λ is. absurd (puts_no_other bytes ends 2 (omega arith) (omega arith) is); kept = λ _. ends.kept }
+reports_fault AreGood Known IsRefused (Err failure.BadArgument) says ends =
     record { refused = λ is. absurd (omega (arith, is, ends.reported.0)); kept = λ _. ends.reported.1 }
-reported AreGood Known IsRefused (Err (failure.Refused shown)) says ends =
+reports_fault AreGood Known IsRefused (Err (failure.Refused shown)) says ends =
     record { refused = λ _. subst IsRefused (sym ends.reported.1) says; kept = λ not. absurd (not ends.reported.0) }
-reported AreGood Known IsRefused (Err failure.Memory) says ends =
+reports_fault AreGood Known IsRefused (Err failure.Memory) says ends =
     record { refused = λ is. absurd (omega (arith, is, ends.reported.0)); kept = λ _. ends.reported.1 }
 
 -- what is known if memory ran out
-ran_out : (AreGood Known : Type 0) (IsRefused : Refusal → Type 0) (made : Result (Vec ℕ) Failure)
+knows_at_memory : (AreGood Known : Type 0) (IsRefused : Refusal → Type 0) (made : Result (Vec ℕ) Failure)
     {buffer buffer_after : List ℕ} {needed needed_after : ℕ} {fault fault_after : Refusal} {returned : ℕ}
     → IfErr made (IsFailure AreGood IsRefused Known)
     → EndsCall made buffer buffer_after needed needed_after fault fault_after returned
     → returned ≡ status.memory → Known
-ran_out AreGood Known IsRefused (Ok bytes) says ends is =
-    absurd (puts bytes ends 4 (omega arith) (omega arith) is)
-ran_out AreGood Known IsRefused (Err failure.BadArgument) says ends is = absurd (omega (arith, is, ends.reported.0))
-ran_out AreGood Known IsRefused (Err (failure.Refused shown)) says ends is =
+knows_at_memory AreGood Known IsRefused (Ok bytes) says ends is =
+    absurd (puts_no_other bytes ends 4 (omega arith) (omega arith) is)
+knows_at_memory AreGood Known IsRefused (Err failure.BadArgument) says ends is =
     absurd (omega (arith, is, ends.reported.0))
-ran_out AreGood Known IsRefused (Err failure.Memory) says ends is = says
+knows_at_memory AreGood Known IsRefused (Err (failure.Refused shown)) says ends is =
+    absurd (omega (arith, is, ends.reported.0))
+knows_at_memory AreGood Known IsRefused (Err failure.Memory) says ends is = says
 
 -- what is known if an argument is bad
-pub is_bad : (AreGood Known : Type 0) (IsRefused : Refusal → Type 0) (made : Result (Vec ℕ) Failure)
+pub bad_argument : (AreGood Known : Type 0) (IsRefused : Refusal → Type 0) (made : Result (Vec ℕ) Failure)
     {buffer buffer_after : List ℕ} {needed needed_after : ℕ} {fault fault_after : Refusal} {returned : ℕ}
     → IfErr made (IsFailure AreGood IsRefused Known)
     → EndsCall made buffer buffer_after needed needed_after fault fault_after returned
     → returned ≡ status.bad_argument → AreGood → ⊥
-is_bad AreGood Known IsRefused (Ok bytes) says ends is =
-    absurd (puts bytes ends 3 (omega arith) (omega arith) is)
-is_bad AreGood Known IsRefused (Err failure.BadArgument) says ends is = says
-is_bad AreGood Known IsRefused (Err (failure.Refused shown)) says ends is = absurd (omega (arith, is, ends.reported.0))
-is_bad AreGood Known IsRefused (Err failure.Memory) says ends is = absurd (omega (arith, is, ends.reported.0))
+bad_argument AreGood Known IsRefused (Ok bytes) says ends is =
+    absurd (puts_no_other bytes ends 3 (omega arith) (omega arith) is)
+bad_argument AreGood Known IsRefused (Err failure.BadArgument) says ends is = says
+bad_argument AreGood Known IsRefused (Err (failure.Refused shown)) says ends is =
+    absurd (omega (arith, is, ends.reported.0))
+bad_argument AreGood Known IsRefused (Err failure.Memory) says ends is = absurd (omega (arith, is, ends.reported.0))
 
 -- no other status is returned
-pub known : (made : Result (Vec ℕ) Failure) {buffer buffer_after : List ℕ} {needed needed_after : ℕ}
+pub is_known_status : (made : Result (Vec ℕ) Failure) {buffer buffer_after : List ℕ} {needed needed_after : ℕ}
     {fault fault_after : Refusal} {returned : ℕ}
     → EndsCall made buffer buffer_after needed needed_after fault fault_after returned
     → status.IsOneOf (status.done_or_short ++ status.failures) returned
-known (Ok bytes) ends = elim ends.put.known [
+is_known_status (Ok bytes) ends = elim ends.put.known [
   | inl is ↦ inl is
   | inr is ↦ inr (inl is)
 ]
-known (Err (failure.Refused shown)) ends = inr (inr (inl ends.reported.0))
-known (Err failure.BadArgument) ends = inr (inr (inr (inl ends.reported.0)))
-known (Err failure.Memory) ends = inr (inr (inr (inr (inl ends.reported.0))))
+is_known_status (Err (failure.Refused shown)) ends = inr (inr (inl ends.reported.0))
+is_known_status (Err failure.BadArgument) ends = inr (inr (inr (inl ends.reported.0)))
+is_known_status (Err failure.Memory) ends = inr (inr (inr (inr (inl ends.reported.0))))
 
 -- what a call says about its input, with arguments that are good
-pub of_input : (AreGood Known : Type 0) (IsRefused : Refusal → Type 0) (made : Result (Vec ℕ) Failure)
+pub judges_input : (AreGood Known : Type 0) (IsRefused : Refusal → Type 0) (made : Result (Vec ℕ) Failure)
     {buffer buffer_after : List ℕ} {needed needed_after : ℕ} {fault fault_after : Refusal} {returned : ℕ}
     → AreGood → IfErr made (IsFailure ⊤ IsRefused Known)
     → EndsCall made buffer buffer_after needed needed_after fault fault_after returned
     → JudgesInput IsRefused Known AreGood status.done_or_short fault fault_after returned
-of_input AreGood Known IsRefused made good says ends = record {
-  refusal = reported ⊤ Known IsRefused made says ends;
-  memory = ran_out ⊤ Known IsRefused made says ends;
-  arguments = record { bad = λ is _. is_bad ⊤ Known IsRefused made says ends is tt; good = λ _. good };
-  known = known made ends;
+judges_input AreGood Known IsRefused made good says ends = record {
+  refusal = reports_fault ⊤ Known IsRefused made says ends;
+  memory = knows_at_memory ⊤ Known IsRefused made says ends;
+  arguments = record { bad = λ is _. bad_argument ⊤ Known IsRefused made says ends is tt; good = λ _. good };
+  known = is_known_status made ends;
 }
 
 -- a call that made bytes of a list, with arguments that are good
-pub of_list : (p q : Profile) (list : List ℕ) (AreGood : Type 0) (Means : Profile → List ℕ → Type 0)
-    (made : Result (Vec ℕ) Failure) {buffer buffer_after : List ℕ} {needed needed_after : ℕ}
+pub writes_of_list : {p q : Profile} {list : List ℕ} {AreGood : Type 0} (Means : Profile → List ℕ → Type 0)
+    {made : Result (Vec ℕ) Failure} {buffer buffer_after : List ℕ} {needed needed_after : ℕ}
     {fault fault_after : Refusal} {returned : ℕ}
     → q ≡ p → AreGood → IfOk made (λ bytes. Means q bytes.items) → IfErr made (IsListFailure q list 0)
     → EndsCall made buffer buffer_after needed needed_after fault fault_after returned
     → WritesOfList p list AreGood (Means p) buffer buffer_after needed needed_after fault fault_after returned
-of_list p q list AreGood Means made same good means says ends =
+writes_of_list {p} {list} {AreGood} Means {made} same good means says ends =
     let says_p = subst (λ (r : Profile). IfErr made (IsListFailure r list 0)) same says in
     record {
-      bytes = written (Means p) made
+      bytes = writes_bytes (Means p) made
           (subst (λ (r : Profile). IfOk made (λ bytes. Means r bytes.items)) same means) ends;
-      input = of_input AreGood (AreList p list) (IsRefusedList p list 0) made good says_p ends;
+      input = judges_input AreGood (AreList p list) (IsRefusedList p list 0) made good says_p ends;
     }
 
 -- the names are good, unless an argument is bad or memory ran out
-named : (names : List RawName) (IsRefused : Refusal → Type 0) (Means : List ℕ → Type 0) (made : Result (Vec ℕ) Failure)
-    {buffer buffer_after : List ℕ} {needed needed_after : ℕ} {fault fault_after : Refusal} {returned : ℕ}
+names_are_good : (names : List RawName) (IsRefused : Refusal → Type 0) (Means : List ℕ → Type 0)
+    (made : Result (Vec ℕ) Failure) {buffer buffer_after : List ℕ} {needed needed_after : ℕ} {fault fault_after : Refusal} {returned : ℕ}
     → ((text : List ℕ) → Means text → AreGoodNames names) → ((shown : Refusal) → IsRefused shown → AreGoodNames names)
     → IfOk made (λ bytes. Means bytes.items) → IfErr made (IsFailure (AreGoodNames names) IsRefused ⊤)
     → EndsCall made buffer buffer_after needed needed_after fault fault_after returned
     → (returned ≢ status.bad_argument) → (returned ≢ status.memory) → AreGoodNames names
-named names IsRefused Means (Ok bytes) by_text by_refusal means says ends not_bad not_memory =
+names_are_good names IsRefused Means (Ok bytes) by_text by_refusal means says ends not_bad not_memory =
     by_text bytes.items means
-named names IsRefused Means (Err failure.BadArgument) by_text by_refusal means says ends not_bad not_memory =
+names_are_good names IsRefused Means (Err failure.BadArgument) by_text by_refusal means says ends not_bad not_memory =
     absurd (not_bad ends.reported.0)
-named names IsRefused Means (Err (failure.Refused shown)) by_text by_refusal means says ends not_bad not_memory =
-    by_refusal shown says
-named names IsRefused Means (Err failure.Memory) by_text by_refusal means says ends not_bad not_memory =
+names_are_good names IsRefused Means (Err (failure.Refused shown)) by_text by_refusal means says ends not_bad
+    not_memory = by_refusal shown says
+names_are_good names IsRefused Means (Err failure.Memory) by_text by_refusal means says ends not_bad not_memory =
     absurd (not_memory ends.reported.0)
 
 -- a call that made bytes of the text of POSIX ACLs, with arguments other than the names that are good
-pub of_file : (names : List RawName) (IsRefused : Refusal → Type 0) (AreGood : Type 0) (Means : List ℕ → Type 0)
-    (made : Result (Vec ℕ) Failure) {buffer buffer_after : List ℕ} {needed needed_after : ℕ}
+pub writes_of_file : {names : List RawName} {IsRefused : Refusal → Type 0} {AreGood : Type 0} {Means : List ℕ → Type 0}
+    {made : Result (Vec ℕ) Failure} {buffer buffer_after : List ℕ} {needed needed_after : ℕ}
     {fault fault_after : Refusal} {returned : ℕ}
     → ((text : List ℕ) → Means text → AreGoodNames names) → ((shown : Refusal) → IsRefused shown → AreGoodNames names)
     → AreGood → IfOk made (λ bytes. Means bytes.items) → IfErr made (IsFailure (AreGoodNames names) IsRefused ⊤)
     → EndsCall made buffer buffer_after needed needed_after fault fault_after returned
     → WritesOfFile names AreGood IsRefused Means buffer buffer_after needed needed_after fault fault_after returned
-of_file names IsRefused AreGood Means made by_text by_refusal good means says ends = record {
-  bytes = written Means made means ends;
+writes_of_file {names} {IsRefused} {Means} {made} by_text by_refusal good means says ends = record {
+  bytes = writes_bytes Means made means ends;
   input = record {
-    refusal = reported (AreGoodNames names) ⊤ IsRefused made says ends;
+    refusal = reports_fault (AreGoodNames names) ⊤ IsRefused made says ends;
     arguments = record {
-      bad = λ is named _. is_bad (AreGoodNames names) ⊤ IsRefused made says ends is named;
+      bad = λ is named _. bad_argument (AreGoodNames names) ⊤ IsRefused made says ends is named;
       good = λ _. good;
-      named = named names IsRefused Means made by_text by_refusal means says ends;
+      named = names_are_good names IsRefused Means made by_text by_refusal means says ends;
     };
-    known = known made ends;
+    known = is_known_status made ends;
   };
 }

@@ -18,25 +18,25 @@ no_table : (given : List RawName) → names_added empty_table given ≡ None →
 no_table given none good = false≢true (subst (λ (t : Option Table). IsSome t) none good)
 
 -- what is refused of the names
-pub of_names : (given : List RawName) (bytes : List ℕ) (f : Failure)
+pub names_failure : (given : List RawName) (bytes : List ℕ) (f : Failure)
     → ReadsTable (names_added empty_table given) (Err f) → IsFileFailure given bytes f
-of_names given bytes failure.BadArgument h = no_table given h
-of_names given bytes (failure.Refused shown) h = absurd h
-of_names given bytes failure.Memory h = h
+names_failure given bytes failure.BadArgument h = no_table given h
+names_failure given bytes (failure.Refused shown) h = absurd h
+names_failure given bytes failure.Memory h = h
 
 -- the refusal of a fault of the text, or that memory ran out
-of_fault : (given : List RawName) (bytes : List ℕ) (f : TextFault) (shown : Option Refusal) → HasTextFault given bytes f
-    → shown ≡ posix_refusal f → IsFileFailure given bytes (of_refusal shown)
-of_fault given bytes f (Some shown) has is = record { fault = f; has = has; is = is }
-of_fault given bytes f None has is = tt
+fault_failure : (given : List RawName) (bytes : List ℕ) (f : TextFault) (shown : Option Refusal)
+    → HasTextFault given bytes f → shown ≡ posix_refusal f → IsFileFailure given bytes (of_refusal shown)
+fault_failure given bytes f (Some shown) has is = record { fault = f; has = has; is = is }
+fault_failure given bytes f None has is = tt
 
 -- what is refused of the text, with the table of the names
-pub of_text : (given : List RawName) (bytes : List ℕ) (table : Table) (f : TextFault) → AreNames given table
+pub text_failure : (given : List RawName) (bytes : List ℕ) (table : Table) (f : TextFault) → AreNames given table
     → IsTextFaultOrMemory bytes table f → IsFileFailure given bytes (of_posix_text f)
-of_text given bytes table f named (inl ran_out) = subst (λ (g : TextFault).
+text_failure given bytes table f named (inl ran_out) = subst (λ (g : TextFault).
     IsFileFailure given bytes (of_posix_text g)) (sym ran_out) tt
-of_text given bytes table f named (inr has) =
-    of_fault given bytes f (posix_refusal f) (record { table = table; named = named; has = has }) refl
+text_failure given bytes table f named (inr has) =
+    fault_failure given bytes f (posix_refusal f) (record { table = table; named = named; has = has }) refl
 
 -- names that make a table are good
 pub good_names : (given : List RawName) (table : Table) → AreNames given table → AreGoodNames given

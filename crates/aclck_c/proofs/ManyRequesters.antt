@@ -7,12 +7,12 @@ use Rattle.std.proofs.lemmas.List.{get_or-set_other}
 use Rattle.std.proofs.lemmas.Option.{get_or_from_slice_get}
 
 -- if the answers before a place are right, and a right answer is written at the place, those up to the place are right
-pub one_more : {A : Type 0} (IsRight : A → ℕ → Type 0) (given : List A) (answers : List ℕ) (at found : ℕ) (none : A)
+pub right_up_to : {A : Type 0} (IsRight : A → ℕ → Type 0) (given : List A) (answers : List ℕ) (at found : ℕ) (none : A)
     → IsRight (get_or given at none) found → at < length answers
     → ((k : ℕ) (who : A) → k < at → slice_get given k ≡ Some who → IsRight who (slice_index_or answers k 0))
     → (k : ℕ) (who : A) → k < at + 1 → slice_get given k ≡ Some who
     → IsRight who (slice_index_or (set answers at found) k 0)
-one_more IsRight given answers at found none here within before k who below get = elim (cases_eq k at) [
+right_up_to IsRight given answers at found none here within before k who below get = elim (cases_eq k at) [
   | inl e ↦
       subst (IsRight who) (sym (get_or-set_at answers at k found 0 e within))
       (subst (λ w. IsRight w found)

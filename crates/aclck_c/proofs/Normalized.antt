@@ -14,9 +14,9 @@ is_profile options = elim (eqb (bit_and options 1) 1) as (λ t. IsProfile (cond 
   | false ↦ record { masks = refl; flags = refl }
 ]
 
--- what was put at the front of the buffer is the text
-pub front : (Means : List ℕ → Type 0) (buffer filled : List ℕ) (needed : ℕ)
+-- what was put at the front_is_text of the buffer is the text
+pub front_is_text : (Means : List ℕ → Type 0) (buffer filled : List ℕ) (needed : ℕ)
     → (h : HandsOut Means buffer filled needed) → take needed filled ≡ h.text
-front Means buffer filled needed h =
+front_is_text Means buffer filled needed h =
     ap (λ n. take n filled) h.reported ∙ ap (λ xs. take (length h.text) xs) h.puts.put
     ∙ take-append_seam h.text (drop (length h.text) buffer)

@@ -13,15 +13,15 @@ use Rattle.aclck_c.specs.declared.failure.Failure.TheVariants as failure
 use Rattle.aclck_c.specs.internal.Failures.{IsListFailure, IsPairFailure}
 
 -- whether both lists grant the same
-pub same_or_not : (p : Profile) (first second : List ℕ) (list other : List Ace) (same : Bool) → Xdr p list first
+pub same_or_not : {p : Profile} {first second : List ℕ} {list other : List Ace} (same : Bool) → Xdr p list first
     → Xdr p other second → (IsTrue same ↔ SameGrants all_rights list other) → AreSameOrNot p first second same
-same_or_not p first second list other true read read_other is = record {
+same_or_not {list} {other} true read read_other is = record {
   list = list;
   other = other;
   spelled = record { first_spelled = read; second_spelled = read_other };
   same = is.0 refl;
 }
-same_or_not p first second list other false read read_other is = record {
+same_or_not {list} {other} false read read_other is = record {
   list = list;
   other = other;
   spelled = record { first_spelled = read; second_spelled = read_other };
@@ -29,15 +29,15 @@ same_or_not p first second list other false read read_other is = record {
 }
 
 -- the first list is refused, or memory ran out
-pub of_first : (p : Profile) (first second : List ℕ) (f : Failure) → IsListFailure p first 0 f
+pub first_failure : (p : Profile) (first second : List ℕ) (f : Failure) → IsListFailure p first 0 f
     → IsPairFailure p first second f
-of_first p first second failure.BadArgument h = h
-of_first p first second (failure.Refused shown) h = inl h
-of_first p first second failure.Memory h = h
+first_failure p first second failure.BadArgument h = h
+first_failure p first second (failure.Refused shown) h = inl h
+first_failure p first second failure.Memory h = h
 
 -- the first list is read, and the second is refused, or memory ran out
-pub of_second : (p : Profile) (first second : List ℕ) (list : List Ace) (f : Failure) → Xdr p list first
+pub second_failure : (p : Profile) (first second : List ℕ) (list : List Ace) (f : Failure) → Xdr p list first
     → IsListFailure p second 1 f → IsPairFailure p first second f
-of_second p first second list failure.BadArgument spelled h = h
-of_second p first second list (failure.Refused shown) spelled h = inr ((list, spelled), h)
-of_second p first second list failure.Memory spelled h = (list, spelled)
+second_failure p first second list failure.BadArgument spelled h = h
+second_failure p first second list (failure.Refused shown) spelled h = inr ((list, spelled), h)
+second_failure p first second list failure.Memory spelled h = (list, spelled)

@@ -5,6 +5,7 @@ use Rattle.aclck_c.specs.Compare.{IsRefusedPair}
 use Rattle.aclck_c.specs.Lists.{AreList, IsRefusedList}
 use Rattle.aclck_c.specs.Names.{AreGoodNames}
 use Rattle.aclck_c.specs.Out.{WritesBytes}
+use Rattle.aclck_c.specs.Posix.{IsRefusedPosix}
 use Rattle.aclck_c.specs.Status as status
 use Rattle.aclck_c.specs.declared.posix.names.RawName.{RawName}
 use Rattle.aclck_c.specs.declared.refusal.Refusal.{Refusal}
@@ -77,3 +78,8 @@ pub record WritesOfFile (names : List RawName) (AreGood : Type 0) (IsRefused : R
     (fault fault_after : Refusal) (returned : ℕ) : Type 0 where
   pub bytes : WritesBytes status.done Means buffer buffer_after needed needed_after returned
   pub input : ReadsFile names IsRefused AreGood status.done_or_short fault fault_after returned
+
+-- the promise of `WritesOfFile` for a call that refuses only what is no text of POSIX ACLs
+abbrev pub WritesOfText : List RawName → List ℕ → Type 0 → (List ℕ → Type 0) → List ℕ → List ℕ → ℕ → ℕ
+    → Refusal → Refusal → ℕ → Type 0
+WritesOfText names text AreGood = WritesOfFile names AreGood (IsRefusedPosix names text)

@@ -3,7 +3,7 @@ pub use Rattle.std.specs.Prelude.{All, IfErr, IfOk, IfSome, IsNone, IsSome, IsTr
 pub use Rattle.acl_perm.specs.Profile.{profile_of}
 pub use Rattle.acl_eval.specs.Situation.{situation}
 pub use Rattle.acl_posix.specs.Programs.{MakesOfFile}
-pub use Rattle.aclck_c.specs.Call.{JudgesArguments, JudgesInput, LooksAtList, ReadsFile, ReadsTwoLists, SaysYesOrNo, WritesOfFile, WritesOfList}
+pub use Rattle.aclck_c.specs.Call.{JudgesArguments, JudgesInput, LooksAtList, ReadsFile, ReadsTwoLists, SaysYesOrNo, WritesOfFile, WritesOfList, WritesOfText}
 pub use Rattle.aclck_c.specs.Options.{IsCreationOption, IsMode, IsProfileOption, child_kind_from, profile_from}
 pub use Rattle.aclck_c.specs.Out.{WritesBytes, WritesValue}
 pub use Rattle.aclck_c.specs.Posix.{IsRefusedPosix, SpellsFile}

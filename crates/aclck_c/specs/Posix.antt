@@ -1,9 +1,9 @@
 -- What calls from C make of the text of POSIX ACLs (this library's own, over acl(5)).
-use Rattle.std.specs.Prelude.{◌≡◌, ◌==◌, ◌⊎◌, ℕ, Bool, List, None, Option, Some, if◌then◌else◌}
+use Rattle.std.specs.Prelude.{◌≡◌, ◌==◌, ◌⊎◌, ℕ, Bool, List, None, Option, Some, codes, if◌then◌else◌}
 use Rattle.acl_posix.specs.Grammar.{Reads}
 use Rattle.acl_posix.specs.Names.{Table}
 use Rattle.acl_posix.specs.TextFault.{IsTextFault}
-use Rattle.acl_posix.specs.Programs.{MakesOfFile, file_text}
+use Rattle.acl_posix.specs.Programs.{MakesOfFile, chmod_text, created_text, file_text}
 use Rattle.acl_posix.specs.declared.file.PosixFile.{PosixFile}
 use Rattle.acl_posix.specs.declared.form.Form.{Form}
 use Rattle.acl_posix.specs.declared.form.Form.TheVariants as form
@@ -18,6 +18,7 @@ use Rattle.acl_posix.specs.declared.text_fault.TextFault.TheVariants as fault
 use Rattle.acl_eval.specs.Programs.{IsPastLimits}
 use Rattle.aclck_c.specs.Names.{AreNames}
 use Rattle.aclck_c.specs.Refusal.{at_place, in_part, past_limits}
+use Rattle.aclck_c.specs.Words.{reason_called}
 use Rattle.aclck_c.specs.declared.posix.names.RawName.{RawName}
 use Rattle.aclck_c.specs.declared.refusal.Refusal.{Refusal}
 
@@ -50,9 +51,18 @@ pub record IsShown (names : List RawName) (options : ℕ) (text result : List �
   pub is_form : form_from options ≡ Some form
   pub makes : MakesOfFile (SpellsFile names text) (file_text form) result
 
+-- the result is the canonical text of the file after its mode is set
+abbrev pub IsWithMode : List RawName → ℕ → List ℕ → List ℕ → Type 0
+IsWithMode names mode text = MakesOfFile (SpellsFile names text) (chmod_text mode)
+
 -- the options mean a directory
 abbrev pub is_directory : ℕ → Bool
 is_directory options = options == 2
+
+-- the result is the canonical text of a new object in the directory
+abbrev pub IsCreated : List RawName → ℕ → ℕ → ℕ → List ℕ → List ℕ → Type 0
+IsCreated names mode umask options text =
+    MakesOfFile (SpellsFile names text) (created_text mode umask (is_directory options))
 
 -- ---- what is refused
 
@@ -72,19 +82,19 @@ part_number part.Default = 1
 
 -- the cause for which the part of this number is not a valid ACL, by numbers
 abbrev pub invalid_refusal : ℕ → Cause → Refusal
-invalid_refusal which (cause.Multi place) = in_part 25 which place 0
-invalid_refusal which (cause.Duplicate place) = in_part 26 which place 0
-invalid_refusal which (cause.Miss absent) = in_part 27 which 0 (tag_number absent)
+invalid_refusal which (cause.Multi place) = in_part (reason_called (codes "Multi")) which place 0
+invalid_refusal which (cause.Duplicate place) = in_part (reason_called (codes "Duplicate")) which place 0
+invalid_refusal which (cause.Miss absent) = in_part (reason_called (codes "Miss")) which 0 (tag_number absent)
 
 -- the fault of a text, by numbers; none if memory ran out
 abbrev pub posix_refusal : TextFault → Option Refusal
-posix_refusal (fault.Fields line column) = Some (at_place 16 line column)
-posix_refusal (fault.Tag line column) = Some (at_place 19 line column)
-posix_refusal (fault.Qualifier line column) = Some (at_place 20 line column)
-posix_refusal (fault.Id line column) = Some (at_place 21 line column)
-posix_refusal (fault.UnknownName line column) = Some (at_place 22 line column)
-posix_refusal (fault.Permission line column) = Some (at_place 23 line column)
-posix_refusal (fault.EmptyEntry line column) = Some (at_place 24 line column)
+posix_refusal (fault.Fields line column) = Some (at_place (reason_called (codes "Fields")) line column)
+posix_refusal (fault.Tag line column) = Some (at_place (reason_called (codes "Tag")) line column)
+posix_refusal (fault.Qualifier line column) = Some (at_place (reason_called (codes "Qualifier")) line column)
+posix_refusal (fault.Id line column) = Some (at_place (reason_called (codes "Id")) line column)
+posix_refusal (fault.UnknownName line column) = Some (at_place (reason_called (codes "UnknownName")) line column)
+posix_refusal (fault.Permission line column) = Some (at_place (reason_called (codes "Permission")) line column)
+posix_refusal (fault.EmptyEntry line column) = Some (at_place (reason_called (codes "EmptyEntry")) line column)
 posix_refusal (fault.Invalid which why) = Some (invalid_refusal (part_number which) why)
 posix_refusal fault.Memory = None
 

@@ -1,26 +1,27 @@
 -- Why and where something is refused, as a caller from C sees it (this library's own): `aclck.h` has the numbers.
-use Rattle.std.specs.Prelude.{ℕ}
+use Rattle.std.specs.Prelude.{ℕ, codes}
 use Rattle.acl_nfs4.specs.declared.xdr.fault.Reason.{Reason}
 use Rattle.acl_nfs4.specs.declared.xdr.fault.Reason.TheVariants as reason
+use Rattle.aclck_c.specs.Words.{reason_called}
 use Rattle.aclck_c.specs.declared.refusal.Refusal.{Refusal}
 
 -- the number of a reason in `enum aclck_reason`, for which a list is refused
 abbrev pub reason_number : Reason → ℕ
-reason_number reason.Truncated = 1
-reason_number reason.TooManyAces = 2
-reason_number reason.AuditOrAlarm = 3
-reason_number reason.AceType = 4
-reason_number reason.FlagBits = 5
-reason_number reason.MaskBits = 6
-reason_number reason.TooHeavy = 7
-reason_number reason.WhoLength = 8
-reason_number reason.WhoUtf8 = 9
-reason_number reason.WhoControl = 10
-reason_number reason.SpecialWho = 11
-reason_number reason.Padding = 12
-reason_number reason.TrailingBytes = 13
-reason_number reason.Read = 14
-reason_number reason.Memory = 15
+reason_number reason.Truncated = reason_called (codes "Truncated")
+reason_number reason.TooManyAces = reason_called (codes "TooManyAces")
+reason_number reason.AuditOrAlarm = reason_called (codes "AuditOrAlarm")
+reason_number reason.AceType = reason_called (codes "AceType")
+reason_number reason.FlagBits = reason_called (codes "FlagBits")
+reason_number reason.MaskBits = reason_called (codes "MaskBits")
+reason_number reason.TooHeavy = reason_called (codes "TooHeavy")
+reason_number reason.WhoLength = reason_called (codes "WhoLength")
+reason_number reason.WhoUtf8 = reason_called (codes "WhoUtf8")
+reason_number reason.WhoControl = reason_called (codes "WhoControl")
+reason_number reason.SpecialWho = reason_called (codes "SpecialWho")
+reason_number reason.Padding = reason_called (codes "Padding")
+reason_number reason.TrailingBytes = reason_called (codes "TrailingBytes")
+reason_number reason.Read = reason_called (codes "Read")
+reason_number reason.Memory = reason_called (codes "Memory")
 
 -- a list is refused for this reason, at this byte; the list is the first, 0, or the second of two, 1
 abbrev pub in_list : ℕ → Reason → ℕ → Refusal
@@ -64,4 +65,12 @@ in_part number which place tag_number = record {
 
 -- the list of a POSIX ACL is above a limit
 abbrev pub past_limits : Refusal
-past_limits = record { offset = 0; line = 0; column = 0; reason = 28; list = 0; part = 0; tag = 0 }
+past_limits = record {
+  offset = 0;
+  line = 0;
+  column = 0;
+  reason = reason_called (codes "Limits");
+  list = 0;
+  part = 0;
+  tag = 0;
+}

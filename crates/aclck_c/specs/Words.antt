@@ -1,5 +1,6 @@
 -- Names of rights and of reasons in calls from C (this library's own).
 use Rattle.std.specs.Prelude.{◌==◌, ◌∷◌, [], ℕ, List, None, Option, Some, codes, if◌then◌else◌}
+use Rattle.std.specs.Str.{bytes_eq}
 use Rattle.acl_nfs4.specs.BitNames.{set_text}
 use Rattle.acl_nfs4.specs.Rights.{rights}
 
@@ -26,3 +27,12 @@ name_in (reason ∷ more) number = if number == reason.0 then Some reason.1 else
 -- the name of the reason of a number
 abbrev pub reason_name : ℕ → Option (List ℕ)
 reason_name number = name_in reasons number
+
+-- the number of a name in a table of names
+abbrev pub number_in : List (ℕ × List ℕ) → List ℕ → ℕ
+number_in [] name = 0
+number_in (reason ∷ more) name = if bytes_eq name reason.1 then reason.0 else number_in more name
+
+-- the number of the reason with a name
+abbrev pub reason_called : List ℕ → ℕ
+reason_called name = number_in reasons name

@@ -9,7 +9,7 @@ use acl_nfs4::Fault;
 use std::alloc::AllocError;
 
 /// Why a call does not return its result.
-#[derive(Clone, Copy, Debug)]
+#[derive(Clone, Copy)]
 pub(crate) enum Failure {
     /// A name is empty, or a number or an option has no meaning.
     BadArgument,

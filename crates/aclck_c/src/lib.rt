@@ -8,6 +8,7 @@ mod nfs4;
 mod options;
 mod out;
 mod posix;
+mod reason;
 mod refusal;
 mod status;
 #[cfg(test)]

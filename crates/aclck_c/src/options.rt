@@ -31,7 +31,7 @@ pub(crate) fn profile_from(options: u32) -> Option<Profile>
 }
 
 /// What the options of `aclck_child` choose: a profile, and the kind of the new object.
-#[derive(Clone, Copy, Debug)]
+#[derive(Clone, Copy)]
 pub(crate) struct ChildOptions {
     pub profile: Profile,
     pub kind: ChildKind,

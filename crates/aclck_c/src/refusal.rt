@@ -1,7 +1,8 @@
 //! Why and where something is refused, as C sees it.
 ghost use Rattle.std.specs.Prelude.{◌≡◌};
-ghost use Rattle.aclck_c.specs.Refusal.{at_place, in_list, in_part, past_limits, reason_number};
+ghost use Rattle.aclck_c.specs.Refusal.{at_place, in_list, in_part, past_limits};
 
+use crate::reason::{LIMITS, reason_number};
 use acl_nfs4::Reason;
 
 /// `struct aclck_fault`: a reason by its number, and its place. Fields that the reason does not use are 0.
@@ -80,33 +81,10 @@ impl Refusal {
             offset: 0,
             line: 0,
             column: 0,
-            reason: 28,
+            reason: LIMITS,
             list: 0,
             part: 0,
             tag: 0,
         }
-    }
-}
-
-// The numbers are those of `enum aclck_reason`.
-fn reason_number(reason: Reason) -> u32
-    ensures { result ≡ reason_number reason }
-{
-    match reason {
-        Reason::Truncated => 1,
-        Reason::TooManyAces => 2,
-        Reason::AuditOrAlarm => 3,
-        Reason::AceType => 4,
-        Reason::FlagBits => 5,
-        Reason::MaskBits => 6,
-        Reason::TooHeavy => 7,
-        Reason::WhoLength => 8,
-        Reason::WhoUtf8 => 9,
-        Reason::WhoControl => 10,
-        Reason::SpecialWho => 11,
-        Reason::Padding => 12,
-        Reason::TrailingBytes => 13,
-        Reason::Read => 14,
-        Reason::Memory => 15,
     }
 }

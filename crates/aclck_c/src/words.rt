@@ -3,9 +3,10 @@ ghost use Rattle.acl_nfs4.specs.Rights.{SpellsMask};
 ghost use Rattle.aclck_c.specs.Status as status;
 ghost use Rattle.aclck_c.specs.Words.{reason_name};
 ghost use Rattle.std.specs.Prelude.{◌≡◌, ◌∷◌};
-ghost use Rattle.aclck_c.specs.Common.{ℕ, IsSome, Some, option_map, JudgesArguments, WritesBytes, WritesValue};
+ghost use Rattle.aclck_c.specs.Common.{ℕ, IsSome, Some, JudgesArguments, WritesBytes, WritesValue};
 
 use crate::out::put;
+use crate::reason::reason_name;
 use crate::status::{BAD_ARGUMENT, NO, YES};
 use acl_nfs4::read_mask;
 
@@ -38,42 +39,5 @@ pub extern "C" fn aclck_reason_text(reason: u32, out: &mut [u8], needed: &mut us
     match reason_name(reason) {
         Some(name) => put(name, out, needed),
         None => BAD_ARGUMENT,
-    }
-}
-
-// The numbers are those of `enum aclck_reason`.
-fn reason_name(number: u32) -> Option<&'static [u8]>
-    ensures { option_map (λ name. name.now) result ≡ reason_name number }
-{
-    match number {
-        1 => Some(b"Truncated"),
-        2 => Some(b"TooManyAces"),
-        3 => Some(b"AuditOrAlarm"),
-        4 => Some(b"AceType"),
-        5 => Some(b"FlagBits"),
-        6 => Some(b"MaskBits"),
-        7 => Some(b"TooHeavy"),
-        8 => Some(b"WhoLength"),
-        9 => Some(b"WhoUtf8"),
-        10 => Some(b"WhoControl"),
-        11 => Some(b"SpecialWho"),
-        12 => Some(b"Padding"),
-        13 => Some(b"TrailingBytes"),
-        14 => Some(b"Read"),
-        15 => Some(b"Memory"),
-        16 => Some(b"Fields"),
-        17 => Some(b"Flag"),
-        18 => Some(b"Mask"),
-        19 => Some(b"Tag"),
-        20 => Some(b"Qualifier"),
-        21 => Some(b"Id"),
-        22 => Some(b"UnknownName"),
-        23 => Some(b"Permission"),
-        24 => Some(b"EmptyEntry"),
-        25 => Some(b"Multi"),
-        26 => Some(b"Duplicate"),
-        27 => Some(b"Miss"),
-        28 => Some(b"Limits"),
-        _ => None,
     }
 }

@@ -4,9 +4,9 @@ use Rattle.acl_nfs4.specs.Stream.{IsFedOrFails}
 use Rattle.acl_nfs4.specs.declared.feed.step.Stage.{Stage}
 use Rattle.acl_nfs4.specs.declared.feed.step.Stage.TheVariants.{Open, Done, Refused}
 use Rattle.acl_nfs4.specs.declared.feed.fed.Fed.TheVariants as fed
-use Rattle.acl_nfs4.proofs.xdr.Resume.{one}
+use Rattle.acl_nfs4.proofs.xdr.Resume.{one_spelling}
 use Rattle.acl_nfs4.proofs.xdr.OneFault.{one_place, value_or_fault}
-use Rattle.acl_nfs4.proofs.feed.Pieces.{joins, longer}
+use Rattle.acl_nfs4.proofs.feed.Pieces.{joins, unchanged_by_more}
 use Rattle.acl_nfs4.proofs.feed.Streaming.{text_short}
 
 -- two faults of a text are the same fault
@@ -49,7 +49,7 @@ refused_exactly p s piece r ok (inr h) = record {
 end_is : (p : Profile) (s piece text rest : List ℕ) (t : ℕ) (a b : List Ace) → IsProfile p → t ≤ length piece
     → Xdr p a (s ++ take t piece) → Xdr p b text → s ++ piece ≡ text ++ rest → t ≡ length text - length s
 end_is p s piece text rest t a b ok le x y e =
-    let w = (one p a b (s ++ take t piece) text (drop t piece) rest ok x y (sym (whole_is s piece t) ∙ e)).1 in
+    let w = (one_spelling p a b (s ++ take t piece) text (drop t piece) rest ok x y (sym (whole_is s piece t) ∙ e)).1 in
     omega (arith, ap length w, length-append s (take t piece), length-take t piece, le)
 
 -- the answer of a feed to a piece is the exact answer for the stream with the piece
@@ -71,8 +71,7 @@ fed_exactly p s piece (fed.Refused r) new ok h = refused_exactly p s piece r ok 
 state_profile : (p q : Profile) (stage : Stage) (so_far : Progress) (text s : List ℕ) → IsFeed q stage so_far text
     → state_of q stage so_far text ≡ more p s → IsProfile p
 state_profile p q (Open f) so_far text s is e =
-    let same : q ≡ p = more_profile q p text s e in
-    subst (λ (x : Profile). IsProfile x) same is.profile where
+    subst (λ (x : Profile). IsProfile x) (more_profile q p text s e) is.profile where
       more_profile : (q p : Profile) (text s : List ℕ) → more q text ≡ more p s → q ≡ p
       more_profile q p text s e = cc
 state_profile p q Done so_far text s is e = absurd cc
@@ -95,7 +94,7 @@ one_state : (p : Profile) (s piece : List ℕ) (a : Fed) (x y : StreamState) →
 one_state p s piece fed.More x y ok h g = h.0 ∙ sym g.0
 one_state p s piece (fed.Done t) x y ok h g =
     let text : List ℕ = s ++ take t piece in
-    h.1 ∙ ap (λ (l : List Ace). done l) (one p h.0 g.0 text text [] [] ok h.3 g.3 refl).0 ∙ sym g.1
+    h.1 ∙ ap (λ (l : List Ace). done l) (one_spelling p h.0 g.0 text text [] [] ok h.3 g.3 refl).0 ∙ sym g.1
 one_state p s piece (fed.Refused f) x y ok h g = h.0 ∙ sym g.0
 
 -- an exact answer for the stream is the answer of the feed, unless memory ran out for one of them
@@ -128,12 +127,12 @@ one_answer p s piece a b x y ok h g =
     ]
 
 -- a feed that no piece changes is unchanged after many pieces
-kept : (s : StreamState) → ((piece : List ℕ) (answer : Fed) (now : StreamState) → Feeds s piece answer now → now ≡ s)
+same_after_each : (s : StreamState) → ((piece : List ℕ) (answer : Fed) (now : StreamState) → Feeds s piece answer now → now ≡ s)
     → (pieces : List (List ℕ)) (answers : List Fed) (new : StreamState) → FeedsEach s pieces answers new → new ≡ s
-kept s stays [] [] new h = h
-kept s stays [] (a ∷ answers) new h = absurd h
-kept s stays (x ∷ pieces) [] new h = absurd h
-kept s stays (x ∷ pieces) (a ∷ answers) new h = kept s stays pieces answers new
+same_after_each s stays [] [] new h = h
+same_after_each s stays [] (a ∷ answers) new h = absurd h
+same_after_each s stays (x ∷ pieces) [] new h = absurd h
+same_after_each s stays (x ∷ pieces) (a ∷ answers) new h = same_after_each s stays pieces answers new
     (subst (λ (n : StreamState). FeedsEach n pieces answers new) (stays x a h.0 h.1) h.2)
 
 -- pieces that are fed one after the other are answered as all of them at once
@@ -142,8 +141,7 @@ pub each_is : (p : Profile) (s : List ℕ) (pieces : List (List ℕ)) (answers :
     → Feeds (more p s) (concat pieces) (together pieces answers) new
 each_is p s [] [] new cut h = (
   h ∙ ap (λ (t : List ℕ). more p t) (sym (append-nil s)),
-  subst (λ (t : List ℕ). IsCutShort p t)
-      (sym (append-nil s)) cut,
+  subst (λ (t : List ℕ). IsCutShort p t) (sym (append-nil s)) cut,
 )
 each_is p s [] (a ∷ answers) new cut h = absurd h
 each_is p s (x ∷ pieces) [] new cut h = absurd h
@@ -151,13 +149,13 @@ each_is p s (x ∷ pieces) (fed.More ∷ answers) new cut h =
     let rest = subst (λ (n : StreamState). FeedsEach n pieces answers new) h.1.0 h.2 in
     joins p s x (concat pieces) (together pieces answers) new (each_is p (s ++ x) pieces answers new h.1.1 rest)
 each_is p s (x ∷ pieces) (fed.Done t ∷ answers) new cut h =
-    let same : new ≡ done h.1.0 = kept (done h.1.0) (λ y a now f. f.0) pieces answers new
+    let same : new ≡ done h.1.0 = same_after_each (done h.1.0) (λ y a now f. f.0) pieces answers new
     (subst (λ (n : StreamState). FeedsEach n pieces answers new) h.1.1 h.2) in
-    longer (more p s) new x (concat pieces) (fed.Done t) (λ e. cc) (h.1.0, same, h.1.2, h.1.3)
+    unchanged_by_more (more p s) new x (concat pieces) (fed.Done t) (λ e. cc) (h.1.0, same, h.1.2, h.1.3)
 each_is p s (x ∷ pieces) (fed.Refused f ∷ answers) new cut h =
-    let same : new ≡ refused f = kept (refused f) (λ y a now g. g.0) pieces answers new
+    let same : new ≡ refused f = same_after_each (refused f) (λ y a now g. g.0) pieces answers new
     (subst (λ (n : StreamState). FeedsEach n pieces answers new) h.1.0 h.2) in
-    longer (more p s) new x (concat pieces) (fed.Refused f) (λ e. cc) (same, h.1.1)
+    unchanged_by_more (more p s) new x (concat pieces) (fed.Refused f) (λ e. cc) (same, h.1.1)
 
 -- the empty text is cut short
 pub nothing_cut : (p : Profile) → IsCutShort p []

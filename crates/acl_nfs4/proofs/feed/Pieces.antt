@@ -11,8 +11,7 @@ breaks_whole p s rest n r (inr h) not_cut = h
 
 -- a fault of a text is a fault of each longer text, at the same place
 pub first_stays : (p : Profile) (text others : List ℕ) (o t : ℕ) (r : Reason) → IsFirstFault p text o t r
-    → r ≢ Truncated
-    → IsFirstFault p (text ++ others) o t r
+    → r ≢ Truncated → IsFirstFault p (text ++ others) o t r
 first_stays p text others o t r f not_cut =
     let b = breaks_whole p f.stage f.rest f.more r f.breaks not_cut in
     let kept : refuses p f.stage (take (size f.stage) (f.rest ++ others)) r =
@@ -42,32 +41,31 @@ joins p s x y (fed.Done t) new h =
     let e : (s ++ x) ++ take t y ≡ s ++ take (length x + t) (x ++ y) =
     append_assoc s x (take t y) ∙ ap (λ (z : List ℕ). s ++ z) (sym (take-append-add x y t)) in
     (h.0, h.1, omega (arith, h.2, length-append x y), subst (λ (z : List ℕ). Xdr p h.0 z) e h.3)
-joins p s x y (fed.Refused f) new h =
-    (h.0, subst (λ (t : List ℕ). RefusesStream p t f) (append_assoc s x y) h.1)
+joins p s x y (fed.Refused f) new h = (h.0, subst (λ (t : List ℕ). RefusesStream p t f) (append_assoc s x y) h.1)
 
 -- the answer to a chunk, counted from the bytes that were taken before it, is the answer to both together
-on : (old now new : StreamState) (front chunk : List ℕ) (a : Fed) → HasTaken old front now → Feeds now chunk a new
+joins_taken : (old now new : StreamState) (front chunk : List ℕ) (a : Fed) → HasTaken old front now → Feeds now chunk a new
     → Feeds old (front ++ chunk) (further (length front) a) new
-on (more p s) now new front chunk a h f =
+joins_taken (more p s) now new front chunk a h f =
     joins p s front chunk a new (subst (λ (n : StreamState). Feeds n chunk a new) h f)
-on (done list) now new front chunk a h f =
+joins_taken (done list) now new front chunk a h f =
     let g = subst (λ (n : StreamState). Feeds n chunk a new) h.0 f in
     (g.0, ap (further (length front)) g.1 ∙ ap (λ (n : ℕ). fed.Done (n + 0)) (ap length h.1))
-on (refused q) now new front chunk a h f =
+joins_taken (refused q) now new front chunk a h f =
     let g = subst (λ (n : StreamState). Feeds n chunk a new) h.0 f in
     (g.0, ap (further (length front)) g.1)
 
 -- bytes after a piece that ends the list or is refused change nothing
-pub longer : (old new : StreamState) (chunk back : List ℕ) (a : Fed) → a ≢ fed.More → Feeds old chunk a new
+pub unchanged_by_more : (old new : StreamState) (chunk back : List ℕ) (a : Fed) → a ≢ fed.More → Feeds old chunk a new
     → Feeds old (chunk ++ back) a new
-longer (more p s) new chunk back fed.More ends h = absurd (ends refl)
-longer (more p s) new chunk back (fed.Done t) ends h = (
+unchanged_by_more (more p s) new chunk back fed.More ends h = absurd (ends refl)
+unchanged_by_more (more p s) new chunk back (fed.Done t) ends h = (
   h.0,
   h.1,
   omega (arith, h.2, length-append chunk back),
   subst (λ (x : List ℕ). Xdr p h.0 (s ++ x)) (sym (take-append-le t chunk back h.2)) h.3,
 )
-longer (more p s) new chunk back (fed.Refused f) ends h = (
+unchanged_by_more (more p s) new chunk back (fed.Refused f) ends h = (
   h.0,
   elim h.1 [
     | inl m ↦ inl m
@@ -78,36 +76,35 @@ longer (more p s) new chunk back (fed.Refused f) ends h = (
     )
   ],
 )
-longer (done list) new chunk back a ends h = h
-longer (refused q) new chunk back a ends h = h
+unchanged_by_more (done list) new chunk back a ends h = h
+unchanged_by_more (refused q) new chunk back a ends h = h
 
 -- the answer to what is left of a piece, counted from the front of the piece, is the answer to the whole piece
-pub end_rest : (old now new : StreamState) (piece rest : List ℕ) (taken : ℕ) (a : Fed) → taken ≤ length piece
+pub end_rest : (old now new : StreamState) (piece : List ℕ) {rest : List ℕ} (taken : ℕ) (a : Fed) → taken ≤ length piece
     → rest ≡ drop taken piece → HasTaken old (take taken piece) now → Feeds now rest a new
     → Feeds old piece (further taken a) new
-end_rest old now new piece rest taken a le e h f =
+end_rest old now new piece {rest = rest} taken a le e h f =
     let n : length (take taken piece) ≡ taken = omega (arith, length-take taken piece) in
     let whole : take taken piece ++ rest ≡ piece = rw e (take-append-drop taken piece) in
     subst (λ (k : ℕ). Feeds old piece (further k a) new) n
     (subst (λ (x : List ℕ). Feeds old x (further (length (take taken piece)) a) new) whole
-    (on old now new (take taken piece) rest a h f))
+    (joins_taken old now new (take taken piece) rest a h f))
 
 -- an answer other than More to the next chunk of a piece is the answer to the whole piece
-pub end_chunk : (old now new : StreamState) (piece rest chunk back : List ℕ) (taken n : ℕ) (a : Fed)
+pub end_chunk : (old now new : StreamState) (piece : List ℕ) {rest chunk back : List ℕ} (taken n : ℕ) (a : Fed)
     → taken ≤ length piece → rest ≡ drop taken piece → chunk ≡ take n rest → back ≡ drop n rest
-    → HasTaken old (take taken piece) now → a ≢ fed.More → Feeds now chunk a new
-    → Feeds old piece (further taken a) new
-end_chunk old now new piece rest chunk back taken n a le re ce be h ends f =
+    → HasTaken old (take taken piece) now → a ≢ fed.More → Feeds now chunk a new → Feeds old piece (further taken a) new
+end_chunk old now new piece {rest = rest} {chunk = chunk} {back = back} taken n a le re ce be h ends f =
     let both : chunk ++ back ≡ rest = rw (ce, be) (take-append-drop n rest) in
-    end_rest old now new piece rest taken a le re h
-    (subst (λ (x : List ℕ). Feeds now x a new) both (longer now new chunk back a ends f))
+    end_rest old now new piece taken a le re h
+    (subst (λ (x : List ℕ). Feeds now x a new) both (unchanged_by_more now new chunk back a ends f))
 
 -- after one more part that is answered with More, the feed has taken the piece up to the end of that part
-pub more_piece : (old now new : StreamState) (piece rest chunk : List ℕ) (taken n : ℕ) → rest ≡ drop taken piece
+pub more_piece : (old now new : StreamState) (piece : List ℕ) {rest chunk : List ℕ} (taken n : ℕ) → rest ≡ drop taken piece
     → chunk ≡ take n rest → HasTaken old (take taken piece) now → Feeds now chunk fed.More new
     → HasTaken old (take (taken + n) piece) new
-more_piece old now new piece rest chunk taken n re ce h f =
+more_piece old now new piece {chunk = chunk} taken n re ce h f =
     let e : take taken piece ++ chunk ≡ take (taken + n) piece = ap (λ (x : List ℕ). take taken piece ++ x)
     (ce ∙ ap (take n) re) ∙ sym (take-add taken n piece) in
     subst (λ (x : List ℕ). HasTaken old x new) e
-    (has_taken old new (take taken piece ++ chunk) (on old now new (take taken piece) chunk fed.More h f))
+    (has_taken old new (take taken piece ++ chunk) (joins_taken old now new (take taken piece) chunk fed.More h f))

@@ -14,9 +14,8 @@ module _ (p : Profile) (text : List ℕ) (so_far : Progress) (long : 4 ≤ lengt
   parts : text ≡ (word (number (take 4 text)) ++ flat_map piece s.list) ++ drop so_far.used (drop 4 text)
   parts =
       let rest : List ℕ = drop so_far.used (drop 4 text) in
-      let len : length (take 4 text) ≡ 4 = omega (arith, length-take 4 text, long) in
       let first : word (number (take 4 text)) ≡ take 4 text =
-      be_bytes_4 (take 4 text) _ len (IsBytes-take 4 text fits) refl in
+      be_bytes_4 (take 4 text) _ (omega (arith, length-take 4 text, long)) (IsBytes-take 4 text fits) refl in
       let body : drop 4 text ≡ flat_map piece s.list ++ rest =
       sym (take-append-drop so_far.used (drop 4 text)) ∙ ap (λ (x : List ℕ). x ++ rest) s.spells.spelled in
       sym (take-append-drop 4 text) ∙ ap (λ (x : List ℕ). x ++ drop 4 text) (sym first)
@@ -38,8 +37,7 @@ module _ (p : Profile) (text : List ℕ) (so_far : Progress) (long : 4 ≤ lengt
         parts = parts;
         here = front_len;
         fits = IsBytes-drop so_far.used (drop 4 text) (IsBytes-drop 4 text fits);
-      }) b (omega (arith, s.long, lt))
-      (ap (λ (w : ℕ). ace_at p w (behind_scanned (drop 4 text) so_far)) s.total ∙ e)
+      }) b (omega (arith, s.long, lt)) (ap (λ (w : ℕ). ace_at p w (behind_scanned (drop 4 text) so_far)) s.total ∙ e)
 
   -- if as many ACEs were seen as the count says, the text begins with their list
   pub text_ends : so_far.seen ≡ number (take 4 text) → IsWhole p text so_far
@@ -71,8 +69,7 @@ text_short p text short =
 -- a text whose count is refused has that fault at its front
 pub text_refused : (p : Profile) (text : List ℕ) (r : Reason) → 4 ≤ length text
     → count_of (number (take 4 text)) ≡ Err r → IsFirstFault p text 0 4 r
-text_refused p text r long e =
-    first_at at_count [] text 4 refl start refl tt (omega arith) (inr (long, refl, e)) refl
+text_refused p text r long e = first_at at_count [] text 4 refl start refl tt (omega arith) (inr (long, refl, e)) refl
 
 -- ---- more of the text
 
@@ -82,9 +79,7 @@ same_front : (text more : List ℕ) (n : ℕ) → n ≤ length (drop 4 text)
 same_front text more n inside =
     elim (cases_lt (length text) 4) [
       | inl short ↦ let z : n ≡ 0 = omega (arith, length-drop 4 text, inside) in rw z refl
-      | inr long ↦
-          let d : drop 4 (text ++ more) ≡ drop 4 text ++ more = drop-append-le 4 text more long in
-          ap (take n) d ∙ take-append-le n (drop 4 text) more inside
+      | inr long ↦ ap (take n) (drop-append-le 4 text more long) ∙ take-append-le n (drop 4 text) more inside
     ]
 
 -- this many ACEs stay within the count as the text grows

@@ -17,20 +17,17 @@ fronts_first : (a b x y : List ℕ) → length a ≡ length b
 fronts_first [] [] x y e = refl
 fronts_first [] (d ∷ b) x y e = absurd (omega (arith, e))
 fronts_first (c ∷ a) [] x y e = absurd (omega (arith, e))
-fronts_first (c ∷ a) (d ∷ b) x y e =
-    ap (ordering_then (nat_cmp c d)) (fronts_first a b x y (omega (arith, e)))
+fronts_first (c ∷ a) (d ∷ b) x y e = ap (ordering_then (nat_cmp c d)) (fronts_first a b x y (omega (arith, e)))
     ∙ then_then (nat_cmp c d) (slice_cmp nat_cmp a b) (slice_cmp nat_cmp x y)
 
 -- an owned list is spelled by the word of its number of ACEs and its body
-spelled : (count total : ℕ) (body : List ℕ) → IsOwned count total body
+spelling-aces_of : (count total : ℕ) (body : List ℕ) → IsOwned count total body
     → spelling (aces_of count body) ≡ word count ++ body
-spelled count total body is =
-    ap (λ (n : ℕ). word n ++ flat_map piece (aces_of count body)) is.spells.whole
+spelling-aces_of count total body is = ap (λ (n : ℕ). word n ++ flat_map piece (aces_of count body)) is.spells.whole
     ∙ ap (λ (b : List ℕ). word count ++ b) (sym is.spells.spells.spelled)
 
 -- owned lists are ordered by their fields
-pub ordered : (m n v w : ℕ) (x y : List ℕ) → IsOwned m v x → IsOwned n w y
+pub list_cmp_of_owned : (m n v w : ℕ) (x y : List ℕ) → IsOwned m v x → IsOwned n w y
     → ordering_then (slice_cmp nat_cmp (word m) (word n)) (slice_cmp nat_cmp x y) ≡ list_cmp (aces_of m x) (aces_of n y)
-ordered m n v w x y is too =
-    sym (fronts_first (word m) (word n) x y refl)
-    ∙ λ i. slice_cmp nat_cmp (sym (spelled m v x is) i) (sym (spelled n w y too) i)
+list_cmp_of_owned m n v w x y is too = sym (fronts_first (word m) (word n) x y refl)
+    ∙ λ i. slice_cmp nat_cmp (sym (spelling-aces_of m v x is) i) (sym (spelling-aces_of n w y too) i)

@@ -61,8 +61,7 @@ pushed n w bytes a o is room light =
     spells_push list a bytes o.spells.spells is (omega (arith, light, o.heavy)) in
     let len : length (list ++ a ∷ []) ≡ n + 1 = omega (arith, length-append list (a ∷ []), o.spells.whole) in
     let e : aces_of (n + 1) (bytes ++ piece a) ≡ list ++ a ∷ [] =
-    ap (λ (k : ℕ). aces_of k (bytes ++ piece a)) (sym len)
-    ∙ aces_of-flat_map (list ++ a ∷ []) (bytes ++ piece a) s in
+    ap (λ (k : ℕ). aces_of k (bytes ++ piece a)) (sym len) ∙ aces_of-flat_map (list ++ a ∷ []) (bytes ++ piece a) s in
     record {
       owned = record {
         spells = is_body (list ++ a ∷ []) (n + 1) (bytes ++ piece a) len s;
@@ -73,10 +72,10 @@ pushed n w bytes a o is room light =
     }
 
 -- a push of an ACE of the code onto the list that the fields hold keeps the invariant
-pub pushed_item : (n w : ℕ) (bytes : List ℕ) (list : List Ace) (item : AceRef) → IsOwned n w bytes
+pub pushed_item : {n w : ℕ} {bytes : List ℕ} {list : List Ace} (item : AceRef) → IsOwned n w bytes
     → aces_of n bytes ≡ list → item.flags.bits ≤ 255 → IsWho item.who.now → length list < most_aces
     → weight list + count_ones item.mask.bits ≤ most_weight → Pushed n w bytes (ace item)
-pushed_item n w bytes list item o e small who room light =
+pushed_item {n = n} {w = w} {bytes = bytes} item o e small who room light =
     pushed n w bytes (ace item) o
     (record { flags = flags_within item.flags.bits small; mask = item.mask.within; who = who })
     (omega (arith, ap length e, o.spells.whole, room)) (omega (arith, ap weight e, o.heavy, light))

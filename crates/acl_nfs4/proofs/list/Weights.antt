@@ -7,12 +7,12 @@ digit_is : (d : ℕ) → d < 2 → cond (eqb d 1) 1 0 ≡ d
 digit_is d lt = grind arith
 
 -- a number has as many bits from one place higher on as its half has from that place on
-shifted : (k a n : ℕ) → count_by (has_bit n) (range_with_len (a + 1) k)
+count_shifted : (k a n : ℕ) → count_by (has_bit n) (range_with_len (a + 1) k)
     ≡ count_by (has_bit (n / 2)) (range_with_len a k)
-shifted zero a n = refl
-shifted (suc k) a n =
+count_shifted zero a n = refl
+count_shifted (suc k) a n =
     sum_by-cons (λ i. cond (has_bit n i) 1 0) (a + 1) (range_with_len (a + 1 + 1) k)
-    ∙ ap (λ (s : ℕ). cond (has_bit n (a + 1)) 1 0 + s) (shifted k (a + 1) n)
+    ∙ ap (λ (s : ℕ). cond (has_bit n (a + 1)) 1 0 + s) (count_shifted k (a + 1) n)
     ∙ ap (λ (d : ℕ). cond (eqb d 1) 1 0 + count_by (has_bit (n / 2)) (range_with_len (a + 1) k)) (one_higher n a)
     ∙ sym (sum_by-cons (λ i. cond (has_bit (n / 2) i) 1 0) a (range_with_len (a + 1) k))
   where
@@ -24,9 +24,7 @@ pub ones_are_bits : (k n : ℕ) → n < 2 ^ k → count_ones n ≡ count_by (has
 ones_are_bits zero n lt = omega (arith, ones-le 0 n lt)
 ones_are_bits (suc k) n lt =
     let low : cond (has_bit n 0) 1 0 ≡ n % 2 = digit_is (bit_at n 0) (bit_at-lt n 0) ∙ bit_at_lowest n in
-    let half : n / 2 < 2 ^ k = halved n k lt in
-    ones_step n
-    ∙ ap (λ (s : ℕ). n % 2 + s) (ones_are_bits k (n / 2) half ∙ sym (shifted k 0 n))
+    ones_step n ∙ ap (λ (s : ℕ). n % 2 + s) (ones_are_bits k (n / 2) (halved n k lt) ∙ sym (count_shifted k 0 n))
     ∙ ap (λ (d : ℕ). d + count_by (has_bit n) (range_with_len 1 k)) (sym low)
     ∙ sym (sum_by-cons (λ i. cond (has_bit n i) 1 0) 0 (range_with_len 1 k))
   where
@@ -45,10 +43,8 @@ weight_from (a ∷ list) place each =
     let here : List (ℕ × ℕ) = pairs_at (place, a) in
     let others : List (ℕ × ℕ) = flat_map pairs_at (enumerate_from (place + 1) list) in
     let count : count_ones a.mask ≡ length here = bits_counted a.mask each.0 ∙ sym (length-map (bits_of a.mask) _) in
-    weight-cons a list
-    ∙ ap (λ (n : ℕ). n + weight list) count
-    ∙ ap (λ (n : ℕ). length here + n) (weight_from list (place + 1) each.1)
-    ∙ sym (length-append here others)
+    weight-cons a list ∙ ap (λ (n : ℕ). n + weight list) count
+    ∙ ap (λ (n : ℕ). length here + n) (weight_from list (place + 1) each.1) ∙ sym (length-append here others)
 
 -- the weight of a list is the number of its pairs of a place and a bit
 pub weight_counts : (list : List Ace) → AllByRecursion (λ a. a.mask < 2 ^ 32) list

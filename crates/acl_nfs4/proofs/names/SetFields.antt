@@ -1,12 +1,8 @@
 -- Fields that name sets by a table: they are cut at their bars, and joined again.
-use Rattle.acl_nfs4.proofs.Common.{[], All, and_true, ap, arith, bit_in, bit_or, BitName, bits_in, Bool, bytes_eq, cond, drop, eqb, false, find, flag_names, has_bit, has_bit-or, IfSome, inl, inr, is_name_of, IsFieldCut, IsSomeAnd, join_with_byte, join_with_byte-slice_split, length, length-drop, length-slice_split, List, list_all, map, Mask, mask_named, no_names, None, not, not-true, Option, option_and_then, option_map, option_map_or, parts_after, refl, rights, rules, same_set, same_Some, slice_split, slice_split_at, slice_split_first, slice_split_none, Some, SpellsMask, SpellsSet, sym, take, true, ℕ, ◌&&◌, ◌+◌, ◌^◌, ◌∙◌, ◌∷◌, ◌≡◌, ◌≢◌}
+use Rattle.acl_nfs4.proofs.Common.{[], All, All-weaker, AllPass-from_list_all, and_true, ap, arith, bit_in, bit_or, BitName, bits_in, Bool, bytes_eq, bytes_eq_same, cond, drop, eqb, false, find, flag_names, has_bit, has_bit-or, IfSome, inl, inr, is_name_of, IsFieldCut, IsSomeAnd, join_with_byte, join_with_byte-slice_split, length, length-drop, length-slice_split, List, list_all, map, Mask, mask_named, no_names, None, not, not-true, Option, option_and_then, option_map, option_map_or, parts_after, refl, rights, same_set, same_Some, set_named, slice_split, slice_split_at, slice_split_first, slice_split_none, Some, SpellsMask, SpellsSet, sym, take, true, ℕ, ◌&&◌, ◌+◌, ◌^◌, ◌∙◌, ◌∷◌, ◌≡◌, ◌≢◌}
 use Rattle.std.proofs.Math.Bool.{or_assoc as either_assoc}
-use Rattle.std.proofs.lemmas.List.Elements.{All-weaker}
-use Rattle.std.proofs.lemmas.List.Sums.{AllPass-from_list_all}
-use Rattle.std.proofs.lemmas.Slice.Eq.{bytes_eq-Decides}
 use Rattle.acl_perm.proofs.Bools.{or_true}
 use Rattle.acl_perm.proofs.Cuts.{Says, split_none}
-use Rattle.acl_nfs4.specs.BitNames.{set_named}
 
 -- a bar
 abbrev pub is_bar : ℕ → Bool
@@ -43,11 +39,11 @@ joined_bits so_far bit None = refl
 joined_bits so_far bit (Some m) = ap (λ (n : ℕ). Some n) (or_assoc so_far bit m)
 
 -- after one more word, the bits so far and the rest still name the same set
-pub next_left : (table : List BitName) (so_far bit : ℕ) (field word : List ℕ) (after : Option (List ℕ))
-    (total : Option ℕ)
+pub next_left : (table : List BitName) (so_far bit : ℕ) {field word : List ℕ} {after : Option (List ℕ)}
+    {total : Option ℕ}
     → IsFieldCut field word after → Some bit ≡ bit_in table word → bits_from table so_far (Some field) ≡ total
     → bits_from table (bit_or so_far bit) after ≡ total
-next_left table so_far bit field word after total cut named e =
+next_left table so_far bit {after = after} cut named e =
     joined_bits so_far bit (bits_in table (parts_after after)) ∙ rw (cut.parts, ← named) at e
 
 -- ---- tables whose names can be in a field
@@ -99,10 +95,6 @@ flags_table = record {
 
 -- ---- the parts of a field
 
--- bytes that a test finds equal are equal
-pub same_bytes : (xs ys : List ℕ) → bytes_eq xs ys ≡ true → xs ≡ ys
-same_bytes xs ys e = search (rules, bytes_eq-Decides xs ys, e)
-
 -- if bytes pass the test for bytes other than c, none of them is c
 pub all_apart : (c : ℕ) (word : List ℕ) → list_all (λ b. not (eqb b c)) word ≡ true → All (λ b. eqb b c ≡ false) word
 all_apart c word e = All-weaker _ _ (λ b h. not-true (eqb b c) h) word (AllPass-from_list_all _ word e)
@@ -135,13 +127,13 @@ word_whole table word bit is e =
     let names = and_true (is_whole r.row.name) (option_map_or is_whole r.row.second true) r.passes in
     let named = or_true (bytes_eq word r.row.name) (option_map_or (bytes_eq word) r.row.second false) r.named in
     all_apart 0x7c word (elim named [
-      | inl first ↦ ap is_whole (same_bytes word r.row.name first) ∙ names.0
+      | inl first ↦ ap is_whole (bytes_eq_same word r.row.name first) ∙ names.0
       | inr other ↦ second r.row.second names.1 other
     ]) where
       second : (o : Option (List ℕ)) → option_map_or is_whole o true ≡ true
           → option_map_or (bytes_eq word) o false ≡ true → is_whole word ≡ true
       second None p q = absurd cc
-      second (Some name) p q = ap is_whole (same_bytes word name q) ∙ p
+      second (Some name) p q = ap is_whole (bytes_eq_same word name q) ∙ p
 
 -- the first of some words names a bit, and the others name a set
 pub record FirstNamed (table : List BitName) (word : List ℕ) (words : List (List ℕ)) (set : ℕ) : Type 0 where
@@ -164,8 +156,7 @@ first_named table word words set e = both (bit_in table word) (bits_in table wor
 
 -- names that are joined by bars are cut into the same names
 split_joined : (table : List BitName) (word : List ℕ) (words : List (List ℕ)) (set : ℕ) → IsTable table
-    → bits_in table (word ∷ words) ≡ Some set
-    → slice_split is_bar (join_with_byte 0x7c (word ∷ words)) ≡ word ∷ words
+    → bits_in table (word ∷ words) ≡ Some set → slice_split is_bar (join_with_byte 0x7c (word ∷ words)) ≡ word ∷ words
 split_joined table word [] set is e =
     let f = first_named table word [] set e in
     slice_split_none is_bar word (word_whole table word f.bit is f.named)
@@ -178,17 +169,16 @@ split_joined table word (next ∷ words) set is e =
 
 -- a field has at least one part
 some_parts : (field : List ℕ) → slice_split is_bar field ≢ []
-some_parts field e = let none : length (slice_split is_bar field) ≡ 0 = ap length e in
-    omega (arith, length-slice_split is_bar field, none)
+some_parts field e = omega (arith, length-slice_split is_bar field, ap length e)
 
 -- a field spells the set that it names
-pub spelled : (table : List BitName) (field : List ℕ) (set : ℕ) → set_named table field ≡ Some set
+pub named_is_spelled : (table : List BitName) (field : List ℕ) (set : ℕ) → set_named table field ≡ Some set
     → SpellsSet table field set
 unfolding set_named
-spelled table field set e =
+named_is_spelled table field set e =
     elim (bytes_eq field no_names) as (λ b. bytes_eq field no_names ≡ b
     → cond b (Some 0) (bits_in table (slice_split is_bar field)) ≡ Some set → SpellsSet table field set) [
-      | true ↦ λ same given. inl (same_bytes field no_names same, sym (same_Some _ _ given))
+      | true ↦ λ same given. inl (bytes_eq_same field no_names same, sym (same_Some _ _ given))
       | false ↦ λ other given. inr (
         slice_split is_bar field,
         some_parts field,
@@ -199,8 +189,7 @@ spelled table field set e =
 
 -- the set that words name is the set of the field that they make
 words_again : (table : List BitName) (field : List ℕ) (set : ℕ) (words : List (List ℕ)) → IsTable table
-    → words ≢ [] → field ≡ join_with_byte 0x7c words
-    → bits_in table words ≡ Some set → set_named table field ≡ Some set
+    → words ≢ [] → field ≡ join_with_byte 0x7c words → bits_in table words ≡ Some set → set_named table field ≡ Some set
 unfolding set_named
 words_again table field set [] is some joined named = absurd (some refl)
 words_again table field set (word ∷ words) is some joined named =
@@ -208,7 +197,7 @@ words_again table field set (word ∷ words) is some joined named =
     rw (joined, split_joined table word words set is named) named in
     elim (bytes_eq field no_names) as (λ b. bytes_eq field no_names ≡ b
     → cond b (Some 0) (bits_in table (slice_split is_bar field)) ≡ Some set) [
-      | true ↦ λ same. let wrong = rw (same_bytes field no_names same, is.no_dash) at given in absurd cc
+      | true ↦ λ same. let wrong = rw (bytes_eq_same field no_names same, is.no_dash) at given in absurd cc
       | false ↦ λ other. given
     ] refl
 
@@ -225,7 +214,7 @@ named_again table field set is (inr s) = words_again table field set s.0 is s.1 
 pub answers_spelled : (field : List ℕ) (r : Option Mask) → option_map (λ m. m.bits) r ≡ mask_named field
     → IfSome r (λ m. SpellsMask field m.bits)
 answers_spelled field None given = tt
-answers_spelled field (Some m) given = spelled rights field m.bits (sym given)
+answers_spelled field (Some m) given = named_is_spelled rights field m.bits (sym given)
 
 -- a mask that the field spells is returned
 pub answers_only : (field : List ℕ) (r : Option Mask) (mask : ℕ) → option_map (λ m. m.bits) r ≡ mask_named field

@@ -1,12 +1,8 @@
 -- Tables that name bits: the rows that words name, and the sets of them.
-use Rattle.acl_nfs4.proofs.Common.{[], all_rights, and_le_l, and_pow, and_true, ap, arith, bar, bit_and, bit_at, bit_at-lt, bit_in, bit_name_of, bit_names_of, bit_or, BitName, bits_in, Bool, Bor, cond, drop, eq-eqb, eqb, eqb-true, eqb_tells, false, find, first_name, get_or, has_bit, has_bit-and, has_bit-or, IfSome, inl, inr, is_rising, is_within, IsMask, IsMask-union, IsSome, IsWithin, join_with_byte, length, List, list_all, ltb, ltb-true, map, Mask, mask_named, names_of, no_names, None, Option, option_map, refl, rights, same_set, set_if_within, Some, SpellsMask, SpellsSet, subst, suc, true, zero, ℕ, ⊎_elim, ◌&&◌, ◌*◌, ◌<◌, ◌^◌, ◌↔◌, ◌∙◌, ◌∷◌, ◌≡◌}
+use Rattle.acl_nfs4.proofs.Common.{[], all_rights, and_le_l, and_pow, and_true, and_zero_r, ap, arith, bar, bit_and, bit_at, bit_at-lt, bit_in, bit_name_of, bit_names_of, bit_or, BitName, bits_in, Bool, Bor, cond, drop, eq-eqb, eqb, eqb-true, eqb_tells, false, find, first_name, get_or, has_bit, has_bit-and, has_bit-or, IfSome, inl, inr, is_rising, is_within, IsMask, IsMask-union, IsSome, IsWithin, join_with_byte, length, List, list_all, list_all-append, ltb, ltb-true, map, Mask, mask_named, names_of, no_names, None, Option, option_map, or_zero_l, or_zero_r, refl, rights, rows_of, same_set, set_if_within, set_named, set_text, set_within, Some, SpellsMask, SpellsSet, subst, suc, true, zero, ℕ, ⊎_elim, ◌&&◌, ◌*◌, ◌<◌, ◌^◌, ◌↔◌, ◌∙◌, ◌∷◌, ◌≡◌}
 use Rattle.std.proofs.Math.Bool.{and-or_distrib_left}
-use Rattle.std.proofs.lemmas.List.Folds.{list_all-append}
-use Rattle.std.specs.Int.Bits.{and_zero_r, or_zero_l, or_zero_r}
-use Rattle.acl_nfs4.specs.BitNames.{rows_of, set_named, set_text}
-use Rattle.acl_nfs4.specs.internal.NameTable.{set_within}
 use Rattle.acl_perm.specs.declared.bit_names.BitName.{BitName as Row}
-use Rattle.acl_nfs4.proofs.names.SetFields.{AreBits, IsTable, NameThemselves, first_named, named_again, rights_table, row_of, spelled}
+use Rattle.acl_nfs4.proofs.names.SetFields.{AreBits, IsTable, NameThemselves, first_named, named_again, rights_table, row_of, named_is_spelled}
 
 -- ---- rows of the code
 
@@ -35,8 +31,7 @@ none_above : (rows : List Row) (set bit : ℕ) → set < bit → list_all (λ ne
 none_above [] set bit lt h = refl
 none_above (r ∷ rows) set bit lt h =
     let both = and_true (ltb bit r.bit) (list_all (λ next. ltb bit next.bit) rows) h in
-    let less : set < r.bit = omega (arith, lt, ltb-true bit r.bit both.0) in
-    rw (above_all set r.bit less) (none_above rows set bit lt both.1)
+    rw (above_all set r.bit (omega (arith, lt, ltb-true bit r.bit both.0))) (none_above rows set bit lt both.1)
 
 -- if the bits of the rows ascend, a set has no names from a row on whose bit is greater than the set
 pub none_from : (table : List Row) (set i : ℕ) (d : Row) → is_rising table ≡ true → i < length table
@@ -65,7 +60,7 @@ rights_named (word ∷ words) n e = let f = first_named rights word words n e in
 
 -- a field that names a set of rights names a mask
 pub named_right : (field : List ℕ) (n : ℕ) → mask_named field ≡ Some n → IsMask n
-named_right field n e = elim (spelled rights field n e) [
+named_right field n e = elim (named_is_spelled rights field n e) [
   | inl none ↦ rw none.1 refl
   | inr some ↦ rights_named some.0 n some.3
 ]
@@ -118,9 +113,8 @@ zero_and (suc zero) p lt h = let same : 1 * p ≡ p = omega arith in grind arith
 zero_and (suc (suc d)) p lt h = absurd (omega (arith, lt))
 
 -- a set has a bit, or the intersection with the bit is empty
-misses : (set k : ℕ) → eqb (bit_and set (2 ^ k)) (2 ^ k) ≡ false → bit_and set (2 ^ k) ≡ 0
-misses set k h =
-    rw (and_pow set k) (zero_and (bit_at set k) (2 ^ k) (bit_at-lt set k) (rw (and_pow set k) at h))
+bit_missing : (set k : ℕ) → eqb (bit_and set (2 ^ k)) (2 ^ k) ≡ false → bit_and set (2 ^ k) ≡ 0
+bit_missing set k h = rw (and_pow set k) (zero_and (bit_at set k) (2 ^ k) (bit_at-lt set k) (rw (and_pow set k) at h))
 
 -- the names of the bits of a set name the part of the set that is in the table
 names_spell : (table rows : List BitName) (places : List ℕ) (set : ℕ) → NameThemselves table rows → AreBits rows places
@@ -138,7 +132,7 @@ names_spell table (row ∷ rows) (k ∷ places) set named bits =
     ≡ Some (bit_and set (bit_or row.bit (all_of rows)))) [
       | true ↦ λ has. rw (name, rest, and_or set row.bit (all_of rows), eqb-true _ _ has) refl
       | false ↦ λ lacks.
-          let none : bit_and set row.bit ≡ 0 = rw bit (misses set k (rw bit at lacks)) in
+          let none : bit_and set row.bit ≡ 0 = rw bit (bit_missing set k (rw bit at lacks)) in
           rw (rest, and_or set row.bit (all_of rows), none, or_zero_l (bit_and set (all_of rows))) refl
     ] refl
 
@@ -229,7 +223,7 @@ part_says table whole field is =
       | Some set ↦ λ named.
           elim (is_within whole set) as (λ t. is_within whole set ≡ t
           → PartSays table whole field (cond t (Some set) None)) [
-            | true ↦ λ inside. record { spelled = spelled table field set named; within = eqb-true _ _ inside }
+            | true ↦ λ inside. record { spelled = named_is_spelled table field set named; within = eqb-true _ _ inside }
             | false ↦ λ outside other s within.
                 let e = named_again table field other is s in
                 let inside = eq-eqb _ _ within in

@@ -31,8 +31,7 @@ beyond_is n lanes long most =
     let as_long : length lowered ≡ n = omega (arith, long, length-map lanes (λ b. less b 32)) in
     let tests : map (top 7) (beyond_lanes n (zip2 less lanes (replicate n 32))) ≡ map is_beyond lanes =
     ap (λ ls. map (top 7) (beyond_lanes n ls)) (zip2_splat less lanes n 32 long)
-    ∙ tops_compared w8 leb (replicate n 95) lowered
-    ∙ zip2_splat_left leb 95 n lowered as_long
+    ∙ tops_compared w8 leb (replicate n 95) lowered ∙ zip2_splat_left leb 95 n lowered as_long
     ∙ map-map (λ b. leb 95 b) (λ b. less b 32) lanes in
     ap (λ ms. mask_l ms % 2 ^ 64) tests
     ∙ mask_l-mod (map is_beyond lanes) 64 (omega (arith, length-map lanes is_beyond))
@@ -54,8 +53,7 @@ plain_whole bytes plain = list_all-from_AllPass is_plain_ascii bytes
 
 -- if the first lane that is set is after a front, each byte of the front is plain ASCII
 pub plain_front : (bytes : List ℕ) (n len : ℕ) → ((k : ℕ) → Fits w8 (get_or bytes k 0)) → n ≤ 64
-    → n ≤ length bytes → len ≤ n → len ≤ count_trailing_zeros 64 (beyond n (chunk 0 n bytes))
-    → ArePlain bytes 0 len
+    → n ≤ length bytes → len ≤ n → len ≤ count_trailing_zeros 64 (beyond n (chunk 0 n bytes)) → ArePlain bytes 0 len
 plain_front bytes n len fits most inside short behind = λ k d from to.
     let lanes = chunk 0 n bytes in
     let room : 0 + n ≤ length bytes = omega (arith, inside) in

@@ -1,18 +1,16 @@
 -- The test for UTF-8, from the contract of `from_utf8`; and plain ASCII.
-use Rattle.acl_nfs4.proofs.Common.{arith, list_all-from_AllPass, nat_tests, Bool, false, false_from_ne_true, is_no_who_len, is_plain, is_plain_ascii, is_unknown_special, is_utf8, is_utf8-from_IsUtf8, IsAscii-from_all, IsUtf8, IsUtf8-from_ascii, IsUtf8-from_is_utf8, length, length-take-le, List, list_all, None, not, not-true, refl, sym, take, true, who_fault, ℕ, ◌<◌, ◌∙◌, ◌≡◌, ◌≤◌}
-use Rattle.std.proofs.lemmas.List.Elements.{All-weaker}
-use Rattle.std.proofs.lemmas.List.Sums.{AllPass-from_list_all}
+use Rattle.acl_nfs4.proofs.Common.{All-weaker, AllPass-from_list_all, arith, Bool, false, false_from_ne_true, is_no_who_len, is_plain, is_plain_ascii, is_unknown_special, is_utf8, is_utf8-from_IsUtf8, IsAscii-from_all, IsUtf8, IsUtf8-from_ascii, IsUtf8-from_is_utf8, length, length-take-le, List, list_all, list_all-from_AllPass, nat_tests, None, not, not-true, refl, sym, take, true, who_fault, ℕ, ◌<◌, ◌∙◌, ◌≡◌, ◌≤◌}
 
 -- if bytes are UTF-8, the test says true
-pub yes : (bytes : List ℕ) → IsUtf8 bytes → true ≡ is_utf8 bytes
-yes bytes h = sym (is_utf8-from_IsUtf8 bytes h)
+pub true_if_utf8 : (bytes : List ℕ) → IsUtf8 bytes → true ≡ is_utf8 bytes
+true_if_utf8 bytes h = sym (is_utf8-from_IsUtf8 bytes h)
 
 -- if bytes are not UTF-8, the test says false
-pub no : (bytes : List ℕ) → ¬ (IsUtf8 bytes) → false ≡ is_utf8 bytes
-no bytes h = sym (false_from_ne_true (is_utf8 bytes) (λ e. h (IsUtf8-from_is_utf8 bytes e)))
+pub false_if_not_utf8 : (bytes : List ℕ) → ¬ (IsUtf8 bytes) → false ≡ is_utf8 bytes
+false_if_not_utf8 bytes h = sym (false_from_ne_true (is_utf8 bytes) (λ e. h (IsUtf8-from_is_utf8 bytes e)))
 
 -- what the two tests for UTF-8 need
-pub ruleset text_tests = (yes, no)
+pub ruleset text_tests = (true_if_utf8, false_if_not_utf8)
 
 -- ---- plain ASCII
 

@@ -1,10 +1,8 @@
 -- The fields of a line: cut at its spaces.
-use Rattle.acl_nfs4.proofs.Common.{[], add-one, All, and_true, ap, arith, Bool, count_by, cut_space, drop, eqb, eqb-true, false, get_or-take, HasLineFields, HasNoSpace, last_fields, length, length-append, length-slice_split, length-take, LineFields, List, list_all, list_all-from_AllPass, lt-ltb, ltb, None, not, Option, option_and_then, option_map, position, position_or_len, refl, slice_split, slice_split_at, Some, space, subst, sym, take, take-append-drop, true, ℕ, ◌++◌, ◌+◌, ◌<◌, ◌∙◌, ◌∷◌, ◌≡◌, ◌≤◌}
+use Rattle.acl_nfs4.proofs.Common.{[], add-one, All, All-from_get_or, All-weaker, and_true, ap, arith, Bool, count_by, cut_space, drop, eqb, eqb-true, false, get_or-take, HasLineFields, HasNoSpace, last_fields, length, length-append, length-slice_split, length-take, line_fields, LineFields, List, list_all, list_all-from_AllPass, lt-ltb, ltb, None, not, Option, option_and_then, option_map, position, position_or_len, refl, slice_split, slice_split_at, Some, space, subst, sym, take, take-append-drop, true, ℕ, ◌++◌, ◌+◌, ◌<◌, ◌∙◌, ◌∷◌, ◌≡◌, ◌≤◌}
 use Rattle.std.proofs.Math.Seq.{drop-append-add, drop-cons, take-append_seam}
-use Rattle.std.proofs.lemmas.List.Elements.{All-from_get_or, All-weaker}
 use Rattle.std.proofs.lemmas.List.Quantifiers.{position-Some}
 use Rattle.acl_perm.proofs.Cuts.{Says, place, split_none}
-use Rattle.acl_nfs4.specs.internal.AceReading.{line_fields}
 
 -- a space
 abbrev pub is_space : ℕ → Bool
@@ -78,18 +76,18 @@ FieldsSay line None = count_by is_space line < 3
 FieldsSay line (Some fields) = HasLineFields line fields × (3 ≤ count_by is_space line)
 
 -- what is found is true of the line, if it is true without a space and for the parts of each cut
-step : (bytes line : List ℕ) (next : List ℕ × List ℕ → Option LineFields) (o : Option (List ℕ × List ℕ))
+cut_step : (bytes line : List ℕ) (next : List ℕ × List ℕ → Option LineFields) (o : Option (List ℕ × List ℕ))
     → CutSays bytes o → (count_by is_space bytes ≡ 0 → FieldsSay line None)
     → ((parts : List ℕ × List ℕ) → IsSpaceCut bytes parts.0 parts.1 → FieldsSay line (next parts))
     → FieldsSay line (option_and_then next o)
-step bytes line next None says missing found = missing says
-step bytes line next (Some parts) says missing found = found parts says
+cut_step bytes line next None says missing found = missing says
+cut_step bytes line next (Some parts) says missing found = found parts says
 
 -- what the third cut of a line finds is true of the line
-third : (line kind one flags two : List ℕ) → IsSpaceCut line kind one → IsSpaceCut one flags two
+last_cut : (line kind one flags two : List ℕ) → IsSpaceCut line kind one → IsSpaceCut one flags two
     → (o : Option (List ℕ × List ℕ)) → CutSays two o → FieldsSay line (last_fields kind flags o)
-third line kind one flags two a b None h = omega (arith, a.count, b.count, h)
-third line kind one flags two a b (Some parts) h = (
+last_cut line kind one flags two a b None h = omega (arith, a.count, b.count, h)
+last_cut line kind one flags two a b (Some parts) h = (
   record { order = rw (a.order, b.order, h.order) refl; kind = a.free; flags = b.free; mask = h.free },
   omega (arith, a.count, b.count, h.count),
 )
@@ -98,9 +96,9 @@ third line kind one flags two a b (Some parts) h = (
 pub fields_say : (line : List ℕ) → FieldsSay line (line_fields line)
 unfolding line_fields
 fields_say line =
-    step line line _ (cut_space line) (cut_says line) (λ none. omega (arith, none)) (λ kind a.
-    step kind.1 line _ (cut_space kind.1) (cut_says kind.1) (λ none. omega (arith, a.count, none)) (λ flags b.
-    third line kind.0 kind.1 flags.0 flags.1 a b (cut_space flags.1) (cut_says flags.1)))
+    cut_step line line _ (cut_space line) (cut_says line) (λ none. omega (arith, none)) (λ kind a.
+    cut_step kind.1 line _ (cut_space kind.1) (cut_says kind.1) (λ none. omega (arith, a.count, none)) (λ flags b.
+    last_cut line kind.0 kind.1 flags.0 flags.1 a b (cut_space flags.1) (cut_says flags.1)))
 
 -- a line with four fields has the fields that are found
 pub fields_read : (line : List ℕ) (fields : LineFields) → HasLineFields line fields → line_fields line ≡ Some fields
@@ -115,5 +113,4 @@ fields_read line fields h =
 pub cut_len : (bytes first rest : List ℕ) → Some (first, rest) ≡ cut_space bytes
     → length bytes ≡ length first + length rest + 1
 cut_len bytes first rest e =
-    let cut : IsSpaceCut bytes first rest = subst (CutSays bytes) (sym e) (cut_says bytes) in
-    omega (arith, ap length cut.order, length-append first (space ∷ rest))
+    omega (arith, ap length (subst (CutSays bytes) (sym e) (cut_says bytes)).order, length-append first (space ∷ rest))

@@ -1,6 +1,5 @@
 -- What is read from a text is true of the text, and what is true of a text is read from the text.
-use Rattle.acl_nfs4.proofs.Common.{[], Ace, ace_lines, ace_lines_from, AceTextFault, ap, append-nil, append_assoc, arith, Err, FailsAs, false, IfErr, IfOk, inl, inr, is_skipped, IsAccepted, IsAceText, IsAceTextFault, IsTextRefusal, length, length-append, List, MatchResult, Ok, Profile, read_ace, refl, Result, SpellEach, SpellsAce, subst, sym, TextLine, true, weight, ℕ, ◌++◌, ◌+◌, ◌>>=◌, ◌∙◌, ◌∷◌, ◌≡◌, ◌⊎◌}
-use Rattle.acl_nfs4.specs.internal.AceReading.{read_lines}
+use Rattle.acl_nfs4.proofs.Common.{[], Ace, ace_lines, ace_lines_from, AceTextFault, ap, append-nil, append_assoc, arith, Err, FailsAs, false, IfErr, IfOk, inl, inr, is_skipped, IsAccepted, IsAceText, IsAceTextFault, IsTextRefusal, length, length-append, List, MatchResult, Ok, Profile, read_ace, read_lines, refl, Result, SpellEach, SpellsAce, subst, sym, TextLine, true, weight, ℕ, ◌++◌, ◌+◌, ◌>>=◌, ◌∙◌, ◌∷◌, ◌≡◌, ◌⊎◌}
 use Rattle.acl_nfs4.specs.declared.text.fault.AceTextFault.TheVariants as faults
 use Rattle.acl_nfs4.proofs.text.AceJudged.{LineSays, TakesAce, answer_of, line_read, line_says}
 use Rattle.acl_nfs4.proofs.xdr.Faults.{weight-push}

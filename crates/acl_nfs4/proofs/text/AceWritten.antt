@@ -1,10 +1,7 @@
 -- The text that is written, and what it spells.
-use Rattle.acl_nfs4.proofs.Common.{[], Ace, ace_lines_from, ace_text, arith, nat_tests, all_flags, all_rights, AllByRecursion, Allow, ap, append_assoc, Bool, cond, Deny, eqb, false, first_name, flag_names, flat_map-cons, is_no_who_len, is_plain, is_skipped, is_unknown_special, is_utf8, IsAccepted, IsAce, IsAceText, IsProfile, IsWho, Kind, kind_name, length, List, list_all, None, not, Profile, refl, rights, slice_split_at, Some, SpellEach, SpellsAce, SpellsMask, subst, sym, true, ℕ, ◌++◌, ◌+◌, ◌↔◌, ◌∙◌, ◌∷◌, ◌≡◌}
-use Rattle.std.proofs.lemmas.List.Folds.{list_all-append}
+use Rattle.acl_nfs4.proofs.Common.{[], Ace, ace_line, ace_lines_from, ace_text, all_flags, all_rights, AllByRecursion, Allow, ap, append_assoc, arith, Bool, cond, Deny, eqb, false, first_name, flag_names, flat_map-cons, is_no_who_len, is_plain, is_skipped, is_unknown_special, is_utf8, IsAccepted, IsAce, IsAceText, IsProfile, IsWho, Kind, kind_name, length, List, list_all, list_all-append, nat_tests, None, not, Profile, refl, rights, set_text, slice_split_at, Some, SpellEach, SpellsAce, SpellsMask, subst, sym, true, ℕ, ◌++◌, ◌+◌, ◌↔◌, ◌∙◌, ◌∷◌, ◌≡◌}
 use Rattle.acl_perm.proofs.Cuts.{not_feed}
 use Rattle.acl_perm.specs.Lines.{lines_of}
-use Rattle.acl_nfs4.specs.AceText.{ace_line}
-use Rattle.acl_nfs4.specs.BitNames.{set_text}
 use Rattle.acl_nfs4.specs.declared.who.WhoFault.TheVariants as who
 use Rattle.acl_nfs4.proofs.text.AceLines.{one_list}
 use Rattle.acl_nfs4.proofs.names.SetFields.{all_apart, flags_table, named_again, rights_table}
@@ -45,15 +42,14 @@ line_is a = simp append_assoc
 -- a body has no line feed
 no_feed_in : (a : Ace) → IsWho a.who → list_all not_feed (body a) ≡ true
 no_feed_in a h =
-    let kind : list_all not_feed (kind_name a.kind) ≡ true = kind_pass not_feed refl refl a.kind in
     let flags = set_text-pass not_feed flag_names a.flags refl in
     let mask = set_text-pass not_feed rights a.mask refl in
     let who = all_weaker is_plain not_feed a.who (λ b plain. grind (arith, nat_tests, plain)) (plain_who a.who h) in
-    simp (list_all-append {X = ℕ}) (rw (kind, flags, mask, who) refl)
+    simp (list_all-append {X = ℕ}) (rw (kind_pass not_feed refl refl a.kind, flags, mask, who) refl)
 
 -- a body is not skipped
-kept : (a : Ace) → is_skipped (body a) ≡ false
-kept a = by_kind a.kind (0x20 ∷ (set_text flag_names a.flags ++ 0x20 ∷ (set_text rights a.mask ++ 0x20 ∷ a.who))) where
+body_not_skipped : (a : Ace) → is_skipped (body a) ≡ false
+body_not_skipped a = by_kind a.kind (0x20 ∷ (set_text flag_names a.flags ++ 0x20 ∷ (set_text rights a.mask ++ 0x20 ∷ a.who))) where
   by_kind : (kind : Kind) (rest : List ℕ) → is_skipped (kind_name kind ++ rest) ≡ false
   by_kind Allow rest = refl
   by_kind Deny rest = refl
@@ -92,7 +88,7 @@ spelled_from : (p : Profile) (number : ℕ) (list : List Ace) → IsProfile p �
     → SpellEach (ace_lines_from number (lines_of (ace_text list))) list
 spelled_from p number [] is each = tt
 spelled_from p number (a ∷ list) is each =
-    rw (lines_next p a list each.0, kept a) (spells_line p a is each.0, spelled_from p (number + 1) list is each.1)
+    rw (lines_next p a list each.0, body_not_skipped a) (spells_line p a is each.0, spelled_from p (number + 1) list is each.1)
 
 -- the written text spells the list
 pub text_again : (p : Profile) (list : List Ace) → IsProfile p → IsAccepted p list → IsAceText p list (ace_text list)

@@ -46,9 +46,9 @@ pub layout : (bytes : List ℕ) (a : Ace) (more : List ℕ) → IsAce full a →
 layout bytes a more is e = subst (λ (b : List ℕ). Layout b a more) (sym e) (layout-of a more is)
 
 -- two ACEs with the same fields are the same
-pub same_ace : (a : Ace) (k : Kind) (f m : ℕ) (w : List ℕ) → k ≡ a.kind → f ≡ a.flags → m ≡ a.mask → w ≡ a.who
+pub same_ace : (a : Ace) {k : Kind} {f m : ℕ} {w : List ℕ} → k ≡ a.kind → f ≡ a.flags → m ≡ a.mask → w ≡ a.who
     → record { kind = k; flags = f; mask = m; who = w } ≡ a
-same_ace a k f m w ke fe me we = rw (ke, fe, me, we) refl
+same_ace a ke fe me we = rw (ke, fe, me, we) refl
 
 -- ---- a body, one ACE after the other
 
@@ -58,14 +58,13 @@ unfolding aces_of
 aces_of-flat_map [] bytes s = refl
 aces_of-flat_map (a ∷ list) bytes s =
     let l = layout bytes a (flat_map piece list) s.each.0 (s.spelled ∙ flat_map-cons piece a list) in
-    let first : front_ace bytes ≡ a = same_ace a _ _ _ _ (ap kind_from l.kind ∙ kind_from-number a.kind) l.flags l.mask
+    let first : front_ace bytes ≡ a = same_ace a (ap kind_from l.kind ∙ kind_from-number a.kind) l.flags l.mask
     (ap (λ (k : ℕ). take k (drop 16 bytes)) l.len ∙ l.who) in
     let size : 16 + front_who_len bytes + pad_len (front_who_len bytes) ≡ (length a.who + 19) / 4 * 4 =
     omega (arith, l.len, ap pad_len l.len) in
-    let rest = ap (λ (k : ℕ). drop k bytes) size ∙ l.tail in
     ap (λ (x : Ace). x ∷ aces_of (length list)
     (drop (16 + front_who_len bytes + pad_len (front_who_len bytes)) bytes)) first
-    ∙ ap (λ (b : List ℕ). a ∷ aces_of (length list) b) rest
+    ∙ ap (λ (b : List ℕ). a ∷ aces_of (length list) b) (ap (λ (k : ℕ). drop k bytes) size ∙ l.tail)
     ∙ ap (λ (m : List Ace). a ∷ m) (aces_of-flat_map list (flat_map piece list)
     (record { spelled = refl; weight = omega (arith, s.weight, weight-cons a list); each = s.each.1 }))
 
@@ -108,5 +107,5 @@ splits-of (a ∷ list) count bytes some len e s =
     }
 
 -- a body that is not at its end begins with a piece, and a body follows
-pub splits : (count : ℕ) (bytes : List ℕ) → 0 < count → IsBody count bytes → Splits count bytes
-splits count bytes some b = splits-of (aces_of count bytes) count bytes some b.whole refl b.spells
+pub body_splits : (count : ℕ) (bytes : List ℕ) → 0 < count → IsBody count bytes → Splits count bytes
+body_splits count bytes some b = splits-of (aces_of count bytes) count bytes some b.whole refl b.spells

@@ -1,8 +1,7 @@
 -- A fault that reading returns is the first fault of the text.
-use Rattle.acl_nfs4.proofs.Common.{[], Ace, ap, append_assoc, arith, Bool, Border, cases_lt, cond, count_ones, Err, Fault, fault_at, field, flagged, flags_of, inl, inr, IsAce, IsBytes, IsFault, IsOwed, judged, Kind, kind_number, kind_of, le-ltb, length, length-append, List, longest_who, lt-ltb, mask_of, masked, measured, most_weight, named, number, Ok, pad_len, padded, padding_of, piece, Place, Profile, Reason, refl, refuses, replicate, Result, size, Stage, subst, suc, sum_by_push, sym, take, Truncated, typed, weight, who_len_of, who_of, word, word_field, zero, ℕ, ◌++◌, ◌+◌, ◌<◌, ◌>>=◌, ◌∙◌, ◌∷◌, ◌≡◌, ◌≤◌, Breaks, IsFirstFault, AllByRecursion, append-nil, flat_map, flat_map-cons}
-use Rattle.acl_nfs4.specs.internal.Reading.{ace_at, from_who}
+use Rattle.acl_nfs4.proofs.Common.{[], Ace, ace_at, AllByRecursion, ap, append-nil, append_assoc, arith, Bool, Border, Breaks, cases_lt, cond, count_ones, Err, Fault, fault_at, field, flagged, flags_of, flat_map, flat_map-cons, from_who, inl, inr, IsAce, IsBytes, IsFault, IsFirstFault, IsOwed, judged, Kind, kind_number, kind_of, le-ltb, length, length-append, List, longest_who, lt-ltb, mask_of, masked, measured, most_weight, named, number, Ok, pad_len, padded, padding_of, piece, Place, Profile, Reason, refl, refuses, replicate, Result, size, Stage, subst, suc, sum_by_push, sym, take, Truncated, typed, weight, who_len_of, who_of, word, word_field, zero, ℕ, ◌++◌, ◌+◌, ◌<◌, ◌>>=◌, ◌∙◌, ◌∷◌, ◌≡◌, ◌≤◌}
 use Rattle.acl_nfs4.specs.Fault.Stage.{kind as at_kind, flags as at_flags, mask as at_mask, len as at_len, who as at_who, padding as at_padding}
-use Rattle.acl_nfs4.proofs.xdr.Fields.{Takes, field_takes, word_takes, who_bounds, kind_is, flags_are, mask_is, who_len_is, who_is}
+use Rattle.acl_nfs4.proofs.xdr.Fields.{flags_take, kind_takes, len_takes, mask_takes, Takes, who_bounds, who_takes}
 use Rattle.acl_nfs4.proofs.xdr.Lists.{weight-cons}
 
 -- a fault, as a result of a given type
@@ -72,12 +71,12 @@ first_at s front rest n parts border here owed some breaks ends = record {
 }
 
 -- if the next field fails, its fault is the fault of the text
-here : {A : Type 0} (profile : Profile) (bytes t : List ℕ) (p : Place) (s : Stage) (value : List ℕ → Result A Reason)
+field_fault : {A : Type 0} (profile : Profile) (bytes t : List ℕ) (p : Place) (s : Stage) (value : List ℕ → Result A Reason)
     (f : Fault) → Carried bytes t p → Border profile s t → IsOwed s
     → ((r : Reason) → refuses profile s (take (size s) p.rest) r → 0 < size s)
     → ((r : Reason) → value (take (size s) p.rest) ≡ Err r → refuses profile s (take (size s) p.rest) r)
     → field (size s) value p ≡ Err f → IsFault profile bytes f.offset f.reason
-here profile bytes t p s value f c b owed some means e =
+field_fault profile bytes t p s value f c b owed some means e =
     elim (cases_lt (length p.rest) (size s)) [
       | inl short ↦
           let h : Err (fault_at p Truncated) ≡ Err f =
@@ -117,8 +116,7 @@ regroup t a b c d e f = simp append_assoc
 -- after a whole ACE the text is at a border again
 pub border_after : (profile : Profile) (n : ℕ) (list : List Ace) (t : List ℕ) (a : Ace)
     → Border profile (at_kind n list) t → length list < n → IsAce profile a
-    → weight list + count_ones a.mask ≤ most_weight
-    → Border profile (at_kind n (list ++ a ∷ [])) (t ++ piece a)
+    → weight list + count_ones a.mask ≤ most_weight → Border profile (at_kind n (list ++ a ∷ [])) (t ++ piece a)
 border_after profile n list t a b lt is light =
     let bounds = who_bounds a.who is.who in
     let b1 = typed n list a.kind t b lt in
@@ -126,10 +124,9 @@ border_after profile n list t a b lt is light =
     let b3 = masked n list a.kind a.flags a.mask _ b2 is.mask light in
     let b4 = measured n list a.kind a.flags a.mask (length a.who) _ b3 bounds.0 bounds.1 in
     let b5 = named n list a.kind a.flags a.mask a.who _ b4 is.who in
-    let b6 = padded n list a.kind a.flags a.mask a.who _ b5 in
     subst (λ (x : List ℕ). Border profile (at_kind n (list ++ a ∷ [])) x)
     (regroup t (word (kind_number a.kind)) (word a.flags) (word a.mask) (word (length a.who)) a.who
-    (replicate (pad_len (length a.who)) 0)) b6
+    (replicate (pad_len (length a.who)) 0)) (padded n list a.kind a.flags a.mask a.who _ b5)
 
 -- after more whole ACEs the text is at a border again
 pub borders_after : (profile : Profile) (n : ℕ) (list more : List Ace) (t : List ℕ) → Border profile (at_kind n list) t
@@ -144,8 +141,7 @@ borders_after profile n list (a ∷ more) t b each few light =
     (omega (arith, few, length-append list (a ∷ [])))
     (omega (arith, light, weight-push list a, weight-cons a more)) in
     subst (λ (l : List Ace). Border profile (at_kind n l) (t ++ flat_map piece (a ∷ more)))
-    (append_assoc list (a ∷ []) more)
-    (subst (λ (x : List ℕ). Border profile (at_kind n ((list ++ a ∷ []) ++ more)) x)
+    (append_assoc list (a ∷ []) more) (subst (λ (x : List ℕ). Border profile (at_kind n ((list ++ a ∷ []) ++ more)) x)
     (append_assoc t (piece a) (flat_map piece more) ∙ ap (λ (x : List ℕ). t ++ x) (sym (flat_map-cons piece a more))) h)
 
 -- no value is a fault
@@ -157,15 +153,13 @@ tail_fails : (profile : Profile) (bytes : List ℕ) (n : ℕ) (list : List Ace) 
     (p : Place) (fault : Fault) → Carried bytes t p → Border profile (at_who n list k f m l) t → 1 ≤ l → l ≤ longest_who
     → from_who k f m l p ≡ Err fault → IsFault profile bytes fault.offset fault.reason
 tail_fails profile bytes n list k f m l t p fault c b some short e =
-    bind_fails (field l who_of p) _ fault e (λ h. here profile bytes t p (at_who n list k f m l) who_of fault c b tt
+    bind_fails (field l who_of p) _ fault e (λ h. field_fault profile bytes t p (at_who n list k f m l) who_of fault c b tt
     (λ r _. some) (λ r m. m) h) (λ w we wr.
-    let wt = field_takes l who_of p w c.fits we in
-    let wi = who_is (take l p.rest) w.0 wt.0 in
-    let len : length w.0 ≡ l = omega (arith, ap length wi.0, wt.1) in
-    let cw = Carried-then bytes t p w.0 w.1 c (subst (λ (x : List ℕ). Takes p x w.1) wi.0 wt.2) in
-    let bw = named n list k f m w.0 t (subst (λ (x : ℕ). Border profile (at_who n list k f m x) t) (sym len) b) wi.1 in
+    let (taken, is, len) = who_takes l p w c.fits we in
+    let cw = Carried-then bytes t p w.0 w.1 c taken in
+    let bw = named n list k f m w.0 t (subst (λ (x : ℕ). Border profile (at_who n list k f m x) t) (sym len) b) is in
     bind_fails (field (pad_len l) padding_of w.1) _ fault wr
-    (λ h. here profile bytes (t ++ w.0) w.1 (at_padding n list k f m w.0) padding_of fault cw bw tt
+    (λ h. field_fault profile bytes (t ++ w.0) w.1 (at_padding n list k f m w.0) padding_of fault cw bw tt
     (λ r m. padding_some (pad_len (length w.0)) w.1.rest r m) (λ r m. m)
     (subst (λ (x : ℕ). field (pad_len x) padding_of w.1 ≡ Err fault) (sym len) h))
     (λ z ze zr. absurd (ok_no_err _ fault zr)))
@@ -176,31 +170,26 @@ pub ace_fails : (profile : Profile) (bytes : List ℕ) (n : ℕ) (list : List Ac
     → ace_at profile (weight list) p ≡ Err fault → IsFault profile bytes fault.offset fault.reason
 unfolding ace_at
 ace_fails profile bytes n list t p fault c b lt e =
-    bind_fails (word_field kind_of p) _ fault e (λ h. here profile bytes t p (at_kind n list) (λ x. kind_of (number x))
+    bind_fails (word_field kind_of p) _ fault e (λ h. field_fault profile bytes t p (at_kind n list) (λ x. kind_of (number x))
     fault c b lt (λ r _. some_word r) (λ r m. m) h) (λ k ke kr.
-    let kt = word_takes kind_of p k c.fits ke in
-    let ck = Carried-then bytes t p (word (kind_number k.0)) k.1 c
-    (subst (λ (x : ℕ). Takes p (word x) k.1) (kind_is kt.0 k.0 kt.1) kt.2) in
+    let ck = Carried-then bytes t p (word (kind_number k.0)) k.1 c (kind_takes p k c.fits ke) in
     let bk = typed n list k.0 t b lt in
     bind_fails (word_field (flags_of profile) k.1) _ fault kr
-    (λ h. here profile bytes _ k.1 (at_flags n list k.0) (λ x. flags_of profile (number x)) fault ck bk tt
+    (λ h. field_fault profile bytes _ k.1 (at_flags n list k.0) (λ x. flags_of profile (number x)) fault ck bk tt
     (λ r _. some_word r) (λ r m. m) h) (λ f fe fr.
-    let ft = word_takes (flags_of profile) k.1 f ck.fits fe in
-    let fi = flags_are profile ft.0 f.0 ft.1 in
-    let cf = Carried-then bytes _ k.1 (word f.0) f.1 ck (subst (λ (x : ℕ). Takes k.1 (word x) f.1) fi.0 ft.2) in
-    let bf = flagged n list k.0 f.0 _ bk fi.1 in
+    let (flags_taken, flags_within) = flags_take profile k.1 f ck.fits fe in
+    let cf = Carried-then bytes _ k.1 (word f.0) f.1 ck flags_taken in
+    let bf = flagged n list k.0 f.0 _ bk flags_within in
     bind_fails (word_field (mask_of profile (weight list)) f.1) _ fault fr
-    (λ h. here profile bytes _ f.1 (at_mask n list k.0 f.0) (λ x. mask_of profile (weight list) (number x)) fault cf
+    (λ h. field_fault profile bytes _ f.1 (at_mask n list k.0 f.0) (λ x. mask_of profile (weight list) (number x)) fault cf
     bf tt (λ r _. some_word r) (λ r m. m) h) (λ m me mr.
-    let mt = word_takes (mask_of profile (weight list)) f.1 m cf.fits me in
-    let mi = mask_is profile (weight list) mt.0 m.0 mt.1 in
-    let cm = Carried-then bytes _ f.1 (word m.0) m.1 cf (subst (λ (x : ℕ). Takes f.1 (word x) m.1) mi.0 mt.2) in
-    let bm = masked n list k.0 f.0 m.0 _ bf mi.1 mi.2 in
+    let (mask_taken, mask_within, light) = mask_takes profile (weight list) f.1 m cf.fits me in
+    let cm = Carried-then bytes _ f.1 (word m.0) m.1 cf mask_taken in
+    let bm = masked n list k.0 f.0 m.0 _ bf mask_within light in
     bind_fails (word_field who_len_of m.1) _ fault mr (λ h.
-    here profile bytes _ m.1 (at_len n list k.0 f.0 m.0) (λ x. who_len_of (number x)) fault cm bm tt
+    field_fault profile bytes _ m.1 (at_len n list k.0 f.0 m.0) (λ x. who_len_of (number x)) fault cm bm tt
     (λ r _. some_word r) (λ r m. m) h) (λ l le lr.
-    let lt' = word_takes who_len_of m.1 l cm.fits le in
-    let li = who_len_is lt'.0 l.0 lt'.1 in
-    let cl = Carried-then bytes _ m.1 (word l.0) l.1 cm (subst (λ (x : ℕ). Takes m.1 (word x) l.1) li.0 lt'.2) in
-    let bl = measured n list k.0 f.0 m.0 l.0 _ bm li.1 li.2 in
-    tail_fails profile bytes n list k.0 f.0 m.0 l.0 _ l.1 fault cl bl li.1 li.2 lr))))
+    let (len_taken, some, short) = len_takes m.1 l cm.fits le in
+    let cl = Carried-then bytes _ m.1 (word l.0) l.1 cm len_taken in
+    let bl = measured n list k.0 f.0 m.0 l.0 _ bm some short in
+    tail_fails profile bytes n list k.0 f.0 m.0 l.0 _ l.1 fault cl bl some short lr))))

@@ -41,8 +41,8 @@ bind_then (Ok x) f y e go = go x refl e
 bind_then (Err d) f y e go = absurd cc
 
 -- a step that gives a value continues with that value
-pub goes_to : {A B E : Type 0} (r : Result A E) (f : A → Result B E) (x : A) → r ≡ Ok x → (r >>= f) ≡ f x
-goes_to {A = A} {E = E} r f x e = ap (λ (s : Result A E). s >>= f) e
+pub bind-ok : {A B E : Type 0} {r : Result A E} (f : A → Result B E) {x : A} → r ≡ Ok x → (r >>= f) ≡ f x
+bind-ok {A = A} {E = E} f e = ap (λ (s : Result A E). s >>= f) e
 
 -- if a test did not refuse, it was false, and the value is that of the other branch
 pub guard_ok : {A E : Type 0} (b : Bool) (d : E) (r : Result A E) (y : A) → cond b (Err d) r ≡ Ok y
@@ -74,9 +74,9 @@ pub record Takes (p : Place) (text : List ℕ) (q : Place) : Type 0 where
   pub bytes : IsBytes q.rest
 
 -- what two steps took
-pub Takes-then : (p : Place) (x : List ℕ) (q : Place) (y : List ℕ) (r : Place) → Takes p x q → Takes q y r
+pub Takes-then : {p : Place} {x : List ℕ} {q : Place} {y : List ℕ} {r : Place} → Takes p x q → Takes q y r
     → Takes p (x ++ y) r
-Takes-then p x q y r s t = record {
+Takes-then {x = x} {y = y} {r = r} s t = record {
   parts = s.parts ∙ ap (λ (z : List ℕ). x ++ z) t.parts ∙ sym (append_assoc x y r.rest);
   counted = omega (arith, s.counted, t.counted, length-append x y);
   bytes = t.bytes;
@@ -91,7 +91,7 @@ judged_ok n p (Ok y) x e = let h : (y, moved n p) ≡ x = ok_is _ _ e in (ap (λ
 judged_ok n p (Err d) x e = absurd cc
 
 -- a field that was read has all its bytes, which spell its value, and reading took them
-pub field_takes : {A : Type 0} (n : ℕ) (value : List ℕ → Result A Reason) (p : Place) (x : A × Place) → IsBytes p.rest
+field_takes : {A : Type 0} (n : ℕ) (value : List ℕ → Result A Reason) (p : Place) (x : A × Place) → IsBytes p.rest
     → field n value p ≡ Ok x
     → (value (take n p.rest) ≡ Ok x.0) × (length (take n p.rest) ≡ n) × Takes p (take n p.rest) x.1
 field_takes n value p x fits e =
@@ -118,9 +118,8 @@ field_again n value at text rest x len e =
 -- ---- words
 
 -- a word that was read is taken, and its number is accepted
-pub word_takes : {A : Type 0} (value : ℕ → Result A Reason) (p : Place) (x : A × Place) → IsBytes p.rest
-    → word_field value p ≡ Ok x
-    → (n : ℕ) × (value n ≡ Ok x.0) × Takes p (word n) x.1 × (n < 2 ^ 32)
+word_takes : {A : Type 0} (value : ℕ → Result A Reason) (p : Place) (x : A × Place) → IsBytes p.rest
+    → word_field value p ≡ Ok x → (n : ℕ) × (value n ≡ Ok x.0) × Takes p (word n) x.1 × (n < 2 ^ 32)
 word_takes value p x fits e =
     let t = field_takes 4 (λ bytes. value (number bytes)) p x fits e in
     let front : word (number (take 4 p.rest)) ≡ take 4 p.rest =
@@ -151,7 +150,7 @@ pub count_again : (n : ℕ) → n ≤ most_aces → count_of n ≡ Ok n
 count_again n le = grind (arith, nat_tests)
 
 -- a kind that was read is that of its number
-pub kind_is : (n : ℕ) (k : Kind) → kind_of n ≡ Ok k → n ≡ kind_number k
+kind_is : (n : ℕ) (k : Kind) → kind_of n ≡ Ok k → n ≡ kind_number k
 kind_is n Allow e = grind arith
 kind_is n Deny e = grind arith
 
@@ -166,7 +165,7 @@ kind_lt Allow = omega arith
 kind_lt Deny = omega arith
 
 -- flags that were read are ones of the profile
-pub flags_are : (profile : Profile) (n m : ℕ) → flags_of profile n ≡ Ok m → (n ≡ m) × IsWithin profile.flags m
+flags_are : (profile : Profile) (n m : ℕ) → flags_of profile n ≡ Ok m → (n ≡ m) × IsWithin profile.flags m
 flags_are profile n m e = grind (arith, nat_tests)
 
 -- flags of the profile are accepted
@@ -174,7 +173,7 @@ pub flags_again : (profile : Profile) (n : ℕ) → IsWithin profile.flags n →
 flags_again profile n within = rw (eq-eqb (bit_and n profile.flags) n within) refl
 
 -- a mask that was read is one of the profile, and light enough
-pub mask_is : (profile : Profile) (weight n m : ℕ) → mask_of profile weight n ≡ Ok m
+mask_is : (profile : Profile) (weight n m : ℕ) → mask_of profile weight n ≡ Ok m
     → (n ≡ m) × IsWithin profile.masks m × (weight + count_ones m ≤ most_weight)
 mask_is profile weight n m e = grind (arith, nat_tests)
 
@@ -189,7 +188,7 @@ pub len_bounds : (n : ℕ) → is_no_who_len n ≡ false → (1 ≤ n) × (n ≤
 len_bounds n e = grind (arith, nat_tests)
 
 -- a length that was read is one that a who may have
-pub who_len_is : (n m : ℕ) → who_len_of n ≡ Ok m → (n ≡ m) × (1 ≤ m) × (m ≤ longest_who)
+who_len_is : (n m : ℕ) → who_len_of n ≡ Ok m → (n ≡ m) × (1 ≤ m) × (m ≤ longest_who)
 who_len_is n m e = grind (arith, nat_tests)
 
 -- a length that is accepted is one that a who may have
@@ -211,7 +210,7 @@ taken_is None bytes who e = (ok_is bytes who e, refl)
 taken_is (Some f) bytes who e = absurd cc
 
 -- bytes that were read as a who are one
-pub who_is : (bytes who : List ℕ) → who_of bytes ≡ Ok who → (bytes ≡ who) × IsWho who
+who_is : (bytes who : List ℕ) → who_of bytes ≡ Ok who → (bytes ≡ who) × IsWho who
 who_is bytes who e = let h = taken_is (who_fault bytes) bytes who e in (h.0, subst IsWho h.0 h.1)
 
 -- a who is accepted
@@ -219,17 +218,17 @@ pub who_again : (who : List ℕ) → IsWho who → who_of who ≡ Ok who
 who_again who is = rw is refl
 
 -- bytes that are all zero are as many zeros
-zeros : (bytes : List ℕ) → list_all (λ b. eqb b 0) bytes ≡ true → bytes ≡ replicate (length bytes) 0
-zeros [] e = refl
-zeros (b ∷ bytes) e =
+bytes_are_zeros : (bytes : List ℕ) → list_all (λ b. eqb b 0) bytes ≡ true → bytes ≡ replicate (length bytes) 0
+bytes_are_zeros [] e = refl
+bytes_are_zeros (b ∷ bytes) e =
     let h = and_true (eqb b 0) (list_all (λ b. eqb b 0) bytes) e in
     let first : b ≡ 0 = eqb-true _ _ h.0 in
-    let others : bytes ≡ replicate (length bytes) 0 = zeros bytes h.1 in
+    let others : bytes ≡ replicate (length bytes) 0 = bytes_are_zeros bytes h.1 in
     cc
 
 -- padding that was read is zero
-pub padding_is : (bytes : List ℕ) (x : Unit {0}) → padding_of bytes ≡ Ok x → bytes ≡ replicate (length bytes) 0
-padding_is bytes x e = zeros bytes (guard_then (list_all (λ b. eqb b 0) bytes) _ _ x e)
+padding_is : (bytes : List ℕ) (x : Unit {0}) → padding_of bytes ≡ Ok x → bytes ≡ replicate (length bytes) 0
+padding_is bytes x e = bytes_are_zeros bytes (guard_then (list_all (λ b. eqb b 0) bytes) _ _ x e)
 
 -- a number of zeros are all zero
 zeros_again : (n : ℕ) → list_all (λ b. eqb b 0) (replicate n 0) ≡ true
@@ -239,3 +238,53 @@ zeros_again (suc n) = zeros_again n
 -- zero bytes are accepted as padding
 pub padding_again : (n : ℕ) → padding_of (replicate n 0) ≡ Ok tt
 padding_again n = rw (zeros_again n) refl
+
+-- ---- each field of an ACE that was read
+
+-- a kind that was read was taken
+pub kind_takes : (p : Place) (k : Kind × Place) → IsBytes p.rest → word_field kind_of p ≡ Ok k
+    → Takes p (word (kind_number k.0)) k.1
+kind_takes p k fits e =
+    let (n, accepted, taken, lt) = word_takes kind_of p k fits e in
+    subst (λ (x : ℕ). Takes p (word x) k.1) (kind_is n k.0 accepted) taken
+
+-- flags that were read were taken, and are flags of the profile
+pub flags_take : (profile : Profile) (p : Place) (f : ℕ × Place) → IsBytes p.rest
+    → word_field (flags_of profile) p ≡ Ok f → Takes p (word f.0) f.1 × IsWithin profile.flags f.0
+flags_take profile p f fits e =
+    let (n, accepted, taken, lt) = word_takes (flags_of profile) p f fits e in
+    let (same, within) = flags_are profile n f.0 accepted in
+    (subst (λ (x : ℕ). Takes p (word x) f.1) same taken, within)
+
+-- a mask that was read was taken, has rights of the profile alone, and is light enough
+pub mask_takes : (profile : Profile) (weight : ℕ) (p : Place) (m : ℕ × Place) → IsBytes p.rest
+    → word_field (mask_of profile weight) p ≡ Ok m
+    → Takes p (word m.0) m.1 × IsWithin profile.masks m.0 × (weight + count_ones m.0 ≤ most_weight)
+mask_takes profile weight p m fits e =
+    let (n, accepted, taken, lt) = word_takes (mask_of profile weight) p m fits e in
+    let (same, within, light) = mask_is profile weight n m.0 accepted in
+    (subst (λ (x : ℕ). Takes p (word x) m.1) same taken, within, light)
+
+-- a length of a who that was read was taken, and is within the bounds
+pub len_takes : (p : Place) (l : ℕ × Place) → IsBytes p.rest → word_field who_len_of p ≡ Ok l
+    → Takes p (word l.0) l.1 × (1 ≤ l.0) × (l.0 ≤ longest_who)
+len_takes p l fits e =
+    let (n, accepted, taken, lt) = word_takes who_len_of p l fits e in
+    let (same, some, short) = who_len_is n l.0 accepted in
+    (subst (λ (x : ℕ). Takes p (word x) l.1) same taken, some, short)
+
+-- a who that was read was taken, is valid, and has this length
+pub who_takes : (len : ℕ) (p : Place) (w : List ℕ × Place) → IsBytes p.rest → field len who_of p ≡ Ok w
+    → Takes p w.0 w.1 × IsWho w.0 × (length w.0 ≡ len)
+who_takes len p w fits e =
+    let (accepted, long, taken) = field_takes len who_of p w fits e in
+    let (same, is) = who_is (take len p.rest) w.0 accepted in
+    (subst (λ (t : List ℕ). Takes p t w.1) same taken, is, ap length (sym same) ∙ long)
+
+-- padding that was read was taken, and is zero
+pub padding_takes : (n : ℕ) (p : Place) (z : Unit {0} × Place) → IsBytes p.rest → field n padding_of p ≡ Ok z
+    → Takes p (replicate n 0) z.1
+padding_takes n p z fits e =
+    let (accepted, long, taken) = field_takes n padding_of p z fits e in
+    subst (λ (t : List ℕ). Takes p t z.1)
+    (padding_is (take n p.rest) z.0 accepted ∙ ap (λ (k : ℕ). replicate k 0) long) taken

@@ -1,12 +1,11 @@
 -- A text has at most one fault, and it has none if a value is at its front.
-use Rattle.acl_nfs4.proofs.Common.{[], Ace, ap, append-nil, arith, behind, cases_lt, Err, Fault, inl, inr, IsFault, IsFirstFault, IsProfile, IsWholeFault, length, length-append, length-take, List, None, of_value, Option, option_map, Profile, Read, Reason, refl, refuses, size, Some, Stage, subst, sym, take, take-append-add, take-take, Truncated, unless, who_fault, who_reason, WhoFault, Xdr, ℕ, ◌++◌, ◌+◌, ◌<◌, ◌∙◌, ◌≡◌, ◌≤◌, ◌⊎◌, ◌-◌, ◌≢◌, kind_of, flags_of, mask_of, who_len_of, who_of, padding_of, number, weight, Result, Ok, IfOk, IfErr, IsOkAnd, drop, take-append-drop, TrailingBytes, length-drop}
+use Rattle.acl_nfs4.proofs.Common.{[], Ace, ap, append-nil, arith, behind, cases_lt, drop, Err, Fault, flags_of, IfErr, IfOk, inl, inr, IsFault, IsFirstFault, IsOkAnd, IsProfile, IsWholeFault, kind_of, length, length-append, length-drop, length-take, List, mask_of, None, number, of_value, Ok, Option, option_map, padding_of, Profile, Read, read_list, Reason, refl, refuses, Result, size, Some, Stage, subst, sym, take, take-append-add, take-append-drop, take-take, TrailingBytes, Truncated, unless, weight, who_fault, who_len_of, who_of, who_reason, WhoFault, Xdr, ℕ, ◌++◌, ◌+◌, ◌-◌, ◌<◌, ◌∙◌, ◌≡◌, ◌≢◌, ◌≤◌, ◌⊎◌}
 use Rattle.acl_nfs4.specs.Fault.Stage.{count as at_count, kind as at_kind, flags as at_flags, mask as at_mask, len as at_len, who as at_who, padding as at_padding}
 use Rattle.acl_nfs4.specs.Front.{IsListOf, IsAtFront}
 use Rattle.acl_nfs4.specs.declared.who.WhoFault.TheVariants as who
 use Rattle.acl_nfs4.proofs.xdr.Faults.{err_is, first_at}
 use Rattle.acl_nfs4.proofs.feed.Pieces.{breaks_whole}
-use Rattle.acl_nfs4.specs.internal.Reading.{read_list}
-use Rattle.acl_nfs4.proofs.xdr.Resume.{answers_fault, one, read_again}
+use Rattle.acl_nfs4.proofs.xdr.Resume.{answers_fault, one_spelling, read_again}
 
 -- a reason of the source, and of no field
 abbrev pub IsOfSource : Reason → Type 0
@@ -145,7 +144,7 @@ module _ (p : Profile) (bytes : List ℕ) (ok : IsProfile p) where
       → IfErr result (λ f. IsFault p bytes f.offset f.reason) → (list : List Ace) (text rest : List ℕ)
       → Xdr p list text → bytes ≡ text ++ rest → IsOkAnd result (IsListOf list text)
   found_only (Ok x) found fault list text rest xdr e =
-      let h = one p x.0 list (take x.1 bytes) text (drop x.1 bytes) rest ok found.1 xdr
+      let h = one_spelling p x.0 list (take x.1 bytes) text (drop x.1 bytes) rest ok found.1 xdr
       (take-append-drop x.1 bytes ∙ e) in
       (h.0, omega (arith, ap length h.1, length-take x.1 bytes, found.0))
   found_only (Err f) found fault list text rest xdr e =
@@ -164,7 +163,7 @@ module _ (p : Profile) (bytes : List ℕ) (ok : IsProfile p) where
 -- two spellings at the front of a text end at the same place
 one_end : (profile : Profile) (a b : List Ace) (s t x y bytes : List ℕ) → IsProfile profile → Xdr profile a s
     → Xdr profile b t → bytes ≡ s ++ x → bytes ≡ t ++ y → length s ≡ length t
-one_end profile a b s t x y bytes ok p q d e = ap length (one profile a b s t x y ok p q (sym d ∙ e)).1
+one_end profile a b s t x y bytes ok p q d e = ap length (one_spelling profile a b s t x y ok p q (sym d ∙ e)).1
 
 -- for one fault of a text, what is taken ends at one place
 same_end : {p : Profile} {bytes : List ℕ} {o t u : ℕ} {r : Reason} → IsProfile p → IsFirstFault p bytes o t r
@@ -195,14 +194,14 @@ one_fault profile bytes o q t u r s ok f g =
     (place.0, same_end ok f same, place.1)
 
 -- bytes that should be one list have at most one fault
-pub one_whole_fault : (profile : Profile) (bytes : List ℕ) (o q : ℕ) (r s : Reason) → IsProfile profile
+pub one_whole_fault : (profile : Profile) (bytes : List ℕ) {o q : ℕ} {r s : Reason} → IsProfile profile
     → IsWholeFault profile bytes o r → IsWholeFault profile bytes q s → (o ≡ q) × (r ≡ s)
-one_whole_fault profile bytes _ _ _ _ ok (of_value o r f) (of_value q s g) = one_place profile bytes o q r s ok f g
-one_whole_fault profile bytes _ _ _ _ ok (of_value o r f) (behind list text rest x e some) =
+one_whole_fault profile bytes ok (of_value o r f) (of_value q s g) = one_place profile bytes o q r s ok f g
+one_whole_fault profile bytes ok (of_value o r f) (behind list text rest x e some) =
     absurd (value_or_fault profile bytes list text rest o r ok x e f)
-one_whole_fault profile bytes _ _ _ _ ok (behind list text rest x e some) (of_value q s g) =
+one_whole_fault profile bytes ok (behind list text rest x e some) (of_value q s g) =
     absurd (value_or_fault profile bytes list text rest q s ok x e g)
-one_whole_fault profile bytes _ _ _ _ ok (behind a s t x d m) (behind b u v y e n) =
+one_whole_fault profile bytes ok (behind a s t x d m) (behind b u v y e n) =
     (one_end profile a b s u t v bytes ok x y d e, refl)
 
 -- a spelling has no fault as a whole
@@ -215,9 +214,9 @@ whole_or_fault profile bytes list _ _ ok x (behind b u v y e n) =
     omega (arith, same, ap length e, length-append u v, n)
 
 -- if bytes follow a list, the first of them is a fault
-pub trails : (profile : Profile) (bytes : List ℕ) (list : List Ace) (len : ℕ) → len < length bytes
+pub byte_after_list : (profile : Profile) (bytes : List ℕ) (list : List Ace) (len : ℕ) → len < length bytes
     → Xdr profile list (take len bytes) → IsWholeFault profile bytes len TrailingBytes
-trails profile bytes list len lt x =
+byte_after_list profile bytes list len lt x =
     let at : length (take len bytes) ≡ len = omega (arith, length-take len bytes) in
     subst (λ (n : ℕ). IsWholeFault profile bytes n TrailingBytes) at
     (behind list (take len bytes) (drop len bytes) x (sym (take-append-drop len bytes))
@@ -229,7 +228,7 @@ module _ (p : Profile) (bytes : List ℕ) (ok : IsProfile p) where
   pub whole_only : (result : Result (List Ace) Fault) → IfOk result (λ list. Xdr p list bytes)
       → IfErr result (λ f. IsWholeFault p bytes f.offset f.reason) → (list : List Ace) → Xdr p list bytes
       → IsOkAnd result (λ x. x ≡ list)
-  whole_only (Ok found) x fault list y = (one p found list bytes bytes [] [] ok x y refl).0
+  whole_only (Ok found) x fault list y = (one_spelling p found list bytes bytes [] [] ok x y refl).0
   whole_only (Err f) x fault list y = absurd (whole_or_fault p bytes list f.offset f.reason ok y fault)
 
   -- bytes with a fault as a whole are refused with that fault
@@ -238,4 +237,4 @@ module _ (p : Profile) (bytes : List ℕ) (ok : IsProfile p) where
       → IsWholeFault p bytes offset r → result ≡ Err (record { offset = offset; reason = r })
   whole_refused (Ok found) x fault offset r f = absurd (whole_or_fault p bytes found offset r ok x f)
   whole_refused (Err g) x fault offset r f =
-      let e = one_whole_fault p bytes g.offset offset g.reason r ok fault f in rw (sym e.0, sym e.1) refl
+      let e = one_whole_fault p bytes ok fault f in rw (sym e.0, sym e.1) refl

@@ -1,21 +1,19 @@
 -- The list that is pulled from a source: the word of its count, and the ACEs so far.
-use Rattle.acl_nfs4.proofs.Common.{[], aces_of, ap, append-nil, arith, behind_scanned, body_in, count_of, Decodes, drop, drop-append-le, drop_all, drop_at, Err, Fault, Gives, HasAce, inl, inr, IsAtEnd, IsBytes, IsFault, IsFilled, IsFirstFault, IsHalted, IsLacking, IsOwned, IsProfile, IsPulled, IsScanned, length, length-append, List, most_weight, number, Ok, Option, Placed, Profile, Progress, Reason, refl, Result, subst, sym, take, take-append-le, take_all, Truncated, Xdr, ℕ, ◌++◌, ◌+◌, ◌-◌, ◌<◌, ◌∙◌, ◌∷◌, ◌≡◌, ◌≢◌, ◌≤◌}
-use Rattle.acl_nfs4.specs.internal.Reading.{ace_at}
-use Rattle.acl_nfs4.specs.internal.Pulling.{DrawsCount}
+use Rattle.acl_nfs4.proofs.Common.{[], Ace, ace_at, aces_of, ap, append-nil, arith, behind_scanned, body_in, Consumes, Consumes-trans, count_of, Decodes, DrawsCount, drop, drop-append-le, drop_all, drop_at, Err, Fault, Gives, HasAce, inl, inr, IsAtEnd, IsBytes, IsDrawn, IsFault, IsFilled, IsFirstFault, IsHalted, IsLacking, IsOwned, IsProfile, IsPulled, IsScanned, length, length-append, List, most_weight, number, Ok, Option, Place, Placed, Profile, Progress, Reason, refl, Result, subst, sym, take, take-append-le, take_all, Truncated, Xdr, ℕ, ◌++◌, ◌+◌, ◌-◌, ◌<◌, ◌∙◌, ◌∷◌, ◌≡◌, ◌≢◌, ◌≤◌}
 use Rattle.acl_nfs4.specs.declared.xdr.pulling.Pulled.{Pulled}
 use Rattle.acl_nfs4.specs.Fault.Stage.{count as at_count}
 use Rattle.acl_nfs4.proofs.xdr.Fields.{bytes_append, count_is, IsBytes-drop, IsBytes-take, place}
 use Rattle.acl_nfs4.proofs.xdr.OneFault.{all_taken, never_truncated}
-use Rattle.acl_nfs4.proofs.feed.Scanning.{none_scanned, scanned_on, scans}
+use Rattle.acl_nfs4.proofs.feed.Scanning.{none_scanned, scanned_on, scans_one_more}
 use Rattle.acl_nfs4.proofs.feed.Streaming.{text_ends, text_fails, text_refused, text_short}
-use Rattle.acl_nfs4.proofs.xdr.FromSource.{accepted, refusal}
+use Rattle.acl_nfs4.proofs.xdr.FromSource.{placed_value, placed_reason}
 
 -- ---- the word of the count
 
 -- if the source ends or fails in the word of the count, the answer is true of the bytes that were taken
-pub count_lacks : (p : Profile) (bytes : List ℕ) (left : Option (List ℕ)) (before after : ℕ) (f : Fault)
+pub count_lacks : (p : Profile) {bytes : List ℕ} {left : Option (List ℕ)} {before after : ℕ} {f : Fault}
     → IsLacking 0 4 bytes left before after f → Decodes p bytes (IsAtEnd left) (Err f)
-count_lacks p bytes left before after f l =
+count_lacks p {bytes = bytes} {f = f} l =
     let cut : IsFault p bytes f.offset Truncated =
     subst (λ (o : ℕ). IsFault p bytes o Truncated) (sym l.here) (text_short p bytes l.short) in
     elim l.why [
@@ -24,11 +22,11 @@ count_lacks p bytes left before after f l =
     ]
 
 -- the answer for a whole word of the count is true of the bytes that were taken
-pub count_answers : (bytes room new : List ℕ) (left : Option (List ℕ)) (before after x : ℕ) (judged : Result ℕ Reason)
+pub count_answers : {bytes room new : List ℕ} (left : Option (List ℕ)) {before after x : ℕ} (judged : Result ℕ Reason)
     (result : Result ℕ Fault) → IsFilled 0 4 room new bytes before after → number bytes ≡ x → Placed 0 judged result
     → Gives (λ z. z) judged (count_of x) → DrawsCount bytes left before after result
-count_answers bytes room new left before after x judged (Ok n) h e placed gives =
-    let is = count_is x n (accepted (λ z. z) 0 judged (count_of x) n placed gives) in (
+count_answers {bytes = bytes} left {x = x} judged (Ok n) h e placed gives =
+    let is = count_is x n (placed_value (λ z. z) 0 judged (count_of x) n placed gives) in (
       λ p. record {
         small = is.1;
         counted = ap number (take_all 4 bytes (omega (arith, h.long))) ∙ e ∙ is.0;
@@ -39,8 +37,8 @@ count_answers bytes room new left before after x judged (Ok n) h e placed gives 
       },
       h.kept,
     )
-count_answers bytes room new left before after x judged (Err f) h e placed gives = λ p.
-    let j = refusal (λ z. z) 0 judged (count_of x) f placed gives in
+count_answers {bytes = bytes} left {x = x} judged (Err f) h e placed gives = λ p.
+    let j = placed_reason (λ z. z) 0 judged (count_of x) f placed gives in
     let why : count_of (number bytes) ≡ Err j.0 = ap count_of e ∙ j.1 in
     let first : IsFirstFault p bytes 0 4 j.0 = text_refused p bytes j.0 (omega (arith, h.long))
     (ap (λ (t : List ℕ). count_of (number t)) (take_all 4 bytes (omega (arith, h.long))) ∙ why) in
@@ -58,8 +56,7 @@ pulled_light t = omega (arith, t.scanned.total, t.scanned.spells.weight)
 
 module _ {p : Profile} {n seen total : ℕ} {body text : List ℕ} (t : IsPulled p n seen total body text) where
   -- what was judged of a body stays so if a piece follows it
-  grown : (piece : List ℕ)
-      → IsScanned p (body ++ piece) (record { seen = seen; used = length body; weight = total })
+  grown : (piece : List ℕ) → IsScanned p (body ++ piece) (record { seen = seen; used = length body; weight = total })
   grown piece = scanned_on p body (body ++ piece) _ (take-append-le (length body) body piece (omega arith))
       (omega (arith, length-append body piece)) t.scanned
 
@@ -72,9 +69,8 @@ module _ {p : Profile} {n seen total : ℕ} {body text : List ℕ} (t : IsPulled
   count_on piece = ap number (take-append-le 4 text piece (omega (arith, t.long))) ∙ t.counted
 
   -- a fault of the next ACE is one of the text
-  pulled_fails : (piece : List ℕ) (offset : ℕ) (f : Fault) → IsBytes piece → seen < n
-      → offset ≡ 4 + length body → ace_at p total (place offset piece) ≡ Err f
-      → IsFault p (text ++ piece) f.offset f.reason
+  pulled_fails : (piece : List ℕ) (offset : ℕ) (f : Fault) → IsBytes piece → seen < n → offset ≡ 4 + length body
+      → ace_at p total (place offset piece) ≡ Err f → IsFault p (text ++ piece) f.offset f.reason
   pulled_fails piece offset f fits lt at e =
       let so_far : Progress = record { seen = seen; used = length body; weight = total } in
       let count : number (take 4 (text ++ piece)) ≡ n = count_on piece in
@@ -85,6 +81,20 @@ module _ {p : Profile} {n seen total : ℕ} {body text : List ℕ} (t : IsPulled
       text_fails p (text ++ piece) so_far (omega (arith, t.long, length-append text piece))
       (omega (arith, count, t.small)) (subst (λ (b : List ℕ). IsScanned p b so_far) (sym (body_on piece)) (grown piece))
       (bytes_append text piece t.bytes fits) f (omega (arith, count, lt)) (ap (ace_at p total) next ∙ e)
+
+-- what a source gave before an ACE and then gave of it, it gave altogether
+pub drawn_after : {p : Profile} {weight offset held before after : ℕ} {rest : Place → Result (Ace × Place) Fault}
+    {old left : Option (List ℕ)} {room given : List ℕ} (start : Option (List ℕ)) (text : List ℕ)
+    → Consumes start old text → IsDrawn p weight rest offset held old left before after room given
+    → Consumes start left (text ++ given)
+drawn_after {old = old} {left = left} {given = given} start text taken d =
+    Consumes-trans start old left text given taken d.taken
+
+-- what a source gave before an ACE in which it stopped and then gave of it, it gave altogether
+pub halted_after : {p : Profile} {weight offset before after : ℕ} {old left : Option (List ℕ)} {f : Fault}
+    (start : Option (List ℕ)) (text : List ℕ) → Consumes start old text
+    → (h : IsHalted p weight offset old left before after f) → Consumes start left (text ++ h.given)
+halted_after {old = old} {left = left} start text taken h = Consumes-trans start old left text h.given taken h.taken
 
 -- a text that is refused has at least one byte
 some_given : (p : Profile) (weight offset : ℕ) (text : List ℕ) (f : Fault)
@@ -131,12 +141,11 @@ pub pulled_on : {p : Profile} {n seen total offset : ℕ} {room : List ℕ} {old
     → IsPulled p n (seen + 1) (total + x.bits) (body ++ h.given) (text ++ h.given)
 pulled_on {p} {n} {seen} {total} {offset} {x = x} {body = body} text ok t lt at h =
     let next : place (4 + length body) (drop (length body) (body ++ h.given)) ≡ place offset (h.given ++ []) =
-    ap (λ (y : List ℕ). place (4 + length body) y)
-    (drop_at body h.given (length body) refl ∙ sym (append-nil h.given))
+    ap (λ (y : List ℕ). place (4 + length body) y) (drop_at body h.given (length body) refl ∙ sym (append-nil h.given))
     ∙ ap (λ (k : ℕ). place k (h.given ++ [])) (sym at) in
     let fits = bytes_append body h.given (subst (λ (b : List ℕ). IsBytes b) t.parts (IsBytes-drop 4 text t.bytes))
     h.drawn.bytes in
-    let s = scans p (body ++ h.given) (record { seen = seen; used = length body; weight = total }) h.ace _
+    let s = scans_one_more p (body ++ h.given) (record { seen = seen; used = length body; weight = total }) h.ace _
     (place (offset + x.len) []) ok fits (grown t h.given) (sym next) (h.drawn.leads []) in
     let all : length (body ++ h.given) - 0 ≡ length (body ++ h.given) = omega arith in
     record {
@@ -155,8 +164,7 @@ pulled_all {p} {n} {seen} {total} {body} {text} t end =
     let so_far : Progress = record { seen = seen; used = length body; weight = total } in
     let w = text_ends p text so_far (omega (arith, t.long)) (omega (arith, t.counted, t.small))
     (subst (λ (b : List ℕ). IsScanned p b so_far) (sym t.parts) t.scanned) t.bytes (omega (arith, t.counted, end)) in
-    let whole : take (4 + length body) text ≡ text = take_all _ text (omega (arith, t.long)) in
     let same : body_in text so_far ≡ body = ap (take (length body)) t.parts ∙ take_all _ body (omega arith) in (
-      rw (end, same, whole) at w.xdr,
+      rw (end, same, take_all (4 + length body) text (omega (arith, t.long))) at w.xdr,
       rw (end, same) at w.owned,
     )

@@ -1,6 +1,6 @@
 -- How the code reads lines of ACEs one after the other, as functions: this library's own words, which only code needs.
 -- What public clauses say about texts is in AceText and AceTextFault.
-use Rattle.std.specs.Prelude.{◌≡◌, ◌+◌, ◌≤◌, ◌==◌, ℕ, List, [], ◌∷◌, ◌++◌, length, take, drop, position, Option, None, Some, option_map, ok_or, Result, Ok, Err, nat_le, nat_lt, count_ones, if◌then◌else◌, map, not}
+use Rattle.std.specs.Prelude.{◌≡◌, ◌+◌, ◌≤◌, ◌==◌, ℕ, List, [], ◌∷◌, ◌++◌, length, take, drop, position, Option, None, Some, option_map, ok_or, Result, MatchResult, Ok, Err, nat_le, nat_lt, count_ones, if◌then◌else◌, map, not}
 use Rattle.std.specs.List.{enumerate_from, filter}
 use Rattle.std.specs.Option.{option_and_then}
 use Rattle.std.specs.Str.{bytes_eq}
@@ -135,3 +135,10 @@ read_lines p list (line ∷ lines) = do
 abbrev pub FailsAs : {Y : Type 0} → AceTextFault → Result Y AceTextFault → Type 0
 FailsAs faults.Memory read = Unit {0}
 FailsAs fault read = read ≡ Err fault
+
+-- the result of adding the line of this number to a list: whatever lines follow, the new list goes on with them as the
+-- old list does with this line and them, or the fault is that of these lines
+abbrev pub AddsLine : Profile → ℕ → List ℕ → List Ace → List Ace → Result (Unit {0}) AceTextFault → Type 0
+AddsLine p number line old new result = (more : List (List ℕ)) → MatchResult result
+    (λ _. read_lines p old (ace_lines_from number (line ∷ more)) ≡ read_lines p new (ace_lines_from (number + 1) more))
+    (λ fault. FailsAs fault (read_lines p old (ace_lines_from number (line ∷ more))))

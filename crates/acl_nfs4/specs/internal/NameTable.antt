@@ -18,7 +18,7 @@ is_short_row r = nat_le (length r.name.now) longest_bit_name
 
 -- the greatest number of bytes that a row adds to a line: a `|` and the name
 abbrev pub row_room : ℕ
-row_room = 21
+row_room = longest_bit_name + 1
 
 -- the room for a line: a kind, all flags, all rights, the longest who, and the bytes between them
 abbrev pub ace_line_room : ℕ

@@ -8,8 +8,9 @@ use Rattle.acl_perm.specs.declared.kind.Kind.{Kind}
 use Rattle.acl_nfs4.specs.Ace.{Ace}
 use Rattle.acl_nfs4.specs.Limits.{most_aces, most_weight}
 use Rattle.acl_nfs4.specs.Fields.{number}
+use Rattle.acl_nfs4.specs.Spelling.{word_size}
 use Rattle.acl_nfs4.specs.Stream.{Decodes}
-use Rattle.acl_nfs4.specs.internal.Progress.{IsBytes, IsScanned}
+use Rattle.acl_nfs4.specs.internal.Progress.{IsBytes, IsScanned, after_word, first_number}
 use Rattle.acl_nfs4.specs.internal.Reading.{Place, ace_at, from_mask, from_who}
 use Rattle.acl_nfs4.specs.declared.xdr.fault.Fault.{Fault}
 use Rattle.acl_nfs4.specs.declared.xdr.fault.Reason.{Reason}
@@ -18,10 +19,6 @@ use Rattle.acl_nfs4.specs.declared.xdr.pulling.NextAce.{NextAce}
 use Rattle.acl_nfs4.specs.declared.xdr.pulling.Pulled.{Pulled}
 use Rattle.acl_nfs4.specs.declared.xdr.pulling.Words.{Words}
 use Rattle.acl_nfs4.specs.Who.{is_no_who_len}
-
--- the greatest number of bytes in an ACE: four words, and a who of the greatest length, which has no padding
-abbrev pub longest_ace : ℕ
-longest_ace = 1040
 
 -- ---- one field
 
@@ -54,8 +51,19 @@ Fills offset held size room new piece left before after (Err f) = IsLacking offs
 -- the result of asking for a word
 abbrev pub FillsWord : ℕ → ℕ → List ℕ → List ℕ → List ℕ → Option (List ℕ) → ℕ → ℕ → Result ℕ Fault → Type 0
 FillsWord offset held room new piece left before after (Ok n) =
-    IsFilled held 4 room new piece before after × (number piece ≡ n)
-FillsWord offset held room new piece left before after (Err f) = IsLacking offset 4 piece left before after f
+    IsFilled held word_size room new piece before after × (number piece ≡ n)
+FillsWord offset held room new piece left before after (Err f) = IsLacking offset word_size piece left before after f
+
+-- the result of asking a source for this many bytes, and what it gave
+abbrev pub DrawsBytes : ℕ → ℕ → ℕ → List ℕ → List ℕ → Option (List ℕ) → Option (List ℕ) → ℕ → ℕ
+    → Result (Unit {0}) Fault → Type 0
+DrawsBytes offset held size room new old left before after result =
+    (piece : List ℕ) × Consumes old left piece × Fills offset held size room new piece left before after result
+
+-- the result of asking a source for a word, and what it gave
+abbrev pub DrawsWord : ℕ → ℕ → List ℕ → List ℕ → Option (List ℕ) → Option (List ℕ) → ℕ → ℕ → Result ℕ Fault → Type 0
+DrawsWord offset held room new old left before after result =
+    (piece : List ℕ) × Consumes old left piece × FillsWord offset held room new piece left before after result
 
 -- ---- the fields of an ACE
 
@@ -154,9 +162,9 @@ DrawsAce next old left before after room (Err f) =
 -- holds
 pub record IsPulled (p : Profile) (n seen total : ℕ) (body text : List ℕ) : Type 0 where
   pub small : n ≤ most_aces
-  pub counted : number (take 4 text) ≡ n
-  pub parts : drop 4 text ≡ body
-  pub long : length text ≡ 4 + length body
+  pub counted : first_number text ≡ n
+  pub parts : after_word text ≡ body
+  pub long : length text ≡ word_size + length body
   pub bytes : IsBytes text
   pub scanned : IsScanned p body (record { seen = seen; used = length body; weight = total })
 

@@ -1,5 +1,5 @@
 -- Reading from left to right, with the first fault: what this library's readers compute. No public clause cites it.
-use Rattle.std.specs.Prelude.{◌≡◌, ℕ, zero, suc, ◌+◌, List, [], ◌∷◌, length, take, drop, Result, Ok, Err, Option, None, Some, nat_le, nat_lt, ◌&&◌, not, ◌==◌, Bool, true, if◌then◌else◌, count_ones}
+use Rattle.std.specs.Prelude.{◌≡◌, ℕ, zero, suc, ◌+◌, ◌-◌, ◌*◌, ◌^◌, List, [], ◌∷◌, length, take, drop, Result, Ok, Err, Option, None, Some, nat_le, nat_lt, ◌&&◌, not, ◌==◌, Bool, true, if◌then◌else◌, count_ones}
 use Rattle.acl_perm.specs.Ascii.{delete, space}
 use Rattle.acl_perm.specs.Profile.{Profile}
 use Rattle.acl_perm.specs.declared.kind.Kind.{Kind}
@@ -9,7 +9,7 @@ use Rattle.acl_nfs4.specs.Ace.{Ace}
 use Rattle.acl_nfs4.specs.Fields.{number, count_of, kind_of, flags_of, mask_of, who_len_of, who_of, padding_of}
 use Rattle.std.specs.List.{AllWithin, list_all}
 use Rattle.std.specs.Str.{is_utf8}
-use Rattle.acl_nfs4.specs.Spelling.{pad_len}
+use Rattle.acl_nfs4.specs.Spelling.{pad_len, word_size}
 use Rattle.acl_nfs4.specs.Who.{is_plain}
 use Rattle.acl_nfs4.specs.declared.who.WhoFault.{WhoFault}
 use Rattle.acl_nfs4.specs.declared.who.WhoFault.TheVariants.{Utf8, Control}
@@ -52,6 +52,14 @@ text_fault bytes = if not (is_utf8 bytes) then Some Utf8
 abbrev pub kind_from : ℕ → Kind
 kind_from n = if n == 0 then Allow else Deny
 
+-- the number in which all bits of the lowest n bytes are set, and no others
+abbrev pub low_bytes : ℕ → ℕ
+low_bytes n = 2 ^ (8 * n) - 1
+
+-- each offset, and so each number of bytes, is below this
+abbrev pub offset_limit : ℕ
+offset_limit = 2 ^ 64
+
 -- how many bytes were read, and those that are left
 pub record Place : Type 0 where
   pub at : ℕ
@@ -83,7 +91,7 @@ field n value p = if nat_lt (length p.rest) n then Err (fault_at p Truncated) el
 
 -- a field that is a word
 abbrev pub word_field : {A : Type 0} → (ℕ → Result A Reason) → Place → Result (A × Place) Fault
-word_field value p = field 4 (λ bytes. value (number bytes)) p
+word_field value p = field word_size (λ bytes. value (number bytes)) p
 
 -- the rest of an ACE, from its padding on
 abbrev pub from_padding : Kind → ℕ → ℕ → ℕ → List ℕ → Place → Result (Ace × Place) Fault

@@ -1,6 +1,7 @@
 //! The answer to one piece of a stream.
-ghost use Rattle.std.specs.Prelude.{◌≡◌, ◌+◌, ◌<◌, ◌^◌, ℕ};
+ghost use Rattle.std.specs.Prelude.{◌≡◌, ◌+◌, ◌<◌, ℕ};
 ghost use Rattle.acl_nfs4.specs.Stream.{further};
+ghost use Rattle.acl_nfs4.specs.internal.Reading.{offset_limit};
 ghost use Rattle.acl_nfs4.specs.declared.feed.fed.Fed.TheVariants.{Done};
 
 use crate::xdr::fault::Fault;
@@ -20,7 +21,7 @@ impl Fed {
     /// Returns the answer to a longer piece, which has this number of bytes before the piece that was answered: `taken`
     /// counts them too.
     pub(crate) fn behind(self, bytes: usize) -> Fed
-        requires { (taken : ℕ) → self ≡ Done taken → bytes + taken < 2 ^ 64 }
+        requires { (taken : ℕ) → self ≡ Done taken → bytes + taken < offset_limit }
         ensures { result ≡ further bytes self }
     {
         match self {

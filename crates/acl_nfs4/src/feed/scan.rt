@@ -1,14 +1,16 @@
 //! Judges a body from the place to which it was judged before, so that each whole ACE is judged once.
-ghost use Rattle.std.specs.Prelude.{◌≡◌, ◌+◌, ◌<◌, ◌≤◌, ◌^◌, Some, length};
+ghost use Rattle.std.specs.Prelude.{◌≡◌, ◌+◌, ◌<◌, ◌≤◌, Some, length};
 ghost use Rattle.acl_perm.specs.Profile.{profile_of};
+ghost use Rattle.acl_nfs4.specs.Spelling.{word_size};
 ghost use Rattle.acl_nfs4.specs.internal.Progress.{EndsPart, IsScanned};
+ghost use Rattle.acl_nfs4.specs.internal.Reading.{offset_limit};
 
 use crate::xdr::cursor::Cursor;
 use crate::xdr::fault::Fault;
 use crate::xdr::reading::next_ace;
 use acl_perm::Profile;
 
-/// How many ACEs of a body are whole, in how many bytes, and their weight.
+/// How many ACEs of a body are whole, in how many bytes, and their weight, which is the number of bits of their masks.
 #[derive(Clone, Copy)]
 pub(crate) struct Progress {
     pub seen: u32,
@@ -40,7 +42,7 @@ impl Reach {
 pub(crate) fn scan(body: &[u8], count: u32, from: Progress, profile: Profile) -> Reach
     requires scanned { IsScanned (profile_of profile) body.now from }
     requires seen { from.seen ≤ count }
-    requires fits { 4 + length body.now < 2 ^ 64 }
+    requires fits { word_size + length body.now < offset_limit }
     ensures scanned { IsScanned (profile_of profile) body.now result.progress }
     ensures ends { EndsPart (profile_of profile) count body.now result.progress result.fault }
 {

@@ -1,10 +1,11 @@
 //! What one more piece makes of bytes that are cut short: the list, a fault, or bytes that are still cut short.
-ghost use Rattle.std.specs.Prelude.{◌≡◌, ◌<◌, ◌^◌, length};
+ghost use Rattle.std.specs.Prelude.{◌≡◌, ◌<◌, length};
 ghost use Rattle.acl_perm.specs.Profile.{profile_of};
 ghost use Rattle.acl_nfs4.specs.Stream.{Feeds, IsCutShort, more};
 ghost use Rattle.acl_nfs4.specs.declared.feed.step.Stage.TheVariants.{Done, Open, Refused};
 ghost use Rattle.acl_nfs4.specs.declared.feed.fed.Fed.TheVariants as fed;
 ghost use Rattle.acl_nfs4.specs.internal.Progress.{IsFeed, IsProgress, Judged, state_of};
+ghost use Rattle.acl_nfs4.specs.internal.Reading.{offset_limit};
 
 use crate::feed::fed::Fed;
 use crate::feed::scan::{Progress, Reach, scan};
@@ -106,7 +107,7 @@ fn judge(text: &StreamBytes, from: Progress, profile: Profile) -> Reach
     requires { IsProgress (profile_of profile) text.now from }
     ensures progress { IsProgress (profile_of profile) text.now result.progress }
     ensures judged { Judged (profile_of profile) text.now result.progress result.fault }
-    ensures fits { length text.now < 2 ^ 64 }
+    ensures fits { length text.now < offset_limit }
 {
     match text.count() {
         None => Reach::at_fault(from, Fault::at_front(Reason::Truncated)),

@@ -1,8 +1,9 @@
 //! The bytes of a stream so far.
-ghost use Rattle.std.specs.Prelude.{◌≡◌, ◌+◌, ◌≤◌, ◌<◌, ◌^◌, ◌↔◌, [], IsSome, IfSome, length, take, drop};
+ghost use Rattle.std.specs.Prelude.{◌≡◌, ◌+◌, ◌≤◌, ◌<◌, ◌↔◌, [], IsSome, IfSome, length, take};
 ghost use Rattle.acl_nfs4.specs.internal.Appending.{Extended};
-ghost use Rattle.acl_nfs4.specs.Fields.{number};
-ghost use Rattle.acl_nfs4.specs.internal.Progress.{IsBytes};
+ghost use Rattle.acl_nfs4.specs.Spelling.{word_size};
+ghost use Rattle.acl_nfs4.specs.internal.Progress.{IsBytes, after_word, first_number};
+ghost use Rattle.acl_nfs4.specs.internal.Reading.{offset_limit};
 
 use byteorder::{BigEndian, ByteOrder};
 use std::alloc::{AllocError, Global};
@@ -46,10 +47,10 @@ impl StreamBytes {
 
     /// Returns the number that the first word spells, or `None` if fewer than four bytes have arrived.
     pub(crate) fn count(&self) -> Option<u32>
-        ensures whole { IsSome result ↔ (4 ≤ length self.now) }
-        ensures value { IfSome result (λ n. n ≡ number (take 4 self.now)) }
+        ensures whole { IsSome result ↔ (word_size ≤ length self.now) }
+        ensures value { IfSome result (λ n. n ≡ first_number self.now) }
         ensures bytes { IsBytes self.now }
-        ensures fits { length self.now < 2 ^ 64 }
+        ensures fits { length self.now < offset_limit }
     {
         if self.filled < 4 {
             return None;
@@ -59,7 +60,7 @@ impl StreamBytes {
 
     /// Returns the bytes after the first word.
     pub(crate) fn body(&self) -> &[u8]
-        ensures { result.now ≡ drop 4 self.now }
+        ensures { result.now ≡ after_word self.now }
     {
         &self.body
     }
@@ -78,15 +79,15 @@ impl StreamBytes {
 
     /// Keeps this number of bytes after the first word.
     pub(crate) fn cut(&mut self, used: usize)
-        requires { 4 + used ≤ length self.old }
-        ensures { drop 4 self.new ≡ take used (drop 4 self.old) }
+        requires { word_size + used ≤ length self.old }
+        ensures { after_word self.new ≡ take used (after_word self.old) }
     {
         self.body.truncate(used);
     }
 
     /// Returns the bytes after the first word alone.
     pub(crate) fn into_body(self) -> Vec<u8>
-        ensures { result.items ≡ drop 4 self }
+        ensures { result.items ≡ after_word self }
     {
         self.body
     }

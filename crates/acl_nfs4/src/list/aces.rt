@@ -1,13 +1,13 @@
 //! The ACEs of a list, one after the other, from bytes that are already judged.
-ghost use Rattle.std.specs.Prelude.{◌≡◌, ◌+◌, ◌≤◌, ◌↔◌, ℕ, IsTrue, List, ◌++◌, length, take, drop};
+ghost use Rattle.std.specs.Prelude.{◌≡◌, ◌+◌, ◌≤◌, ◌↔◌, ℕ, IsTrue, List, ◌++◌, length};
 ghost use Rattle.acl_perm.specs.Profile.{full, profile_of};
 ghost use Rattle.acl_nfs4.specs.Ace.{Ace, ace};
 ghost use Rattle.acl_nfs4.specs.internal.Reading.{kind_from};
 ghost use Rattle.acl_nfs4.specs.Limits.{most_weight};
-ghost use Rattle.acl_nfs4.specs.Spelling.{piece, Fits, IsAce};
+ghost use Rattle.acl_nfs4.specs.Spelling.{piece, word_size, Fits, IsAce};
 ghost use Rattle.acl_nfs4.specs.Spelling as spelled;
 ghost use Rattle.acl_nfs4.specs.Within.{IsWithin};
-ghost use Rattle.acl_nfs4.specs.Fields.{number};
+ghost use Rattle.acl_nfs4.specs.Fields.{number_at};
 ghost use Rattle.acl_nfs4.specs.internal.Body.{BeginsWithAce};
 
 use crate::ace::AceRef;
@@ -121,8 +121,8 @@ struct FirstAce<'a> {
 }
 
 pub(crate) fn word_in(bytes: &[u8], at: usize) -> u32
-    requires { at + 4 ≤ length bytes.now }
-    ensures { result ≡ number (take 4 (drop at bytes.now)) }
+    requires { at + word_size ≤ length bytes.now }
+    ensures { result ≡ number_at at bytes.now }
 {
     BigEndian::read_u32(&bytes[at..])
 }

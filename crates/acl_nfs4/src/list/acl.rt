@@ -290,7 +290,7 @@ impl Ord for Acl {
 
     ghost matches_eq = { λ a b. texts_ties (spelling a) (spelling b) };
 
-    #[tactic(auto, using(crate::proofs::list::Ordered::ordered))]
+    #[tactic(auto, using(crate::proofs::list::Ordered::list_cmp_of_owned))]
     fn cmp(&self, other: &Acl) -> Ordering
         ensures { result ≡ list_cmp self.now other.now }
     {

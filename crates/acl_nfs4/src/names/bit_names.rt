@@ -7,7 +7,8 @@ ghost use Rattle.acl_nfs4.specs.Within.{IsWithin};
 
 use acl_perm::internal::{BitName, place_of};
 
-/// Returns the set that a field names, or `None` if it names no set, or a set that `whole` does not contain.
+/// Returns the set that a field names, or `None` if it names no set, or a set that `whole` does not contain. Sets are
+/// numbers, since the table may be that of the flags or that of the rights.
 #[tactic(auto, unfolding(crate::specs::internal::NameTable::set_within))]
 pub(crate) fn set_within(table: &[BitName], field: &[u8], whole: u32) -> Option<u32>
     ensures exact { result ≡ set_within (bit_names_of table.now) whole field.now }

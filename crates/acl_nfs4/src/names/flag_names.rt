@@ -1,48 +1,47 @@
 //! The names of the flags in texts.
 
+use acl_perm::Flags;
 use acl_perm::internal::BitName;
 
-/// `FILE` is FILE_INHERIT, `DIR` DIRECTORY_INHERIT, `NOPROP` NO_PROPAGATE_INHERIT, `INHERITONLY` INHERIT_ONLY,
-/// `SUCCESS` SUCCESSFUL_ACCESS, `FAILED` FAILED_ACCESS, `GROUP` IDENTIFIER_GROUP and `INHERITED` INHERITED (RFC 8881,
-/// section 6.2.1.4.1, without `ACE4_` and `_ACE`, `_ACE_FLAG`).
+/// The flags in ascending order of their bits (RFC 8881, section 6.2.1.4.1), with the short names of this library.
 pub(crate) static FLAGS: [BitName; 8] = [
     BitName {
-        bit: 0x01,
+        bit: Flags::FILE_INHERIT.bits as u32,
         name: "FILE",
         second: None,
     },
     BitName {
-        bit: 0x02,
+        bit: Flags::DIRECTORY_INHERIT.bits as u32,
         name: "DIR",
         second: None,
     },
     BitName {
-        bit: 0x04,
+        bit: Flags::NO_PROPAGATE_INHERIT.bits as u32,
         name: "NOPROP",
         second: None,
     },
     BitName {
-        bit: 0x08,
+        bit: Flags::INHERIT_ONLY.bits as u32,
         name: "INHERITONLY",
         second: None,
     },
     BitName {
-        bit: 0x10,
+        bit: Flags::SUCCESSFUL_ACCESS.bits as u32,
         name: "SUCCESS",
         second: None,
     },
     BitName {
-        bit: 0x20,
+        bit: Flags::FAILED_ACCESS.bits as u32,
         name: "FAILED",
         second: None,
     },
     BitName {
-        bit: 0x40,
+        bit: Flags::IDENTIFIER_GROUP.bits as u32,
         name: "GROUP",
         second: None,
     },
     BitName {
-        bit: 0x80,
+        bit: Flags::INHERITED.bits as u32,
         name: "INHERITED",
         second: None,
     },

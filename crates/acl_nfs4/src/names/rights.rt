@@ -33,9 +33,9 @@ fn mask_in(field: &[u8]) -> Option<Mask>
 
 /// Returns the first name of the right of a mask with one bit (RFC 8881, section 6.2.1.3.1), or `None` for every other
 /// mask. It takes no memory.
-pub fn bit_name(bit: Mask) -> Option<&'static str>
-    ensures value { option_map (λ name. name.now) result ≡ first_name rights bit.bits }
-    ensures named { IfSome result (λ name. SpellsMask name.now bit.bits) }
+pub fn bit_name(right: Mask) -> Option<&'static str>
+    ensures value { option_map (λ name. name.now) result ≡ first_name rights right.bits }
+    ensures named { IfSome result (λ name. SpellsMask name.now right.bits) }
 {
-    first_name(&RIGHTS, bit.bits())
+    first_name(&RIGHTS, right.bits())
 }

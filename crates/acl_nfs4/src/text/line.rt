@@ -15,7 +15,7 @@ use crate::names::bit_names::set_within;
 use crate::names::flag_names::FLAGS;
 use crate::text::fault::AceTextFault;
 use crate::who::{WhoFault, judge};
-use acl_perm::internal::{RIGHTS, is_all_blank, place_of};
+use acl_perm::internal::{RIGHTS, is_all_blank, kind_name, place_of};
 use acl_perm::{Flags, Kind, Mask, Profile};
 
 /// The four fields of a line that should spell an ACE.
@@ -129,9 +129,9 @@ fn space_in(bytes: &[u8]) -> Option<usize>
 fn kind_named(word: &[u8]) -> Option<Kind>
     ensures { result ≡ kind_named word.now }
 {
-    if word == b"ALLOW".as_slice() {
+    if word == kind_name(Kind::Allow).as_bytes() {
         Some(Kind::Allow)
-    } else if word == b"DENY".as_slice() {
+    } else if word == kind_name(Kind::Deny).as_bytes() {
         Some(Kind::Deny)
     } else {
         None

@@ -1,8 +1,8 @@
 //! Lists from their text, line by line.
-ghost use Rattle.std.specs.Prelude.{◌≡◌, ◌⊎◌, ◌+◌, ◌∷◌, [], ℕ, IfErr, IfOk, List, MatchResult, Ok};
+ghost use Rattle.std.specs.Prelude.{◌≡◌, ◌⊎◌, [], IfErr, IfOk, List, MatchResult, Ok};
 ghost use Rattle.acl_perm.specs.Profile.{full, profile_of};
 ghost use Rattle.acl_nfs4.specs.Ace.{Ace};
-ghost use Rattle.acl_nfs4.specs.internal.AceReading.{ace_lines_from, read_lines, FailsAs};
+ghost use Rattle.acl_nfs4.specs.internal.AceReading.{read_lines, AddsLine, FailsAs};
 ghost use Rattle.acl_nfs4.specs.AceText.{IsAceText, ace_lines};
 ghost use Rattle.acl_nfs4.specs.AceTextFault.{IsAceTextFault, IsTextRefusal};
 ghost use Rattle.acl_nfs4.specs.declared.text.fault.AceTextFault.{AceTextFault as FaultValue};
@@ -72,11 +72,7 @@ fn read_text(alloc: Global, text: &[u8], profile: Profile) -> Result<Acl, AceTex
 
 // Adds the ACE of a line, if the line should spell one, before any lines that follow.
 fn add_line(acl: &mut Acl, line: &[u8], number: usize, profile: Profile) -> Result<(), AceTextFault>
-    ensures { (more : List (List ℕ)) → MatchResult result
-        (λ _. read_lines (profile_of profile) acl.old (ace_lines_from number (line.now ∷ more))
-        ≡ read_lines (profile_of profile) acl.new (ace_lines_from (number + 1) more))
-        (λ fault. FailsAs fault
-        (read_lines (profile_of profile) acl.old (ace_lines_from number (line.now ∷ more)))) }
+    ensures { AddsLine (profile_of profile) number line.now acl.old acl.new result }
 {
     if is_skipped(line) {
         return Ok(());

@@ -10,6 +10,7 @@ ghost use Rattle.acl_perm.specs.Principal.{principal};
 use crate::ace::AceRef;
 use crate::names::flag_names::FLAGS;
 use crate::text::writer::{Line, add_set};
+use crate::who::{EVERYONE_NAME, GROUP_NAME, OWNER_NAME};
 use acl_perm::internal::RIGHTS;
 use acl_perm::{Flags, Mask, Principal};
 use std::fmt;
@@ -71,9 +72,9 @@ impl<'a> fmt::Display for PrincipalName<'a> {
 
     fn fmt<W: fmt::Write>(&self, f: &mut fmt::Formatter<W>) -> fmt::Result {
         match self.principal {
-            Principal::Owner => f.write_str("OWNER@"),
-            Principal::Group => f.write_str("GROUP@"),
-            Principal::Everyone => f.write_str("EVERYONE@"),
+            Principal::Owner => f.write_str(OWNER_NAME),
+            Principal::Group => f.write_str(GROUP_NAME),
+            Principal::Everyone => f.write_str(EVERYONE_NAME),
             Principal::User(name) | Principal::GroupNamed(name) => f.write_str(as_text(name)),
         }
     }

@@ -6,7 +6,7 @@ ghost use Rattle.acl_perm.specs.Devices.{one_more};
 ghost use Rattle.acl_perm.specs.Pieces.{Writes, WritesFrom};
 ghost use Rattle.acl_perm.specs.Profile.{full};
 ghost use Rattle.acl_nfs4.specs.Ace.{Ace, ace};
-ghost use Rattle.acl_nfs4.specs.AceText.{IsAceText, ace_line, ace_text, kind_name};
+ghost use Rattle.acl_nfs4.specs.AceText.{IsAceText, ace_line, ace_text};
 ghost use Rattle.acl_nfs4.specs.BitNames.{bar, names_of, set_text};
 ghost use Rattle.acl_nfs4.specs.Limits.{longest_who, most_aces};
 ghost use Rattle.acl_nfs4.specs.internal.NameTable.{bar_before, bit_names_of, is_rising, is_short_row, ace_line_room, row_room};
@@ -16,8 +16,8 @@ use crate::list::aces::Aces;
 use crate::list::acl::Acl;
 use crate::names::flag_names::FLAGS;
 use crate::xdr::view::AclView;
-use acl_perm::internal::{BitName, RIGHTS, put_next};
-use acl_perm::{Counted, Kind, Sink, WriteFault};
+use acl_perm::internal::{BitName, RIGHTS, kind_name, put_next};
+use acl_perm::{Counted, Sink, WriteFault};
 use arrayvec::ArrayVec;
 use std::alloc::{AllocError, Global};
 
@@ -93,7 +93,7 @@ fn fill(line: &mut Line, item: AceRef<'_>)
     ensures short { array_vec_len line.new ≤ ace_line_room }
 {
     line.clear();
-    add(line, kind_name(item.kind));
+    add(line, kind_name(item.kind).as_bytes());
     line.push(b' ');
     add_set(line, &FLAGS, item.flags.bits() as u32);
     line.push(b' ');
@@ -103,17 +103,8 @@ fn fill(line: &mut Line, item: AceRef<'_>)
     line.push(b'\n');
 }
 
-fn kind_name(kind: Kind) -> &'static [u8]
-    ensures name { result.now ≡ kind_name kind }
-    ensures short { length result.now ≤ 5 }
-{
-    match kind {
-        Kind::Allow => b"ALLOW",
-        Kind::Deny => b"DENY",
-    }
-}
-
-/// Adds the names of a set with `|` between them, or `-` for the empty set.
+/// Adds the names of a set with `|` between them, or `-` for the empty set. The set is a number, since the table may be
+/// that of the flags or that of the rights.
 #[tactic(auto, unfolding(crate::specs::BitNames::set_text))]
 pub(crate) fn add_set(line: &mut Line, table: &[BitName], set: u32)
     requires short { list_all is_short_row table.now ≡ true }

@@ -4,7 +4,7 @@ ghost use Rattle.std.specs.Io.KnownBytes.{Consumes, IsAtEnd};
 ghost use Rattle.acl_perm.specs.Devices.{one_more};
 ghost use Rattle.acl_perm.specs.Profile.{full, profile_of};
 ghost use Rattle.acl_nfs4.specs.Ace.{Ace};
-ghost use Rattle.acl_nfs4.specs.Spelling.{IsAccepted, Xdr, spelling};
+ghost use Rattle.acl_nfs4.specs.Spelling.{IsAccepted, Xdr, spelling, word_size};
 ghost use Rattle.acl_nfs4.specs.Fault.{IsFault};
 ghost use Rattle.acl_nfs4.specs.Limits.{most_aces};
 ghost use Rattle.acl_nfs4.specs.internal.Pulling.{DrawsCount};
@@ -109,7 +109,7 @@ fn read_value<S: Source>(alloc: Global, source: &mut S, profile: Profile) -> Res
 
 // Reads the number of ACEs. A number that is too great is refused here, before anything is read after it.
 fn pull_count<S: Source>(source: &mut S, room: &mut [u8]) -> Result<u32, Fault>
-    requires { 4 ≤ length room.old }
+    requires { word_size ≤ length room.old }
     ensures drawn { (piece : List ℕ)
         × Consumes (S.remaining source.old) (S.remaining source.new) piece
         × DrawsCount piece (S.remaining source.new) (S.failure_count source.old)

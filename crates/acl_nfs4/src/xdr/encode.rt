@@ -1,7 +1,8 @@
 //! Writes the bytes of a list to a sink or into memory.
-ghost use Rattle.std.specs.Prelude.{◌≡◌, ◌<◌, ◌^◌, IfOk, length};
+ghost use Rattle.std.specs.Prelude.{◌≡◌, ◌<◌, IfOk, length};
 ghost use Rattle.acl_perm.specs.Pieces.{Writes};
 ghost use Rattle.acl_perm.specs.Profile.{full};
+ghost use Rattle.acl_nfs4.specs.Limits.{spelling_limit};
 ghost use Rattle.acl_nfs4.specs.Programs.{WritesAsRead};
 ghost use Rattle.acl_nfs4.specs.Spelling.{Xdr, spelling, word};
 
@@ -15,7 +16,7 @@ impl Acl {
     /// Returns the number of bytes that spell the list, which `encode` writes, in constant time.
     pub fn encoded_len(&self) -> u64
         ensures value { result ≡ length (spelling self.now) }
-        ensures small { result < 2 ^ 31 }
+        ensures small { result < spelling_limit }
     {
         self.view().encoded_len()
     }
@@ -54,7 +55,7 @@ impl<'a> AclView<'a> {
     #[tactic(auto, using(crate::proofs::xdr::Lengths::list_len, crate::proofs::xdr::Lengths::list_short))]
     pub fn encoded_len(&self) -> u64
         ensures value { result ≡ length (spelling self.now) }
-        ensures small { result < 2 ^ 31 }
+        ensures small { result < spelling_limit }
     {
         4 + self.body.len() as u64
     }

@@ -1,11 +1,11 @@
 //! What each field of the layout may hold. The same functions judge fields in memory, in a stream and from a source.
-ghost use Rattle.std.specs.Prelude.{◌≡◌, ◌==◌, ◌+◌, ◌-◌, ◌*◌, ◌^◌, ◌≤◌, IfOk, IsTrue, count_ones, false, true, length, take};
+ghost use Rattle.std.specs.Prelude.{◌≡◌, ◌==◌, ◌+◌, ◌<◌, ◌≤◌, IfOk, IsTrue, count_ones, false, true, length, take};
 ghost use Rattle.std.specs.List.{list_all};
 ghost use Rattle.acl_perm.specs.Profile.{profile_of};
 ghost use Rattle.acl_nfs4.specs.Fields.{count_of, kind_of, flags_of, mask_of, who_len_of, who_of, who_reason, padding_of};
 ghost use Rattle.acl_nfs4.specs.Limits.{most_aces, most_weight};
-ghost use Rattle.acl_nfs4.specs.internal.Reading.{Gives};
-ghost use Rattle.acl_nfs4.specs.Spelling.{pad_len};
+ghost use Rattle.acl_nfs4.specs.internal.Reading.{Gives, low_bytes};
+ghost use Rattle.acl_nfs4.specs.Spelling.{pad_len, word_size};
 ghost use Rattle.acl_nfs4.specs.Who.{is_no_who_len};
 
 use crate::limits::{is_too_heavy, is_too_long};
@@ -135,8 +135,8 @@ fn is_zero(bytes: &[u8]) -> bool
 /// Returns whether the first `n` bytes are zero, by a test of the first word. `true` is certain.
 #[inline(always)]
 pub(crate) fn begins_zero(bytes: &[u8], n: usize) -> bool
-    requires word { 4 ≤ length bytes.now }
-    requires few { n ≤ 3 }
+    requires word { word_size ≤ length bytes.now }
+    requires few { n < word_size }
     ensures { IsTrue result → list_all (λ b. b == 0) (take n bytes.now) ≡ true }
 {
     LittleEndian::read_u32(bytes) & low_bytes(n) == 0
@@ -145,8 +145,8 @@ pub(crate) fn begins_zero(bytes: &[u8], n: usize) -> bool
 // Returns the word in which all bits of the lowest `n` bytes are set.
 #[inline(always)]
 fn low_bytes(n: usize) -> u32
-    requires { n ≤ 3 }
-    ensures { result ≡ 2 ^ (8 * n) - 1 }
+    requires { n < word_size }
+    ensures { result ≡ low_bytes n }
 {
     match n {
         0 => 0,

@@ -1,8 +1,9 @@
 //! The fields of an ACE from a source. Each field is judged before the next is read.
-ghost use Rattle.std.specs.Prelude.{◌≡◌, ◌+◌, ◌-◌, ◌<◌, ◌≤◌, ◌^◌, ℕ, List, length};
-ghost use Rattle.std.specs.Io.KnownBytes.{Consumes};
+ghost use Rattle.std.specs.Prelude.{◌≡◌, ◌+◌, ◌-◌, ◌<◌, ◌≤◌, length};
 ghost use Rattle.acl_nfs4.specs.Limits.{most_weight};
-ghost use Rattle.acl_nfs4.specs.internal.Pulling.{longest_ace, DrawsAce, DrawsHead, DrawsWords, Fills, FillsWord};
+ghost use Rattle.acl_nfs4.specs.internal.Pulling.{DrawsAce, DrawsBytes, DrawsHead, DrawsWord, DrawsWords};
+ghost use Rattle.acl_nfs4.specs.internal.Reading.{offset_limit};
+ghost use Rattle.acl_nfs4.specs.Spelling.{longest_ace, word_size};
 
 use crate::limits::LONGEST_WHO;
 use crate::list::aces::word_in;
@@ -30,7 +31,7 @@ pub(crate) fn pull_ace<S: Source>(
     next: NextAce,
 ) -> Result<Pulled, Fault>
     requires room { length room.old ≡ longest_ace }
-    requires fits { next.offset + longest_ace < 2 ^ 64 }
+    requires fits { next.offset + longest_ace < offset_limit }
     requires light { next.weight ≤ most_weight }
     ensures { DrawsAce next (S.remaining source.old) (S.remaining source.new)
         (S.failure_count source.old) (S.failure_count source.new) room.new result }
@@ -58,7 +59,7 @@ pub(crate) fn pull_ace<S: Source>(
 #[inline(always)]
 fn pull_words<S: Source>(source: &mut S, room: &mut [u8], next: NextAce) -> Result<Words, Fault>
     requires room { length room.old ≡ longest_ace }
-    requires fits { next.offset + longest_ace < 2 ^ 64 }
+    requires fits { next.offset + longest_ace < offset_limit }
     requires light { next.weight ≤ most_weight }
     ensures { DrawsWords next (S.remaining source.old) (S.remaining source.new)
         (S.failure_count source.old) (S.failure_count source.new) room.new result }
@@ -81,7 +82,7 @@ fn pull_words<S: Source>(source: &mut S, room: &mut [u8], next: NextAce) -> Resu
 #[inline(always)]
 fn pull_head<S: Source>(source: &mut S, room: &mut [u8], next: NextAce) -> Result<(), Fault>
     requires room { length room.old ≡ longest_ace }
-    requires fits { next.offset + longest_ace < 2 ^ 64 }
+    requires fits { next.offset + longest_ace < offset_limit }
     ensures { DrawsHead next (S.remaining source.old) (S.remaining source.new)
         (S.failure_count source.old) (S.failure_count source.new) room.new result }
 {
@@ -118,10 +119,9 @@ pub(crate) fn word<S: Source>(
     held: usize,
     offset: usize,
 ) -> Result<u32, Fault>
-    requires { held + 4 ≤ length room.old }
-    ensures { (piece : List ℕ) × Consumes (S.remaining source.old) (S.remaining source.new) piece
-        × FillsWord offset held room.old room.new piece (S.remaining source.new)
-        (S.failure_count source.old) (S.failure_count source.new) result }
+    requires { held + word_size ≤ length room.old }
+    ensures { DrawsWord offset held room.old room.new (S.remaining source.old)
+        (S.remaining source.new) (S.failure_count source.old) (S.failure_count source.new) result }
 {
     fill(source, room, held, held + 4, offset)?;
     Ok(word_in(room, held))
@@ -139,9 +139,8 @@ fn fill<S: Source>(
 ) -> Result<(), Fault>
     requires order { held ≤ end }
     requires inside { end ≤ length room.old }
-    ensures { (piece : List ℕ) × Consumes (S.remaining source.old) (S.remaining source.new) piece
-        × Fills offset held (end - held) room.old room.new piece (S.remaining source.new)
-        (S.failure_count source.old) (S.failure_count source.new) result }
+    ensures { DrawsBytes offset held (end - held) room.old room.new (S.remaining source.old)
+        (S.remaining source.new) (S.failure_count source.old) (S.failure_count source.new) result }
 {
     let mut filled = held;
     while filled < end {

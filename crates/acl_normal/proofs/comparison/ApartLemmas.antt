@@ -9,10 +9,10 @@ use Rattle.acl_normal.specs.internal.comparison.RightsApart.{HasOpenBits, say_th
 use Rattle.acl_normal.specs.declared.comparison.apart.Statement.{Statement}
 
 -- the code's value at a place says whom the ACE there names
-pub named_at : (whole : List Principal) (refs : List AceRef) (ws : List Whom) (x : AceRef) (w : Whom) (i : ℕ)
+pub is_whom_at : (whole : List Principal) (refs : List AceRef) (ws : List Whom) {x : AceRef} {w : Whom} {i : ℕ}
     → i < length refs → x ≡ slice_index_or refs i x → w ≡ slice_index_or ws i Nobody → AreWhoms whole (aces_in refs) ws
     → IsWhom whole (ace x) w
-named_at whole refs ws x w i lt at wi all =
+is_whom_at whole refs ws {x} {w} {i} lt at wi all =
     subst (λ v. IsWhom whole (ace x) v)
     (sym wi)
     (subst (λ v. IsWhom whole v (slice_index_or ws i Nobody))
@@ -38,13 +38,13 @@ open_is whole a w apart mask bit i h e =
     and_true t = grind arith
 
 -- an ACE without the bit open leaves the column of what is left as it is
-passed : (whole : List Principal) (refs : List AceRef) (ws : List Whom) (x : AceRef) (w : Whom)
+column_passed : (whole : List Principal) (refs : List AceRef) (ws : List Whom) (x : AceRef) (w : Whom)
     (i apart mask bit : ℕ) → i < length refs → x ≡ slice_index_or refs i x → w ≡ slice_index_or ws i Nobody
     → AreWhoms whole (aces_in refs) ws → HasOpenBits (ace x) w apart mask → has_bit apart bit ≡ false
     → has_bit mask bit ≡ false
     → column (aces_in (drop i refs)) bit ≡ column (aces_in (drop (i + 1) refs)) bit
-passed whole refs ws x w i apart mask bit lt at wi all h e f =
-    let test = sym (open_is whole (ace x) w apart mask bit (named_at whole refs ws x w i lt at wi all) h e) ∙ f in
+column_passed whole refs ws x w i apart mask bit lt at wi all h e f =
+    let test = sym (open_is whole (ace x) w apart mask bit (is_whom_at whole _ _ lt at wi all) h e) ∙ f in
     column_at refs x i bit lt at ∙ column_first bit (ace x) (aces_in (drop (i + 1) refs))
     ∙ ap (λ t. cond t ((principal_of (ace x), x.kind) ∷ column (aces_in (drop (i + 1) refs)) bit)
     (column (aces_in (drop (i + 1) refs)) bit)) test
@@ -77,58 +77,58 @@ pub record AreWalked (refs others : List AceRef) (here there apart : ℕ) : Type
       → column (aces_in refs) bit ≡ column (aces_in others) bit
 
 -- the walk continues after an ACE of the first list without open rights
-pub walk_here : (whole : List Principal) (refs others : List AceRef) (ws : List Whom) (x : AceRef) (w : Whom)
-    (here there apart own : ℕ) → here < length refs → x ≡ slice_index_or refs here x → w ≡ slice_index_or ws here Nobody
+pub walk_here : (whole : List Principal) {refs others : List AceRef} (ws : List Whom) {x : AceRef} {w : Whom}
+    {here there apart own : ℕ} → here < length refs → x ≡ slice_index_or refs here x → w ≡ slice_index_or ws here Nobody
     → AreWhoms whole (aces_in refs) ws → HasOpenBits (ace x) w apart own → own ≡ 0
     → AreWalked refs others here there apart → AreWalked refs others (here + 1) there apart
-walk_here whole refs others ws x w here there apart own lt at wi all h none inv = record {
+walk_here whole {refs} {others} ws {x} {w} {here} {there} {apart} {own} lt at wi all h none inv = record {
   same = λ bit e rest. inv.same bit e
-      (passed whole refs ws x w here apart own bit lt at wi all h e (ap (λ m. has_bit m bit) none ∙ no_bit bit) ∙ rest);
+      (column_passed whole refs ws x w here apart own bit lt at wi all h e (ap (λ m. has_bit m bit) none ∙ no_bit bit) ∙ rest);
 }
 
 -- the walk continues after an ACE of the second list without open rights
-pub walk_there : (whole : List Principal) (refs others : List AceRef) (ws : List Whom) (x : AceRef) (w : Whom)
-    (here there apart own : ℕ) → there < length others → x ≡ slice_index_or others there x
+pub walk_there : (whole : List Principal) {refs others : List AceRef} (ws : List Whom) {x : AceRef} {w : Whom}
+    {here there apart own : ℕ} → there < length others → x ≡ slice_index_or others there x
     → w ≡ slice_index_or ws there Nobody → AreWhoms whole (aces_in others) ws → HasOpenBits (ace x) w apart own
     → own ≡ 0 → AreWalked refs others here there apart → AreWalked refs others here (there + 1) apart
-walk_there whole refs others ws x w here there apart own lt at wi all h none inv = record {
+walk_there whole {refs} {others} ws {x} {w} {here} {there} {apart} {own} lt at wi all h none inv = record {
   same = λ bit e rest. inv.same bit e (rest
-      ∙ sym (passed whole others ws x w there apart own bit lt at wi all h e
+      ∙ sym (column_passed whole others ws x w there apart own bit lt at wi all h e
       (ap (λ m. has_bit m bit) none ∙ no_bit bit)));
 }
 
 -- the walk continues after two ACEs whose open rights are apart from now on
-pub walk_apart : (whole : List Principal) (refs others : List AceRef) (ws vs : List Whom) (x y : AceRef) (w v : Whom)
-    (here there apart own theirs more new : ℕ) → here < length refs → there < length others
+pub walk_apart : (whole : List Principal) {refs others : List AceRef} (ws vs : List Whom) {x y : AceRef} {w v : Whom}
+    {here there apart own theirs : ℕ} (more : ℕ) {new : ℕ} → here < length refs → there < length others
     → x ≡ slice_index_or refs here x → y ≡ slice_index_or others there y → w ≡ slice_index_or ws here Nobody
     → v ≡ slice_index_or vs there Nobody → AreWhoms whole (aces_in refs) ws → AreWhoms whole (aces_in others) vs
     → HasOpenBits (ace x) w apart own → HasOpenBits (ace y) v apart theirs → IsUnion apart own more
     → IsUnion more theirs new
     → AreWalked refs others here there apart → AreWalked refs others (here + 1) (there + 1) new
-walk_apart whole refs others ws vs x y w v here there apart own theirs more new lh lt xa ya wi vi hw hv ho ht u z inv =
+walk_apart whole {refs} {others} ws vs {x} {y} {w} {v} {here} {there} {apart} {own} {theirs} more lh lt xa ya wi vi hw hv ho ht u z inv =
     record {
       same = λ bit e rest.
           let outer = or_parts (has_bit more bit) (has_bit theirs bit) (sym (z bit) ∙ e) in
           let inner = or_parts (has_bit apart bit) (has_bit own bit) (sym (u bit) ∙ outer.0) in
-          inv.same bit inner.0 (passed whole refs ws x w here apart own bit lh xa wi hw ho inner.0 inner.1 ∙ rest
-          ∙ sym (passed whole others vs y v there apart theirs bit lt ya vi hv ht inner.0 outer.1));
+          inv.same bit inner.0 (column_passed whole refs ws x w here apart own bit lh xa wi hw ho inner.0 inner.1 ∙ rest
+          ∙ sym (column_passed whole others vs y v there apart theirs bit lt ya vi hv ht inner.0 outer.1));
     }
 
 -- the walk continues after two ACEs with the same open rights, kind and principal
-pub walk_both : (whole : List Principal) (refs others : List AceRef) (ws vs : List Whom) (x y : AceRef) (w v : Whom)
-    (here there apart own theirs : ℕ) → here < length refs → there < length others
+pub walk_both : (whole : List Principal) {refs others : List AceRef} (ws vs : List Whom) {x y : AceRef} {w v : Whom}
+    {here there apart own theirs : ℕ} → here < length refs → there < length others
     → x ≡ slice_index_or refs here x → y ≡ slice_index_or others there y → w ≡ slice_index_or ws here Nobody
     → v ≡ slice_index_or vs there Nobody → AreWhoms whole (aces_in refs) ws → AreWhoms whole (aces_in others) vs
     → HasOpenBits (ace x) w apart own → HasOpenBits (ace y) v apart theirs → own ≡ theirs → w ≡ v → x.kind ≡ y.kind
     → AreWalked refs others here there apart → AreWalked refs others (here + 1) (there + 1) apart
-walk_both whole refs others ws vs x y w v here there apart own theirs lh lt xa ya wi vi hw hv ho ht oe we ke inv =
+walk_both whole {refs} {others} ws vs {x} {y} {w} {v} {here} {there} {apart} {own} {theirs} lh lt xa ya wi vi hw hv ho ht oe we ke inv =
     record { same = λ bit e rest. inv.same bit e (heads bit e rest) }
   where
     named : IsWhom whole (ace x) w
-    named = named_at whole refs ws x w here lh xa wi hw
+    named = is_whom_at whole _ _ lh xa wi hw
 
     also : IsWhom whole (ace y) v
-    also = named_at whole others vs y v there lt ya vi hv
+    also = is_whom_at whole _ _ lt ya vi hv
 
     joined : (t u : Bool) (bit : ℕ) → t ≡ u → (t ≡ true → principal_of (ace x) ≡ principal_of (ace y))
         → column (aces_in (drop (here + 1) refs)) bit ≡ column (aces_in (drop (there + 1) others)) bit

@@ -76,9 +76,9 @@ pairs_none xs ys ps z le before =
     (λ k lt. on_each xs ys (slice_index_or ps k everyone) ps (before k (omega arith))))
 
 -- one ACE in front grants the same to two principals in either order
-swapped : (t e x y k g h : Bool) → g ≡ h
+front_swapped : (t e x y k g h : Bool) → g ≡ h
     → cond (t && (e || (x || (y || false)))) k g ≡ cond (t && (e || (y || (x || false)))) k h
-swapped t e x y k g h i = grind arith
+front_swapped t e x y k g h i = grind arith
 
 -- what is granted to two is granted in either order of them
 pub pair_swapped : (xs : List Ace) (p q : Principal) (b : ℕ)
@@ -86,7 +86,7 @@ pub pair_swapped : (xs : List Ace) (p q : Principal) (b : ℕ)
 pair_swapped [] p q b = refl
 pair_swapped (a ∷ xs) p q b =
     granted_to-cons a xs (p ∷ q ∷ []) b
-    ∙ swapped (has_bit a.mask b && takes_part a) (principal_eq (principal_of a) everyone)
+    ∙ front_swapped (has_bit a.mask b && takes_part a) (principal_eq (principal_of a) everyone)
     (principal_eq (principal_of a) p) (principal_eq (principal_of a) q) (is_allow a.kind) _ _
     (pair_swapped xs p q b)
     ∙ sym (granted_to-cons a xs (q ∷ p ∷ []) b)
@@ -214,28 +214,28 @@ pub member_within : (both : TwoLists) (z : ℕ) → IsFirstMember both z → (z 
 member_within both z m n = omega (arith, m.within)
 
 -- the number of its first partner is that of a mentioned principal
-pub partner_within : (both : TwoLists) (v z w : ℕ) → IsFirstSingle both v → length (all_mentioned both) ≤ v
+pub partner_within : (both : TwoLists) {v z w : ℕ} → IsFirstSingle both v → length (all_mentioned both) ≤ v
     → IsFirstMember both z → z < length (all_mentioned both) → IsFirstPartner both z w
     → z + 1 + w < length (all_mentioned both)
-partner_within both v z w l le m lt n = go (cases_lt w (length (later_than both z)))
+partner_within both {v} {z} {w} l le m lt n = go (cases_lt w (length (later_than both z)))
   where
     go : (w < length (later_than both z)) ⊎ (length (later_than both z) ≤ w) → z + 1 + w < length (all_mentioned both)
     go (inl lw) = omega (arith, length-drop (z + 1) (all_mentioned both))
     go (inr past) = absurd (fast_partner both.first both.second (all_mentioned both) v z w l le m lt n past)
 
 -- the principals at the numbers of the first member and its first partner are the small set that is found
-pub pair_answer : (both : TwoLists) (p q : Principal) (v z w i : ℕ) → AreAlikeTo both [] → IsFirstSingle both v
+pub pair_answer : (both : TwoLists) {p q : Principal} {v z w i : ℕ} → AreAlikeTo both [] → IsFirstSingle both v
     → length (all_mentioned both) ≤ v → IsFirstMember both z → z < length (all_mentioned both)
     → IsFirstPartner both z w → i ≡ z + 1 + w → p ≡ principal_at both z → q ≡ principal_at both i
     → FindSet both (Some (p ∷ q ∷ []))
-pair_answer both p q v z w i empty l le m lt n at pe qe =
+pair_answer both {p} {q} {v} {z} {w} empty l le m lt n at pe qe =
     subst (λ s. FindSet both (Some (s ∷ q ∷ []))) (sym pe)
     (subst (λ s. FindSet both (Some (principal_at both z ∷ s ∷ []))) second
     (fast_pair both.first both.second (all_mentioned both) v z w empty l le m lt n
     (omega (arith, inside, length-drop (z + 1) (all_mentioned both)))))
   where
     inside : z + 1 + w < length (all_mentioned both)
-    inside = partner_within both v z w l le m lt n
+    inside = partner_within both l le m lt n
 
     second : slice_index_or (later_than both z) w everyone ≡ q
     second =

@@ -71,11 +71,11 @@ first_end ps xs ws b e k lk le stop all = go (cases_lt e (length xs))
         }
 
 -- at the place where the walk begins, each principal has that place as its first
-pub firsts_start : (ps : List Principal) (xs : List Ace) (ws : List Whom) (b e : ℕ) (firsts : List First) (f : First)
-    (n : ℕ) → firsts ≡ replicate n f → n ≡ length ps → f.place ≡ e
+pub firsts_start : {ps : List Principal} {xs : List Ace} (ws : List Whom) {b e : ℕ} {firsts : List First} {f : First}
+    {n : ℕ} → firsts ≡ replicate n f → n ≡ length ps → f.place ≡ e
     → f.kind ≡ (slice_index_or xs e no_ace).kind → e ≤ length xs
     → (e < length xs → stops_at xs ws b e ≡ true) → AreWhoms ps xs ws → AreFirstFrom ps xs b e firsts
-firsts_start ps xs ws b e firsts f n is count fp fa le stop all = record {
+firsts_start {ps} {xs} ws {b} {e} {firsts} {f} {n} is count fp fa le stop all = record {
   count = ap length is ∙ length-replicate n f ∙ count;
   each = λ k lt. let h = first_end ps xs ws b e k lt le stop all in at k lt h.place h.allows;
 }
@@ -91,6 +91,26 @@ firsts_start ps xs ws b e firsts f n is count fp fa le stop all = record {
       allows =
           ap (λ v. is_allow v.kind) (value k lt) ∙ ap is_allow fa ∙ a;
     }
+
+-- with an ACE that has the bit at its principal's number, each principal has its first from one place earlier
+put_at : (ps : List Principal) (xs : List Ace) (a : Ace) (j b i : ℕ) (old : List First)
+    → drop i xs ≡ a ∷ drop (i + 1) xs → IsWhom ps a (One j) → AreFirstFrom ps xs b (i + 1) old
+    → has_bit a.mask b ≡ true → (k : ℕ) → k < length ps → (k ≡ j) ⊎ (k ≡ j → ⊥)
+    → IsFirstFrom xs b i (slice_index_or ps k everyone)
+    (slice_index_or (slice_set old j (record { place = i; kind = a.kind })) k no_first)
+put_at ps xs a j b i old is h later e k lt (inl same) =
+    let new : First = record { place = i; kind = a.kind } in
+    let inside : j < length old = omega (arith, later.count) in
+    let value : slice_index_or (slice_set old j new) k no_first ≡ new =
+    ap (λ v. slice_index_or (slice_set old j new) v no_first) same
+    ∙ get_or-set_same old j new no_first inside in
+    subst (λ v. IsFirstFrom xs b i (slice_index_or ps k everyone) v) (sym value)
+    (first_taken xs a b i (slice_index_or ps k everyone) is (rw (e, h.hit k lt) (eq-eqb k j same)))
+put_at ps xs a j b i old is h later e k lt (inr other) =
+    subst (λ v. IsFirstFrom xs b i (slice_index_or ps k everyone) v)
+    (sym (get_or-set_other old j k (record { place = i; kind = a.kind }) no_first other))
+    (first_kept xs a b i (slice_index_or ps k everyone) (slice_index_or old k no_first) is
+    (rw (e, h.hit k lt) (ne_eqb k j other)) (later.each k lt))
 
 -- one place earlier, each principal has its first when the ACE there was put in
 pub firsts_step : (ps : List Principal) (xs : List Ace) (a : Ace) (w : Whom) (b i : ℕ) (old : List First)
@@ -118,23 +138,8 @@ firsts_step ps xs a (One j) b i old is s h later = go (has_bit a.mask b) refl
     new : First
     new = record { place = i; kind = a.kind }
 
-    at : has_bit a.mask b ≡ true → (k : ℕ) → k < length ps → (k ≡ j) ⊎ (k ≡ j → ⊥)
-        → IsFirstFrom xs b i (slice_index_or ps k everyone) (slice_index_or (slice_set old j new) k no_first)
-    at e k lt (inl same) =
-        let inside : j < length old = omega (arith, later.count) in
-        let value : slice_index_or (slice_set old j new) k no_first ≡ new =
-        ap (λ v. slice_index_or (slice_set old j new) v no_first) same
-        ∙ get_or-set_same old j new no_first inside in
-        subst (λ v. IsFirstFrom xs b i (slice_index_or ps k everyone) v) (sym value)
-        (first_taken xs a b i (slice_index_or ps k everyone) is (rw (e, h.hit k lt) (eq-eqb k j same)))
-    at e k lt (inr other) =
-        subst (λ v. IsFirstFrom xs b i (slice_index_or ps k everyone) v)
-        (sym (get_or-set_other old j k new no_first other))
-        (first_kept xs a b i (slice_index_or ps k everyone) (slice_index_or old k no_first) is
-        (rw (e, h.hit k lt) (ne_eqb k j other)) (later.each k lt))
-
     go : (t : Bool) → has_bit a.mask b ≡ t → AreFirstFrom ps xs b i (put old a (One j) i b)
-    go true e = rw e (record { count = length-set old j new ∙ later.count; each = λ k lt. at e k lt (cases_eq k j) })
+    go true e = rw e (record { count = length-set old j new ∙ later.count; each = λ k lt. put_at ps xs a j b i old is h later e k lt (cases_eq k j) })
     go false e = rw e (record {
       count = later.count;
       each =
@@ -143,12 +148,12 @@ firsts_step ps xs a (One j) b i old is s h later = go (has_bit a.mask b) refl
     })
 
 -- a turn of the loop, which goes back, makes the first places from one place earlier
-pub firsts_more : (ps : List Principal) (aces : List AceRef) (d : AceRef) (ws : List Whom) (b e n i : ℕ)
-    (old new : List First) → n ≡ i + 1 → n ≤ e → e ≤ length aces
+pub firsts_more : {ps : List Principal} (aces : List AceRef) {d : AceRef} (ws : List Whom) {b e n i : ℕ}
+    {old new : List First} → n ≡ i + 1 → n ≤ e → e ≤ length aces
     → ((k : ℕ) → k < e → stops_at (aces_in aces) ws b k ≡ false) → AreWhoms ps (aces_in aces) ws
     → d ≡ slice_index_or aces i d → new ≡ put old (ace d) (slice_index_or ws i Nobody) i b
     → AreFirstFrom ps (aces_in aces) b n old → AreFirstFrom ps (aces_in aces) b i new
-firsts_more ps aces d ws b e n i old new next le within stops all at given later =
+firsts_more {ps} aces {d} ws {b} {e} {n} {i} {old} {new} next le within stops all at given later =
     let is : new ≡ put old (ace (slice_index_or aces i d)) (slice_index_or ws i Nobody) i b =
     subst (λ v. new ≡ put old (ace v) (slice_index_or ws i Nobody) i b) at given in
     let lt : i < length (aces_in aces) = omega (arith, length-map aces ace) in
@@ -161,8 +166,8 @@ firsts_more ps aces d ws b e n i old new next le within stops all at given later
     (subst (λ v. AreFirstFrom ps (aces_in aces) b v old) next later))
 
 -- the number that an ACE names is one of a principal
-pub whom_within : (ps : List Principal) (aces : List AceRef) (ws : List Whom) (i n : ℕ) → i < length aces
+pub whom_within : (ps : List Principal) (aces : List AceRef) (ws : List Whom) {i n : ℕ} → i < length aces
     → n ≡ length ps → AreWhoms ps (aces_in aces) ws → IsWhomWithin (slice_index_or ws i Nobody) n
-whom_within ps aces ws i n lt e all =
+whom_within ps aces ws {i} lt e all =
     subst (λ v. IsWhomWithin (slice_index_or ws i Nobody) v) (sym e)
     (whom_at ps (aces_in aces) ws i (omega (arith, length-map aces ace)) all).within

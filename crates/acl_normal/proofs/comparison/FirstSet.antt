@@ -55,8 +55,8 @@ both_are : (both : TwoLists) (xs ys vs ws : List Ace) → both ≡ two_lists vs 
 both_are both xs ys vs ws is first second = is ∙ ap (λ v. two_lists v ws) first ∙ ap (two_lists xs) second
 
 -- accepted lists have names, also as the code holds them
-pub named_of : (both : TwoLists) (xs ys vs ws : List Ace) → both ≡ two_lists vs ws → vs ≡ xs → ws ≡ ys
+pub named_of : {both : TwoLists} {xs ys vs ws : List Ace} → both ≡ two_lists vs ws → vs ≡ xs → ws ≡ ys
     → IsAccepted full xs → IsAccepted full ys → AreNamed both
-named_of both xs ys vs ws is first second here there =
+named_of {both} {xs} {ys} {vs} {ws} is first second here there =
     subst AreNamed (sym (both_are both xs ys vs ws is first second))
     (record { first = accepted_names full xs here; second = accepted_names full ys there })

@@ -14,10 +14,10 @@ matched_is whole a w (code.One i) h n = grind (arith, h.hit i n)
 matched_is whole a w (code.Two i j) h n = grind (arith, h.hit i n.0, h.hit j n.1)
 
 -- the bits of an ACE that names one of the numbers or everyone are those of an ACE of their principals
-pub matched_bits : (whole : List Principal) (a : Ace) (w : Whom) (set : Members) (mask : ℕ) → IsWhom whole a w
+pub matched_bits : (whole : List Principal) {a : Ace} {w : Whom} (set : Members) {mask : ℕ} → IsWhom whole a w
     → AreNumbered whole set → ((bit : ℕ) → has_bit mask bit ≡ (has_bit a.mask bit && is_matched set w))
     → HasBitsOf a (members_of whole set) mask
-matched_bits whole a w set mask h n is = record {
+matched_bits whole {a} {w} set h n is = record {
   bits = λ bit. is bit ∙ ap (λ t. has_bit a.mask bit && t) (matched_is whole a w set h n)
       ∙ regroup (has_bit a.mask bit) (takes_part a) (is_among (principal_of a) (everyone ∷ members_of whole set));
 }
@@ -26,10 +26,10 @@ matched_bits whole a w set mask h n is = record {
     regroup x y z = grind arith
 
 -- if members were found, the set of their principals is the small set that is found
-pub found_members : (both : TwoLists) (found : Option Members) (members : Members) (set : SmallSet)
+pub found_members : (both : TwoLists) {found : Option Members} {members : Members} (set : SmallSet)
     → FindSet both (members_or_none (all_mentioned both) found) → found ≡ Some members
     → set_of set ≡ members_of (all_mentioned both) members → FindSet both (Some (set_of set))
-found_members both found members set h e is =
+found_members both set h e is =
     subst (λ v. FindSet both (Some v)) (sym is)
     (subst (λ v. FindSet both (members_or_none (all_mentioned both) v)) e h)
 

@@ -62,12 +62,12 @@ numbers_more table i d p names more numbers new number l some pushed is e n =
     ∙ sym (held_more table i d l ∙ ap (λ v. held (take i table) ++ held (v ∷ [])) some)) n
 
 -- after one more row, the names and the numbers that the code makes are those of one row more
-pub numbers_step : (table : List (Option PrincipalRef)) (i : ℕ) (found d : Option PrincipalRef)
-    (names more : List PrincipalRef) (numbers new : List ℕ) (number : ℕ) → i < length table
+pub numbers_step : (table : List (Option PrincipalRef)) (i : ℕ) {found : Option PrincipalRef} (d : Option PrincipalRef)
+    (names : List PrincipalRef) {more : List PrincipalRef} {numbers new : List ℕ} {number : ℕ} → i < length table
     → found ≡ slice_index_or table i d → number ≡ length names → new ≡ numbers ++ number ∷ []
     → more ≡ with_found names found → AreMentionedNumbers table i (principals names) numbers
     → AreMentionedNumbers table (i + 1) (principals more) new
-numbers_step table i found d names more numbers new number l at is e m n =
+numbers_step table i {found} d names {more} {numbers} {new} {number} l at is e m n =
     subst (λ v. AreMentionedNumbers table (i + 1) (principals v) new) (sym m) (go found (sym at))
   where
     go : (o : Option PrincipalRef) → slice_index_or table i d ≡ o

@@ -9,17 +9,17 @@ use Rattle.acl_normal.proofs.comparison.Ordered.{principal_greater}
 use Rattle.acl_normal.proofs.unique.Columns.{HasOnly}
 
 -- what holds of each of three values in its case holds of the one that an order chooses
-chosen : {A : Type 0} (P : A → Type 0) (o : Ordering) (x y z : A) → (o ≡ Less → P x) → (o ≡ Equal → P y)
+chosen_has : {A : Type 0} (P : A → Type 0) (o : Ordering) {x y z : A} → (o ≡ Less → P x) → (o ≡ Equal → P y)
     → (o ≡ Greater → P z) → P (match_ordering o x y z)
-chosen P Less x y z f g h = f refl
-chosen P Equal x y z f g h = g refl
-chosen P Greater x y z f g h = h refl
+chosen_has P Less f g h = f refl
+chosen_has P Equal f g h = g refl
+chosen_has P Greater f g h = h refl
 
 -- an insert keeps what holds of each
 pub all_insert : (P : Principal → Type 0) (ps : List Principal) (p : Principal) → AllByRecursion P ps → P p
     → AllByRecursion P (insert_key principal_cmp ps p)
 all_insert P [] p h hp = (hp, tt)
-all_insert P (x ∷ ps) p h hp = chosen (AllByRecursion P) (principal_cmp p x) _ _ _ (λ e. (hp, h)) (λ e. h)
+all_insert P (x ∷ ps) p h hp = chosen_has (AllByRecursion P) (principal_cmp p x) (λ e. (hp, h)) (λ e. h)
     (λ e. (h.0, all_insert P ps p h.1 hp))
 
 -- a principal that is put into a set is in it
@@ -42,7 +42,7 @@ below_all p x (q ∷ ps) h a = (principal_total.trans p x q h a.0, below_all p x
 -- a rising list with one principal more in its place rises
 pub rising_insert : (ps : List Principal) (p : Principal) → IsRisingSet ps → IsRisingSet (insert_key principal_cmp ps p)
 rising_insert [] p r = (tt, tt)
-rising_insert (x ∷ ps) p r = chosen IsRisingSet (principal_cmp p x) _ _ _ (λ e. ((e, below_all p x ps e r.0), r))
+rising_insert (x ∷ ps) p r = chosen_has IsRisingSet (principal_cmp p x) (λ e. ((e, below_all p x ps e r.0), r))
     (λ e. r) (λ e. (
       all_insert (λ q. principal_cmp x q ≡ Less) ps p r.0 (principal_greater p x e),
       rising_insert ps p r.1,

@@ -68,6 +68,56 @@ table_skip xs table i none t = record {
         let here : mentioned_by (ace_at xs j) ≡ None = subst (λ v. mentioned_by (ace_at xs v) ≡ None) (sym this) none in
         absurd (cc (rw m at here))
 
+-- the ACE at a place mentions the principal, whose row is within the table
+record IsMentionedIn (xs : List Ace) (table : List (Option PrincipalRef)) (p : PrincipalRef) (i row : ℕ) : Type 0 where
+  within : i < length xs
+  mentions : is_mentioning (ace_at xs i) ≡ true
+  is : principal p ≡ principal_of (ace_at xs i)
+  named : is_principal_of (principal p) xs ≡ true
+  row_is : row ≡ row_of (principal p) xs
+  fits : row < length table
+
+-- with the principal in its row, the table has it there
+row_put : {xs : List Ace} {table : List (Option PrincipalRef)} {p : PrincipalRef} {i row : ℕ}
+    → IsMentionedIn xs table p i row → at_row (slice_set table row (Some p)) row ≡ Some (principal p)
+row_put {table = table} {p = p} {row = row} h =
+    ap (option_map principal) (get_or-set_same table row (Some p) None h.fits)
+
+-- with the principal in its row, the table has only mentioned principals, each in its row
+only_put : {xs : List Ace} {table : List (Option PrincipalRef)} {p : PrincipalRef} {i row : ℕ}
+    → IsMentionedIn xs table p i row → AreByRow xs i table → (other : ℕ) (q : Principal)
+    → (other ≡ row) ⊎ (other ≡ row → ⊥) → at_row (slice_set table row (Some p)) other ≡ Some q
+    → IsMentionedAt xs other q
+only_put {xs = xs} {table = table} {p = p} {i = i} {row = row} h t other q (inl e) there =
+    let same : principal p ≡ q =
+    same_Some (principal p) q (sym (row_put h) ∙ ap (at_row (slice_set table row (Some p))) (sym e) ∙ there) in
+    subst (IsMentionedAt xs other) same
+    (record {
+      row_is = e ∙ h.row_is;
+      named = h.named;
+      mentioned =
+          subst (λ v. is_among v (mentioned_in xs) ≡ true) (sym h.is) (mentioned_there xs i h.within h.mentions);
+    })
+only_put {table = table} {p = p} {row = row} h t other q (inr d) there =
+    t.only other q (sym (ap (option_map principal) (get_or-set_other table row other (Some p) None d)) ∙ there)
+
+-- with the principal in its row, the table has the principal of an ACE that it had, and of the ACE at the place
+own_put : {xs : List Ace} {table : List (Option PrincipalRef)} {p : PrincipalRef} {i row : ℕ}
+    → IsMentionedIn xs table p i row → (j : ℕ) → j < length xs
+    → (row_of (principal_of (ace_at xs j)) xs ≡ row) ⊎ (row_of (principal_of (ace_at xs j)) xs ≡ row → ⊥)
+    → (at_row table (row_of (principal_of (ace_at xs j)) xs) ≡ Some (principal_of (ace_at xs j))) ⊎ (j ≡ i)
+    → at_row (slice_set table row (Some p)) (row_of (principal_of (ace_at xs j)) xs)
+    ≡ Some (principal_of (ace_at xs j))
+own_put {xs = xs} {table = table} {p = p} {row = row} h j lj (inl e) there =
+    ap (at_row (slice_set table row (Some p))) e ∙ row_put h
+    ∙ ap Some (row_same (principal p) (principal_of (ace_at xs j)) xs h.named (named_there xs j lj)
+    (sym h.row_is ∙ sym e))
+own_put {xs = xs} {table = table} {p = p} {row = row} h j lj (inr d) (inl there) =
+    ap (option_map principal)
+    (get_or-set_other table row (row_of (principal_of (ace_at xs j)) xs) (Some p) None d) ∙ there
+own_put {xs = xs} h j lj (inr d) (inr e) =
+    absurd (d (ap (λ v. row_of (principal_of (ace_at xs v)) xs) e ∙ ap (λ v. row_of v xs) (sym h.is) ∙ sym h.row_is))
+
 -- after an ACE that mentions a principal, the table with that principal in its row is that of one ACE more
 table_more : (xs : List Ace) (rows : List ℕ) (table : List (Option PrincipalRef)) (p : PrincipalRef) (i row : ℕ)
     → AreRowNumbers xs rows → i < length xs → row ≡ slice_index_or rows i 0
@@ -75,13 +125,10 @@ table_more : (xs : List Ace) (rows : List ℕ) (table : List (Option PrincipalRe
     → AreByRow xs (i + 1) (slice_set table row (Some p))
 table_more xs rows table p i row r l at mentions t = record {
   count = length-set table row (Some p) ∙ t.count;
-  only = λ other q e. only other q (cases_eq other row) e;
+  only = λ other q e. only_put here t other q (cases_eq other row) e;
   each = λ j lj m. each j m (cases_lt j i) lj;
 }
   where
-    now : List (Option PrincipalRef)
-    now = slice_set table row (Some p)
-
     is : (is_mentioning (ace_at xs i) ≡ true) × (principal p ≡ principal_of (ace_at xs i))
     is = mentioned_is (ace_at xs i) (principal p) mentions
 
@@ -91,44 +138,21 @@ table_more xs rows table p i row r l at mentions t = record {
     named : is_principal_of (principal p) xs ≡ true
     named = subst (λ v. is_principal_of v xs ≡ true) (sym is.1) (named_there xs i l)
 
-    fits : row < length table
-    fits = omega (arith, place, row_below (principal p) xs named, t.count)
-
-    here : at_row now row ≡ Some (principal p)
-    here = ap (option_map principal) (get_or-set_same table row (Some p) None fits)
-
-    only : (other : ℕ) (q : Principal) → (other ≡ row) ⊎ (other ≡ row → ⊥) → at_row now other ≡ Some q
-        → IsMentionedAt xs other q
-    only other q (inl e) h =
-        let same : principal p ≡ q = same_Some (principal p) q (sym here ∙ ap (at_row now) (sym e) ∙ h) in
-        subst (IsMentionedAt xs other) same
-        (record {
-          row_is = e ∙ place;
-          named = named;
-          mentioned =
-              subst (λ v. is_among v (mentioned_in xs) ≡ true) (sym is.1) (mentioned_there xs i l is.0);
-        })
-    only other q (inr d) h =
-        t.only other q (sym (ap (option_map principal) (get_or-set_other table row other (Some p) None d)) ∙ h)
-
-    at_own : (j : ℕ) → j < length xs → (row_of (principal_of (ace_at xs j)) xs ≡ row)
-        ⊎ (row_of (principal_of (ace_at xs j)) xs ≡ row → ⊥)
-        → (at_row table (row_of (principal_of (ace_at xs j)) xs) ≡ Some (principal_of (ace_at xs j))) ⊎ (j ≡ i)
-        → at_row now (row_of (principal_of (ace_at xs j)) xs) ≡ Some (principal_of (ace_at xs j))
-    at_own j lj (inl e) h =
-        ap (at_row now) e ∙ here
-        ∙ ap Some (row_same (principal p) (principal_of (ace_at xs j)) xs named (named_there xs j lj)
-        (sym place ∙ sym e))
-    at_own j lj (inr d) (inl h) =
-        ap (option_map principal)
-        (get_or-set_other table row (row_of (principal_of (ace_at xs j)) xs) (Some p) None d) ∙ h
-    at_own j lj (inr d) (inr e) =
-        absurd (d (ap (λ v. row_of (principal_of (ace_at xs v)) xs) e ∙ sym (at ∙ row_there xs rows i r l)))
+    here : IsMentionedIn xs table p i row
+    here = record {
+      within = l;
+      mentions = is.0;
+      is = is.1;
+      named = named;
+      row_is = place;
+      fits = omega (arith, place, row_below (principal p) xs named, t.count);
+    }
 
     each : (j : ℕ) → is_mentioning (ace_at xs j) ≡ true → (j < i) ⊎ (i ≤ j) → j < i + 1
-        → at_row now (row_of (principal_of (ace_at xs j)) xs) ≡ Some (principal_of (ace_at xs j))
-    each j m (inl lj) u = at_own j (omega (arith, l, lj)) (cases_eq _ _) (inl (t.each j lj m))
-    each j m (inr lj) u = at_own j (omega (arith, l, u)) (cases_eq _ _) (inr (omega (arith, lj, u)))
+        → at_row (slice_set table row (Some p)) (row_of (principal_of (ace_at xs j)) xs)
+        ≡ Some (principal_of (ace_at xs j))
+    each j m (inl lj) u = own_put here j (omega (arith, l, lj)) (cases_eq _ _) (inl (t.each j lj m))
+    each j m (inr lj) u = own_put here j (omega (arith, l, u)) (cases_eq _ _) (inr (omega (arith, lj, u)))
 
 -- after one more ACE, the table that the code makes is that of one ACE more
 pub table_noted : (aces : List AceRef) (rows : List ℕ) (old new : List (Option PrincipalRef))

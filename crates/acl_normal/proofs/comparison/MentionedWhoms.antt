@@ -118,11 +118,11 @@ whoms_back ps (a ∷ xs) ys [] h = absurd h
 whoms_back ps (a ∷ xs) ys (w ∷ ws) h = whoms_back ps xs ys ws h.1
 
 -- the rows that the code made and the numbers of its table give each ACE the number of its principal
-pub whoms_ready : (aces a b c : List AceRef) (rows r : List ℕ) (table t : List (Option PrincipalRef))
-    (whole : List Principal) (numbers : List ℕ) → a ≡ aces → b ≡ aces → c ≡ aces → r ≡ rows → t ≡ table
+pub whoms_ready : {aces a b c : List AceRef} {rows r : List ℕ} {table t : List (Option PrincipalRef)}
+    {whole : List Principal} {numbers : List ℕ} → a ≡ aces → b ≡ aces → c ≡ aces → r ≡ rows → t ≡ table
     → AreRowNumbers (aces_in a) rows → AreByRow (aces_in b) (length b) table
     → AreMentionedNumbers t (length t) whole numbers → AreMentionedRows (aces_in c) r whole numbers
-whoms_ready aces a b c rows r table t whole numbers ae be ce re te rn by n =
+whoms_ready {aces} {a} {b} {c} {rows} {r} {table} {t} {whole} {numbers} ae be ce re te rn by n =
     subst (λ v. AreMentionedRows (aces_in v) r whole numbers) (sym ce)
     (subst (λ v. AreMentionedRows (aces_in aces) v whole numbers) (sym re)
     (rows_mentioned (aces_in aces) rows table whole numbers (subst (λ v. AreRowNumbers (aces_in v) rows) ae rn)
@@ -131,25 +131,25 @@ whoms_ready aces a b c rows r table t whole numbers ae be ce re te rn by n =
     (subst (λ v. AreMentionedNumbers v (length v) whole numbers) te n)))
 
 -- the principals that the code gathered are those that the list mentions
-pub whole_ready : (aces : List AceRef) (table t : List (Option PrincipalRef)) (whole : List Principal)
-    (numbers : List ℕ) → t ≡ table → AreByRow (aces_in aces) (length aces) table
+pub whole_ready : (aces : List AceRef) {table t : List (Option PrincipalRef)} {whole : List Principal}
+    {numbers : List ℕ} → t ≡ table → AreByRow (aces_in aces) (length aces) table
     → AreMentionedNumbers t (length t) whole numbers → whole ≡ mentioned_in (aces_in aces)
-whole_ready aces table t whole numbers te by n =
+whole_ready aces {table} te by n =
     n.whole_is ∙ ap (λ v. held (take (length v) v)) te ∙ ap held (take-length table)
     ∙ table_mentions (aces_in aces) table
     (subst (λ v. AreByRow (aces_in aces) v table) (sym (length-map aces ace)) by)
 
 -- of the code's values, the first ones say whom the ACEs of the first list name
-pub whoms_first : (ps : List Principal) (list other : List AceRef) (ws part : List Whom) (n : ℕ) → n ≡ length list
+pub whoms_first : (ps : List Principal) (list other : List AceRef) (ws : List Whom) {part : List Whom} {n : ℕ} → n ≡ length list
     → part ≡ take n ws → AreWhoms ps (aces_in list ++ aces_in other) ws → AreWhoms ps (aces_in list) part
-whoms_first ps list other ws part n is e h =
+whoms_first ps list other ws is e h =
     subst (AreWhoms ps (aces_in list)) (sym (e ∙ ap (λ v. take v ws) (is ∙ sym (length-map list ace))))
     (whoms_front ps (aces_in list) (aces_in other) ws h)
 
 -- of the code's values, the others say whom the ACEs of the second list name
-pub whoms_second : (ps : List Principal) (list other : List AceRef) (ws part : List Whom) (n : ℕ) → n ≡ length list
+pub whoms_second : (ps : List Principal) (list other : List AceRef) (ws : List Whom) {part : List Whom} {n : ℕ} → n ≡ length list
     → part ≡ drop n ws → AreWhoms ps (aces_in list ++ aces_in other) ws → AreWhoms ps (aces_in other) part
-whoms_second ps list other ws part n is e h =
+whoms_second ps list other ws is e h =
     subst (AreWhoms ps (aces_in other)) (sym (e ∙ ap (λ v. drop v ws) (is ∙ sym (length-map list ace))))
     (whoms_back ps (aces_in list) (aces_in other) ws h)
 

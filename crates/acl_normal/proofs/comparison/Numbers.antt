@@ -10,22 +10,22 @@ use Rattle.acl_normal.specs.internal.comparison.MentionedRows.{HasNumber, whom_o
 use Rattle.acl_normal.proofs.comparison.Ordered.{not_below_itself}
 
 -- the principal at a number is that of the code's name there
-pub numbered : (names : List PrincipalRef) (q : PrincipalRef) (i : ℕ) → i < length names
+pub principal_numbered : (names : List PrincipalRef) (q : PrincipalRef) (i : ℕ) → i < length names
     → slice_index_or (principals names) i everyone ≡ principal (slice_index_or names i q)
-numbered names q i lt = get_or-map principal names i q everyone lt
+principal_numbered names q i lt = get_or-map principal names i q everyone lt
 
 -- no two of a rising list are the same
-pub apart : (ps : List Principal) (i k : ℕ) → IsRisingSet ps → i < length ps → k < length ps
+pub rising_apart : (ps : List Principal) (i k : ℕ) → IsRisingSet ps → i < length ps → k < length ps
     → slice_index_or ps i everyone ≡ slice_index_or ps k everyone → k ≡ i
-apart [] i k r li lk e = absurd (omega arith)
-apart (p ∷ ps) zero zero r li lk e = refl
-apart (p ∷ ps) zero (suc k) r li lk e =
+rising_apart [] i k r li lk e = absurd (omega arith)
+rising_apart (p ∷ ps) zero zero r li lk e = refl
+rising_apart (p ∷ ps) zero (suc k) r li lk e =
     absurd (not_below_itself p (subst (λ v. principal_cmp p v ≡ Less) (sym e)
     (all_at (λ q. principal_cmp p q ≡ Less) ps k everyone (omega arith) r.0)))
-apart (p ∷ ps) (suc i) zero r li lk e =
+rising_apart (p ∷ ps) (suc i) zero r li lk e =
     absurd (not_below_itself p (subst (λ v. principal_cmp p v ≡ Less) e
     (all_at (λ q. principal_cmp p q ≡ Less) ps i everyone (omega arith) r.0)))
-apart (p ∷ ps) (suc i) (suc k) r li lk e = ap suc (apart ps i k r.1 (omega arith) (omega arith) e)
+rising_apart (p ∷ ps) (suc i) (suc k) r li lk e = ap suc (rising_apart ps i k r.1 (omega arith) (omega arith) e)
 
 -- an ACE that takes part and isn't of everyone is of a principal if and only if that is its own
 pub is_of_own : (a : Ace) (p : Principal) → takes_part a ≡ true → principal_eq (principal_of a) everyone ≡ false
@@ -51,7 +51,7 @@ whom_is ps a n r h = go (takes_part a) refl (principal_eq (principal_of a) every
           all = rw (t, f) refl;
           hit = λ k lt. is_of_own a (slice_index_or ps k everyone) t f
               ∙ ap (λ v. principal_eq v (slice_index_or ps k everyone)) at.is
-              ∙ same_answers _ _ (λ g. eq-eqb k n (apart ps n k r at.within lt (principal_eq_same _ _ g)))
+              ∙ same_answers _ _ (λ g. eq-eqb k n (rising_apart ps n k r at.within lt (principal_eq_same _ _ g)))
               (λ g. subst (λ v. principal_eq (slice_index_or ps n everyone) (slice_index_or ps v everyone) ≡ true)
               (sym (eqb-true k n g)) (principal_eq_itself (slice_index_or ps n everyone)));
         })

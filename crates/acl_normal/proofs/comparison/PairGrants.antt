@@ -8,15 +8,15 @@ use Rattle.acl_normal.proofs.comparison.SetSearchLemmas.{found_right}
 use Rattle.acl_normal.specs.internal.comparison.FirstPlaces.{Agrees}
 
 -- a choice between equal values is equal
-cond_same : (l x v y w : Bool) → x ≡ v → y ≡ w → cond l x y ≡ cond l v w
-cond_same l x v y w h i = grind arith
+cond_same : (l : Bool) {x v y w : Bool} → x ≡ v → y ≡ w → cond l x y ≡ cond l v w
+cond_same l h i = grind arith
 
 -- if a pair is granted what its first principal is granted, so it is with one more ACE in front
-joined : (t e x y k g gp gq : Bool) (hp hq : ℕ) → g ≡ cond (nat_lt hq hp) gq gp
+pair_behind : (t e x y k g gp gq : Bool) (hp hq : ℕ) → g ≡ cond (nat_lt hq hp) gq gp
     → cond (t && (e || (x || (y || false)))) k g
     ≡ cond (nat_lt (cond (t && (e || (y || false))) 0 (hq + 1)) (cond (t && (e || (x || false))) 0 (hp + 1)))
     (cond (t && (e || (y || false))) k gq) (cond (t && (e || (x || false))) k gp)
-joined t e x y k g gp gq hp hq h = grind (arith, nat_tests)
+pair_behind t e x y k g gp gq hp hq h = grind (arith, nat_tests)
 
 -- a pair is granted what the principal with the earlier place is granted
 pub pair_granted : (xs : List Ace) (p q : Principal) (b : ℕ)
@@ -25,11 +25,11 @@ pub pair_granted : (xs : List Ace) (p q : Principal) (b : ℕ)
 pair_granted [] p q b = refl
 pair_granted (a ∷ xs) p q b =
     granted_to-cons a xs (p ∷ q ∷ []) b
-    ∙ joined (has_bit a.mask b && takes_part a) (principal_eq (principal_of a) everyone)
+    ∙ pair_behind (has_bit a.mask b && takes_part a) (principal_eq (principal_of a) everyone)
     (principal_eq (principal_of a) p) (principal_eq (principal_of a) q) (is_allow a.kind)
     (is_granted_to xs (p ∷ q ∷ []) b) (is_granted_to xs (p ∷ []) b) (is_granted_to xs (q ∷ []) b)
     (first_place (p ∷ []) b xs) (first_place (q ∷ []) b xs) (pair_granted xs p q b)
-    ∙ sym (cond_same (nat_lt (first_place (q ∷ []) b (a ∷ xs)) (first_place (p ∷ []) b (a ∷ xs))) _ _ _ _
+    ∙ sym (cond_same (nat_lt (first_place (q ∷ []) b (a ∷ xs)) (first_place (p ∷ []) b (a ∷ xs)))
     (granted_to-cons a xs (q ∷ []) b) (granted_to-cons a xs (p ∷ []) b))
 
 -- two users that may overlap are one user
@@ -74,8 +74,8 @@ pub not_inverted : (xs ys : List Ace) (b : ℕ) (p q : Principal) (r s : Placing
 not_inverted xs ys b p q r s h i u v e o = here_is xs ys b p q r s h i ∙ go (is_users r.class && is_users s.class) refl
     ∙ sym (there_is xs ys b p q r s h i u v)
   where
-    one_value : (l m x y : Bool) → x ≡ y → cond l x y ≡ cond m x y
-    one_value l m x y k = grind arith
+    one_value : (l m : Bool) {x y : Bool} → x ≡ y → cond l x y ≡ cond m x y
+    one_value l m k = grind arith
 
     go : (t : Bool) → (is_users r.class && is_users s.class) ≡ t
         → cond (nat_lt s.here.place r.here.place) (is_allow s.here.kind) (is_allow r.here.kind)
@@ -83,18 +83,18 @@ not_inverted xs ys b p q r s h i u v e o = here_is xs ys b p q r s h i ∙ go (i
     go true k =
         let users = and_parts (is_users r.class) (is_users s.class) k in
         let same : p ≡ q = both_users p q (sym h.class ∙ users.0) (sym i.class ∙ users.1) o in
-        one_value _ _ _ _ (i.here.allows ∙ ap (λ x. is_granted_to xs (x ∷ []) b) (sym same) ∙ sym h.here.allows)
+        one_value _ _ (i.here.allows ∙ ap (λ x. is_granted_to xs (x ∷ []) b) (sym same) ∙ sym h.here.allows)
     go false k = same_choice (nat_lt s.here.place r.here.place) (nat_lt s.there.place r.there.place)
         (is_allow r.here.kind)
         (is_allow s.here.kind) (sym (ap (λ t. (not t && differ (is_allow r.here.kind) (is_allow s.here.kind)) && differ
         (nat_lt s.here.place r.here.place) (nat_lt s.there.place r.there.place)) k) ∙ e)
 
 -- the principals of an inverted pair overlap, and the lists do not grant the same to the pair
-pub inverted : (xs ys : List Ace) (b : ℕ) (p q : Principal) (r s : Placing) → IsPlacing xs ys b p r
+pub inverted_differ : (xs ys : List Ace) (b : ℕ) (p q : Principal) (r s : Placing) → IsPlacing xs ys b p r
     → IsPlacing xs ys b q s
     → SameAlone r → SameAlone s → inverts r s ≡ true
     → (may_overlap p q ≡ true) × (is_granted_to xs (p ∷ q ∷ []) b ≢ is_granted_to ys (p ∷ q ∷ []) b)
-inverted xs ys b p q r s h i u v e = (
+inverted_differ xs ys b p q r s h i u v e = (
   not_both_users p q (grind (arith, h.class, i.class)),
   λ same. other_choice (nat_lt s.here.place r.here.place) (nat_lt s.there.place r.there.place)
       (is_allow r.here.kind) (is_allow s.here.kind) (grind arith)
@@ -122,7 +122,7 @@ not_agrees_from_rows xs ys b p r (q ∷ ps) (s ∷ rows) h u z all e a =
     (λ k. not_agrees_from_rows xs ys b p r ps rows h u z.1 all.1 k a.1)
   where
     go : (inverts r s ≡ true) ⊎ (inverts_any r rows ≡ true) → (inverts_any r rows ≡ true → ⊥) → ⊥
-    go (inl k) later = let d = inverted xs ys b p q r s h z.0 u all.0 k in d.1 (a.0 d.0)
+    go (inl k) later = let d = inverted_differ xs ys b p q r s h z.0 u all.0 k in d.1 (a.0 d.0)
     go (inr k) later = later k
 not_agrees_from_rows xs ys b p r _ _ h u z all e a = absurd z
 

@@ -4,8 +4,8 @@ use Rattle.std.proofs.Common.{suc}
 use Rattle.acl_perm.specs.declared.principal.Principal.{Principal as PrincipalRef}
 use Rattle.acl_normal.proofs.Each.{all_at, all_drop, zip_at, zip_length, zip_push, zip_drop}
 use Rattle.acl_normal.proofs.unique.Bits.{below}
-use Rattle.acl_normal.proofs.comparison.Numbers.{numbered}
-use Rattle.acl_normal.proofs.comparison.PairGrants.{agrees_from_rows, inverted, not_agrees_from_rows, not_inverted}
+use Rattle.acl_normal.proofs.comparison.Numbers.{principal_numbered}
+use Rattle.acl_normal.proofs.comparison.PairGrants.{agrees_from_rows, inverted_differ, not_agrees_from_rows, not_inverted}
 use Rattle.acl_normal.specs.internal.comparison.FirstPlaces.{AlikeAlone, AlikeWith, AlikeWithAll, IsFirst, IsFirstBelow, IsFirstFrom, IsLeast, OnAll, is_unlike, no_first}
 use Rattle.acl_normal.specs.internal.comparison.SetSearch.{differ}
 use Rattle.acl_normal.specs.internal.comparison.TwoLists.{AlikeToOne, AlikeToPair, AlikeToPairs, HaveSameColumn, later_than, principal_at}
@@ -17,13 +17,13 @@ pub first_of_all : (xs : List Ace) (b : ℕ) (p : Principal) (f : First) → IsF
 first_of_all xs b p f h = let place = h.place in record { place = omega arith; allows = h.allows }
 
 -- the placings with that of the next principal are those of the principals up to it
-pub rows_more : (names : List PrincipalRef) (q : PrincipalRef) (xs ys : List Ace) (b i : ℕ)
-    (heres theres : List First) (h t : First) (u : Class) (old new : List Placing) → i < length names
+pub rows_more : (names : List PrincipalRef) (q : PrincipalRef) {xs ys : List Ace} {b i : ℕ}
+    {heres theres : List First} {h t : First} (u : Class) {old new : List Placing} → i < length names
     → h ≡ slice_index_or heres i h → t ≡ slice_index_or theres i t
     → is_users u ≡ is_user (principal (slice_index_or names i q)) → AreFirstFrom (principals names) xs b 0 heres
     → AreFirstFrom (principals names) ys b 0 theres → new ≡ old ++ record { here = h; there = t; class = u } ∷ []
     → ArePlacings (principals (take i names)) xs ys b old → ArePlacings (principals (take (i + 1) names)) xs ys b new
-rows_more names q xs ys b i heres theres h t u old new lt hi ti ui hs ts is all =
+rows_more names q {xs} {ys} {b} {i} {heres} {theres} {h} {t} u {old} {new} lt hi ti ui hs ts is all =
     let inside : i < length (principals names) = omega (arith, length-map names principal) in
     let s : Principal = slice_index_or (principals names) i everyone in
     let here : h ≡ slice_index_or heres i no_first = get_or_read heres i h (omega (arith, hs.count)) hi no_first in
@@ -33,11 +33,11 @@ rows_more names q xs ys b i heres theres h t u old new lt hi ti ui hs ts is all 
           (first_of_all xs b s (slice_index_or heres i no_first) (hs.each i inside));
       there = subst (λ v. IsFirst ys b s v) (sym there)
           (first_of_all ys b s (slice_index_or theres i no_first) (ts.each i inside));
-      class = ui ∙ ap is_user (sym (numbered names q i lt));
+      class = ui ∙ ap is_user (sym (principal_numbered names q i lt));
     } in
     let longer : principals (take (i + 1) names) ≡ principals (take i names) ++ s ∷ [] =
     ap principals (take_more names i q lt) ∙ map-append principal (take i names) (slice_index_or names i q ∷ [])
-    ∙ ap (λ v. principals (take i names) ++ v ∷ []) (sym (numbered names q i lt)) in
+    ∙ ap (λ v. principals (take i names) ++ v ∷ []) (sym (principal_numbered names q i lt)) in
     record {
       each = subst (λ v. AllZip (IsPlacing xs ys b) v new) (sym longer)
           (subst (λ v. AllZip (IsPlacing xs ys b) (principals (take i names) ++ s ∷ []) v) (sym is)
@@ -52,15 +52,15 @@ pub row_at : (ps : List Principal) (xs ys : List Ace) (b k : ℕ) (rows : List P
 row_at ps xs ys b k rows lt z = zip_at (IsPlacing xs ys b) ps rows k everyone no_placing lt z
 
 -- there are as many placings as principals
-pub rows_length : (ps : List Principal) (xs ys : List Ace) (b : ℕ) (rows : List Placing) → ArePlacings ps xs ys b rows
+pub rows_length : (ps : List Principal) {xs ys : List Ace} {b : ℕ} {rows : List Placing} → ArePlacings ps xs ys b rows
     → length rows ≡ length ps
-rows_length ps xs ys b rows h = zip_length (IsPlacing xs ys b) ps rows h.each
+rows_length ps {xs} {ys} {b} {rows} h = zip_length (IsPlacing xs ys b) ps rows h.each
 
 -- a limit within the principals is within their placings
-pub rows_limit : (ps : List Principal) (xs ys : List Ace) (b : ℕ) (rows shown : List Placing) (limit : ℕ)
+pub rows_limit : (ps : List Principal) {xs ys : List Ace} {b : ℕ} {rows shown : List Placing} {limit : ℕ}
     → ArePlacings ps xs ys b rows → shown ≡ rows → limit ≤ length ps → limit ≤ length shown
-rows_limit ps xs ys b rows shown limit h is within =
-    omega (arith, rows_length ps xs ys b rows h, ap length is, within)
+rows_limit ps h is within =
+    omega (arith, rows_length ps h, ap length is, within)
 
 -- the least number so far, after some bits
 pub record Least (Q : ℕ → ℕ → Type 0) (n bit least : ℕ) : Type 0 where
@@ -91,14 +91,14 @@ least_step Q n bit old new le each stop h = record {
     at_end l all (inr same) = let e : new ≡ old = omega arith in h.at (omega arith) (subst (λ v. OnAll Q v) e all)
 
 -- a bit at which Q holds of each number leaves the least number as it is
-pub least_skip : (Q : ℕ → ℕ → Type 0) (n bit least : ℕ) → ((k : ℕ) → Q bit k) → Least Q n bit least
+pub least_skip : {Q : ℕ → ℕ → Type 0} {n bit least : ℕ} → ((k : ℕ) → Q bit k) → Least Q n bit least
     → Least Q n (bit + 1) least
-least_skip Q n bit least all h =
+least_skip {Q} {n} {bit} {least} all h =
     least_step Q n bit least least (omega arith) (λ k l. all k) (λ l. absurd (omega (arith, l))) h
 
 -- after the last bit the least number is known
-pub least_done : (Q : ℕ → ℕ → Type 0) (n bit least : ℕ) → 21 ≤ bit → Least Q n bit least → IsLeast (OnAll Q) n least
-least_done Q n bit least le h =
+pub least_done : {Q : ℕ → ℕ → Type 0} {n bit least : ℕ} → 21 ≤ bit → Least Q n bit least → IsLeast (OnAll Q) n least
+least_done le h =
     record { within = h.within; before = λ k l b has. h.before k l b (omega (arith, below b has)) has; at = h.at }
 
 -- kinds that do not differ are the same
@@ -128,11 +128,11 @@ not_alone_from_row ps xs ys b k rows lt h n e = let r = row_at ps xs ys b k rows
     not_same_alone (slice_index_or rows k no_placing) n (r.here.allows ∙ e ∙ sym r.there.allows)
 
 -- the search for the first single principal continues with the next bit
-pub single_step : (ps : List Principal) (xs ys : List Ace) (bit old new : ℕ) (rows : List Placing)
+pub single_step : {ps : List Principal} {xs ys : List Ace} {bit old new : ℕ} {rows : List Placing}
     → ArePlacings ps xs ys bit rows → has_bit all_rights bit ≡ true → IsFirstBelow is_unlike rows old new
     → Least (AlikeAlone xs ys ps) (length ps) bit old
     → Least (AlikeAlone xs ys ps) (length ps) (bit + 1) new
-single_step ps xs ys bit old new rows h has first l =
+single_step {ps} {xs} {ys} {bit} {old} {new} {rows} h has first l =
     let le = first.within in
     least_step (AlikeAlone xs ys ps) (length ps) bit old new le
     (λ k lt. alone_from_row ps xs ys bit k rows (omega (arith, l.within)) h (first.before k lt))
@@ -151,14 +151,14 @@ all_alone (p ∷ ps) xs ys b (r ∷ rows) z h = (
 all_alone _ xs ys b _ z h = absurd z
 
 -- the search for the first member of a pair continues with the next bit
-pub member_step : (ps : List Principal) (xs ys : List Ace) (bit old new : ℕ) (rows : List Placing)
+pub member_step : {ps : List Principal} {xs ys : List Ace} {bit old new : ℕ} {rows : List Placing}
     → ArePlacings ps xs ys bit rows → ((k : ℕ) → k < length ps → OnAll (AlikeAlone xs ys ps) k)
     → has_bit all_rights bit ≡ true → IsFirstBelow (λ r. inverts_any r rows) rows old new
     → Least (AlikeWithAll xs ys ps) (length ps) bit old → Least (AlikeWithAll xs ys ps) (length ps) (bit + 1) new
-member_step ps xs ys bit old new rows h alone has first l =
+member_step {ps} {xs} {ys} {bit} {old} {new} {rows} h alone has first l =
     let le = first.within in
     let same : AllByRecursion SameAlone rows = all_alone ps xs ys bit rows h.each (λ k lt. alone k lt bit has) in
-    let count : length rows ≡ length ps = rows_length ps xs ys bit rows h in
+    let count : length rows ≡ length ps = rows_length ps h in
     least_step (AlikeWithAll xs ys ps) (length ps) bit old new le
     (λ k lt. agrees_from_rows xs ys bit (slice_index_or ps k everyone) (slice_index_or rows k no_placing) ps rows
     (row_at ps xs ys bit k rows (omega (arith, l.within)) h.each)
@@ -176,34 +176,34 @@ pub partner_step : (p : Principal) (r : Placing) (ps : List Principal) (xs ys : 
     → Least (AlikeWith xs ys p ps) (length ps) bit old → Least (AlikeWith xs ys p ps) (length ps) (bit + 1) new
 partner_step p r ps xs ys bit old new rows hp sp h same has first l =
     let le = first.within in
-    let count : length rows ≡ length ps = rows_length ps xs ys bit rows h in
+    let count : length rows ≡ length ps = rows_length ps h in
     least_step (AlikeWith xs ys p ps) (length ps) bit old new le
     (λ k lt o. not_inverted xs ys bit p (slice_index_or ps k everyone) r (slice_index_or rows k no_placing) hp
     (row_at ps xs ys bit k rows (omega (arith, l.within)) h.each) sp
     (all_at SameAlone rows k no_placing (omega (arith, l.within)) same) (first.before k lt) o)
-    (λ lt all. let d = inverted xs ys bit p (slice_index_or ps new everyone) r (slice_index_or rows new no_placing) hp
+    (λ lt all. let d = inverted_differ xs ys bit p (slice_index_or ps new everyone) r (slice_index_or rows new no_placing) hp
     (row_at ps xs ys bit new rows (omega (arith, l.within)) h.each) sp
     (all_at SameAlone rows new no_placing (omega (arith, l.within)) same) (first.at lt) in d.1 (all bit has d.0)) l
 
 -- there are as many later placings as later principals
-pub others_length : (ps : List Principal) (xs ys : List Ace) (b at : ℕ) (items slice others : List Placing)
+pub others_length : (ps : List Principal) {xs ys : List Ace} {b : ℕ} (at : ℕ) {items slice others : List Placing}
     → ArePlacings ps xs ys b items → slice ≡ items → others ≡ drop (at + 1) slice
     → length others ≡ length (drop (at + 1) ps)
-others_length ps xs ys b at items slice others h is split = ap length (split ∙ ap (drop (at + 1)) is)
+others_length ps {xs} {ys} {b} at {items} h is split = ap length (split ∙ ap (drop (at + 1)) is)
     ∙ zip_length (IsPlacing xs ys b) (drop (at + 1) ps) (drop (at + 1) items)
     (zip_drop (IsPlacing xs ys b) (at + 1) ps items h.each)
 
 -- the search for the first partner continues with the next bit, with the placings as the code holds them
-pub partner_loop : (ps : List Principal) (xs ys : List Ace) (bit at old new : ℕ) (row : Placing)
-    (items slice others : List Placing) → at < length ps → ArePlacings ps xs ys bit items → slice ≡ items
+pub partner_loop : {ps : List Principal} {xs ys : List Ace} {bit at old new : ℕ} {row : Placing}
+    {items slice others : List Placing} → at < length ps → ArePlacings ps xs ys bit items → slice ≡ items
     → others ≡ drop (at + 1) slice → row ≡ slice_index_or items at row
     → ((k : ℕ) → k < length ps → OnAll (AlikeAlone xs ys ps) k) → has_bit all_rights bit ≡ true
     → IsFirstBelow (inverts row) others old new
     → Least (AlikeWith xs ys (slice_index_or ps at everyone) (drop (at + 1) ps)) (length (drop (at + 1) ps)) bit old
     → Least (AlikeWith xs ys (slice_index_or ps at everyone) (drop (at + 1) ps)) (length (drop (at + 1) ps))
     (bit + 1) new
-partner_loop ps xs ys bit at old new row items slice others lt h is split read alone has first l =
-    let count : length items ≡ length ps = rows_length ps xs ys bit items h in
+partner_loop {ps} {xs} {ys} {bit} {at} {old} {new} {row} {items} {slice} {others} lt h is split read alone has first l =
+    let count : length items ≡ length ps = rows_length ps h in
     let same : AllByRecursion SameAlone items = all_alone ps xs ys bit items h.each (λ k lk. alone k lk bit has) in
     let own : row ≡ slice_index_or items at no_placing = get_or_read items at row (omega arith) read no_placing in
     let rest : others ≡ drop (at + 1) items = split ∙ ap (drop (at + 1)) is in

@@ -151,8 +151,8 @@ places_all refs others places i le h ge =
     let e : i ≡ length others = omega arith in subst (λ v. ArePlacesOf refs others v places) e h
 
 -- with the copies there are at least as many values as before
-pub copies_long : (ws now : List Whom) (places : List ℕ) → now ≡ with_copies ws places → length ws ≤ length now
-copies_long ws now places is =
+pub copies_long : (ws : List Whom) {now : List Whom} (places : List ℕ) → now ≡ with_copies ws places → length ws ≤ length now
+copies_long ws {now} places is =
     omega (arith, ap length is, length-append ws (map (λ q. slice_index_or ws q Nobody) places))
 
 -- each place that is copied is the place of one of the values
@@ -164,17 +164,17 @@ copies_there whole refs others ws places shown n h is all e i lt =
     omega (arith, ap (λ v. slice_index_or v i 0) is, at, whoms_length whole refs ws all, e)
 
 -- the principals that two lists together mention are those that the two lists mention
-pub joined_mentions : (list other aces shown : List AceRef) (r : Result Mentions AllocError) → shown ≡ aces
+pub joined_mentions : (list other : List AceRef) {aces shown : List AceRef} (r : Result Mentions AllocError) → shown ≡ aces
     → aces ≡ list ++ other → IfOk r (AreMentionsOf (aces_in shown))
     → IfOk r (AreMentioned (two_lists (aces_in list) (aces_in other)))
-joined_mentions list other aces shown (Ok m) se ae h =
+joined_mentions list other {aces} {shown} (Ok m) se ae h =
     let both : aces_in shown ≡ aces_in list ++ aces_in other =
     ap aces_in (se ∙ ae) ∙ map-append ace list other in
     record {
       in_order = h.in_order ∙ ap mentioned_in both;
       whoms = subst (λ v. AreWhoms (principals m.principals.items) v m.whoms.items) both h.whoms;
     }
-joined_mentions list other aces shown (Err e) se ae h = h
+joined_mentions list other {aces} {shown} (Err e) se ae h = h
 
 -- the places, ACE by ACE
 pub ruleset place_steps = (places_start, places_more, places_all)

@@ -23,10 +23,10 @@ IsGrantedAnew kind own decided anew =
     (bit : ℕ) → has_bit anew bit ≡ (is_allow kind && (has_bit own bit && not (has_bit decided bit)))
 
 -- an ACE decides its bits, and grants those that it grants anew
-step : (a : Ace) (rest : List Ace) (set : List Principal) (granted decided own anew new more bit : ℕ)
+ace_decides : (a : Ace) (rest : List Ace) (set : List Principal) (granted decided own anew new more bit : ℕ)
     → IsGrantedAnew a.kind own decided anew → IsUnion granted anew new → IsUnion decided own more → HasBitsOf a set own
     → decides new more rest set bit ≡ decides granted decided (a ∷ rest) set bit
-step a rest set granted decided own anew new more bit d u v h =
+ace_decides a rest set granted decided own anew new more bit d u v h =
     grind (arith, granted_to-cons a rest set bit, d bit, u bit, v bit, h.bits bit)
 
 -- after the first i ACEs, what is granted and decided, with the rest, decides as the whole list
@@ -34,13 +34,13 @@ pub record DecidesAll (refs : List AceRef) (set : List Principal) (i granted dec
   pub bits : (bit : ℕ) → decides granted decided (aces_in (drop i refs)) set bit ≡ is_granted_to (aces_in refs) set bit
 
 -- after one more ACE, what is granted and decided still decides as the whole list
-pub loop_more : (refs : List AceRef) (x : AceRef) (set : List Principal) (granted decided own anew new more i : ℕ)
+pub loop_more : {refs : List AceRef} {x : AceRef} {set : List Principal} {granted decided own : ℕ} (anew : ℕ) {new more i : ℕ}
     → i < length refs → x ≡ slice_index_or refs i x → IsGrantedAnew x.kind own decided anew → IsUnion granted anew new
     → IsUnion decided own more → HasBitsOf (ace x) set own → DecidesAll refs set i granted decided
     → DecidesAll refs set (i + 1) new more
-loop_more refs x set granted decided own anew new more i lt at d u v h inv = record {
+loop_more {refs} {x} {set} {granted} {decided} {own} anew {new} {more} {i} lt at d u v h inv = record {
   bits = λ bit.
-      step (ace x) (aces_in (drop (i + 1) refs)) set granted decided own anew new more bit d u v h
+      ace_decides (ace x) (aces_in (drop (i + 1) refs)) set granted decided own anew new more bit d u v h
       ∙ ap (λ (a : AceRef). decides granted decided (ace a ∷ aces_in (drop (i + 1) refs)) set bit) at
       ∙ sym (at_drop_more (λ r. decides granted decided (aces_in r) set bit) refs i x lt) ∙ inv.bits bit;
 }
@@ -54,10 +54,10 @@ differ_itself : (x : Bool) → differ x x ≡ false
 differ_itself x = grind arith
 
 -- what one list grants and the other doesn't is what they differ on
-pub differing_are : (list other : List Ace) (set : List Principal) (m n result : ℕ)
+pub differing_are : {list other : List Ace} {set : List Principal} {m n result : ℕ}
     → IsGrantedTo list set m → IsGrantedTo other set n
     → ((bit : ℕ) → has_bit result bit ≡ differ (has_bit m bit) (has_bit n bit)) → AreDiffering list other set result
-differing_are list other set m n result h i is = record {
+differing_are h i is = record {
   bits = λ bit. is bit ∙ rw (h.bits bit, i.bits bit) refl;
 }
 
@@ -77,9 +77,9 @@ none_differ list other set rights within h = (
         ∙ ap (λ v. differ v (is_granted_to other set bit)) (sym same) ∙ sym (h.bits bit) ∙ has)
 
 -- if the rights on which the lists differ are not zero, the lists do not grant alike
-pub tells_unlike : (list other : List Ace) (set : List Principal) (rights : ℕ) → IsMask rights
+pub tells_unlike : {list other : List Ace} {set : List Principal} {rights : ℕ} → IsMask rights
     → AreDiffering list other set rights → OnFalse (rights == 0) (GrantAlikeTo list other set → ⊥)
-tells_unlike list other set rights within h = go (rights == 0) refl
+tells_unlike {list} {other} {set} {rights} within h = go (rights == 0) refl
   where
     go : (t : Bool) → (rights == 0) ≡ t → OnFalse t (GrantAlikeTo list other set → ⊥)
     go true e = tt
@@ -107,11 +107,11 @@ has_part mask granted k part is h = same_answers part (has_bit granted k)
     subst (λ v. has_bit granted v ≡ true) (sym same) has))
 
 -- the lowest right on which the lists differ, as a set of one right, is their lowest difference
-pub lowest_difference : (list other : List Ace) (set : List Principal) (rights mask granted k : ℕ) (first : Bool)
+pub lowest_difference : {list other : List Ace} {set : List Principal} {rights mask granted k : ℕ} {first : Bool}
     → IsMask rights → AreDiffering list other set rights → IsLowest k rights → mask ≡ 2 ^ k
     → IsGrantedTo list set granted → IsTrue first ↔ IsSubset mask granted
     → IsLowestDifference list other set mask first
-lowest_difference list other set rights mask granted k first within d l is g f = record {
+lowest_difference {list} {other} {set} {rights} {mask} {granted} {k} {first} within d l is g f = record {
   bit = k;
   one_bit = is;
   of_rights = bits_from_mask rights k within l.0;
@@ -127,9 +127,9 @@ pub record Covers (refs : List AceRef) (i rights : ℕ) : Type 0 where
       → column (aces_in (drop i refs)) bit ≡ column (aces_in refs) bit
 
 -- with the rights of one more ACE, the rest of the list has the columns of the whole
-pub covers_more : (refs : List AceRef) (x : AceRef) (i rights more : ℕ) → i < length refs
+pub covers_more : {refs : List AceRef} {x : AceRef} {i rights more : ℕ} → i < length refs
     → x ≡ slice_index_or refs i x → IsUnion rights x.mask.bits more → Covers refs i rights → Covers refs (i + 1) more
-covers_more refs x i rights more lt at u h = record {
+covers_more {refs} {x} {i} {rights} lt at u h = record {
   columns = λ bit absent.
       let parts = or_parts (has_bit rights bit) (has_bit x.mask.bits bit) (sym (u bit) ∙ absent) in
       sym (first_lacks (ace (slice_index_or refs i x)) (aces_in (drop (i + 1) refs)) bit

@@ -36,11 +36,11 @@ single_here xs ys names p whole i lt d g =
     (subst (λ v. GoesOn xs ys (singles (principals v)) whole) (drop_more names i p lt) g)
 
 -- the search continues after a principal to whom alone the lists grant alike
-pub single_later : (xs ys : List Ace) (names : List PrincipalRef) (p : PrincipalRef) (whole : List (List Principal))
-    (i : ℕ) → i < length names → GrantAlikeTo xs ys (principal (slice_index_or names i p) ∷ [])
+pub single_later : {xs ys : List Ace} (names : List PrincipalRef) (p : PrincipalRef) {whole : List (List Principal)}
+    {i : ℕ} → i < length names → GrantAlikeTo xs ys (principal (slice_index_or names i p) ∷ [])
     → GoesOn xs ys (singles (principals (drop i names))) whole
     → GoesOn xs ys (singles (principals (drop (i + 1) names))) whole
-single_later xs ys names p whole i lt a g =
+single_later {xs} {ys} names p {whole} {i} lt a g =
     found_later xs ys (principal (slice_index_or names i p) ∷ []) (singles (principals (drop (i + 1) names))) whole a
     (subst (λ v. GoesOn xs ys (singles (principals v)) whole) (drop_more names i p lt) g)
 
@@ -65,13 +65,13 @@ partner_here xs ys s others q whole i lt o d g =
     found_here xs ys _ rest whole d (subst (λ b. GoesOn xs ys (cond b ((s ∷ t ∷ []) ∷ rest) rest) whole) o here)
 
 -- the search continues after a partner with whom the lists grant alike, if the two may overlap
-pub partner_later : (xs ys : List Ace) (s : Principal) (others : List PrincipalRef) (q : PrincipalRef)
-    (whole : List (List Principal)) (i : ℕ) → i < length others
+pub partner_later : {xs ys : List Ace} (s : Principal) (others : List PrincipalRef) (q : PrincipalRef)
+    {whole : List (List Principal)} {i : ℕ} → i < length others
     → (may_overlap s (principal (slice_index_or others i q)) ≡ true
     → GrantAlikeTo xs ys (s ∷ principal (slice_index_or others i q) ∷ []))
     → GoesOn xs ys (partners s (principals (drop i others))) whole
     → GoesOn xs ys (partners s (principals (drop (i + 1) others))) whole
-partner_later xs ys s others q whole i lt a g =
+partner_later {xs} {ys} s others q {whole} {i} lt a g =
     let t = principal (slice_index_or others i q) in
     let rest = partners s (principals (drop (i + 1) others)) in
     let here : GoesOn xs ys (cond (may_overlap s t) ((s ∷ t ∷ []) ∷ rest) rest) whole =
@@ -103,11 +103,11 @@ found_right xs ys (s ∷ left) right r (inl h) i = inl (h.0, found_right xs ys l
 found_right xs ys (s ∷ left) right r (inr h) i = absurd (cc)
 
 -- the search among pairs ends at the pairs of one principal
-pub pair_here : (xs ys : List Ace) (names others : List PrincipalRef) (p : PrincipalRef)
-    (whole : List (List Principal)) (i : ℕ) (ps : List Principal) → i < length names → others ≡ drop (i + 1) names
+pub pair_here : {xs ys : List Ace} (names : List PrincipalRef) {others : List PrincipalRef} (p : PrincipalRef)
+    {whole : List (List Principal)} {i : ℕ} {ps : List Principal} → i < length names → others ≡ drop (i + 1) names
     → FindsSet xs ys (partners (principal (slice_index_or names i p)) (principals others)) (Some ps)
     → GoesOn xs ys (principal_pairs (principals (drop i names))) whole → FindsSet xs ys whole (Some ps)
-pair_here xs ys names others p whole i ps lt is h g =
+pair_here {xs} {ys} names {others} p {whole} {i} {ps} lt is h g =
     let here : GoesOn xs ys (partners (principal (slice_index_or names i p))
     (principals (drop (i + 1) names)) ++ principal_pairs (principals (drop (i + 1) names))) whole =
     subst (λ v. GoesOn xs ys (principal_pairs (principals v)) whole) (drop_more names i p lt) g in
@@ -119,12 +119,12 @@ pair_here xs ys names others p whole i ps lt is h g =
     }
 
 -- the search continues after the pairs of one principal if none of them is found
-pub pair_later : (xs ys : List Ace) (names others : List PrincipalRef) (p : PrincipalRef)
-    (whole : List (List Principal)) (i : ℕ) → i < length names → others ≡ drop (i + 1) names
+pub pair_later : {xs ys : List Ace} (names : List PrincipalRef) {others : List PrincipalRef} (p : PrincipalRef)
+    {whole : List (List Principal)} {i : ℕ} → i < length names → others ≡ drop (i + 1) names
     → FindsSet xs ys (partners (principal (slice_index_or names i p)) (principals others)) None
     → GoesOn xs ys (principal_pairs (principals (drop i names))) whole
     → GoesOn xs ys (principal_pairs (principals (drop (i + 1) names))) whole
-pair_later xs ys names others p whole i lt is h g =
+pair_later {xs} {ys} names {others} p {whole} {i} lt is h g =
     let here : GoesOn xs ys (partners (principal (slice_index_or names i p))
     (principals (drop (i + 1) names)) ++ principal_pairs (principals (drop (i + 1) names))) whole =
     subst (λ v. GoesOn xs ys (principal_pairs (principals v)) whole) (drop_more names i p lt) g in
@@ -147,15 +147,15 @@ pub empty_differs : (xs ys : List Ace) (ps : List Principal) → (GrantAlikeTo x
 empty_differs xs ys ps d = record { first = inr (d, refl) }
 
 -- a single principal is found before all pairs
-pub single_differs : (xs ys : List Ace) (ps set : List Principal) → GrantAlikeTo xs ys []
+pub single_differs : {xs ys : List Ace} (ps : List Principal) {set : List Principal} → GrantAlikeTo xs ys []
     → FindsSet xs ys (singles ps) (Some set) → FindsSet xs ys (small_sets ps) (Some set)
-single_differs xs ys ps set a h =
+single_differs {xs} {ys} ps {set} a h =
     record { first = inl (a, found_left xs ys (singles ps) (principal_pairs ps) set h.first) }
 
 -- where none is found, the pairs decide
-pub pair_decides : (xs ys : List Ace) (ps : List Principal) (r : Option (List Principal)) → GrantAlikeTo xs ys []
+pub pair_decides : {xs ys : List Ace} (ps : List Principal) {r : Option (List Principal)} → GrantAlikeTo xs ys []
     → FindsSet xs ys (singles ps) None → FindsSet xs ys (principal_pairs ps) r → FindsSet xs ys (small_sets ps) r
-pair_decides xs ys ps r a h i =
+pair_decides {xs} {ys} ps {r} a h i =
     record { first = inl (a, found_right xs ys (singles ps) (principal_pairs ps) r h.first i.first) }
 
 -- where a search begins and ends, among single principals, partners and pairs

@@ -1,6 +1,7 @@
 -- The small situations of two lists decide whether the lists grant the same.
 use Rattle.std.specs.Prelude.{IsFalse}
 use Rattle.acl_normal.proofs.Common.{[], Ace, all_rights, AllByRecursion, ap, arith, Bool, column, Deny, everyone, false, false≢true, FindsFirst, GrantAlikeTo, has_bit, HasName, HasNames, inl, inr, is_allow, is_among, is_granted_to, IsRisingSet, IsSituation, IsTrue, Kind, length, Less, List, longest, map, map-append, matches, may_overlap, mentioned, None, not, or_cases, or_left, principal_pairs, partners, Principal, principal_cmp, principal_eq, principal_name, refl, SameGrants, singles, Situation, small_sets, small_situation, Some, subst, sym, true, unwrap_or, user, ℕ, ⊎_elim, ◌++◌, ◌+◌, ◌<◌, ◌^◌, ◌||◌, ◌↔◌, ◌∙◌, ◌∷◌, ◌≡◌, ◌≢◌, ◌⊎◌, only_bit, one_bit}
+use Rattle.acl_perm.proofs.Orders.{kinds_alike}
 use Rattle.acl_eval.specs.Grant.{Grant, grants_bit}
 use Rattle.std.proofs.lemmas.Bool.{cond_both}
 use Rattle.acl_normal.proofs.Each.{all_append, all_left, at_split, all_right}
@@ -153,10 +154,6 @@ situation_is_set n set xs b pos small short =
     (first_kind_alike (matches (small_situation n set)) (λ r. is_among r (everyone ∷ set)) (column xs b) n
     (λ r l. small_matches n set (small_each _ set small) (small_one_user _ set small) pos r l) short)
 
--- kinds that both allow, or both don't, are the same
-pub kinds_from_allow : (j k : Kind) → is_allow j ≡ is_allow k → j ≡ k
-kinds_from_allow j k h = grind arith
-
 -- lists that grant alike in each small situation grant the same
 pub small_situations_suffice : SmallSituationsSuffice
 small_situations_suffice xs ys all =
@@ -168,7 +165,7 @@ small_situations_suffice xs ys all =
     small_suffice (IsOneOf ms) n (column xs b) (column ys b) (first_has b xs ys) (second_has b xs ys) (omega arith)
     (column_is_short ms (column xs b) (first_has b xs ys)) (column_is_short ms (column ys b) (second_has b xs ys))
     (λ p h. one_is_short ms p h)
-    (λ set small. kinds_from_allow _ _
+    (λ set small. kinds_alike _ _
     (at_small (λ v. GrantAlike xs ys (small_situation n v)) ms set (mentioned_rising xs ys) each small b is_bit)))
 
 -- in the small situation of a set, both lists grant what they grant to the set

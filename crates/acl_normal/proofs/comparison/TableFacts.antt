@@ -135,11 +135,11 @@ scatter_start q w size n table is e =
     }
 
 -- a table that is raised by the next placing is scattered of the placings up to it
-pub scatter_more : (q : Camp) (w : Side) (size i : ℕ) (rows : List Placing) (d : Placing) (old new : List ℕ)
+pub scatter_more : {q : Camp} {w : Side} {size i : ℕ} (rows : List Placing) (d : Placing) {old new : List ℕ}
     → i < length rows
     → Raises q w (slice_index_or rows i d) old new → IsScattered q w size (take i rows) old
     → IsScattered q w size (take (i + 1) rows) new
-scatter_more q w size i rows d old new lt up h = record {
+scatter_more {q} {w} {size} {i} rows d {old} lt up h = record {
   count = up.count ∙ h.count;
   each = λ k lk. up.each k (omega (arith, h.count)) ∙ whole k (h.each k lk)
       ∙ sym (ap (most_at q w k) (take_more rows i d lt)
@@ -162,10 +162,10 @@ pub record IsSummed (q : Camp) (w : Side) (size k : ℕ) (rows : List Placing) (
   pub left : (j : ℕ) → k ≤ j → j < size + 2 → slice_index_or table j 0 ≡ most_at q w j rows
 
 -- a scattered table is finished below place 1, since no placing is before place 0
-pub summed_start : (q : Camp) (w : Side) (size : ℕ) (rows : List Placing) (table : List ℕ)
+pub summed_start : {q : Camp} {w : Side} {size : ℕ} {rows : List Placing} {table : List ℕ}
     → IsScattered q w size rows table
     → IsSummed q w size 1 rows table
-summed_start q w size rows table h = record {
+summed_start {q} {w} {size} {rows} {table} h = record {
   count = h.count;
   done = λ j lt. let e : j ≡ 0 = omega arith in
       subst (λ v. slice_index_or table v 0 ≡ most_before q w v rows) (sym e)
@@ -174,11 +174,11 @@ summed_start q w size rows table h = record {
 }
 
 -- with the greater of its own and the value before it at place k, a table is finished below k + 1
-pub summed_more : (q : Camp) (w : Side) (size k x y : ℕ) (rows : List Placing) (old new : List ℕ) → 0 < k
+pub summed_more : {q : Camp} {w : Side} {size k x y : ℕ} {rows : List Placing} {old new : List ℕ} → 0 < k
     → k < size + 2
     → x ≡ slice_index_or old k x → y ≡ slice_index_or old (k - 1) y → new ≡ slice_set old k (max x y)
     → IsSummed q w size k rows old → IsSummed q w size (k + 1) rows new
-summed_more q w size k x y rows old new pos lt xi yi is h = record {
+summed_more {q} {w} {size} {k} {x} {y} {rows} {old} pos lt xi yi is h = record {
   count = ap length is ∙ length-set old k (max x y) ∙ h.count;
   done = λ j l. ap (λ v. slice_index_or v j 0) is ∙ at j l (cases_eq j k);
   left = λ j lo l. ap (λ v. slice_index_or v j 0) is
@@ -281,16 +281,16 @@ rows_within (p ∷ ps) xs ys b size (r ∷ rows) lx ly z = (
 rows_within _ xs ys b size _ lx ly z = absurd z
 
 -- the places of the placings that the code holds are within the lists
-pub slice_within : (both : TwoLists) (bit size : ℕ) (items slice : List Placing) → slice ≡ items → AreWithin both size
+pub slice_within : (both : TwoLists) {bit size : ℕ} {items slice : List Placing} → slice ≡ items → AreWithin both size
     → ArePlacingsOf both bit items → AllByRecursion (IsPlacingWithin size) slice
-slice_within both bit size items slice is within h =
+slice_within both {bit} {size} {items} is within h =
     subst (AllByRecursion (IsPlacingWithin size)) (sym is)
     (rows_within (all_mentioned both) both.first both.second bit size items within.first within.second h.each)
 
 -- a placing of the first part of a list has its place in the whole list too
-pub near_is : (rows near : List Placing) (limit k : ℕ) (d : Placing) → near ≡ take limit rows → limit ≤ length rows
+pub near_is : (rows : List Placing) {near : List Placing} {limit k : ℕ} (d : Placing) → near ≡ take limit rows → limit ≤ length rows
     → k < length near → (k < limit) × (slice_index_or near k d ≡ slice_index_or rows k no_placing)
-near_is rows near limit k d is within below =
+near_is rows {near} {limit} {k} d is within below =
     let lt : k < limit = omega (arith, below, ap length is, length-take-le limit rows within) in (
       lt,
       get_or_default near k d no_placing below ∙ ap (λ v. slice_index_or v k no_placing) is
@@ -298,16 +298,16 @@ near_is rows near limit k d is within below =
     )
 
 -- after the first part of a list is its limit
-pub near_end : (rows near : List Placing) (limit k : ℕ) → near ≡ take limit rows → limit ≤ length rows
+pub near_end : (rows : List Placing) {near : List Placing} {limit k : ℕ} → near ≡ take limit rows → limit ≤ length rows
     → length near ≤ k → limit ≤ k
-near_end rows near limit k is within past = omega (arith, past, ap length is, length-take-le limit rows within)
+near_end rows {near} {limit} is within past = omega (arith, past, ap length is, length-take-le limit rows within)
 
 -- the search for the first that passes a test ends at one
 pub found_below : (test : Placing → Bool) (rows near : List Placing) (limit k : ℕ) (d : Placing) (t : Bool)
     → near ≡ take limit rows → limit ≤ length rows → k < length near → t ≡ test (slice_index_or near k d) → t ≡ true
     → ((j : ℕ) → j < k → test (slice_index_or rows j no_placing) ≡ false) → IsFirstBelow test rows limit k
 found_below test rows near limit k d t is within below tells passes before =
-    let here = near_is rows near limit k d is within below in record {
+    let here = near_is rows d is within below in record {
       within = omega (arith, here.0);
       before = before;
       at = λ _. ap test (sym here.1) ∙ sym tells ∙ passes;
@@ -319,7 +319,7 @@ pub passed_below : (test : Placing → Bool) (rows near : List Placing) (limit k
     → ((j : ℕ) → j < k → test (slice_index_or rows j no_placing) ≡ false)
     → (j : ℕ) → j < k + 1 → test (slice_index_or rows j no_placing) ≡ false
 passed_below test rows near limit k d t is within below tells fails before =
-    below_more _ _ before (ap test (sym (near_is rows near limit k d is within below).1) ∙ sym tells ∙ fails)
+    below_more _ _ before (ap test (sym (near_is rows d is within below).1) ∙ sym tells ∙ fails)
 
 -- the search ends at the limit if none passes the test
 pub none_below : (test : Placing → Bool) (rows near : List Placing) (limit k : ℕ) → near ≡ take limit rows
@@ -327,7 +327,7 @@ pub none_below : (test : Placing → Bool) (rows near : List Placing) (limit k :
     → ((j : ℕ) → j < k → test (slice_index_or rows j no_placing) ≡ false) → IsFirstBelow test rows limit limit
 none_below test rows near limit k is within past before = record {
   within = omega arith;
-  before = λ j l. before j (omega (arith, l, near_end rows near limit k is within past));
+  before = λ j l. before j (omega (arith, l, near_end rows is within past));
   at = λ l. absurd (omega (arith, l));
 }
 
@@ -335,13 +335,13 @@ none_below test rows near limit k is within past before = record {
 pub ruleset first_below = (found_below, passed_below, none_below)
 
 -- the first placing of a camp that the tables report is the first of the camp that inverts another
-pub first_of_camp : (q : Camp) (size limit k : ℕ) (rows : List Placing) (forward back fs bs : List ℕ) (t : Bool)
+pub first_of_camp : {q : Camp} {size limit k : ℕ} {rows : List Placing} {forward back fs bs : List ℕ} {t : Bool}
     → k < limit → limit ≤ length rows
     → ((j : ℕ) → j < k → is_of_camp q (slice_index_or rows j no_placing) ≡ true
     → inverts_any (slice_index_or rows j no_placing) rows ≡ false) → AllByRecursion (IsPlacingWithin size) rows
     → IsPlaceTable q Here size rows forward → IsPlaceTable q There size rows back → fs ≡ forward → bs ≡ back
     → t ≡ is_inverting q (slice_index_or rows k no_placing) fs bs → t ≡ true → IsFirstOf q rows limit k
-first_of_camp q size limit k rows forward back fs bs t lt le before places f b fe be h e = record {
+first_of_camp {q} {size} {limit} {k} {rows} {forward} {back} {fs} {bs} {t} lt le before places f b fe be h e = record {
   within = omega arith;
   before = before;
   at = λ _. found_true q size rows (slice_index_or rows k no_placing) fs bs t h e
@@ -351,13 +351,13 @@ first_of_camp q size limit k rows forward back fs bs t lt le before places f b f
 }
 
 -- a placing of the camp that the code's tables do not report inverts none
-pub not_of_camp : (q : Camp) (size k : ℕ) (rows : List Placing) (forward back fs bs : List ℕ) (t : Bool)
+pub not_of_camp : {q : Camp} {size k : ℕ} {rows : List Placing} {forward back fs bs : List ℕ} {t : Bool}
     → k < length rows → AllByRecursion (IsPlacingWithin size) rows → IsPlaceTable q Here size rows forward
     → IsPlaceTable q There size rows back → fs ≡ forward → bs ≡ back
     → t ≡ is_inverting q (slice_index_or rows k no_placing) fs bs → t ≡ false
     → is_of_camp q (slice_index_or rows k no_placing) ≡ true
     → inverts_any (slice_index_or rows k no_placing) rows ≡ false
-not_of_camp q size k rows forward back fs bs t lt places f b fe be h e =
+not_of_camp {q} {size} {k} {rows} {forward} {back} {fs} {bs} {t} lt places f b fe be h e =
     found_false q size rows (slice_index_or rows k no_placing) fs bs t h e
     (all_at (IsPlacingWithin size) rows k no_placing lt places)
     (subst (λ v. IsPlaceTable q Here size rows v) (sym fe) f) (subst (λ v. IsPlaceTable q There size rows v) (sym be) b)

@@ -1,6 +1,6 @@
 -- The loop that emits: what it keeps, what a turn does, and that it ends.
 use Rattle.acl_normal.proofs.unique.Shorter.{without_no_longer, without_shorter}
-use Rattle.acl_normal.proofs.Common.{Ace, Bool, Column, ColumnKey, Emitted, FitsKeys, HasOnceColumns, IsEmission, IsMask, IsRowOf, IsStep, List, Marked, Principal, [], ace_key, all_rights, and_from, and_parts, ap, arith, bit_at-zero, cases_eq, cases_lt, column, compare_keys, cond, conflicts, count_left, emitted_ace, emitted_aces, false, false_from_ne_true, flags_for, has_bit, inl, inr, is_free, is_le, is_principal_of, is_user, key_eq, key_number, kind_eq, length, marks, may_overlap, not, nothing_left, other_kind, principal_eq, principal_of, refl, same_answers, slice_index_or, slice_set, subst, suc, sym, take_out, true, without_principal, zero, ℕ, ⊎_elim, ◌++◌, ◌/◌, ◌<◌, ◌==◌, ◌∙◌, ◌∷◌, ◌≡◌, ◌≢◌, ◌≤◌, ◌⊎◌}
+use Rattle.acl_normal.proofs.Common.{Ace, Bool, Column, ColumnKey, Emitted, FitsKeys, HasOnceColumns, IsEmission, IsMask, IsRowOf, IsStep, List, Marked, Principal, [], ace_key, all_rights, and_from, and_parts, ap, arith, bit_at-zero, cases_eq, cases_lt, column, compare_keys, cond, conflicts, count_left, emitted_ace, emitted_aces, false, false_from_ne_true, false≢true, flags_for, has_bit, inl, inr, is_free, is_le, is_principal_of, is_user, key_eq, key_number, kind_eq, length, marks, may_overlap, not, nothing_left, other_kind, principal_eq, principal_of, refl, same_answers, slice_index_or, slice_set, subst, suc, sym, take_out, true, without_principal, zero, ℕ, ⊎_elim, ◌++◌, ◌/◌, ◌<◌, ◌==◌, ◌∙◌, ◌∷◌, ◌≡◌, ◌≢◌, ◌≤◌, ◌⊎◌}
 use Rattle.acl_perm.proofs.Sets.{mask_from_bits}
 use Rattle.acl_normal.specs.internal.emit.Ready.{Frees, HoldsFree, IsKeyNumber, IsLeastReady, Popped, TakesBits, emitted}
 use Rattle.acl_normal.proofs.unique.Names.{key_eq_itself, key_eq_same, kind_eq_itself, overlaps_itself, principal_eq_same}
@@ -15,9 +15,9 @@ use Rattle.acl_normal.proofs.emit.KeyNames.{IsNamed, emitted_principal, here_nam
 use Rattle.acl_normal.proofs.rows.RowsAlike.{named_outline, outline_taken, row_outline}
 
 -- the bits of the least number are those of the least key
-pub popped : (xs : List Ace) (old new : List ℕ) (n m : ℕ) → FitsKeys xs old → IsLeastReady old n m
+pub least_popped : (xs : List Ace) (old new : List ℕ) (n m : ℕ) → FitsKeys xs old → IsLeastReady old n m
     → new ≡ slice_set old n 0 → (k : IsKeyNumber xs n) → Popped (marks xs old) k.key m (marks xs new)
-popped xs old new n m f l set k = record {
+least_popped xs old new n m f l set k = record {
   is = mark_named k.key xs old k.named ∙ ap (λ v. slice_index_or old v 0) (sym k.is) ∙ sym l.is;
   some = l.some;
   after = λ e. mark_written xs old new n 0 k.key e k.named k.is (number_within old n there) set;
@@ -35,10 +35,10 @@ popped xs old new n m f l set k = record {
     go e some false unnamed = absurd (some (rw unnamed refl))
 
 -- the key of the least number is taken, whatever key has that number
-pub takes : (xs : List Ace) (old new : List ℕ) (n m : ℕ) (q : ColumnKey) → FitsKeys (nothing_left xs) old
+pub least_taken : {xs : List Ace} {old new : List ℕ} {n m : ℕ} {q : ColumnKey} → FitsKeys (nothing_left xs) old
     → IsLeastReady old n m → new ≡ slice_set old n 0
     → ((k : ColumnKey) → is_principal_of k.0 xs ≡ true → n ≡ key_number k xs → q ≡ k) → TakesBits xs old new (n / 2) q m
-takes xs old new n m q f l set whose = go (f.sound n (λ none. l.some (l.is ∙ none)))
+least_taken {xs} {old} {new} {n} {m} {q} f l set whose = go (f.sound n (λ none. l.some (l.is ∙ none)))
   where
     go : IsKeyNumber (nothing_left xs) n → TakesBits xs old new (n / 2) q m
     go k =
@@ -53,7 +53,7 @@ takes xs old new n m q f l set whose = go (f.sound n (λ none. l.some (l.is ∙ 
               });
           popped =
               subst (λ e. Popped (marks (nothing_left xs) old) e m (marks (nothing_left xs) new)) same
-              (popped (nothing_left xs) old new n m f l set k);
+              (least_popped (nothing_left xs) old new n m f l set k);
           fits = fits_written (nothing_left xs) old new n 0 f k set;
         }
 
@@ -119,10 +119,10 @@ popped_named whole out old rest q m xs d p = go (some_below m 21)
         (cases_lt b 21))))
 
 -- the key that was popped, with its bits, is the ACE that comes first
-pub steps : (whole : List Ace) (out : List Emitted) (old rest : Marked) (q : ColumnKey) (m : ℕ) (xs : List Ace)
+pub popped_first : (whole : List Ace) (out : List Emitted) (old rest : Marked) (q : ColumnKey) (m : ℕ) (xs : List Ace)
     → Drains whole out old xs → Popped old q m rest
     → IsStep xs (emitted q m) (take_out q.0 m xs)
-steps whole out old rest q m xs d p = record {
+popped_first whole out old rest q m xs d p = record {
   flags = ap flags_for (sym named);
   mask = p.some;
   least =
@@ -139,117 +139,149 @@ steps whole out old rest q m xs d p = record {
     whole_key : ace_key (emitted q m) ≡ q
     whole_key = ap (λ v. (v, q.1)) named
 
--- after a turn just the free keys are marked
-pub holds_on : (whole : List Ace) (out : List Emitted) (old rest next : Marked) (q : ColumnKey) (m : ℕ) (xs : List Ace)
-    → Drains whole out old xs → Popped old q m rest → Frees q m (take_out q.0 m xs) rest next
-    → HoldsFree next (take_out q.0 m xs)
-holds_on whole out old rest next q m xs d p f l b =
-    same_answers (has_bit (next l) b) (is_free (column (take_out q.0 m xs) b) l)
-    (λ h. sound l b (f.grows.sound l b h)) (λ h. complete l b h)
+-- a right of the mask leaves its column without the principal
+column_less : (p : Principal) (m : ℕ) (xs : List Ace) (b : ℕ) → has_bit m b ≡ true
+    → column (take_out p m xs) b ≡ without_principal p (column xs b)
+column_less p m xs b h = column_taken b p m xs ∙ rw h refl
+
+-- any other right leaves its column as it is
+column_same : (p : Principal) (m : ℕ) (xs : List Ace) (b : ℕ) → has_bit m b ≡ false
+    → column (take_out p m xs) b ≡ column xs b
+column_same p m xs b h = column_taken b p m xs ∙ rw h refl
+
+-- a turn of the loop: what the loop kept before it, the key that was popped, and what was marked then
+record IsTurn (whole : List Ace) (out : List Emitted) (old rest next : Marked) (q : ColumnKey) (m : ℕ)
+    (xs : List Ace) : Type 0 where
+  drains : Drains whole out old xs
+  pop : Popped old q m rest
+  frees : Frees q m (take_out q.0 m xs) rest next
+
+-- the popped key has exactly the rights on which it was free
+popped_free : {whole : List Ace} {out : List Emitted} {old rest next : Marked} {q : ColumnKey} {m : ℕ} {xs : List Ace}
+    → IsTurn whole out old rest next q m xs → (b : ℕ) → has_bit m b ≡ is_free (column xs b) q
+popped_free {whole} {out} {old} {rest} {next} {q} {m} {xs} h b = popped_bits old rest q m xs h.drains.free h.pop b
+
+-- every other key has the marks that it had
+others_kept : {whole : List Ace} {out : List Emitted} {old rest next : Marked} {q : ColumnKey} {m : ℕ} {xs : List Ace}
+    → IsTurn whole out old rest next q m xs → (l : ColumnKey) → key_eq l q ≡ false → old l ≡ rest l
+others_kept h l n = sym (h.pop.after l ∙ rw n refl)
+
+-- a key that still has a mark is not the popped one
+marked_apart : {whole : List Ace} {out : List Emitted} {old rest next : Marked} {q : ColumnKey} {m : ℕ} {xs : List Ace}
+    → IsTurn whole out old rest next q m xs → (l : ColumnKey) (b : ℕ) → has_bit (rest l) b ≡ true
+    → key_eq l q ≡ false
+marked_apart {whole} {out} {old} {rest} {next} {q} {m} {xs} h l b has =
+    false_from_ne_true _ (λ t. absurd
+    (false≢true (sym gone ∙ sym (ap (λ v. has_bit (rest v) b) (key_eq_same l q t)) ∙ has)))
   where
-    clash : true ≡ false → ⊥
-    clash h = cc
+    gone : has_bit (rest q) b ≡ false
+    gone = ap (λ v. has_bit v b) (h.pop.after q ∙ rw (key_eq_itself q) refl) ∙ ap (λ v. v == 1) (bit_at-zero b)
 
-    taken : (b : ℕ) → has_bit m b ≡ true
-        → column (take_out q.0 m xs) b ≡ without_principal q.0 (column xs b)
-    taken b h = column_taken b q.0 m xs ∙ rw h refl
+-- on a right of the popped key, a free key that is not the popped one has another principal
+free_apart : {whole : List Ace} {out : List Emitted} {old rest next : Marked} {q : ColumnKey} {m : ℕ} {xs : List Ace}
+    → IsTurn whole out old rest next q m xs → (l : ColumnKey) (b : ℕ) → has_bit m b ≡ true → key_eq l q ≡ false
+    → is_free (column xs b) l ≡ true → principal_eq l.0 q.0 ≡ false
+free_apart {whole} {out} {old} {rest} {next} {q} {m} {xs} h l b e apart was = false_from_ne_true _ (λ t. absurd (same t))
+  where
+    same : principal_eq l.0 q.0 ≡ true → ⊥
+    same t =
+        let kind : l.1 ≡ q.1 =
+        one_free (column xs b) q.0 l.1 q.1
+        (subst (λ v. is_free (column xs b) (v, l.1) ≡ true) (principal_eq_same l.0 q.0 t) was)
+        (sym (popped_free h b) ∙ e) in
+        let equal : key_eq l q ≡ true =
+        and_from (principal_eq l.0 q.0) (kind_eq l.1 q.1) t
+        (subst (λ v. kind_eq l.1 v ≡ true) kind (kind_eq_itself l.1)) in
+        false≢true (sym apart ∙ equal)
 
-    kept : (b : ℕ) → has_bit m b ≡ false → column (take_out q.0 m xs) b ≡ column xs b
-    kept b h = column_taken b q.0 m xs ∙ rw h refl
+-- a key that still has a mark is free after the turn
+marked_free : {whole : List Ace} {out : List Emitted} {old rest next : Marked} {q : ColumnKey} {m : ℕ} {xs : List Ace}
+    → IsTurn whole out old rest next q m xs → (l : ColumnKey) (b : ℕ) → has_bit (rest l) b ≡ true
+    → is_free (column (take_out q.0 m xs) b) l ≡ true
+marked_free {whole} {out} {old} {rest} {next} {q} {m} {xs} h l b has = at (has_bit m b) refl
+  where
+    apart : key_eq l q ≡ false
+    apart = marked_apart h l b has
 
-    -- nothing is marked at the key any more
-    gone : (b : ℕ) → has_bit (rest q) b ≡ false
-    gone b = ap (λ v. has_bit v b) (p.after q ∙ rw (key_eq_itself q) refl) ∙ ap (λ v. v == 1) (bit_at-zero b)
+    was : is_free (column xs b) l ≡ true
+    was = sym (h.drains.free l b) ∙ ap (λ v. has_bit v b) (others_kept h l apart) ∙ has
 
-    others : (l : ColumnKey) → key_eq l q ≡ false → old l ≡ rest l
-    others l n = sym (p.after l ∙ rw n refl)
+    at : (t : Bool) → has_bit m b ≡ t → is_free (column (take_out q.0 m xs) b) l ≡ true
+    at false e = rw (column_same q.0 m xs b e) was
+    at true e = rw (column_less q.0 m xs b e) (free_without (column xs b) q.0 l (free_apart h l b e apart was) was)
 
-    marked : (l : ColumnKey) (b : ℕ) → has_bit (rest l) b ≡ true → key_eq l q ≡ false
-    marked l b h =
+-- a key that was free and is not the popped one keeps its mark
+stays_marked : {whole : List Ace} {out : List Emitted} {old rest next : Marked} {q : ColumnKey} {m : ℕ} {xs : List Ace}
+    → IsTurn whole out old rest next q m xs → (l : ColumnKey) (b : ℕ) → key_eq l q ≡ false
+    → is_free (column xs b) l ≡ true → has_bit (next l) b ≡ true
+stays_marked h l b n was =
+    h.frees.grows.kept l b (ap (λ v. has_bit v b) (sym (others_kept h l n)) ∙ h.drains.free l b ∙ was)
+
+-- a key that conflicts with the popped one and is free after the turn is marked
+newly_marked : {whole : List Ace} {out : List Emitted} {old rest next : Marked} {q : ColumnKey} {m : ℕ} {xs : List Ace}
+    → IsTurn whole out old rest next q m xs → (l : ColumnKey) (b : ℕ) → has_bit m b ≡ true
+    → principal_eq l.0 q.0 ≡ false → conflicts q l ≡ true → is_free (column (take_out q.0 m xs) b) l ≡ true
+    → has_bit (next l) b ≡ true
+newly_marked {whole} {out} {old} {rest} {next} {q} {m} {xs} h l b e other c free =
+    let both = and_parts (may_overlap q.0 l.0) (not (kind_eq q.1 l.1)) c in
+    let same : (l.0, other_kind q.1) ≡ l = ap (λ v. (l.0, v)) (sym (kinds_differ q.1 l.1 both.1)) in
+    subst (λ v. has_bit (next v) b ≡ true) same
+    (h.frees.all l.0 b low e (one_is_other q.0 l.0 both.0 other)
+    (subst (λ v. is_free (column (take_out q.0 m xs) b) v ≡ true) (sym same) free))
+  where
+    low : b < 21
+    low =
+        ⊎_elim (λ g. g)
+        (λ g. absurd (false≢true (sym (popped_low whole out old rest q m xs h.drains h.pop b g) ∙ e)))
+        (cases_lt b 21)
+
+-- on a right of the popped key, a key that is free after the turn is marked
+free_taken : {whole : List Ace} {out : List Emitted} {old rest next : Marked} {q : ColumnKey} {m : ℕ} {xs : List Ace}
+    → IsTurn whole out old rest next q m xs → (l : ColumnKey) (b : ℕ) → has_bit m b ≡ true
+    → is_free (column (take_out q.0 m xs) b) l ≡ true → has_bit (next l) b ≡ true
+free_taken {whole} {out} {old} {rest} {next} {q} {m} {xs} h l b e free = by (conflicts q l) refl
+  where
+    left : is_free (without_principal q.0 (column xs b)) l ≡ true
+    left = subst (λ c. is_free c l ≡ true) (column_less q.0 m xs b e) free
+
+    other : principal_eq l.0 q.0 ≡ false
+    other =
         false_from_ne_true _ (λ t. absurd
-        (clash (sym h ∙ ap (λ v. has_bit (rest v) b) (key_eq_same l q t) ∙ gone b)))
+        (lacks_free (column xs b) q.0 l.1
+        (subst (λ v. is_free (without_principal q.0 (column xs b)) (v, l.1) ≡ true)
+        (principal_eq_same l.0 q.0 t) left)))
 
-    sound : (l : ColumnKey) (b : ℕ)
-        → (has_bit (rest l) b ≡ true) ⊎ (is_free (column (take_out q.0 m xs) b) l ≡ true)
-        → is_free (column (take_out q.0 m xs) b) l ≡ true
-    sound l b (inr h) = h
-    sound l b (inl h) = at (has_bit m b) refl
-      where
-        apart : key_eq l q ≡ false
-        apart = marked l b h
+    by : (t : Bool) → conflicts q l ≡ t → has_bit (next l) b ≡ true
+    by false c =
+        let own : is_free (column xs b) (q.0, q.1) ≡ true = sym (popped_free h b) ∙ e in
+        stays_marked h l b (rw other refl) (free_back (column xs b) q.0 q.1 l (h.drains.once b) own c left)
+    by true c = newly_marked h l b e other c free
 
-        was : is_free (column xs b) l ≡ true
-        was = sym (d.free l b) ∙ ap (λ v. has_bit v b) (others l apart) ∙ h
+-- on any other right, a key that is free after the turn is marked
+free_kept : {whole : List Ace} {out : List Emitted} {old rest next : Marked} {q : ColumnKey} {m : ℕ} {xs : List Ace}
+    → IsTurn whole out old rest next q m xs → (l : ColumnKey) (b : ℕ) → has_bit m b ≡ false
+    → is_free (column (take_out q.0 m xs) b) l ≡ true → has_bit (next l) b ≡ true
+free_kept {whole} {out} {old} {rest} {next} {q} {m} {xs} h l b e free = stays_marked h l b other was
+  where
+    was : is_free (column xs b) l ≡ true
+    was = subst (λ c. is_free c l ≡ true) (column_same q.0 m xs b e) free
 
-        at : (t : Bool) → has_bit m b ≡ t → is_free (column (take_out q.0 m xs) b) l ≡ true
-        at false e = rw (kept b e) was
-        at true e = rw (taken b e) (free_without (column xs b) q.0 l other was)
-          where
-            other : principal_eq l.0 q.0 ≡ false
-            other = false_from_ne_true _ (λ t. absurd (two t))
-              where
-                two : principal_eq l.0 q.0 ≡ true → ⊥
-                two t =
-                    let same : l.0 ≡ q.0 = principal_eq_same l.0 q.0 t in
-                    let mine : is_free (column xs b) (q.0, q.1) ≡ true =
-                    sym (popped_bits old rest q m xs d.free p b) ∙ e in
-                    let its : is_free (column xs b) (q.0, l.1) ≡ true =
-                    subst (λ v. is_free (column xs b) (v, l.1) ≡ true) same was in
-                    let kind : l.1 ≡ q.1 =
-                    one_free (column xs b) q.0 l.1 q.1 its mine in
-                    let equal : key_eq l q ≡ true =
-                    and_from (principal_eq l.0 q.0) (kind_eq l.1 q.1) t
-                    (subst (λ v. kind_eq l.1 v ≡ true) kind (kind_eq_itself l.1)) in
-                    clash (sym equal ∙ apart)
+    other : key_eq l q ≡ false
+    other =
+        false_from_ne_true _ (λ t. absurd
+        (false≢true (sym e ∙ popped_free h b ∙ sym (ap (is_free (column xs b)) (key_eq_same l q t)) ∙ was)))
 
-    -- what was free before is marked still
-    before : (l : ColumnKey) (b : ℕ) → key_eq l q ≡ false → is_free (column xs b) l ≡ true
-        → has_bit (next l) b ≡ true
-    before l b n h = f.grows.kept l b (ap (λ v. has_bit v b) (sym (others l n)) ∙ d.free l b ∙ h)
-
-    complete : (l : ColumnKey) (b : ℕ) → is_free (column (take_out q.0 m xs) b) l ≡ true
-        → has_bit (next l) b ≡ true
-    complete l b h = at (has_bit m b) refl
-      where
-        at : (t : Bool) → has_bit m b ≡ t → has_bit (next l) b ≡ true
-        at false e = before l b other was
-          where
-            was : is_free (column xs b) l ≡ true
-            was = subst (λ c. is_free c l ≡ true) (kept b e) h
-
-            other : key_eq l q ≡ false
-            other =
-                false_from_ne_true _ (λ t. absurd
-                (clash (sym was ∙ ap (is_free (column xs b)) (key_eq_same l q t)
-                ∙ sym (popped_bits old rest q m xs d.free p b) ∙ e)))
-        at true e = by (conflicts q l) refl
-          where
-            left : is_free (without_principal q.0 (column xs b)) l ≡ true
-            left = subst (λ c. is_free c l ≡ true) (taken b e) h
-
-            other : principal_eq l.0 q.0 ≡ false
-            other =
-                false_from_ne_true _ (λ t. absurd
-                (lacks_free (column xs b) q.0 l.1
-                (subst (λ v. is_free (without_principal q.0 (column xs b)) (v, l.1) ≡ true)
-                (principal_eq_same l.0 q.0 t) left)))
-
-            by : (t : Bool) → conflicts q l ≡ t → has_bit (next l) b ≡ true
-            by false c =
-                let mine : is_free (column xs b) (q.0, q.1) ≡ true =
-                sym (popped_bits old rest q m xs d.free p b) ∙ e in
-                before l b (rw other refl) (free_back (column xs b) q.0 q.1 l (d.once b) mine
-                c left)
-            by true c =
-                let both = and_parts (may_overlap q.0 l.0) (not (kind_eq q.1 l.1)) c in
-                let kind : l.1 ≡ other_kind q.1 = kinds_differ q.1 l.1 both.1 in
-                let whole_pair : (l.0, other_kind q.1) ≡ l = ap (λ v. (l.0, v)) (sym kind) in
-                let low : b < 21 =
-                ⊎_elim (λ g. g) (λ g. absurd (clash (sym e ∙ popped_low whole out old rest q m xs d p b g)))
-                (cases_lt b 21) in
-                subst (λ v. has_bit (next v) b ≡ true) whole_pair
-                (f.all l.0 b low e (one_is_other q.0 l.0 both.0 other)
-                (subst (λ v. is_free (column (take_out q.0 m xs) b) v ≡ true) (sym whole_pair) h))
+-- after a turn just the free keys are marked
+holds_on : {whole : List Ace} {out : List Emitted} {old rest next : Marked} {q : ColumnKey} {m : ℕ} {xs : List Ace}
+    → IsTurn whole out old rest next q m xs → HoldsFree next (take_out q.0 m xs)
+holds_on {whole} {out} {old} {rest} {next} {q} {m} {xs} h l b =
+    same_answers (has_bit (next l) b) (is_free (column (take_out q.0 m xs) b) l)
+    (λ marked. ⊎_elim (λ k. marked_free h l b k) (λ k. k) (h.frees.grows.sound l b marked))
+    (λ free. at (has_bit m b) refl free)
+  where
+    at : (t : Bool) → has_bit m b ≡ t → is_free (column (take_out q.0 m xs) b) l ≡ true → has_bit (next l) b ≡ true
+    at true e free = free_taken h l b e free
+    at false e free = free_kept h l b e free
 
 -- a turn keeps what the loop keeps
 pub drain_on : (whole : List Ace) (out more : List Emitted) (old rest next : Marked) (q : ColumnKey) (m : ℕ)
@@ -258,12 +290,12 @@ pub drain_on : (whole : List Ace) (out more : List Emitted) (old rest next : Mar
     → Drains whole more next (take_out q.0 m xs)
 drain_on whole out more old rest next q m xs a d p is same f =
     let step =
-    subst (λ v. IsStep xs v (take_out q.0 m xs)) (sym same) (steps whole out old rest q m xs d p) in
+    subst (λ v. IsStep xs v (take_out q.0 m xs)) (sym same) (popped_first whole out old rest q m xs d p) in
     record {
       once = once_taken q.0 m xs d.once;
       low = low_taken q.0 m xs d.low;
       rights = λ b none. none_taken q.0 m xs b (d.rights b none);
-      free = holds_on whole out old rest next q m xs d p f;
+      free = holds_on (record { drains = d; pop = p; frees = f });
       completes = completes_more whole out more xs (take_out q.0 m xs) a is d.once step d.completes;
     }
 

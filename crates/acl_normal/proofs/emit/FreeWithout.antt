@@ -51,6 +51,16 @@ free_without ((s, i) ∷ c) p l n free =
         (not (conflicts (s, i) l) && is_free (without_principal p c) l)
         (and_from (not (conflicts (s, i) l)) (is_free (without_principal p c) l) both.0 (ih both.1)))
 
+-- if the first key of a column has the principal of a free key, it has its kind too
+free_kind : (s p : Principal) (i j : Kind) (c : Column) → principal_eq s p ≡ true
+    → ((principal_eq s p && kind_eq i j) ≡ true) ⊎ ((not (conflicts (s, i) (p, j)) && is_free c (p, j)) ≡ true)
+    → i ≡ j
+free_kind s p i j c e (inl f) = kind_eq_same i j (and_parts (principal_eq s p) (kind_eq i j) f).1
+free_kind s p i j c e (inr f) =
+    let same : s ≡ p = principal_eq_same s p e in
+    no_conflict s p i j (subst (λ v. may_overlap s v ≡ true) same (overlaps_itself s))
+    (and_parts (not (conflicts (s, i) (p, j))) (is_free c (p, j)) f).0
+
 -- a key that does not conflict with a free one was free before it was taken out
 pub free_back : (c : Column) (p : Principal) (j : Kind) (l : ColumnKey) → IsOnce c → is_free c (p, j) ≡ true
     → conflicts (p, j) l ≡ false → is_free (without_principal p c) l ≡ true → is_free c l ≡ true
@@ -59,15 +69,6 @@ free_back ((s, i) ∷ c) p j l once free apart left =
     go (principal_eq s p) refl (or_cases (principal_eq s p && kind_eq i j)
     (not (conflicts (s, i) (p, j)) && is_free c (p, j)) free) (free_back c p j l once.1)
   where
-    kind : principal_eq s p ≡ true
-        → ((principal_eq s p && kind_eq i j) ≡ true) ⊎ ((not (conflicts (s, i) (p, j)) && is_free c (p, j)) ≡ true)
-        → i ≡ j
-    kind e (inl f) = kind_eq_same i j (and_parts (principal_eq s p) (kind_eq i j) f).1
-    kind e (inr f) =
-        let same : s ≡ p = principal_eq_same s p e in
-        no_conflict s p i j (subst (λ v. may_overlap s v ≡ true) same (overlaps_itself s))
-        (and_parts (not (conflicts (s, i) (p, j))) (is_free c (p, j)) f).0
-
     go : (t : Bool) → principal_eq s p ≡ t
         → ((principal_eq s p && kind_eq i j) ≡ true) ⊎ ((not (conflicts (s, i) (p, j)) && is_free c (p, j)) ≡ true)
         → (is_free c (p, j) ≡ true → conflicts (p, j) l ≡ false → is_free (without_principal p c) l ≡ true → is_free
@@ -76,7 +77,7 @@ free_back ((s, i) ∷ c) p j l once free apart left =
         let same : s ≡ p = principal_eq_same s p e in
         let alone = without_absent p c (subst (λ v. first_kind (is_either v v) c ≡ None) same once.0) in
         let rest : is_free (without_principal p c) l ≡ true = rw e at left in
-        let clear : conflicts (s, i) l ≡ false = rw (same, kind e f) apart in
+        let clear : conflicts (s, i) l ≡ false = rw (same, free_kind s p i j c e f) apart in
         or_right (principal_eq s l.0 && kind_eq i l.1) (not (conflicts (s, i) l) && is_free c l)
         (and_from (not (conflicts (s, i) l)) (is_free c l) (ap not clear)
         (subst (λ v. is_free v l ≡ true) alone rest))

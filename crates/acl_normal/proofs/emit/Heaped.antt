@@ -74,9 +74,9 @@ popped_times heap rest r n m is moved =
     ∙ ap (λ w. cond (w == m) 1 0 + times m rest) is
 
 -- what is popped has bits
-pub popped_some : (bits : List ℕ) (heap rest : List (Reverse ℕ)) (r : Reverse ℕ) (n : ℕ) → IsHeapOf bits heap → r.0 ≡ n
+pub popped_some : {bits : List ℕ} {heap rest : List (Reverse ℕ)} {r : Reverse ℕ} {n : ℕ} → IsHeapOf bits heap → r.0 ≡ n
     → IsPermutation heap (r ∷ rest) → slice_index_or bits n 0 ≢ 0
-popped_some bits heap rest r n h is moved =
+popped_some {bits} {heap} {rest} {r} {n} h is moved =
     counted_some bits heap n (times n rest) h
     (popped_times heap rest r n n is moved ∙ rw (eq-eqb n n refl) (one_more (times n rest)))
 
@@ -90,7 +90,7 @@ heap_popped bits new heap rest r n h is moved pops set = record {
 }
   where
     some : slice_index_or bits n 0 ≢ 0
-    some = popped_some bits heap rest r n h is moved
+    some = popped_some h is moved
 
     go : (m : ℕ) → (m ≡ n) ⊎ (m ≡ n → ⊥) → times m heap ≡ cond (n == m) 1 0 + times m rest
         → times m rest ≡ cond (slice_index_or new m 0 == 0) 0 1

@@ -1,5 +1,5 @@
 -- What remains of a list, by its fields.
-use Rattle.acl_normal.proofs.Common.{Ace, AceRef, aces_in, all_rights, ap, AreRowNumbers, arith, bit_and, mask_numbers, column, Inside, IsRemaining, IsRowOf, IsTidy, key_here, length, List, Mask, mask_here, masks_left, nothing_left, Principal, remaining_of, row_of, slice_index_or, slice_set, subst, sym, take_out, vec_len, with_masks, without, ℕ, ◌<◌, ◌^◌, ◌∙◌, ◌≡◌, get_or_default}
+use Rattle.acl_normal.proofs.Common.{aces_with, Ace, AceRef, aces_in, all_rights, ap, AreRowNumbers, arith, bit_and, mask_numbers, column, Inside, IsRemaining, IsRowOf, IsTidy, key_here, length, List, Mask, mask_here, masks_left, nothing_left, Principal, remaining_of, row_of, slice_index_or, slice_set, subst, sym, take_out, vec_len, with_masks, without, ℕ, ◌<◌, ◌^◌, ◌∙◌, ◌≡◌, get_or_default}
 use Rattle.std.specs.Vec.{with_item}
 use Rattle.acl_normal.specs.internal.rows.Remaining.{IsNumbered}
 use Rattle.acl_normal.proofs.emit.RemainingLemmas.{all_left, left_at, length_left, mask_shown, row_taken}
@@ -124,14 +124,14 @@ taken_right s row m mask p right at_row is = record {
 
 -- if each row has all rights left, all masks remain
 pub all_remains : (aces : List AceRef) (masks : List Mask) (rows left : List ℕ) → length masks ≡ length aces
-    → length left ≡ length aces → AreRowNumbers (with_masks aces (mask_numbers masks)) rows
+    → length left ≡ length aces → AreRowNumbers (aces_with aces masks) rows
     → ((i : ℕ) → i < length left → slice_index_or left i 0 ≡ all_rights)
     → masks_left (mask_numbers masks) rows left ≡ mask_numbers masks
 all_remains aces masks rows left e f numbers full =
     all_left (mask_numbers masks) rows left (omega (arith, numbers.count, count, shown)) here
   where
     xs : List Ace
-    xs = with_masks aces (mask_numbers masks)
+    xs = aces_with aces masks
 
     shown : length (mask_numbers masks) ≡ length aces
     shown = bits_length masks ∙ e
@@ -152,7 +152,7 @@ all_remains aces masks rows left e f numbers full =
 -- the fields of a list from which nothing was emitted yet are right
 pub begins_right : (s : Inside) → length s.aces.items < 2 ^ 32 → vec_len s.masks ≡ length s.aces.items
     → vec_len s.left ≡ length s.aces.items
-    → IsNumbered (with_masks s.aces.items (mask_numbers s.masks.items)) s.rows.items s.order.items
+    → IsNumbered (aces_with s.aces.items s.masks.items) s.rows.items s.order.items
     → masks_left (mask_numbers s.masks.items) s.rows.items (mask_numbers s.left.items) ≡ mask_numbers s.masks.items
     → IsRemaining s
 begins_right s few masks left reduced all = record {
@@ -162,5 +162,5 @@ begins_right s few masks left reduced all = record {
   list = subst (λ v. IsNumbered v s.rows.items s.order.items) view reduced;
 }
   where
-    view : with_masks s.aces.items (mask_numbers s.masks.items) ≡ remaining_of s
+    view : aces_with s.aces.items s.masks.items ≡ remaining_of s
     view = ap (with_masks s.aces.items) (sym all)

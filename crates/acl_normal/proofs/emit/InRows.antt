@@ -28,13 +28,13 @@ rows_turn whole xs next out new e q m keeps pushed row taken = record {
 }
 
 -- a turn keeps what the loop keeps and the rows
-pub turned : (whole xs next : List Ace) (out new : List Emitted) (e : Emitted) (old rest more : List ℕ)
+pub turn_in_rows : (whole xs next : List Ace) (out new : List Emitted) (e : Emitted) (old rest more : List ℕ)
     (q : ColumnKey) (m : ℕ)
     → Drains whole out (marks (nothing_left xs) old) xs → TakesBits xs old rest e.row q m → KeepsRows whole xs out
     → new ≡ out ++ e ∷ [] → emitted_ace e ≡ emitted q m → next ≡ take_out q.0 m xs
     → Frees q m next (marks (nothing_left next) rest) (marks (nothing_left next) more)
     → Drains whole new (marks (nothing_left next) more) next × KeepsRows whole next new
-turned whole xs next out new e old rest more q m drains takes keeps pushed is taken frees =
+turn_in_rows whole xs next out new e old rest more q m drains takes keeps pushed is taken frees =
     let named = popped_named whole out _ _ q m xs drains takes.popped in
     let principal : principal_of (emitted_ace e) ≡ q.0 = ap principal_of is ∙ emitted_principal q m named in (
       drain_turn whole out new old rest more e.row m q xs next e drains takes pushed is taken frees,

@@ -3,7 +3,7 @@ use Rattle.acl_normal.proofs.Common.{[], Ace, ace_key, all_rights, ap, arith, bi
 use mathlib.Core.Logic.Iff.{symm, trans}
 use Rattle.acl_normal.proofs.unique.Names.{overlaps_itself, either_first, principal_eq_itself, principal_eq_same}
 use Rattle.acl_normal.proofs.unique.ListColumns.{same_grants_from_columns}
-use Rattle.acl_normal.proofs.unique.Unique.{unique}
+use Rattle.acl_normal.proofs.unique.Unique.{normal_unique}
 use Rattle.acl_normal.proofs.unique.Normal.{emission_of_irreducible, quiet_flags, column_quiet}
 use Rattle.acl_normal.proofs.unique.Invariant.{alike_without}
 use Rattle.acl_normal.proofs.unique.Shorter.{without_absent, once_without}
@@ -87,7 +87,7 @@ pub left_only : (xs ns : List Ace) → IsIrreducibleList (left xs) → IsEmissio
     → SameGrants all_rights xs ms → ms ≡ ns
 left_only xs ns irr e ms normal same =
     let both = left_normal xs ns irr e in
-    unique ms ns normal both.0 (λ s valid request within. trans (symm (same s valid request within))
+    normal_unique ms ns normal both.0 (λ s valid request within. trans (symm (same s valid request within))
     (both.1 s valid request within))
 
 -- a column without one of its principals has one key less

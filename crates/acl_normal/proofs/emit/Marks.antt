@@ -152,10 +152,10 @@ nothing_marked xs bits none k = go (is_principal_of k.0 xs) refl
     go false e = rw e refl
 
 -- if a bit is added at the number of a key, it is marked at that key
-pub adds : (xs : List Ace) (old new : List ℕ) (n bit : ℕ) (k : ColumnKey) → is_principal_of k.0 xs ≡ true
+pub bit_added : (xs : List Ace) (old new : List ℕ) (n bit : ℕ) (k : ColumnKey) → is_principal_of k.0 xs ≡ true
     → n ≡ key_number k xs → n < length old
     → new ≡ slice_set old n (bit_or (slice_index_or old n 0) (2 ^ bit)) → AddsMark k bit (marks xs old) (marks xs new)
-adds xs old new n bit k named is within set = record {
+bit_added xs old new n bit k named is within set = record {
   bits =
       λ l b. ap (λ v. has_bit v b)
       (mark_written xs old new n (bit_or (slice_index_or old n 0) (2 ^ bit)) k l named is within set)

@@ -44,9 +44,9 @@ frees_on_absent k bits xs old new n f none = record {
         f.all q b (⊎_elim (λ g. g) (λ g. absurd (d (omega (arith, g, l)))) (cases_lt b n)) has class free
 
 -- if no bit from m up to n was taken out, no key becomes free at them
-pub frees_up_to : (k : ColumnKey) (bits : ℕ) (xs : List Ace) (old new : Marked) (m n : ℕ) → m ≤ n → LacksFrom bits m n
+pub frees_up_to : {k : ColumnKey} {bits : ℕ} {xs : List Ace} {old new : Marked} {m n : ℕ} → m ≤ n → LacksFrom bits m n
     → FreesBelow k bits xs old new m → FreesBelow k bits xs old new n
-frees_up_to k bits xs old new m n from lacks f =
+frees_up_to {k} {bits} {xs} {old} {new} {m} {n} from lacks f =
     past_absent (FreesBelow k bits xs old new) bits m n (frees_on_absent k bits xs old new) from lacks f
 
 -- if the keys that are free at bit n are marked, those at the bits below n + 1 are
@@ -70,18 +70,18 @@ frees_on k bits xs old new next n f g here = record {
         (⊎_elim (λ g. g) (λ g. absurd (d (omega (arith, g, l)))) (cases_lt b n)) has class free)
 
 -- at bit n only keys of others become free if the key that was taken out is of a user
-pub frees_on_user : (k : ColumnKey) (j : Kind) (bits : ℕ) (xs : List Ace) (old new next : Marked) (n : ℕ)
+pub frees_on_user : {k : ColumnKey} {j : Kind} {bits : ℕ} {xs : List Ace} {old new next : Marked} {n : ℕ}
     → j ≡ other_kind k.1 → FreesBelow k bits xs old new n → is_user k.0 ≡ true → Enters j false n xs new next
     → FreesBelow k bits xs old next (n + 1)
-frees_on_user k j bits xs old new next n is f user entered =
+frees_on_user {k} {j} {bits} {xs} {old} {new} {next} {n} is f user entered =
     let e = subst (λ v. Enters v false n xs new next) is entered in
     frees_on k bits xs old new next n f e.grows (λ q class free. e.all q (rw user at class) free)
 
 -- at bit n keys of both classes become free if the key that was taken out is of no user
-pub frees_on_other : (k : ColumnKey) (j : Kind) (bits : ℕ) (xs : List Ace) (old new mid next : Marked) (n : ℕ)
+pub frees_on_other : {k : ColumnKey} {j : Kind} {bits : ℕ} {xs : List Ace} {old new mid next : Marked} {n : ℕ}
     → j ≡ other_kind k.1 → FreesBelow k bits xs old new n → Enters j false n xs new mid → Enters j true n xs mid next
     → FreesBelow k bits xs old next (n + 1)
-frees_on_other k j bits xs old new mid next n is f others users =
+frees_on_other {k} {j} {bits} {xs} {old} {new} {mid} {next} {n} is f others users =
     frees_on k bits xs old new next n f (grows_on xs new mid next e.grows g.grows)
     (λ q class free. go q free (is_user q) refl)
   where
@@ -97,6 +97,6 @@ frees_on_other k j bits xs old new mid next n is f others users =
     go q free false u = g.grows.kept (q, other_kind k.1) n (e.all q u free)
 
 -- after the last bit all keys that become free are marked
-pub frees_all : (k : ColumnKey) (bits : ℕ) (xs : List Ace) (old new : Marked) (n : ℕ) → FreesBelow k bits xs old new n
+pub frees_all : {k : ColumnKey} {bits : ℕ} {xs : List Ace} {old new : Marked} (n : ℕ) → FreesBelow k bits xs old new n
     → 21 ≤ n → Frees k bits xs old new
-frees_all k bits xs old new n f l = record { grows = f.grows; all = λ q b h. f.all q b (omega (arith, h, l)) }
+frees_all n f l = record { grows = f.grows; all = λ q b h. f.all q b (omega (arith, h, l)) }

@@ -31,12 +31,12 @@ noted_more n m b i (inl h) = inl h
 noted_more n m b i (inr h) = inr (h.0, omega (arith, h.1))
 
 -- if what waits is noted at one pair of bounds if and only if it is at another, its chain serves for both
-noted_as : (k : Kind) (u : Bool) (b : ℕ) (xs : List Ace) (n m i j : ℕ) (links more : List Link) (at : ℕ)
+noted_as : (k : Kind) (u : Bool) (b : ℕ) (xs : List Ace) (n m i j : ℕ) {links more : List Link} {at : ℕ}
     → ((places : List ℕ) → IsChain links at places → IsChain more at places)
     → ((place : ℕ) → IsNoted n m b place → IsNoted i j b place)
     → ((place : ℕ) → waits k u b xs place ≡ true → IsNoted i j b place → IsNoted n m b place)
     → IsNotedAt k u b xs n m links at → IsNotedAt k u b xs i j more at
-noted_as k u b xs n m i j links more at chain there back q = record {
+noted_as k u b xs n m i j chain there back q = record {
   places = q.places;
   chain = chain q.places q.chain;
   sorted = q.sorted;
@@ -72,7 +72,7 @@ noted_skip xs place m queues lacks qs = record {
   slots = qs.slots;
   some = qs.some;
   each = λ k u b l.
-      noted_as k u b xs (place + 1) m (place + 1) (m + 1) _ _ _ (λ places chain. chain) (noted_more (place + 1) m b)
+      noted_as k u b xs (place + 1) m (place + 1) (m + 1) (λ places chain. chain) (noted_more (place + 1) m b)
       (less k u b) (qs.each k u b l);
 }
   where
@@ -89,11 +89,64 @@ noted_skip xs place m queues lacks qs = record {
             cc (sym has ∙ lacks)
 
 -- if the place lacks the bits from m up to n, the queues with it below m are those with it below n
-pub noted_up_to : (xs : List Ace) (place mask m n : ℕ) (queues : Queues) → mask ≡ mask_here xs place → m ≤ n
+pub noted_up_to : (xs : List Ace) (place : ℕ) {mask m n : ℕ} (queues : Queues) → mask ≡ mask_here xs place → m ≤ n
     → LacksFrom mask m n → AreNoted xs (place + 1) m queues → AreNoted xs (place + 1) n queues
-noted_up_to xs place mask m n queues is from lacks qs =
+noted_up_to xs place {mask} {m} {n} queues is from lacks qs =
     past_absent (λ v. AreNoted xs (place + 1) v queues) mask m n
     (λ v so none. noted_skip xs place v queues (ap (λ w. has_bit w v) (sym is) ∙ none) so) from lacks qs
+
+-- a queue of another slot than the one into which the place was put has what it had
+noted_elsewhere : (kind : Kind) (users : Bool) (xs : List Ace) (place m : ℕ) (k : Kind) (u : Bool) (b : ℕ)
+    {links : List Link} {at : ℕ} (link : Link) → waits kind users m xs place ≡ true
+    → (slot_of k u b ≡ slot_of kind users m → ⊥) → IsNotedAt k u b xs (place + 1) m links at
+    → IsNotedAt k u b xs (place + 1) (m + 1) (links ++ link ∷ []) at
+noted_elsewhere kind users xs place m k u b {links} {at} link waiting d =
+    noted_as k u b xs (place + 1) m (place + 1) (m + 1) (chain_grows links link at) (noted_more (place + 1) m b) less
+  where
+    less : (i : ℕ) → waits k u b xs i ≡ true → IsNoted (place + 1) (m + 1) b i → IsNoted (place + 1) m b i
+    less i w (inl h) = inl h
+    less i w (inr h) =
+        ⊎_elim (λ l. inr (h.0, l)) (λ g. absurd (clash (omega (arith, g, h.1)))) (cases_lt b m)
+      where
+        clash : b ≡ m → ⊥
+        clash e =
+            let here = waits_key kind users m xs place waiting in
+            let there = waits_key k u b xs i w in
+            let same : i ≡ place = omega (arith, h.0) in
+            d (ap (λ v. slot_of v u b) (sym there.0 ∙ ap (kind_here xs) same ∙ here.0)
+            ∙ ap (λ v. slot_of kind v b) (sym there.1 ∙ ap (λ v. is_user (principal_here xs v)) same ∙ here.1)
+            ∙ ap (slot_of kind users) e)
+
+-- with the place in front, a queue has the places that wait with its bit from this place on
+noted_front : (kind : Kind) (users : Bool) (xs : List Ace) (place m : ℕ) {links : List Link} {at : ℕ}
+    → waits kind users m xs place ≡ true → 0 < length links
+    → IsNotedAt kind users m xs (place + 1) m links at
+    → IsNotedAt kind users m xs (place + 1) (m + 1) (links ++ record { place = place; next = at } ∷ []) (length links)
+noted_front kind users xs place m {links} {at} waiting some q = record {
+  places = place ∷ q.places;
+  chain = chain_put links place at q.places some q.chain;
+  sorted = sorted_before place q.places q.sorted (λ j h. behind j (q.noted j h));
+  noted = λ i h. ⊎_elim (λ e. here i (is_eq_same i place e)) (λ e. noted_more (place + 1) m m i (q.noted i e))
+      (or_cases (is_at (nat_cmp i) place) (list_any (is_at (nat_cmp i)) q.places) h);
+  waiting = λ i h. ⊎_elim (λ e. ap (waits kind users m xs) (is_eq_same i place e) ∙ waiting) (λ e. q.waiting i e)
+      (or_cases (is_at (nat_cmp i) place) (list_any (is_at (nat_cmp i)) q.places) h);
+  all = λ i noted w. listed i noted w;
+}
+  where
+    behind : (j : ℕ) → IsNoted (place + 1) m m j → place < j
+    behind j (inl h) = omega (arith, h)
+    behind j (inr h) = absurd (omega (arith, h.1))
+
+    here : (i : ℕ) → i ≡ place → IsNoted (place + 1) (m + 1) m i
+    here i e = inr (omega (arith, e), omega arith)
+
+    listed : (i : ℕ) → IsNoted (place + 1) (m + 1) m i → waits kind users m xs i ≡ true
+        → list_any (is_at (nat_cmp i)) (place ∷ q.places) ≡ true
+    listed i (inl h) w =
+        or_right (is_at (nat_cmp i) place) (list_any (is_at (nat_cmp i)) q.places) (q.all i (inl h) w)
+    listed i (inr h) w =
+        let same : i ≡ place = omega (arith, h.0) in
+        ap (λ v. list_any (is_at (nat_cmp v)) (place ∷ q.places)) same ∙ front_in place q.places
 
 -- if the place was put into the queue of bit m, its bits below m + 1 are noted
 pub noted_on : (kind : Kind) (users : Bool) (xs : List Ace) (place m : ℕ) (old new : Queues)
@@ -108,65 +161,13 @@ noted_on kind users xs place m old new waiting low puts qs = record {
     link : Link
     link = record { place = place; next = head_in old (slot_of kind users m) }
 
-    links : List Link
-    links = old.links.items ++ link ∷ []
-
-    kept : (k : Kind) (u : Bool) (b : ℕ) → (slot_of k u b ≡ slot_of kind users m → ⊥)
-        → IsNotedAt k u b xs (place + 1) m old.links.items (head_in old (slot_of k u b))
-        → IsNotedAt k u b xs (place + 1) (m + 1) links (head_in old (slot_of k u b))
-    kept k u b d =
-        noted_as k u b xs (place + 1) m (place + 1) (m + 1) _ _ _
-        (chain_grows old.links.items link (head_in old (slot_of k u b))) (noted_more (place + 1) m b) less
-      where
-        less : (i : ℕ) → waits k u b xs i ≡ true → IsNoted (place + 1) (m + 1) b i → IsNoted (place + 1) m b i
-        less i w (inl h) = inl h
-        less i w (inr h) =
-            ⊎_elim (λ l. inr (h.0, l)) (λ g. absurd (clash (omega (arith, g, h.1)))) (cases_lt b m)
-          where
-            clash : b ≡ m → ⊥
-            clash e =
-                let here = waits_key kind users m xs place waiting in
-                let there = waits_key k u b xs i w in
-                let same : i ≡ place = omega (arith, h.0) in
-                d (ap (λ v. slot_of v u b) (sym there.0 ∙ ap (kind_here xs) same ∙ here.0)
-                ∙ ap (λ v. slot_of kind v b) (sym there.1 ∙ ap (λ v. is_user (principal_here xs v)) same ∙ here.1)
-                ∙ ap (slot_of kind users) e)
-
-    put : IsNotedAt kind users m xs (place + 1) m old.links.items (head_in old (slot_of kind users m))
-        → IsNotedAt kind users m xs (place + 1) (m + 1) links (length old.links.items)
-    put q = record {
-      places = place ∷ q.places;
-      chain = chain_put old.links.items place (head_in old (slot_of kind users m)) q.places qs.some q.chain;
-      sorted = sorted_before place q.places q.sorted (λ j h. behind j (q.noted j h));
-      noted = λ i h. ⊎_elim (λ e. here i (is_eq_same i place e)) (λ e. noted_more (place + 1) m m i (q.noted i e))
-          (or_cases (is_at (nat_cmp i) place) (list_any (is_at (nat_cmp i)) q.places) h);
-      waiting = λ i h. ⊎_elim (λ e. ap (waits kind users m xs) (is_eq_same i place e) ∙ waiting) (λ e. q.waiting i e)
-          (or_cases (is_at (nat_cmp i) place) (list_any (is_at (nat_cmp i)) q.places) h);
-      all = λ i noted w. listed i noted w;
-    }
-      where
-        behind : (j : ℕ) → IsNoted (place + 1) m m j → place < j
-        behind j (inl h) = omega (arith, h)
-        behind j (inr h) = absurd (omega (arith, h.1))
-
-        here : (i : ℕ) → i ≡ place → IsNoted (place + 1) (m + 1) m i
-        here i e = inr (omega (arith, e), omega arith)
-
-        listed : (i : ℕ) → IsNoted (place + 1) (m + 1) m i → waits kind users m xs i ≡ true
-            → list_any (is_at (nat_cmp i)) (place ∷ q.places) ≡ true
-        listed i (inl h) w =
-            or_right (is_at (nat_cmp i) place) (list_any (is_at (nat_cmp i)) q.places) (q.all i (inl h) w)
-        listed i (inr h) w =
-            let same : i ≡ place = omega (arith, h.0) in
-            ap (λ v. list_any (is_at (nat_cmp v)) (place ∷ q.places)) same ∙ front_in place q.places
-
     from : (k : Kind) (u : Bool) (b : ℕ) → b < 21
         → (slot_of k u b ≡ slot_of kind users m) ⊎ (slot_of k u b ≡ slot_of kind users m → ⊥)
-        → IsNotedAt k u b xs (place + 1) (m + 1) links (head_in new (slot_of k u b))
+        → IsNotedAt k u b xs (place + 1) (m + 1) (old.links.items ++ link ∷ []) (head_in new (slot_of k u b))
     from k u b l (inr d) =
-        subst (IsNotedAt k u b xs (place + 1) (m + 1) links)
+        subst (IsNotedAt k u b xs (place + 1) (m + 1) (old.links.items ++ link ∷ []))
         (sym (head_kept old new (slot_of kind users m) (length old.links.items) (slot_of k u b) puts.heads d))
-        (kept k u b d (qs.each k u b l))
+        (noted_elsewhere kind users xs place m k u b link waiting d (qs.each k u b l))
     from k u b l (inl e) =
         let parts = slot_same k kind u users b m e in
         rw (
@@ -176,7 +177,7 @@ noted_on kind users xs place m old new waiting low puts qs = record {
           parts.0,
           parts.1,
           parts.2,
-        ) (put (qs.each kind users m low))
+        ) (noted_front kind users xs place m waiting qs.some (qs.each kind users m low))
 
 -- when all bits of a place are noted, the places from it on are
 pub noted_place : (xs : List Ace) (place : ℕ) (queues : Queues) → AreNoted xs (place + 1) 21 queues
@@ -185,7 +186,7 @@ noted_place xs place queues qs = record {
   slots = qs.slots;
   some = qs.some;
   each = λ k u b l.
-      noted_as k u b xs (place + 1) 21 place 0 _ _ _ (λ places chain. chain) (λ i h. inl (from i b h))
+      noted_as k u b xs (place + 1) 21 place 0 (λ places chain. chain) (λ i h. inl (from i b h))
       (λ i w noted. back i b l noted) (qs.each k u b l);
 }
   where

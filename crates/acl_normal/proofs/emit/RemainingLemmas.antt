@@ -66,6 +66,16 @@ nothing_without : (n : ℕ) → without 0 n ≡ 0
 nothing_without n =
     masks_same _ _ (λ b. has_bit-without 0 n b ∙ rw (no_bits_of_zero b) refl)
 
+-- what is left of a row's mask loses the bits that are taken out of the row
+mask_taken : (m row n r : ℕ) (left : List ℕ) → row < length left → r ≡ row
+    → bit_and n (slice_index_or (slice_set left row (without (slice_index_or left row 0) m)) r 0)
+    ≡ without (bit_and n (slice_index_or left r 0)) m
+mask_taken m row n r left l s =
+    ap (λ v. bit_and n (slice_index_or (slice_set left row (without (slice_index_or left row 0) m)) v 0)) s
+    ∙ ap (bit_and n) (get_or-set_same left row (without (slice_index_or left row 0) m) 0 l)
+    ∙ ap (λ v. bit_and n (without (slice_index_or left v 0) m)) (sym s)
+    ∙ and_without n (slice_index_or left r 0) m
+
 -- if a row leaves out bits, the list is without these bits of its principal
 pub row_taken : (p : Principal) (m row : ℕ) (aces : List AceRef) (masks rows left : List ℕ) → row < length left
     → length rows ≡ length masks → IsQuiet (with_masks aces (masks_left masks rows left))
@@ -96,15 +106,8 @@ row_taken p m row (x ∷ aces) (n ∷ masks) (r ∷ rows) left l e quiet there b
       where
         apart : principal_eq (principal_of head) p ≡ false
         apart = false_from_ne_true _ (λ t. d (back 0 (omega arith) (principal_eq_same (principal_of head) p t)))
-    here (inl s) = ap (masked (ace x)) mask ∙ go (is_inherit_only head) refl
+    here (inl s) = ap (masked (ace x)) (mask_taken m row n r left l s) ∙ go (is_inherit_only head) refl
       where
-        mask : bit_and n (slice_index_or new r 0) ≡ without (bit_and n (slice_index_or left r 0)) m
-        mask =
-            ap (λ v. bit_and n (slice_index_or new v 0)) s
-            ∙ ap (bit_and n) (get_or-set_same left row (without (slice_index_or left row 0) m) 0 l)
-            ∙ ap (λ v. bit_and n (without (slice_index_or left v 0) m)) (sym s)
-            ∙ and_without n (slice_index_or left r 0) m
-
         named : principal_eq (principal_of head) p ≡ true
         named = ap (λ v. principal_eq v p) (there 0 (omega arith) s) ∙ principal_eq_itself p
 
@@ -127,13 +130,13 @@ waits_has k u b (a ∷ xs) zero h =
 waits_has k u b (a ∷ xs) (suc i) h = waits_has k u b xs i h
 
 -- a place that waits after bits were taken out has waited before
-pub waited : (k : Kind) (u : Bool) (b : ℕ) (p : Principal) (m : ℕ) (xs : List Ace) (i : ℕ)
+pub waited_before : (k : Kind) (u : Bool) (b : ℕ) (p : Principal) (m : ℕ) (xs : List Ace) (i : ℕ)
     → waits k u b (take_out p m xs) i ≡ true → waits k u b xs i ≡ true
-waited k u b p m [] i h = h
-waited k u b p m (a ∷ xs) zero h =
+waited_before k u b p m [] i h = h
+waited_before k u b p m (a ∷ xs) zero h =
     let parts = and_parts (is_waiting k u b a) _ (sym (waiting_left k u b p m a) ∙ h) in
     parts.0
-waited k u b p m (a ∷ xs) (suc i) h = waited k u b p m xs i h
+waited_before k u b p m (a ∷ xs) (suc i) h = waited_before k u b p m xs i h
 
 -- a place that waits if and only if it has the bit does so after bits were taken out
 pub listed_taken : (k : Kind) (u : Bool) (b : ℕ) (p : Principal) (m : ℕ) (xs : List Ace) (i : ℕ)
@@ -160,7 +163,7 @@ queue_taken k u b p m xs places q = record {
   sorted = q.sorted;
   within = λ i h. omega (arith, q.within i h, length_alike (take_out p m xs) xs (outline_taken p m xs));
   listed = λ i h. listed_taken k u b p m xs i (q.listed i h);
-  all = λ i h. q.all i (waited k u b p m xs i h);
+  all = λ i h. q.all i (waited_before k u b p m xs i h);
 }
 
 -- a queue whose first place no longer waits continues after that place

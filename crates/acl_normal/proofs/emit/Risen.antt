@@ -1,5 +1,5 @@
 -- The numbers of the keys show whether they rise, and the list without its empty ACEs is made place by place.
-use Rattle.acl_normal.proofs.Common.{Ace, AceRef, AllByRecursion, AreRowNumbers, Bool, ColumnKey, Equal, Greater, HasRisen, IsAccepted, IsNormalFormOf, IsReducedOf, Less, List, Mask, Ordering, [], ace_key, all_cleared, ap, arith, cleared, compare_keys, drop, eqb-false, false, full, is_le, is_principal_of, key_here, key_number, key_order, key_record, kind_rank, left, length, map-append, mask_here, mask_numbers, ne_eqb, refl, slice_index_or, subst, suc, sym, take, take_all, take_more, true, with_masks, zero, ℕ, ⊎_elim, ◌*◌, ◌++◌, ◌+◌, ◌<◌, ◌==◌, ◌∙◌, ◌∷◌, ◌≡◌, ◌≢◌, ◌≤◌}
+use Rattle.acl_normal.proofs.Common.{aces_with, Ace, AceRef, AllByRecursion, AreRowNumbers, Bool, ColumnKey, Equal, Greater, HasRisen, IsAccepted, IsNormalFormOf, IsReducedOf, Less, List, Mask, Ordering, [], ace_key, all_cleared, ap, arith, cleared, compare_keys, drop, eqb-false, false, full, is_le, is_principal_of, key_here, key_number, key_order, key_record, kind_rank, left, length, map-append, mask_here, mask_numbers, ne_eqb, refl, slice_index_or, subst, suc, sym, take, take_all, take_more, true, with_masks, zero, ℕ, ⊎_elim, ◌*◌, ◌++◌, ◌+◌, ◌<◌, ◌==◌, ◌∙◌, ◌∷◌, ◌≡◌, ◌≢◌, ◌≤◌}
 use Rattle.acl_nfs4.proofs.Exports.{front_accepted}
 use Rattle.acl_eval.proofs.Children.{moved}
 use Rattle.acl_normal.specs.internal.emit.Rising.{IsRising}
@@ -127,19 +127,19 @@ pub record HasRow (count place : ℕ) (rows : List ℕ) : Type 0 where
 
 -- the row of a place of a list in memory is there and small
 pub has_row : (aces : List AceRef) (masks : List Mask) (rows : List ℕ) (place : ℕ) → length masks ≡ length aces
-    → AreRowNumbers (with_masks aces (mask_numbers masks)) rows → place < length aces → HasRow (length aces) place rows
+    → AreRowNumbers (aces_with aces masks) rows → place < length aces → HasRow (length aces) place rows
 has_row aces masks rows place same numbers l =
     let count = masked_count aces masks same in
-    let within : place < length (with_masks aces (mask_numbers masks)) = omega (arith, count, l) in
+    let within : place < length (aces_with aces masks) = omega (arith, count, l) in
     record {
       there = omega (arith, count, numbers.count, l);
-      few = omega (arith, count, number_few (with_masks aces (mask_numbers masks)) rows place numbers within);
+      few = omega (arith, count, number_few (aces_with aces masks) rows place numbers within);
     }
 
 -- the code's mask at a place is the mask there
 pub mask_of : (aces : List AceRef) (masks : List Mask) (place : ℕ) (m : Mask) → length masks ≡ length aces
     → place < length aces → m ≡ slice_index_or masks place m
-    → mask_here (with_masks aces (mask_numbers masks)) place ≡ m.bits
+    → mask_here (aces_with aces masks) place ≡ m.bits
 mask_of aces masks place m same l is =
     sym (mask_there aces (mask_numbers masks) place 0 (omega (arith, masked_count aces masks same, l)))
     ∙ bits_at masks place 0 m (omega (arith, same, l)) is
@@ -184,8 +184,8 @@ shown a m = record { kind = a.kind; flags = a.flags.bits; mask = m.bits; who = a
 
 -- the ACE at a place of the shown list is the code's ACE with the mask there
 shown_at : (aces : List AceRef) (masks : List Mask) (i : ℕ) (x : AceRef) (m : Mask) → i < length masks
-    → i < length (with_masks aces (mask_numbers masks)) → x ≡ slice_index_or aces i x → m ≡ slice_index_or masks i m
-    → slice_index_or (with_masks aces (mask_numbers masks)) i (shown x m) ≡ shown x m
+    → i < length (aces_with aces masks) → x ≡ slice_index_or aces i x → m ≡ slice_index_or masks i m
+    → slice_index_or (aces_with aces masks) i (shown x m) ≡ shown x m
 shown_at aces masks i x m within inside is of_mask =
     shown_there aces (mask_numbers masks) i (shown x m) x m.bits inside
     ∙ ap (λ (a : AceRef). record {
@@ -199,15 +199,15 @@ shown_at aces masks i x m within inside is of_mask =
 
 -- an ACE and a mask of the code at one place, and the list that the code shows there
 pub record IsShown (aces : List AceRef) (masks : List Mask) (i : ℕ) (x : AceRef) (m : Mask) : Type 0 where
-  pub within : i < length (with_masks aces (mask_numbers masks))
-  pub item : slice_index_or (with_masks aces (mask_numbers masks)) i (shown x m) ≡ shown x m
-  pub mask : mask_here (with_masks aces (mask_numbers masks)) i ≡ m.bits
+  pub within : i < length (aces_with aces masks)
+  pub item : slice_index_or (aces_with aces masks) i (shown x m) ≡ shown x m
+  pub mask : mask_here (aces_with aces masks) i ≡ m.bits
 
 -- what the code reads at a place is what the shown list has there
-pub shown_here : (aces : List AceRef) (masks : List Mask) (i : ℕ) (x : AceRef) (m : Mask) → length masks ≡ length aces
+pub shown_here : (aces : List AceRef) (masks : List Mask) {i : ℕ} {x : AceRef} {m : Mask} → length masks ≡ length aces
     → i < length aces → x ≡ slice_index_or aces i x → m ≡ slice_index_or masks i m → IsShown aces masks i x m
-shown_here aces masks i x m same l is of_mask =
-    let within : i < length (with_masks aces (mask_numbers masks)) = omega (arith, masked_count aces masks same, l) in
+shown_here aces masks {i} {x} {m} same l is of_mask =
+    let within : i < length (aces_with aces masks) = omega (arith, masked_count aces masks same, l) in
     record {
       within = within;
       item = shown_at aces masks i x m (omega (arith, same, l)) within is of_mask;
@@ -216,14 +216,14 @@ shown_here aces masks i x m same l is of_mask =
 
 -- after the last ACE of the code the shown list has no place
 pub shown_end : (aces : List AceRef) (masks : List Mask) (i : ℕ) → length masks ≡ length aces → length aces ≤ i
-    → length (with_masks aces (mask_numbers masks)) ≤ i
+    → length (aces_with aces masks) ≤ i
 shown_end aces masks i same end = omega (arith, masked_count aces masks same, end)
 
 -- the cleared list of the places before the next one is accepted with the next ACE
-pub next_cleared : (xs : List Ace) (i : ℕ) (e : Ace) (list : List Ace) → IsAccepted full (all_cleared (left xs))
+pub next_cleared : (xs : List Ace) {i : ℕ} {e : Ace} {list : List Ace} → IsAccepted full (all_cleared (left xs))
     → i < length xs → slice_index_or xs i e ≡ e → e.mask ≢ 0 → list ≡ all_cleared (left (take i xs))
     → IsAccepted full (list ++ cleared e ∷ [])
-next_cleared xs i e list ok l is some so =
+next_cleared xs {i} {e} {list} ok l is some so =
     front_accepted full (list ++ cleared e ∷ []) (all_cleared (left (drop (i + 1) xs)))
     (subst (IsAccepted full) (whole ∙ sym (moved list (all_cleared (left (drop (i + 1) xs))) (cleared e))) ok)
   where
@@ -240,10 +240,10 @@ next_cleared xs i e list ok l is some so =
         ∙ ap (λ v. v ++ cleared e ∷ all_cleared (left (drop (i + 1) xs))) (sym so)
 
 -- with the next ACE, the cleared list is that of one place more
-pub cleared_more : (xs : List Ace) (i : ℕ) (e : Ace) (list new : List Ace) → i < length xs
+pub cleared_more : (xs : List Ace) {i : ℕ} {e : Ace} {list new : List Ace} → i < length xs
     → slice_index_or xs i e ≡ e → e.mask ≢ 0 → list ≡ all_cleared (left (take i xs)) → new ≡ list ++ cleared e ∷ []
     → new ≡ all_cleared (left (take (i + 1) xs))
-cleared_more xs i e list new l is some so more =
+cleared_more xs {i} {e} l is some so more =
     more ∙ ap (λ v. v ++ cleared e ∷ []) so
     ∙ sym (map-append cleared (left (take i xs)) (e ∷ []))
     ∙ ap (λ v. all_cleared (left (take i xs) ++ v)) (sym (one_left e some))
@@ -263,16 +263,16 @@ past_left (a ∷ xs) (suc i) l none = go (a.mask == 0) refl (past_left xs i (ome
     go false e ih = rw e (ap (λ v. a ∷ v) ih)
 
 -- after a place with an empty mask, the cleared list is that of one place more
-pub cleared_past : (xs : List Ace) (i : ℕ) (list : List Ace) → i < length xs → mask_here xs i ≡ 0
+pub cleared_past : (xs : List Ace) {i : ℕ} {list : List Ace} → i < length xs → mask_here xs i ≡ 0
     → list ≡ all_cleared (left (take i xs)) → list ≡ all_cleared (left (take (i + 1) xs))
-cleared_past xs i list l none so =
+cleared_past xs {i} {list} l none so =
     let next : suc i ≡ i + 1 = omega arith in
     subst (λ n. list ≡ all_cleared (left (take n xs))) next (so ∙ ap all_cleared (sym (past_left xs i l none)))
 
 -- after the last place, the cleared list is that of the whole list
-pub all_places : (xs : List Ace) (i : ℕ) (list : List Ace) → length xs ≤ i → list ≡ all_cleared (left (take i xs))
+pub all_places : (xs : List Ace) {i : ℕ} {list : List Ace} → length xs ≤ i → list ≡ all_cleared (left (take i xs))
     → list ≡ all_cleared (left xs)
-all_places xs i list end so = so ∙ ap (λ v. all_cleared (left v)) (take_all i xs end)
+all_places xs {i} end so = so ∙ ap (λ v. all_cleared (left v)) (take_all i xs end)
 
 -- ---- the normal form
 

@@ -10,6 +10,16 @@ use Rattle.acl_normal.proofs.unique.Normal.{counts_mask}
 use Rattle.acl_normal.proofs.emit.Leaving.{column_left, left_normal, quiet_left}
 use Rattle.acl_normal.proofs.unique.Keys.{key_itself}
 
+-- the key of an ACE is at most itself
+at_most_itself : (a : Ace) (e : ColumnKey) → (principal_eq (principal_of a) e.0 && kind_eq a.kind e.1) ≡ true
+    → is_le (compare_keys (ace_key a) e) ≡ true
+at_most_itself a e f =
+    let both = and_parts (principal_eq (principal_of a) e.0) (kind_eq a.kind e.1) f in
+    let who = principal_eq_same (principal_of a) e.0 both.0 in
+    let kind = kind_eq_same a.kind e.1 both.1 in
+    let same : ace_key a ≡ e = λ i. (who i, kind i) in
+    subst (λ k. is_le (compare_keys (ace_key a) k) ≡ true) same (ap (λ o. is_le o) (key_itself (ace_key a)))
+
 -- a list whose keys rise, with normal flags, is in the order of a normal form
 pub rising_ordered : (xs : List Ace) → HasNormalFlags xs → IsRising xs → IsOrdered xs
 unfolding IsStrictlySortedBy
@@ -30,12 +40,7 @@ rising_ordered (a ∷ xs) flags rising = (
         → is_le (compare_keys (ace_key a) e) ≡ true
     least e b false h free = at_most e b (subst (λ c. is_free c e ≡ true) (column_lacking b a xs flags.0 h) free)
     least e b true h free = ⊎_elim
-        (λ (f : (principal_eq (principal_of a) e.0 && kind_eq a.kind e.1) ≡ true).
-        let both = and_parts (principal_eq (principal_of a) e.0) (kind_eq a.kind e.1) f in
-        let who = principal_eq_same (principal_of a) e.0 both.0 in
-        let kind = kind_eq_same a.kind e.1 both.1 in
-        let same : ace_key a ≡ e = λ i. (who i, kind i) in
-        subst (λ k. is_le (compare_keys (ace_key a) k) ≡ true) same (ap (λ o. is_le o) (key_itself (ace_key a))))
+        (λ (f : (principal_eq (principal_of a) e.0 && kind_eq a.kind e.1) ≡ true). at_most_itself a e f)
         (λ (f : (not (conflicts (ace_key a) e) && is_free (column xs b) e) ≡ true).
         at_most e b (and_parts (not (conflicts (ace_key a) e)) (is_free (column xs b) e) f).1)
         (or_cases (principal_eq (principal_of a) e.0 && kind_eq a.kind e.1)

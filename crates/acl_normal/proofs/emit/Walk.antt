@@ -158,6 +158,17 @@ walk_past k u b xs i all rest old new before is lacks = go (subst (λ v. Walks k
             let apart : is_at (nat_cmp j) i ≡ false = false_from_ne_true _ (λ t. n (is_eq_same j i t)) in
             w.covers j h (rw (apart, gone) refl)
 
+-- where a key waits at a place that nothing blocks, a mark that was added for it is at a free key
+added_sound : (k : Kind) (u : Bool) (b : ℕ) (xs : List Ace) (i : ℕ) (old new : Marked) → IsOnce (column xs b)
+    → Grows xs old new → waits k u b xs i ≡ true → is_blocked k u b xs i ≡ false → (l : ColumnKey) (c : ℕ)
+    → (has_bit (new l) c ≡ true) ⊎ ((key_eq l (key_here xs i) && (c == b)) ≡ true)
+    → (has_bit (old l) c ≡ true) ⊎ (is_free (column xs c) l ≡ true)
+added_sound k u b xs i old new once grows here clear l c (inl h) = grows.sound l c h
+added_sound k u b xs i old new once grows here clear l c (inr h) =
+    let both = and_parts (key_eq l (key_here xs i)) (c == b) h in
+    inr (rw (key_eq_same l (key_here xs i) both.0, eqb-true c b both.1)
+    (clear_is_free k u b xs i once here clear))
+
 -- the walk continues after a place that is not blocked, when its key was marked
 pub walk_on : (k : Kind) (u : Bool) (b : ℕ) (xs : List Ace) (i : ℕ) (all rest : List ℕ) (old new more : Marked)
     → IsOnce (column xs b) → Walks k u b xs all old new → all ≡ i ∷ rest → is_blocked k u b xs i ≡ false
@@ -166,32 +177,21 @@ walk_on k u b xs i all rest old new more once before is clear has adds =
     go (subst (λ v. Walks k u b xs v old new) is before)
   where
     go : Walks k u b xs (i ∷ rest) old new → Walks k u b xs rest old more
-    go w =
-        let here = w.listed i (front_in i rest) ∙ has in
-        record {
-          grows = record {
-            kept =
-                λ l c h. adds.bits l c ∙ or_left (has_bit (new l) c)
-                (key_eq l (key_here xs i) && (c == b)) (w.grows.kept l c h);
-            sound =
-                λ l c h. sound l c here (or_cases (has_bit (new l) c)
-                (key_eq l (key_here xs i) && (c == b)) (sym (adds.bits l c) ∙ h));
-          };
-          sorted = sorted_tail nat_cmp i rest w.sorted;
-          within = λ j h. w.within j (or_right (is_at (nat_cmp j) i) (list_any (is_at (nat_cmp j)) rest) h);
-          listed = λ j h. w.listed j (or_right (is_at (nat_cmp j) i) (list_any (is_at (nat_cmp j)) rest) h);
-          covers = λ j h gone. covers j h gone (cases_eq j i);
-        }
+    go w = record {
+      grows = record {
+        kept =
+            λ l c h. adds.bits l c ∙ or_left (has_bit (new l) c)
+            (key_eq l (key_here xs i) && (c == b)) (w.grows.kept l c h);
+        sound =
+            λ l c h. added_sound k u b xs i old new once w.grows (w.listed i (front_in i rest) ∙ has) clear l c
+            (or_cases (has_bit (new l) c) (key_eq l (key_here xs i) && (c == b)) (sym (adds.bits l c) ∙ h));
+      };
+      sorted = sorted_tail nat_cmp i rest w.sorted;
+      within = λ j h. w.within j (or_right (is_at (nat_cmp j) i) (list_any (is_at (nat_cmp j)) rest) h);
+      listed = λ j h. w.listed j (or_right (is_at (nat_cmp j) i) (list_any (is_at (nat_cmp j)) rest) h);
+      covers = λ j h gone. covers j h gone (cases_eq j i);
+    }
       where
-        sound : (l : ColumnKey) (c : ℕ) → waits k u b xs i ≡ true
-            → (has_bit (new l) c ≡ true) ⊎ ((key_eq l (key_here xs i) && (c == b)) ≡ true)
-            → (has_bit (old l) c ≡ true) ⊎ (is_free (column xs c) l ≡ true)
-        sound l c here (inl h) = w.grows.sound l c h
-        sound l c here (inr h) =
-            let both = and_parts (key_eq l (key_here xs i)) (c == b) h in
-            inr (rw (key_eq_same l (key_here xs i) both.0, eqb-true c b both.1)
-            (clear_is_free k u b xs i once here clear))
-
         covers : (j : ℕ) → waits k u b xs j ≡ true → list_any (is_at (nat_cmp j)) rest ≡ false → (j ≡ i) ⊎ (j ≡ i → ⊥)
             → has_bit (more (key_here xs j)) b ≡ true
         covers j h gone (inl e) =

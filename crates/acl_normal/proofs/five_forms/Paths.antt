@@ -93,9 +93,9 @@ handed_on flags f e =
 -- ---- lists
 
 -- lists with the same children have the same children with an ACE in front of both
-behind : (kind : ChildKind) (a : Ace) (list other : List Ace) → children kind list ≡ children kind other
+same_children_behind : (kind : ChildKind) (a : Ace) (list other : List Ace) → children kind list ≡ children kind other
     → children kind (a ∷ list) ≡ children kind (a ∷ other)
-behind kind a list other same = by (child_flags kind a.flags) refl
+same_children_behind kind a list other same = by (child_flags kind a.flags) refl
   where
     by : (o : Option ℕ) → child_flags kind a.flags ≡ o → children kind (a ∷ list) ≡ children kind (a ∷ other)
     by None e = child_lacks kind a list e ∙ same ∙ sym (child_lacks kind a other e)
@@ -115,7 +115,7 @@ second_is_first kind (a ∷ list) = by (second_is_first kind list) (child_flags 
         → children kind (children Directory (with_flags a f ∷ first)) ≡ children kind (with_flags a f ∷ first)
     in_second f on rest = elim on [
       | inl again ↦ ap (children kind) (child_has Directory (with_flags a f) first f again)
-          ∙ behind kind (with_flags a f) (children Directory first) first rest
+          ∙ same_children_behind kind (with_flags a f) (children Directory first) first rest
       | inr none ↦ ap (children kind) (child_lacks Directory (with_flags a f) first (none Directory)) ∙ rest
           ∙ sym (child_lacks kind (with_flags a f) first (none kind))
     ]
@@ -135,31 +135,29 @@ further_below list (suc count) kind =
     ap (children kind) (further_below list count Directory) ∙ second_is_first kind list
 
 -- the list at a path of one or more new directories is that at the path of one
-pub further : (list : List Ace) (count : ℕ) (kind : ChildKind) → 1 ≤ count
+pub same_further_below : (list : List Ace) (count : ℕ) (kind : ChildKind) → 1 ≤ count
     → at list (below count kind) ≡ at list (below 1 kind)
-further list zero kind le = absurd (omega (arith, le))
-further list (suc count) kind le = further_below list count kind
+same_further_below list zero kind le = absurd (omega (arith, le))
+same_further_below list (suc count) kind le = further_below list count kind
 
 -- lists agree at every path if and only if they agree at the five
 pub five_suffice : (rights : ℕ) (list other : List Ace) → SameAtFive rights list other
     ↔ SameAtEveryPath rights list other
 five_suffice rights list other = (
-  λ five. everywhere five.0 five.1.0 five.1.1.0 five.1.1.1.0 five.1.1.1.1.0,
+  everywhere,
   λ same. (
     same here,
     (same (below 0 File), (same (below 0 Directory), (same (below 1 File), (same (below 1 Directory), tt)))),
   ),
 )
   where
-    everywhere : SameAt rights list other here → SameAt rights list other (below 0 File)
-        → SameAt rights list other (below 0 Directory) → SameAt rights list other (below 1 File)
-        → SameAt rights list other (below 1 Directory) → (path : Path) → SameAt rights list other path
-    everywhere now file directory inner_file inner_directory here = now
-    everywhere now file directory inner_file inner_directory (below zero File) = file
-    everywhere now file directory inner_file inner_directory (below zero Directory) = directory
-    everywhere now file directory inner_file inner_directory (below (suc count) File) =
+    everywhere : SameAtFive rights list other → (path : Path) → SameAt rights list other path
+    everywhere (now, (file, (directory, (inner_file, (inner_directory, _))))) here = now
+    everywhere (now, (file, (directory, (inner_file, (inner_directory, _))))) (below zero File) = file
+    everywhere (now, (file, (directory, (inner_file, (inner_directory, _))))) (below zero Directory) = directory
+    everywhere (now, (file, (directory, (inner_file, (inner_directory, _))))) (below (suc count) File) =
         rw (further_below list count File, further_below other count File) inner_file
-    everywhere now file directory inner_file inner_directory (below (suc count) Directory) =
+    everywhere (now, (file, (directory, (inner_file, (inner_directory, _))))) (below (suc count) Directory) =
         rw (further_below list count Directory, further_below other count Directory) inner_directory
 
 -- ---- profiles
@@ -190,9 +188,9 @@ wider_is p is = record { masks = is.masks; flags = union_within all_flags p.flag
 -- a list that fits a profile fits the profile with INHERIT_ONLY
 pub fits_wider : (p : Profile) (list : List Ace) → Fits p list → Fits (with_inherit_only p) list
 fits_wider p [] fits = tt
-fits_wider p (a ∷ list) fits = (
-  (within_part (with_inherit_only p).flags p.flags a.flags (flags_inside p) fits.0.0, fits.0.1),
-  fits_wider p list fits.1,
+fits_wider p (a ∷ list) ((flags, masks), rest) = (
+  (within_part (with_inherit_only p).flags p.flags a.flags (flags_inside p) flags, masks),
+  fits_wider p list rest,
 )
 
 -- the lists of new directories fit a profile with INHERIT_ONLY that the list fits
@@ -230,12 +228,9 @@ flags_back p flags none is = same_set _ _ (λ k.
 -- a list with normal flags that fits the profile with INHERIT_ONLY fits the profile
 pub fits_back : (p : Profile) (list : List Ace) → HasNormalFlags list → Fits (with_inherit_only p) list → Fits p list
 fits_back p [] normal fits = tt
-fits_back p (a ∷ list) normal fits = (
-  (
-    flags_back p a.flags (ap (λ (n : ℕ). bit_and n 0x08) normal.0 ∙ no_inherit_only (principal_of a)) fits.0.0,
-    fits.0.1,
-  ),
-  fits_back p list normal.1 fits.1,
+fits_back p (a ∷ list) normal ((flags, masks), rest) = (
+  (flags_back p a.flags (ap (λ (n : ℕ). bit_and n 0x08) normal.0 ∙ no_inherit_only (principal_of a)) flags, masks),
+  fits_back p list normal.1 rest,
 )
 
 -- the normal form of the list at a path fits each profile that the list fits

@@ -1,7 +1,7 @@
 -- What is left of a list when one ACE has come first: the bits of that ACE are taken from its principal.
 use Rattle.std.proofs.Common.{◌≡◌, ℕ, ◌+◌, ◌<◌, Bool, true, false, List, [], ◌∷◌, ◌++◌, length, take, refl}
 use Rattle.acl_normal.proofs.Common.{Ace, ace, ace_key, AceRef, aces_in, ap, arith, Column, column, cond, has_bit, is_inherit_only, IsDifference, not, Principal, principal_eq, principal_of, slice_index_or, sym, without_principal, ◌&&◌, ◌∙◌}
-use Rattle.acl_normal.proofs.plain.Passes.{list_of-append, list_of-more}
+use Rattle.acl_normal.proofs.reduce.Passes.{list_of-append, list_of-more}
 use Rattle.acl_normal.proofs.unique.Columns.{column-append}
 
 -- the column without the principal where the set has the bit, and else the column

@@ -11,7 +11,7 @@ use Rattle.acl_normal.proofs.unique.Normal.{quiet_flags}
 use Rattle.acl_normal.proofs.unique.FirstAndRest.{emission_step, once_left}
 use Rattle.acl_normal.proofs.unique.Accepted.{each_mask}
 use Rattle.acl_normal.proofs.unique.Weights.{column_above, count_less, length_under, weight_under}
-use Rattle.acl_normal.proofs.plain.Candidates.{least_free}
+use Rattle.acl_normal.proofs.unique.Candidates.{least_free}
 use Rattle.acl_normal.proofs.Each.{all_append}
 use Rattle.acl_normal.proofs.unique.Columns.{column-append, column_with, column_lacking}
 

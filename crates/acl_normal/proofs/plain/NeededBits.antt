@@ -1,7 +1,7 @@
 -- The second pass of the plain reduction: bits that aren't needed go.
 use Rattle.std.proofs.Common.{◌≡◌, ℕ, ◌+◌, ◌<◌, List, [], ◌∷◌, ◌++◌, length, drop}
 use Rattle.acl_normal.proofs.Common.{Ace, ace, ace_key, AceRef, aces_in, Allow, ap, append_assoc, arith, Column, column, default, default_at, drop_more, has_bit, is_inherit_only, is_needed, Kind, kind_eq, needed_keys, principal_of, slice_index_or, sym, ◌&&◌, ◌∙◌}
-use Rattle.acl_normal.proofs.plain.Passes.{Marks, list_of-append}
+use Rattle.acl_normal.proofs.reduce.Passes.{Marks, list_of-append}
 use Rattle.acl_normal.proofs.unique.Columns.{column-append}
 
 -- the default, by the set of the bits that it allows

@@ -5,8 +5,8 @@ use Rattle.acl_nfs4.specs.Limits.{most_weight}
 use Rattle.acl_normal.specs.internal.Passes.{IsPlainReduction}
 use Rattle.acl_normal.proofs.unique.Accepted.{each_mask, each_name}
 use Rattle.acl_normal.proofs.unique.Normal.{emitted_is_normal, quiet_flags}
-use Rattle.acl_normal.proofs.plain.Reduced.{reduced_once}
-use Rattle.acl_normal.proofs.plain.Shorter.{reduced_shorter}
+use Rattle.acl_normal.proofs.reduce.Reduced.{reduced_once}
+use Rattle.acl_normal.proofs.reduce.Shorter.{reduced_shorter}
 use Rattle.acl_normal.proofs.unique.Forming.{form_of}
 use Rattle.acl_normal.proofs.unique.Weights.{count_falls, count_within, weight_falls}
 
@@ -48,13 +48,13 @@ reduced_form source needed result accepted h emission shorter kept =
     (λ bit. omega (arith, shorter bit, reduced_fewer source needed h bit)) (λ p within. kept p (h.profiles p within))
 
 -- if the second pass returns a list, this is the plain reduction
-pub passes_reduce : {V E : Type 0} (list : V → List Ace) (source aces reached lent : List Ace) (answer : Result V E)
+pub passes_reduce : {V E : Type 0} (list : V → List Ace) (source : List Ace) {aces reached lent : List Ace} (answer : Result V E)
     → aces ≡ source → ((bit : ℕ) → column reached bit ≡ unshadowed [] (column aces bit)) → KeepsProfiles aces reached
     → lent ≡ reached
     → IfOk answer (λ v. (bit : ℕ)
     → column (list v) bit ≡ needed_keys (default (column lent bit)) (column lent bit))
     → IfOk answer (λ v. KeepsProfiles lent (list v)) → IfOk answer (λ v. IsPlainReduction source (list v))
-passes_reduce list source aces reached lent (Ok v) same first kept loan second kept_again = record {
+passes_reduce list source {aces} {reached} {lent} (Ok v) same first kept loan second kept_again = record {
   columns = λ bit. second bit
       ∙ ap (λ c. needed_keys (default c) c)
       (ap (λ v. column v bit) loan ∙ first bit ∙ ap (λ v. unshadowed [] (column v bit)) same);
@@ -62,7 +62,7 @@ passes_reduce list source aces reached lent (Ok v) same first kept loan second k
       let there = kept p (subst (AllByRecursion (IsAce p)) (sym same) each) in
       kept_again p (subst (AllByRecursion (IsAce p)) (sym loan) there);
 }
-passes_reduce list source aces reached lent (Err fault) same first kept loan second kept_again = tt
+passes_reduce list source {aces} {reached} {lent} (Err fault) same first kept loan second kept_again = tt
 
 -- if what is emitted from the plain reduction is returned, it is the normal form
 pub emitted_form : {E : Type 0} (source needed : List Ace) (answer : Result (List Ace) E) → IsAccepted full source

@@ -1,7 +1,7 @@
 -- The first pass of the plain reduction: shadowed bits go.
 use Rattle.std.proofs.Common.{◌≡◌, ℕ, ◌+◌, ◌<◌, List, [], ◌∷◌, ◌++◌, length, take, append-nil}
 use Rattle.acl_normal.proofs.Common.{Ace, ace, ace_key, AceRef, aces_in, ap, append_assoc, arith, Column, column, has_bit, is_inherit_only, is_shadowed, IsDifference, not, principal_of, slice_index_or, sym, unshadowed, ◌&&◌, ◌∙◌}
-use Rattle.acl_normal.proofs.plain.Passes.{Marks, list_of-append, list_of-more}
+use Rattle.acl_normal.proofs.reduce.Passes.{Marks, list_of-append, list_of-more}
 use Rattle.acl_normal.proofs.unique.Columns.{column-append}
 
 -- the unshadowed keys of two columns are those of the first, and those of the second after the first

@@ -2,7 +2,7 @@
 use Rattle.acl_normal.proofs.Common.{Ace, Bool, Column, ColumnKey, Kind, List, None, Option, Principal, Some, [], ace_key, add-one, ap, append-nil, append_assoc, arith, column, cond, counts, everyone, first_at, first_kind, is_either, is_none, is_some, length, not, principal_eq, principal_of, refl, slice_index_or, subst, suc, sym, take, take_more, true, unshadowed, zero, ℕ, ◌&&◌, ◌++◌, ◌<◌, ◌||◌, ◌∙◌, ◌∷◌, ◌≡◌}
 use Rattle.acl_normal.proofs.unique.Names.{either_second}
 use Rattle.acl_normal.proofs.unique.Columns.{column-append, column_first}
-use Rattle.acl_normal.proofs.plain.Unshadowed.{same_unshadowed}
+use Rattle.acl_normal.proofs.reduce.Unshadowed.{same_unshadowed}
 use Rattle.acl_normal.proofs.rows.FirstAces.{none_cases}
 
 -- ---- shadows

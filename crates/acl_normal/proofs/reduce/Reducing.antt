@@ -5,18 +5,18 @@ use Rattle.acl_normal.proofs.unique.Accepted.{accepted_masks, accepted_names}
 use Rattle.acl_normal.proofs.unique.ListColumns.{names_in_column, same_grants_from_columns}
 use Rattle.acl_normal.proofs.unique.FirstKind.{clique_of}
 use Rattle.acl_normal.proofs.unique.Normal.{irreducible_list}
-use Rattle.acl_normal.proofs.plain.Reduced.{same_reduced, reduced_settled}
+use Rattle.acl_normal.proofs.reduce.Reduced.{same_reduced, reduced_settled}
 use Rattle.acl_normal.proofs.unique.Settled.{IsSettled, settled_irreducible}
-use Rattle.acl_normal.proofs.unique.Unique.{unique}
+use Rattle.acl_normal.proofs.unique.Unique.{normal_unique}
 use Rattle.acl_normal.proofs.emit.Leaving.{column_left, masks_of_quiet, quiet_left}
 use Rattle.acl_normal.proofs.unique.Columns.{column_first}
 use Rattle.acl_normal.proofs.unique.Bits.{below}
 
 -- the first pass and then the second one reduce the column of each right
-pub reduces : (xs ys zs : List Ace) → ((b : ℕ) → b < 21 → column ys b ≡ unshadowed [] (column xs b))
+pub both_passes_reduce : (xs ys zs : List Ace) → ((b : ℕ) → b < 21 → column ys b ≡ unshadowed [] (column xs b))
     → ((b : ℕ) → b < 21 → column zs b ≡ needed_keys (default (column ys b)) (column ys b)) → (b : ℕ) → b < 21
     → column zs b ≡ reduced (column xs b)
-reduces xs ys zs f g b h = g b h ∙ ap (λ c. needed_keys (default c) c) (f b h)
+both_passes_reduce xs ys zs f g b h = g b h ∙ ap (λ c. needed_keys (default c) c) (f b h)
 
 -- ---- what the outline keeps
 
@@ -69,7 +69,7 @@ pub two_passes : (xs ys zs : List Ace) → IsAccepted full xs → nothing_left y
     → ((b : ℕ) → b < 21 → column zs b ≡ needed_keys (default (column ys b)) (column ys b)) → IsReduction xs zs
 two_passes xs ys zs accepted e f g tidy h = record {
   outline = g ∙ e;
-  columns = reduces xs ys zs (λ b l. f b) h;
+  columns = both_passes_reduce xs ys zs (λ b l. f b) h;
   names = accepted_names full xs accepted;
   masks = accepted_masks xs accepted;
   tidy = tidy;
@@ -129,4 +129,4 @@ reduced_in_two xs ys zs accepted first f second g =
 pub only_one : (xs ns ms : List Ace) → IsNormal ns → SameGrants all_rights xs ns → IsNormal ms
     → SameGrants all_rights xs ms → ms ≡ ns
 only_one xs ns ms n f m g =
-    unique ms ns m n ((equivalence all_rights).transitive ms xs ns ((equivalence all_rights).symmetric xs ms g) f)
+    normal_unique ms ns m n ((equivalence all_rights).transitive ms xs ns ((equivalence all_rights).symmetric xs ms g) f)

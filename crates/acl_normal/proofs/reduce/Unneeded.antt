@@ -109,6 +109,44 @@ later_more l l' a back quiet later more k users b =
 
 -- ---- bits are cleared in one mask
 
+-- the first ACE of a principal with a bit is the one in front, if its place is the first
+first_in_front : (b : ℕ) (p : Principal) (a : Ace) (tail : List Ace)
+    → (j : Kind) × (first_at b p (a ∷ tail) ≡ Some (j, 0)) → (j : Kind) × IsHere b p a j 0
+first_in_front b p a tail (j, is) = (
+  j,
+  ⊎_elim (λ (t : IsHere b p a j 0). t) (λ (t : IsThere b p a tail j 0). absurd (omega (arith, t.place)))
+      (first_cases b p a tail j 0 is),
+)
+
+-- the first ACE of a principal with a bit is behind the one in front, if its place is a later one
+first_not_in_front : (b : ℕ) (p : Principal) (a : Ace) (tail : List Ace) (i : ℕ)
+    → (j : Kind) × (first_at b p (a ∷ tail) ≡ Some (j, suc i)) → (j : Kind) × IsThere b p a tail j (suc i)
+first_not_in_front b p a tail i (j, is) = (
+  j,
+  ⊎_elim (λ (t : IsHere b p a j (suc i)). absurd (omega (arith, t.place)))
+      (λ (t : IsThere b p a tail j (suc i)). t) (first_cases b p a tail j (suc i) is),
+)
+
+-- to clear bits in the mask of an ACE takes them out of a principal, if the ACE is the first of it with each of them
+front_cleared : (p : Principal) (m n : ℕ) (x : AceRef)
+    → ((b : ℕ) → has_bit m b ≡ true → (j : Kind) × IsHere b p (masked (ace x) n) j 0)
+    → masked (masked (ace x) n) (without n m) ≡ without_bits p m (masked (ace x) n)
+front_cleared p m n x at_head = go (principal_eq (principal_of a) p && not (is_inherit_only a)) refl
+  where
+    a : Ace
+    a = masked (ace x) n
+
+    absent : (b : ℕ) (t : Bool) → has_bit m b ≡ t
+        → (principal_eq (principal_of a) p && not (is_inherit_only a)) ≡ false
+        → (has_bit n b && not (has_bit m b)) ≡ has_bit n b
+    absent b true h e = let f = (at_head b h).1 in grind (arith, f.counts, f.same)
+    absent b false h e = grind arith
+
+    go : (t : Bool) → (principal_eq (principal_of a) p && not (is_inherit_only a)) ≡ t
+        → masked a (without n m) ≡ without_bits p m a
+    go true e = rw e refl
+    go false e = rw e (ap (masked a) (masks_same _ _ (λ b. has_bit-without n m b ∙ absent b (has_bit m b) refl e)))
+
 -- to clear bits in a mask takes them out of a principal, if the principal's first ACE with each is there
 cleared_there : (p : Principal) (m : ℕ) (aces : List AceRef) (masks : List ℕ) (i : ℕ)
     → HasOnceColumns (with_masks aces masks)
@@ -118,7 +156,7 @@ cleared_there : (p : Principal) (m : ℕ) (aces : List AceRef) (masks : List ℕ
 cleared_there p m [] masks i once first = refl
 cleared_there p m (x ∷ aces) [] i once first = refl
 cleared_there p m (x ∷ aces) (n ∷ masks) zero once first =
-    ap (λ v. v ∷ with_masks aces masks) here ∙ ap (λ v. without_bits p m a ∷ v) (sym rest)
+    ap (λ v. v ∷ with_masks aces masks) (front_cleared p m n x at_head) ∙ ap (λ v. without_bits p m a ∷ v) (sym rest)
   where
     a : Ace
     a = masked (ace x) n
@@ -127,26 +165,7 @@ cleared_there p m (x ∷ aces) (n ∷ masks) zero once first =
     tail = with_masks aces masks
 
     at_head : (b : ℕ) → has_bit m b ≡ true → (j : Kind) × IsHere b p a j 0
-    at_head b h = let f = first b h in (
-      f.0,
-      ⊎_elim (λ (t : IsHere b p a f.0 0). t)
-          (λ (t : IsThere b p a tail f.0 0). absurd (omega (arith, t.place))) (first_cases b p a tail f.0 0 f.1),
-    )
-
-    here : masked a (without n m) ≡ without_bits p m a
-    here = go (principal_eq (principal_of a) p && not (is_inherit_only a)) refl
-      where
-        absent : (b : ℕ) (t : Bool) → has_bit m b ≡ t
-            → (principal_eq (principal_of a) p && not (is_inherit_only a)) ≡ false
-            → (has_bit n b && not (has_bit m b)) ≡ has_bit n b
-        absent b true h e = let f = (at_head b h).1 in grind (arith, f.counts, f.same)
-        absent b false h e = grind arith
-
-        go : (t : Bool) → (principal_eq (principal_of a) p && not (is_inherit_only a)) ≡ t
-            → masked a (without n m) ≡ without_bits p m a
-        go true e = rw e refl
-        go false e =
-            rw e (ap (masked a) (masks_same _ _ (λ b. has_bit-without n m b ∙ absent b (has_bit m b) refl e)))
+    at_head b h = first_in_front b p a tail (first b h)
 
     rest : take_out p m tail ≡ tail
     rest = take_absent p m tail (λ b h. let f = at_head b h in none_behind b p a tail f.0 0 (once b) f.1)
@@ -166,11 +185,7 @@ cleared_there p m (x ∷ aces) (n ∷ masks) (suc i) once first =
     tail = with_masks aces masks
 
     behind : (b : ℕ) → has_bit m b ≡ true → (j : Kind) × IsThere b p a tail j (suc i)
-    behind b h = let f = first b h in (
-      f.0,
-      ⊎_elim (λ (t : IsHere b p a f.0 (suc i)). absurd (omega (arith, t.place)))
-          (λ (t : IsThere b p a tail f.0 (suc i)). t) (first_cases b p a tail f.0 (suc i) f.1),
-    )
+    behind b h = first_not_in_front b p a tail i (first b h)
 
 -- to take bits of a principal out moves the first ACE of none
 taken_firsts : (p : Principal) (m : ℕ) (xs : List Ace) → KeepsFirsts xs (take_out p m xs)
@@ -229,6 +244,29 @@ pub record IsTurn (aces : List AceRef) (given masks : List ℕ) (place allowed m
 abbrev pub clear_at : List ℕ → ℕ → ℕ → List ℕ
 clear_at masks place m = slice_set masks place (without (slice_index_or masks place 0) m)
 
+-- the ACE at a place of a tidy list takes part or has no bit
+quiet_place : (aces : List AceRef) (masks : List ℕ) (place : ℕ) (x : AceRef) → IsTidy (with_masks aces masks)
+    → place < length aces → length masks ≡ length aces → x ≡ slice_index_or aces place x
+    → is_inherit_only (ace x) ≡ true → slice_index_or masks place 0 ≡ 0
+quiet_place aces masks place x tidy within count is =
+    quiet_index _ _ {a = masked (ace x) (slice_index_or masks place 0)} tidy.quiet
+    (omega (arith, within, length_shown aces masks count)) (masked_at aces masks place x within count is)
+
+-- when bits of a place are cleared, the ACEs from that place on are the one there with its new mask, and those after it
+clear_shown : (aces : List AceRef) (masks : List ℕ) (place m : ℕ) (x : AceRef) → place < length aces
+    → length masks ≡ length aces → x ≡ slice_index_or aces place x
+    → shown_from aces (clear_at masks place m) place
+    ≡ masked (ace x) (without (slice_index_or masks place 0) m) ∷ shown_from aces masks (suc place)
+clear_shown aces masks place m x within count is =
+    shown_next aces (clear_at masks place m) place x within (length-set masks place cleared ∙ count) is
+    ∙ ap (λ v. masked (ace x) v ∷ shown_from aces (clear_at masks place m) (suc place))
+    (get_or-set_same masks place cleared 0 (omega (arith, within, count)))
+    ∙ ap (λ v. masked (ace x) cleared ∷ with_masks (drop (suc place) aces) v)
+    (drop-set-lt (suc place) masks place cleared (omega arith))
+  where
+    cleared : ℕ
+    cleared = without (slice_index_or masks place 0) m
+
 -- when the needless bits of a place are cleared, the keys from that place on are dealt with
 drops_more : (aces : List AceRef) (given masks : List ℕ) (place allowed m : ℕ) (x : AceRef) (l l' : Later)
     → IsTidy (with_masks aces given) → IsTidy (with_masks aces masks) → Drops aces given masks (suc place) l
@@ -263,17 +301,10 @@ drops_more aces given masks place allowed m x l l' whole tidy d t = record {
         ∙ ap (λ v. masked (ace x) v ∷ back) (sym (d.front place (omega arith)))
 
     new_is : shown_from aces (clear_at masks place m) place ≡ masked a cleared ∷ tail
-    new_is =
-        shown_next aces (clear_at masks place m) place x t.within (length-set masks place cleared ∙ t.count) t.is
-        ∙ ap (λ v. masked (ace x) v ∷ shown_from aces (clear_at masks place m) (suc place))
-        (get_or-set_same masks place cleared 0 (omega (arith, t.within, t.count)))
-        ∙ ap (λ v. masked a cleared ∷ with_masks (drop (suc place) aces) v)
-        (drop-set-lt (suc place) masks place cleared (omega arith))
+    new_is = clear_shown aces masks place m x t.within t.count t.is
 
     quiet : is_inherit_only a ≡ true → a.mask ≡ 0
-    quiet =
-        quiet_index (with_masks aces masks) place a tidy.quiet
-        (omega (arith, t.within, length_shown aces masks t.count)) (masked_at aces masks place x t.within t.count t.is)
+    quiet = quiet_place aces masks place x tidy t.within t.count t.is
 
 -- a turn keeps what the loop keeps
 pub dropping_more : (aces : List AceRef) (given masks : List ℕ) (place allowed m : ℕ) (x : AceRef) (l l' : Later)
@@ -336,7 +367,7 @@ dropping_turn aces given masks place allowed x m dropped less l l' tidy within g
     new =
         bits_set masks place less
         ∙ ap (slice_set (mask_numbers masks) place)
-        (difference_is _ _ _ apart ∙ ap (λ v. without v dropped.bits) (sym at))
+        (difference_is _ _ apart ∙ ap (λ v. without v dropped.bits) (sym at))
 
 -- after the last turn each column has just its needed keys
 pub dropping_end : (aces : List AceRef) (given masks : List ℕ) (l : Later) → Dropping aces given masks 0 l

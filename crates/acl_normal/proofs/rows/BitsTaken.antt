@@ -115,8 +115,8 @@ pub place_of_left : (aces : List AceRef) (masks : List ℕ) (i : ℕ) (xs : List
 place_of_left aces masks i xs is l = place_within aces masks i (subst (λ v. i < length v) (sym is) l)
 
 -- the key at a place of what is left is that of the ACE there
-pub key_of_left : (aces : List AceRef) (masks : List ℕ) (i : ℕ) (d : AceRef) (xs : List Ace)
+pub key_of_left : (aces : List AceRef) (masks : List ℕ) {i : ℕ} (d : AceRef) {xs : List Ace}
     → with_masks aces masks ≡ xs → i < length xs
     → (principal_of (ace (slice_index_or aces i d)), (slice_index_or aces i d).kind) ≡ key_here xs i
-key_of_left aces masks i d xs is l =
+key_of_left aces masks {i} d is l =
     key_there aces masks i d (subst (λ v. i < length v) (sym is) l) ∙ ap (λ v. key_here v i) is

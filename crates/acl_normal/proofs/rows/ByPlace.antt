@@ -77,8 +77,8 @@ masked_at (y ∷ aces) (n ∷ masks) (suc i) x l h is =
     masked_at aces masks i x (omega (arith, l)) (omega (arith, h)) is
 
 -- the ACE at a place of a quiet list takes part or has no bit
-pub quiet_index : (xs : List Ace) (i : ℕ) (a : Ace) → IsQuiet xs → i < length xs → slice_index_or xs i a ≡ a
+pub quiet_index : (xs : List Ace) (i : ℕ) {a : Ace} → IsQuiet xs → i < length xs → slice_index_or xs i a ≡ a
     → is_inherit_only a ≡ true → a.mask ≡ 0
-quiet_index [] i a q l is = absurd (omega (arith, l))
-quiet_index (x ∷ xs) zero a q l is = subst (λ v. is_inherit_only v ≡ true → v.mask ≡ 0) is q.0
-quiet_index (x ∷ xs) (suc i) a q l is = quiet_index xs i a q.1 (omega (arith, l)) is
+quiet_index [] i q l is = absurd (omega (arith, l))
+quiet_index (x ∷ xs) zero q l is = subst (λ v. is_inherit_only v ≡ true → v.mask ≡ 0) is q.0
+quiet_index (x ∷ xs) (suc i) q l is = quiet_index xs i q.1 (omega (arith, l)) is

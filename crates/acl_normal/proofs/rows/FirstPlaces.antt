@@ -74,10 +74,10 @@ both_le : (a b : Principal) → is_le (principal_cmp a b) ≡ true → is_le (pr
 both_le a b h l = grind (arith, principal_order.reversed a b, principal_exact a b)
 
 -- each place between two of one principal, in the order, is of that principal
-between : (p : Principal) (xs : List Ace) (order : List ℕ) (i j k : ℕ) → IsByPrincipal xs order → i ≤ j → j ≤ k
+principal_between : (p : Principal) (xs : List Ace) (order : List ℕ) (i j k : ℕ) → IsByPrincipal xs order → i ≤ j → j ≤ k
     → k < length xs → principal_here xs (slice_index_or order i 0) ≡ p
     → principal_here xs (slice_index_or order k 0) ≡ p → principal_here xs (slice_index_or order j 0) ≡ p
-between p xs order i j k by from to l first last =
+principal_between p xs order i j k by from to l first last =
     both_le (principal_here xs (slice_index_or order j 0)) p
     (subst (λ v. is_le (principal_cmp (principal_here xs (slice_index_or order j 0)) v) ≡ true) last
     (by.rising j k to l))
@@ -108,7 +108,7 @@ row_passed b xs rows order row to p numbers by at from passed other = go (first_
         ∙ passed w.0 begins l))
         (λ l. let inside : to < length xs = omega (arith, l, w.2) in
         other inside (numbers.at (slice_index_or order to 0) (by.within to inside)
-        ∙ ap (λ v. row_of v xs) (between p xs order row to w.0 by from l w.2
+        ∙ ap (λ v. row_of v xs) (principal_between p xs order row to w.0 by from l w.2
         (ap (λ v. principal_here xs (slice_index_or order v 0)) at.is ∙ by.first p at.named)
         (ap (principal_here xs) w.3 ∙ whose))
         ∙ sym at.is)) (cases_lt w.0 to))

@@ -73,6 +73,54 @@ blocked_by true false true true w1 = refl
 blocked_by true false true false w1 = refl
 blocked_by true false false w0 w1 = refl
 
+-- the keys of a principal whose first key with the bit is the first ACE
+free_here : (b : ℕ) (p : Principal) (a : Ace) (xs : List Ace) (j : Kind) (i : ℕ) → IsOnce (column (a ∷ xs) b)
+    → IsHere b p a j i
+    → (is_free (column (a ∷ xs) b) (p, j) ≡ not (is_blocked j (is_user p) b (a ∷ xs) 0))
+    × (is_free (column (a ∷ xs) b) (p, other_kind j) ≡ false)
+free_here b p a xs j i once here =
+    let lacks : first_kind (is_either p p) (column xs b) ≡ None = none_column b p a xs j i once here in
+    let none = lacking_not_free p (other_kind j) (column xs b) lacks in
+    rw (column_has b a xs here.counts, here.same, here.kind, kind_eq_itself j) (
+      ap not (sym (and_false_right (not (is_user p)))),
+      rw (not_other j, none) (and_false_right _),
+    )
+
+-- the keys of a principal whose first key with the bit comes after the first ACE
+free_there : (b : ℕ) (p : Principal) (a : Ace) (xs : List Ace) (j : Kind) (i : ℕ) (t : IsThere b p a xs j i)
+    → (is_free (column xs b) (p, j) ≡ not (is_blocked j (is_user p) b xs t.before))
+    × (is_free (column xs b) (p, other_kind j) ≡ false)
+    → (is_free (column (a ∷ xs) b) (p, j) ≡ not (is_blocked j (is_user p) b (a ∷ xs) (suc t.before)))
+    × (is_free (column (a ∷ xs) b) (p, other_kind j) ≡ false)
+free_there b p a xs j i t before = go (counts b a) refl
+  where
+    w0 : Bool
+    w0 = waits_before (other_kind j) false b xs t.before
+
+    w1 : Bool
+    w1 = waits_before (other_kind j) true b xs t.before
+
+    x0 : Bool
+    x0 = kind_eq a.kind (other_kind j) && same_class (is_user (principal_of a)) false
+
+    x1 : Bool
+    x1 = kind_eq a.kind (other_kind j) && same_class (is_user (principal_of a)) true
+
+    go : (c : Bool) → counts b a ≡ c
+        → (is_free (column (a ∷ xs) b) (p, j) ≡ not (is_blocked j (is_user p) b (a ∷ xs) (suc t.before)))
+        × (is_free (column (a ∷ xs) b) (p, other_kind j) ≡ false)
+    go false e = rw (column_lacks b a xs e, e) before
+    go true e =
+        let other : principal_eq (principal_of a) p ≡ false =
+        sym (ap (λ v. v && principal_eq (principal_of a) p) e) ∙ t.other in (
+          rw (column_has b a xs e, e, other, conflict_is (principal_of a) p a.kind j other)
+              (ap (λ v. not (x0 || (not (is_user p) && x1)) && v) before.0
+              ∙ blocked_by (not (is_user p)) x0 x1 w0 w1),
+          rw (column_has b a xs e, other)
+              (ap (λ v. not (conflicts (ace_key a) (p, other_kind j)) && v) before.1
+              ∙ and_false_right (not (conflicts (ace_key a) (p, other_kind j)))),
+        )
+
 -- the first key of a principal decides which of its keys is free
 pub free_at_first : (b : ℕ) (p : Principal) (xs : List Ace) (j : Kind) (i : ℕ) → IsOnce (column xs b)
     → first_at b p xs ≡ Some (j, i)
@@ -80,55 +128,10 @@ pub free_at_first : (b : ℕ) (p : Principal) (xs : List Ace) (j : Kind) (i : �
     × (is_free (column xs b) (p, other_kind j) ≡ false)
 free_at_first b p [] j i once h = cc
 free_at_first b p (a ∷ xs) j i once h = ⊎_elim
-    (λ (here : IsHere b p a j i). rw here.place (free_here here))
-    (λ (there : IsThere b p a xs j i). rw there.place (free_there there
+    (λ (here : IsHere b p a j i). rw here.place (free_here b p a xs j i once here))
+    (λ (there : IsThere b p a xs j i). rw there.place (free_there b p a xs j i there
     (free_at_first b p xs j there.before (once_rest b a xs once) there.first)))
     (first_cases b p a xs j i h)
-  where
-    free_here : IsHere b p a j i
-        → (is_free (column (a ∷ xs) b) (p, j) ≡ not (is_blocked j (is_user p) b (a ∷ xs) 0))
-        × (is_free (column (a ∷ xs) b) (p, other_kind j) ≡ false)
-    free_here here =
-        let lacks : first_kind (is_either p p) (column xs b) ≡ None = none_column b p a xs j i once here in
-        let none = lacking_not_free p (other_kind j) (column xs b) lacks in
-        rw (column_has b a xs here.counts, here.same, here.kind, kind_eq_itself j) (
-          ap not (sym (and_false_right (not (is_user p)))),
-          rw (not_other j, none) (and_false_right _),
-        )
-
-    free_there : (t : IsThere b p a xs j i)
-        → (is_free (column xs b) (p, j) ≡ not (is_blocked j (is_user p) b xs t.before))
-        × (is_free (column xs b) (p, other_kind j) ≡ false)
-        → (is_free (column (a ∷ xs) b) (p, j) ≡ not (is_blocked j (is_user p) b (a ∷ xs) (suc t.before)))
-        × (is_free (column (a ∷ xs) b) (p, other_kind j) ≡ false)
-    free_there t before = go (counts b a) refl
-      where
-        w0 : Bool
-        w0 = waits_before (other_kind j) false b xs t.before
-
-        w1 : Bool
-        w1 = waits_before (other_kind j) true b xs t.before
-
-        x0 : Bool
-        x0 = kind_eq a.kind (other_kind j) && same_class (is_user (principal_of a)) false
-
-        x1 : Bool
-        x1 = kind_eq a.kind (other_kind j) && same_class (is_user (principal_of a)) true
-
-        go : (c : Bool) → counts b a ≡ c
-            → (is_free (column (a ∷ xs) b) (p, j) ≡ not (is_blocked j (is_user p) b (a ∷ xs) (suc t.before)))
-            × (is_free (column (a ∷ xs) b) (p, other_kind j) ≡ false)
-        go false e = rw (column_lacks b a xs e, e) before
-        go true e =
-            let other : principal_eq (principal_of a) p ≡ false =
-            sym (ap (λ v. v && principal_eq (principal_of a) p) e) ∙ t.other in (
-              rw (column_has b a xs e, e, other, conflict_is (principal_of a) p a.kind j other)
-                  (ap (λ v. not (x0 || (not (is_user p) && x1)) && v) before.0
-                  ∙ blocked_by (not (is_user p)) x0 x1 w0 w1),
-              rw (column_has b a xs e, other)
-                  (ap (λ v. not (conflicts (ace_key a) (p, other_kind j)) && v) before.1
-                  ∙ and_false_right (not (conflicts (ace_key a) (p, other_kind j)))),
-            )
 
 -- a principal without the bit is not free
 pub none_free : (b : ℕ) (p : Principal) (k : Kind) (xs : List Ace) → first_at b p xs ≡ None

@@ -67,8 +67,8 @@ nothing_first (suc n) m c d ys l u = go (nothing_first n (m * 256 + 0) c d (drop
         omega (arith, l)
 
 -- one of two numbers is less, or they are one number
-compare : {A : Type 0} (m k : ℕ) → (m < k → A) → (k < m → A) → (m ≡ k → A) → A
-compare {A} m k below above same = go (cases_lt m k) (cases_lt k m)
+numbers_compared : {A : Type 0} (m k : ℕ) → (m < k → A) → (k < m → A) → (m ≡ k → A) → A
+numbers_compared {A} m k below above same = go (cases_lt m k) (cases_lt k m)
   where
     go : (m < k) ⊎ (k ≤ m) → (k < m) ⊎ (m ≤ k) → A
     go (inl l) _ = below l
@@ -80,18 +80,18 @@ abbrev Agrees : ℕ → ℕ → Ordering → Type 0
 Agrees m k o = ordering_then (nat_cmp m k) o ≡ o
 
 -- numbers that never say other than the answer
-agrees : (m k : ℕ) (o : Ordering) → (m < k → o ≡ Less) → (k < m → o ≡ Greater) → Agrees m k o
-agrees m k o below above =
-    compare m k (λ l. rw (less m k l) (sym (below l))) (λ l. rw (greater m k l) (sym (above l)))
+agrees_from : (m k : ℕ) (o : Ordering) → (m < k → o ≡ Less) → (k < m → o ≡ Greater) → Agrees m k o
+agrees_from m k o below above =
+    numbers_compared m k (λ l. rw (less m k l) (sym (below l))) (λ l. rw (greater m k l) (sym (above l)))
     (λ e. rw (equal m k e) refl)
 
 -- heads that follow the bytes before them, and agree with the rest where these are equal
-decided : (b c m k : ℕ) (rest : Ordering) → (b < c → m < k) → (c < b → k < m) → (b ≡ c → Agrees m k rest)
+agrees_decided : (b c m k : ℕ) (rest : Ordering) → (b < c → m < k) → (c < b → k < m) → (b ≡ c → Agrees m k rest)
     → Agrees m k (ordering_then (nat_cmp b c) rest)
-decided b c m k rest below above same =
-    compare b c
-    (λ l. rw (less b c l) (agrees m k Less (λ h. refl) (λ h. absurd (omega (arith, h, below l)))))
-    (λ l. rw (greater b c l) (agrees m k Greater (λ h. absurd (omega (arith, h, above l))) (λ h. refl)))
+agrees_decided b c m k rest below above same =
+    numbers_compared b c
+    (λ l. rw (less b c l) (agrees_from m k Less (λ h. refl) (λ h. absurd (omega (arith, h, below l)))))
+    (λ l. rw (greater b c l) (agrees_from m k Greater (λ h. absurd (omega (arith, h, above l))) (λ h. refl)))
     (λ e. rw (equal b c e) (same e))
 
 -- the counts of two names, after this many of their bytes were passed
@@ -127,7 +127,7 @@ names_agree (suc n) before m k c d [] [] h f g e =
     rw (e, same) (rw (equal (head_from k (suc n) [] d) (head_from k (suc n) [] d) refl) refl)
 names_agree (suc n) before m k c d [] (y ∷ ys) h f g e =
     rw e
-    (agrees (head_from k (suc n) [] c) (head_from k (suc n) (y ∷ ys) d) Less (λ l. refl)
+    (agrees_from (head_from k (suc n) [] c) (head_from k (suc n) (y ∷ ys) d) Less (λ l. refl)
     (λ l. absurd (omega (
       arith,
       l,
@@ -135,14 +135,14 @@ names_agree (suc n) before m k c d [] (y ∷ ys) h f g e =
     ))))
 names_agree (suc n) before m k c d (x ∷ xs) [] h f g e =
     rw e
-    (agrees (head_from k (suc n) (x ∷ xs) c) (head_from k (suc n) [] d) Greater
+    (agrees_from (head_from k (suc n) (x ∷ xs) c) (head_from k (suc n) [] d) Greater
     (λ l. absurd (omega (
       arith,
       l,
       nothing_first (suc n) k d c (x ∷ xs) (omega (arith, h.first, h.second)) h.also,
     ))) (λ l. refl))
 names_agree (suc n) before m k c d (x ∷ xs) (y ∷ ys) h f g e =
-    decided x y (head_from (m * 256 + x) n xs c) (head_from (k * 256 + y) n ys d) (slice_cmp nat_cmp xs ys)
+    agrees_decided x y (head_from (m * 256 + x) n xs c) (head_from (k * 256 + y) n ys d) (slice_cmp nat_cmp xs ys)
     (λ l. before_decides n (m * 256 + x) (k * 256 + y) c d xs ys h.low (tail_bytes x xs f) (omega (arith, e, l)))
     (λ l. before_decides n (k * 256 + y) (m * 256 + x) d c ys xs h.also (tail_bytes y ys g) (omega (arith, e, l)))
     (λ l. names_agree n (before + 1) (m * 256 + x) (k * 256 + y) c d xs ys (counts_on n before c d x y xs ys h)
@@ -156,7 +156,7 @@ names_same n before m k c [] (y ∷ ys) h w f g e is = absurd (omega (arith, h.f
 names_same n before m k c (x ∷ xs) [] h w f g e is = absurd (omega (arith, h.first, h.second))
 names_same zero before m k c (x ∷ xs) (y ∷ ys) h w f g e is = absurd (omega (arith, h.first, w))
 names_same (suc n) before m k c (x ∷ xs) (y ∷ ys) h w f g e is =
-    compare x y
+    numbers_compared x y
     (λ l. absurd (omega (
       arith,
       is,
@@ -212,7 +212,7 @@ heads_agree : (c m k : ℕ) (p q : Principal) → IsHeadOf c m p → IsHeadOf c 
     → Agrees m k (principal_cmp p q)
 heads_agree c m k p q f g alike =
     rw (f.is, g.is)
-    (decided (principal_rank p) (principal_rank q) (principal_head c p) (principal_head c q)
+    (agrees_decided (principal_rank p) (principal_rank q) (principal_head c p) (principal_head c q)
     (slice_cmp nat_cmp (principal_name p) (principal_name q))
     (rank_decides c p q f.bytes) (rank_decides c q p g.bytes)
     (λ e. subst (Agrees (principal_head c p) (principal_head c q))
@@ -258,7 +258,7 @@ lesser_head start m k p q f g h l below =
 pub ranks_alike : (c m k : ℕ) (p q : Principal) → IsHeadOf c m p → IsHeadOf c k q → m ≡ k
     → principal_rank p ≡ principal_rank q
 ranks_alike c m k p q f g e =
-    compare (principal_rank p) (principal_rank q)
+    numbers_compared (principal_rank p) (principal_rank q)
     (λ l. absurd (omega (arith, e, f.is, g.is, rank_decides c p q f.bytes l)))
     (λ l. absurd (omega (arith, e, f.is, g.is, rank_decides c q p g.bytes l)))
     (λ e. e)

@@ -5,7 +5,7 @@ use Rattle.std.specs.Ordering.{eq_by_cmp}
 use Rattle.std.proofs.lemmas.Bool.Decides.{eqb_tells}
 use Rattle.std.proofs.lemmas.Map.Text.{is_eq-slice_cmp}
 use Rattle.acl_perm.proofs.Orders.{principals_same}
-use Rattle.acl_normal.specs.internal.rows.RowNumbers.{AreSorted, AreSortedNames, named_at as name_of, tail_here}
+use Rattle.acl_normal.specs.internal.rows.RowNumbers.{AreSorted, AreSortedNames, named_at, tail_here}
 use Rattle.acl_normal.specs.declared.rows.numbers.HeadedPlace.{HeadedPlace}
 use Rattle.acl_normal.proofs.rows.SortedNames.{names_true, names_whole, no_name, row_begins}
 
@@ -95,16 +95,16 @@ module _ (xs : List Ace) (names : List (Principal × ℕ)) (s : AreSortedNames x
 module _ (xs : List Ace) (places : List HeadedPlace) (s : AreSorted xs places) where
   -- the names of the places of the code
   abbrev names : List (Principal × ℕ)
-  names = map (name_of xs) places
+  names = map (named_at xs) places
 
   -- the name at a place is that of the code's place there
   name_at : (k : ℕ) (d : HeadedPlace) → k < length places
-      → slice_index_or names k no_name ≡ name_of xs (slice_index_or places k d)
-  name_at k d l = get_or-map (name_of xs) places k d no_name l
+      → slice_index_or names k no_name ≡ named_at xs (slice_index_or places k d)
+  name_at k d l = get_or-map (named_at xs) places k d no_name l
 
   -- there is a name for each place of the code
   named_within : (k : ℕ) → k < length places → k < length names
-  named_within k l = omega (arith, l, length-map places (name_of xs))
+  named_within k l = omega (arith, l, length-map places (named_at xs))
 
   -- the place of a name is one of those that have a row
   pub place_within : (rows : List ℕ) (start i k end : ℕ) (n : HeadedPlace) → k < length places
@@ -159,12 +159,12 @@ module _ (xs : List Ace) (places : List HeadedPlace) (s : AreSorted xs places) w
     name k = slice_index_or names k no_name
 
     -- the next name is that of the code's next place
-    this : name i ≡ name_of xs n
-    this = name_at i n l ∙ ap (name_of xs) (sym here)
+    this : name i ≡ named_at xs n
+    this = name_at i n l ∙ ap (named_at xs) (sym here)
 
     -- the name at `start` is that of the code's place there
-    that : name start ≡ name_of xs first
-    that = name_at start first (omega (arith, l, so_far.before)) ∙ ap (name_of xs) (sym there)
+    that : name start ≡ named_at xs first
+    that = name_at start first (omega (arith, l, so_far.before)) ∙ ap (named_at xs) (sym there)
 
     -- the test is passed if the next place and the one at `start` have one principal
     by_principals : alike ≡ eq_by_cmp principal_cmp (principal_here xs n.place) (principal_here xs first.place)

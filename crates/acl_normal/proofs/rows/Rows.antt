@@ -18,11 +18,11 @@ pub record IsNamedAt (p : Principal) (xs : List Ace) : Type 0 where
   pub is : (key_here xs place).0 ≡ p
 
 -- who is named is named at a place
-pub named_at : (p : Principal) (xs : List Ace) → is_principal_of p xs ≡ true → IsNamedAt p xs
-named_at p [] h = cc
-named_at p (a ∷ xs) h =
+pub place_of_named : (p : Principal) (xs : List Ace) → is_principal_of p xs ≡ true → IsNamedAt p xs
+place_of_named p [] h = cc
+place_of_named p (a ∷ xs) h =
     ⊎_elim (λ e. record { place = 0; within = omega arith; is = principal_eq_same (principal_of a) p e })
-    (λ e. behind (named_at p xs e)) (or_cases (principal_eq (principal_of a) p) (is_principal_of p xs) h)
+    (λ e. behind (place_of_named p xs e)) (or_cases (principal_eq (principal_of a) p) (is_principal_of p xs) h)
   where
     behind : IsNamedAt p xs → IsNamedAt p (a ∷ xs)
     behind n = record { place = suc n.place; within = omega (arith, n.within); is = n.is }

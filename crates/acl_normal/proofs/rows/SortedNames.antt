@@ -4,7 +4,7 @@ use Rattle.std.specs.List.{Contains}
 use Rattle.std.specs.List.Sorted.{IsPartitionPoint, IsPartitionedBy}
 use Rattle.std.proofs.lemmas.List.Sorted.{All-permutation, Contains-permutation, length_permutation, ranks_by, sorted_far}
 use Rattle.acl_perm.proofs.Orders.{is_less}
-use Rattle.acl_normal.specs.internal.rows.RowNumbers.{AreSortedNames, named_at as name_of}
+use Rattle.acl_normal.specs.internal.rows.RowNumbers.{AreSortedNames, named_at}
 use Rattle.acl_normal.specs.declared.rows.numbers.HeadedPlace.{HeadedPlace}
 use Rattle.acl_normal.proofs.rows.Rows.{not_below}
 use Rattle.acl_normal.proofs.rows.ByPlace.{named_in}
@@ -50,8 +50,8 @@ le_then_less a b p h l = go (principal_cmp a b) refl
         absurd (cc)
 
 -- two principals are equal if neither is below the other
-pub neither : (a b : Principal) → is_lt (principal_cmp a b) ≡ false → is_lt (principal_cmp b a) ≡ false → a ≡ b
-neither a b h l = grind (arith, principal_order.reversed a b, principal_exact a b)
+pub neither_below : (a b : Principal) → is_lt (principal_cmp a b) ≡ false → is_lt (principal_cmp b a) ≡ false → a ≡ b
+neither_below a b h l = grind (arith, principal_order.reversed a b, principal_exact a b)
 
 -- a principal that is not above another is at most that
 pub not_above : (a b : Principal) → is_lt (principal_cmp b a) ≡ false → is_le (principal_cmp a b) ≡ true
@@ -68,10 +68,10 @@ named_push i (b ∷ xs) a =
 -- with the next place, the names are those of one place more
 pub named_more : (aces : List AceRef) (places new : List HeadedPlace) (i : ℕ) (a : AceRef) (n : HeadedPlace)
     → i < length aces → a ≡ slice_index_or aces i a → n.place ≡ i → new ≡ places ++ n ∷ []
-    → map (name_of (aces_in aces)) places ≡ named_from 0 (aces_in (take i aces))
-    → map (name_of (aces_in aces)) new ≡ named_from 0 (aces_in (take (i + 1) aces))
+    → map (named_at (aces_in aces)) places ≡ named_from 0 (aces_in (take i aces))
+    → map (named_at (aces_in aces)) new ≡ named_from 0 (aces_in (take (i + 1) aces))
 named_more aces places new i a n l here at e before_it =
-    ap (map (name_of (aces_in aces))) e ∙ map-append (name_of (aces_in aces)) places (n ∷ [])
+    ap (map (named_at (aces_in aces))) e ∙ map-append (named_at (aces_in aces)) places (n ∷ [])
     ∙ ap (λ v. v ++ made ∷ []) before_it ∙ ap (λ v. done ++ v ∷ []) last ∙ sym (named_push 0 before (ace b))
     ∙ ap (named_from 0) (sym (map-append ace (take i aces) (b ∷ [])))
     ∙ ap (λ v. named_from 0 (aces_in v)) (sym (take_more aces i a l))
@@ -89,7 +89,7 @@ named_more aces places new i a n l here at e before_it =
     long = omega (arith, length-map (take i aces) ace, length-take-le i aces (omega (arith, l)))
 
     made : Principal × ℕ
-    made = name_of (aces_in aces) n
+    made = named_at (aces_in aces) n
 
     given : Principal × ℕ
     given = (principal_of (ace b), 0 + length before)
@@ -143,7 +143,7 @@ module _ (xs : List Ace) (names : List (Principal × ℕ)) (s : AreSortedNames x
       before : (k : ℕ) → suc k ≡ i → row ≤ k → ⊥
       before k e le =
           first k e
-          (neither (at k).0 p ((row_parts p).1 k no_name le (omega (arith, l, e)))
+          (neither_below (at k).0 p ((row_parts p).1 k no_name le (omega (arith, l, e)))
           (names_far k i (omega (arith, e)) l))
 
       last : (i : ℕ) → row < i → (k : ℕ) × (suc k ≡ i)

@@ -1,5 +1,5 @@
 -- Sets of the places that wait.
-use Rattle.acl_normal.proofs.Common.{[], Ace, AceRef, ace, and_parts, ap, arith, Bool, cases_eq, cond, false, false_from_ne_true, get_or-set_other, get_or-set_same, has_bit, is_at, is_user, is_waiting, IsQuiet, Kind, kind_eq, length, length-set, length-take-le, List, list_any, nat_cmp, principal_of, refl, same_class, slice_index_or, slice_set, slot_of, subst, suc, sym, take, take_more, true, waits, with_masks, zero, ℕ, ⊎_elim, ◌&&◌, ◌++◌, ◌+◌, ◌<◌, ◌||◌, ◌∙◌, ◌∷◌, ◌≡◌, ◌≢◌, ◌≤◌, get_or_default}
+use Rattle.acl_normal.proofs.Common.{[], Ace, AceRef, ace, and_parts, ap, arith, Bool, cases_eq, cond, false, false_from_ne_true, get_or-set_other, get_or-set_same, has_bit, is_at, is_user, is_waiting, IsQuiet, Kind, kind_eq, length, length-set, length-take-le, List, list_any, nat_cmp, principal_of, refl, same_class, slice_index_or, slice_set, slot_of, subst, suc, sym, take, take_more, true, waits, with_masks, zero, ℕ, ⊎_elim, ◌&&◌, ◌++◌, ◌+◌, ◌<◌, ◌||◌, ◌∙◌, ◌∷◌, ◌≡◌, ◌≢◌, get_or_default}
 use Rattle.std.specs.declared.collections.BTreeSet.{BTreeSet}
 use Rattle.std.proofs.Common.{Global}
 use Rattle.acl_normal.specs.internal.Places.{bit_count, slot_count}
@@ -31,6 +31,27 @@ puts_absent place kind users mask old new n before lacks = record {
   above = λ k u b i l. before.above k u b i (omega (arith, l));
 }
 
+-- if the place was put into the sets of the bits below n, the sets of the bits below n + 1 have it but for that of bit n
+puts_elsewhere : (place : ℕ) (kind : Kind) (users : Bool) (mask : ℕ) (old sets : List (BTreeSet ℕ Global)) (n : ℕ)
+    → PutsBelow place kind users mask n old sets → (k : Kind) (u : Bool) (b i : ℕ) → b < n + 1
+    → slot_of k u b ≢ slot_of kind users n
+    → has_place sets (slot_of k u b) i
+    ≡ cond ((has_bit mask b && (kind_eq kind k && same_class users u)) && is_at (nat_cmp place) i) true
+    (has_place old (slot_of k u b) i)
+puts_elsewhere place kind users mask old sets n before k u b i l m =
+    ⊎_elim (λ e. at e) (λ o. before.below k u b i (grind arith)) (cases_eq b n)
+  where
+    differs : b ≡ n → (kind_eq kind k && same_class users u) ≡ false
+    differs e = false_from_ne_true _ (λ t. m (both (and_parts (kind_eq kind k) (same_class users u) t)))
+      where
+        both : (kind_eq kind k ≡ true) × (same_class users u ≡ true) → slot_of k u b ≡ slot_of kind users n
+        both (f, g) = rw (← kind_eq_same kind k f, ← class_same users u g, e) refl
+
+    at : b ≡ n → has_place sets (slot_of k u b) i
+        ≡ cond ((has_bit mask b && (kind_eq kind k && same_class users u)) && is_at (nat_cmp place) i) true
+        (has_place old (slot_of k u b) i)
+    at e = before.above k u b i (omega (arith, e)) ∙ grind (arith, differs e)
+
 -- if the place was put into the set of bit n, it was put into those of the bits below n + 1
 pub puts_more : (place : ℕ) (kind : Kind) (users : Bool) (mask : ℕ) (old sets : List (BTreeSet ℕ Global)) (n slot : ℕ)
     (got set d : BTreeSet ℕ Global) → PutsBelow place kind users mask n old sets → has_bit mask n ≡ true
@@ -40,8 +61,11 @@ pub puts_more : (place : ℕ) (kind : Kind) (users : Bool) (mask : ℕ) (old set
     → PutsBelow place kind users mask (n + 1) old (slice_set sets slot set)
 puts_more place kind users mask old sets n slot got set d before has low is here put = record {
   slots = length-set sets slot set ∙ before.slots;
-  below = λ k u b i l. ⊎_elim (λ e. same k u b i e) (λ m. other k u b i l m) (cases_eq (slot_of k u b) slot);
-  above = λ k u b i l. kept k u b i (λ e. apart k u b l e) ∙ before.above k u b i (omega (arith, l));
+  below = λ k u b i l. ⊎_elim (λ e. same k u b i e) (λ m. kept k u b i m
+      ∙ puts_elsewhere place kind users mask old sets n before k u b i l (λ e. m (e ∙ sym is)))
+      (cases_eq (slot_of k u b) slot);
+  above = λ k u b i l. kept k u b i (λ e. omega (arith, l, (slot_same k kind u users b n (e ∙ is)).2))
+      ∙ before.above k u b i (omega (arith, l));
 }
   where
     within : slot < length sets
@@ -51,9 +75,6 @@ puts_more place kind users mask old sets n slot got set d before has low is here
         → has_place (slice_set sets slot set) (slot_of k u b) i ≡ has_place sets (slot_of k u b) i
     kept k u b i m =
         ap (λ v. list_any (is_at (nat_cmp i)) v.keys) (get_or-set_other sets slot (slot_of k u b) set NoPlaces m)
-
-    apart : (k : Kind) (u : Bool) (b : ℕ) → n + 1 ≤ b → slot_of k u b ≡ slot → ⊥
-    apart k u b l e = omega (arith, l, (slot_same k kind u users b n (e ∙ is)).2)
 
     same : (k : Kind) (u : Bool) (b i : ℕ) → slot_of k u b ≡ slot
         → has_place (slice_set sets slot set) (slot_of k u b) i
@@ -69,23 +90,6 @@ puts_more place kind users mask old sets n slot got set d before has low is here
         ∙ ap (λ v. cond (is_at (nat_cmp place) i) true (has_place sets v i)) is
         ∙ ap (λ v. cond (is_at (nat_cmp place) i) true v) (before.above kind users n i (omega arith))
         ∙ rw (parts.0, parts.1, parts.2, has, kind_eq_itself kind, same_class_itself users) refl
-
-    other : (k : Kind) (u : Bool) (b i : ℕ) → b < n + 1 → slot_of k u b ≢ slot
-        → has_place (slice_set sets slot set) (slot_of k u b) i
-        ≡ cond ((has_bit mask b && (kind_eq kind k && same_class users u)) && is_at (nat_cmp place) i) true
-        (has_place old (slot_of k u b) i)
-    other k u b i l m = kept k u b i m ∙ ⊎_elim (λ e. at e) (λ o. before.below k u b i (grind arith)) (cases_eq b n)
-      where
-        differs : b ≡ n → (kind_eq kind k && same_class users u) ≡ false
-        differs e = false_from_ne_true _ (λ t. m (both (and_parts (kind_eq kind k) (same_class users u) t)))
-          where
-            both : (kind_eq kind k ≡ true) × (same_class users u ≡ true) → slot_of k u b ≡ slot
-            both (f, g) = rw (← kind_eq_same kind k f, ← class_same users u g, e) (sym is)
-
-        at : b ≡ n → has_place sets (slot_of k u b) i
-            ≡ cond ((has_bit mask b && (kind_eq kind k && same_class users u)) && is_at (nat_cmp place) i) true
-            (has_place old (slot_of k u b) i)
-        at e = before.above k u b i (omega (arith, e)) ∙ grind (arith, differs e)
 
 -- two places are the same if and only if the places after them are
 same_next : (i n : ℕ) → is_at (nat_cmp (suc i)) (suc n) ≡ is_at (nat_cmp i) n
@@ -130,7 +134,7 @@ holds_next aces masks place m x users old new quiet count l is at class put befo
     arith,
     before.waiting k u b i low,
     class,
-    counts_mask b item (quiet_index xs place item quiet within here),
+    counts_mask b item (quiet_index _ _ quiet within here),
     waits_more k u b (take place xs) item i,
     length-take-le place xs (omega (arith, within)),
   ) ∙ ap (λ v. waits k u b v i) (sym more);

@@ -49,20 +49,20 @@ encodes_bytes (c ∷ cs) h =
 -- UTF-8 is bytes
 utf8_bytes : (bs : List ℕ) → is_utf8 bs ≡ true → AreBytes bs
 utf8_bytes bs h =
-    let text = IsUtf8-from_is_utf8 bs h in
-    subst AreBytes text.1.1 (encodes_bytes text.0 text.1.0)
+    let (cs, (valid, is)) = IsUtf8-from_is_utf8 bs h in
+    subst AreBytes is (encodes_bytes cs valid)
 
 -- if two tests in turn find no fault, the value passes the second one
-passes : {A : Type 0} (a u : Bool) (x y : A) (r : Option A)
+passes_second : {A : Type 0} (a u : Bool) (x y : A) (r : Option A)
     → (if a then Some x else (if not u then Some y else r)) ≡ None → u ≡ true
-passes a u x y r h = grind arith
+passes_second a u x y r h = grind arith
 
 -- a who is a name that a situation may have
 pub who_name : (who : List ℕ) → IsWho who → IsName who
 who_name who is = (
   let bounds = who_bounds who is in omega arith,
   All-from_recursion (λ b. b < 256) who
-      (utf8_bytes who (passes (is_no_who_len (length who)) (is_utf8 who) _ _ _ is)),
+      (utf8_bytes who (passes_second (is_no_who_len (length who)) (is_utf8 who) _ _ _ is)),
 )
 
 -- the principal of an ACE has a name that a situation may have, if it is a user or a group

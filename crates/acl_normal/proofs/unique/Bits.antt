@@ -37,8 +37,8 @@ no_bits m h = same_from_bits m 0 (λ b. no_bit m b (h b) ∙ sym (bit_at-zero b)
 -- ---- differences, and which bits there are
 
 -- what one set has and the other has not is the one without the other
-pub difference_is : (m n set : ℕ) → IsDifference m n set → set ≡ without m n
-difference_is m n set is = masks_same set (without m n) (λ b. is b ∙ sym (has_bit-without m n b))
+pub difference_is : (m n : ℕ) {set : ℕ} → IsDifference m n set → set ≡ without m n
+difference_is m n {set} is = masks_same set (without m n) (λ b. is b ∙ sym (has_bit-without m n b))
 
 -- no bit from 21 on is a right
 pub no_right : (b : ℕ) → 21 ≤ b → has_bit all_rights b ≡ false

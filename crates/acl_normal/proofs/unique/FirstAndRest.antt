@@ -30,12 +30,26 @@ move_front c d p k free a x y o = go (is_either x y p) refl
         (either_is x y p e) in
         found ∙ rw e refl
 
+-- with the ACE that comes first in front of what is emitted from the rest, each principal is once in each column
+once_emitted : (xs rest ns : List Ace) (a : Ace) → IsStep xs a rest → IsEmission rest ns → (b : ℕ)
+    → IsOnce (column (a ∷ ns) b)
+once_emitted xs rest ns a step h b = at (has_bit a.mask b) refl
+  where
+    at : (t : Bool) → has_bit a.mask b ≡ t → IsOnce (column (a ∷ ns) b)
+    at true e =
+        let p : Principal = principal_of a in
+        let none =
+        sym (h.alike b p p (overlaps_itself p)) ∙ ap (first_kind (is_either p p)) (step.taken b e)
+        ∙ lacks_principal p (column xs b) in
+        subst (λ c. IsOnce c) (sym (column_with b a ns step.flags e)) (none, h.once b)
+    at false e = subst (λ c. IsOnce c) (sym (column_lacking b a ns step.flags e)) (h.once b)
+
 -- what comes first in a list, before what is emitted from the rest, is emitted from the list
 pub emission_step : (xs rest ns : List Ace) (a : Ace) → ((b : ℕ) → IsOnce (column xs b)) → IsStep xs a rest
     → IsEmission rest ns → IsEmission xs (a ∷ ns)
 emission_step xs rest ns a once step h = record {
   alike = alike;
-  once = once';
+  once = once_emitted xs rest ns a step h;
   ordered = (
     λ k b free. step.least k b (same k b ∙ free),
     λ b. step.all b ∙ same (ace_key a) b,
@@ -58,20 +72,8 @@ emission_step xs rest ns a once step h = record {
     alike : (b : ℕ) → IsAlike (column xs b) (column (a ∷ ns) b)
     alike b = alike_at b (has_bit a.mask b) refl
 
-    once_at : (b : ℕ) (t : Bool) → has_bit a.mask b ≡ t → IsOnce (column (a ∷ ns) b)
-    once_at b true e =
-        let p : Principal = principal_of a in
-        let none =
-        sym (h.alike b p p (overlaps_itself p)) ∙ ap (first_kind (is_either p p)) (step.taken b e)
-        ∙ lacks_principal p (column xs b) in
-        subst (λ c. IsOnce c) (sym (column_with b a ns step.flags e)) (none, h.once b)
-    once_at b false e = subst (λ c. IsOnce c) (sym (column_lacking b a ns step.flags e)) (h.once b)
-
-    once' : (b : ℕ) → IsOnce (column (a ∷ ns) b)
-    once' b = once_at b (has_bit a.mask b) refl
-
     same : (k : ColumnKey) (b : ℕ) → is_free (column xs b) k ≡ is_free (column (a ∷ ns) b) k
-    same k b = same_free (column xs b) (column (a ∷ ns) b) k (once b) (once' b) (alike b)
+    same k b = same_free (column xs b) (column (a ∷ ns) b) k (once b) (once_emitted xs rest ns a step h b) (alike b)
 
 -- what is left of a list has each principal once at each bit
 pub once_left : (xs rest : List Ace) (a : Ace) → HasOnceColumns xs → IsStep xs a rest → HasOnceColumns rest

@@ -6,11 +6,11 @@ use Rattle.acl_normal.proofs.unique.Columns.{HasOnly}
 use Rattle.acl_perm.proofs.Meetings.{overlap_is}
 
 -- the first test passes only where the second does
-abbrev pub IsWithin : (Principal → Bool) → (Principal → Bool) → Type 0
-IsWithin n m = (x : Principal) → n x ≡ true → m x ≡ true
+abbrev pub IsNarrower : (Principal → Bool) → (Principal → Bool) → Type 0
+IsNarrower n m = (x : Principal) → n x ≡ true → m x ≡ true
 
 -- a narrower test finds nothing where a wider one does not
-pub none_within : (m n : Principal → Bool) (c : Column) → first_kind m c ≡ None → IsWithin n m → first_kind n c ≡ None
+pub none_within : (m n : Principal → Bool) (c : Column) → first_kind m c ≡ None → IsNarrower n m → first_kind n c ≡ None
 none_within m n [] h w = refl
 none_within m n ((p, k) ∷ c) h w = grind (arith, none_within m n c, w p)
 
@@ -68,7 +68,7 @@ splits_at m ((p, j) ∷ c) k h = go (m p) refl (splits_at m c k)
 
 -- the first key that passes is the first of any narrower test that it passes
 pub first_within : (m n : Principal → Bool) (c : Column) (k : Kind) (s : SplitsAt m c k) → n s.principal ≡ true
-    → IsWithin n m → first_kind n c ≡ Some k
+    → IsNarrower n m → first_kind n c ≡ Some k
 first_within m n c k s h w =
     let none : first_kind n s.before ≡ None = none_within m n s.before s.none w in
     ap (first_kind n) s.is ∙ append_none n s.before _ none ∙ grind arith
@@ -79,7 +79,7 @@ IsClique m = (p q : Principal) → m p ≡ true → m q ≡ true → may_overlap
 
 -- of each two principals that m passes, the test of these two passes both, and only what m passes
 pub record Narrows (test : Principal → Principal → Principal → Bool) (m : Principal → Bool) : Type 0 where
-  pub within : (p q : Principal) → m p ≡ true → m q ≡ true → IsWithin (test p q) m
+  pub within : (p q : Principal) → m p ≡ true → m q ≡ true → IsNarrower (test p q) m
   pub first : (p q : Principal) → test p q p ≡ true
   pub second : (p q : Principal) → test p q q ≡ true
 

@@ -10,7 +10,7 @@ use Rattle.acl_normal.proofs.emit.Leaving.{masks_of_quiet}
 use Rattle.acl_normal.proofs.unique.ListColumns.{comes_from}
 use Rattle.acl_normal.proofs.unique.Weights.{length_under}
 use Rattle.acl_normal.proofs.unique.Kept.{within_from}
-use Rattle.acl_normal.proofs.plain.Candidates.{naming_within}
+use Rattle.acl_normal.proofs.unique.Candidates.{naming_within}
 use Rattle.acl_normal.proofs.reduce.Reducing.{only_one}
 use Rattle.acl_normal.proofs.Whoms.{who_is}
 use Rattle.acl_normal.proofs.unique.Columns.{column-append, column_with}

@@ -1,7 +1,7 @@
 -- Which keys are free, by what comes first.
 use Rattle.acl_normal.proofs.Common.{Ace, AllByRecursion, Bool, Column, ColumnKey, IsAlike, IsOnce, Kind, List, None, Principal, Some, [], ace_key, and_from, and_parts, ap, arith, column, conflicts, counts, false, first_kind, is_either, is_free, kind_eq, may_overlap, not, or_cases, or_left, principal_eq, principal_of, refl, same_answers, subst, sym, true, ℕ, ⊎_elim, ◌&&◌, ◌∙◌, ◌∷◌, ◌≡◌}
 use Rattle.acl_normal.proofs.unique.Names.{kind_eq_itself, kind_eq_same, overlaps_back, overlaps_itself, principal_eq_itself, principal_eq_same}
-use Rattle.acl_normal.proofs.unique.Irreducible.{alone, alone_first, either_is, lacks_same}
+use Rattle.acl_normal.proofs.unique.Irreducible.{second_alone, alone_first, either_is, lacks_same}
 pub use Rattle.acl_normal.proofs.unique.Irreducible.{once_from_clean}
 use Rattle.acl_normal.proofs.unique.Columns.{column_has, column_lacks}
 
@@ -64,8 +64,8 @@ alike_lacking p c d nc nd same x y o =
       same x y o,
       same x x (overlaps_itself x),
       same y y (overlaps_itself y),
-      alone x y c,
-      alone x y d,
+      second_alone x y c,
+      second_alone x y d,
       alone_first x y c,
       alone_first x y d,
       lacks_same p x c nc,

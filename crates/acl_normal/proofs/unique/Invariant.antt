@@ -2,7 +2,7 @@
 use Rattle.acl_normal.proofs.Common.{ap, Column, Deny, first_kind, Has, is_either, IsAlike, IsIrreducible, IsOnce, matches, Principal, refl, SameVerdicts, Some, sym, unwrap_or, verdict, without_principal, ◌∙◌, ◌≡◌}
 use Rattle.acl_normal.proofs.unique.Names.{overlaps_itself}
 use Rattle.acl_normal.proofs.unique.FirstKind.{alike_agree, clique_of}
-use Rattle.acl_normal.proofs.unique.Irreducible.{clean}
+use Rattle.acl_normal.proofs.unique.Irreducible.{irreducible_clean}
 use Rattle.acl_normal.proofs.unique.Free.{alike_lacking, once_from_clean}
 use Rattle.acl_normal.proofs.unique.SameOrder.{once_has, has_once}
 use Rattle.acl_normal.proofs.unique.Shorter.{without_key, without_other, lacks_principal}
@@ -24,7 +24,7 @@ pub irreducible_alike : (c d : Column) → IsIrreducible c → IsAlike c d → I
 irreducible_alike c d irr a od l (p, k) r is same = at (has_once c p k has)
   where
     oc : IsOnce c
-    oc = once_from_clean c (clean c irr)
+    oc = once_from_clean c (irreducible_clean c irr)
 
     has : first_kind (is_either p p) c ≡ Some k
     has = a p p (overlaps_itself p) ∙ once_has d p k od (record { before = l; after = r; is = is })

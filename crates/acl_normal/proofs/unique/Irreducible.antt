@@ -26,9 +26,9 @@ none_right m [] r h = h
 none_right m ((p, k) ∷ l) r h = grind (arith, none_right m l r)
 
 -- a key is not needed after a key that matches in all the same situations
-shadowed : (c l r t : Column) (p q : Principal) (k j : Kind) → IsIrreducible c → c ≡ l ++ (p, k) ∷ (r ++ (q, j) ∷ t)
+not_needed_after : (c l r t : Column) (p q : Principal) (k j : Kind) → IsIrreducible c → c ≡ l ++ (p, k) ∷ (r ++ (q, j) ∷ t)
     → ((s : Situation) → matches s q ≡ true → matches s p ≡ true) → ⊥
-shadowed c l r t p q k j irr is over =
+not_needed_after c l r t p q k j irr is over =
     not_needless c (l ++ (p, k) ∷ r) t q j irr (is ∙ sym (append_assoc l ((p, k) ∷ r) ((q, j) ∷ t)))
     (λ s valid none at.
     let rest = none_right (matches s) l ((p, k) ∷ r) none in
@@ -63,18 +63,18 @@ clean_after c l ((p, k) ∷ r) irr is = (
     once (Some j) e =
         let s = splits_at (is_either p p) r j e in
         let same : s.principal ≡ p = either_same p s.principal s.passes in
-        absurd (shadowed c l s.before s.after p s.principal k j irr (is ∙ ap (λ x. l ++ (p, k) ∷ x) s.is)
+        absurd (not_needed_after c l s.before s.after p s.principal k j irr (is ∙ ap (λ x. l ++ (p, k) ∷ x) s.is)
         (λ w at. subst (λ v. matches w v ≡ true) same at))
 
     last : (t : Column) → r ≡ t → principal_eq p everyone ≡ true → r ≡ []
     last [] e h = e
     last ((q, j) ∷ t) e h =
-        absurd (shadowed c l [] t p q k j irr (is ∙ ap (λ x. l ++ (p, k) ∷ x) e)
+        absurd (not_needed_after c l [] t p q k j irr (is ∙ ap (λ x. l ++ (p, k) ∷ x) e)
         (λ w at. subst (λ v. matches w v ≡ true) (sym (principal_eq_same p everyone h)) refl))
 
 -- an irreducible column is clean
-pub clean : (c : Column) → IsIrreducible c → IsClean c
-clean c irr = clean_after c [] c irr refl
+pub irreducible_clean : (c : Column) → IsIrreducible c → IsClean c
+irreducible_clean c irr = clean_after c [] c irr refl
 
 -- a clean column has each principal once
 pub once_from_clean : (c : Column) → IsClean c → IsOnce c
@@ -107,10 +107,10 @@ first_kind_without m n x [] none same = refl
 first_kind_without m n x ((z, j) ∷ c) none same = grind (arith, first_kind_without m n x c, same z)
 
 -- of two principals, where the column lacks the first, the second alone decides
-pub alone : (p q : Principal) (c : Column) → first_kind (is_either p p) c ≡ None
+pub second_alone : (p q : Principal) (c : Column) → first_kind (is_either p p) c ≡ None
     → first_kind (is_either p q) c ≡ first_kind (is_either q q) c
-alone p q [] none = refl
-alone p q ((x, j) ∷ c) none = grind (arith, alone p q c)
+second_alone p q [] none = refl
+second_alone p q ((x, j) ∷ c) none = grind (arith, second_alone p q c)
 
 -- of two principals, if the column lacks the second, the first alone decides
 pub alone_first : (p q : Principal) (c : Column) → first_kind (is_either q q) c ≡ None

@@ -2,7 +2,7 @@
 use Rattle.acl_normal.proofs.Common.{Ace, Bool, Column, IsAlike, IsIrreducible, IsIrreducibleList, IsSituation, List, SameGrants, Situation, [], all_rights, ap, cases_eq, column, false, has_bit, inl, inr, matches, refl, subst, sym, true, verdict, without_bit, ℕ, ◌++◌, ◌∙◌, ◌∷◌, ◌≡◌, ◌⊎◌}
 use Rattle.acl_normal.proofs.unique.Columns.{column-append}
 use Rattle.acl_normal.proofs.unique.Named.{irreducible_named}
-use Rattle.acl_normal.proofs.unique.SameKeys.{alike}
+use Rattle.acl_normal.proofs.unique.SameKeys.{decide_alike}
 use Rattle.acl_normal.proofs.unique.ListColumns.{ComesFrom, column_without, comes_from, other_column, same_grants_from_columns, same_verdicts}
 
 -- without a bit of an ACE an irreducible list does not grant the same
@@ -59,7 +59,7 @@ alike_columns xs ys ix iy same b = go (has_bit all_rights b) refl
   where
     go : (t : Bool) → has_bit all_rights b ≡ t → IsAlike (column xs b) (column ys b)
     go true e =
-        alike (column xs b) (column ys b) (irreducible_column xs b ix) (irreducible_column ys b iy)
+        decide_alike (column xs b) (column ys b) (irreducible_column xs b ix) (irreducible_column ys b iy)
         (irreducible_named _ (irreducible_column xs b ix)) (irreducible_named _ (irreducible_column ys b iy))
         (same_verdicts xs ys same b e)
     go false e = rw (no_other_bits xs b ix e, no_other_bits ys b iy e) (λ p q o. refl)

@@ -4,7 +4,7 @@ use Rattle.acl_normal.proofs.Common.{Ace, ace, AceRef, aces_in, ap, arith, get_o
 use Rattle.acl_nfs4.proofs.Exports.{each_push}
 use Rattle.acl_normal.proofs.Each.{all_at}
 use Rattle.acl_normal.specs.internal.Passes.{IsWithinAs}
-use Rattle.acl_normal.proofs.plain.Passes.{list_of-append}
+use Rattle.acl_normal.proofs.reduce.Passes.{list_of-append}
 
 -- a set whose bits are bits of another is within that other
 pub within_from : (set m : ℕ) → ((k : ℕ) → has_bit m k ≡ true → has_bit set k ≡ true) → IsWithin set m

@@ -1,8 +1,8 @@
 -- When two principals, two kinds or two keys are the same, and when two principals overlap.
 use Rattle.acl_normal.proofs.Common.{Bool, Column, ColumnKey, Kind, List, Principal, and_from, and_parts, ap, arith, bytes_eq, everyone, group, group_named, is_either, is_either_or_everyone, key_eq, kind_eq, longest, map, may_overlap, or_left, or_right, owner, principal_eq, refl, same_answers, subst, sym, true, user, ℕ, ◌∙◌, ◌≡◌}
 use Rattle.std.proofs.lemmas.Slice.Eq.{bytes_eq-Decides}
--- a name is equal to itself
-pub use Rattle.acl_perm.proofs.Meetings.{itself as bytes_eq_itself}
+-- a name is equal to itself, and names that the test finds equal are equal
+pub use Rattle.acl_perm.proofs.Meetings.{bytes_eq_same, itself as bytes_eq_itself}
 use Rattle.acl_perm.specs.Principal.{is_everyone}
 
 -- the number of bytes of the longest name in a column
@@ -12,10 +12,6 @@ longest_name c = longest (map (λ e. e.0) c)
 -- the test for everyone is the test for the same principal as everyone
 pub everyone_test : (p : Principal) → is_everyone p ≡ principal_eq p everyone
 everyone_test p = grind arith
-
--- names that pass the test for the same bytes are equal
-pub bytes_eq_same : (a b : List ℕ) → bytes_eq a b ≡ true → a ≡ b
-bytes_eq_same a b = (bytes_eq-Decides a b).0
 
 -- two names are compared alike either way round
 pub bytes_eq_turned : (a b : List ℕ) → bytes_eq a b ≡ bytes_eq b a

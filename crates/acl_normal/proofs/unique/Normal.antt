@@ -9,7 +9,7 @@ use Rattle.acl_normal.proofs.unique.SameOrder.{has_once}
 use Rattle.acl_normal.proofs.unique.Shorter.{first_kind_after}
 use Rattle.acl_normal.proofs.unique.Settled.{settled_alike, settled_irreducible}
 use Rattle.acl_normal.proofs.unique.Invariant.{irreducible_alike, same_by_alike}
-use Rattle.acl_normal.proofs.plain.Reduced.{same_reduced, reduced_settled}
+use Rattle.acl_normal.proofs.reduce.Reduced.{same_reduced, reduced_settled}
 use Rattle.acl_normal.proofs.unique.Columns.{column-append, no_inherit_only}
 use Rattle.acl_normal.proofs.unique.IrreducibleLists.{irreducible_column}
 

@@ -1,5 +1,5 @@
 -- What lists of one outline have in common: all but the masks.
-use Rattle.acl_normal.proofs.Common.{[], Ace, AceRef, aces_in, ap, arith, key_here, length, List, Mask, mask_numbers, nothing_left, refl, suc, sym, with_masks, zero, ℕ, ◌++◌, ◌∙◌, ◌∷◌, ◌≡◌}
+use Rattle.acl_normal.proofs.Common.{aces_with, [], Ace, AceRef, aces_in, ap, arith, key_here, length, List, Mask, mask_numbers, nothing_left, refl, suc, sym, with_masks, zero, ℕ, ◌++◌, ◌∙◌, ◌∷◌, ◌≡◌}
 use Rattle.acl_normal.proofs.rows.MaskNumbers.{bits_length}
 
 -- the outline of a list has as many ACEs
@@ -39,7 +39,7 @@ length_shown (x ∷ aces) (m ∷ masks) h = ap suc (length_shown aces masks (ome
 
 -- with a mask of the code for each, as many ACEs are shown as there are
 pub masked_count : (aces : List AceRef) (masks : List Mask) → length masks ≡ length aces
-    → length (with_masks aces (mask_numbers masks)) ≡ length aces
+    → length (aces_with aces masks) ≡ length aces
 masked_count aces masks same = length_shown aces (mask_numbers masks) (bits_length masks ∙ same)
 
 -- the outline of two lists together is that of each

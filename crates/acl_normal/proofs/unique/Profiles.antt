@@ -13,8 +13,8 @@ lacks_bit set n k is h = grind (arith, ap (λ (m : ℕ). has_bit m k) is, has_bi
 pub column_outside : (p : Profile) (list : List Ace) (bit : ℕ) → Fits p list → has_bit p.masks bit ≡ false
     → column list bit ≡ []
 column_outside p [] bit h out = refl
-column_outside p (a ∷ list) bit h out =
-    column_lacks bit a list (rw (lacks_bit p.masks a.mask bit h.0.1 out) refl) ∙ column_outside p list bit h.1 out
+column_outside p (a ∷ list) bit ((_, within), rest) out =
+    column_lacks bit a list (rw (lacks_bit p.masks a.mask bit within out) refl) ∙ column_outside p list bit rest out
 
 -- a list that fits a profile denies each bit outside it
 pub denied_outside : (p : Profile) (list : List Ace) (s : Situation) (bit : ℕ) → Fits p list

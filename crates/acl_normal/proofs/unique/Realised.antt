@@ -184,8 +184,8 @@ small_is_situation n ps h s =
     }
 
 -- a test for everyone or one of two is the same with everyone first or last
-pub reorder : (a b e : Bool) → (e || (a || (b || false))) ≡ ((a || b) || e)
-reorder a b e = grind arith
+pub everyone_moved : (a b e : Bool) → (e || (a || (b || false))) ≡ ((a || b) || e)
+everyone_moved a b e = grind arith
 
 -- a principal that is among two is the first or the second
 among_two : (p q r : Principal) → is_among r (p ∷ q ∷ []) ≡ true → (r ≡ p) ⊎ (r ≡ q)
@@ -211,7 +211,7 @@ pairs_from_situations c d p q same np nq o =
     let m = matches (small_situation n (p ∷ q ∷ [])) in
     let are : (r : Principal) → length (principal_name r) < n → m r ≡ is_either_or_everyone p q r =
     λ r l. small_matches n (p ∷ q ∷ []) (omega arith, (omega arith, tt)) (one_user p q o) (omega arith) r l
-    ∙ reorder (principal_eq r p) (principal_eq r q) (principal_eq r everyone) in
+    ∙ everyone_moved (principal_eq r p) (principal_eq r q) (principal_eq r everyone) in
     let first = ap (λ x. unwrap_or x Deny) (first_kind_alike m (is_either_or_everyone p q) c n are (omega arith)) in
     let second = ap (λ x. unwrap_or x Deny) (first_kind_alike m (is_either_or_everyone p q) d n are (omega arith)) in
     sym first ∙ same (small_situation n (p ∷ q ∷ []))

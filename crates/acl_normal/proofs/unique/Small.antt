@@ -2,7 +2,7 @@
 use Rattle.acl_normal.proofs.Common.{[], ap, arith, Bool, Column, Deny, Equal, everyone, false, false≢true, Greater, inl, inr, is_among, is_either_or_everyone, length, Less, List, matches, may_overlap, or_cases, or_left, Ordering, Principal, principal_cmp, principal_eq, principal_exact, principal_name, refl, SameVerdicts, small_situation, sym, true, unwrap_or, user, verdict, ℕ, ⊎_elim, ◌<◌, ◌∙◌, ◌∷◌, ◌≡◌, ◌⊎◌}
 use Rattle.acl_normal.proofs.unique.Names.{principal_eq_same, overlaps_itself, overlaps_back, longest_name}
 use Rattle.acl_normal.proofs.unique.FirstKind.{clique_of, cliques_agree}
-use Rattle.acl_normal.proofs.unique.Realised.{AreShort, one_user, small_matches, first_kind_alike, HasOneUser, reorder}
+use Rattle.acl_normal.proofs.unique.Realised.{AreShort, one_user, small_matches, first_kind_alike, HasOneUser, everyone_moved}
 use Rattle.acl_normal.proofs.comparison.Ordered.{principal_greater}
 use Rattle.acl_normal.proofs.unique.Columns.{HasOnly}
 
@@ -39,37 +39,41 @@ pub record Covers (P : Principal → Type 0) (p q : Principal) (n : ℕ) : Type 
   pub one_user : HasOneUser set
   pub same : (r : Principal) → is_among r (everyone ∷ set) ≡ is_either_or_everyone p q r
 
--- two principals that overlap have such a small set
-covers : (P : Principal → Type 0) (p q : Principal) (n : ℕ) → P p → P q → length (principal_name p) < n
-    → length (principal_name q) < n → may_overlap p q ≡ true → Covers P p q n
-covers P p q n hp hq sp sq o = go (principal_eq p everyone) refl (principal_eq q everyone) refl (principal_cmp p q) refl
+-- a set of no principal has at most one user
+no_user : HasOneUser []
+no_user a b h i = cc
+
+-- a set of one principal has at most one user
+user_alone : (x : Principal) → HasOneUser (x ∷ [])
+user_alone x a b h i = one_user x x (overlaps_itself x) a b (first (user a) h) (first (user b) i)
   where
-    nobody : HasOneUser []
-    nobody a b h i = cc
+    first : (r : Principal) → is_among r (x ∷ []) ≡ true → is_among r (x ∷ x ∷ []) ≡ true
+    first r h = ⊎_elim (λ e. or_left _ _ e) (λ e. absurd (false≢true e)) (or_cases (principal_eq r x) false h)
 
-    alone : (x : Principal) → HasOneUser (x ∷ [])
-    alone x a b h i = one_user x x (overlaps_itself x) a b (first (user a) h) (first (user b) i)
-      where
-        first : (r : Principal) → is_among r (x ∷ []) ≡ true → is_among r (x ∷ x ∷ []) ≡ true
-        first r h = ⊎_elim (λ e. or_left _ _ e) (λ e. absurd (false≢true e)) (or_cases (principal_eq r x) false h)
+-- one principal covers two, if with everyone it is all that these are with everyone
+covers_alone : {P : Principal → Type 0} {p q : Principal} {n : ℕ} (x : Principal) → P x
+    → length (principal_name x) < n → principal_eq x everyone ≡ false
+    → ((r : Principal) → is_among r (everyone ∷ x ∷ []) ≡ is_either_or_everyone p q r) → Covers P p q n
+covers_alone x hx sx e same = record {
+  set = x ∷ [];
+  small = one x hx e;
+  short = (sx, tt);
+  one_user = user_alone x;
+  same = same;
+}
 
-    covers_alone : (x : Principal) → P x → length (principal_name x) < n → principal_eq x everyone ≡ false
-        → ((r : Principal) → is_among r (everyone ∷ x ∷ []) ≡ is_either_or_everyone p q r) → Covers P p q n
-    covers_alone x hx sx e same = record {
-      set = x ∷ [];
-      small = one x hx e;
-      short = (sx, tt);
-      one_user = alone x;
-      same = same;
-    }
-
+-- two principals that overlap have such a small set
+has_cover : (P : Principal → Type 0) (p q : Principal) (n : ℕ) → P p → P q → length (principal_name p) < n
+    → length (principal_name q) < n → may_overlap p q ≡ true → Covers P p q n
+has_cover P p q n hp hq sp sq o = go (principal_eq p everyone) refl (principal_eq q everyone) refl (principal_cmp p q) refl
+  where
     go : (b : Bool) → principal_eq p everyone ≡ b → (t : Bool) → principal_eq q everyone ≡ t → (w : Ordering)
         → principal_cmp p q ≡ w → Covers P p q n
     go true e true f w g = record {
       set = [];
       small = none;
       short = tt;
-      one_user = nobody;
+      one_user = no_user;
       same = λ r. nobody_else p q r (principal_eq_same p everyone e) (principal_eq_same q everyone f);
     }
     go true e false f w g =
@@ -81,7 +85,7 @@ covers P p q n hp hq sp sq o = go (principal_eq p everyone) refl (principal_eq q
       small = two p q hp hq e f o g;
       short = (sp, (sq, tt));
       one_user = one_user p q o;
-      same = λ r. reorder (principal_eq r p) (principal_eq r q) (principal_eq r everyone);
+      same = λ r. everyone_moved (principal_eq r p) (principal_eq r q) (principal_eq r everyone);
     }
     go false e false f Equal g =
         covers_alone p hp sp e (λ r. first_else p q r (inr (sym (principal_exact p q g))))
@@ -100,7 +104,7 @@ pub small_suffice : (P : Principal → Type 0) (n : ℕ) (c d : Column) → HasO
     (matches (small_situation n ps)) d) → SameVerdicts c d
 small_suffice P n c d oc od pos lc ld short small s valid =
     cliques_agree P (matches s) c d (clique_of s) refl oc od
-    (λ p q hp hq o. at p q (covers P p q n hp hq (short p hp) (short q hq) o))
+    (λ p q hp hq o. at p q (has_cover P p q n hp hq (short p hp) (short q hq) o))
   where
     at : (p q : Principal) → Covers P p q n
         → verdict (is_either_or_everyone p q) c ≡ verdict (is_either_or_everyone p q) d

@@ -5,7 +5,7 @@ use Rattle.acl_nfs4.specs.Spelling.{Xdr}
 use Rattle.acl_nfs4.proofs.Exports.{accepted_where_it_fits, one}
 pub use Rattle.acl_normal.specs.Laws.{IsForm}
 use Rattle.acl_normal.specs.NormalForm.{Normalizes}
-use Rattle.acl_normal.proofs.unique.Unique.{unique}
+use Rattle.acl_normal.proofs.unique.Unique.{normal_unique}
 use Rattle.acl_normal.proofs.unique.Profiles.{same_within}
 
 -- accepted lists with the same spelling are equal
@@ -25,7 +25,7 @@ forms_tell p a b n m is f g = (
       laws.transitive a m b (subst (λ v. SameGrants p.masks a v) forms f.grants) (laws.symmetric b m g.grants),
   λ same.
       let all = laws.transitive n b m (laws.transitive n a b (laws.symmetric a n f.grants) same) g.grants in
-      ap spelling (unique n m f.normal g.normal ((same_within p n m is (fits n f.accepted) (fits m g.accepted)).0 all)),
+      ap spelling (normal_unique n m f.normal g.normal ((same_within p n m is (fits n f.accepted) (fits m g.accepted)).0 all)),
 )
   where
     laws : IsEquivalence (SameGrants p.masks)

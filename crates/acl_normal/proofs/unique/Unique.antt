@@ -4,7 +4,7 @@ use Rattle.std.proofs.lemmas.Bool.{true_from_ne_false}
 use Rattle.acl_normal.specs.Normal.{IsOrdered}
 use Rattle.acl_normal.proofs.unique.Names.{either_first, overlaps_itself}
 use Rattle.acl_normal.proofs.unique.Bits.{no_bits}
-use Rattle.acl_normal.proofs.unique.Irreducible.{clean}
+use Rattle.acl_normal.proofs.unique.Irreducible.{irreducible_clean}
 use Rattle.acl_normal.proofs.unique.Free.{alike_rest, head_is_free, once_from_clean, same_free}
 use Rattle.acl_normal.proofs.unique.Keys.{key_antisymmetric}
 use Rattle.acl_normal.proofs.Whoms.{who_is}
@@ -106,15 +106,15 @@ one_order (a ∷ xs) (b ∷ ys) hx hy alike =
         ∙ ap (first_kind (is_either p q)) (column_with i b ys hy.flags.0 f ∙ ap (λ k. k ∷ column ys i) key))
 
 -- a normal list is ready
-ready : (xs : List Ace) → IsNormal xs → IsReady xs
-ready xs h = record {
-  once = λ b. once_from_clean (column xs b) (clean (column xs b) (irreducible_column xs b h.irreducible));
+normal_ready : (xs : List Ace) → IsNormal xs → IsReady xs
+normal_ready xs h = record {
+  once = λ b. once_from_clean (column xs b) (irreducible_clean (column xs b) (irreducible_column xs b h.irreducible));
   ordered = h.ordered;
   flags = h.flags;
   masks = h.irreducible.no_empty_mask;
 }
 
 -- normal lists with the same grants are equal
-pub unique : (xs ys : List Ace) → IsNormal xs → IsNormal ys → SameGrants all_rights xs ys → xs ≡ ys
-unique xs ys hx hy same =
-    one_order xs ys (ready xs hx) (ready ys hy) (alike_columns xs ys hx.irreducible hy.irreducible same)
+pub normal_unique : (xs ys : List Ace) → IsNormal xs → IsNormal ys → SameGrants all_rights xs ys → xs ≡ ys
+normal_unique xs ys hx hy same =
+    one_order xs ys (normal_ready xs hx) (normal_ready ys hy) (alike_columns xs ys hx.irreducible hy.irreducible same)

@@ -25,8 +25,8 @@ bit_behind : (m b : ℕ) → has_bit m (suc b) ≡ has_bit (m / 2) b
 bit_behind m b = ap (λ v. v == 1) (bit_at-suc m b)
 
 -- whether a number has bit 0 is its remainder by two
-lowest : (m : ℕ) → one_if (has_bit m 0) ≡ m % 2
-lowest m = grind (arith, bit_at_lowest m, bit_at-lt m 0)
+lowest_bit : (m : ℕ) → one_if (has_bit m 0) ≡ m % 2
+lowest_bit m = grind (arith, bit_at_lowest m, bit_at-lt m 0)
 
 -- the number of bits of a mask is one for bit 0, and that of its half
 from_lowest : (k m : ℕ) → bits_below (suc k) m ≡ one_if (has_bit m 0) + bits_below k (m / 2)
@@ -36,7 +36,7 @@ from_lowest (suc k) m = omega (arith, from_lowest k m, ap one_if (bit_behind m k
 -- a mask has no more bits below a number than in all
 bits_within : (k m : ℕ) → bits_below k m ≤ count_ones m
 bits_within zero m = omega arith
-bits_within (suc k) m = omega (arith, from_lowest k m, lowest m, bits_within k (m / 2), ones_step m)
+bits_within (suc k) m = omega (arith, from_lowest k m, lowest_bit m, bits_within k (m / 2), ones_step m)
 
 -- a mask without bits from a number on has no more bits in all than below the number
 bits_all : (k m : ℕ) → ((b : ℕ) → k ≤ b → has_bit m b ≡ false) → count_ones m ≤ bits_below k m
@@ -47,7 +47,7 @@ bits_all (suc k) m h =
     omega (
       arith,
       from_lowest k m,
-      lowest m,
+      lowest_bit m,
       bits_all k (m / 2) (λ b l. sym (bit_behind m b)
           ∙ h (suc b) (omega (arith, l))),
       ones_step m,

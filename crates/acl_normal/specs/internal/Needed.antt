@@ -1,5 +1,5 @@
 -- Which rights are needed, computed from masks (this library's own).
-use Rattle.std.specs.Prelude.{ℕ, Bool, true, false, cond, not, ◌||◌, ◌&&◌, [], ◌∷◌}
+use Rattle.std.specs.Prelude.{◌≡◌, ℕ, Bool, true, false, cond, not, ◌||◌, ◌&&◌, [], ◌∷◌}
 use Rattle.acl_perm.specs.Principal.{everyone, is_user}
 use Rattle.acl_perm.specs.declared.kind.Kind.{Kind}
 use Rattle.acl_perm.specs.declared.kind.Kind.TheVariants.{Deny, Allow}
@@ -33,6 +33,15 @@ class_mask m false = m.others.bits
 abbrev pub later_mask : Later → Kind → Bool → ℕ
 later_mask l Deny users = class_mask l.deny users
 later_mask l Allow users = class_mask l.allow users
+
+-- no later key has a right
+abbrev pub HasNoLater : Later → Type 0
+HasNoLater l = (k : Kind) (users : Bool) (b : ℕ) → has_bit (later_mask l k users) b ≡ false
+
+-- the rights of one more key were added
+abbrev pub NotesLater : ColumnKey → ℕ → Later → Later → Type 0
+NotesLater key mask old new = (k : Kind) (users : Bool) (b : ℕ) → has_bit (later_mask new k users) b
+    ≡ (has_bit (later_mask old k users) b || (is_of_kind_and_class k users key && has_bit mask b))
 
 -- a later key of the other kind and of a class that overlaps has the right
 abbrev pub opposes : Later → ColumnKey → ℕ → Bool

@@ -1,5 +1,5 @@
 -- The plain way to the normal form, pass by pass (this library's own).
-use Rattle.std.specs.Prelude.{◌≡◌, ◌≢◌, ℕ, Bool, true, false, ◌||◌, if◌then◌else◌, List, [], ◌∷◌, is_some, Option, None, Some}
+use Rattle.std.specs.Prelude.{◌≡◌, ◌≢◌, ◌++◌, ℕ, Bool, true, false, ◌||◌, if◌then◌else◌, List, [], ◌∷◌, is_some, Option, None, Some}
 use Rattle.std.specs.List.{AllByRecursion}
 use Rattle.std.specs.Ordering.{is_le}
 use Rattle.acl_perm.specs.Bits.{has_bit}
@@ -70,3 +70,8 @@ lesser (Some a) b = if is_le (compare_keys (ace_key a) (ace_key b)) then a else 
 abbrev pub Best : List Ace → List Ace → Option Ace → Type 0
 Best list aces None = AreNowhereFree list aces
 Best list aces (Some a) = IsLeastCandidate list aces a
+
+-- the best of the ACEs that were seen became the best of these and one more
+abbrev pub AddsToBest : List Ace → Ace → Option Ace → Option Ace → Type 0
+AddsToBest list next old new = (seen : List Ace) → Best list seen old → IsWithinAs list next
+    → Best list (seen ++ next ∷ []) new

@@ -18,3 +18,7 @@ with_masks [] masks = []
 with_masks (a ∷ aces) [] = []
 with_masks (a ∷ aces) (m ∷ masks) =
     record { kind = a.kind; flags = a.flags.bits; mask = m; who = a.who.now } ∷ with_masks aces masks
+
+-- the ACEs of the code with the masks of the code
+abbrev pub aces_with : List AceRef → List Mask → List Ace
+aces_with aces masks = with_masks aces (mask_numbers masks)

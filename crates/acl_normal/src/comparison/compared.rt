@@ -1,8 +1,9 @@
 //! Two lists that are compared. What the search needs again and again is computed once: which principals the lists
 //! mention, which of these each ACE names, and on which rights the lists may differ.
-ghost use Rattle.std.specs.Prelude.{◌<◌, ◌^◌, ◌≡◌};
+ghost use Rattle.std.specs.Prelude.{◌<◌, ◌≡◌};
 ghost use Rattle.acl_normal.specs.Common.{AreAlikeTo, AreMentioned, AreNumbered, IfOk, IsGrantedTo, OnFalse, OnTrue, [], aces_in, all_mentioned, all_rights, false, has_bit, length, members_of, principal, set_of, true, two_lists};
 ghost use Rattle.acl_normal.specs.internal.comparison.TwoLists.{AreWithin, HaveSameColumn, ArePlacingsOf, principal_at};
+ghost use Rattle.acl_normal.specs.internal.Limits.{slice_limit};
 
 use super::apart::rights_apart;
 use super::evaluation::{granted_to, unlike};
@@ -96,7 +97,7 @@ impl<'a, 'b> Compared<'a, 'b> {
     /// Returns how many ACEs the longer list has.
     pub(crate) fn longer(&self) -> usize
         ensures within { AreWithin self.now result }
-        ensures small { result < 2 ^ 63 }
+        ensures small { result < slice_limit }
     {
         self.first.len().max(self.second.len())
     }

@@ -1,8 +1,9 @@
 //! The search for principals that two lists name in opposite orders. Tables save a test of each pair of principals.
-ghost use Rattle.std.specs.Prelude.{◌&&◌, ◌+◌, ◌<◌, ◌^◌, ◌≡◌, ◌≤◌};
+ghost use Rattle.std.specs.Prelude.{◌&&◌, ◌+◌, ◌<◌, ◌≡◌, ◌≤◌};
 ghost use Rattle.acl_normal.specs.Common.{AllByRecursion, IfOk, is_users, length, not, true, vec_len};
 ghost use Rattle.acl_normal.specs.internal.comparison.FirstPlaces.{IsFirstBelow, inverts, inverts_any, is_unlike};
 ghost use Rattle.acl_normal.specs.internal.comparison.PlaceTables.{HasNone, IsPlacingWithin, IsFirstOf, IsPlaceTable, Raises, is_counted, is_inverting, is_of_camp, other_place, place_of};
+ghost use Rattle.acl_normal.specs.internal.Limits.{slice_limit};
 
 use super::placing::Placing;
 use crate::class::Class;
@@ -36,7 +37,7 @@ pub(crate) fn first_inverting(
 ) -> Result<usize, AllocError>
     requires limit { limit ≤ length placings.now }
     requires places { AllByRecursion (IsPlacingWithin size) placings.now }
-    requires size { size < 2 ^ 63 }
+    requires size { size < slice_limit }
     ensures { IfOk result (IsFirstBelow (λ r. inverts_any r placings.now) placings.now limit) }
 {
     let allowed_users = first_of(alloc, placings, size, limit, Camp::ALLOWED_USERS)?;
@@ -55,7 +56,7 @@ fn first_of(
 ) -> Result<usize, AllocError>
     requires limit { limit ≤ length placings.now }
     requires places { AllByRecursion (IsPlacingWithin size) placings.now }
-    requires size { size < 2 ^ 63 }
+    requires size { size < slice_limit }
     ensures { IfOk result (λ v. IsFirstOf camp placings.now limit v) }
 {
     if is_empty_camp(placings, camp) {
@@ -123,7 +124,7 @@ fn table(
     side: Side,
 ) -> Result<Vec<usize>, AllocError>
     requires places { AllByRecursion (IsPlacingWithin size) placings.now }
-    requires size { size < 2 ^ 63 }
+    requires size { size < slice_limit }
     ensures { IfOk result (λ v. IsPlaceTable camp side size placings.now v.items) }
 {
     let mut table = vec![in alloc; 0usize; size + 2]?;
@@ -148,7 +149,7 @@ pub(crate) enum Side {
 #[tactic(auto, using(crate::proofs::comparison::TableFacts::raising))]
 fn raise(table: &mut Vec<usize>, placing: Placing, camp: Camp, side: Side)
     requires within { place_of side placing + 1 < vec_len table.old }
-    requires small { other_place side placing < 2 ^ 63 }
+    requires small { other_place side placing < slice_limit }
     ensures { Raises camp side placing table.old.items table.new.items }
 {
     if is_counted(camp, placing) {

@@ -1,10 +1,11 @@
 //! The principals that two lists mention, in order and each once. A principal's number is its place among them.
-ghost use Rattle.std.specs.Prelude.{◌++◌, ◌<◌, ◌^◌, ◌≡◌};
+ghost use Rattle.std.specs.Prelude.{◌++◌, ◌<◌, ◌≡◌};
 ghost use Rattle.acl_normal.specs.Common.{AreMentioned, AreRowNumbers, AreWhoms, IfOk, OnOk, ace, aces_in, length, option_map, principal, principals, slice_index_or, two_lists, vec_len, ℕ};
 ghost use Rattle.acl_perm.specs.Order.{principal_name};
 ghost use Rattle.acl_normal.specs.SmallSituations.{longest};
 ghost use Rattle.acl_normal.specs.internal.comparison.MentionedRows.{AreByRow, AreMentionedNumbers, AreMentionedRows, AreMentionsOf, mentioned_by, noted, whom_of, with_found};
 ghost use Rattle.acl_normal.specs.internal.comparison.SamePlaces.{with_copies};
+ghost use Rattle.acl_normal.specs.internal.Limits.{slice_limit};
 
 use super::placing::Whom;
 use super::same_places::same_places;
@@ -189,7 +190,7 @@ fn whom(item: &AceRef<'_>, number: usize) -> Whom
 #[tactic(auto, using(crate::proofs::comparison::MentionedNames::longest_steps))]
 pub(crate) fn longest_of(whole: &[Principal<'_>]) -> usize
     ensures value { result ≡ longest (principals whole.now) }
-    ensures small { result < 2 ^ 63 }
+    ensures small { result < slice_limit }
 {
     let mut most = 0;
     for p in whole {
@@ -201,7 +202,7 @@ pub(crate) fn longest_of(whole: &[Principal<'_>]) -> usize
 // The length of the principal's name, or 0 if it has none.
 fn name_length(p: Principal<'_>) -> usize
     ensures value { result ≡ length (principal_name (principal p.entry)) }
-    ensures small { result < 2 ^ 63 }
+    ensures small { result < slice_limit }
 {
     match p {
         Principal::User(name) | Principal::GroupNamed(name) => name.len(),

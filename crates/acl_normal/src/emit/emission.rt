@@ -1,10 +1,11 @@
 //! The emission of a normal form: each ACE has the least key that is free on some right, with all rights on which it is
 //! free.
-ghost use Rattle.std.specs.Prelude.{◌*◌, ◌+◌, ◌<◌, ◌^◌, ◌≡◌};
+ghost use Rattle.std.specs.Prelude.{◌*◌, ◌+◌, ◌<◌, ◌≡◌};
 ghost use Rattle.acl_normal.specs.Common.{Ace, AreQueues, IfNone, IfOk, IfSome, IsEmission, IsIrreducibleList, IsNormal, List, OnOk, SameGrants, AreInRows, all_rights, bit_count, count_left, emitted_aces, has_bit, is_user, is_users, key_here, kind_here, left, length, nothing_left, plain_key, principal, replicate, slice_index_or, true, ℕ};
 ghost use Rattle.acl_perm.specs.Order.{kind_rank};
 ghost use Rattle.acl_normal.specs.internal.emit.Queues.{BeginsWaiting, IsQueueAt};
 ghost use Rattle.acl_normal.specs.internal.emit.Ready.{AddsMark, ChangesMarks, Enters, FitsKeys, Frees, HoldsFree, TakesBits, marks};
+ghost use Rattle.acl_normal.specs.internal.Limits.{key_limit, list_limit};
 
 use crate::bits::next_right;
 use crate::class::Class;
@@ -217,9 +218,9 @@ fn add(
 /// Returns the number of a key. Keys are numbered by row, and then by kind, so that the numbers are in the order of the
 /// keys.
 pub(crate) fn key_number(row: usize, kind: Kind) -> usize
-    requires { row < 2 ^ 32 }
+    requires { row < list_limit }
     ensures value { result ≡ 2 * row + kind_rank kind }
-    ensures small { result < 2 ^ 33 }
+    ensures small { result < key_limit }
 {
     match kind {
         Kind::Deny => 2 * row,

@@ -1,7 +1,9 @@
 //! The queues of the places that wait, one for each kind, class and right.
-ghost use Rattle.std.specs.Prelude.{◌+◌, ◌<◌, ◌^◌, ◌≡◌, ◌≢◌, ◌≤◌};
-ghost use Rattle.acl_normal.specs.Common.{Ace, AreQueues, false, has_bit, IfOk, is_blocked, is_users, length, List, mask_here, OnOk, slot_count, slot_of, true, vec_len, waits_before, ℕ};
+ghost use Rattle.std.specs.Prelude.{◌+◌, ◌<◌, ◌≡◌, ◌≢◌};
+ghost use Rattle.acl_normal.specs.Common.{Ace, AreQueues, has_bit, IfOk, is_users, length, List, mask_here, OnOk, slot_count, slot_of, true, vec_len};
 ghost use Rattle.acl_normal.specs.internal.emit.Queues.{AreNoted, IsQueueAt, MovesOn, PutsPlace, head_in, place_in};
+ghost use Rattle.acl_normal.specs.internal.Limits.{slice_limit};
+ghost use Rattle.acl_normal.specs.internal.Places.{IsBlockedPast, IsClearTo, NoneWaitsTo, SomeWaitsPast};
 
 use crate::bits::next_right;
 use crate::class::Class;
@@ -44,7 +46,7 @@ impl Queues {
 
     /// Returns empty queues, with room for a number of places.
     fn new(alloc: Global, places: usize) -> Result<Queues, AllocError>
-        requires { places < 2 ^ 63 }
+        requires { places < slice_limit }
         ensures { IfOk result (λ queues. (list : List Ace)
             → AreNoted list (length list) 0 queues) }
     {
@@ -103,10 +105,8 @@ impl Queues {
         right: Bit,
     ) -> usize
         requires { AreQueues rows.now self.now }
-        ensures clear { (place : ℕ) → place ≤ result
-            → is_blocked kind (is_users class) right.bit rows.now place ≡ false }
-        ensures blocked { (place : ℕ) → result < place → place < 2 ^ 64
-            → is_blocked kind (is_users class) right.bit rows.now place ≡ true }
+        ensures clear { IsClearTo kind (is_users class) right.bit rows.now result }
+        ensures blocked { IsBlockedPast kind (is_users class) right.bit rows.now result }
     {
         let others = self.first_waiting(rows, kind.other(), Class::Others, right);
         match class {
@@ -121,10 +121,8 @@ impl Queues {
     /// Returns the first place that waits in a queue, or the greatest number if none waits.
     fn first_waiting(&self, rows: &Remaining<'_>, kind: Kind, class: Class, right: Bit) -> usize
         requires { AreQueues rows.now self.now }
-        ensures before { (place : ℕ) → place ≤ result
-            → waits_before kind (is_users class) right.bit rows.now place ≡ false }
-        ensures behind { (place : ℕ) → result < place → place < 2 ^ 64
-            → waits_before kind (is_users class) right.bit rows.now place ≡ true }
+        ensures before { NoneWaitsTo kind (is_users class) right.bit rows.now result }
+        ensures behind { SomeWaitsPast kind (is_users class) right.bit rows.now result }
     {
         let at = self.first_link(rows, kind, class, right);
         if at == 0 {

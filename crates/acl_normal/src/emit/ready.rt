@@ -2,6 +2,7 @@
 ghost use Rattle.std.specs.Prelude.{◌*◌, ◌<◌, ◌^◌, ◌≡◌, slice_set};
 ghost use Rattle.acl_normal.specs.Common.{bit_or, IfNone, IfOk, IfSome, length, OnOk, replicate, slice_index_or, ℕ};
 ghost use Rattle.acl_normal.specs.internal.emit.Ready.{IsLeastReady};
+ghost use Rattle.acl_normal.specs.internal.Limits.{slice_limit};
 
 use crate::bits::with;
 use acl_perm::internal::Bit;
@@ -39,7 +40,7 @@ impl Model for Ready {
 impl Ready {
     /// Makes room for the keys of all rows. No key is free at first.
     pub(crate) fn new(alloc: Global, rows: usize) -> Result<Ready, AllocError>
-        requires { rows < 2 ^ 63 }
+        requires { rows < slice_limit }
         ensures { IfOk result (λ r. r ≡ replicate (2 * rows) 0) }
     {
         Ok(Ready {

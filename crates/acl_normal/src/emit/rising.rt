@@ -1,7 +1,8 @@
 //! Lists whose keys rise. Such a list is its own normal form, except for flags that do not say whom an ACE names.
-ghost use Rattle.std.specs.Prelude.{◌<◌, ◌^◌, ◌≡◌};
-ghost use Rattle.acl_normal.specs.Common.{ace, all_cleared, AreRowNumbers, full, IfOk, IsAccepted, IsRising, IsTrue, left, length, mask_numbers, with_masks};
+ghost use Rattle.std.specs.Prelude.{◌<◌, ◌≡◌};
+ghost use Rattle.acl_normal.specs.Common.{ace, aces_with, all_cleared, AreRowNumbers, full, IfOk, IsAccepted, IsRising, IsTrue, left, length};
 ghost use Rattle.acl_normal.specs.internal.emit.Rising.{cleared};
+ghost use Rattle.acl_normal.specs.internal.Limits.{list_limit};
 
 use crate::emit::emission::key_number;
 use crate::normal_form::flags_of;
@@ -12,10 +13,10 @@ use std::alloc::{AllocError, Global};
 /// Returns whether the keys of the ACEs that still have rights rise strictly. `rows` has the row of the principal of
 /// each ACE.
 pub(crate) fn rises(aces: &[AceRef<'_>], masks: &[Mask], rows: &[usize]) -> bool
-    requires few { length aces.now < 2 ^ 32 }
+    requires few { length aces.now < list_limit }
     requires masks { length masks.now ≡ length aces.now }
-    requires rows { AreRowNumbers (with_masks aces.now (mask_numbers masks.now)) rows.now }
-    ensures { IsTrue result → IsRising (left (with_masks aces.now (mask_numbers masks.now))) }
+    requires rows { AreRowNumbers (aces_with aces.now masks.now) rows.now }
+    ensures { IsTrue result → IsRising (left (aces_with aces.now masks.now)) }
 {
     let mut bound = 0;
     for (place, ace) in aces.iter().enumerate() {
@@ -35,9 +36,9 @@ pub(crate) fn rises(aces: &[AceRef<'_>], masks: &[Mask], rows: &[usize]) -> bool
 pub(crate) fn cleared(alloc: Global, aces: &[AceRef<'_>], masks: &[Mask]) -> Result<Acl, AllocError>
     requires masks { length masks.now ≡ length aces.now }
     requires accepted { IsAccepted full
-        (all_cleared (left (with_masks aces.now (mask_numbers masks.now)))) }
+        (all_cleared (left (aces_with aces.now masks.now))) }
     ensures { IfOk result (λ list. list
-        ≡ all_cleared (left (with_masks aces.now (mask_numbers masks.now)))) }
+        ≡ all_cleared (left (aces_with aces.now masks.now))) }
 {
     let mut list = Acl::new(alloc);
     for (place, ace) in aces.iter().enumerate() {

@@ -1,14 +1,14 @@
 //! Puts ACEs into the order of the normal form. Each time, the next ACE is the least that no other ACE has to precede.
 
-ghost use Rattle.std.specs.Prelude.{◌&&◌, ◌++◌, ◌∷◌, ◌≡◌, ◌≤◌};
-ghost use Rattle.acl_normal.specs.Common.{[], Ace, ace, aces_in, AllByRecursion, column, count_left, false, full, has_bit, IfNone, IfOk, IfSome, is_free, IsEmission, KeepsProfiles, kind_eq, length, List, not, option_map, principal_eq, principal_of, true, ℕ};
+ghost use Rattle.std.specs.Prelude.{◌&&◌, ◌∷◌, ◌≡◌, ◌≤◌};
+ghost use Rattle.acl_normal.specs.Common.{[], ace, aces_in, AllByRecursion, column, count_left, false, full, has_bit, IfNone, IfOk, IfSome, is_free, IsEmission, KeepsProfiles, kind_eq, length, not, option_map, principal_eq, principal_of, true, ℕ};
 ghost use Rattle.std.specs.Ordering.{is_le};
 ghost use Rattle.acl_nfs4.specs.Limits.{most_weight};
 ghost use Rattle.acl_nfs4.specs.Spelling.{IsAce};
 ghost use Rattle.acl_normal.specs.internal.Counts.{mask_width};
 ghost use Rattle.acl_normal.specs.internal.emit.Emissions.{HasOnceColumns};
 ghost use Rattle.acl_normal.specs.Keys.{compare_keys, ace_key};
-ghost use Rattle.acl_normal.specs.internal.Passes.{Best, conflicts_before, IsCandidate, IsNowhereFree, IsWithinAs, lesser};
+ghost use Rattle.acl_normal.specs.internal.Passes.{AddsToBest, Best, conflicts_before, IsCandidate, IsNowhereFree, IsWithinAs, lesser};
 ghost use Rattle.acl_normal.specs.internal.Plain.{without_principal};
 
 use super::reduction::is_same;
@@ -54,9 +54,8 @@ fn better<'a>(
     best: Option<AceRef<'a>>,
     item: &AceRef<'a>,
 ) -> Option<AceRef<'a>>
-    ensures { (seen : List Ace) → Best (aces_in left.now) seen (option_map ace best.entry)
-        → IsWithinAs (aces_in left.now) (ace item.now)
-        → Best (aces_in left.now) (seen ++ ace item.now ∷ []) (option_map ace result) }
+    ensures { AddsToBest (aces_in left.now) (ace item.now)
+        (option_map ace best.entry) (option_map ace result) }
 {
     match candidate(left, item) {
         None => best,
@@ -98,7 +97,7 @@ fn free_bits(left: &[AceRef<'_>], item: &AceRef<'_>) -> Mask
 }
 
 // The rights of the other ACE if it has the key of the ACE, except those that are blocked.
-#[tactic(auto, using(crate::proofs::plain::Passes::free_alone))]
+#[tactic(auto, using(crate::proofs::reduce::Passes::free_alone))]
 fn own_free(other: &AceRef<'_>, item: &AceRef<'_>, blocked: Mask) -> Mask
     ensures { (bit : ℕ) → has_bit result.bits bit
         ≡ (is_free (column (ace other.now ∷ []) bit) (ace_key (ace item.now))

@@ -1,6 +1,6 @@
 //! The first step of the reduction: it drops the rights that an earlier ACE of the same principal or of everyone has.
 ghost use Rattle.std.specs.Prelude.{◌≡◌};
-ghost use Rattle.acl_normal.specs.Common.{[], aces_in, AreRowNumbers, column, full, IfOk, IsAccepted, IsThinned, length, mask_numbers, unshadowed, vec_len, with_masks, ℕ};
+ghost use Rattle.acl_normal.specs.Common.{[], aces_in, aces_with, AreRowNumbers, column, full, IfOk, IsAccepted, IsThinned, length, unshadowed, vec_len, ℕ};
 
 use crate::bits::{active, of_everyone};
 use acl_nfs4::AceRef;
@@ -18,9 +18,9 @@ pub(crate) fn first_masks(
     requires rows { AreRowNumbers (aces_in aces.now) rows.now }
     ensures places { IfOk result (λ masks. vec_len masks ≡ length aces.now) }
     ensures thinned { IfOk result (λ masks. IsThinned (aces_in aces.now)
-        (with_masks aces.now (mask_numbers masks.items))) }
+        (aces_with aces.now masks.items)) }
     ensures columns { IfOk result (λ masks. (b : ℕ)
-        → column (with_masks aces.now (mask_numbers masks.items)) b
+        → column (aces_with aces.now masks.items) b
         ≡ unshadowed [] (column (aces_in aces.now) b)) }
 {
     let mut seen = vec![in alloc; Mask::NONE; aces.len()]?;

@@ -1,10 +1,10 @@
 //! The second step of the reduction: it drops the rights that only repeat what everyone gets and that conflict with no
 //! later ACE.
-ghost use Rattle.std.specs.Prelude.{Bool, ◌&&◌, ◌<◌, ◌||◌, ◌≡◌};
-ghost use Rattle.acl_normal.specs.Common.{IsThinned, IsTidy, ace, bit_count, column, default, default_at, everyone, false, has_bit, is_users, kind_eq, length, mask_numbers, needed_keys, not, plain_key, principal_eq, principal_of, true, with_masks, ℕ};
-ghost use Rattle.acl_perm.specs.declared.kind.Kind.{Kind as Sort};
-ghost use Rattle.acl_normal.specs.internal.Needed.{class_mask, is_kept, is_of_kind_and_class, later_mask, opposes};
+ghost use Rattle.std.specs.Prelude.{Bool, ◌&&◌, ◌||◌, ◌≡◌};
+ghost use Rattle.acl_normal.specs.Common.{aces_with, IsThinned, IsTidy, ace, column, default, default_at, everyone, false, has_bit, is_users, kind_eq, length, not, plain_key, principal_eq, principal_of, true, ℕ};
+ghost use Rattle.acl_normal.specs.internal.Needed.{HasNoLater, NotesLater, class_mask, is_kept, opposes};
 ghost use Rattle.acl_normal.specs.Places.{same_class};
+ghost use Rattle.acl_normal.specs.internal.Reduced.{HasNeededColumns};
 ghost use Rattle.acl_perm.specs.declared.kind.Kind.TheVariants.{Allow};
 
 use crate::bits::of_everyone;
@@ -69,14 +69,12 @@ pub(crate) struct Later {
 /// the first step drops.
 pub(crate) fn drop_needless(aces: &[AceRef<'_>], masks: &mut [Mask])
     requires places { length masks.old ≡ length aces.now }
-    requires tidy { IsTidy (with_masks aces.now (mask_numbers masks.old)) }
+    requires tidy { IsTidy (aces_with aces.now masks.old) }
     ensures places { length masks.new ≡ length aces.now }
-    ensures thinned { IsThinned (with_masks aces.now (mask_numbers masks.old))
-        (with_masks aces.now (mask_numbers masks.new)) }
-    ensures columns { (b : ℕ) → b < bit_count
-        → column (with_masks aces.now (mask_numbers masks.new)) b
-        ≡ needed_keys (default (column (with_masks aces.now (mask_numbers masks.old)) b))
-        (column (with_masks aces.now (mask_numbers masks.old)) b) }
+    ensures thinned { IsThinned (aces_with aces.now masks.old)
+        (aces_with aces.now masks.new) }
+    ensures columns { HasNeededColumns (aces_with aces.now masks.old)
+        (aces_with aces.now masks.new) }
 {
     let allowed = allowed_to_everyone(aces, masks);
     let mut later = no_later();
@@ -93,9 +91,9 @@ pub(crate) fn drop_needless(aces: &[AceRef<'_>], masks: &mut [Mask])
 /// Returns the rights that the ACEs with these masks allow everyone.
 fn allowed_to_everyone(aces: &[AceRef<'_>], masks: &[Mask]) -> Mask
     requires places { length masks.now ≡ length aces.now }
-    requires tidy { IsTidy (with_masks aces.now (mask_numbers masks.now)) }
+    requires tidy { IsTidy (aces_with aces.now masks.now) }
     ensures { (b : ℕ) → default_at result.bits b
-        ≡ default (column (with_masks aces.now (mask_numbers masks.now)) b) }
+        ≡ default (column (aces_with aces.now masks.now) b) }
 {
     let mut allowed = Mask::NONE;
     for (place, ace) in aces.iter().enumerate() {
@@ -118,7 +116,7 @@ fn allowed_by(item: AceRef<'_>, mask: Mask) -> Mask
 
 /// Returns the rights of the ACEs after the last one: none.
 fn no_later() -> Later
-    ensures { (k : Sort) (users : Bool) (b : ℕ) → has_bit (later_mask result k users) b ≡ false }
+    ensures { HasNoLater result }
 {
     Later {
         deny: ByClass::NONE,
@@ -159,9 +157,7 @@ fn opposite(later: Later, at: Key<'_>) -> Mask
 
 /// Adds the rights of one more ACE to those of the later ACEs.
 fn noted(later: Later, at: Key<'_>, mask: Mask) -> Later
-    ensures { (k : Sort) (users : Bool) (b : ℕ) → has_bit (later_mask result k users) b
-        ≡ (has_bit (later_mask later k users) b
-        || (is_of_kind_and_class k users (plain_key at.entry) && has_bit mask.bits b)) }
+    ensures { NotesLater (plain_key at.entry) mask.bits later result }
 {
     let class = Class::of(at.principal);
     match at.kind {

@@ -3,7 +3,7 @@ ghost use Rattle.std.specs.Prelude.{◌≡◌, drop, get_or, length, option_map,
 ghost use Rattle.acl_perm.specs.Order.{principal_cmp};
 ghost use Rattle.acl_perm.specs.Principal.{principal};
 ghost use Rattle.acl_nfs4.specs.internal.Progress.{IsBytes};
-ghost use Rattle.acl_normal.specs.internal.rows.Heads.{AllBegin, BeginsWith, HasHead, IsHeadOf, count_to, given_name, head_from, is_whole};
+ghost use Rattle.acl_normal.specs.internal.rows.Heads.{AllBegin, BeginsWith, HasHead, IsHeadOf, count_to, given_name, head_bytes, head_from, is_whole, more_bytes};
 ghost use Rattle.acl_normal.specs.internal.Shown.{aces_in};
 
 use crate::whom::whom;
@@ -74,7 +74,7 @@ fn behind(name: &[u8], count: usize) -> &[u8]
 
 // The rank in the highest byte, below it the first six bytes, and in the lowest byte the number of bytes.
 fn packed(rank: u8, bytes: &[u8]) -> u64
-    ensures { result ≡ head_from rank 6 bytes.now (count_to 7 bytes.now) }
+    ensures { result ≡ head_from rank head_bytes bytes.now (count_to more_bytes bytes.now) }
 {
     u64::from_be_bytes([
         rank,
@@ -90,7 +90,7 @@ fn packed(rank: u8, bytes: &[u8]) -> u64
 
 // The number of bytes. A number of 7 means more than six bytes.
 fn count(bytes: &[u8]) -> u8
-    ensures { result ≡ count_to 7 bytes.now }
+    ensures { result ≡ count_to more_bytes bytes.now }
 {
     if bytes.len() < 7 {
         bytes.len() as u8

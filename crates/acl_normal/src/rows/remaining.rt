@@ -1,10 +1,10 @@
 //! What is left of a list while it is emitted: for each row, the rights that were not emitted yet.
-ghost use Rattle.std.specs.Prelude.{◌*◌, ◌<◌, ◌^◌, ◌≡◌};
-ghost use Rattle.acl_normal.specs.Common.{IfNone, IfOk, IfSome, IsNumbered, IsRowOf, ace, false, first_place_of, has_bit, is_principal_of, is_user, is_users, key_here, kind_here, length, mask_here, mask_numbers, plain_key, principal, principal_here, principal_of, take_out, vec_len, with_masks};
-ghost use Rattle.acl_perm.specs.Principal.{Principal as Who};
+ghost use Rattle.std.specs.Prelude.{◌*◌, ◌<◌, ◌≡◌};
+ghost use Rattle.acl_normal.specs.Common.{IfNone, IfOk, IfSome, IsRowOf, ace, false, has_bit, is_principal_of, is_user, is_users, key_here, kind_here, length, mask_here, plain_key, principal, principal_here, principal_of, take_out, vec_len};
 ghost use Rattle.acl_normal.specs.Places.{first_at};
-ghost use Rattle.acl_normal.specs.internal.rows.Remaining.{IsRemainder};
-ghost use Rattle.acl_normal.specs.internal.rows.Rows.{IsNumberOf};
+ghost use Rattle.acl_normal.specs.internal.rows.Remaining.{HasNumbers, IsRemainder, reduced_aces};
+ghost use Rattle.acl_normal.specs.internal.rows.Rows.{IsFirstOfRow, IsNumberOf};
+ghost use Rattle.acl_normal.specs.internal.Limits.{list_limit};
 
 use crate::class::Class;
 use crate::rows::numbers::{RowNumbers, find_row};
@@ -53,13 +53,10 @@ impl<'a> Model for Remaining<'a> {
 impl<'a> Remaining<'a> {
     /// Returns what is left before anything was emitted: all of the list.
     pub(crate) fn of(alloc: Global, reduced: Reduced<'a>) -> Result<Remaining<'a>, AllocError>
-        requires few { vec_len reduced.aces < 2 ^ 32 }
+        requires few { vec_len reduced.aces < list_limit }
         requires places { vec_len reduced.masks ≡ vec_len reduced.aces }
-        requires reduced { IsNumbered
-            (with_masks reduced.aces.items (mask_numbers reduced.masks.items))
-            reduced.numbers.rows.items reduced.numbers.order.items }
-        ensures { IfOk result (λ r. r
-            ≡ with_masks reduced.entry.aces.items (mask_numbers reduced.entry.masks.items)) }
+        requires reduced { HasNumbers reduced }
+        ensures { IfOk result (λ r. r ≡ reduced_aces reduced.entry) }
     {
         let Reduced {
             aces,
@@ -98,8 +95,7 @@ impl<'a> Remaining<'a> {
     /// each other in the order of the principals.
     pub(crate) fn place_in(&self, row: usize, right: Bit) -> Option<usize>
         requires { row < length self.now }
-        ensures { (p : Who) → IsRowOf row p self.now
-            → result ≡ first_place_of right.bit p self.now }
+        ensures { IsFirstOfRow row right.bit self.now result }
     {
         for at in row..self.len() {
             let place = self.order[at];

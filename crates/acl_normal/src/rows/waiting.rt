@@ -1,6 +1,6 @@
 //! The sets of the places that wait, one for each kind, class and right, and their numbers, which are called slots.
 ghost use Rattle.std.specs.Prelude.{◌≡◌};
-ghost use Rattle.acl_normal.specs.Common.{[], bit_count, IfOk, is_users, length, mask_numbers, OnOk, slot_count, slot_of, vec_len, with_masks};
+ghost use Rattle.acl_normal.specs.Common.{[], aces_with, bit_count, IfOk, is_users, length, OnOk, slot_count, slot_of, vec_len};
 ghost use Rattle.acl_normal.specs.internal.Tidy.{IsQuiet};
 ghost use Rattle.acl_normal.specs.internal.rows.Waiting.{HoldWaiting, PutsBelow};
 
@@ -22,9 +22,9 @@ pub(crate) fn waiting_sets(
     masks: &[Mask],
 ) -> Result<Vec<BTreeSet<usize>>, AllocError>
     requires places { length masks.now ≡ length aces.now }
-    requires quiet { IsQuiet (with_masks aces.now (mask_numbers masks.now)) }
+    requires quiet { IsQuiet (aces_with aces.now masks.now) }
     ensures { IfOk result (λ sets.
-        HoldWaiting (with_masks aces.now (mask_numbers masks.now)) sets.items) }
+        HoldWaiting (aces_with aces.now masks.now) sets.items) }
 {
     let mut sets = empty_sets(alloc)?;
     for (place, ace) in aces.iter().enumerate() {

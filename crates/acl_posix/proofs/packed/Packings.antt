@@ -54,8 +54,7 @@ is_lt-nat_cmp x y = grind arith
 pub keys_less : (keys : List ℕ) → All IsPacked keys → (k d : ℕ) → k + 1 < length keys
     → nat_lt (get_or keys k d / 8) (get_or keys (k + 1) d / 8)
     ≡ is_lt (tag_cmp (unpacked (get_or keys k d)).0 (unpacked (get_or keys (k + 1) d)).0)
-keys_less keys all k d lt =
-    is_lt-nat_cmp _ _ ∙ ap is_lt (key_cmp _ _ (all k d (omega (arith, lt))) (all (k + 1) d lt))
+keys_less keys all k d lt = is_lt-nat_cmp _ _ ∙ ap is_lt (key_cmp _ _ (all k d (omega (arith, lt))) (all (k + 1) d lt))
 
 -- ---- the same entries in another order
 
@@ -65,10 +64,9 @@ find_again q [] = refl
 find_again q (e ∷ es) = ap (cond (eq_by_cmp tag_cmp q e.0) (Some e.1)) (find_again q es)
 
 -- two lists with the same entries have the same permissions for a tag
-moved : (ps qs : List (Tag × ℕ)) (q : Tag) (v : ℕ) → IsPermutation ps qs → AreApart qs
+lookup-moved : (ps qs : List (Tag × ℕ)) (q : Tag) (v : ℕ) → IsPermutation ps qs → AreApart qs
     → lookup (eq_by_cmp tag_cmp q) ps ≡ Some v → lookup (eq_by_cmp tag_cmp q) qs ≡ Some v
-moved ps qs q v h apart is =
-    lookup-from_Contains (eq_by_cmp_equiv tags_total) q v qs apart
+lookup-moved ps qs q v h apart is = lookup-from_Contains (eq_by_cmp_equiv tags_total) q v qs apart
     (Contains-permutation ps qs (q, v) h (Contains-from_lookup same_tag q v ps is))
 
 -- two options are equal if each value of one is the value of the other
@@ -89,11 +87,11 @@ sorted_apart ps qs h sorted =
     tags_moved qs ps (IsPermutation-sym ps qs h) (IsDistinct-from_sorted tag_cmp (tags qs) sorted)
 
 -- a list with the entries of one in canonical order has its set
-pub same_set : (ps qs : List (Tag × ℕ)) → IsPermutation ps qs → IsSorted qs → as_set qs ≡ as_set ps
-same_set ps qs h sorted = same_map tags_total exact_tags _ _ (λ q.
+pub as_set-moved : (ps qs : List (Tag × ℕ)) → IsPermutation ps qs → IsSorted qs → as_set qs ≡ as_set ps
+as_set-moved ps qs h sorted = same_map tags_total exact_tags _ _ (λ q.
     get-from_entries tags_total qs q ∙ find_again q qs ∙ same_options _ _
-    (λ v. moved qs ps q v (IsPermutation-sym ps qs h) (sorted_apart ps qs h sorted))
-    (λ v. moved ps qs q v h (IsDistinct-from_sorted tag_cmp (tags qs) sorted))
+    (λ v. lookup-moved qs ps q v (IsPermutation-sym ps qs h) (sorted_apart ps qs h sorted))
+    (λ v. lookup-moved ps qs q v h (IsDistinct-from_sorted tag_cmp (tags qs) sorted))
     ∙ sym (find_again q ps) ∙ sym (get-from_entries tags_total ps q))
 
 -- in a list with the entries of one in canonical order no tag occurs twice
@@ -121,8 +119,7 @@ distinct_rise ps keys distinct moves all up =
     tags_are : tags (map unpacked keys) ≡ map (λ key. (unpacked key).0) keys
     tags_are = map-map (λ p. p.0) unpacked keys
 
-    read : (i j : ℕ)
-        → tag_cmp (get_or (tags (map unpacked keys)) i (unpacked 0).0)
+    read : (i j : ℕ) → tag_cmp (get_or (tags (map unpacked keys)) i (unpacked 0).0)
         (get_or (tags (map unpacked keys)) j (unpacked 0).0)
         ≡ tag_cmp (unpacked (get_or keys i 0)).0 (unpacked (get_or keys j 0)).0
     read i j = rw (

@@ -1,6 +1,6 @@
 -- Each piece spells an entry or has a fault, and reading the piece gives that entry or that fault.
 use Rattle.acl_posix.proofs.Common.{[], ap, arith, colon, cond_both, cut_at, EntryFields, eqb, eqb-true, Err, false, fields_of, Group, group, HasEntryFields, HasTag, id_in, id_of, Ids, inl, inr, is_all_blank, is_number, IsCut, IsCutRest, IsPieceFault, IsPlace, length, length-slice_split, List, MayName, nat_tests, nil_from_length, None, Ok, Option, Part, PartEntry, permissions_of, Piece, qualifier_names, read_both, read_permissions, read_piece, read_tag, read_word, refl, slice_split, Some, Span, span_of, spans, Spells, start_of, subst, sym, Table, Tag, tag_alone, tag_with, TagWord, TextFault, TextPiece, three_of, trimmed, true, User, user, word_of, ℕ, ◌<◌, ◌∷◌, ◌≡◌, ◌⊎◌}
-use Rattle.acl_posix.proofs.field.Digits.{not_empty, some_digit}
+use Rattle.acl_posix.proofs.digits.DigitLemmas.{not_empty, some_digit}
 use Rattle.std.specs.FinMap as fin
 use Rattle.acl_posix.specs.declared.text_fault.TextFault.TheVariants as faults
 
@@ -10,29 +10,30 @@ Judged names piece = ((entry : PartEntry) × Spells names piece.span entry)
     ⊎ ((fault : TextFault) × IsPieceFault names piece fault)
 
 -- a statement holds if it follows from an option being None and from it being Some
-decided : {A : Type 0} (P : Type 0) (o : Option A) → (o ≡ None → P) → ((x : A) → o ≡ Some x → P) → P
-decided P None none some = none refl
-decided P (Some x) none some = some x refl
+option_cases : {A : Type 0} (P : Type 0) (o : Option A) → (o ≡ None → P) → ((x : A) → o ≡ Some x → P) → P
+option_cases P None none some = none refl
+option_cases P (Some x) none some = some x refl
 
 -- a piece that has a fault spells an entry or has a fault
-wrong : (names : Table) (piece : TextPiece) (fault : TextFault) → IsPieceFault names piece fault → Judged names piece
-wrong names piece fault h = inr (fault, h)
+judged_wrong : (names : Table) (piece : TextPiece) (fault : TextFault) → IsPieceFault names piece fault
+    → Judged names piece
+judged_wrong names piece fault h = inr (fault, h)
 
 -- a list whose length is not 0 has an element
-filled : (xs : List ℕ) → eqb (length xs) 0 ≡ false → 0 < length xs
-filled xs h = grind (arith, nat_tests)
+length_positive : (xs : List ℕ) → eqb (length xs) 0 ≡ false → 0 < length xs
+length_positive xs h = grind (arith, nat_tests)
 
 -- the place of a span is its line and the column where it starts
-here : (line : ℕ) (span : Span) → IsPlace line span line (start_of span)
-here line span = record { same_line = refl; same_column = refl }
+place_of_start : (line : ℕ) (span : Span) → IsPlace line span line (start_of span)
+place_of_start line span = record { same_line = refl; same_column = refl }
 
 -- a piece whose first two fields spell a tag spells an entry or has a fault
 permissions_judged : (names : Table) (piece : TextPiece) (fields : EntryFields) (tag : Tag)
     → HasEntryFields piece.span fields → HasTag names fields tag → Judged names piece
 permissions_judged names piece fields tag has spelled =
-    let place = here piece.line fields.permissions in
-    decided (Judged names piece) (permissions_of (trimmed fields.permissions.bytes))
-    (λ none. wrong names piece (faults.Permission piece.line (start_of fields.permissions))
+    let place = place_of_start piece.line fields.permissions in
+    option_cases (Judged names piece) (permissions_of (trimmed fields.permissions.bytes))
+    (λ none. judged_wrong names piece (faults.Permission piece.line (start_of fields.permissions))
     (record { fields = fields; has = has; tag = tag; has_tag = spelled; no_set = none; place = place }))
     (λ perm is. inl (
       (fields.part, (tag, perm)),
@@ -59,13 +60,13 @@ named_judged : (names : Table) (piece : TextPiece) (fields : EntryFields) (ids :
     → MayName names piece.span fields ids → 0 < length (trimmed fields.qualifier.bytes) → Judged names piece
 named_judged names piece fields ids named some =
     let q = trimmed fields.qualifier.bytes in
-    let place = here piece.line fields.qualifier in
+    let place = place_of_start piece.line fields.qualifier in
     let at = start_of fields.qualifier in
-    decided (Judged names piece) (id_in ids q)
+    option_cases (Judged names piece) (id_in ids q)
     (cond_both (is_number q) (id_of q) (fin.get ids q) (λ o. o ≡ None → Judged names piece)
-    (λ digits none. wrong names piece (faults.Id piece.line at)
+    (λ digits none. judged_wrong names piece (faults.Id piece.line at)
     (record { fields = fields; ids = ids; named = named; digits = digits; no_id = none; place = place }))
-    (λ name none. wrong names piece (faults.UnknownName piece.line at) (record {
+    (λ name none. judged_wrong names piece (faults.UnknownName piece.line at) (record {
       fields = fields;
       ids = ids;
       named = named;
@@ -82,41 +83,39 @@ tag_judged : (names : Table) (piece : TextPiece) (fields : EntryFields) (w : Tag
     → HasEntryFields piece.span fields → word_of (trimmed fields.tag.bytes) ≡ Some w → Judged names piece
 tag_judged names piece fields w has is =
     let q = trimmed fields.qualifier.bytes in
-    let place = here piece.line fields.qualifier in
     cond_both (eqb (length q) 0) true true (λ _. Judged names piece)
     (λ none. permissions_judged names piece fields (tag_alone w) has
     (alone_spelled names fields w is (nil_from_length q (eqb-true (length q) 0 none))))
-    (λ some. decided (Judged names piece) (qualifier_names names w)
-    (λ none. wrong names piece (faults.Qualifier piece.line (start_of fields.qualifier)) (record {
+    (λ some. option_cases (Judged names piece) (qualifier_names names w)
+    (λ none. judged_wrong names piece (faults.Qualifier piece.line (start_of fields.qualifier)) (record {
       fields = fields;
       has = has;
       word = w;
       is_word = is;
       no_names = none;
-      qualifier = filled q some;
-      place = place;
+      qualifier = length_positive q some;
+      place = place_of_start piece.line fields.qualifier;
     }))
     (λ ids names_are. named_judged names piece fields ids
-    (record { has = has; word = w; is_word = is; has_names = names_are }) (filled q some)))
+    (record { has = has; word = w; is_word = is; has_names = names_are }) (length_positive q some)))
 
 -- a piece with three fields spells an entry or has a fault
 fields_judged : (names : Table) (piece : TextPiece) (fields : EntryFields) → HasEntryFields piece.span fields
     → Judged names piece
-fields_judged names piece fields has =
-    decided (Judged names piece) (word_of (trimmed fields.tag.bytes))
-    (λ none. wrong names piece (faults.Tag piece.line (start_of fields.tag))
-    (record { fields = fields; has = has; no_word = none; place = here piece.line fields.tag }))
+fields_judged names piece fields has = option_cases (Judged names piece) (word_of (trimmed fields.tag.bytes))
+    (λ none. judged_wrong names piece (faults.Tag piece.line (start_of fields.tag))
+    (record { fields = fields; has = has; no_word = none; place = place_of_start piece.line fields.tag }))
     (λ w is. tag_judged names piece fields w has is)
 
 -- each piece spells an entry or has a fault
 pub piece_judged : (names : Table) (piece : TextPiece) → Judged names piece
 piece_judged names piece =
-    let place = here piece.line piece.span in
+    let place = place_of_start piece.line piece.span in
     cond_both (is_all_blank piece.span.bytes) true true (λ _. Judged names piece)
-    (λ blank. wrong names piece (faults.EmptyEntry piece.line (start_of piece.span))
+    (λ blank. judged_wrong names piece (faults.EmptyEntry piece.line (start_of piece.span))
     (record { blank = blank; place = place }))
-    (λ some. decided (Judged names piece) (fields_of (cut_at colon piece.span))
-    (λ none. wrong names piece (faults.Fields piece.line (start_of piece.span))
+    (λ some. option_cases (Judged names piece) (fields_of (cut_at colon piece.span))
+    (λ none. judged_wrong names piece (faults.Fields piece.line (start_of piece.span))
     (record { filled = some; cut = none; place = place }))
     (λ fields is. fields_judged names piece fields (record { filled = some; cut = is })))
 
@@ -138,32 +137,34 @@ spelled_read names line piece (part, (tag, perm)) h =
     rw (h.has.filled, h.has.cut, tag_read names line h.fields tag h.has_tag, h.is_perm, h.is_part) refl
 
 -- a fault where a span starts is the same fault at the place of the span
-placed : {line at_line at_column : ℕ} {span : Span} (fault : ℕ → ℕ → TextFault)
+fault_at_place : {line at_line at_column : ℕ} {span : Span} (fault : ℕ → ℕ → TextFault)
     → IsPlace line span at_line at_column → fault line (start_of span) ≡ fault at_line at_column
-placed fault place = rw (place.same_line, place.same_column) refl
+fault_at_place fault place = rw (place.same_line, place.same_column) refl
 
 -- the fault of a piece is reported
 pub fault_read : (names : Table) (piece : TextPiece) (fault : TextFault) → IsPieceFault names piece fault
     → read_piece names piece.line piece.span ≡ Err fault
 unfolding read_piece read_word read_tag read_permissions
-fault_read names piece (faults.EmptyEntry line column) h = rw h.blank (ap Err (placed faults.EmptyEntry h.place))
-fault_read names piece (faults.Fields line column) h = rw (h.filled, h.cut) (ap Err (placed faults.Fields h.place))
+fault_read names piece (faults.EmptyEntry line column) h =
+    rw h.blank (ap Err (fault_at_place faults.EmptyEntry h.place))
+fault_read names piece (faults.Fields line column) h =
+    rw (h.filled, h.cut) (ap Err (fault_at_place faults.Fields h.place))
 fault_read names piece (faults.Tag line column) h =
-    rw (h.has.filled, h.has.cut, h.no_word) (ap Err (placed faults.Tag h.place))
+    rw (h.has.filled, h.has.cut, h.no_word) (ap Err (fault_at_place faults.Tag h.place))
 fault_read names piece (faults.Qualifier line column) h =
     rw (h.has.filled, h.has.cut, h.is_word, not_empty _ h.qualifier, h.no_names)
-    (ap Err (placed faults.Qualifier h.place))
+    (ap Err (fault_at_place faults.Qualifier h.place))
 fault_read names piece (faults.Id line column) h =
     let n = h.named in
     rw (n.has.filled, n.has.cut, n.is_word, not_empty _ (some_digit _ h.digits), n.has_names, h.digits, h.no_id)
-    (ap Err (placed faults.Id h.place))
+    (ap Err (fault_at_place faults.Id h.place))
 fault_read names piece (faults.UnknownName line column) h =
     let n = h.named in
     rw (n.has.filled, n.has.cut, n.is_word, not_empty _ h.some_byte, n.has_names, h.no_digits, h.unknown)
-    (ap Err (placed faults.UnknownName h.place))
+    (ap Err (fault_at_place faults.UnknownName h.place))
 fault_read names piece (faults.Permission line column) h =
     rw (h.has.filled, h.has.cut, tag_read names piece.line h.fields h.tag h.has_tag, h.no_set)
-    (ap Err (placed faults.Permission h.place))
+    (ap Err (fault_at_place faults.Permission h.place))
 fault_read names piece fault h = absurd h
 
 -- ---- cutting a piece at colons
@@ -176,10 +177,10 @@ cut_rest separator s (first, Some x) rest h e = let same : x ≡ rest = cc in
     subst (λ (y : Piece). IsCutRest separator s (span_of first) (span_of y)) same h
 
 -- three spans with more spans after them are not three fields
-four : (part : Part) (a b c : Span) (column : ℕ) (more : List (List ℕ)) → 0 < length more
+three_of-four : (part : Part) (a b c : Span) (column : ℕ) (more : List (List ℕ)) → 0 < length more
     → three_of part (a ∷ b ∷ c ∷ spans column more) ≡ None
-four part a b c column [] h = absurd (omega (arith, h))
-four part a b c column (d ∷ more) h = refl
+three_of-four part a b c column [] h = absurd (omega (arith, h))
+three_of-four part a b c column (d ∷ more) h = refl
 
 -- four fields are not three
 pub too_many : (part : Part) (s : Span) (r1 r2 r3 : Piece × Option Piece) (p2 p3 p4 : Piece) → IsCut 58 s r1
@@ -191,6 +192,5 @@ too_many part s r1 r2 r3 p2 p3 p4 first is_second second is_third third is_fourt
     let b = cut_rest 58 (span_of p2) r2 p3 second is_third in
     let c = cut_rest 58 (span_of p3) r3 p4 third is_fourth in
     let is_colon = λ (b : ℕ). eqb b 58 in
-    let some = length-slice_split is_colon p4.bytes.now in
-    sym (rw (a.parts, b.parts, c.parts) (four part (span_of r1.0) (span_of r2.0) (span_of r3.0) p4.column
-    (slice_split is_colon p4.bytes.now) (omega (arith, some))))
+    sym (rw (a.parts, b.parts, c.parts) (three_of-four part (span_of r1.0) (span_of r2.0) (span_of r3.0) p4.column
+    (slice_split is_colon p4.bytes.now) (omega (arith, length-slice_split is_colon p4.bytes.now))))

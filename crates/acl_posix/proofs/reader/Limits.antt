@@ -37,11 +37,11 @@ qualifier_within : (ids : Ids) (bytes : List ℕ) (id : ℕ) → AreIds ids → 
 qualifier_within ids bytes id h e = let named = h bytes in grind (arith, id_within)
 
 -- the id of a tag that a word and a qualifier spell is within the limit, if the ids of the table are
-tag_within : (names : Table) (word qualifier : List ℕ) (tag : Tag) → IsNameTable names
+spelled_within : (names : Table) (word qualifier : List ℕ) (tag : Tag) → IsNameTable names
     → SpellsTag names word qualifier tag → IsTag tag
-tag_within names word qualifier (user id) h s = qualifier_within names.users qualifier id h.users s.is_id
-tag_within names word qualifier (group id) h s = qualifier_within names.groups qualifier id h.groups s.is_id
-tag_within names word qualifier tag h s = tt
+spelled_within names word qualifier (user id) h s = qualifier_within names.users qualifier id h.users s.is_id
+spelled_within names word qualifier (group id) h s = qualifier_within names.groups qualifier id h.groups s.is_id
+spelled_within names word qualifier tag h s = tt
 
 -- ---- entries
 
@@ -52,10 +52,10 @@ entries_within : (names : Table) (pieces : List TextPiece) (entries : List PartE
 entries_within names [] [] h s = (tt, tt)
 entries_within names (piece ∷ pieces) ((Access, (tag, perm)) ∷ entries) h s =
     let rest = entries_within names pieces entries h s.1 in
-    (((tag_within names _ _ tag h s.0.has_tag, perm_within _ perm s.0.is_perm), rest.0), rest.1)
+    (((spelled_within names _ _ tag h s.0.has_tag, perm_within _ perm s.0.is_perm), rest.0), rest.1)
 entries_within names (piece ∷ pieces) ((Default, (tag, perm)) ∷ entries) h s =
     let rest = entries_within names pieces entries h s.1 in
-    (rest.0, ((tag_within names _ _ tag h s.0.has_tag, perm_within _ perm s.0.is_perm), rest.1))
+    (rest.0, ((spelled_within names _ _ tag h s.0.has_tag, perm_within _ perm s.0.is_perm), rest.1))
 entries_within names pieces entries h s = absurd s
 
 -- ---- sets of entries

@@ -1,5 +1,5 @@
 -- Reading pieces and lines one after the other gives the entries that the pieces of a text spell, or the first fault.
-use Rattle.acl_posix.proofs.Common.{[], Access, access_of, added, ap, append-nil, append_assoc, arith, Bor, cut_at, Default, default_of, Err, FailsWith, inl, inr, IsCut, IsFirstLine, IsFirstTextFault, IsLineCut, length, line_pieces, lines_left, lines_of, List, Lists, None, numbered, NumberFits, Ok, Option, Part, PartEntry, Piece, pieces_from, read_piece, read_pieces, ReadsOn, refl, Result, Some, Span, span_of, SpellAll, suc, sym, Table, Tag, TextFault, TextPiece, ℕ, ◌++◌, ◌+◌, ◌<◌, ◌>>=◌, ◌^◌, ◌∙◌, ◌∷◌, ◌≡◌, ◌≤◌, ◌⊎◌}
+use Rattle.acl_posix.proofs.Common.{[], Access, access_of, added, ap, append-nil, append_assoc, arith, Bor, ColumnsFit, cut_at, Default, default_of, Err, FailsWith, inl, inr, IsCut, IsFirstLine, IsFirstTextFault, IsLineCut, length, line_pieces, lines_left, lines_of, List, Lists, None, numbered, NumberFits, Ok, Option, Part, PartEntry, Piece, pieces_from, read_piece, read_pieces, ReadsOn, refl, Result, Some, Span, span_of, SpellAll, suc, sym, Table, Tag, TextFault, TextPiece, ℕ, ◌++◌, ◌+◌, ◌>>=◌, ◌∙◌, ◌∷◌, ◌≡◌, ◌≤◌, ◌⊎◌}
 use Rattle.acl_posix.proofs.reader.Judged.{fault_read, piece_judged, spelled_read}
 use Rattle.acl_posix.specs.declared.text_fault.TextFault.TheVariants as faults
 
@@ -13,10 +13,10 @@ abbrev pub size_left : Option Piece → ℕ
 size_left None = 0
 size_left (Some p) = suc (length p.bytes.now)
 
--- the columns of the rest of a line are below 2^64
+-- the columns of the rest of a line are counts
 abbrev pub FitsLeft : Option Piece → Type 0
 FitsLeft None = Unit {0}
-FitsLeft (Some p) = p.column + length p.bytes.now < 2 ^ 64
+FitsLeft (Some p) = ColumnsFit p
 
 -- if no piece is left, there are no spans left
 pub left_none : (r : Option Piece) → ((p : Piece) → r ≡ Some p → ⊥) → pieces_left r ≡ []
@@ -35,9 +35,8 @@ pub pieces_next : (s : Span) (r : Piece × Option Piece) → IsCut 44 s r → cu
 pieces_next s (first, None) h = h.0
 pieces_next s (first, Some rest) h = h.parts
 
--- the columns of the rest after a cut are below 2^64
-pub fits_next : (p : Piece) (r : Piece × Option Piece) → IsCut 44 (span_of p) r → p.column + length p.bytes.now < 2 ^ 64
-    → FitsLeft r.1
+-- the columns of the rest after a cut are counts
+pub fits_next : (p : Piece) (r : Piece × Option Piece) → IsCut 44 (span_of p) r → ColumnsFit p → FitsLeft r.1
 fits_next p (first, None) h fits = tt
 fits_next p (first, Some rest) h fits = omega (arith, h.rest_fits)
 
@@ -56,8 +55,7 @@ pub read_append : (table : Table) (so_far : Lists) (ps qs : List TextPiece)
     → read_pieces table so_far (ps ++ qs) ≡ (read_pieces table so_far ps >>= (λ next. read_pieces table next qs))
 unfolding read_pieces
 read_append table so_far [] qs = refl
-read_append table so_far (p ∷ ps) qs =
-    elim (read_piece table p.line p.span)
+read_append table so_far (p ∷ ps) qs = elim (read_piece table p.line p.span)
     as (λ r. (r >>= (λ e. read_pieces table (added so_far e) (ps ++ qs)))
     ≡ ((r >>= (λ e. read_pieces table (added so_far e) ps)) >>= (λ next. read_pieces table next qs))) [
       | Ok e ↦ read_append table (added so_far e) ps qs
@@ -69,8 +67,7 @@ read_append table so_far (p ∷ ps) qs =
 -- after the first line is cut off and read, reading the rest gives what reading the text gives
 pub reads_on : (table : Table) (n : ℕ) (text : List ℕ) (so_far next : Lists)
     (cut : Bor (List ℕ) × Option (Bor (List ℕ))) → IsLineCut text cut
-    → read_pieces table so_far (numbered n (line_pieces cut.0.now)) ≡ Ok next
-    → ReadsOn table n text so_far next cut.1
+    → read_pieces table so_far (numbered n (line_pieces cut.0.now)) ≡ Ok next → ReadsOn table n text so_far next cut.1
 unfolding read_pieces
 reads_on table n text so_far next (first, None) is read =
     rw (is, read_append table so_far (numbered n (line_pieces first.now)) [], read) refl
@@ -89,8 +86,7 @@ reads_first table n text so_far part entry rest h =
 
 -- reading the rest of a text after its first line gives what reading the text gives
 pub on_read : (table : Table) (n : ℕ) (text : List ℕ) (so_far next : Lists) (rest : Option (Bor (List ℕ)))
-    → ReadsOn table n text so_far next rest
-    → read_pieces table next (pieces_from (n + 1) (lines_left rest))
+    → ReadsOn table n text so_far next rest → read_pieces table next (pieces_from (n + 1) (lines_left rest))
     ≡ read_pieces table so_far (pieces_from n (lines_of text))
 unfolding read_pieces
 on_read table n text so_far next None h = sym h
@@ -128,8 +124,7 @@ joined_next lists (Access, e) entries = rw (append_assoc lists.access (e ∷ [])
 joined_next lists (Default, e) entries = rw (append_assoc lists.default (e ∷ []) (default_of entries)) refl
 
 -- pieces spell entries, or a first piece does not
-pub judged : (names : Table) (pieces : List TextPiece)
-    → ((entries : List PartEntry) × SpellAll names pieces entries)
+pub judged : (names : Table) (pieces : List TextPiece) → ((entries : List PartEntry) × SpellAll names pieces entries)
     ⊎ ((fault : TextFault) × IsFirstTextFault names pieces fault)
 judged names [] = inl ([], tt)
 judged names (piece ∷ pieces) = elim (piece_judged names piece) [
@@ -159,8 +154,7 @@ pub all_read : (names : Table) (lists : Lists) (pieces : List TextPiece) (entrie
     → SpellAll names pieces entries → read_pieces names lists pieces ≡ Ok (joined lists entries)
 unfolding read_pieces
 all_read names lists [] [] h = ap (λ (x : Lists). Ok x) (joined_none lists)
-all_read names lists (piece ∷ pieces) (entry ∷ entries) h =
-    rw (spelled_read names piece.line piece.span entry h.0)
+all_read names lists (piece ∷ pieces) (entry ∷ entries) h = rw (spelled_read names piece.line piece.span entry h.0)
     (all_read names (added lists entry) pieces entries h.1 ∙ ap (λ (x : Lists). Ok x) (joined_next lists entry entries))
 all_read names lists pieces entries h = absurd h
 
@@ -168,10 +162,9 @@ all_read names lists pieces entries h = absurd h
 pub first_read : (names : Table) (lists : Lists) (pieces : List TextPiece) (fault : TextFault)
     → IsFirstTextFault names pieces fault → read_pieces names lists pieces ≡ Err fault
 unfolding read_pieces
-first_read names lists pieces fault h =
-    rw (
-      h.order,
-      read_append names lists h.before (h.piece ∷ h.after),
-      all_read names lists h.before h.entries h.spelled,
-      fault_read names h.piece fault h.wrong,
-    ) refl
+first_read names lists pieces fault h = rw (
+  h.order,
+  read_append names lists h.before (h.piece ∷ h.after),
+  all_read names lists h.before h.entries h.spelled,
+  fault_read names h.piece fault h.wrong,
+) refl

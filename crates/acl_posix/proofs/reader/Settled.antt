@@ -1,5 +1,5 @@
 -- A text spells one file or has one fault, and not both.
-use Rattle.acl_posix.proofs.Common.{[], Access, access_of, acl_fault, ap, arith, as_set, Default, default_of, Entries, Err, FailsWith, IfErr, IfOk, inl, inr, is_refusal, IsAclOf, IsDefaultOf, IsFaultOf, IsFile, IsFirstInvalid, IsFirstTextFault, IsInvalidText, IsPartFault, IsTextFault, IsTextFaultOrMemory, IsValidList, length, List, Lists, MatchResult, no_lists, None, Ok, Option, Part, PartEntry, pieces_of, PosixFile, read_pieces, Reads, refl, Result, rules, Some, SpellAll, subst, sym, Table, Tag, TextFault, TextPiece, true, ℕ, ◌<◌, ◌↔◌, ◌∙◌, ◌∷◌, ◌≡◌, ◌⊎◌}
+use Rattle.acl_posix.proofs.Common.{[], Access, access_of, acl_fault, ap, arith, as_set, Default, default_of, Entries, Err, FailsWith, IfErr, IfOk, inl, inr, is_refusal, IsAclOf, IsDefaultOf, IsFaultOf, IsFile, IsFirstInvalid, IsFirstTextFault, IsInvalidText, IsPartFault, IsTextFault, IsTextFaultOrMemory, IsTextRefusedWith, IsValidList, length, List, Lists, MatchResult, no_lists, None, Ok, Option, Part, PartEntry, pieces_of, PosixFile, read_pieces, Reads, refl, Result, rules, Some, SpellAll, subst, sym, Table, Tag, TextFault, TextPiece, true, ℕ, ◌<◌, ◌↔◌, ◌∙◌, ◌∷◌, ◌≡◌, ◌⊎◌}
 use Rattle.acl_posix.proofs.reader.Lines.{all_read, first_read, joined, judged}
 use Rattle.acl_posix.proofs.sorting.ValidLists.{no_fault, one_fault}
 use Rattle.acl_posix.specs.Names.{empty_table}
@@ -40,18 +40,18 @@ one_file text names F G h k =
 -- ---- a list of entries has one cause
 
 -- the fault of a cause is not `Memory`
-refuses : (why : Cause) → is_refusal (acl_fault why) ≡ true
-refuses (cause.Multi place) = refl
-refuses why = refl
+cause_is_refusal : (why : Cause) → is_refusal (acl_fault why) ≡ true
+cause_is_refusal (cause.Multi place) = refl
+cause_is_refusal why = refl
 
 -- a list has one cause
 one_cause : (es : List (Tag × ℕ)) (a b : Cause) → IsFaultOf es (acl_fault a) → IsFaultOf es (acl_fault b) → a ≡ b
 one_cause es a b h k =
-    let same = one_fault es (acl_fault a) (acl_fault b) (refuses a) (refuses b) h k in grind arith
+    let same = one_fault es (acl_fault a) (acl_fault b) (cause_is_refusal a) (cause_is_refusal b) h k in grind arith
 
 -- a valid list has no cause
 valid_cause : (es : List (Tag × ℕ)) (why : Cause) → IsValidList es → IsFaultOf es (acl_fault why) → ⊥
-valid_cause es why h k = no_fault es (acl_fault why) h (refuses why) k
+valid_cause es why h k = no_fault es (acl_fault why) h (cause_is_refusal why) k
 
 -- ---- a text has one fault
 
@@ -67,8 +67,7 @@ one_invalid access default Default Default a b h k = ap (faults.Invalid Default)
 invalid_in : (text : List ℕ) (names : Table) (es : List PartEntry) (which : Part) (why : Cause)
     → SpellAll names (pieces_of text) es → IsInvalidText text names which why
     → IsFirstInvalid (access_of es) (default_of es) which why
-invalid_in text names es which why spelled h =
-    subst (λ (x : Lists). IsFirstInvalid x.access x.default which why)
+invalid_in text names es which why spelled h = subst (λ (x : Lists). IsFirstInvalid x.access x.default which why)
     (same_lists names (pieces_of text) h.entries es h.spelled spelled) h.wrong
 
 -- a text has one fault
@@ -190,7 +189,7 @@ only_file text names (Err f) found refused F h = elim refused [
 -- a text with a fault is refused with that fault, unless memory runs out
 pub only_fault : (text : List ℕ) (names : Table) (answer : Result PosixFile TextFault) → IfOk answer (Reads text names)
     → IfErr answer (IsTextFaultOrMemory text names) → (wrong : TextFault) → IsTextFault text names wrong
-    → MatchResult answer (λ _. ⊥) (λ fault. (fault ≡ wrong) ⊎ (fault ≡ faults.Memory))
+    → IsTextRefusedWith answer wrong
 only_fault text names (Ok G) found refused wrong h = file_or_fault text names G wrong found h
 only_fault text names (Err f) found refused wrong h = elim refused [
   | inl memory ↦ inr memory

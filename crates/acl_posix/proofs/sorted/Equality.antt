@@ -8,16 +8,14 @@ use Rattle.acl_posix.proofs.tag.Tags.{same_tag}
 -- lists of entries are compared as lists of pairs, if entries are compared as pairs
 pub same_lists : (E : Entry → Entry → Bool) → ((a b : Entry) → E a b ≡ same_entry (pair_of a) (pair_of b))
     → (xs ys : List Entry) → pointwise E xs ys ≡ pointwise same_entry (pairs xs) (pairs ys)
-same_lists E heads xs ys =
-    (λ i. pointwise (λ a b. heads a b i) xs ys) ∙ sym (pointwise-map pair_of same_entry xs ys)
+same_lists E heads xs ys = (λ i. pointwise (λ a b. heads a b i) xs ys) ∙ sym (pointwise-map pair_of same_entry xs ys)
 
 -- the test of two entries decides whether they are equal
 entry_decides : (a b : Tag × ℕ) → Decides (same_entry a b) (a ≡ b)
 entry_decides a b = (
   (λ h. let both = and_true (eq_by_cmp tag_cmp a.0 b.0) (nat_eq a.1 b.1) h in
       λ i. (same_tag a.0 b.0 both.0 i, (unsigned_Decides a.1 b.1).0 both.1 i)),
-  (λ e. (let itself : same_entry a a ≡ true =
-      rw (tied_itself tags_total a.0, (unsigned_Decides a.1 a.1).1 refl) refl in
+  (λ e. (let itself : same_entry a a ≡ true = rw (tied_itself tags_total a.0, (unsigned_Decides a.1 a.1).1 refl) refl in
       ap (λ (x : Tag × ℕ). same_entry a x) (sym e) ∙ itself)),
 )
 
@@ -45,6 +43,6 @@ file_decides one two =
     )
 
 -- a test of the lists that have the entries of two sets is the test of the sets
-pub by_lists : (D E : Entries) (xs ys : List (Tag × ℕ)) (r : Bool) → xs ≡ fin.entries D → ys ≡ fin.entries E
+pub by_lists : (D E : Entries) {xs ys : List (Tag × ℕ)} {r : Bool} → xs ≡ fin.entries D → ys ≡ fin.entries E
     → r ≡ pointwise same_entry xs ys → r ≡ same_set D E
-by_lists D E xs ys r d e is = is ∙ (λ i. pointwise same_entry (d i) (e i))
+by_lists D E d e is = is ∙ (λ i. pointwise same_entry (d i) (e i))

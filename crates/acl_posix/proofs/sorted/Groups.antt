@@ -21,9 +21,9 @@ to_group E og request gs (group id) is held =
 to_group E og request gs tag is held = absurd cc
 
 -- if some matching entry contains the request, some group has such an entry
-there : (E : Entries) (og request : ℕ) (gs : List ℕ) → any_contains E og gs request ≡ true
+group_from_entry : (E : Entries) (og request : ℕ) (gs : List ℕ) → any_contains E og gs request ≡ true
     → list_any (group_contains E og request) gs ≡ true
-there E og request gs some =
+group_from_entry E og request gs some =
     let one = Any-from_list_any (λ (p : Tag × ℕ). tag_matches og gs p.0 && contains p.1 request) (fin.entries E) some in
     let both = and_true (tag_matches og gs one.1.0) (contains one.1.1 request) one.4 in
     to_group E og request gs one.1.0 both.0 (rw (find_at E one.0 one.1 one.2 one.3) both.1)
@@ -43,16 +43,15 @@ found_passes (p ∷ ps) l request m is h =
     (λ differ held. rw (found_passes ps l request m is held) (or_true_right _)) h
 
 -- if a matching tag has an entry that contains the request, some matching entry contains it
-passes : (E : Entries) (og request : ℕ) (gs : List ℕ) (l : Tag) → tag_matches og gs l ≡ true
+any_contains-from_entry : (E : Entries) (og request : ℕ) (gs : List ℕ) (l : Tag) → tag_matches og gs l ≡ true
     → entry_contains E l request ≡ true → any_contains E og gs request ≡ true
-passes E og request gs l is h =
-    found_passes (fin.entries E) l request (tag_matches og gs) is
+any_contains-from_entry E og request gs l is h = found_passes (fin.entries E) l request (tag_matches og gs) is
     (ap (λ o. is_contained o request) (sym (fin.get-entries E l)) ∙ h)
 
 -- if some group has an entry that contains the request, some matching entry contains it
-back : (E : Entries) (og request : ℕ) (gs : List ℕ) → list_any (group_contains E og request) gs ≡ true
+entry_from_group : (E : Entries) (og request : ℕ) (gs : List ℕ) → list_any (group_contains E og request) gs ≡ true
     → any_contains E og gs request ≡ true
-back E og request gs some =
+entry_from_group E og request gs some =
     let one = Any-from_list_any (group_contains E og request) gs some in
     let member = λ (id : ℕ) (is : (one.1 == id) ≡ true).
     list_any_at (λ g. g == id) gs one.0 one.1 one.2 (ap (λ g. g == id) one.3 ∙ is) in
@@ -60,14 +59,14 @@ back E og request gs some =
     one.4) [
       | inl owning ↦
           let both = and_true (one.1 == og) (entry_contains E group_obj request) owning in
-          passes E og request gs group_obj (member og both.0) both.1
-      | inr held ↦ passes E og request gs (group one.1) (member one.1 (eq-eqb one.1 one.1 refl)) held
+          any_contains-from_entry E og request gs group_obj (member og both.0) both.1
+      | inr held ↦ any_contains-from_entry E og request gs (group one.1) (member one.1 (eq-eqb one.1 one.1 refl)) held
     ]
 
 -- some matching entry of the set contains the request if and only if some group has such an entry
 pub any_group : (E : Entries) (og request : ℕ) (gs : List ℕ)
     → list_any (group_contains E og request) gs ≡ any_contains E og gs request
-any_group E og request gs = same_answers _ _ (back E og request gs) (there E og request gs)
+any_group E og request gs = same_answers _ _ (entry_from_group E og request gs) (group_from_entry E og request gs)
 
 -- each entry contains the empty request
 any_empty : (m : Tag → Bool) (ps : List (Tag × ℕ))

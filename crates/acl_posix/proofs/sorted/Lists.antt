@@ -1,15 +1,14 @@
 -- The list of a set, in canonical order: the place of a tag, the permissions there, and edits of one entry.
-use Rattle.acl_posix.proofs.Common.{[], All, All-map, AllByRecursion, ap, arith, as_set, below_all, Bool, both_hold, cases_lt, code_cmp, codes_total, cond, Entries, Entry, eq_by_cmp, eq_by_cmp_equiv, Err, false, filter, find-where_key, get_or, get_or-map, get_or_default, Greater, inl, inr, insert, is_eq, is_lt, is_sorted-where_key, IsBinarySearchResult, IsEntry, IsGap, IsSearchInRange, IsSome, IsSorted, IsSortedBy, IsStrictlySortedBy, IsTag, IsTagAt, length, Less, Less-from_sorted, List, list_any, list_any_at, map-set, MatchResult, None, not, Ok, Option, Ordering, pair_of, pairs, refl, Result, searchable_from_sorted, set, Some, sorted_tail, subst, suc, sym, T, Tag, tag_cmp, tag_of, TagOfCode, tags, tags_total, tied_itself, true, where_key, zero, ℕ, ◌&&◌, ◌+◌, ◌<◌, ◌↔◌, ◌∙◌, ◌∷◌, ◌≡◌}
+use Rattle.acl_posix.proofs.Common.{[], All, All-map, AllByRecursion, ap, arith, as_set, below_all, Bool, both_hold, cases_lt, code_cmp, codes_total, cond, Entries, Entry, eq_by_cmp, eq_by_cmp_equiv, Err, false, filter, find-where_key, get_or, get_or-map, get_or_default, Greater, inl, inr, insert, is_eq, is_lt, is_sorted-where_key, IsBinarySearchResult, IsEntry, IsGap, IsSearchInRange, IsSome, IsSorted, IsSortedBy, IsStrictlySortedBy, IsTag, IsTagAt, length, Less, Less-from_sorted, List, list_any, list_any_at, map-set, MatchResult, None, not, Ok, Option, Ordering, pair_of, pairs, passes_less, refl, Result, searchable_from_sorted, set, Some, sorted_tail, subst, suc, sym, T, Tag, tag_cmp, tag_of, TagOfCode, tags, tags_total, tied_itself, true, where_key, zero, ℕ, ◌&&◌, ◌+◌, ◌<◌, ◌↔◌, ◌∙◌, ◌∷◌, ◌≡◌}
 use Rattle.acl_posix.proofs.tag.Tags.{exact_tags, length-tags, length-tags_of, list_any-map, pairs-insert, tag_read}
-use Rattle.acl_perm.proofs.Orders.{passes_less}
 use Rattle.std.specs.FinMap as fin
 use Rattle.acl_posix.specs.declared.tag.Tag.TheVariants as code
 
 -- ---- the set of entries in order has these entries, in this order
 
 -- if each of two tests holds, both hold together
-both : (a b : Bool) → T a → T b → T (a && b)
-both a b p q = grind arith
+and_from_both : (a b : Bool) → T a → T b → T (a && b)
+and_from_both a b p q = grind arith
 
 -- the test that a tag is below all entries of a list says that it is less than each of their tags
 below_is : (l : Tag) (ps : List (Tag × ℕ))
@@ -28,7 +27,7 @@ sorted_is [] = (λ h. tt, λ h. tt)
 sorted_is (p ∷ ps) = (
   λ h. let parts = both_hold (below_all tag_cmp p.0 ps) (fin.is_sorted tag_cmp ps) h in
       ((below_is p.0 ps).0 parts.0, (sorted_is ps).0 parts.1),
-  λ h. both _ _ ((below_is p.0 ps).1 h.0) ((sorted_is ps).1 h.1),
+  λ h. and_from_both _ _ ((below_is p.0 ps).1 h.0) ((sorted_is ps).1 h.1),
 )
 
 -- the entries of a set are in canonical order
@@ -54,8 +53,7 @@ tag_within tag = tt
 
 -- each entry of a list is within its limits
 pub all_entries : (es : List Entry) → All IsEntry (pairs es)
-all_entries es =
-    All-map IsEntry pair_of es (λ k d lt. (tag_within (get_or es k d).tag, (get_or es k d).perm.within))
+all_entries es = All-map IsEntry pair_of es (λ k d lt. (tag_within (get_or es k d).tag, (get_or es k d).perm.within))
 
 -- a test of some entry of a set, and of the list that has its entries
 pub any_tag : (p : Tag → Bool) (E : Entries) (es : List Entry) → pairs es ≡ fin.entries E
@@ -66,8 +64,8 @@ any_tag p E es same = ap (λ (ps : List (Tag × ℕ)). list_any p (tags ps)) (sy
 -- ---- what a binary search says
 
 -- in a list in canonical order no tag is less than the one before it
-up : (es : List Entry) → IsSorted (pairs es) → IsSortedBy (λ (a b : Entry). is_lt (code_cmp a.tag b.tag)) es
-up es h k d ge lt =
+never_falls : (es : List Entry) → IsSorted (pairs es) → IsSortedBy (λ (a b : Entry). is_lt (code_cmp a.tag b.tag)) es
+never_falls es h k d ge lt =
     let len = length-tags es in
     let l : Tag = tag_of d.tag in
     let rises = rw (tag_read es k d l (omega (arith, lt)), tag_read es (k + 1) d l lt) at
@@ -80,11 +78,10 @@ pub searched : (es : List Entry) (t : TagOfCode) (d : Entry) (r : Result ℕ ℕ
     → MatchResult r (IsTagAt (tags (pairs es)) (tag_of t)) (IsGap (tags (pairs es)) (tag_of t))
 searched es t d (Ok i) h in_range equal =
     let len = length-tags es in
-    let at = tag_read es i d (tag_of t) in_range in
-    record { in_range = omega arith; has = at ∙ exact_tags _ _ (equal d) }
+    record { in_range = omega arith; has = tag_read es i d (tag_of t) in_range ∙ exact_tags _ _ (equal d) }
 searched es t d (Err i) h in_range parted =
     let len = length-tags es in
-    let sides = parted (searchable_from_sorted codes_total (λ (x : Entry). x.tag) es t (up es h)) in
+    let sides = parted (searchable_from_sorted codes_total (λ (x : Entry). x.tag) es t (never_falls es h)) in
     let read = λ (j : ℕ) (lt : j < length es).
     ap (λ (x : Tag). tag_cmp x (tag_of t)) (tag_read es j d (tag_of t) lt) in
     record {
@@ -107,30 +104,29 @@ find_nowhere [] l h = refl
 find_nowhere (p ∷ ps) l h = rw (h 0 (omega arith)) (find_nowhere ps l (λ j lt. h (suc j) (omega arith)))
 
 -- a tag with a gap has no entry
-pub absent_in_gap : (E : Entries) (l : Tag) (i : ℕ) → IsGap (fin.keys E) l i → fin.get E l ≡ None
-absent_in_gap E l i gap =
-    fin.get-entries E l ∙ find_nowhere (fin.entries E) l (λ j lt. elim (cases_lt j i) [
-      | inl below ↦ unequal _ l Less (gap.before j below) refl
-      | inr above ↦ unequal _ l Greater (gap.after j above lt) refl
-    ])
+pub absent_in_gap : (E : Entries) {l : Tag} {i : ℕ} → IsGap (fin.keys E) l i → fin.get E l ≡ None
+absent_in_gap E {l} {i} gap = fin.get-entries E l ∙ find_nowhere (fin.entries E) l (λ j lt. elim (cases_lt j i) [
+  | inl below ↦ unequal _ l Less (gap.before j below) refl
+  | inr above ↦ unequal _ l Greater (gap.after j above lt) refl
+])
 
 -- the entry at a place is found by its tag
-found : (ps : List (Tag × ℕ)) (i : ℕ) (p : Tag × ℕ) → IsSorted ps → i < length ps → get_or ps i p ≡ p
+find-at_place : (ps : List (Tag × ℕ)) (i : ℕ) (p : Tag × ℕ) → IsSorted ps → i < length ps → get_or ps i p ≡ p
     → fin.find tag_cmp p.0 ps ≡ Some p.1
-found [] i p h lt at = absurd (omega (arith, lt))
-found (q ∷ ps) zero p h lt at =
+find-at_place [] i p h lt at = absurd (omega (arith, lt))
+find-at_place (q ∷ ps) zero p h lt at =
     subst (λ (x : Tag × ℕ). fin.find tag_cmp x.0 (q ∷ ps) ≡ Some x.1) at (rw (tied_itself tags_total q.0) refl)
-found (q ∷ ps) (suc i) p h lt at =
+find-at_place (q ∷ ps) (suc i) p h lt at =
     let len = length-tags_of ps in
     let below = Less-from_sorted tag_cmp (tags (q ∷ ps)) 0 (suc i) p.0 h (omega arith) (omega (arith, lt)) in
     let tag_is = get_or-map (λ (x : Tag × ℕ). x.0) ps i p p.0 (omega (arith, lt)) ∙ ap (λ (x : Tag × ℕ). x.0) at in
     rw (unequal q.0 p.0 Less (ap (tag_cmp q.0) (sym tag_is) ∙ below) refl)
-    (found ps i p (sorted_tail tag_cmp q.0 (tags ps) h) (omega (arith, lt)) at)
+    (find-at_place ps i p (sorted_tail tag_cmp q.0 (tags ps) h) (omega (arith, lt)) at)
 
 -- an entry of a set is found by its tag
 pub find_at : (E : Entries) (i : ℕ) (p : Tag × ℕ) → i < length (fin.entries E) → get_or (fin.entries E) i p ≡ p
     → fin.get E p.0 ≡ Some p.1
-find_at E i p lt at = fin.get-entries E p.0 ∙ found (fin.entries E) i p (entries_sorted E) lt at
+find_at E i p lt at = fin.get-entries E p.0 ∙ find-at_place (fin.entries E) i p (entries_sorted E) lt at
 
 -- the list that has the entries of a set is as long as its tags
 pub keys_length : (E : Entries) (es : List Entry) → pairs es ≡ fin.entries E → length (fin.keys E) ≡ length es
@@ -139,16 +135,15 @@ keys_length E es same = ap (λ (ps : List (Tag × ℕ)). length (tags ps)) (sym 
 -- the permissions of an entry of the list that has the entries of a set are those of its tag
 pub entry_found : (E : Entries) (l : Tag) (i : ℕ) (es : List Entry) (e : Entry) → pairs es ≡ fin.entries E
     → i < length es → e ≡ get_or es i e → tag_of e.tag ≡ l → fin.get E l ≡ Some e.perm.bits
-entry_found E l i es e same lt read is =
-    subst (λ (t : Tag). fin.get E t ≡ Some e.perm.bits) is (find_at E i (pair_of e)
-    (omega (arith, lt, keys_length E es same, length-tags_of (fin.entries E)))
+entry_found E l i es e same lt read is = subst (λ (t : Tag). fin.get E t ≡ Some e.perm.bits) is
+    (find_at E i (pair_of e) (omega (arith, lt, keys_length E es same, length-tags_of (fin.entries E)))
     (ap (λ (ps : List (Tag × ℕ)). get_or ps i (pair_of e)) (sym same) ∙ get_or-map pair_of es i e (pair_of e) lt
     ∙ ap pair_of (sym read)))
 
 -- the permissions of the entry at the place of a tag
-pub perm_found : (E : Entries) (l : Tag) (i : ℕ) (es : List Entry) (e : Entry) → pairs es ≡ fin.entries E
+pub perm_at_place : (E : Entries) (l : Tag) (i : ℕ) (es : List Entry) (e : Entry) → pairs es ≡ fin.entries E
     → IsTagAt (fin.keys E) l i → fin.get E l ≡ Some (get_or es i e).perm.bits
-perm_found E l i es e same at =
+perm_at_place E l i es e same at =
     let lt : i < length es = omega (arith, at.in_range, keys_length E es same) in
     entry_found E l i es (get_or es i e) same lt (get_or_default es i e (get_or es i e) lt)
     (sym (tag_read es i e l lt) ∙ ap (λ (ps : List (Tag × ℕ)). get_or (tags ps) i l) same ∙ at.has)
@@ -160,7 +155,7 @@ present_at E l i at = fin.contains_key-keys E l ∙ list_any_at (eq_by_cmp tag_c
 
 -- a tag with an entry has no gap
 pub not_in_gap : (E : Entries) (l : Tag) (i : ℕ) → IsGap (fin.keys E) l i → IsSome (fin.get E l) → ⊥
-not_in_gap E l i gap some = let none = absent_in_gap E l i gap in let wrong = rw none at some in absurd cc
+not_in_gap E l i gap some = let none = absent_in_gap E gap in let wrong = rw none at some in absurd cc
 
 -- ---- edits of one entry
 
@@ -212,8 +207,7 @@ insert_is_put : (ps : List (Tag × ℕ)) (l : Tag) (n i : ℕ) → IsGap (tags p
     → insert ps i (l, n) ≡ fin.put tag_cmp l n ps
 insert_is_put [] l n zero gap = refl
 insert_is_put [] l n (suc i) gap = refl
-insert_is_put (p ∷ ps) l n zero gap =
-    rw (tags_total.antisymm l p.0, gap.after 0 (omega arith) (omega arith)) refl
+insert_is_put (p ∷ ps) l n zero gap = rw (tags_total.antisymm l p.0, gap.after 0 (omega arith) (omega arith)) refl
 insert_is_put (p ∷ ps) l n (suc i) gap =
     let rest : IsGap (tags ps) l i = record {
       in_range = omega (arith, gap.in_range);
@@ -256,11 +250,9 @@ without E es l same =
     let sorted =
     is_sorted-where_key tag_cmp (λ t. not (eq_by_cmp tag_cmp t l)) (fin.entries E) (fin.entries_sorted E) in
     let is : fin.from_sorted left ≡ fin.remove E l = fin.same_map tags_total exact_tags _ _ (λ q.
-    fin.get-from_sorted tag_cmp left q sorted
-    ∙ find-where_key tag_cmp (λ t. not (eq_by_cmp tag_cmp t l)) q
+    fin.get-from_sorted tag_cmp left q sorted ∙ find-where_key tag_cmp (λ t. not (eq_by_cmp tag_cmp t l)) q
     (λ x tied. ap (λ t. not (eq_by_cmp tag_cmp t l)) (sym (exact_tags q x tied))) (fin.entries E)
     ∙ cond_not (eq_by_cmp tag_cmp q l) (fin.find tag_cmp q (fin.entries E)) None
-    ∙ ap (cond (eq_by_cmp tag_cmp q l) None) (sym (fin.get-entries E q))
-    ∙ sym (fin.get-remove tags_total E l q)) in
+    ∙ ap (cond (eq_by_cmp tag_cmp q l) None) (sym (fin.get-entries E q)) ∙ sym (fin.get-remove tags_total E l q)) in
     list_of _ _ (pairs-filter l es ∙ ap (where_key tag_cmp (λ t. not (eq_by_cmp tag_cmp t l))) same
     ∙ sym (fin.entries-from_sorted tag_cmp left sorted) ∙ ap (λ (s : Entries). fin.entries s) is)

@@ -53,15 +53,13 @@ mode_set E mode = mode_three E (mode / 64) (mode / 8 % 8) (mode % 8) (is_some (f
 
 -- permissions that are in a union are in that union with more permissions
 within_or : (p u n : ℕ) → bit_and p u ≡ p → bit_and p (bit_or u n) ≡ p
-within_or p u n h =
-    and_comm p (bit_or u n) ∙ (subset (bit_or u n) p).1 (λ k t. has_bit-or u n k
+within_or p u n h = and_comm p (bit_or u n) ∙ (subset (bit_or u n) p).1 (λ k t. has_bit-or u n k
     ∙ ap (λ b. b || has_bit n k) ((subset u p).0 (and_comm u p ∙ h) k t))
 
 -- permissions that are in a union are still in it after more entries are united with it
 within_fold : (p u : ℕ) (ps : List (Tag × ℕ)) → bit_and p u ≡ p → bit_and p (union_from u ps) ≡ p
 within_fold p u [] h = h
-within_fold p u (q ∷ ps) h =
-    ap (bit_and p) (union_step u q ps)
+within_fold p u (q ∷ ps) h = ap (bit_and p) (union_step u q ps)
     ∙ within_fold p (joined u q) ps (cond_both (is_masked q.0) (bit_or u q.1) u (λ v. bit_and p v ≡ p)
     (λ is. within_or p u q.1 h) (λ is. h))
 
@@ -74,13 +72,11 @@ found_within (q ∷ ps) u l p m h = ap (bit_and p) (union_step u q ps)
     (λ found. found ≡ Some p → bit_and p (union_from (joined u q) ps) ≡ p)
     (λ same is. within_fold p (joined u q) ps (ap (λ b. bit_and p (cond b (bit_or u q.1) u))
     (ap is_masked (sym (same_tag l q.0 same)) ∙ m) ∙ ap (λ n. bit_and p (bit_or u n)) (ap (λ o. unwrap_or o 0) is)
-    ∙ and_comm p (bit_or u p)
-    ∙ and_or_self p u))
-    (λ differ is. found_within ps (joined u q) l p m is) h
+    ∙ and_comm p (bit_or u p) ∙ and_or_self p u)) (λ differ is. found_within ps (joined u q) l p m is) h
 
 -- a tag that the mask limits is not MASK
-apart : (l : Tag) → is_masked l ≡ true → eq_by_cmp tag_cmp l mask ≡ false
-apart l m = grind arith
+masked_is_no_mask : (l : Tag) → is_masked l ≡ true → eq_by_cmp tag_cmp l mask ≡ false
+masked_is_no_mask l m = grind arith
 
 -- after the mask is calculated each entry grants all of its own permissions
 pub effective_own : (E : Entries) (entry : Tag × ℕ) → fin.get (with_mask E) entry.0 ≡ Some entry.1
@@ -91,7 +87,7 @@ effective_own E entry h =
     cond_both (is_masked entry.0) (bit_and entry.1 (unwrap_or (fin.get (with_mask E) mask) entry.1)) entry.1
     (λ n. n ≡ entry.1)
     (λ m. (let own : fin.get E entry.0 ≡ Some entry.1 = ap (λ b. cond b (Some u) (fin.get E entry.0))
-    (sym (apart entry.0 m)) ∙ sym (fin.get-insert tags_total E mask u entry.0) ∙ h in
+    (sym (masked_is_no_mask entry.0 m)) ∙ sym (fin.get-insert tags_total E mask u entry.0) ∙ h in
     ap (λ o. bit_and entry.1 (unwrap_or o entry.1)) there ∙ found_within (fin.entries E) 0 entry.0 entry.1 m
     (sym (fin.get-entries E entry.0) ∙ own)))
     (λ m. refl)
@@ -101,8 +97,7 @@ effective_own E entry h =
 -- a MASK that is put into a list does not change the union of the list
 put_mask : (u n : ℕ) (ps : List (Tag × ℕ)) → union_from u (fin.put tag_cmp mask n ps) ≡ union_from u ps
 put_mask u n [] = refl
-put_mask u n (p ∷ ps) =
-    elim (tag_cmp mask p.0) as (λ o. tag_cmp mask p.0 ≡ o
+put_mask u n (p ∷ ps) = elim (tag_cmp mask p.0) as (λ o. tag_cmp mask p.0 ≡ o
     → union_from u (by_order o ((mask, n) ∷ p ∷ ps) ((p.0, n) ∷ ps) (p ∷ fin.put tag_cmp mask n ps))
     ≡ union_from u (p ∷ ps)) [
       | Less ↦ λ is. refl
@@ -115,8 +110,8 @@ put_mask u n (p ∷ ps) =
     ] refl
 
 -- a set after MASK is set twice to the same permissions is the set after MASK is set once
-again : (E : Entries) (n : ℕ) → fin.insert (fin.insert E mask n) mask n ≡ fin.insert E mask n
-again E n = fin.same_map tags_total exact_tags _ _ (λ q.
+insert-insert_same : (E : Entries) (n : ℕ) → fin.insert (fin.insert E mask n) mask n ≡ fin.insert E mask n
+insert-insert_same E n = fin.same_map tags_total exact_tags _ _ (λ q.
     (let outer = fin.get-insert tags_total (fin.insert E mask n) mask n q in
     let inner = fin.get-insert tags_total E mask n q in
     grind arith))
@@ -127,4 +122,4 @@ mask_again E =
     let u : ℕ = class_union (fin.entries E) in
     let same : class_union (fin.entries (with_mask E)) ≡ u = ap (λ (ps : List (Tag × ℕ)). class_union ps)
     (fin.entries-insert tags_total E mask u) ∙ put_mask 0 u (fin.entries E) in
-    ap (fin.insert (with_mask E) mask) same ∙ again E u
+    ap (fin.insert (with_mask E) mask) same ∙ insert-insert_same E u

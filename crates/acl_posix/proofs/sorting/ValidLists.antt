@@ -1,7 +1,6 @@
 -- Lists in which no tag occurs twice, lists in canonical order, the first repeat, and the one fault of a list.
-use Rattle.acl_posix.proofs.Common.{[], AclFault, Any-from_list_any, ap, apart_from_distinct, arith, as_set, Bool, cases_lt, code_cmp, cond, cond_both, Duplicate, Entries, Entry, eq_by_cmp, eq_by_cmp_equiv, Err, false, false_from_ne_true, get_or, get_or-take, get_or_default, group_obj, IfErr, inl, inr, is_at, is_lt, is_named, is_refusal, is_some, IsAllAdjacentAnswer, IsDistinct, IsDistinct-from_apart, IsDistinct-from_sorted, IsFaultOf, IsFirstRepeat, IsMiss, IsRepeat, IsSorted, IsStrictlySortedBy, IsTrue, IsValidList, length, length-map, length-take-le, Less-from_sorted, List, list_any, list_any_at, list_any_more, lookup, map, mask, MatchResult, Memory, Miss, missing, Multi, None, Ok, OnOk, other, pair_of, pairs, refl, repeat_fault, Result, Some, sorted_from_all_adjacent, subst, sym, Tag, tag_at, tag_cmp, tag_of, TagOfCode, tags, tags_total, take, true, unwrap_or, user_obj, ℕ, ◌+◌, ◌<◌, ◌||◌, ◌↔◌, ◌∙◌, ◌∷◌, ◌≡◌}
+use Rattle.acl_posix.proofs.Common.{[], AclFault, Any-from_list_any, ap, apart_from_distinct, arith, as_set, Bool, cases_lt, code_cmp, cond, cond_both, Duplicate, Entries, Entry, eq_by_cmp, eq_by_cmp_equiv, Err, false, false_from_ne_true, get_or, get_or-take, get_or_default, group_obj, IfErr, inl, inr, is_at, is_less, is_lt, is_named, is_refusal, is_some, IsAllAdjacentAnswer, IsDistinct, IsDistinct-from_apart, IsDistinct-from_sorted, IsFaultOf, IsFirstRepeat, IsMiss, IsRefusedWith, IsRepeat, IsSorted, IsStrictlySortedBy, IsTrue, IsValidList, length, length-map, length-take-le, Less-from_sorted, List, list_any, list_any_at, list_any_more, lookup, map, mask, Memory, Miss, missing, Multi, None, Ok, OnOk, other, pair_of, pairs, refl, repeat_fault, Result, Some, sorted_from_all_adjacent, subst, sym, Tag, tag_at, tag_cmp, tag_of, TagOfCode, tags, tags_total, take, true, unwrap_or, user_obj, ℕ, ◌+◌, ◌<◌, ◌||◌, ◌↔◌, ◌∙◌, ◌∷◌, ◌≡◌}
 use Rattle.std.proofs.Math.ListN.{get_or-map}
-use Rattle.acl_perm.proofs.Orders.{is_less}
 use Rattle.acl_perm.specs.declared.perm.Perm.{Perm}
 use Rattle.acl_posix.proofs.tag.Tags.{length-tags, length-tags_of, same_tag, tag_read}
 use Rattle.std.specs.List as lists
@@ -13,14 +12,14 @@ abbrev pub AreApart : List (Tag × ℕ) → Type 0
 AreApart ps = lists.IsDistinct (eq_by_cmp tag_cmp) (tags ps)
 
 -- equal tags do not compare as different
-unlike : (s t : Tag) → s ≡ t → eq_by_cmp tag_cmp s t ≡ false → ⊥
-unlike s t same differ =
+same_not_unequal : (s t : Tag) → s ≡ t → eq_by_cmp tag_cmp s t ≡ false → ⊥
+same_not_unequal s t same differ =
     let wrong = sym (ap (eq_by_cmp tag_cmp s) (sym same) ∙ (eq_by_cmp_equiv tags_total).refl s) ∙ differ in absurd cc
 
 -- if any two tags of a list differ, no tag occurs twice
 pub apart_distinct : (ps : List (Tag × ℕ)) → AreApart ps → IsDistinct ps
 apart_distinct ps apart place lt repeat =
-    unlike _ _ repeat.same (apart_from_distinct (eq_by_cmp tag_cmp) (tags ps) repeat.earlier place other apart
+    same_not_unequal _ _ repeat.same (apart_from_distinct (eq_by_cmp tag_cmp) (tags ps) repeat.earlier place other apart
     repeat.before (omega (arith, lt, length-tags_of ps)))
 
 -- if no tag occurs twice in a list, any two of its tags differ
@@ -29,8 +28,7 @@ distinct_apart ps distinct = IsDistinct-from_apart (eq_by_cmp tag_cmp) (tags ps)
     false_from_ne_true _ (λ is. distinct j (omega (arith, lt, length-tags_of ps)) (record {
       earlier = i;
       before = before;
-      same = get_or_default (tags ps) i other d (omega arith) ∙ same_tag _ _ is
-          ∙ get_or_default (tags ps) j d other lt;
+      same = get_or_default (tags ps) i other d (omega arith) ∙ same_tag _ _ is ∙ get_or_default (tags ps) j d other lt;
     })))
 
 -- in a list in canonical order no tag occurs twice
@@ -81,8 +79,7 @@ repeats ps i lt =
           },
       λ repeat. list_any_at _ (take i (tags ps)) repeat.earlier other (omega (arith, long, repeat.before))
           (ap (eq_by_cmp tag_cmp (tag_at ps i)) (get_or-take i (tags ps) repeat.earlier other repeat.before
-          ∙ repeat.same)
-          ∙ (eq_by_cmp_equiv tags_total).refl (tag_at ps i)),
+          ∙ repeat.same) ∙ (eq_by_cmp_equiv tags_total).refl (tag_at ps i)),
     )
 
 -- the map has the tags before a place, and none of them repeats one
@@ -101,12 +98,11 @@ cond_or : (a b : Bool) → cond a true b ≡ (b || a)
 cond_or a b = grind arith
 
 -- an entry whose tag is new is put into the map
-pub seen_more : (es : List Entry) (i : ℕ) (e : Entry) (old new : List (TagOfCode × Perm)) → i < length es
+pub seen_more : {es : List Entry} {i : ℕ} {e : Entry} {old new : List (TagOfCode × Perm)} → i < length es
     → e ≡ get_or es i e → IsSeen es i old → is_some (lookup (is_at (code_cmp e.tag)) old) ≡ false
     → ((q : TagOfCode) → is_some (lookup (is_at (code_cmp q)) new)
-    ≡ cond (is_at (code_cmp e.tag) q) true (is_some (lookup (is_at (code_cmp q)) old)))
-    → IsSeen es (i + 1) new
-seen_more es i e old new lt read so_far was updates = record {
+    ≡ cond (is_at (code_cmp e.tag) q) true (is_some (lookup (is_at (code_cmp q)) old))) → IsSeen es (i + 1) new
+seen_more {es} {i} {e} lt read so_far was updates = record {
   tags_of = λ t. updates t ∙ ap (cond (is_at (code_cmp e.tag) t) true) (so_far.tags_of t)
       ∙ cond_or (is_at (code_cmp e.tag) t) (list_any (eq_by_cmp tag_cmp (tag_of t)) (take i (tags (pairs es))))
       ∙ ap (λ b. list_any (eq_by_cmp tag_cmp (tag_of t)) (take i (tags (pairs es))) || b)
@@ -132,10 +128,10 @@ seen_more es i e old new lt read so_far was updates = record {
     at = tag_here es i e lt read
 
 -- an entry whose tag the map has is the first repeat
-pub seen_again : (es : List Entry) (i : ℕ) (e : Entry) (old : List (TagOfCode × Perm)) → i < length es
+pub seen_again : {es : List Entry} {i : ℕ} {e : Entry} {old : List (TagOfCode × Perm)} → i < length es
     → e ≡ get_or es i e → IsSeen es i old → is_some (lookup (is_at (code_cmp e.tag)) old) ≡ true
     → IsFaultOf (pairs es) (repeat_fault (tag_of e.tag) i)
-seen_again es i e old lt read so_far was =
+seen_again {es} {i} {e} lt read so_far was =
     cond_both (is_named (tag_of e.tag)) (Duplicate i) (Multi i) (λ fault. IsFaultOf (pairs es) fault)
     (λ is. (first, ap is_named at ∙ is)) (λ is. (first, ap is_named at ∙ is))
   where
@@ -173,16 +169,16 @@ named_or_not ps i j a b plain named =
     let wrong = sym plain ∙ ap (λ n. is_named (tag_at ps n)) (same_first ps i j a b) ∙ named in absurd cc
 
 -- what can be absent has no qualifier
-unnamed : (a b c d : Bool) (l : Tag)
+absent_unnamed : (a b c d : Bool) (l : Tag)
     → cond a (Some user_obj) (cond b (Some group_obj) (cond c (Some other) (cond d (Some mask) None))) ≡ Some l
     → is_named l ≡ false
-unnamed false false false false l e = absurd cc
-unnamed a b c d l e = ap (λ o. is_named (unwrap_or o other)) (sym e)
+absent_unnamed false false false false l e = absurd cc
+absent_unnamed a b c d l e = ap (λ o. is_named (unwrap_or o other)) (sym e)
 
 -- the first absent tag of a set has no qualifier
 missing_unnamed : (E : Entries) (l : Tag) → missing E ≡ Some l → is_named l ≡ false
 unfolding missing
-missing_unnamed E l e = unnamed _ _ _ _ l e
+missing_unnamed E l e = absent_unnamed _ _ _ _ l e
 
 -- a tag of the code without a qualifier is determined by its plain data
 same_code : (s t : TagOfCode) → tag_of s ≡ tag_of t → is_named (tag_of s) ≡ false → s ≡ t
@@ -217,6 +213,6 @@ no_fault ps Memory h p a = absurd cc
 -- if an Ok means a valid list and an Err has a fault of the list, a list with a fault is refused with that fault
 pub refused_from : {X : Type 0} (ps : List (Tag × ℕ)) (r : Result X AclFault) (fault : AclFault)
     → OnOk r (IsValidList ps) → IfErr r (IsFaultOf ps) → IsTrue (is_refusal fault) → IsFaultOf ps fault
-    → MatchResult r (λ _. ⊥) (λ found. IsTrue (is_refusal found) → found ≡ fault)
+    → IsRefusedWith r fault
 refused_from ps (Ok x) fault valid found p is = no_fault ps fault valid p is
 refused_from ps (Err f) fault valid found p is = λ q. one_fault ps f fault q p found is

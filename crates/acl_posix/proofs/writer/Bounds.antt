@@ -1,5 +1,5 @@
--- A text of ACLs has fewer than 2^64 bytes: the tags of a sorted list rise, so there are at most 6 * 2^32 entries.
-use Rattle.acl_posix.proofs.Common.{[], All, AllByRecursion, arith, Bool, decimal, effective_of, ending, Entries, entry_lead, entry_out, entry_text, false, Form, form_word, IfSome, IsEntry, IsId, IsStrictlySortedBy, IsTag, length, length-append, length-decimal-le, length-take, Less, List, long_word, None, Option, option_map, Part, part_out, perm_text, qualifier_text, recursion_from_All, Short, Some, Tag, tag_cmp, tag_row, tags, TagWord, unwrap_or, word_text, ℕ, ◌*◌, ◌++◌, ◌+◌, ◌<◌, ◌^◌, ◌∷◌, ◌≡◌, ◌≤◌}
+-- The bytes of a text of ACLs can be counted: the tags of a sorted list rise, so there are at most 6 * 2^32 entries.
+use Rattle.acl_posix.proofs.Common.{[], All, AllByRecursion, arith, Bool, decimal, effective_of, ending, Entries, entry_lead, entry_out, entry_text, false, Form, form_word, IfSome, IsEntry, IsId, IsStrictlySortedBy, IsTag, length, length-append, length-decimal-le, length-take, Less, List, long_word, None, Option, option_map, Part, part_limit, part_out, perm_text, qualifier_text, recursion_from_All, Short, Some, Tag, tag_cmp, tag_row, tags, TagWord, unwrap_or, word_text, ℕ, ◌*◌, ◌++◌, ◌+◌, ◌<◌, ◌∷◌, ◌≡◌, ◌≤◌}
 use Rattle.std.specs.FinMap as fin
 use Rattle.acl_posix.proofs.tag.Tags.{length-tags_of, less_rises, number, qualifier_below, rank_below}
 use Rattle.acl_posix.proofs.sorted.Lists.{entries_sorted}
@@ -57,10 +57,10 @@ abbrev the_limit : ℕ
 the_limit = 25769803776
 
 -- tags after a tag have greater numbers than it
-above : (a : Tag) (ts : List Tag) → IsTag a → AllByRecursion IsTag ts → AllByRecursion (λ t. tag_cmp a t ≡ Less) ts
-    → AllByRecursion (λ t. number a + 1 ≤ number t) ts
-above a [] ha hs h = tt
-above a (t ∷ ts) ha hs h = (omega (arith, less_rises a t ha hs.0 h.0), above a ts ha hs.1 h.1)
+numbers_above : (a : Tag) (ts : List Tag) → IsTag a → AllByRecursion IsTag ts
+    → AllByRecursion (λ t. tag_cmp a t ≡ Less) ts → AllByRecursion (λ t. number a + 1 ≤ number t) ts
+numbers_above a [] ha hs h = tt
+numbers_above a (t ∷ ts) ha hs h = (omega (arith, less_rises a t ha hs.0 h.0), numbers_above a ts ha hs.1 h.1)
 
 -- there are at most as many rising tags as numbers from a lower bound of theirs to the limit
 count_from : (low : ℕ) (ts : List Tag) → low ≤ the_limit → AllByRecursion (λ t. low ≤ number t) ts
@@ -69,7 +69,7 @@ unfolding IsStrictlySortedBy
 count_from low [] le h within sorted = omega (arith, le)
 count_from low (t ∷ ts) le h within sorted =
     let room : number t + 1 ≤ the_limit = omega (arith, rank_below t, qualifier_below t within.0) in
-    let rest = count_from (number t + 1) ts room (above t ts within.0 within.1 sorted.0) within.1 sorted.1 in
+    let rest = count_from (number t + 1) ts room (numbers_above t ts within.0 within.1 sorted.0) within.1 sorted.1 in
     omega (arith, rest, h.0)
 
 -- the number of a tag is at least 0
@@ -82,9 +82,9 @@ tags_within : (es : List (Tag × ℕ)) → AllByRecursion IsEntry es → AllByRe
 tags_within [] h = tt
 tags_within (e ∷ es) h = (h.0.0, tags_within es h.1)
 
--- the entries of a part have fewer than 2^62 bytes
+-- the bytes of a part are fewer than the limit
 pub part_under : (form : Form) (part : Part) (acl : Entries) (first : Bool) → All IsEntry (fin.entries acl)
-    → length (part_out form part acl first (fin.entries acl)) < 2 ^ 62
+    → length (part_out form part acl first (fin.entries acl)) < part_limit
 part_under form part acl first h =
     let within = recursion_from_All IsEntry (fin.entries acl) h in
     let count = count_from 0 (tags (fin.entries acl)) (omega arith) (all_above_0 (tags (fin.entries acl)))

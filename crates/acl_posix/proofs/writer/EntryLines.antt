@@ -1,6 +1,5 @@
 -- Lines with one entry each spell these entries.
-use Rattle.acl_posix.proofs.Common.{[], All, All-append, All-push, AllByRecursion, ap, append-nil, append_assoc, arith, before_mark, cut_at, eqb, false, flat_map, inl, inr, is_all_blank, IsEntry, length, line, line_pieces, lines_of, List, list_all, map, numbered, PartEntry, pieces_from, pieces_of, position_or_len, recursion_from_All, refl, slice_split_at, slice_split_none, Span, SpellAll, Spells, subst, sym, Table, take, take-append_seam, true, ℕ, ◌++◌, ◌+◌, ◌∙◌, ◌∷◌, ◌≡◌, ◌⊎◌}
-use Rattle.acl_perm.proofs.Cuts.{not_feed}
+use Rattle.acl_posix.proofs.Common.{[], All, All-append, All-push, AllByRecursion, ap, append-nil, append_assoc, arith, before_mark, cut_at, eqb, false, flat_map, inl, inr, is_all_blank, IsEntry, length, line, line_pieces, lines_of, List, list_all, map, not_feed, numbered, PartEntry, pieces_from, pieces_of, position_or_len, recursion_from_All, refl, slice_split_at, slice_split_none, Span, SpellAll, Spells, subst, sym, Table, take, take-append_seam, true, ℕ, ◌++◌, ◌+◌, ◌∙◌, ◌∷◌, ◌≡◌, ◌⊎◌}
 use Rattle.acl_posix.proofs.writer.WrittenEntries.{absent, is_text, IsWritten, Text}
 use Rattle.acl_posix.proofs.writer.TextFiles.{Within}
 
@@ -38,8 +37,7 @@ one_piece bytes content is no_comma some = rw (is, some, slice_split_none (λ b.
 -- plain bytes and colons are the one piece of their line
 pub text_piece : (bytes : List ℕ) → Text bytes → is_all_blank bytes ≡ false
     → line_pieces bytes ≡ record { column = 1; bytes = bytes } ∷ []
-text_piece bytes text some =
-    one_piece bytes bytes (no_comment bytes (absent is_text 35 bytes refl text))
+text_piece bytes text some = one_piece bytes bytes (no_comment bytes (absent is_text 35 bytes refl text))
     (absent is_text 44 bytes refl text) some
 
 -- what may be after an entry: nothing, or a tab and a comment
@@ -81,8 +79,7 @@ lines_split : (f : PartEntry → List ℕ) (es : List PartEntry)
     → ((e : PartEntry) → IsEntry e.1 → All (λ b. eqb b 10 ≡ false) (f e)) → Within es
     → lines_of (flat_map (λ e. line (f e)) es) ≡ map f es ++ [] ∷ []
 lines_split f [] no_feed h = refl
-lines_split f (e ∷ es) no_feed h =
-    ap lines_of (append_assoc (f e) (10 ∷ []) (flat_map (λ e. line (f e)) es))
+lines_split f (e ∷ es) no_feed h = ap lines_of (append_assoc (f e) (10 ∷ []) (flat_map (λ e. line (f e)) es))
     ∙ slice_split_at (λ b. eqb b 10) (f e) 10 (flat_map (λ e. line (f e)) es) (no_feed e h.0) refl
     ∙ ap (λ (xs : List (List ℕ)). f e ∷ xs) (lines_split f es no_feed h.1)
 

@@ -24,14 +24,14 @@ later_is Short Access acl e = ap (λ (xs : List ℕ). 44 ∷ xs) (append-nil _)
 later_is Short Default acl e = ap (λ (xs : List ℕ). codes ",d:" ++ xs) (append-nil _)
 
 -- joined lists are equal if their parts are equal
-both : (a b c d : List ℕ) → a ≡ b → c ≡ d → a ++ c ≡ b ++ d
-both a b c d first second = ap (λ (xs : List ℕ). xs ++ c) first ∙ ap (λ (xs : List ℕ). b ++ xs) second
+append-equal : {a b c d : List ℕ} → a ≡ b → c ≡ d → a ++ c ≡ b ++ d
+append-equal {b} {c} first second = ap (λ (xs : List ℕ). xs ++ c) first ∙ ap (λ (xs : List ℕ). b ++ xs) second
 
 -- the entries of a part that are not the first of a text are put together one after the other
 part_is : (form : Form) (part : Part) (acl : Entries) (es : List (Tag × ℕ))
     → part_out form part acl false es ≡ flat_map (later_text form part acl) es
 part_is form part acl [] = refl
-part_is form part acl (e ∷ es) = both _ _ _ _ (later_is form part acl e) (part_is form part acl es)
+part_is form part acl (e ∷ es) = append-equal (later_is form part acl e) (part_is form part acl es)
 
 -- in a text of lines the first entry is written as any other
 lines_are : (form : Form) (acl : Entries) (es : List (Tag × ℕ))
@@ -58,13 +58,11 @@ short_row : (acl : Entries) (es ds : List (Tag × ℕ)) → (es ≡ [] → ⊥)
     → part_out Short Access acl true es ++ flat_map (λ e. 44 ∷ short_default e) ds
     ≡ join_with_byte 44 (map short_entry es ++ map short_default ds)
 short_row acl [] ds some = absurd (some refl)
-short_row acl (e ∷ es) ds some =
-    rw (
-      short_first (effective_of acl e) e,
-      part_is Short Access acl es,
-      commas_led (short_entry e) (map short_entry es ++ map short_default ds),
-    )
-    (simp (append_assoc, flat_map-append, flat_map-map))
+short_row acl (e ∷ es) ds some = rw (
+  short_first (effective_of acl e) e,
+  part_is Short Access acl es,
+  commas_led (short_entry e) (map short_entry es ++ map short_default ds),
+) (simp (append_assoc, flat_map-append, flat_map-map))
 
 -- ---- all of them
 
@@ -72,15 +70,11 @@ short_row acl (e ∷ es) ds some =
 pub form_is : (form : Form) (access : Entries) (default : Option Entries) → missing access ≡ None
     → text_out form access default ≡ form_text form access default
 unfolding canonical_text shown_text short_text
-form_is Canonical access None valid =
-    both _ _ _ _ (lines_are Canonical access (fin.entries access) refl) refl
-form_is Canonical access (Some acl) valid =
-    both _ _ _ _ (lines_are Canonical access (fin.entries access) refl)
+form_is Canonical access None valid = append-equal (lines_are Canonical access (fin.entries access) refl) refl
+form_is Canonical access (Some acl) valid = append-equal (lines_are Canonical access (fin.entries access) refl)
     (part_is Canonical Default acl (fin.entries acl))
-form_is Shown access None valid =
-    both _ _ _ _ (lines_are Shown access (fin.entries access) refl) refl
-form_is Shown access (Some acl) valid =
-    both _ _ _ _ (lines_are Shown access (fin.entries access) refl)
+form_is Shown access None valid = append-equal (lines_are Shown access (fin.entries access) refl) refl
+form_is Shown access (Some acl) valid = append-equal (lines_are Shown access (fin.entries access) refl)
     (part_is Shown Default acl (fin.entries acl))
 form_is Short access None valid = short_row access (fin.entries access) [] (has_owner access valid)
 form_is Short access (Some acl) valid =

@@ -1,6 +1,5 @@
 -- The canonical, the shown and the short text of a file read back as that file.
-use Rattle.acl_posix.proofs.Common.{[], Access, AllByRecursion, ap, append-nil, Bool, canonical_text, codes, cond_both, cut_at, Default, default_entries, default_mark, effective_mark, effective_of, Entries, eqb, false, flat_map, flat_map-append, flat_map-map, inl, inr, is_all_blank, is_blank, IsFile, join_with_byte, length, line, line_pieces, List, list_all, list_all-append, long_default, long_entry, map, map-append, map-map, mark_text, None, numbered, Option, PartEntry, perm_text, pieces_from, pieces_of, PosixFile, Reads, refl, short_default, short_entry, short_text, shown_text, slice_split, slice_split_at, slice_split_none, Some, spans, SpellAll, subst, sym, Table, Tag, TextPiece, true, ℕ, ◌&&◌, ◌++◌, ◌+◌, ◌||◌, ◌∙◌, ◌∷◌, ◌≡◌}
-use Rattle.acl_perm.proofs.Cuts.{not_feed}
+use Rattle.acl_posix.proofs.Common.{[], Access, AllByRecursion, ap, append-nil, Bool, canonical_text, codes, cond_both, cut_at, Default, default_entries, default_mark, effective_mark, effective_of, Entries, eqb, false, flat_map, flat_map-append, flat_map-map, inl, inr, is_all_blank, is_blank, IsFile, join_with_byte, length, line, line_pieces, List, list_all, list_all-append, long_default, long_entry, map, map-append, map-map, mark_text, None, not_feed, numbered, Option, PartEntry, perm_text, pieces_from, pieces_of, PosixFile, Reads, refl, short_default, short_entry, short_text, shown_text, slice_split, slice_split_at, slice_split_none, Some, spans, SpellAll, subst, sym, Table, Tag, TextPiece, true, ℕ, ◌&&◌, ◌++◌, ◌+◌, ◌||◌, ◌∙◌, ◌∷◌, ◌≡◌}
 use Rattle.acl_posix.proofs.writer.EntryLines.{IsBehind, no_comment, text_spells}
 use Rattle.acl_posix.proofs.writer.TextFiles.{entries_of, has_owner, in_part, reads_from, Within, within_file}
 use Rattle.acl_posix.proofs.writer.WrittenEntries.{absent, all_also, is_text, long, long_written, perm_pass, short, short_written, Text}
@@ -19,8 +18,8 @@ lines_read names F behind text h each is = reads_from text names F h
 -- ---- the canonical text
 
 -- an entry may have nothing after it
-nothing : IsBehind []
-nothing = record { no_feed = refl; form = inl refl }
+nothing_behind : IsBehind []
+nothing_behind = record { no_feed = refl; form = inl refl }
 
 -- the canonical text is one line per entry
 canonical_is : (F : PosixFile) → flat_map (λ e. line (long e ++ [])) (entries_of F) ≡ canonical_text F.access F.default
@@ -30,15 +29,15 @@ canonical_is F = simp (flat_map-append, flat_map-map, append-nil)
 -- the canonical text of a file reads back as it
 pub canonical_reads : (names : Table) (F : PosixFile) → IsFile F → Reads (canonical_text F.access F.default) names F
 canonical_reads names F h =
-    lines_read names F (λ _. []) (canonical_text F.access F.default) h (λ _. nothing) (canonical_is F)
+    lines_read names F (λ _. []) (canonical_text F.access F.default) h (λ _. nothing_behind) (canonical_is F)
 
 -- ---- the shown text
 
 -- an entry may have its effective permissions as a comment after it, or nothing
 mark_behind : (effective perm : ℕ) → IsBehind (mark_text effective perm)
 mark_behind effective perm =
-    cond_both (eqb effective perm) [] (9 ∷ (codes "#effective:" ++ perm_text effective)) IsBehind (λ same. nothing)
-    (λ differ. record {
+    cond_both (eqb effective perm) [] (9 ∷ (codes "#effective:" ++ perm_text effective)) IsBehind
+    (λ same. nothing_behind) (λ differ. record {
       no_feed = perm_pass not_feed refl refl refl refl effective;
       form = inr (codes "effective:" ++ perm_text effective, refl);
     })
@@ -53,12 +52,11 @@ marks_behind : (access : Entries) (default : Option Entries) (e : PartEntry)
     → IsBehind (mark_of (record { access = access; default = default }) e)
 unfolding effective_mark
 marks_behind access default (Access, e) = mark_behind (effective_of access e) e.1
-marks_behind access None (Default, e) = nothing
+marks_behind access None (Default, e) = nothing_behind
 marks_behind access (Some acl) (Default, e) = mark_behind (effective_of acl e) e.1
 
 -- the shown text is one line per entry, with the effective permissions after the entries that the mask limits
-shown_is : (F : PosixFile)
-    → flat_map (λ e. line (long e ++ mark_of F e)) (entries_of F) ≡ shown_text F.access F.default
+shown_is : (F : PosixFile) → flat_map (λ e. line (long e ++ mark_of F e)) (entries_of F) ≡ shown_text F.access F.default
 unfolding shown_text long_entry long_default
 shown_is F = simp (flat_map-append, flat_map-map)
 
@@ -74,9 +72,9 @@ abbrev is_row : ℕ → Bool
 is_row b = is_text b || eqb b 44
 
 -- entries in the short form are plain bytes and colons
-texts : (es : List PartEntry) → Within es → AllByRecursion Text (map short es)
-texts [] h = tt
-texts (e ∷ es) h = (short_written.bytes e h.0, texts es h.1)
+short_entries_are_texts : (es : List PartEntry) → Within es → AllByRecursion Text (map short es)
+short_entries_are_texts [] h = tt
+short_entries_are_texts (e ∷ es) h = (short_written.bytes e h.0, short_entries_are_texts es h.1)
 
 -- plain bytes and colons are bytes of texts or commas
 text_row : (x : List ℕ) → Text x → list_all is_row x ≡ true
@@ -128,8 +126,8 @@ row_spells : (names : Table) (es : List PartEntry) → (es ≡ [] → ⊥) → W
 row_spells names [] some h = absurd (some refl)
 row_spells names (e ∷ es) some h =
     subst (λ (ps : List TextPiece). SpellAll names ps (e ∷ es))
-    (sym (row_pieces (short e) (map short es) (texts (e ∷ es) h) (short_written.spells names 1 e h.0).has.filled))
-    (spans_spell names (e ∷ es) h 1)
+    (sym (row_pieces (short e) (map short es) (short_entries_are_texts (e ∷ es) h)
+    (short_written.spells names 1 e h.0).has.filled)) (spans_spell names (e ∷ es) h 1)
 
 -- the short text is the entries in the short form with commas between them
 short_is : (F : PosixFile) → join_with_byte 44 (map short (entries_of F)) ≡ short_text F.access F.default

@@ -26,8 +26,7 @@ default_within (Some E) h = h.within
 -- the entries of a file are within the limits
 pub within_file : (F : PosixFile) → IsFile F → Within (entries_of F)
 within_file F h = recursion_from_All (λ e. IsEntry e.1) (entries_of F)
-    (All-append (λ e. IsEntry e.1) (in_part Access (fin.entries F.access))
-    (in_part Default (default_entries F.default))
+    (All-append (λ e. IsEntry e.1) (in_part Access (fin.entries F.access)) (in_part Default (default_entries F.default))
     (All-map (λ (e : PartEntry). IsEntry e.1) (λ e. (Access, e)) (fin.entries F.access) h.access.within)
     (All-map (λ (e : PartEntry). IsEntry e.1) (λ e. (Default, e)) (default_entries F.default)
     (default_within F.default h.default)))

@@ -1,45 +1,44 @@
 -- An entry as it is written spells that entry, with every table of names and at any column.
-use Rattle.acl_posix.proofs.Common.{[], Access, All, All-push, All-weaker, AllPass-from_list_all, and_true, ap, append_assoc, arith, Bool, codes, cut_at, decimal, decimal_by_steps, decimal_is_IsNumeral, Default, end_trimmed, EntryFields, eqb, false, fields_of, group, HasEntryFields, id_in, id_of, Ids, IfSome, is_all_blank, is_ascii_digit, is_blank, is_default, IsEntry, IsId, IsTag, length, List, list_all, list_all-append, list_all-from_AllPass, long_word, nat_le, nat_tests, None, Option, option_map, Part, PartEntry, perm_text, permissions_of, qualifier_text, refl, short_word, slice_split, slice_split_at, slice_split_none, Some, Span, Spells, SpellsTag, subst, suc, Table, Tag, tag_row, TagWord, take, trimmed, true, unwrap_or, User, user, word_of, word_text, zero, ℕ, ◌%◌, ◌&&◌, ◌++◌, ◌+◌, ◌<◌, ◌==◌, ◌^◌, ◌||◌, ◌∙◌, ◌∷◌, ◌≡◌}
-use Rattle.acl_perm.proofs.Cuts.{end_trimmed-push_blank}
+use Rattle.acl_posix.proofs.Common.{[], Access, All, All-push, All-weaker, AllPass-from_list_all, and_true, ap, append_assoc, arith, Bool, codes, cut_at, decimal, decimal_by_steps, decimal_is_IsNumeral, Default, end_trimmed, end_trimmed-push_blank, EntryFields, eqb, false, fields_of, greatest_id, group, HasEntryFields, id_in, id_of, Ids, IfSome, is_all_blank, is_ascii_digit, is_blank, is_default, IsEntry, IsId, IsPerm, IsTag, length, List, list_all, list_all-append, list_all-from_AllPass, long_word, nat_le, nat_tests, None, Option, option_map, Part, PartEntry, perm_text, permissions_of, qualifier_text, refl, short_word, slice_split, slice_split_at, slice_split_none, Some, Span, Spells, SpellsTag, subst, suc, Table, Tag, tag_row, TagWord, take, trimmed, true, unwrap_or, User, user, word_of, word_text, zero, ℕ, ◌%◌, ◌&&◌, ◌++◌, ◌+◌, ◌<◌, ◌==◌, ◌^◌, ◌||◌, ◌∙◌, ◌∷◌, ◌≡◌}
 
 -- ---- bytes of fields
 
 -- a lowercase letter, a digit or -
-abbrev pub is_plain : ℕ → Bool
-is_plain b = (b == 45) || (nat_le 48 b && nat_le b 57) || (nat_le 97 b && nat_le b 122)
+abbrev pub is_field_byte : ℕ → Bool
+is_field_byte b = (b == 45) || (nat_le 48 b && nat_le b 57) || (nat_le 97 b && nat_le b 122)
 
 -- bytes that are all lowercase letters, digits or -
-abbrev pub Plain : List ℕ → Type 0
-Plain bs = list_all is_plain bs ≡ true
+abbrev pub IsField : List ℕ → Type 0
+IsField bs = list_all is_field_byte bs ≡ true
 
 -- a byte that passes a test differs from one that does not
-differs : (p : ℕ → Bool) (b c : ℕ) → p c ≡ false → p b ≡ true → eqb b c ≡ false
-differs p b c fails is = grind (arith, nat_tests)
+other_byte : (p : ℕ → Bool) (b c : ℕ) → p c ≡ false → p b ≡ true → eqb b c ≡ false
+other_byte p b c fails is = grind (arith, nat_tests)
 
 -- bytes that pass a test are without a byte that does not pass it
 pub absent : (p : ℕ → Bool) (c : ℕ) (bs : List ℕ) → p c ≡ false → list_all p bs ≡ true → All (λ b. eqb b c ≡ false) bs
-absent p c bs fails h = All-weaker (λ b. p b ≡ true) (λ b. eqb b c ≡ false) (λ b is. differs p b c fails is) bs
+absent p c bs fails h = All-weaker (λ b. p b ≡ true) (λ b. eqb b c ≡ false) (λ b is. other_byte p b c fails is) bs
     (AllPass-from_list_all p bs h)
 
 -- a plain byte is not a blank
-not_blank : (b : ℕ) → is_plain b ≡ true → is_blank b ≡ false
+not_blank : (b : ℕ) → is_field_byte b ≡ true → is_blank b ≡ false
 not_blank b h = grind (arith, nat_tests)
 
 -- plain bytes have no blanks at their end
-end_plain : (bs : List ℕ) → Plain bs → end_trimmed bs ≡ bs
+end_plain : (bs : List ℕ) → IsField bs → end_trimmed bs ≡ bs
 end_plain [] h = refl
 end_plain (b ∷ bs) h = let both = and_true _ _ h in
     rw (not_blank b both.0) (ap (λ (xs : List ℕ). b ∷ xs) (end_plain bs both.1))
 
 -- plain bytes have no blanks to be trimmed
-pub trimmed_plain : (bs : List ℕ) → Plain bs → trimmed bs ≡ bs
+pub trimmed_plain : (bs : List ℕ) → IsField bs → trimmed bs ≡ bs
 unfolding trimmed
 trimmed_plain [] h = refl
 trimmed_plain (b ∷ bs) h = let both = and_true _ _ h in
     rw (not_blank b both.0, not_blank b both.0) (ap (λ (xs : List ℕ). b ∷ xs) (end_plain bs both.1))
 
 -- a tab after plain bytes is trimmed
-trimmed_tab : (bs : List ℕ) → Plain bs → trimmed (bs ++ 9 ∷ []) ≡ bs
+trimmed_tab : (bs : List ℕ) → IsField bs → trimmed (bs ++ 9 ∷ []) ≡ bs
 unfolding trimmed
 trimmed_tab [] h = refl
 trimmed_tab (b ∷ bs) h = let both = and_true _ _ h in
@@ -57,13 +56,13 @@ decimal_pass p each n lt =
     ∙ ap (λ t. t && true) (each (m % 10) (omega arith))) n lt
 
 -- an id in decimal, or nothing, is plain bytes
-digits_plain : (number : Option ℕ) → IfSome number IsId → Plain (unwrap_or (option_map decimal number) [])
-digits_plain None h = refl
-digits_plain (Some id) h = decimal_pass is_plain (λ b lt. grind (arith, nat_tests)) id (omega (arith, h))
+decimal_plain : (number : Option ℕ) → IfSome number IsId → IsField (unwrap_or (option_map decimal number) [])
+decimal_plain None h = refl
+decimal_plain (Some id) h = decimal_pass is_field_byte (λ b lt. grind (arith, nat_tests)) id (omega (arith, h))
 
 -- a qualifier is written in plain bytes
-pub qualifier_plain : (t : Tag) → IsTag t → Plain (qualifier_text t)
-qualifier_plain t h = digits_plain (tag_row t).qualifier h
+pub qualifier_plain : (t : Tag) → IsTag t → IsField (qualifier_text t)
+qualifier_plain t h = decimal_plain (tag_row t).qualifier h
 
 -- permissions pass a test that their letters and - pass
 pub perm_pass : (p : ℕ → Bool) → p 45 ≡ true → p 114 ≡ true → p 119 ≡ true → p 120 ≡ true → (perm : ℕ)
@@ -71,11 +70,11 @@ pub perm_pass : (p : ℕ → Bool) → p 45 ≡ true → p 114 ≡ true → p 11
 perm_pass p none read write execute perm = grind arith
 
 -- permissions are written in plain bytes
-pub perm_plain : (p : ℕ) → p < 8 → Plain (perm_text p)
-perm_plain p lt = perm_pass is_plain refl refl refl refl p
+pub perm_plain : (p : ℕ) → IsPerm p → IsField (perm_text p)
+perm_plain p lt = perm_pass is_field_byte refl refl refl refl p
 
 -- permissions that are written read back
-pub perm_again : (p : ℕ) → p < 8 → permissions_of (perm_text p) ≡ Some p
+pub perm_again : (p : ℕ) → IsPerm p → permissions_of (perm_text p) ≡ Some p
 unfolding permissions_of
 perm_again zero lt = refl
 perm_again (suc zero) lt = refl
@@ -88,20 +87,20 @@ perm_again (suc (suc (suc (suc (suc (suc (suc zero))))))) lt = refl
 perm_again (suc (suc (suc (suc (suc (suc (suc (suc p)))))))) lt = absurd (omega arith)
 
 -- a number in decimal spells itself as an id, whatever the names are
-id_again : (ids : Ids) (n : ℕ) → n < 4294967295 → (0 < length (decimal n)) × (id_in ids (decimal n) ≡ Some n)
+id_again : (ids : Ids) (n : ℕ) → IsId n → (0 < length (decimal n)) × (id_in ids (decimal n) ≡ Some n)
 unfolding id_of
 id_again ids n lt =
-    let is = decimal_is_IsNumeral n (omega arith) in
+    let is = decimal_is_IsNumeral n (omega (arith, lt)) in
     let positive : 0 < length (decimal n) = is.0.0 in
     let some : eqb (length (decimal n)) 0 ≡ false = grind (arith, nat_tests) in
     let digits : list_all is_ascii_digit (decimal n) ≡ true =
     decimal_pass is_ascii_digit (λ b small. grind (arith, nat_tests)) n (omega arith) in
-    let small : nat_le n 4294967294 ≡ true = grind (arith, nat_tests) in
+    let small : nat_le n greatest_id ≡ true = grind (arith, nat_tests) in
     (positive, rw (some, digits, is.1, small) refl)
 
 -- bytes that spell a tag word
 pub record IsWordOf (word : TagWord) (w : List ℕ) : Type 0 where
-  pub plain : Plain w
+  pub plain : IsField w
   pub some_byte : 0 < length w
   pub means : word_of w ≡ Some word
   pub no_default : is_default w ≡ false
@@ -128,7 +127,7 @@ short_is t = (both_words (tag_row t).word).1
 
 -- a word that marks an entry of a default ACL
 pub record IsMark (d : List ℕ) : Type 0 where
-  pub plain : Plain d
+  pub plain : IsField d
   pub some_byte : 0 < length d
   pub means : is_default d ≡ true
 
@@ -144,11 +143,9 @@ short_mark = record { plain = refl; some_byte = omega arith; means = refl }
 tag_spelled : (names : Table) (w : List ℕ) (t : Tag) → IsTag t → word_of w ≡ Some (tag_row t).word
     → SpellsTag names w (qualifier_text t) t
 tag_spelled names w (user id) h e =
-    let again = id_again names.users id (omega (arith, h)) in
-    record { is_word = e; filled = again.0; is_id = again.1 }
+    let again = id_again names.users id h in record { is_word = e; filled = again.0; is_id = again.1 }
 tag_spelled names w (group id) h e =
-    let again = id_again names.groups id (omega (arith, h)) in
-    record { is_word = e; filled = again.0; is_id = again.1 }
+    let again = id_again names.groups id h in record { is_word = e; filled = again.0; is_id = again.1 }
 tag_spelled names w t h e = (e, refl)
 
 -- the bytes of a last field that spell permissions
@@ -157,14 +154,14 @@ pub record IsPermText (p : ℕ) (ps : List ℕ) : Type 0 where
   pub no_colon : All (λ b. eqb b 58 ≡ false) ps
 
 -- permissions without a blank are a field
-pub perm_alone : (p : ℕ) → p < 8 → IsPermText p (perm_text p)
+pub perm_alone : (p : ℕ) → IsPerm p → IsPermText p (perm_text p)
 perm_alone p lt = record {
   trims = trimmed_plain (perm_text p) (perm_plain p lt);
-  no_colon = absent is_plain 58 (perm_text p) refl (perm_plain p lt);
+  no_colon = absent is_field_byte 58 (perm_text p) refl (perm_plain p lt);
 }
 
 -- permissions with a tab after them are a field
-pub perm_tab : (p : ℕ) → p < 8 → IsPermText p (perm_text p ++ 9 ∷ [])
+pub perm_tab : (p : ℕ) → IsPerm p → IsPermText p (perm_text p ++ 9 ∷ [])
 perm_tab p lt = record {
   trims = trimmed_tab (perm_text p) (perm_plain p lt);
   no_colon = All-push (λ b. eqb b 58 ≡ false) (perm_text p) 9 (perm_alone p lt).no_colon refl;
@@ -173,13 +170,13 @@ perm_tab p lt = record {
 -- ---- pieces
 
 -- plain bytes with a colon after them are cut off at that colon
-colon_next : (bs rest : List ℕ) → Plain bs → slice_split (λ b. eqb b 58) (bs ++ 58 ∷ rest)
+colon_next : (bs rest : List ℕ) → IsField bs → slice_split (λ b. eqb b 58) (bs ++ 58 ∷ rest)
     ≡ bs ∷ slice_split (λ b. eqb b 58) rest
-colon_next bs rest h = slice_split_at (λ b. eqb b 58) bs 58 rest (absent is_plain 58 bs refl h) refl
+colon_next bs rest h = slice_split_at (λ b. eqb b 58) bs 58 rest (absent is_field_byte 58 bs refl h) refl
 
 -- a qualifier that spells a tag after the word of the tag
 pub record IsQualifierOf (t : Tag) (q : List ℕ) : Type 0 where
-  pub plain : Plain q
+  pub plain : IsField q
   pub spells : (names : Table) (w : List ℕ) → word_of w ≡ Some (tag_row t).word → SpellsTag names w q t
 
 -- a qualifier as it is written spells its tag after the word of the tag
@@ -193,8 +190,7 @@ fields_text w q ps = w ++ 58 ∷ (q ++ 58 ∷ ps)
 
 -- three written fields are cut at the colons into these fields
 three_split : (w : List ℕ) (t : Tag) (q : List ℕ) (p : ℕ) (ps : List ℕ) → IsQualifierOf t q
-    → IsWordOf (tag_row t).word w → IsPermText p ps
-    → slice_split (λ b. eqb b 58) (fields_text w q ps) ≡ w ∷ q ∷ ps ∷ []
+    → IsWordOf (tag_row t).word w → IsPermText p ps → slice_split (λ b. eqb b 58) (fields_text w q ps) ≡ w ∷ q ∷ ps ∷ []
 three_split w t q p ps hq hw hp = rw (
   colon_next w (q ++ 58 ∷ ps) hw.plain,
   colon_next q ps hq.plain,
@@ -202,7 +198,7 @@ three_split w t q p ps hq hw hp = rw (
 ) refl
 
 -- a text that begins with a plain byte is not blank
-pub starts_filled : (w rest : List ℕ) → Plain w → 0 < length w → is_all_blank (w ++ rest) ≡ false
+pub starts_filled : (w rest : List ℕ) → IsField w → 0 < length w → is_all_blank (w ++ rest) ≡ false
 starts_filled [] rest h some = absurd (omega (arith, some))
 starts_filled (b ∷ bs) rest h some = ap (λ t. t && is_all_blank (bs ++ rest)) (not_blank b (and_true _ _ h).0)
 
@@ -216,10 +212,10 @@ fields_at column part w q ps = record {
 }
 
 -- a piece with three written fields spells their entry
-spelled : (names : Table) (piece : Span) (column : ℕ) (part : Part) (w : List ℕ) (t : Tag) (q : List ℕ) (p : ℕ)
-    (ps : List ℕ) → HasEntryFields piece (fields_at column part w q ps) → IsQualifierOf t q → p < 8
+fields_spell_entry : (names : Table) (piece : Span) (column : ℕ) (part : Part) (w : List ℕ) (t : Tag) (q : List ℕ)
+    (p : ℕ) (ps : List ℕ) → HasEntryFields piece (fields_at column part w q ps) → IsQualifierOf t q → IsPerm p
     → IsWordOf (tag_row t).word w → IsPermText p ps → Spells names piece (part, (t, p))
-spelled names piece column part w t q p ps has hq lt hw hp = record {
+fields_spell_entry names piece column part w t q p ps has hq lt hw hp = record {
   fields = fields_at column part w q ps;
   has = has;
   is_part = refl;
@@ -229,22 +225,22 @@ spelled names piece column part w t q p ps has hq lt hw hp = record {
 
 -- three written fields spell their entry of the access part
 pub access_spelled : (names : Table) (column : ℕ) (w : List ℕ) (t : Tag) (q : List ℕ) (p : ℕ) (ps : List ℕ)
-    → IsQualifierOf t q → p < 8 → IsWordOf (tag_row t).word w → IsPermText p ps
+    → IsQualifierOf t q → IsPerm p → IsWordOf (tag_row t).word w → IsPermText p ps
     → Spells names (record { column = column; bytes = fields_text w q ps }) (Access, (t, p))
 unfolding cut_at fields_of
 access_spelled names column w t q p ps hq lt hw hp =
-    spelled names (record { column = column; bytes = fields_text w q ps }) column Access w t q p ps (record {
+    fields_spell_entry names (record { column = column; bytes = fields_text w q ps }) column Access w t q p ps (record {
       filled = starts_filled w (58 ∷ (q ++ 58 ∷ ps)) hw.plain hw.some_byte;
       cut = rw (three_split w t q p ps hq hw hp, trimmed_plain w hw.plain, hw.no_default) refl;
     }) hq lt hw hp
 
 -- three written fields after a mark spell their entry of the default part
 pub default_spelled : (names : Table) (column : ℕ) (d w : List ℕ) (t : Tag) (q : List ℕ) (p : ℕ) (ps : List ℕ)
-    → IsMark d → IsQualifierOf t q → p < 8 → IsWordOf (tag_row t).word w → IsPermText p ps
+    → IsMark d → IsQualifierOf t q → IsPerm p → IsWordOf (tag_row t).word w → IsPermText p ps
     → Spells names (record { column = column; bytes = d ++ 58 ∷ fields_text w q ps }) (Default, (t, p))
 unfolding cut_at fields_of
 default_spelled names column d w t q p ps hd hq lt hw hp =
-    spelled names (record { column = column; bytes = d ++ 58 ∷ fields_text w q ps }) (column + length d + 1)
+    fields_spell_entry names (record { column = column; bytes = d ++ 58 ∷ fields_text w q ps }) (column + length d + 1)
     Default w t q p ps (record {
       filled = starts_filled d (58 ∷ fields_text w q ps) hd.plain hd.some_byte;
       cut = rw (
@@ -259,7 +255,7 @@ default_spelled names column d w t q p ps hd hq lt hw hp =
 
 -- a plain byte or a colon
 abbrev pub is_text : ℕ → Bool
-is_text b = is_plain b || eqb b 58
+is_text b = is_field_byte b || eqb b 58
 
 -- plain bytes and colons alone
 abbrev pub Text : List ℕ → Type 0
@@ -272,15 +268,15 @@ all_also p q each bs h = list_all-from_AllPass q bs
     (All-weaker (λ b. p b ≡ true) (λ b. q b ≡ true) each bs (AllPass-from_list_all p bs h))
 
 -- plain bytes are plain bytes and colons
-pub text_from_plain : (bs : List ℕ) → Plain bs → Text bs
-text_from_plain bs h = all_also is_plain is_text (λ b is. ap (λ t. t || eqb b 58) is) bs h
+pub text_from_plain : (bs : List ℕ) → IsField bs → Text bs
+text_from_plain bs h = all_also is_field_byte is_text (λ b is. ap (λ t. t || eqb b 58) is) bs h
 
 -- plain bytes and colons with such bytes after them are plain bytes and colons
 pub text_append : (xs ys : List ℕ) → Text xs → Text ys → Text (xs ++ ys)
 text_append xs ys hx hy = list_all-append is_text xs ys ∙ ap (λ t. t && list_all is_text ys) hx ∙ hy
 
 -- three written fields are plain bytes and colons
-pub fields_are_text : (w q : List ℕ) (p : ℕ) → Plain w → Plain q → p < 8 → Text (fields_text w q (perm_text p))
+pub fields_are_text : (w q : List ℕ) (p : ℕ) → IsField w → IsField q → IsPerm p → Text (fields_text w q (perm_text p))
 fields_are_text w q p hw hq hp = text_append w (58 ∷ (q ++ 58 ∷ perm_text p)) (text_from_plain w hw)
     (text_append q (58 ∷ perm_text p) (text_from_plain q hq) (text_from_plain (perm_text p) (perm_plain p hp)))
 

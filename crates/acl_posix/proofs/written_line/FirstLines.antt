@@ -1,46 +1,47 @@
 -- Lines that are read in one step: the first line of a text spells its entry.
-use Rattle.acl_posix.proofs.Common.{[], Access, ap, append_assoc, arith, Bool, Bor, codes, Decides-eqb, Default, digits_value, drop, drop_more, eqb, false, get_or, group, id_of, IfSome, is_all_blank, is_ascii_digit, is_named, is_number, IsEntryBefore, IsFirstLine, IsIdBefore, IsPermBefore, length, length-append, length-take-le, letter_of, lines_of, List, list_all, long_word, MatchOption, nat_le, nat_tests, None, Option, Part, perm_text, pointwise, qualifier, refl, slice_split_at, Some, Spells, strip_prefix_is, sym, Table, Tag, take, take-append-drop, take_rest, true, user, ℕ, ◌++◌, ◌+◌, ◌-◌, ◌<◌, ◌∙◌, ◌∷◌, ◌≡◌, ◌≤◌}
-use Rattle.acl_posix.proofs.writer.WrittenEntries.{absent, access_spelled, all_also, default_spelled, fields_are_text, fields_text, is_plain, is_text, IsQualifierOf, long_is, long_mark, perm_alone, Plain, starts_filled, Text, text_append, text_from_plain}
-use Rattle.acl_posix.proofs.field.Digits.{digits_all, not_empty, some_digit}
+use Rattle.acl_posix.proofs.Common.{[], Access, ap, append_assoc, AreFirstDigits, arith, Bool, Bor, codes, Decides-eqb, Default, digits_value, drop, drop_more, eqb, false, get_or, greatest_id, group, id_of, IfSome, is_all_blank, is_ascii_digit, is_named, is_number, IsEntryBefore, IsFirstLine, IsId, IsIdBefore, IsPerm, IsPermBefore, length, length-append, length-take-le, letter_of, lines_of, List, list_all, long_word, MatchOption, nat_le, nat_tests, None, Option, Part, perm_text, pointwise, qualifier, refl, slice_split_at, Some, Spells, strip_prefix_is, sym, Table, Tag, take, take-append-drop, take_rest, true, user, ℕ, ◌++◌, ◌+◌, ◌-◌, ◌<◌, ◌∙◌, ◌∷◌, ◌≡◌, ◌≤◌}
+use Rattle.acl_posix.proofs.writer.WrittenEntries.{absent, access_spelled, all_also, default_spelled, fields_are_text, fields_text, is_field_byte, is_text, IsQualifierOf, long_is, long_mark, perm_alone, IsField, starts_filled, Text, text_append, text_from_plain}
+use Rattle.acl_posix.specs.declared.digits.FirstDigits.{FirstDigits}
+use Rattle.acl_posix.proofs.digits.DigitLemmas.{digits_all, not_empty, some_digit}
 use Rattle.acl_posix.proofs.writer.EntryLines.{text_piece}
 
 -- ---- digits
 
 -- a digit is a plain byte
-digit_is_plain : (b : ℕ) → is_ascii_digit b ≡ true → is_plain b ≡ true
+digit_is_plain : (b : ℕ) → is_ascii_digit b ≡ true → is_field_byte b ≡ true
 digit_is_plain b h = grind (arith, nat_tests)
 
 -- digits are plain bytes
-digits_plain : (bs : List ℕ) → list_all is_ascii_digit bs ≡ true → Plain bs
-digits_plain bs h = all_also is_ascii_digit is_plain digit_is_plain bs h
+digits_plain : (bs : List ℕ) → list_all is_ascii_digit bs ≡ true → IsField bs
+digits_plain bs h = all_also is_ascii_digit is_field_byte digit_is_plain bs h
 
 -- one digit or more, and digits alone, are a number
-number_of : (bs : List ℕ) → 0 < length bs → list_all is_ascii_digit bs ≡ true → is_number bs ≡ true
-number_of bs some h = rw (not_empty bs some) h
+number_from_digits : (bs : List ℕ) → 0 < length bs → list_all is_ascii_digit bs ≡ true → is_number bs ≡ true
+number_from_digits bs some h = rw (not_empty bs some) h
 
 -- the digits before a colon are the id
-pub id_found : (bs rest : List ℕ) (i value : ℕ) → i < length bs → 0 < i → get_or bs i 0 ≡ 58
-    → list_all is_ascii_digit (take i bs) ≡ true → value ≡ digits_value 10 (take i bs) → value ≤ 4294967294
-    → rest ≡ drop (i + 1) bs → IsIdBefore bs value rest
+pub id_found : {bs rest : List ℕ} {first : FirstDigits} {id : ℕ} → AreFirstDigits bs first → 0 < first.count
+    → first.count < length bs → get_or bs first.count 0 ≡ 58 → id ≡ first.value → IsId id
+    → rest ≡ drop (first.count + 1) bs → IsIdBefore bs id rest
 unfolding id_of
-id_found bs rest i value lt some colon digits is small behind =
-    let long : length (take i bs) ≡ i = length-take-le i bs (omega arith) in
-    let fits : nat_le (digits_value 10 (take i bs)) 4294967294 ≡ true = grind (arith, nat_tests) in
+id_found {bs} {rest} {first} digits some inside colon is within behind =
+    let long : length (take first.count bs) ≡ first.count = length-take-le first.count bs (omega arith) in
+    let fits : nat_le (digits_value 10 (take first.count bs)) greatest_id ≡ true =
+    (let same = is ∙ digits.value in grind (arith, nat_tests)) in
     record {
-      digits = take i bs;
-      parts = sym (take-append-drop i bs) ∙ ap (λ (xs : List ℕ). take i bs ++ xs)
-          (drop_more bs i 0 lt ∙ ap (λ (b : ℕ). b ∷ drop (i + 1) bs) colon
+      digits = take first.count bs;
+      parts = sym (take-append-drop first.count bs) ∙ ap (λ (xs : List ℕ). take first.count bs ++ xs)
+          (drop_more bs first.count 0 inside ∙ ap (λ (b : ℕ). b ∷ drop (first.count + 1) bs) colon
           ∙ ap (λ (xs : List ℕ). 58 ∷ xs) (sym behind));
-      number = number_of (take i bs) (omega (arith, long)) digits;
-      value = rw fits (ap (λ (n : ℕ). Some n) (sym is));
+      number = number_from_digits (take first.count bs) (omega (arith, long)) digits.digits;
+      value = rw fits (ap (λ (n : ℕ). Some n) (sym (is ∙ digits.value)));
     }
 
 -- bytes with a beginning are that beginning and the bytes after it
 pub behind_is : (bs beginning : List ℕ) (r : Option (Bor (List ℕ)))
     → MatchOption r (pointwise eqb (take (length beginning) bs) beginning ≡ false)
     (λ x. (pointwise eqb (take (length beginning) bs) beginning ≡ true) × (x.now ≡ drop (length beginning) bs)
-    × (length x.now + length beginning ≡ length bs))
-    → IfSome r (λ rest. bs ≡ beginning ++ rest.now)
+    × (length x.now + length beginning ≡ length bs)) → IfSome r (λ rest. bs ≡ beginning ++ rest.now)
 behind_is bs beginning None h = tt
 behind_is bs beginning (Some x) h = strip_prefix_is Decides-eqb bs beginning (Some x) h
 
@@ -53,17 +54,17 @@ four_apart (a ∷ b ∷ c ∷ d ∷ bs) h = refl
 four_apart bs h = absurd (omega arith)
 
 -- two lists are equal if their first four bytes and the rest are equal
-same_four : (a b c d e f g h : ℕ) (xs ys : List ℕ) → a ≡ e → b ≡ f → c ≡ g → d ≡ h → xs ≡ ys
+same_four : {a b c d e f g h : ℕ} {xs ys : List ℕ} → a ≡ e → b ≡ f → c ≡ g → d ≡ h → xs ≡ ys
     → a ∷ b ∷ c ∷ d ∷ xs ≡ e ∷ f ∷ g ∷ h ∷ ys
-same_four a b c d e f g h xs ys p q r s t = cc
+same_four p q r s t = cc
 
 -- three letters and a line feed are permissions
 pub perm_found : (bs : List ℕ) (r w x : Bool) (perm : ℕ) → 4 ≤ length bs → get_or bs 0 0 ≡ letter_of r 114
     → get_or bs 1 0 ≡ letter_of w 119 → get_or bs 2 0 ≡ letter_of x 120 → get_or bs 3 0 ≡ 10
-    → perm_text perm ≡ letter_of r 114 ∷ letter_of w 119 ∷ letter_of x 120 ∷ [] → perm < 8
+    → perm_text perm ≡ letter_of r 114 ∷ letter_of w 119 ∷ letter_of x 120 ∷ [] → IsPerm perm
     → IsPermBefore bs perm (take (length bs - 4) (drop 4 bs))
 perm_found bs r w x perm four read write execute feed is lt = record {
-  parts = four_apart bs four ∙ same_four _ _ _ _ _ _ _ _ _ _ read write execute feed (sym (take_rest bs 4))
+  parts = four_apart bs four ∙ same_four read write execute feed (sym (take_rest bs 4))
       ∙ ap (λ (t : List ℕ). t ++ 10 ∷ take (length bs - 4) (drop 4 bs)) (sym is);
   within = lt;
 }
@@ -88,7 +89,7 @@ pub record IsLineBefore (bytes : List ℕ) (t : Tag) (perm : ℕ) (rest : List �
   pub digits : List ℕ
   pub parts : bytes ≡ fields_text (long_word t) digits (perm_text perm) ++ 10 ∷ rest
   pub is : IsQualifierOf t digits
-  pub within : perm < 8
+  pub within : IsPerm perm
 
 -- the line of an entry with an id is its three written fields, and the rest is after the line feed
 line_before : (bytes : List ℕ) (entry : Tag × ℕ) (rest : List ℕ) → IsEntryBefore bytes entry rest
@@ -105,15 +106,13 @@ line_before bytes entry rest h = record {
 
 -- plain bytes, colons and a line feed are a first line
 first_line : (text bytes rest : List ℕ) (part : Part) (entry : Tag × ℕ) → text ≡ bytes ++ 10 ∷ rest → Text bytes
-    → is_all_blank bytes ≡ false
-    → ((names : Table) → Spells names (record { column = 1; bytes = bytes }) (part, entry))
+    → is_all_blank bytes ≡ false → ((names : Table) → Spells names (record { column = 1; bytes = bytes }) (part, entry))
     → IsFirstLine text part entry rest
 first_line text bytes rest part entry is plain some spells =
     let long = length-append bytes (10 ∷ rest) in
     record {
       bytes = bytes;
-      lines = ap lines_of is ∙ slice_split_at (λ b. eqb b 10) bytes 10 rest
-          (absent is_text 10 bytes refl plain) refl;
+      lines = ap lines_of is ∙ slice_split_at (λ b. eqb b 10) bytes 10 rest (absent is_text 10 bytes refl plain) refl;
       shorter = omega (arith, long, ap length is);
       one = text_piece bytes plain some;
       spells = spells;

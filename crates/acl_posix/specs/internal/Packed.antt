@@ -1,16 +1,25 @@
 -- Entries as single numbers, which the code sorts in place of entries (this library's own).
-use Rattle.std.specs.Prelude.{ℕ, ◌+◌, ◌*◌, ◌/◌, ◌%◌, ◌≡◌}
+use Rattle.std.specs.Prelude.{ℕ, ◌+◌, ◌*◌, ◌/◌, ◌%◌, ◌^◌, ◌≡◌}
 use Rattle.acl_posix.specs.Tag.{Tag, rank, qualifier}
 use Rattle.acl_posix.specs.Entries.{IsEntry}
 use Rattle.acl_posix.specs.internal.TagCode.{tag_from}
 
--- the rank of the tag, its qualifier below 2^32, and the permissions below 8, in one number
+-- how many numbers can be a qualifier
+abbrev pub qualifier_count : ℕ
+qualifier_count = 2 ^ 32
+
+-- how many sets of permissions there are
+abbrev pub perm_count : ℕ
+perm_count = 2 ^ 3
+
+-- the rank of the tag, its qualifier, and the permissions, in one number
 unfoldable pub packed : Tag × ℕ → ℕ
-packed entry = (rank entry.0 * 4294967296 + qualifier entry.0) * 8 + entry.1
+packed entry = (rank entry.0 * qualifier_count + qualifier entry.0) * perm_count + entry.1
 
 -- the entry that a number means
 unfoldable pub unpacked : ℕ → Tag × ℕ
-unpacked key = (tag_from (key / 8 / 4294967296) (key / 8 % 4294967296), key % 8)
+unpacked key =
+    (tag_from (key / perm_count / qualifier_count) (key / perm_count % qualifier_count), key % perm_count)
 
 -- the number means an entry
 pub record IsPacked (key : ℕ) : Type 0 where

@@ -1,6 +1,6 @@
 -- How the code reads pieces one after the other, as functions (this library's own). What public clauses say about texts
 -- is in Grammar and TextFault.
-use Rattle.std.specs.Prelude.{ℕ, ◌≡◌, ◌+◌, ◌<◌, ◌≤◌, ◌==◌, List, [], ◌∷◌, ◌++◌, length, Option, Some, None, Result, Ok, Err, ok_or, if◌then◌else◌}
+use Rattle.std.specs.Prelude.{ℕ, ◌≡◌, ◌+◌, ◌<◌, ◌≤◌, ◌==◌, List, [], ◌∷◌, ◌++◌, length, Option, Some, None, Result, Ok, Err, MatchResult, ok_or, if◌then◌else◌}
 use Rattle.std.specs.Borrow.{Bor}
 use Rattle.std.specs.List.{enumerate_from}
 use Rattle.acl_perm.specs.declared.lines.Piece.{Piece}
@@ -145,18 +145,25 @@ abbrev pub FailsWith : {Y : Type 0} → TextFault → Result Y TextFault → Typ
 FailsWith faults.Memory read = Unit {0}
 FailsWith fault read = read ≡ Err fault
 
+-- what the code returns agrees with this reading: it has the lists that were read, or the fault unless memory ran out
+abbrev pub AgreesWith : {A : Type 0} → Result A TextFault → (A → Lists) → Result Lists TextFault → Type 0
+AgreesWith result lists read = MatchResult result (λ value. read ≡ Ok (lists value)) (λ fault. FailsWith fault read)
+
 -- the pieces of lines; the first line has this number
 abbrev pub pieces_from : ℕ → List (List ℕ) → List TextPiece
 pieces_from number lines = pieces_of_lines (enumerate_from number lines)
+
+-- the entries of a text whose first line has this number, after those that have been read, or the first fault
+abbrev pub read_lines_from : Table → Lists → ℕ → List ℕ → Result Lists TextFault
+read_lines_from names lists number text = read_pieces names lists (pieces_from number (lines_of text))
 
 -- after the first line of a text, which has this number, the reading of the rest gives what the reading of the whole
 -- gives
 abbrev pub ReadsOn : Table → ℕ → List ℕ → Lists → Lists → Option (Bor (List ℕ)) → Type 0
 ReadsOn names number text lists next None =
-    read_pieces names lists (pieces_from number (lines_of text)) ≡ Ok next
+    read_lines_from names lists number text ≡ Ok next
 ReadsOn names number text lists next (Some rest) =
-    (read_pieces names lists (pieces_from number (lines_of text))
-    ≡ read_pieces names next (pieces_from (number + 1) (lines_of rest.now)))
+    (read_lines_from names lists number text ≡ read_lines_from names next (number + 1) rest.now)
     × (length rest.now < length text)
 
 -- what a fault says about the entries of a part

@@ -1,6 +1,6 @@
 -- How the code puts a text together, one entry after the other (this library's own). What public clauses say about the
 -- texts is in Texts.
-use Rattle.std.specs.Prelude.{ℕ, ◌≡◌, ◌+◌, Bool, true, false, List, [], ◌∷◌, ◌++◌, codes, drop, length, Option, Some, None, if◌then◌else◌}
+use Rattle.std.specs.Prelude.{ℕ, ◌≡◌, ◌+◌, ◌^◌, Bool, true, false, List, [], ◌∷◌, ◌++◌, codes, drop, length, Option, Some, None, if◌then◌else◌}
 use Rattle.std.specs.FinMap as set
 use Rattle.acl_perm.specs.Ascii.{line_feed}
 use Rattle.acl_posix.specs.declared.form.Form.{Form}
@@ -10,6 +10,7 @@ use Rattle.acl_posix.specs.declared.text_fault.Part.TheVariants.{Access, Default
 use Rattle.acl_posix.specs.Tag.{Tag}
 use Rattle.acl_posix.specs.Entries.{Entries}
 use Rattle.acl_posix.specs.Mask.{effective_of}
+use Rattle.acl_posix.specs.internal.Digits.{most_digits}
 use Rattle.acl_posix.specs.Texts.{long_word, short_word, entry_text, mark_text}
 
 -- the bytes of a line of the code: room for the longest text of an entry
@@ -20,9 +21,9 @@ line_room = 64
 abbrev pub perm_room : ℕ
 perm_room = 4
 
--- the most bytes of a qualifier: the digits of the greatest id
+-- the most bytes of a qualifier: the digits of an id
 abbrev pub qualifier_room : ℕ
-qualifier_room = 10
+qualifier_room = most_digits
 
 -- the most bytes of the word of a tag and a colon: those of `group:`
 abbrev pub word_room : ℕ
@@ -43,6 +44,10 @@ ending_room = mark_room + 1
 -- the most bytes before an entry: those of `default:`
 abbrev pub lead_room : ℕ
 lead_room = 8
+
+-- the bytes of a part are fewer: there are at most two entries for each id, and a few others
+abbrev pub part_limit : ℕ
+part_limit = 2 ^ 62
 
 -- bytes are put in front of those from a place on
 pub record IsPut (bytes old new : List ℕ) (end start : ℕ) : Type 0 where

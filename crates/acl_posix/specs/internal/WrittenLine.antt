@@ -1,5 +1,6 @@
 -- Lines in the form of the canonical text, which the code reads in one step (this library's own).
 use Rattle.std.specs.Prelude.{ℕ, ◌≡◌, ◌<◌, ◌++◌, Bool, true, List, [], ◌∷◌, length, Some, if◌then◌else◌}
+use Rattle.acl_perm.specs.Bits.{IsPerm}
 use Rattle.acl_perm.specs.Ascii.{colon, hyphen, line_feed}
 use Rattle.acl_perm.specs.Lines.{lines_of}
 use Rattle.acl_perm.specs.Shown.{perm_text}
@@ -24,7 +25,7 @@ letter_of shown letter = if shown then letter else hyphen
 -- permissions as they are written, and a line feed, are before the rest
 pub record IsPermBefore (bytes : List ℕ) (perm : ℕ) (rest : List ℕ) : Type 0 where
   pub parts : bytes ≡ perm_text perm ++ line_feed ∷ rest
-  pub within : perm < 8
+  pub within : IsPerm perm
 
 -- an id, a colon, permissions and a line feed are before the rest
 pub record AreFieldsBefore (bytes : List ℕ) (id perm : ℕ) (rest : List ℕ) : Type 0 where

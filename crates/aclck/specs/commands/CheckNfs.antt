@@ -21,37 +21,37 @@ use Rattle.aclck.specs.Run.{of_list}
 -- ---- words
 
 -- the owner and the owning group of the object
-pub record ObjectNames : Type 0 where
+pub record NamedObject : Type 0 where
   pub owner : Text
   pub group : Text
 
 -- who requests access
-pub record RequesterNames : Type 0 where
+pub record NamedRequester : Type 0 where
   pub user : Text
   pub groups : List Text
 
 -- the object, the requester, the rights that are requested, and the profile
 pub record CheckNfsValues : Type 0 where
-  pub object : ObjectNames
-  pub requester : RequesterNames
+  pub object : NamedObject
+  pub requester : NamedRequester
   pub mask : ℕ
   pub profile : Profile
 
 -- an object's owner and group, if both are names
-abbrev pub object_named : Option Text → Option Text → Option ObjectNames
+abbrev pub object_named : Option Text → Option Text → Option NamedObject
 object_named owner group = option_and_then (λ owner_name. option_and_then (λ group_name.
     if is_name owner_name && is_name group_name
     then Some (record { owner = owner_name; group = group_name }) else None) group) owner
 
 -- a user and the groups, if all are names
-abbrev pub requester_named : Option Text → List Text → Option RequesterNames
+abbrev pub requester_named : Option Text → List Text → Option NamedRequester
 requester_named user groups = option_and_then (λ user_name.
     if is_name user_name && are_names groups
     then Some (record { user = user_name; groups = groups }) else None) user
 
 -- the values, if all are there and the profile has the rights of the mask
 abbrev pub check_nfs_values :
-    Option ObjectNames → Option RequesterNames → Option Text → Option Profile → Option CheckNfsValues
+    Option NamedObject → Option NamedRequester → Option Text → Option Profile → Option CheckNfsValues
 check_nfs_values object requester mask profile =
     option_and_then (λ whose. option_and_then (λ who. option_and_then (λ allowed. option_map (λ rights.
     record { object = whose; requester = who; mask = rights; profile = allowed })
@@ -66,11 +66,11 @@ check_nfs_in rows groups = check_nfs_values
     (profile_in rows)
 
 -- the names of an object
-abbrev pub object_names : Object → ObjectNames
+abbrev pub object_names : Object → NamedObject
 object_names object = record { owner = owner_of object; group = owning_group_of object }
 
 -- the names of a requester
-abbrev pub requester_names : Requester → RequesterNames
+abbrev pub requester_names : Requester → NamedRequester
 requester_names requester = record { user = user_of requester; groups = groups_of requester }
 
 -- the values that the program holds

@@ -6,13 +6,13 @@ use Rattle.acl_perm.specs.Devices.{failures_after}
 use Rattle.acl_perm.specs.Profile.{Profile}
 use Rattle.acl_nfs4.specs.Ace.{Ace}
 use Rattle.acl_nfs4.specs.Fault.{IsFirstFault}
-use Rattle.acl_nfs4.specs.Spelling.{Xdr}
+use Rattle.acl_nfs4.specs.Spelling.{Xdr, word_limit}
 use Rattle.acl_nfs4.specs.internal.Progress.{IsBytes}
 use Rattle.acl_nfs4.specs.Stream.{IsCutShort}
 use Rattle.acl_nfs4.specs.declared.xdr.fault.Fault.{Fault}
 use Rattle.acl_nfs4.specs.declared.xdr.fault.Reason.TheVariants.{Memory, TrailingBytes, Truncated}
 use Rattle.aclck.specs.Answer.{IsXdrFault, origin_of, has_read_failed, is_read}
-use Rattle.aclck.specs.commands.Compare.{IsRefusedTwo}
+use Rattle.aclck.specs.commands.Compare.{AreTwo, IsRefusedTwo}
 use Rattle.aclck.specs.ListInput.{AreOpen, IsOpen, ListEnds, RefusalEnds, TakesPart, TakesTo, TwoEnd, ValueEnds, piece_len}
 use Rattle.aclck.specs.declared.answer.Origin.{Origin}
 use Rattle.aclck.specs.declared.answer.Origin.TheVariants as origin
@@ -20,6 +20,7 @@ use Rattle.aclck.specs.declared.answer.RunFault.{RunFault}
 use Rattle.aclck.specs.declared.answer.RunFault.TheVariants as fault
 use Rattle.aclck.specs.declared.input.xdr.ListFault.{ListFault}
 use Rattle.aclck.specs.declared.input.xdr.ListFault.TheVariants as unread
+use Rattle.aclck.specs.declared.input.xdr.TwoLists.{TwoLists}
 
 -- ---- faults
 
@@ -50,11 +51,15 @@ later (unread.Refused f) n = unread.Refused (record { offset = f.offset + n; rea
 later unread.Read n = unread.Read
 later unread.Memory n = unread.Memory
 
--- a refusal has an offset below n
-abbrev pub IsOffsetBelow : ℕ → ListFault → Type 0
-IsOffsetBelow n (unread.Refused f) = f.offset < n
-IsOffsetBelow n unread.Read = Unit {0}
-IsOffsetBelow n unread.Memory = Unit {0}
+-- a number of bytes that one value can have
+abbrev pub FitsOneValue : ℕ → Type 0
+FitsOneValue count = count < word_limit
+
+-- a refusal is at a byte that one value can have
+abbrev pub HasOffsetOfOneValue : ListFault → Type 0
+HasOffsetOfOneValue (unread.Refused f) = FitsOneValue f.offset
+HasOffsetOfOneValue unread.Read = Unit {0}
+HasOffsetOfOneValue unread.Memory = Unit {0}
 
 -- ---- inputs
 
@@ -80,6 +85,10 @@ pub record InputKind : Type 1 where
 -- one list
 abbrev pub one_list_input : Profile → InputKind
 one_list_input p = record { HasFault = IsXdrFault p; EndsAt = ListEnds p; MayGoOn = IsOpen p }
+
+-- a text spells the two lists that the program holds, and nothing more
+abbrev pub SpellsTwo : Profile → TwoLists → List ℕ → Type 0
+SpellsTwo p two = AreTwo p two.first two.second
 
 -- two lists
 abbrev pub two_list_input : Profile → InputKind

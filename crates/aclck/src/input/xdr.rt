@@ -1,13 +1,12 @@
 //! Lists that an input spells, read as they arrive.
-ghost use Rattle.std.specs.Prelude.{◌≡◌, ◌⊎◌, ◌<◌, ◌≤◌, ◌^◌, Ok, OnErr, drop, length};
+ghost use Rattle.std.specs.Prelude.{◌≡◌, ◌⊎◌, ◌<◌, ◌≤◌, Ok, OnErr, drop, length};
 ghost use Rattle.std.specs.Io.KnownBytes.{Consumes, IsAtEnd, Keeps};
 ghost use Rattle.acl_nfs4.specs.Spelling.{Xdr};
 ghost use Rattle.acl_nfs4.specs.Stream.{FinishesStream};
 ghost use Rattle.acl_nfs4.specs.internal.Progress.{IsBytes};
 ghost use Rattle.aclck.specs.Common.{[], IfErr, IfOk, OnOk, failures_after, false, profile_of, true};
-ghost use Rattle.aclck.specs.commands.Compare.{AreTwo};
 ghost use Rattle.aclck.specs.ListInput.{piece_len};
-ghost use Rattle.aclck.specs.internal.Reading.{EndsNot, IsReaderFault, ReadsInput, ReadsNone, ReadsValue, IsOffsetBelow, has_pull_failed, later, one_list_input, run_fault, two_list_input};
+ghost use Rattle.aclck.specs.internal.Reading.{EndsNot, HasOffsetOfOneValue, IsReaderFault, FitsOneValue, ReadsInput, ReadsNone, ReadsValue, SpellsTwo, has_pull_failed, later, one_list_input, run_fault, two_list_input};
 
 use crate::answer::RunFault;
 use acl_nfs4::{Acl, Fault, Fed, Feed, Reason};
@@ -16,7 +15,7 @@ use std::alloc::Global;
 use std::marker::Model;
 
 /// Why a list was not read.
-#[derive(Clone, Copy, Debug, PartialEq, Eq)]
+#[derive(Clone, Copy, Debug)]
 pub(crate) enum ListFault {
     /// The input is not an accepted list of the profile.
     Refused(Fault),
@@ -80,8 +79,7 @@ pub(crate) fn read_two<S: Source>(
     profile: Profile,
 ) -> Result<TwoLists, RunFault>
     ensures { ReadsInput (two_list_input (profile_of profile))
-        (λ (two : TwoLists). AreTwo (profile_of profile) two.first two.second)
-        (S.remaining source.old) (S.remaining source.new)
+        (SpellsTwo (profile_of profile)) (S.remaining source.old) (S.remaining source.new)
         (S.failure_count source.old) (S.failure_count source.new) result }
 {
     let mut pulled = LastPull::new();
@@ -100,8 +98,8 @@ pub(crate) fn read_two<S: Source>(
 
 // Returns the fault with its place counted from the start of the input, if `len` bytes are before the list that has it.
 fn behind(fault: ListFault, len: u64) -> ListFault
-    requires fault { IsOffsetBelow (2 ^ 32) fault }
-    requires len { len < 2 ^ 32 }
+    requires fault { HasOffsetOfOneValue fault }
+    requires len { FitsOneValue len }
     ensures { result ≡ later fault len }
 {
     match fault {
@@ -131,7 +129,7 @@ pub(crate) fn read_value<S: Source>(
 ) -> Result<Value, ListFault>
     ensures value { IfOk result (λ value. ReadsValue (profile_of profile) pulled.old pulled.new
         (S.remaining source.old) (S.remaining source.new) value.list value.len) }
-    ensures small { IfOk result (λ value. value.len < 2 ^ 32) }
+    ensures short { IfOk result (λ value. FitsOneValue value.len) }
     ensures none { IfErr result (λ e. ReadsNone (profile_of profile) pulled.old
         (S.remaining source.old) (S.remaining source.new) e) }
     ensures reads { S.failure_count source.new

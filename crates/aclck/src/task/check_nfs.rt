@@ -6,7 +6,7 @@ ghost use Rattle.aclck.specs.Common.{IfOk, ReadsValues, RunsCommand, is_yes, opt
 ghost use Rattle.aclck.specs.Values.{mask_value, mask_within};
 ghost use Rattle.aclck.specs.commands.CheckNfs.{check_nfs, check_nfs_held, check_nfs_in, object_named, object_names, requester_named, requester_names};
 
-use crate::answer::{Outcome, RunFault, decision_line};
+use crate::answer::{Outcome, RunFault, decision_line, write_answer};
 use crate::input::xdr::read_list;
 use crate::line::{Argument, LineFault, text_of};
 use crate::task::values::CheckNfs;
@@ -15,7 +15,7 @@ use crate::words::profile::profile_in;
 use crate::words::values::within;
 use acl_eval::{Object, Requester, grants_by_table};
 use acl_nfs4::{Acl, read_mask};
-use acl_perm::{Mask, Sink, Source, put_all};
+use acl_perm::{Mask, Sink, Source};
 use clap::ArgMatches;
 use std::alloc::{AllocError, Global};
 
@@ -106,8 +106,7 @@ pub fn run_check_nfs<S: Source, K: Sink>(
 {
     let list = read_list(alloc, source, task.profile)?;
     let outcome = decide(alloc, &list, task)?;
-    put_all(sink, decision_line(outcome))?;
-    Ok(outcome)
+    write_answer(sink, outcome, decision_line(outcome))
 }
 
 // Returns Yes if the list grants the request. The groups are put into a table where that saves time.

@@ -33,9 +33,7 @@ pub(crate) fn read(alloc: Global, matches: &ArgMatches<'_>) -> Result<CheckPosix
         group: id_in(text_of(matches, GROUP))?,
         user: id_in(text_of(matches, USER))?,
         groups: groups_in(alloc, text_of(matches, GROUPS))?,
-        want: text_of(matches, WANT)
-            .and_then(want_value)
-            .ok_or(LineFault::Usage)?,
+        want: want_in(text_of(matches, WANT))?,
         names: names_in(alloc, matches)?,
     })
 }
@@ -81,6 +79,13 @@ fn each_id(alloc: Global, items: &[&str]) -> Result<Vec<Id>, LineFault>
         all.push(id)?;
     }
     Ok(all)
+}
+
+fn want_in(word: Option<&str>) -> Result<Perm, LineFault>
+    ensures { ReadsValues (λ perm. perm.bits)
+        (option_and_then want_value (text_if_any word.entry)) result }
+{
+    word.and_then(want_value).ok_or(LineFault::Usage)
 }
 
 // The value of `--want`: r, w and x in any order, or `none`.

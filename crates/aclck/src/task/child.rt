@@ -3,7 +3,7 @@ ghost use Rattle.std.specs.Prelude.{◌≡◌};
 ghost use Rattle.aclck.specs.Common.{ReadsValues, RunsCommand, rows_in};
 ghost use Rattle.aclck.specs.commands.Child.{child, child_held, child_in, kind_value};
 
-use crate::answer::{Outcome, RunFault};
+use crate::answer::{Outcome, RunFault, write_list_answer};
 use crate::input::xdr::read_list;
 use crate::line::{Argument, LineFault, text_of};
 use crate::task::values::Child;
@@ -60,6 +60,5 @@ pub fn run_child<S: Source, K: Sink>(
         &read_list(alloc, source, values.profile)?,
         values.kind,
     )?;
-    list.encode(sink)?;
-    Ok(Outcome::Yes)
+    write_list_answer(sink, &list)
 }

@@ -5,14 +5,14 @@ ghost use Rattle.acl_nfs4.specs.Rights.{rights};
 ghost use Rattle.acl_normal.specs.Difference.{situation_of};
 ghost use Rattle.aclck.specs.Common.{[], IfOk, OnOk, RunsCommand, profile_of};
 ghost use Rattle.aclck.specs.Answer.{decision};
-ghost use Rattle.aclck.specs.commands.Compare.{Compares, compare, compare_line, difference_text};
+ghost use Rattle.aclck.specs.commands.Compare.{Compares, answer_lines, compare, compare_line, difference_text, situation_lines};
 ghost use Rattle.aclck.specs.internal.Compared.{compared_text};
 
-use crate::answer::{Outcome, RunFault};
+use crate::answer::{Outcome, RunFault, write_answer};
 use crate::input::xdr::{TwoLists, read_two};
 use acl_nfs4::bit_name;
 use acl_normal::{Difference, compare};
-use acl_perm::{Mask, Profile, Sink, Source, put_all};
+use acl_perm::{Mask, Profile, Sink, Source};
 use std::alloc::{AllocError, Global};
 
 /// Writes whether the two lists that the whole input spells, one after the other, grant the same (this library's own,
@@ -31,8 +31,7 @@ pub fn run_compare<S: Source, K: Sink>(
 {
     let lists = read_two(alloc, source, profile)?;
     let answer = answer_of(alloc, &lists)?;
-    put_all(sink, &answer.text)?;
-    Ok(answer.outcome)
+    write_answer(sink, answer.outcome, &answer.text)
 }
 
 // The outcome of a comparison, with its text.
@@ -67,14 +66,30 @@ fn text_of_difference(alloc: Global, found: &Difference) -> Result<Vec<u8>, Allo
         ≡ difference_text (situation_of found.now) found.now.bit.bits found.now.first_grants) }
 {
     let mut text = Vec::from_slice(alloc, b"differ\n")?;
-    add_line(&mut text, b"owner", &found.owner)?;
-    add_line(&mut text, b"group", &found.group)?;
-    add_line(&mut text, b"user", &found.user)?;
-    add_members(&mut text, &found.groups)?;
-    add_line(&mut text, b"mask", right_name(found.bit))?;
-    add_line(&mut text, b"first", decision(found.first_grants))?;
-    add_line(&mut text, b"second", decision(!found.first_grants))?;
+    add_situation(&mut text, found)?;
+    add_answers(&mut text, found)?;
     Ok(text)
+}
+
+// Adds the object and the requester, one line for each name.
+fn add_situation(text: &mut Vec<u8>, found: &Difference) -> Result<(), AllocError>
+    ensures { OnOk result (text.new.items
+        ≡ text.old.items ++ situation_lines (situation_of found.now)) }
+{
+    add_line(text, b"owner", &found.owner)?;
+    add_line(text, b"group", &found.group)?;
+    add_line(text, b"user", &found.user)?;
+    add_members(text, &found.groups)
+}
+
+// Adds the right on which the lists differ, and what each list answers.
+fn add_answers(text: &mut Vec<u8>, found: &Difference) -> Result<(), AllocError>
+    ensures { OnOk result (text.new.items
+        ≡ text.old.items ++ answer_lines found.now.bit.bits found.now.first_grants) }
+{
+    add_line(text, b"mask", right_name(found.bit))?;
+    add_line(text, b"first", decision(found.first_grants))?;
+    add_line(text, b"second", decision(!found.first_grants))
 }
 
 // Adds one line for each group.

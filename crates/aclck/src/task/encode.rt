@@ -4,7 +4,7 @@ ghost use Rattle.std.specs.Prelude.{◌≡◌, ◌⊎◌};
 ghost use Rattle.aclck.specs.Common.{IfErr, IfOk, RunsCommand, is_input_fault, profile_of, true};
 ghost use Rattle.aclck.specs.commands.Encode.{IsNfsTextFault, encode};
 
-use crate::answer::{Outcome, RunFault};
+use crate::answer::{Outcome, RunFault, write_list_answer};
 use acl_nfs4::{AceTextFault, Acl, parse_text_with};
 use acl_perm::{Profile, Sink, Source, read_all};
 use std::alloc::Global;
@@ -24,8 +24,7 @@ pub fn run_encode<S: Source, K: Sink>(
 {
     let input = read_all(alloc, source)?;
     let list = list_of_text(alloc, input, profile)?;
-    list.encode(sink)?;
-    Ok(Outcome::Yes)
+    write_list_answer(sink, &list)
 }
 
 // Returns the list that a text spells.

@@ -3,10 +3,10 @@ ghost use Rattle.std.specs.Prelude.{◌≡◌};
 ghost use Rattle.aclck.specs.Common.{RunsCommand, profile_of};
 ghost use Rattle.aclck.specs.commands.ListMode.{mode, mode_line, octal_digit};
 
-use crate::answer::{Outcome, RunFault};
+use crate::answer::{Outcome, RunFault, write_answer};
 use crate::input::xdr::read_list;
 use acl_eval::mode_of;
-use acl_perm::{Mode, Perm, Profile, Sink, Source, put_all};
+use acl_perm::{Mode, Perm, Profile, Sink, Source};
 use std::alloc::Global;
 
 /// Writes the mode of the list that the whole input spells (RFC 8881, section 6.3.2), as three octal digits and a line
@@ -22,8 +22,7 @@ pub fn run_mode<S: Source, K: Sink>(
         K.contents K.failure_count sink.old sink.new result }
 {
     let line = mode_line(mode_of(read_list(alloc, source, profile)?.aces()));
-    put_all(sink, &line)?;
-    Ok(Outcome::Yes)
+    write_answer(sink, Outcome::Yes, &line)
 }
 
 // The three octal digits of a mode, and a line feed.

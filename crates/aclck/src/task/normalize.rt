@@ -1,14 +1,16 @@
 //! `normalize`: the normal form of a list, or its five normal forms.
 ghost use Rattle.aclck.specs.Common.{ReadsValues, RunsCommand, rows_in};
+ghost use Rattle.acl_normal.specs.FiveForms.{five_spellings};
+ghost use Rattle.aclck.specs.internal.Writing.{WritesText};
 ghost use Rattle.aclck.specs.commands.Normalize.{five_forms, normalize, normalize_held, normalize_in, one_form};
 
-use crate::answer::{Outcome, RunFault};
+use crate::answer::{Outcome, RunFault, write_list_answer};
 use crate::input::xdr::read_list;
 use crate::line::{Argument, LineFault, is_set};
 use crate::task::values::Normalize;
 use crate::words::options::{INHERIT, PROFILE};
 use crate::words::profile::profile_in;
-use acl_normal::{normalize, normalize_inherit};
+use acl_normal::{FiveForms, normalize, normalize_inherit};
 use acl_perm::{Profile, Sink, Source};
 use clap::ArgMatches;
 use std::alloc::Global;
@@ -58,8 +60,7 @@ pub fn run_normalize<S: Source, K: Sink>(
         K.contents K.failure_count sink.old sink.new result }
 {
     let form = normalize(alloc, &read_list(alloc, source, profile)?)?;
-    form.encode(sink)?;
-    Ok(Outcome::Yes)
+    write_list_answer(sink, &form)
 }
 
 /// Writes the bytes that spell the five normal forms of the list that the whole input spells, one after the other: of
@@ -77,6 +78,14 @@ pub fn run_normalize_inherit<S: Source, K: Sink>(
         K.contents K.failure_count sink.old sink.new result }
 {
     let forms = normalize_inherit(alloc, &read_list(alloc, source, profile)?)?;
+    write_forms(sink, &forms)
+}
+
+// Writes the bytes that spell the five lists, and returns Yes. Fails if the sink fails.
+fn write_forms<K: Sink>(sink: &mut K, forms: &FiveForms) -> Result<Outcome, RunFault>
+    ensures { WritesText Outcome.Yes (five_spellings forms.now)
+        K.contents K.failure_count sink.old sink.new result }
+{
     forms.encode(sink)?;
     Ok(Outcome::Yes)
 }

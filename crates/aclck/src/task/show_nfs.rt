@@ -2,9 +2,9 @@
 ghost use Rattle.aclck.specs.Common.{RunsCommand, profile_of};
 ghost use Rattle.aclck.specs.commands.ShowNfs.{show_nfs};
 
-use crate::answer::{Outcome, RunFault};
+use crate::answer::{Outcome, RunFault, write_answer};
 use crate::input::xdr::read_list;
-use acl_perm::{Profile, Sink, Source, put_all};
+use acl_perm::{Profile, Sink, Source};
 use std::alloc::Global;
 
 /// Writes the text of the list that the whole input spells (this library's own, over RFC 8881, section 6.2.1). Nothing
@@ -20,6 +20,5 @@ pub fn run_show_nfs<S: Source, K: Sink>(
         K.contents K.failure_count sink.old sink.new result }
 {
     let text = read_list(alloc, source, profile)?.to_text(alloc)?;
-    put_all(sink, text.as_slice())?;
-    Ok(Outcome::Yes)
+    write_answer(sink, Outcome::Yes, text.as_slice())
 }

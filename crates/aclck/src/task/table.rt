@@ -3,7 +3,7 @@ ghost use Rattle.std.specs.Prelude.{◌≡◌};
 ghost use Rattle.aclck.specs.Common.{ReadsValues, RunsCommand, option_and_then, option_map, rows_in, text_if_any};
 ghost use Rattle.aclck.specs.commands.BitTable.{bit_value, right_named, table, table_held, table_in};
 
-use crate::answer::{Outcome, RunFault};
+use crate::answer::{Outcome, RunFault, write_answer};
 use crate::input::xdr::read_list;
 use crate::line::{Argument, LineFault, text_of};
 use crate::task::values::BitTable;
@@ -12,7 +12,7 @@ use crate::words::profile::profile_in;
 use crate::words::values::within;
 use acl_nfs4::read_mask;
 use acl_normal::table_text;
-use acl_perm::{Mask, Sink, Source, put_all};
+use acl_perm::{Mask, Sink, Source};
 use clap::ArgMatches;
 use std::alloc::Global;
 
@@ -68,6 +68,5 @@ pub fn run_table<S: Source, K: Sink>(
         &read_list(alloc, source, values.profile)?,
         values.bit,
     )?;
-    put_all(sink, text.as_slice())?;
-    Ok(Outcome::Yes)
+    write_answer(sink, Outcome::Yes, text.as_slice())
 }

@@ -41,7 +41,7 @@ pub struct Create {
 }
 
 /// What `check-nfs` takes: the object, the requester, the rights that are requested, and the profile.
-#[derive(Clone, Copy, Debug)]
+#[derive(Clone, Copy)]
 pub struct CheckNfs<'a> {
     pub object: Object<'a>,
     pub requester: Requester<'a>,
@@ -50,21 +50,21 @@ pub struct CheckNfs<'a> {
 }
 
 /// What `child` takes: the kind of the new object, and the profile.
-#[derive(Clone, Copy, Debug)]
+#[derive(Clone, Copy)]
 pub struct Child {
     pub kind: ChildKind,
     pub profile: Profile,
 }
 
 /// What `table` takes: the mask of one right, and the profile.
-#[derive(Clone, Copy, Debug)]
+#[derive(Clone, Copy)]
 pub struct BitTable {
     pub bit: Mask,
     pub profile: Profile,
 }
 
 /// What `normalize` takes: whether to write the five normal forms, and the profile.
-#[derive(Clone, Copy, Debug)]
+#[derive(Clone, Copy)]
 pub struct Normalize {
     pub inherit: bool,
     pub profile: Profile,

@@ -27,14 +27,14 @@ impl From<NameFault> for LineFault {
 }
 
 // Whether a name is that of a user or of a group. A table keeps the two apart.
-#[derive(Clone, Copy, Debug, PartialEq, Eq)]
+#[derive(Clone, Copy)]
 enum Half {
     Users,
     Groups,
 }
 
 // What a word `u:NAME=ID` or `g:NAME=ID` spells.
-#[derive(Clone, Copy, Debug)]
+#[derive(Clone, Copy)]
 struct NamedId<'a> {
     half: Half,
     name: &'a str,

@@ -1,10 +1,11 @@
 //! Values that several commands take: ids and modes, and what a set of rights has of a mask.
-ghost use Rattle.std.specs.Prelude.{◌≡◌, ◌≤◌, ◌^◌, MatchResult, option_and_then, option_map, true};
+ghost use Rattle.std.specs.Prelude.{◌≡◌, ◌≤◌, MatchResult, option_and_then, option_map, true};
 ghost use Rattle.std.specs.Char.{is_digit};
 ghost use Rattle.std.specs.List.{list_all};
 ghost use Rattle.std.specs.Str.Parse.{digits_value};
 ghost use Rattle.aclck.specs.Line.{ReadsValues, text_if_any};
-ghost use Rattle.aclck.specs.Values.{IsDigitRadix, IsRadix, are_digits, id_value, mode_value, within};
+ghost use Rattle.aclck.specs.Values.{IsDigitRadix, IsRadix, id_value, is_numeral, mode_value, within};
+ghost use Rattle.acl_nfs4.specs.Spelling.{word_limit};
 
 use crate::line::LineFault;
 use acl_perm::{Mask, Mode};
@@ -23,7 +24,7 @@ const MODE_DIGITS: usize = 4;
 pub(crate) fn id_value(word: &str) -> Option<Id>
     ensures { option_map (λ id. id.value) result ≡ id_value word.now }
 {
-    if !are_digits(word, DECIMAL) {
+    if !is_numeral(word, DECIMAL) {
         return None;
     }
     Id::new(digits(word, DECIMAL).ok()?)
@@ -42,7 +43,7 @@ pub(crate) fn mode_in(word: Option<&str>) -> Result<Mode, LineFault>
 fn mode_value(word: &str) -> Option<Mode>
     ensures { option_map (λ mode. mode.bits) result ≡ mode_value word.now }
 {
-    if !are_digits(word, OCTAL) || word.len() > MODE_DIGITS {
+    if !is_numeral(word, OCTAL) || word.len() > MODE_DIGITS {
         return None;
     }
     Mode::new(u16::try_from(digits(word, OCTAL).ok()?).ok()?)
@@ -60,9 +61,9 @@ pub(crate) fn within(rights: Mask, mask: Mask) -> Option<Mask>
 }
 
 // Returns whether there are digits alone, and at least one.
-fn are_digits(word: &str, radix: u32) -> bool
+fn is_numeral(word: &str, radix: u32) -> bool
     requires { IsRadix radix }
-    ensures { result ≡ are_digits radix word.now }
+    ensures { result ≡ is_numeral radix word.now }
 {
     !word.is_empty() && all_digits(word.as_bytes(), radix)
 }
@@ -77,9 +78,9 @@ fn all_digits(bytes: &[u8], radix: u32) -> bool
 // Returns the number that digits spell. Fails if it does not fit into 32 bits.
 fn digits(word: &str, radix: u32) -> Result<u32, ParseIntError>
     requires radix { IsDigitRadix radix }
-    requires digits { are_digits radix word.now ≡ true }
+    requires digits { is_numeral radix word.now ≡ true }
     ensures { MatchResult result (λ n. n ≡ digits_value radix word.now)
-        (λ _. 2 ^ 32 ≤ digits_value radix word.now) }
+        (λ _. word_limit ≤ digits_value radix word.now) }
 {
     u32::from_str_radix(word, radix)
 }

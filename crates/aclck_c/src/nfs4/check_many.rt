@@ -59,7 +59,7 @@ pub extern "C" fn aclck_check_many(
 }
 
 // What is the same for all requesters: the object, the rights that are requested, and the profile.
-#[derive(Clone, Copy, Debug)]
+#[derive(Clone, Copy)]
 struct Many<'a> {
     object: Object<'a>,
     mask: Mask,

@@ -75,7 +75,7 @@ struct Named {
 }
 
 // The first difference of two lists.
-#[tactic(auto, using(crate::proofs::Pairs::of_first, crate::proofs::Pairs::of_second))]
+#[tactic(auto, using(crate::proofs::Pairs::first_failure, crate::proofs::Pairs::second_failure))]
 fn difference_of(
     alloc: Global,
     first: &[u8],

@@ -9,6 +9,10 @@ ghost use Rattle.aclck_c.specs.Common.{⊤, IfErr, IfOk, profile_of, JudgesInput
 use crate::failure::Failure;
 use crate::options::profile_from;
 use crate::out::answer;
+use crate::reason::{
+    ACE_TYPE, FIELDS, FLAG, MASK, SPECIAL_WHO, TOO_HEAVY, TOO_MANY_ACES, WHO_CONTROL, WHO_LENGTH,
+    WHO_UTF8,
+};
 use crate::refusal::Refusal;
 use crate::status::BAD_ARGUMENT;
 use acl_nfs4::{AceTextFault, parse_text_with};
@@ -54,16 +58,16 @@ fn ace_text_refusal(fault: AceTextFault) -> Option<Refusal>
     ensures { result ≡ ace_text_refusal fault }
 {
     let (reason, line, column) = match fault {
-        AceTextFault::TooManyAces { line, column } => (2, line, column),
-        AceTextFault::AceType { line, column } => (4, line, column),
-        AceTextFault::TooHeavy { line, column } => (7, line, column),
-        AceTextFault::WhoLength { line, column } => (8, line, column),
-        AceTextFault::WhoUtf8 { line, column } => (9, line, column),
-        AceTextFault::WhoControl { line, column } => (10, line, column),
-        AceTextFault::SpecialWho { line, column } => (11, line, column),
-        AceTextFault::Fields { line, column } => (16, line, column),
-        AceTextFault::Flag { line, column } => (17, line, column),
-        AceTextFault::Mask { line, column } => (18, line, column),
+        AceTextFault::TooManyAces { line, column } => (TOO_MANY_ACES, line, column),
+        AceTextFault::AceType { line, column } => (ACE_TYPE, line, column),
+        AceTextFault::TooHeavy { line, column } => (TOO_HEAVY, line, column),
+        AceTextFault::WhoLength { line, column } => (WHO_LENGTH, line, column),
+        AceTextFault::WhoUtf8 { line, column } => (WHO_UTF8, line, column),
+        AceTextFault::WhoControl { line, column } => (WHO_CONTROL, line, column),
+        AceTextFault::SpecialWho { line, column } => (SPECIAL_WHO, line, column),
+        AceTextFault::Fields { line, column } => (FIELDS, line, column),
+        AceTextFault::Flag { line, column } => (FLAG, line, column),
+        AceTextFault::Mask { line, column } => (MASK, line, column),
         AceTextFault::Memory => return None,
     };
     Some(Refusal::at_place(reason, line, column))

@@ -7,7 +7,7 @@ use acl_eval::{Object, Requester};
 use acl_perm::{Mask, Profile};
 
 /// A request of a call: the object, the requester, the rights that are requested, and the profile.
-#[derive(Clone, Copy, Debug)]
+#[derive(Clone, Copy)]
 pub(crate) struct NfsRequest<'a> {
     pub object: Object<'a>,
     pub requester: Requester<'a>,

@@ -39,7 +39,7 @@ pub extern "C" fn aclck_same(
     }
 }
 
-#[tactic(auto, using(crate::proofs::Pairs::of_first, crate::proofs::Pairs::of_second))]
+#[tactic(auto, using(crate::proofs::Pairs::first_failure, crate::proofs::Pairs::second_failure))]
 fn are_same(alloc: Global, first: &[u8], second: &[u8], profile: Profile) -> Result<bool, Failure>
     ensures ok { IfOk result (AreSameOrNot (profile_of profile) first.now second.now) }
     ensures err { IfErr result (IsPairFailure (profile_of profile) first.now second.now) }

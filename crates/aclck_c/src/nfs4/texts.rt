@@ -11,8 +11,9 @@ ghost use Rattle.acl_eval.specs.Programs.{child_bytes};
 ghost use Rattle.acl_normal.specs.FiveForms.{five_spellings};
 ghost use Rattle.acl_normal.specs.NormalForm.{Normalizes};
 ghost use Rattle.acl_normal.specs.Programs.{NormalizesAtPaths, Tabulates};
+ghost use Rattle.aclck_c.specs.Lists.{MakesChild};
 ghost use Rattle.aclck_c.specs.Table.{IsGoodTable, IsRightOf, is_right_of};
-ghost use Rattle.aclck_c.specs.Common.{IfErr, IfOk, IfSome, IsSome, profile_of, WritesOfList, child_kind_from, profile_from, IsListFailure, IsCreationOption, IsProfileOption};
+ghost use Rattle.aclck_c.specs.Common.{IfErr, IfOk, IfSome, IsSome, profile_of, WritesOfList, profile_from, IsListFailure, IsCreationOption, IsProfileOption};
 
 use crate::failure::Failure;
 use crate::nfs4::reading::list_of;
@@ -38,7 +39,7 @@ pub extern "C" fn aclck_child(
     fault: &mut Refusal,
 ) -> u32
     ensures { WritesOfList (profile_from options) acl.now (IsCreationOption options)
-        (MakesText (profile_from options) (child_bytes (child_kind_from options)) acl.now)
+        (MakesChild options acl.now)
         out.old out.new needed.old needed.new fault.old fault.new result }
 {
     let Some(creation) = child_options_from(options) else {

@@ -54,7 +54,7 @@ pub extern "C" fn aclck_check_posix(
 }
 
 // The numbers of a request, once they are judged.
-#[derive(Clone, Copy, Debug)]
+#[derive(Clone, Copy)]
 struct PosixRequest {
     owner: Id,
     group: Id,

@@ -8,7 +8,7 @@ use std::alloc::Global;
 
 /// Returns the file that a text spells with these names. Fails if the names make no table, the text is refused, or
 /// memory runs out.
-#[tactic(auto, using(crate::proofs::FileFailures::of_names, crate::proofs::FileFailures::of_text))]
+#[tactic(auto, using(crate::proofs::FileFailures::names_failure, crate::proofs::FileFailures::text_failure))]
 pub(crate) fn file_of(
     alloc: Global,
     text: &[u8],

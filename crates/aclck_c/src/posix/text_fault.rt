@@ -4,6 +4,9 @@ ghost use Rattle.aclck_c.specs.Posix.{invalid_refusal, part_number, posix_refusa
 ghost use Rattle.aclck_c.specs.internal.Failures.{of_posix_text};
 
 use crate::failure::Failure;
+use crate::reason::{
+    DUPLICATE, EMPTY_ENTRY, FIELDS, ID, MISS, MULTI, PERMISSION, QUALIFIER, TAG, UNKNOWN_NAME,
+};
 use crate::refusal::Refusal;
 use acl_posix::{Cause, Part, Tag, TextFault};
 
@@ -20,13 +23,13 @@ fn posix_refusal(fault: TextFault) -> Option<Refusal>
     ensures { result ≡ posix_refusal fault }
 {
     let refusal = match fault {
-        TextFault::Fields { line, column } => Refusal::at_place(16, line, column),
-        TextFault::Tag { line, column } => Refusal::at_place(19, line, column),
-        TextFault::Qualifier { line, column } => Refusal::at_place(20, line, column),
-        TextFault::Id { line, column } => Refusal::at_place(21, line, column),
-        TextFault::UnknownName { line, column } => Refusal::at_place(22, line, column),
-        TextFault::Permission { line, column } => Refusal::at_place(23, line, column),
-        TextFault::EmptyEntry { line, column } => Refusal::at_place(24, line, column),
+        TextFault::Fields { line, column } => Refusal::at_place(FIELDS, line, column),
+        TextFault::Tag { line, column } => Refusal::at_place(TAG, line, column),
+        TextFault::Qualifier { line, column } => Refusal::at_place(QUALIFIER, line, column),
+        TextFault::Id { line, column } => Refusal::at_place(ID, line, column),
+        TextFault::UnknownName { line, column } => Refusal::at_place(UNKNOWN_NAME, line, column),
+        TextFault::Permission { line, column } => Refusal::at_place(PERMISSION, line, column),
+        TextFault::EmptyEntry { line, column } => Refusal::at_place(EMPTY_ENTRY, line, column),
         TextFault::Invalid(part, cause) => invalid_refusal(part_number(part), cause),
         TextFault::Memory => return None,
     };
@@ -38,9 +41,9 @@ fn invalid_refusal(part: u32, cause: Cause) -> Refusal
     ensures { result ≡ invalid_refusal part cause }
 {
     match cause {
-        Cause::Multi(place) => Refusal::in_part(25, part, place, 0),
-        Cause::Duplicate(place) => Refusal::in_part(26, part, place, 0),
-        Cause::Miss(tag) => Refusal::in_part(27, part, 0, tag_number(tag)),
+        Cause::Multi(place) => Refusal::in_part(MULTI, part, place, 0),
+        Cause::Duplicate(place) => Refusal::in_part(DUPLICATE, part, place, 0),
+        Cause::Miss(tag) => Refusal::in_part(MISS, part, 0, tag_number(tag)),
     }
 }
 

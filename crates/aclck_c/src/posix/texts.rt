@@ -3,12 +3,12 @@
 //! names make no table or an option has no meaning; 4 if memory ran out; 5 if `out` is too short. At 0 and 5 `needed`
 //! is the number of bytes of the result.
 ghost use Rattle.std.specs.Prelude.{◌≡◌, ◌==◌, ◌<◌, ◌↔◌};
-ghost use Rattle.acl_posix.specs.Programs.{chmod_text, created_text, file_text, masked_text};
+ghost use Rattle.acl_posix.specs.Programs.{created_text, file_text, masked_text};
 ghost use Rattle.acl_eval.specs.Programs.{Bridges};
 ghost use Rattle.aclck_c.specs.Create.{IsCreation};
-ghost use Rattle.aclck_c.specs.Posix.{IsRefusedBridge, IsShown, form_from, is_directory};
+ghost use Rattle.aclck_c.specs.Posix.{IsCreated, IsRefusedBridge, IsShown, IsWithMode, form_from, is_directory};
 ghost use Rattle.aclck_c.specs.internal.Failures.{IsBridgeFailure, of_bridge};
-ghost use Rattle.aclck_c.specs.Common.{⊤, IfErr, IfOk, IfSome, IsMode, IsSome, WritesOfFile, MakesOfFile, IsRefusedPosix, SpellsFile, IsFileFailure};
+ghost use Rattle.aclck_c.specs.Common.{⊤, IfErr, IfOk, IfSome, IsMode, IsSome, WritesOfFile, WritesOfText, MakesOfFile, SpellsFile, IsFileFailure};
 
 use crate::failure::Failure;
 use crate::options::{DIRECTORY, FORM_SHORT, FORM_SHOWN, mode_from};
@@ -34,8 +34,8 @@ pub extern "C" fn aclck_show_posix(
     needed: &mut usize,
     fault: &mut Refusal,
 ) -> u32
-    ensures { WritesOfFile names.now (IsSome (form_from options))
-        (IsRefusedPosix names.now text.now) (IsShown names.now options text.now)
+    ensures { WritesOfText names.now text.now (IsSome (form_from options))
+        (IsShown names.now options text.now)
         out.old out.new needed.old needed.new fault.old fault.new result }
 {
     let Some(form) = form_from(options) else {
@@ -75,7 +75,7 @@ pub extern "C" fn aclck_calc_mask(
     needed: &mut usize,
     fault: &mut Refusal,
 ) -> u32
-    ensures { WritesOfFile names.now ⊤ (IsRefusedPosix names.now text.now)
+    ensures { WritesOfText names.now text.now ⊤
         (MakesOfFile (SpellsFile names.now text.now) masked_text)
         out.old out.new needed.old needed.new fault.old fault.new result }
 {
@@ -104,8 +104,8 @@ pub extern "C" fn aclck_chmod(
     needed: &mut usize,
     fault: &mut Refusal,
 ) -> u32
-    ensures { WritesOfFile names.now (IsMode mode) (IsRefusedPosix names.now text.now)
-        (MakesOfFile (SpellsFile names.now text.now) (chmod_text mode))
+    ensures { WritesOfText names.now text.now (IsMode mode)
+        (IsWithMode names.now mode text.now)
         out.old out.new needed.old needed.new fault.old fault.new result }
 {
     let Some(mode) = mode_from(mode) else {
@@ -120,8 +120,7 @@ fn with_mode(
     names: &[RawName<'_>],
     mode: Mode,
 ) -> Result<Vec<u8>, Failure>
-    ensures ok { IfOk result (λ made.
-        MakesOfFile (SpellsFile names.now text.now) (chmod_text mode.bits) made.items) }
+    ensures ok { IfOk result (λ made. IsWithMode names.now mode.bits text.now made.items) }
     ensures err { IfErr result (IsFileFailure names.now text.now) }
 {
     let mut file = file_of(alloc, text, names)?;
@@ -144,9 +143,8 @@ pub extern "C" fn aclck_create(
     needed: &mut usize,
     fault: &mut Refusal,
 ) -> u32
-    ensures { WritesOfFile names.now (IsCreation mode umask options)
-        (IsRefusedPosix names.now text.now) (MakesOfFile (SpellsFile names.now text.now)
-        (created_text mode umask (is_directory options)))
+    ensures { WritesOfText names.now text.now (IsCreation mode umask options)
+        (IsCreated names.now mode umask options text.now)
         out.old out.new needed.old needed.new fault.old fault.new result }
 {
     let Some(creation) = creation_of(mode, umask, options) else {
@@ -156,7 +154,7 @@ pub extern "C" fn aclck_create(
 }
 
 // The arguments of `aclck_create`, once they are judged.
-#[derive(Clone, Copy, Debug)]
+#[derive(Clone, Copy)]
 struct PosixCreation {
     mode: Mode,
     umask: Mode,
@@ -233,7 +231,7 @@ impl From<BridgeFault> for Failure {
 }
 
 // Fails if the text is refused, the list is above a limit, or memory runs out.
-#[tactic(auto, using(crate::proofs::Bridges::failures, crate::proofs::Bridges::of_file))]
+#[tactic(auto, using(crate::proofs::Bridges::bridge_failure, crate::proofs::Bridges::file_failure))]
 fn bridged(alloc: Global, text: &[u8], names: &[RawName<'_>]) -> Result<Vec<u8>, Failure>
     ensures ok { IfOk result (λ bytes. Bridges (SpellsFile names.now text.now) bytes.items) }
     ensures err { IfErr result (IsBridgeFailure names.now text.now) }

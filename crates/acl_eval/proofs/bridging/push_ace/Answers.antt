@@ -12,13 +12,13 @@ returns-then-perm-eq0 c = none_of c.args.kind (tag_of c.args.tag) c.args.perm.bi
 
 pub push_accepted-requires : goal.push_accepted-requires
 push_accepted-requires c =
-    let one = one_of c.args.kind (tag_of c.args.tag) c.args.perm.bits _ _ _ c.if-perm-eq0.false c.flags_of.ensures
+    let one = one_of c.args.kind (tag_of c.args.tag) c.args.perm.bits c.if-perm-eq0.false c.flags_of.ensures
     c.image.ensures c.requires.named in
     subst (λ (l : List Ace). IsAccepted full (c.args.list.now ++ l)) (sym one) c.requires.accepted
 
 pub returns : goal.returns
 returns c =
-    let one = one_of c.args.kind (tag_of c.args.tag) c.args.perm.bits _ _ _ c.if-perm-eq0.false c.flags_of.ensures
+    let one = one_of c.args.kind (tag_of c.args.tag) c.args.perm.bits c.if-perm-eq0.false c.flags_of.ensures
     c.image.ensures c.requires.named in
     subst (λ (l : List Ace). OnOk c.push_accepted.result (c.push_accepted.new.self ≡ c.args.list.now ++ l)) one
     c.push_accepted.ensures.ok

@@ -1,5 +1,4 @@
-use Rattle.acl_eval.specs.declared.mode.FileClass.TheVariants.{Owner, Group, Others}
-use Rattle.acl_eval.specs.internal.Settled.{SettleAs}
+use Rattle.acl_eval.proofs.Classes.{SettleAll}
 use Rattle.acl_eval.proofs.mode.mode_of.Given as goal
 
 -- for each class, the state so far and the rest of the list settle what the whole list settles
@@ -7,6 +6,4 @@ abbrev pub invariant-loop-ace : goal.invariant-loop-ace
 invariant-loop-ace l =
     (goal.iterator-loop-ace).can_next l.ace-iterator ×
     (goal.iterator-loop-ace).is_finite l.ace-iterator ×
-    SettleAs Owner l.owner l.ace-iterator l.fn.aces ×
-    SettleAs Group l.group l.ace-iterator l.fn.aces ×
-    SettleAs Others l.others l.ace-iterator l.fn.aces
+    SettleAll l.owner l.group l.others l.ace-iterator l.fn.aces

@@ -35,6 +35,24 @@ pub record Extends (head body piece front rest after now : List ℕ) (filled : �
   pub is : IsText after (filled + length front) now
   pub text : take (filled + length front) after ++ now ≡ (take filled head ++ body) ++ piece
 
+-- if the front of a piece fills the word, and the rest goes after the body, the fields hold the stream and the piece
+text_extended : (head body piece front rest after now : List ℕ) (filled : ℕ) → IsText head filled body
+    → length front ≤ 4 - filled → take (filled + length front) after ≡ take filled head ++ front → front ++ rest ≡ piece
+    → now ≡ body ++ rest → take (filled + length front) after ++ now ≡ (take filled head ++ body) ++ piece
+text_extended head body piece front rest after now filled is room word joined ne =
+    elim (cases_lt filled 4) [
+      | inl few ↦
+          let empty : body ≡ [] = is.begun few in
+          rw (word, ne, empty, append-nil) (append_assoc (take filled head) front rest
+          ∙ ap (λ (t : List ℕ). take filled head ++ t) joined)
+      | inr full ↦
+          let none : front ≡ [] = no_length front (omega (arith, room, full)) in
+          let tail : rest ≡ piece = ap (λ (t : List ℕ). t ++ rest) (sym none) ∙ joined in
+          rw (word, ne, none, append-nil, tail) (sym (append_assoc (take filled head) body piece))
+    ] where
+      no_length : (l : List ℕ) → length l ≡ 0 → l ≡ []
+      no_length l e = sym (take_all 0 l (omega (arith, e)))
+
 -- after a piece the fields hold the stream with that piece
 pub extends : (head body piece front rest after now : List ℕ) (filled k n : ℕ) → IsText head filled body
     → IsBytes piece → n ≤ length piece → n ≤ 4 - filled → (n < 4 - filled → length piece ≤ n)
@@ -46,8 +64,7 @@ extends head body piece front rest after now filled k n is bytes inside small wh
     let word : take (filled + length front) after ≡ take filled head ++ front =
     ap (λ (t : List ℕ). take (filled + length front) t) ae
     ∙ take-put_mid filled k head front (filled + length front) refl (omega (arith, room)) in
-    let all : length after ≡ 4 = ap length ae
-    ∙ same_len_mid filled k head front
+    let all : length after ≡ 4 = ap length ae ∙ same_len_mid filled k head front
     (omega (arith, length-take k (drop filled head), length-drop filled head, room, ke)) ∙ is.word in
     let joined : front ++ rest ≡ piece = ap (λ (t : List ℕ). t ++ rest) fe ∙ ap (λ (t : List ℕ). take n piece ++ t) re
     ∙ take-append-drop n piece in
@@ -55,16 +72,7 @@ extends head body piece front rest after now filled k n is bytes inside small wh
     let none : rest ≡ [] = re ∙ drop_all n piece (whole (omega (arith, few, len))) in
     ne ∙ ap (λ (t : List ℕ). t ++ rest) (is.begun (omega (arith, few))) ∙ none in
     let text : take (filled + length front) after ++ now ≡ (take filled head ++ body) ++ piece =
-    elim (cases_lt filled 4) [
-      | inl few ↦
-          let empty : body ≡ [] = is.begun few in
-          rw (word, ne, empty, append-nil) (append_assoc (take filled head) front rest
-          ∙ ap (λ (t : List ℕ). take filled head ++ t) joined)
-      | inr full ↦
-          let none : front ≡ [] = no_length front (omega (arith, len, small, full)) in
-          let tail : rest ≡ piece = ap (λ (t : List ℕ). t ++ rest) (sym none) ∙ joined in
-          rw (word, ne, none, append-nil, tail) (sym (append_assoc (take filled head) body piece))
-    ] in
+    text_extended head body piece front rest after now filled is (omega (arith, len, small)) word joined ne in
     record {
       is = record {
         word = all;
@@ -74,6 +82,4 @@ extends head body piece front rest after now filled k n is bytes inside small wh
             (bytes_append (take filled head ++ body) piece is.bytes bytes);
       };
       text = text;
-    } where
-      no_length : (l : List ℕ) → length l ≡ 0 → l ≡ []
-      no_length l e = sym (take_all 0 l (omega (arith, e)))
+    }

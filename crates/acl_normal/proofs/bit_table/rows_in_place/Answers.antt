@@ -7,10 +7,10 @@ use Rattle.acl_normal.proofs.bit_table.rows_in_place.Goals.{then-is_in+in_ok-pus
 pub loop-place-preserved : goal.loop-place-preserved
 loop-place-preserved c =
     let b = c.args.right.bit in
-    let here = shown_here c.args.aces.now c.args.masks.now _ _ _ c.requires.masks c.loop-place-test.true
+    let here = shown_here c.args.aces.now c.args.masks.now c.requires.masks c.loop-place-test.true
     c.index-aces-place.is c.index-masks-place.is in
     elim c.if-is_in.branch [
-      | then-is_in+in_ok-push w ↦ rw w.rows-is (row_in_place b _ _ _ c.loop-place.rows.items _ w.row_at.result
+      | then-is_in+in_ok-push w ↦ rw w.rows-is (row_in_place b c.loop-place.rows.items w.row_at.result
           here.within here.item (sym c.is_in.ensures ∙ w.if-is_in.true) c.requires.tidy w.row_at.ensures.kind
           w.row_at.ensures.who w.row_at.ensures.group w.row_at.ensures.source w.in_ok-push.ensures.items
           c.loop-place.invariant)

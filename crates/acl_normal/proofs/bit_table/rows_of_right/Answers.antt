@@ -1,5 +1,5 @@
 use Rattle.std.proofs.Common.{length}
-use Rattle.acl_normal.proofs.Common.{HasFirstPlaces, IfOk-weaker, IsReducedOf, all_cleared, ap, arith, emitted_aces, left, map, mask_numbers, of_borrowed, subst, sym, with_masks, ◌∙◌, ◌≡◌}
+use Rattle.acl_normal.proofs.Common.{aces_with, HasFirstPlaces, IfOk-weaker, IsReducedOf, all_cleared, ap, arith, emitted_aces, left, map, of_borrowed, subst, sym, ◌∙◌, ◌≡◌}
 use Rattle.acl_normal.specs.Tables.{IsBorrowedTable}
 use Rattle.acl_normal.proofs.Tables.{key_there, row_there, rows_from, rows_shown}
 use Rattle.acl_normal.proofs.emit.Risen.{rising_form_of}
@@ -10,7 +10,7 @@ use Rattle.acl_normal.proofs.bit_table.rows_of_right.Goals as goal
 pub returns-then-rises : goal.returns-then-rises
 returns-then-rises c =
     let list = c.args.list.now in
-    let xs = with_masks c.as_slice-aces.result.now (mask_numbers c.as_slice-masks.result.now) in
+    let xs = aces_with c.as_slice-aces.result.now c.as_slice-masks.result.now in
     let reduced : IsReducedOf list xs =
     rw (c.as_slice-aces.ensures.value, c.as_slice-masks.ensures.value) c.in_ok-reduced.ensures.left in
     IfOk-weaker c.rows_in_place.result _ (λ rows. IsBorrowedTable c.args.right.bit list rows.items)

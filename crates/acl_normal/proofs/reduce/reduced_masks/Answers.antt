@@ -1,4 +1,4 @@
-use Rattle.acl_normal.proofs.Common.{aces_in, mask_numbers, drop, length, sym, take, with_masks, ◌++◌, ◌∙◌, ◌≡◌}
+use Rattle.acl_normal.proofs.Common.{aces_with, aces_in, drop, length, sym, take, ◌++◌, ◌∙◌, ◌≡◌}
 use Rattle.std.proofs.lemmas.List.{take_at}
 use Rattle.acl_normal.proofs.reduce.Reducing.{reduced_in_two}
 use Rattle.acl_normal.proofs.reduce.reduced_masks.Goals as goal
@@ -12,6 +12,6 @@ returns c =
     rw items (record {
       places = c.in_ok-masks.ensures.places;
       reduced = reduced_in_two (aces_in c.args.aces.now)
-          (with_masks c.args.aces.now (mask_numbers c.in_ok-masks.masks.items)) _ c.requires.accepted
+          (aces_with c.args.aces.now c.in_ok-masks.masks.items) _ c.requires.accepted
           c.in_ok-masks.ensures.thinned c.in_ok-masks.ensures.columns last.thinned last.columns;
     })

@@ -8,6 +8,14 @@ use Rattle.acl_nfs4.specs.Ace.{Ace}
 use Rattle.acl_nfs4.specs.internal.Progress.{IsBytes}
 use Rattle.acl_normal.specs.internal.Places.{principal_here}
 
+-- how many bytes of a name a head has
+abbrev pub head_bytes : ℕ
+head_bytes = 6
+
+-- the count of bytes that stands for more bytes than a head has
+abbrev pub more_bytes : ℕ
+more_bytes = 7
+
 -- the length of a list, or the number if that is less
 abbrev pub count_to : ℕ → List ℕ → ℕ
 count_to zero bytes = 0
@@ -19,14 +27,15 @@ abbrev pub head_from : ℕ → ℕ → List ℕ → ℕ → ℕ
 head_from before zero bytes count = before * 256 + count
 head_from before (suc n) bytes count = head_from (before * 256 + get_or bytes 0 0) n (drop 1 bytes) count
 
--- the rank, after it six bytes of the name, without the first ones, and how many bytes those are, where 7 is for more
+-- the rank, after it six bytes of the name, without the first ones, and how many bytes the rest of the name has
 abbrev pub principal_head : ℕ → Principal → ℕ
 principal_head common p =
-    head_from (principal_rank p) 6 (drop common (principal_name p)) (count_to 7 (drop common (principal_name p)))
+    head_from (principal_rank p) head_bytes (drop common (principal_name p))
+    (count_to more_bytes (drop common (principal_name p)))
 
 -- the head has the whole name
 abbrev pub is_whole : ℕ → Bool
-is_whole head = nat_lt (head % 256) 7
+is_whole head = nat_lt (head % 256) more_bytes
 
 -- the number is the head of the principal, whose name is of bytes
 pub record IsHeadOf (common head : ℕ) (p : Principal) : Type 0 where

@@ -1,6 +1,6 @@
 -- What is left of a list while it is emitted (this library's own): a mask for each row, and the queues of places that
 -- follow from the masks.
-use Rattle.std.specs.Prelude.{◌≡◌, ℕ, ◌<◌, ◌^◌, Bool, true, false, List, [], ◌∷◌, bit_and, vec_len, length, slice_index_or}
+use Rattle.std.specs.Prelude.{◌≡◌, ℕ, ◌<◌, Bool, true, false, List, [], ◌∷◌, bit_and, vec_len, length, slice_index_or}
 use Rattle.std.specs.Ordering.{nat_cmp}
 use Rattle.std.specs.List.{list_any}
 use Rattle.std.specs.List.Sorted.{IsStrictlySortedBy}
@@ -9,11 +9,13 @@ use Rattle.acl_perm.specs.Bits.{all_rights, has_bit}
 use Rattle.acl_perm.specs.declared.kind.Kind.{Kind}
 use Rattle.acl_nfs4.specs.Ace.{Ace}
 use Rattle.acl_eval.specs.Column.{column}
+use Rattle.acl_normal.specs.internal.Limits.{list_limit}
 use Rattle.acl_normal.specs.internal.Tidy.{IsTidy}
-use Rattle.acl_normal.specs.internal.Shown.{mask_numbers, with_masks}
+use Rattle.acl_normal.specs.internal.Shown.{aces_with, mask_numbers, with_masks}
 use Rattle.acl_normal.specs.Places.{waits}
 use Rattle.acl_normal.specs.internal.Places.{mask_here}
 use Rattle.acl_normal.specs.internal.rows.Rows.{AreRowNumbers, IsByPrincipal}
+use Rattle.acl_normal.specs.declared.rows.remaining.Reduced.{Reduced}
 use Rattle.acl_normal.specs.declared.rows.remaining.Remaining.TheInside.{Inside}
 
 -- the masks by place, each without what has left its row
@@ -42,15 +44,23 @@ pub record IsNumbered (xs : List Ace) (numbers places : List ℕ) : Type 0 where
   pub rows : AreRowNumbers xs numbers
   pub order : IsByPrincipal xs places
 
+-- the reduced list
+abbrev pub reduced_aces : Reduced → List Ace
+reduced_aces r = aces_with r.aces.items r.masks.items
+
+-- the numbers of a reduced list are those of its principals
+abbrev pub HasNumbers : Reduced → Type 0
+HasNumbers r = IsNumbered (reduced_aces r) r.numbers.rows.items r.numbers.order.items
+
 -- a list that may remain: it is short and tidy, and has no mask with a bit that is not a right
 pub record IsRemainder (xs : List Ace) : Type 0 where
-  pub few : length xs < 2 ^ 32
+  pub few : length xs < list_limit
   pub tidy : IsTidy xs
   pub rights : (b : ℕ) → has_bit all_rights b ≡ false → column xs b ≡ []
 
 -- the masks by row say what is left
 pub record IsRemaining (a : Inside) : Type 0 where
-  pub few : length a.aces.items < 2 ^ 32
+  pub few : length a.aces.items < list_limit
   pub masks : vec_len a.masks ≡ length a.aces.items
   pub left : vec_len a.left ≡ length a.aces.items
   pub list : IsNumbered (remaining_of a) a.rows.items a.order.items

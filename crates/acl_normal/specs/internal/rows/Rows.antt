@@ -52,3 +52,7 @@ pub record IsByPrincipal (xs : List Ace) (order : List ℕ) : Type 0 where
 -- the place of the first ACE of a principal with the right
 abbrev pub first_place_of : ℕ → Principal → List Ace → Option ℕ
 first_place_of b p xs = option_map (λ e. e.1) (first_at b p xs)
+
+-- the place of the first ACE with the right that names the principal of the row
+abbrev pub IsFirstOfRow : ℕ → ℕ → List Ace → Option ℕ → Type 0
+IsFirstOfRow row b xs place = (p : Principal) → IsRowOf row p xs → place ≡ first_place_of b p xs

@@ -1,9 +1,11 @@
-use Rattle.acl_posix.proofs.Common.{arith, ◌+◌}
-use Rattle.acl_posix.proofs.field.Digits.{value_more, too_large}
+use Rattle.acl_posix.proofs.Common.{arith, length, ◌<◌, ◌∙◌}
+use Rattle.acl_posix.proofs.digits.DigitLemmas.{digits_all, same_id, too_long}
 use Rattle.acl_posix.proofs.field.read_id.Goals as goal
 
-pub returns-then-value-from : goal.returns-then-value-from
-returns-then-value-from c =
-    let more = value_more c.args.digits.now c.loop-digit.digit-index c.loop-digit-test.true c.requires in
-    too_large c.args.digits.now (c.loop-digit.digit-index + 1)
-    (omega (arith, more, c.loop-digit.invariant.value, c.from.ensures))
+pub returns-then-count-digits : goal.returns-then-count-digits
+returns-then-count-digits c =
+    let left = c.without_zeros-digits.result.now in
+    let zeros = c.without_zeros-digits.ensures in
+    let digits = zeros.all (digits_all c.args.digits.now c.requires) in
+    let long : 10 < length left = omega (arith, c.first_digits-value.ensures.all digits, c.if-count-digits.true) in
+    too_long left digits zeros.no_zero long ∙ same_id left c.args.digits.now zeros.value

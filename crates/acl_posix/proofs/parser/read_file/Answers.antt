@@ -23,7 +23,6 @@ returns-in_err-default-clause-fault c =
     c.in_err-default.ensures.err.wrong)
 
 pub returns-clause-found : goal.returns-clause-found
-returns-clause-found c =
-    file_found c.args.text.now c.args.names.now (lists_of c.in_ok-lists.lists)
+returns-clause-found c = file_found c.args.text.now c.args.names.now (lists_of c.in_ok-lists.lists)
     (record { access = c.in_ok-access.access; default = c.in_ok-default.default })
     c.in_ok-lists.ensures c.in_ok-access.ensures.ok c.in_ok-default.ensures.ok

@@ -12,8 +12,7 @@ returns-in-Some c =
 pub returns-in_err-read_line : goal.returns-in_err-read_line
 returns-in_err-read_line c =
     let p = err_from_is_err_and c.from_residual-in_err-read_line.result c.from_residual-in_err-read_line.ensures.1 in
-    rw (p.1, p.2)
-    (line_fault c.args.names.now c.args.number (lists_of c.args.lists.now) (lines_of c.args.text.now)
+    rw (p.1, p.2) (line_fault c.args.names.now c.args.number (lists_of c.args.lists.now) (lines_of c.args.text.now)
     c.cut_line.result.0.now (lines_left c.cut_line.result.1) _
     (lines_next c.args.text.now c.cut_line.result c.cut_line.ensures.parts) c.in_err-read_line.ensures)
 

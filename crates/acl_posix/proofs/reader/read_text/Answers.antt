@@ -5,13 +5,11 @@ use Rattle.acl_posix.proofs.reader.read_text.Goals as goal
 pub loop-rest-preserved : goal.loop-rest-preserved
 loop-rest-preserved c =
     let lists = lists_of c.loop-rest.lists in
-    let left = ap lines_left c.in-Some.is in
     record {
       same = on_read c.args.names.now c.loop-rest.number c.in-Some.left.now lists (lists_of c.read_first.new.lists)
           c.in_ok-rest.rest c.in_ok-rest.ensures
           ∙ sym (ap (λ (ls : List (List ℕ)). read_pieces c.args.names.now lists (pieces_from c.loop-rest.number ls))
-          left)
-          ∙ c.loop-rest.invariant.same;
+          (ap lines_left c.in-Some.is)) ∙ c.loop-rest.invariant.same;
       fits = on_fits c.args.names.now c.loop-rest.number c.args.text.now c.in-Some.left.now lists
           (lists_of c.read_first.new.lists) c.in_ok-rest.rest c.in_ok-rest.ensures
           (subst (NumberFits c.loop-rest.number c.args.text.now) c.in-Some.is c.loop-rest.invariant.fits);
@@ -19,8 +17,6 @@ loop-rest-preserved c =
 
 pub returns : goal.returns
 unfolding read_pieces
-returns c =
-    let left = no_lines c.loop-rest.rest c.in_default.not-Some in
-    sym c.loop-rest.invariant.same
+returns c = sym c.loop-rest.invariant.same
     ∙ ap (λ (ls : List (List ℕ)). read_pieces c.args.names.now (lists_of c.loop-rest.lists)
-    (pieces_from c.loop-rest.number ls)) left
+    (pieces_from c.loop-rest.number ls)) (no_lines c.loop-rest.rest c.in_default.not-Some)

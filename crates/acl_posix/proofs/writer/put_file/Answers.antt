@@ -11,7 +11,7 @@ returns-in_err-done-clause-written g c =
 
 pub returns-clause-written : goal.returns-clause-written
 returns-clause-written g c =
-    let front = c.in_ok-done.ensures.written in
+    let (count, known) = c.in_ok-done.ensures.written in
     subst (λ (t : List ℕ). WritesFrom (g.S.Sink.contents c.args.sink.now) (g.S.Sink.contents c.put_default.new.sink) 0 t
     c.put_default.result) (form_is c.args.form _ _ c.entries-entries.ensures.valid)
-    (written_both _ _ _ 0 c.in_ok-done.done _ _ c.put_default.result front.0 front.1 c.put_default.ensures.written)
+    (written_both _ _ _ 0 c.in_ok-done.done _ _ c.put_default.result count known c.put_default.ensures.written)

@@ -12,27 +12,29 @@ loop-entry-init g c = record {
 
 pub put_next-requires : goal.put_next-requires
 put_next-requires g c =
-    let next = entry_next _ _ c.args.acl.now _ _ _ _ c.loop-entry-test.true c.entry-item.is
+    let next = entry_next c.args.form c.args.part c.args.acl.now c.loop-entry.is_first c.args.entries.now
+    c.put_entry-start.new.line c.put_entry-start.result c.loop-entry-test.true c.entry-item.is
     c.put_entry-start.array_long c.put_entry-start.ensures.text c.masked_by.ensures c.mask-mask.ensures in
-    next_fits c.args.done c.loop-entry.done _ _ _ _ _ _ c.loop-entry.invariant.out next c.requires.room
+    next_fits _ _ c.loop-entry.invariant.out next c.requires.room
 
 pub returns-in_err-done-clause-written : goal.returns-in_err-done-clause-written
 returns-in_err-done-clause-written g c =
     let p = err_from_is_err_and c.from_residual.result c.from_residual.ensures.1 in
-    let next = entry_next _ _ c.args.acl.now _ _ _ _ c.loop-entry-test.true c.entry-item.is
+    let next = entry_next c.args.form c.args.part c.args.acl.now c.loop-entry.is_first c.args.entries.now
+    c.put_entry-start.new.line c.put_entry-start.result c.loop-entry-test.true c.entry-item.is
     c.put_entry-start.array_long c.put_entry-start.ensures.text c.masked_by.ensures c.mask-mask.ensures in
-    let said = c.in_err-done.ensures.written in
+    let (low, high, known) = c.in_err-done.ensures.written in
     rw (p.1, p.2)
-    (out_cut c.args.done c.loop-entry.done _ _ _ _ _ _ _ _ c.loop-entry.invariant.out next said.0 said.1 said.2)
+    (out_cut c.args.done c.loop-entry.done _ _ _ _ _ _ _ _ c.loop-entry.invariant.out next low high known)
 
 pub loop-entry-preserved : goal.loop-entry-preserved
 loop-entry-preserved g c =
-    let next = entry_next _ _ c.args.acl.now _ _ _ _ c.loop-entry-test.true c.entry-item.is
+    let next = entry_next c.args.form c.args.part c.args.acl.now c.loop-entry.is_first c.args.entries.now
+    c.put_entry-start.new.line c.put_entry-start.result c.loop-entry-test.true c.entry-item.is
     c.put_entry-start.array_long c.put_entry-start.ensures.text c.masked_by.ensures c.mask-mask.ensures in
-    let said = c.in_ok-done.ensures.written in
+    let (count, known) = c.in_ok-done.ensures.written in
     record {
-      out = out_more c.args.done c.loop-entry.done _ _ _ _ _ _ _ _ c.loop-entry.invariant.out next said.0
-          said.1;
+      out = out_more c.args.done c.loop-entry.done _ _ _ _ _ _ _ _ c.loop-entry.invariant.out next count known;
       same = c.in_ok-done.ensures.none_failed ∙ c.loop-entry.invariant.same;
     }
 

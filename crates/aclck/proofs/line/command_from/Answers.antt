@@ -7,5 +7,5 @@ loop-argument-init c = c.plain_command-command.ensures ∙ no_terms _
 
 pub loop-argument-preserved : goal.loop-argument-preserved
 loop-argument-preserved c =
-    one_more_argument _ _ _ c.args.table.now c.loop-argument.argument-index _ c.loop-argument.invariant
+    one_more_argument c.args.name.now c.args.table.now c.loop-argument.argument-index _ c.loop-argument.invariant
     c.in_ok-command.ensures c.loop-argument-test.true

@@ -6,8 +6,7 @@ use Rattle.acl_nfs4.proofs.feed.Feed.take_all.Goals as goal
 pub loop-taken-preserved : goal.loop-taken-preserved
 loop-taken-preserved c = record {
   inside = let h = c.loop-taken-test.true in omega arith;
-  so_far = more_piece c.args.self.now c.loop-taken.self c.take.new.self c.args.piece.now c.split_at.result.1.now
-      c.split_at-in-loop-taken.result.0.now c.loop-taken.taken 4096
+  so_far = more_piece c.args.self.now c.loop-taken.self c.take.new.self c.args.piece.now c.loop-taken.taken 4096
       c.split_at.ensures.back c.split_at-in-loop-taken.ensures.front c.loop-taken.invariant.so_far c.in-More.ensures;
 }
 
@@ -18,7 +17,7 @@ behind-requires c = λ taken e.
 
 pub returns-in_default : goal.returns-in_default
 returns-in_default c = rw c.behind.ensures (end_chunk c.args.self.now c.loop-taken.self c.take.new.self c.args.piece.now
-    _ _ _ c.loop-taken.taken 4096 c.take.result c.loop-taken.invariant.inside c.split_at.ensures.back
+    c.loop-taken.taken 4096 c.take.result c.loop-taken.invariant.inside c.split_at.ensures.back
     c.split_at-in-loop-taken.ensures.front c.split_at-in-loop-taken.ensures.back c.loop-taken.invariant.so_far
     c.in_default.not-More c.take.ensures)
 
@@ -28,6 +27,6 @@ behind-requires-2 c = λ taken e.
     omega (arith, ap length c.split_at-2.ensures.back)
 
 pub returns : goal.returns
-returns c = rw c.behind-2.ensures (end_rest c.args.self.now c.loop-taken.self c.take-2.new.self c.args.piece.now _
+returns c = rw c.behind-2.ensures (end_rest c.args.self.now c.loop-taken.self c.take-2.new.self c.args.piece.now
     c.loop-taken.taken c.take-2.result c.loop-taken.invariant.inside c.split_at-2.ensures.back
     c.loop-taken.invariant.so_far c.take-2.ensures)

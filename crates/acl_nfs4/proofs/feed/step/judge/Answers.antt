@@ -9,8 +9,7 @@ returns-in-None-clause-judged c =
       | inl lt ↦ lt
       | inr long ↦ absurd (none long)
     ] in
-    rw (c.at_fault.ensures, c.at_front.ensures)
-    (text_short (profile_of c.args.profile) c.args.text.now short)
+    rw (c.at_fault.ensures, c.at_front.ensures) (text_short (profile_of c.args.profile) c.args.text.now short)
 
 pub returns-in-Err-clause-judged : goal.returns-in-Err-clause-judged
 returns-in-Err-clause-judged c =

@@ -13,10 +13,8 @@ returns c = λ a more is e.
     let l = layout c.args.bytes.now a more is e in
     let len : c.word_in-len.result ≡ length a.who = c.word_in-len.ensures ∙ l.len in
     let who : c.split_at-2.result.0.now ≡ a.who = rw (c.split_at-2.ensures.front, c.split_at.ensures.back, len) l.who in
-    let after : c.split_at-3.result.1.now ≡ more =
-    rw (c.split_at-3.ensures.back, len) l.tail in (
-      same_ace a c.kind_named-kind.result c.word_in-2.result c.word_in-3.result c.split_at-2.result.0.now
-          (c.kind_named-kind.ensures ∙ ap kind_from (c.word_in.ensures ∙ l.kind) ∙ kind_from-number a.kind)
+    let after : c.split_at-3.result.1.now ≡ more = rw (c.split_at-3.ensures.back, len) l.tail in (
+      same_ace a (c.kind_named-kind.ensures ∙ ap kind_from (c.word_in.ensures ∙ l.kind) ∙ kind_from-number a.kind)
           (c.word_in-2.ensures ∙ l.flags) (c.word_in-3.ensures ∙ l.mask) who,
       after,
     )

@@ -11,8 +11,7 @@ returns-then-is_skipped c = λ more.
 pub returns-in_err-item : goal.returns-in_err-item
 returns-in_err-item c = λ more.
     let read = rw (c.len.ensures, c.weight.ensures.value) at c.in_err-item.ensures.exact in
-    rw (exit_is c.from_residual.result c.from_residual.ensures.1)
-    (fails_is _ _
+    rw (exit_is c.from_residual.result c.from_residual.ensures.1) (fails_is _ _
     (read_kept (profile_of c.args.profile) c.args.acl.now c.args.number c.args.line.now more _
     (sym c.if-is_skipped.ensures) read))
 

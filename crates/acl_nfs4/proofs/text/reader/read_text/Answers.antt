@@ -1,6 +1,5 @@
-use Rattle.acl_nfs4.proofs.Common.{Ace, ace_lines, ap, arith, lines_left, lines_next, List, no_lines, number_next, NumberFits, profile_of, subst, sym, ◌∙◌}
+use Rattle.acl_nfs4.proofs.Common.{Ace, ace_lines, ap, arith, lines_left, lines_next, List, no_lines, number_next, NumberFits, profile_of, read_lines, subst, sym, ◌∙◌}
 use Rattle.acl_nfs4.proofs.Exits.{exit_is}
-use Rattle.acl_nfs4.specs.internal.AceReading.{read_lines}
 use Rattle.acl_nfs4.proofs.text.reader.read_text.Goals as goal
 
 pub loop-rest-init : goal.loop-rest-init
@@ -12,8 +11,7 @@ loop-rest-init c = record {
 pub returns-in_err-add_line : goal.returns-in_err-add_line
 returns-in_err-add_line c =
     let left = ap lines_left c.in-Some.is ∙ lines_next c.in-Some.left.now c.cut_line.result c.cut_line.ensures.parts in
-    let reads = rw left at c.loop-rest.invariant.reads in
-    rw (exit_is c.from_residual.result c.from_residual.ensures.1, ← reads)
+    rw (exit_is c.from_residual.result c.from_residual.ensures.1, ← (rw left at c.loop-rest.invariant.reads))
     (c.in_err-add_line.ensures (lines_left c.cut_line.result.1))
 
 pub loop-rest-preserved : goal.loop-rest-preserved

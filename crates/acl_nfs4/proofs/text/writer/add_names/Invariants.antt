@@ -1,5 +1,4 @@
-use Rattle.acl_nfs4.proofs.Common.{bar, bit_names_of, drop, join_with_byte, joined_names, names_of, ◌*◌, ◌++◌, ◌+◌, ◌≡◌, ◌≤◌}
-use Rattle.acl_nfs4.specs.internal.NameTable.{row_room}
+use Rattle.acl_nfs4.proofs.Common.{bar, bit_names_of, drop, join_with_byte, joined_names, names_of, row_room, ◌*◌, ◌++◌, ◌+◌, ◌≡◌, ◌≤◌}
 use Rattle.arrayvec.specs.ArrayVec.{array_vec_len}
 use Rattle.acl_nfs4.proofs.text.writer.add_names.Given as goal
 

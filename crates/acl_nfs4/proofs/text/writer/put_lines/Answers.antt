@@ -11,20 +11,21 @@ pub returns-in_err-done-clause-written : goal.returns-in_err-done-clause-written
 returns-in_err-done-clause-written g c =
     let next = next_line c.loop-ace.ace-iterator c.next.new.self (ace c.in-Some.ace) _ _ c.in-Some.ensures.steps.0
     c.fill.ensures.text c.deref.ensures.0 in
-    let said = c.in_err-done.ensures.written in
+    let (can_next, is_finite, out, none_failed, room) = c.loop-ace.invariant in
+    let (low, high, put) = c.in_err-done.ensures.written in
     rw (exit_is c.from_residual.result c.from_residual.ensures.1)
-    (out_cut 0 c.loop-ace.done _ _ _ _ _ _ _ _ c.loop-ace.invariant.2 next said.0 said.1 said.2)
+    (out_cut 0 c.loop-ace.done _ _ _ _ _ _ _ _ out next low high put)
 
 pub loop-ace-preserved : goal.loop-ace-preserved
 loop-ace-preserved g c =
     let next = next_line c.loop-ace.ace-iterator c.next.new.self (ace c.in-Some.ace) _ _ c.in-Some.ensures.steps.0
     c.fill.ensures.text c.deref.ensures.0 in
-    let said = c.in_ok-done.ensures.written in
-    let fewer = ap length c.in-Some.ensures.steps.0 in
+    let (can_next, is_finite, out, none_failed, room) = c.loop-ace.invariant in
+    let (count, put) = c.in_ok-done.ensures.written in
     let size = ap length c.deref.ensures.0 in (
       tt,
       tt,
-      out_more 0 c.loop-ace.done _ _ _ _ _ _ _ _ c.loop-ace.invariant.2 next said.0 said.1,
-      c.in_ok-done.ensures.none_failed ∙ c.loop-ace.invariant.3,
-      omega (arith, said.0, fewer, size, c.fill.ensures.short, c.loop-ace.invariant.4),
+      out_more 0 c.loop-ace.done _ _ _ _ _ _ _ _ out next count put,
+      c.in_ok-done.ensures.none_failed ∙ none_failed,
+      omega (arith, count, ap length c.in-Some.ensures.steps.0, size, c.fill.ensures.short, room),
     )

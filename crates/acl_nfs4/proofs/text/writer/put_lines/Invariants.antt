@@ -1,5 +1,4 @@
-use Rattle.acl_nfs4.proofs.Common.{ace_text, IsOut, length, most_aces, ◌*◌, ◌+◌, ◌≡◌, ◌≤◌}
-use Rattle.acl_nfs4.specs.internal.NameTable.{ace_line_room}
+use Rattle.acl_nfs4.proofs.Common.{ace_line_room, ace_text, IsOut, length, most_aces, ◌*◌, ◌+◌, ◌≡◌, ◌≤◌}
 use Rattle.acl_nfs4.proofs.text.writer.put_lines.Given as goal
 
 -- a front of the text is out, the lines of the ACEs that are left follow it, and no put failed

@@ -1,19 +1,19 @@
-use Rattle.acl_nfs4.proofs.Common.{ap, arith, Consumes-trans, inl, inr, List, profile_of, refl, ℕ, ◌++◌, ◌∙◌}
+use Rattle.acl_nfs4.proofs.Common.{ap, arith, inl, inr, List, profile_of, refl, ℕ, ◌++◌, ◌∙◌}
 use Rattle.acl_nfs4.proofs.Exits.{exit_is}
-use Rattle.acl_nfs4.proofs.xdr.PulledList.{pulled_all, pulled_light, pulled_on, pulled_stops}
+use Rattle.acl_nfs4.proofs.xdr.PulledList.{drawn_after, halted_after, pulled_all, pulled_light, pulled_on, pulled_stops}
 use Rattle.acl_nfs4.proofs.list.Within.{code_profile}
 use Rattle.acl_nfs4.proofs.xdr.decoder.read_value.Goals as goal
 
 pub returns-in_err-count-clause-given : goal.returns-in_err-count-clause-given
 returns-in_err-count-clause-given g c =
-    let h = c.in_err-count.ensures.drawn in
-    rw (exit_is c.from_residual.result c.from_residual.ensures.1) (h.0, h.1, h.2 (profile_of c.args.profile))
+    let (piece, taken, drawn) = c.in_err-count.ensures.drawn in
+    rw (exit_is c.from_residual.result c.from_residual.ensures.1) (piece, taken, drawn (profile_of c.args.profile))
 
 pub loop-init : goal.loop-init
 loop-init g c =
-    let h = c.in_ok-count.ensures.drawn in
+    let (piece, taken, drawn) = c.in_ok-count.ensures.drawn in
     rw c.new-body.ensures.items
-    (record { given = h.0; taken = h.1; so_far = h.2.0 (profile_of c.args.profile); same = h.2.1 })
+    (record { given = piece; taken = taken; so_far = drawn.0 (profile_of c.args.profile); same = drawn.1 })
 
 pub pull_ace-requires-clause-light : goal.pull_ace-requires-clause-light
 pull_ace-requires-clause-light g c = pulled_light c.loop.invariant.so_far
@@ -24,7 +24,7 @@ returns-in_err-ace-clause-given g c =
     let r = c.in_err-ace.ensures in
     rw (exit_is c.from_residual-in_err-ace.result c.from_residual-in_err-ace.ensures.1) (
       inv.given ++ r.given,
-      Consumes-trans _ _ _ _ _ inv.taken r.taken,
+      halted_after _ inv.given inv.taken r,
       pulled_stops inv.given (code_profile c.args.profile (omega arith)) inv.so_far c.loop-test.true (omega arith) r,
     )
 
@@ -33,7 +33,7 @@ returns-in_err-extend_from_slice-clause-given g c =
     let inv = c.loop.invariant in
     let r = c.in_ok-ace.ensures in
     rw (exit_is c.from_residual-in_err-extend_from_slice.result c.from_residual-in_err-extend_from_slice.ensures.1)
-    (inv.given ++ r.given, Consumes-trans _ _ _ _ _ inv.taken r.drawn.taken, inr (inr (inl refl)))
+    (inv.given ++ r.given, drawn_after _ inv.given inv.taken r.drawn, inr (inr (inl refl)))
 
 pub loop-preserved : goal.loop-preserved
 loop-preserved g c =
@@ -41,7 +41,7 @@ loop-preserved g c =
     let r = c.in_ok-ace.ensures in
     record {
       given = inv.given ++ r.given;
-      taken = Consumes-trans _ _ _ _ _ inv.taken r.drawn.taken;
+      taken = drawn_after _ inv.given inv.taken r.drawn;
       so_far = rw (c.in_ok-extend_from_slice.ensures.items ∙ ap (λ (y : List ℕ). c.loop.body.items ++ y) r.drawn.front)
           (pulled_on inv.given (code_profile c.args.profile (omega arith)) inv.so_far c.loop-test.true
           (omega (arith, c.len.ensures)) r);

@@ -1,7 +1,6 @@
-use Rattle.acl_nfs4.proofs.Common.{arith, flags_of, kind_of, profile_of, refl}
+use Rattle.acl_nfs4.proofs.Common.{arith, flags_of, from_flags, from_mask, kind_of, profile_of, refl}
 use Rattle.acl_nfs4.proofs.Exits.{exit_is}
-use Rattle.acl_nfs4.specs.internal.Reading.{from_flags, from_mask}
-use Rattle.acl_nfs4.proofs.xdr.FromSource.{begun, word_drawn, word_lacks, word_refused}
+use Rattle.acl_nfs4.proofs.xdr.FromSource.{none_drawn, word_drawn, word_lacks, word_refused}
 use Rattle.acl_nfs4.proofs.xdr.PulledAce.{kind_drawn}
 use Rattle.acl_nfs4.proofs.xdr.OneFault.{flags_never, kind_never}
 use Rattle.acl_nfs4.proofs.xdr.pulling.pull_head.Goals as goal
@@ -10,13 +9,13 @@ pub returns-in_err-kind : goal.returns-in_err-kind
 returns-in_err-kind g c =
     let rest = from_flags (profile_of c.args.next.profile) c.args.next.weight in
     rw (exit_is c.from_residual.result c.from_residual.ensures.1)
-    (word_lacks kind_of rest (begun c.args.room.now) c.in_err-kind.ensures (omega arith))
+    (word_lacks kind_of rest (none_drawn c.args.room.now) c.in_err-kind.ensures (omega arith))
 
 pub returns-in_err-placed : goal.returns-in_err-placed
 returns-in_err-placed g c =
     let rest = from_flags (profile_of c.args.next.profile) c.args.next.weight in
     rw (exit_is c.from_residual-in_err-placed.result c.from_residual-in_err-placed.ensures.1)
-    (word_refused _ (λ z. z) c.kind_of.result kind_of rest (begun c.args.room.now) c.in_ok-kind.ensures
+    (word_refused _ (λ z. z) c.kind_of.result kind_of rest (none_drawn c.args.room.now) c.in_ok-kind.ensures
     c.kind_of.ensures c.in_err-placed.ensures (omega arith) kind_never)
 
 pub returns-in_err-flags : goal.returns-in_err-flags

@@ -1,8 +1,7 @@
-use Rattle.acl_nfs4.proofs.Common.{refl, who_len_of}
+use Rattle.acl_nfs4.proofs.Common.{from_who, refl, who_len_of}
 use Rattle.acl_nfs4.proofs.Exits.{exit_is}
-use Rattle.acl_nfs4.specs.internal.Reading.{from_who}
 use Rattle.acl_nfs4.proofs.xdr.Fields.{who_len_some}
-use Rattle.acl_nfs4.proofs.xdr.FromSource.{accepted, placed_light, word_drawn, word_lacks, word_refused}
+use Rattle.acl_nfs4.proofs.xdr.FromSource.{placed_value, placed_light, word_drawn, word_lacks, word_refused}
 use Rattle.acl_nfs4.proofs.xdr.PulledAce.{mask_drawn, mask_lacks, mask_refused}
 use Rattle.acl_nfs4.proofs.xdr.OneFault.{len_never}
 use Rattle.acl_nfs4.proofs.xdr.pulling.pull_words.Goals as goal
@@ -40,7 +39,7 @@ returns g c =
     let w = c.in_ok-pull_head.ensures in
     let m = c.in_ok-mask.mask in
     let len = c.in_ok-len.len in
-    let is = accepted (λ z. z) _ c.who_len_of.result _ len c.in_ok-len.ensures c.who_len_of.ensures.exact in
+    let is = placed_value (λ z. z) _ c.who_len_of.result _ len c.in_ok-len.ensures c.who_len_of.ensures.exact in
     let d = mask_drawn w _ c.mask_of.result m c.in_ok-rights.ensures c.in_ok-mask.ensures c.mask_of.ensures.exact in
     record {
       kind = w.kind;

@@ -1,6 +1,6 @@
 use Rattle.acl_nfs4.proofs.Common.{of_value, profile_of}
 use Rattle.acl_nfs4.proofs.Exits.{exit_is}
-use Rattle.acl_nfs4.proofs.xdr.OneFault.{trails}
+use Rattle.acl_nfs4.proofs.xdr.OneFault.{byte_after_list}
 use Rattle.acl_nfs4.proofs.xdr.view.whole_of.Goals as goal
 
 pub returns-in_err-view-clause-fault : goal.returns-in_err-view-clause-fault
@@ -9,5 +9,5 @@ returns-in_err-view-clause-fault c =
 
 pub returns-then-len-bytes-clause-fault : goal.returns-then-len-bytes-clause-fault
 returns-then-len-bytes-clause-fault c =
-    trails (profile_of c.args.profile) c.args.bytes.now c.in_ok-view.view c.in_ok-view.len c.if-len-bytes.true
+    byte_after_list (profile_of c.args.profile) c.args.bytes.now c.in_ok-view.view c.in_ok-view.len c.if-len-bytes.true
     c.in_ok-view.ensures.found.1

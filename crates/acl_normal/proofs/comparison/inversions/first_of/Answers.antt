@@ -7,33 +7,33 @@ use Rattle.acl_normal.specs.internal.comparison.PlaceTables.{is_inverting}
 
 pub returns-then-is_inverting : goal.returns-then-is_inverting
 returns-then-is_inverting c =
-    first_of_camp _ _ _ _ _ _ _ _ _ _
-    (near_is _ _ _ _ no_placing c.split_at.ensures.front c.requires.limit c.loop-k-test.true).0
+    first_of_camp
+    (near_is _ no_placing c.split_at.ensures.front c.requires.limit c.loop-k-test.true).0
     c.requires.limit c.loop-k.invariant c.requires.places
     c.in_ok-forward.ensures c.in_ok-back.ensures c.deref.ensures.value c.deref-in-loop-k.ensures.value
     (c.is_inverting.ensures
     ∙ ap (λ r. is_inverting c.args.camp r c.deref.result.now c.deref-in-loop-k.result.now)
-    (near_is _ _ _ _ _ c.split_at.ensures.front c.requires.limit c.loop-k-test.true).1)
+    (near_is _ _ c.split_at.ensures.front c.requires.limit c.loop-k-test.true).1)
     c.if-is_inverting.true
 
 pub loop-k-preserved : goal.loop-k-preserved
 loop-k-preserved c =
     below_more _ _ c.loop-k.invariant
-    (not_of_camp _ _ _ _ _ _ _ _ _
+    (not_of_camp
     (omega (
       arith,
-      (near_is _ _ _ _ no_placing c.split_at.ensures.front c.requires.limit c.loop-k-test.true).0,
+      (near_is _ no_placing c.split_at.ensures.front c.requires.limit c.loop-k-test.true).0,
       c.requires.limit,
     )) c.requires.places
     c.in_ok-forward.ensures c.in_ok-back.ensures c.deref.ensures.value c.deref-in-loop-k.ensures.value
     (c.is_inverting.ensures
     ∙ ap (λ r. is_inverting c.args.camp r c.deref.result.now c.deref-in-loop-k.result.now)
-    (near_is _ _ _ _ _ c.split_at.ensures.front c.requires.limit c.loop-k-test.true).1)
+    (near_is _ _ c.split_at.ensures.front c.requires.limit c.loop-k-test.true).1)
     c.if-is_inverting.false)
 
 pub returns : goal.returns
 returns c =
-    let end = near_end _ _ _ _ c.split_at.ensures.front c.requires.limit c.loop-k-test.false in record {
+    let end = near_end _ c.split_at.ensures.front c.requires.limit c.loop-k-test.false in record {
       within = omega arith;
       before = λ k l. c.loop-k.invariant k (omega (arith, l, end));
       at = λ l. absurd (omega (arith, l));

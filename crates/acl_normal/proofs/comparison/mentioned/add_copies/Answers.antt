@@ -6,5 +6,5 @@ pub index-whom-requires : goal.index-whom-requires
 index-whom-requires c = omega (
   arith,
   c.requires c.loop-place.place-index c.loop-place-test.true,
-  copies_long _ _ _ c.loop-place.invariant,
+  copies_long _ _ c.loop-place.invariant,
 )

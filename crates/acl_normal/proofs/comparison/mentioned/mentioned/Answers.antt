@@ -24,5 +24,5 @@ returns-in-Some c =
     }
 
 pub returns : goal.returns
-returns c = joined_mentions c.args.list.now c.args.other.now _ _ _ c.deref-2.ensures.value c.in_ok-aces.ensures
+returns c = joined_mentions c.args.list.now c.args.other.now _ c.deref-2.ensures.value c.in_ok-aces.ensures
     c.mentions_of-2.ensures

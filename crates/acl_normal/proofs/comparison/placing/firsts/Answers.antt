@@ -8,7 +8,7 @@ place_of_everyone-end-requires c = whoms_length (principals c.args.whole.now) _ 
 
 pub loop-place-init : goal.loop-place-init
 loop-place-init c =
-    firsts_start _ _ _ _ _ _ _ _ (c.in_ok-out.ensures.items_if_clones_equal (λ y e. e))
+    firsts_start _ (c.in_ok-out.ensures.items_if_clones_equal (λ y e. e))
     (sym (length-map c.args.whole.now principal)) refl c.kind_at-kind.ensures
     (omega (arith, length-map c.args.list.now ace, c.place_of_everyone-end.ensures.within))
     (λ lt. c.place_of_everyone-end.ensures.at (omega (arith, length-map c.args.list.now ace))) c.requires
@@ -22,10 +22,10 @@ bounds-whoms-place c = omega (
 
 pub put_first-requires : goal.put_first-requires
 put_first-requires c =
-    whom_within (principals c.args.whole.now) c.args.list.now _ _ _ (omega arith) (omega arith) c.requires
+    whom_within (principals c.args.whole.now) c.args.list.now _ (omega arith) (omega arith) c.requires
 
 pub loop-place-preserved : goal.loop-place-preserved
 loop-place-preserved c =
-    firsts_more _ _ _ _ _ _ _ _ _ _ (omega (arith, c.loop-place-test.true)) c.loop-place.auto.place
+    firsts_more _ _ (omega (arith, c.loop-place-test.true)) c.loop-place.auto.place
     c.place_of_everyone-end.ensures.within c.place_of_everyone-end.ensures.before c.requires c.index-list-place.is
     c.put_first.ensures c.loop-place.invariant

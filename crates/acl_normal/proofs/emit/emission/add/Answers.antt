@@ -1,7 +1,7 @@
 use Rattle.std.proofs.Common.{◌<◌, length}
 use Rattle.std.proofs.lemmas.Result.{on_ok_weaker}
 use Rattle.acl_normal.proofs.Common.{ap, arith, key_here, kind_rank, nothing_left, sym, ◌∙◌}
-use Rattle.acl_normal.proofs.emit.Marks.{adds, fits_written, number_at}
+use Rattle.acl_normal.proofs.emit.Marks.{bit_added, fits_written, number_at}
 use Rattle.acl_normal.proofs.rows.Rows.{row_below}
 use Rattle.acl_normal.proofs.unique.Outline.{outline_length}
 use Rattle.acl_normal.proofs.emit.emission.add.Goals as goal
@@ -30,6 +30,6 @@ returns c =
     on_ok_weaker c.add.result (λ e. record {
       keys = fits_written (nothing_left xs) c.args.ready.now c.add.new.self _ _ c.requires.keys
           (record { key = key_here xs c.args.place; named = is.named; is = number }) e;
-      marks = adds (nothing_left xs) c.args.ready.now c.add.new.self _ c.args.right.bit (key_here xs c.args.place)
+      marks = bit_added (nothing_left xs) c.args.ready.now c.add.new.self _ c.args.right.bit (key_here xs c.args.place)
           is.named number within e;
     }) c.add.ensures

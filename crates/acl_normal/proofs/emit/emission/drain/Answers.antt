@@ -3,22 +3,22 @@ use Rattle.acl_normal.proofs.emit.QueueChains.{queues_left}
 use Rattle.acl_normal.proofs.emit.Drained.{drain_starts, drain_ends, drain_falls, outline_left}
 use Rattle.acl_normal.proofs.emit.Leaving.{alike_count}
 use Rattle.acl_normal.proofs.emit.Marks.{nothing_marked}
-use Rattle.acl_normal.proofs.emit.InRows.{no_rows, turned}
+use Rattle.acl_normal.proofs.emit.InRows.{no_rows, turn_in_rows}
 use Rattle.acl_normal.proofs.emit.emission.drain.Goals as goal
 
 pub emitted-init : goal.emitted-init
-emitted-init c = rw c.in_ok-out.ensures.items (
-  drain_starts c.args.rows.now (marks (nothing_left c.args.rows.now) c.fill.new.ready)
+emitted-init c = rw c.in_ok-out.ensures.items (record {
+  drains = drain_starts c.args.rows.now (marks (nothing_left c.args.rows.now) c.fill.new.ready)
       c.len.ensures.list.tidy.once c.len.ensures.list.tidy.low c.len.ensures.list.rights
-      c.in_ok-fill.ensures.marks,
-  c.in_ok-fill.ensures.keys,
-  no_rows c.args.rows.now,
-  c.in_ok-queues.ensures,
-)
+      c.in_ok-fill.ensures.marks;
+  keys = c.in_ok-fill.ensures.keys;
+  rows = no_rows c.args.rows.now;
+  queues = c.in_ok-queues.ensures;
+})
 
 pub move_on-requires : goal.move_on-requires
 move_on-requires c =
-    queues_left _ _ c.emitted.rows c.take_out.new.self c.emitted.queues c.take_out.ensures c.emitted.invariant.3
+    queues_left _ _ c.emitted.rows c.take_out.new.self c.emitted.queues c.take_out.ensures c.emitted.invariant.queues
 
 pub free_after-requires-clause-keys : goal.free_after-requires-clause-keys
 free_after-requires-clause-keys c =
@@ -29,23 +29,28 @@ pub emitted-smaller : goal.emitted-smaller
 emitted-smaller c =
     subst (λ v. count_left 21 v < count_left 21 c.emitted.rows) (sym c.take_out.ensures)
     (drain_falls c.args.rows.now c.emitted.out.items _ _ (plain_key c.in-Some.next.key) c.in-Some.next.mask.bits
-    c.emitted.rows c.emitted.invariant.0 c.in-Some.ensures.some.popped)
+    c.emitted.rows c.emitted.invariant.drains c.in-Some.ensures.some.popped)
 
 pub emitted-preserved : goal.emitted-preserved
 emitted-preserved c =
-    let after = turned c.args.rows.now c.emitted.rows c.take_out.new.self c.emitted.out.items c.push.new.self.items _
+    let after = turn_in_rows c.args.rows.now c.emitted.rows c.take_out.new.self c.emitted.out.items c.push.new.self.items _
     c.emitted.ready c.pop.new.ready c.free_after.new.ready (plain_key c.in-Some.next.key) c.in-Some.next.mask.bits
-    c.emitted.invariant.0 c.in-Some.ensures.some c.emitted.invariant.2 c.in_ok-push.ensures.items refl
+    c.emitted.invariant.drains c.in-Some.ensures.some c.emitted.invariant.rows c.in_ok-push.ensures.items refl
     c.take_out.ensures c.in_ok-free_after.ensures.marks in
-    (after.0, c.in_ok-free_after.ensures.keys, after.1, c.move_on.ensures.queues)
+    record {
+      drains = after.0;
+      keys = c.in_ok-free_after.ensures.keys;
+      rows = after.1;
+      queues = c.move_on.ensures.queues;
+    }
 
 pub returns-clause-emission : goal.returns-clause-emission
 returns-clause-emission c =
-    drain_ends c.args.rows.now c.emitted.out.items _ c.emitted.rows c.emitted.invariant.0
+    drain_ends c.args.rows.now c.emitted.out.items _ c.emitted.rows c.emitted.invariant.drains
     (nothing_marked (nothing_left c.emitted.rows) c.emitted.ready c.in_default.ensures.none)
 
 pub returns-clause-weight : goal.returns-clause-weight
 returns-clause-weight c =
     alike_count 21 c.args.rows.now (emitted_aces c.emitted.out.items) c.len.ensures.list.tidy.once
-    (drain_ends c.args.rows.now c.emitted.out.items _ c.emitted.rows c.emitted.invariant.0
+    (drain_ends c.args.rows.now c.emitted.out.items _ c.emitted.rows c.emitted.invariant.drains
     (nothing_marked (nothing_left c.emitted.rows) c.emitted.ready c.in_default.ensures.none))

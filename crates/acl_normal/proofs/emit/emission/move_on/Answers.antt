@@ -12,14 +12,14 @@ loop-right-preserved c =
     let u = is_users c.of-class.result in
     let xs = c.args.rows.now in
     let mask = c.args.mask.bits in
-    let next = c.in-Some.ensures.some in (
-      c.move_on.ensures.queues,
-      omega (arith, c.in-Some.right.within),
-      begin_on k u xs mask c.loop-right.queues c.move_on.new.self c.in-Some.right.bit
+    let next = c.in-Some.ensures.some in record {
+      queues = c.move_on.ensures.queues;
+      within = omega (arith, c.in-Some.right.within);
+      begin = begin_on k u xs mask c.loop-right.queues c.move_on.new.self c.in-Some.right.bit
           (past_absent (BeginBelow k u xs mask c.loop-right.queues) mask c.loop-right.from c.in-Some.right.bit
-          (begin_skip k u xs mask c.loop-right.queues) next.above next.lacks c.loop-right.invariant.2)
-          c.move_on.ensures.moved,
-    )
+          (begin_skip k u xs mask c.loop-right.queues) next.above next.lacks c.loop-right.invariant.begin)
+          c.move_on.ensures.moved;
+    }
 
 pub returns-clause-first : goal.returns-clause-first
 returns-clause-first c = λ b has.
@@ -29,8 +29,8 @@ returns-clause-first c = λ b has.
     let mask = c.args.mask.bits in
     let all : BeginBelow k u xs mask c.loop-right.queues 21 =
     past_absent (BeginBelow k u xs mask c.loop-right.queues) mask c.loop-right.from 21
-    (begin_skip k u xs mask c.loop-right.queues) c.loop-right.invariant.1 c.in_default.ensures.none
-    c.loop-right.invariant.2 in
+    (begin_skip k u xs mask c.loop-right.queues) c.loop-right.invariant.within c.in_default.ensures.none
+    c.loop-right.invariant.begin in
     subst (λ v. BeginsWaiting k v xs c.loop-right.queues b) c.of-class.ensures
     (all b (⊎_elim (λ l. l) (λ h. absurd (above b h has)) (cases_lt b 21)) has)
   where

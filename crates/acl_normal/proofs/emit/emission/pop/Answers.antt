@@ -1,11 +1,11 @@
 use Rattle.acl_normal.proofs.Common.{marks, nothing_left, plain_key}
-use Rattle.acl_normal.proofs.emit.Drained.{popped_mask, takes}
+use Rattle.acl_normal.proofs.emit.Drained.{popped_mask, least_taken}
 use Rattle.acl_normal.proofs.emit.emission.pop.Goals as goal
 
 pub invariant_of-mask : goal.invariant_of-mask
 invariant_of-mask c =
     let outline = nothing_left c.args.rows.now in
-    let taken = takes _ _ _ _ _ _ c.requires.keys c.in_ok-next.ensures.least c.in_ok-next.ensures.taken
+    let taken = least_taken c.requires.keys c.in_ok-next.ensures.least c.in_ok-next.ensures.taken
     c.key_of-key.ensures.key in
     record {
       within =
@@ -16,4 +16,4 @@ invariant_of-mask c =
 
 pub returns-clause-some : goal.returns-clause-some
 returns-clause-some c =
-    takes _ _ _ _ _ _ c.requires.keys c.in_ok-next.ensures.least c.in_ok-next.ensures.taken c.key_of-key.ensures.key
+    least_taken c.requires.keys c.in_ok-next.ensures.least c.in_ok-next.ensures.taken c.key_of-key.ensures.key

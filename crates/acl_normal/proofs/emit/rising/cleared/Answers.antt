@@ -6,24 +6,24 @@ use Rattle.std.proofs.Common.{arith}
 
 pub push_accepted-requires : goal.push_accepted-requires
 push_accepted-requires c =
-    let here = shown_here c.args.aces.now c.args.masks.now _ _ _ c.requires.masks c.loop-place-test.true
+    let here = shown_here c.args.aces.now c.args.masks.now c.requires.masks c.loop-place-test.true
     c.index-aces-place.is c.index-masks-place.is in
     subst (λ a. IsAccepted full (c.loop-place.list ++ a ∷ [])) (sym c.cleared_ace.ensures)
-    (next_cleared _ _ _ _ c.requires.accepted here.within here.item c.if-mask-ne0.true c.loop-place.invariant)
+    (next_cleared _ c.requires.accepted here.within here.item c.if-mask-ne0.true c.loop-place.invariant)
 
 pub loop-place-preserved : goal.loop-place-preserved
 loop-place-preserved c =
-    let here = shown_here c.args.aces.now c.args.masks.now _ _ _ c.requires.masks c.loop-place-test.true
+    let here = shown_here c.args.aces.now c.args.masks.now c.requires.masks c.loop-place-test.true
     c.index-aces-place.is c.index-masks-place.is in
     elim c.if-mask-ne0.branch [
-      | then-mask-ne0+in_ok-push_accepted w ↦ rw w.list-is (cleared_more _ _ _ _ _ here.within here.item
+      | then-mask-ne0+in_ok-push_accepted w ↦ rw w.list-is (cleared_more _ here.within here.item
           w.if-mask-ne0.true c.loop-place.invariant
           (w.in_ok-push_accepted.ensures.ok ∙ ap (λ a. c.loop-place.list ++ a ∷ []) w.cleared_ace.ensures))
-      | else-mask-ne0 w ↦ rw w.list-is (cleared_past _ _ _ here.within (omega (arith, here.mask, w.if-mask-ne0))
+      | else-mask-ne0 w ↦ rw w.list-is (cleared_past _ here.within (omega (arith, here.mask, w.if-mask-ne0))
           c.loop-place.invariant)
     ]
 
 pub returns : goal.returns
 returns c =
-    all_places _ _ _ (shown_end c.args.aces.now c.args.masks.now _ c.requires.masks c.loop-place-test.false)
+    all_places _ (shown_end c.args.aces.now c.args.masks.now _ c.requires.masks c.loop-place-test.false)
     c.loop-place.invariant

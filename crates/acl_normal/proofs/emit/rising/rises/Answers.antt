@@ -1,4 +1,4 @@
-use Rattle.acl_normal.proofs.Common.{arith, mask_numbers, HasRisen, refl, subst, sym, with_masks, ◌+◌, ◌∙◌}
+use Rattle.acl_normal.proofs.Common.{aces_with, arith, mask_numbers, HasRisen, refl, subst, sym, with_masks, ◌+◌, ◌∙◌}
 use Rattle.acl_normal.proofs.emit.Risen.{all_risen, has_row, mask_of, number_there, risen_more, risen_past}
 use Rattle.acl_normal.proofs.unique.Outline.{masked_count}
 use Rattle.acl_normal.proofs.emit.rising.rises.Goals as goal
@@ -39,5 +39,5 @@ loop-place-preserved c =
 
 pub returns : goal.returns
 returns c _ =
-    all_risen (with_masks c.args.aces.now (mask_numbers c.args.masks.now)) c.loop-place.place c.loop-place.bound
+    all_risen (aces_with c.args.aces.now c.args.masks.now) c.loop-place.place c.loop-place.bound
     (omega (arith, masked_count _ _ c.requires.masks, c.loop-place-test.false)) c.loop-place.invariant

@@ -1,5 +1,5 @@
 use Rattle.std.proofs.Common.{◌≡◌}
-use Rattle.acl_normal.proofs.Common.{all_rights, ap, arith, mask_numbers, SameGrants, subst, sym, waits, with_masks, ◌∙◌}
+use Rattle.acl_normal.proofs.Common.{aces_with, all_rights, ap, arith, mask_numbers, SameGrants, subst, sym, waits, with_masks, ◌∙◌}
 use Rattle.acl_normal.proofs.merged.MergedRows.new.Goals as goal
 
 pub invariant_of-result : goal.invariant_of-result
@@ -12,8 +12,8 @@ invariant_of-result c =
       once = c.in_ok-reduced.ensures.rows.tidy.once;
       rights = c.in_ok-reduced.ensures.rows.rights;
       waiting = λ k u b i l. c.in_ok-waiting.ensures.waiting k u b i l
-          ∙ ap (λ v. waits k u b (with_masks v (mask_numbers c.deref-2.result.now)) i) c.deref.ensures.value
-          ∙ ap (λ v. waits k u b (with_masks aces (mask_numbers v)) i) c.deref-2.ensures.value;
+          ∙ ap (λ v. waits k u b (aces_with v c.deref-2.result.now) i) c.deref.ensures.value
+          ∙ ap (λ v. waits k u b (aces_with aces v) i) c.deref-2.ensures.value;
     })
 
 pub returns-clause-grants : goal.returns-clause-grants

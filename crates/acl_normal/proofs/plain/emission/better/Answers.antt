@@ -1,5 +1,5 @@
 use Rattle.acl_normal.proofs.Common.{[], ace, aces_in, IsLeastCandidate, option_map, subst, sym, ◌++◌, ◌∷◌}
-use Rattle.acl_normal.proofs.plain.Candidates.{best_with}
+use Rattle.acl_normal.proofs.unique.Candidates.{best_with}
 use Rattle.acl_normal.proofs.plain.emission.better.Goals as goal
 
 pub returns-in-Some : goal.returns-in-Some

@@ -1,6 +1,6 @@
 use Rattle.std.proofs.Common.{refl}
 use Rattle.acl_normal.proofs.Common.{ace, ap, flags_for, ◌∙◌}
-use Rattle.acl_normal.proofs.plain.Candidates.{candidate_within}
+use Rattle.acl_normal.proofs.unique.Candidates.{candidate_within}
 use Rattle.acl_normal.proofs.plain.emission.candidate.Goals as goal
 
 pub returns-clause-within : goal.returns-clause-within

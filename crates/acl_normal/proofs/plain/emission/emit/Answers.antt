@@ -1,6 +1,6 @@
 use Rattle.acl_normal.proofs.Common.{ace, aces_in, full, IsLeastCandidate, subst, sym}
 use Rattle.acl_normal.specs.internal.Passes.{AreNowhereFree}
-use Rattle.acl_normal.proofs.plain.Candidates.{none_free}
+use Rattle.acl_normal.proofs.unique.Candidates.{none_free}
 use Rattle.acl_normal.proofs.plain.InTurn.{Emitting, Taken, coming_accepted, emitting_all, emitting_more, fewer_left}
 use Rattle.acl_normal.proofs.plain.emission.emit.Goals as goal
 

@@ -1,5 +1,5 @@
 use Rattle.acl_normal.proofs.Common.{ace, ace_key, aces_in, column, conflicts_before, is_free, IsMask, take}
-use Rattle.acl_normal.proofs.plain.Passes.{Marks}
+use Rattle.acl_normal.proofs.reduce.Passes.{Marks}
 use Rattle.acl_normal.proofs.plain.emission.free_bits.Given as goal
 
 -- the bits at which the ACEs so far keep the key from coming first, and those at which it is free among them

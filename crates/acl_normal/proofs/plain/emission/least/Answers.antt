@@ -1,6 +1,6 @@
 use Rattle.acl_normal.proofs.Common.{ace, aces_in, arith, Best, option_map, subst, sym, take}
 use Rattle.acl_normal.proofs.unique.Kept.{ace_at}
-use Rattle.acl_normal.proofs.plain.Passes.{list_of-more}
+use Rattle.acl_normal.proofs.reduce.Passes.{list_of-more}
 use Rattle.acl_normal.proofs.plain.emission.least.Goals as goal
 
 pub loop-item-preserved : goal.loop-item-preserved

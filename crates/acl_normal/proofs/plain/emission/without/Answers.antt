@@ -13,6 +13,6 @@ loop-item-preserved c = record {
   profiles = subst (λ v. KeepsProfiles (aces_in c.args.left.now) (aces_in v)) (sym c.in_ok-push.ensures.items)
       (keeps_more (aces_in c.args.left.now) c.loop-item.rest.items _ c.loop-item.invariant.profiles
       (λ p h. fewer_bits p (ace c.item-item.result) _ refl refl
-      (difference_fewer _ _ _ c.difference-mask.ensures.meaning)
+      (difference_fewer c.item-item.result.mask.bits _ _ c.difference-mask.ensures.meaning)
       (ace_at c.args.left.now c.item-item.result c.loop-item.item-index (omega arith) c.item-item.is p h)));
 }

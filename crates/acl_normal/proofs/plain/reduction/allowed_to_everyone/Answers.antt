@@ -1,12 +1,12 @@
 use Rattle.acl_normal.proofs.Common.{arith, everyone, is_shadowed}
-use Rattle.acl_normal.proofs.plain.Passes.{allowed_more, union_more, shadows_gathered}
+use Rattle.acl_normal.proofs.reduce.Passes.{default_allows_more, shadows_gathered, union_more}
 use Rattle.acl_normal.proofs.plain.reduction.allowed_to_everyone.Goals as goal
 
 pub loop-item-preserved : goal.loop-item-preserved
 loop-item-preserved c = record {
   within = (c.union-allowed.result.within, c.union-seen.result.within);
-  seen = union_more (is_shadowed everyone) (shadows_gathered everyone) _ _ _ _ _ _ (omega arith) c.item-item.is
+  seen = union_more (is_shadowed everyone) (shadows_gathered everyone) _ _ _ _ (omega arith) c.item-item.is
       c.loop-item.invariant.seen c.own_shadow.ensures c.union-seen.ensures.meaning;
-  allowed = allowed_more _ _ _ _ _ _ _ (omega arith) c.item-item.is c.loop-item.invariant.allowed
+  allowed = default_allows_more _ _ _ _ _ (omega arith) c.item-item.is c.loop-item.invariant.allowed
       c.loop-item.invariant.seen c.own_allowed.ensures c.union-allowed.ensures.meaning;
 }

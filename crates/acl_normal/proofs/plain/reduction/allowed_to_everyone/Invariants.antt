@@ -1,5 +1,5 @@
 use Rattle.acl_normal.proofs.Common.{aces_in, Allow, column, default, everyone, is_shadowed, IsMask, kind_eq, take}
-use Rattle.acl_normal.proofs.plain.Passes.{Marks}
+use Rattle.acl_normal.proofs.reduce.Passes.{Marks}
 use Rattle.acl_normal.proofs.plain.reduction.allowed_to_everyone.Given as goal
 
 -- the bits that the ACEs so far decide for everyone, and those that they allow

@@ -1,6 +1,6 @@
 use Rattle.std.proofs.Common.{◌+◌, refl}
 use Rattle.acl_normal.proofs.Common.{ace, aces_in, arith, column, default_at, drop, has_bit, is_needed, principal_of, sym, ◌&&◌, ◌∙◌, and_parts}
-use Rattle.acl_normal.proofs.plain.Passes.{Marks}
+use Rattle.acl_normal.proofs.reduce.Passes.{Marks}
 use Rattle.acl_normal.proofs.unique.Kept.{ace_at, fewer_bits, keeps_more}
 use Rattle.acl_normal.proofs.plain.NeededBits.{needed_more}
 use Rattle.acl_normal.proofs.plain.reduction.drop_needless.Goals as goal

@@ -1,6 +1,6 @@
 use Rattle.std.proofs.Common.{refl}
 use Rattle.acl_normal.proofs.Common.{ace, aces_in, ap, arith, column, is_shadowed, KeepsProfiles, principal_of, subst, sym, take, ◌∙◌}
-use Rattle.acl_normal.proofs.plain.Passes.{Marks}
+use Rattle.acl_normal.proofs.reduce.Passes.{Marks}
 use Rattle.acl_normal.proofs.unique.Kept.{ace_at, difference_fewer, fewer_bits, keeps_more}
 use Rattle.acl_normal.proofs.plain.Reached.{reached_more}
 use Rattle.acl_normal.proofs.plain.reduction.drop_shadowed.Goals as goal

@@ -1,5 +1,5 @@
 use Rattle.acl_normal.proofs.Common.{ace, aces_in, column, has_opposite, IsMask, principal_of, take}
-use Rattle.acl_normal.proofs.plain.Passes.{Marks}
+use Rattle.acl_normal.proofs.reduce.Passes.{Marks}
 use Rattle.acl_normal.proofs.plain.reduction.opposite.Given as goal
 
 -- the bits so far are those of the ACEs so far

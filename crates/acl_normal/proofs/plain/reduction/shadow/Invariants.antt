@@ -1,5 +1,5 @@
 use Rattle.acl_normal.proofs.Common.{aces_in, is_shadowed, IsMask, principal, take}
-use Rattle.acl_normal.proofs.plain.Passes.{Marks}
+use Rattle.acl_normal.proofs.reduce.Passes.{Marks}
 use Rattle.acl_normal.proofs.plain.reduction.shadow.Given as goal
 
 -- the bits so far are those of the ACEs so far

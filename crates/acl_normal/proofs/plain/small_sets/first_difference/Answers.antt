@@ -3,7 +3,7 @@ use Rattle.acl_normal.proofs.plain.small_sets.first_difference.Goals as goal
 use Rattle.acl_normal.proofs.comparison.FirstSet.{named_of}
 
 pub difference-requires-clause-named : goal.difference-requires-clause-named
-difference-requires-clause-named c = named_of _ _ _ _ _ c.of.ensures
+difference-requires-clause-named c = named_of c.of.ensures
     (ap aces_in c.deref-6.ensures.value ∙ c.in_ok-first.ensures.aces)
     (ap aces_in c.deref-7.ensures.value ∙ c.in_ok-second.ensures.aces)
     c.in_ok-first.ensures.accepted c.in_ok-second.ensures.accepted

@@ -13,7 +13,7 @@ loop-place-init c = record {
 
 pub index_mut-here-requires : goal.index_mut-here-requires
 index_mut-here-requires c =
-    let row = row_seen _ c.args.rows.now c.loop-place.seen.items _ _ _ _ c.requires.rows c.loop-place-test.true
+    let row = row_seen _ c.args.rows.now c.loop-place.seen.items c.requires.rows c.loop-place-test.true
     c.index-aces-place.is c.loop-place.invariant.reaches.holds in
     omega (arith, c.loop-place.seen.ok, row)
 
@@ -47,5 +47,5 @@ returns-clause-places c =
 
 pub returns-clause-thinned : goal.returns-clause-thinned
 returns-clause-thinned c =
-    reaches_thinned c.args.aces.now c.loop-place.place _ _ _ c.requires.accepted c.loop-place.invariant.reaches
+    reaches_thinned c.args.aces.now c.loop-place.place c.requires.accepted c.loop-place.invariant.reaches
     c.loop-place-test.false

@@ -13,5 +13,4 @@ returns-in-Some-clause-refused c = λ fault p is q.
     one_fault (pairs c.args.entries.items) (Miss c.in-Some.tag) fault refl p (search rules) is
 
 pub returns-in-None-clause-refused : goal.returns-in-None-clause-refused
-returns-in-None-clause-refused c = λ fault p is.
-    no_fault (pairs c.args.entries.items) fault (search rules) p is
+returns-in-None-clause-refused c = λ fault p is. no_fault (pairs c.args.entries.items) fault (search rules) p is

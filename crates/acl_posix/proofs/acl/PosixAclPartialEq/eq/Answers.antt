@@ -4,8 +4,7 @@ use Rattle.acl_posix.proofs.acl.PosixAclPartialEq.eq.Goals as goal
 
 pub returns-clause-value : goal.returns-clause-value
 returns-clause-value c =
-    by_lists c.args.self.now c.args.other.now _ _ _ c.entries.ensures.entries c.entries-2.ensures.entries
-    c.are_same.ensures
+    by_lists c.args.self.now c.args.other.now c.entries.ensures.entries c.entries-2.ensures.entries c.are_same.ensures
 
 pub returns-clause-exact : goal.returns-clause-exact
 returns-clause-exact c =

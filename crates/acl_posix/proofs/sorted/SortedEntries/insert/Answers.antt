@@ -15,13 +15,11 @@ returns-in_err-insert-in-Err-clause-no_memory c = λ some.
     absurd (not_in_gap c.args.self.now (tag_of c.args.tag) c.in-Err.place c.in-Err.ensures some)
 
 pub invariant_of-self-in-Err : goal.invariant_of-self-in-Err
-invariant_of-self-in-Err c =
-    rw c.in_ok-insert-in-Err.ensures.items
+invariant_of-self-in-Err c = rw c.in_ok-insert-in-Err.ensures.items
     (inserted c.args.self.now c.self.inside.items.items c.in-Err.place _ c.self.view_is c.self.invariant
     c.in-Err.ensures).sorted
 
 pub returns-in_ok-insert-in-Err-clause-ok : goal.returns-in_ok-insert-in-Err-clause-ok
-returns-in_ok-insert-in-Err-clause-ok c =
-    rw c.in_ok-insert-in-Err.ensures.items
+returns-in_ok-insert-in-Err-clause-ok c = rw c.in_ok-insert-in-Err.ensures.items
     (inserted c.args.self.now c.self.inside.items.items c.in-Err.place _ c.self.view_is c.self.invariant
     c.in-Err.ensures).set

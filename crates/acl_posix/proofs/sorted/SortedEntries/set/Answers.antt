@@ -8,15 +8,12 @@ index_mut-requires c =
     omega (arith, c.in-Ok.ensures.in_range, keys_length c.args.self.now c.self.inside.items.items same)
 
 pub invariant_of-self : goal.invariant_of-self
-invariant_of-self c =
-    (edited c.args.self.now c.self.inside.items.items c.in-Ok.place _ c.self.view_is c.self.invariant
+invariant_of-self c = (edited c.args.self.now c.self.inside.items.items c.in-Ok.place _ c.self.view_is c.self.invariant
     c.in-Ok.ensures).sorted
 
 pub returns-in-Ok : goal.returns-in-Ok
-returns-in-Ok c =
-    (edited c.args.self.now c.self.inside.items.items c.in-Ok.place _ c.self.view_is c.self.invariant
+returns-in-Ok c = (edited c.args.self.now c.self.inside.items.items c.in-Ok.place _ c.self.view_is c.self.invariant
     c.in-Ok.ensures).set
 
 pub returns-in-Err : goal.returns-in-Err
-returns-in-Err c =
-    absurd (not_in_gap c.args.self.now (tag_of c.args.tag) c.in-Err.field-0 c.in-Err.ensures c.requires)
+returns-in-Err c = absurd (not_in_gap c.args.self.now (tag_of c.args.tag) c.in-Err.field-0 c.in-Err.ensures c.requires)

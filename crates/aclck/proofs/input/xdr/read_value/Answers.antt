@@ -1,8 +1,7 @@
 use Rattle.std.proofs.Common.{◌∙◌, ◌+◌, ap, arith, length, refl}
 use Rattle.acl_perm.specs.Profile.{profile_of}
 use Rattle.acl_nfs4.proofs.Exports.{code_profile}
-use Rattle.aclck.proofs.FeedLemmas.{fed_end, fed_more, fed_none, fed_nothing, fed_refused, fed_short, fed_value}
-use Rattle.aclck.proofs.ListInputLemmas.{reads_small}
+use Rattle.aclck.proofs.FeedLemmas.{fed_end, fed_more, fed_none, fed_nothing, fed_refused, fed_short, fed_short_value, fed_value}
 use Rattle.aclck.proofs.input.xdr.read_value.Goals as goal
 
 pub loop-feed-init : goal.loop-feed-init
@@ -22,10 +21,10 @@ returns-in-Done-clause-value g c =
     fed_value c.feed.new.self c.in-Done.taken c.loop-feed.invariant.fed c.left.ensures.is c.take.ensures
     c.in-Done.ensures.feeds c.finish.result c.finish.ensures.list
 
-pub returns-in-Done-clause-small : goal.returns-in-Done-clause-small
-returns-in-Done-clause-small g c =
-    reads_small _ _ _ _ _ c.finish.result (fed_value c.feed.new.self c.in-Done.taken c.loop-feed.invariant.fed
-    c.left.ensures.is c.take.ensures c.in-Done.ensures.feeds c.finish.result c.finish.ensures.list)
+pub returns-in-Done-clause-short : goal.returns-in-Done-clause-short
+returns-in-Done-clause-short g c =
+    fed_short_value c.feed.new.self c.in-Done.taken c.loop-feed.invariant.fed c.left.ensures.is c.take.ensures
+    c.in-Done.ensures.feeds c.finish.result c.finish.ensures.list
 
 pub returns-in-Done-clause-none : goal.returns-in-Done-clause-none
 returns-in-Done-clause-none g c =

@@ -1,17 +1,14 @@
-use Rattle.std.proofs.Common.{arith, rules}
-use Rattle.std.proofs.lemmas.Result.{err_from_is_err_and}
+use Rattle.std.proofs.Common.{arith}
+use Rattle.acl_perm.specs.Profile.{profile_of}
+use Rattle.aclck.specs.commands.Normalize.{NormalizeAnswer}
 use Rattle.aclck.proofs.NormalFormLemmas.{written_form}
+use Rattle.aclck.proofs.WritingLemmas.{written_after_reading}
 use Rattle.aclck.proofs.task.normalize.run_normalize.Goals as goal
 
 pub returns : goal.returns
 returns g c =
-    let made = written_form c.args.profile (omega arith) _ _ _ c.in_ok-read_list.ensures.found.holds
-    c.in_ok-form.ensures.form in
-    search (made, rules)
-
-pub returns-in_err-encode : goal.returns-in_err-encode
-returns-in_err-encode g c =
-    let p = err_from_is_err_and c.from_residual-in_err-encode.result c.from_residual-in_err-encode.ensures.1 in
-    let made = written_form c.args.profile (omega arith) _ _ _ c.in_ok-read_list.ensures.found.holds
-    c.in_ok-form.ensures.form in
-    rw (p.1, p.2) (search (made, rules))
+    let read = c.in_ok-read_list.ensures in
+    written_after_reading (NormalizeAnswer (profile_of c.args.profile)) c.write_list_answer.result
+    c.write_list_answer.ensures read.found
+    (λ input spelled. written_form c.args.profile (omega arith) spelled c.in_ok-form.ensures.form) read.bound read.whole
+    read.reads

@@ -4,7 +4,7 @@ use Rattle.std.proofs.lemmas.Option.{slice_get_within}
 use Rattle.acl_eval.specs.Situation.{owner_of, owning_group_of}
 use Rattle.aclck_c.specs.Many.{asked_by}
 use Rattle.aclck_c.specs.Requests.{AreGranted}
-use Rattle.aclck_c.proofs.ManyRequesters.{one_more}
+use Rattle.aclck_c.proofs.ManyRequesters.{right_up_to}
 use Rattle.aclck_c.proofs.nfs4.check_many.grant_each.Goals as goal
 
 pub loop-place-preserved : goal.loop-place-preserved
@@ -13,7 +13,7 @@ loop-place-preserved c =
     let count = c.loop-place.invariant.count in
     record {
       count = length-set c.loop-place.rights c.loop-place.place c.granted_to.result ∙ count;
-      rights = one_more
+      rights = right_up_to
           (λ who granted. AreGranted c.args.view.now
           (asked_by (owner_of request.object) (owning_group_of request.object) who) request.mask.bits granted)
           c.args.requesters.now c.loop-place.rights c.loop-place.place c.granted_to.result _ c.granted_to.ensures

@@ -1,7 +1,7 @@
 use Rattle.std.proofs.Common.{rules}
 use Rattle.acl_posix.specs.Programs.{MakesOfFile, file_text}
 use Rattle.aclck_c.specs.Posix.{IsShown, SpellsFile}
-use Rattle.aclck_c.proofs.Endings.{in_words, of_file}
+use Rattle.aclck_c.proofs.Endings.{in_words, writes_of_file}
 use Rattle.aclck_c.proofs.FileFailures.{good_names, refused_names}
 use Rattle.aclck_c.proofs.posix.texts.aclck_show_posix.Goals as goal
 
@@ -13,6 +13,6 @@ returns c =
     let options = c.args.options in
     let shown = in_words (MakesOfFile (SpellsFile names text) (file_text form)) (IsShown names options text) _
     (λ _ makes. record { form = form; is_form = search rules; makes = makes }) c.shown.ensures.ok in
-    of_file _ _ _ _ _
+    writes_of_file
     (λ _ h. good_names names h.makes.read.table h.makes.read.named) (refused_names _ _) (search rules) shown
     c.shown.ensures.err c.answer.ensures

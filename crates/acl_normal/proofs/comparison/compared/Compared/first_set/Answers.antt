@@ -13,7 +13,7 @@ returns-then-member-count-clause-found c = none_answer c.args.self.now _ _ c.if-
     (c.if-member-count.true ∙ c.count-2.ensures)
 
 pub returns-clause-found : goal.returns-clause-found
-returns-clause-found c = pair_answer c.args.self.now _ _ _ _ _ _ c.if-not-grant_strangers_alike.ensures.alike
+returns-clause-found c = pair_answer c.args.self.now c.if-not-grant_strangers_alike.ensures.alike
     c.in_ok-single.ensures
     (omega (arith, c.if-single-count.false, c.count.ensures)) c.in_ok-member.ensures
     (member_within c.args.self.now _ c.in_ok-member.ensures
@@ -24,7 +24,7 @@ pub returns-clause-within : goal.returns-clause-within
 returns-clause-within c = (
   member_within c.args.self.now _ c.in_ok-member.ensures
       (λ e. c.if-member-count.false (e ∙ sym c.count-2.ensures)),
-  partner_within c.args.self.now _ _ _ c.in_ok-single.ensures
+  partner_within c.args.self.now c.in_ok-single.ensures
       (omega (arith, c.if-single-count.false, c.count.ensures)) c.in_ok-member.ensures
       (member_within c.args.self.now _ c.in_ok-member.ensures
       (λ e. c.if-member-count.false (e ∙ sym c.count-2.ensures)))

@@ -7,22 +7,22 @@ use Rattle.acl_normal.specs.internal.comparison.TwoLists.{ArePlacingsOf, all_men
 
 pub first_inverting-requires-clause-limit : goal.first_inverting-requires-clause-limit
 first_inverting-requires-clause-limit c =
-    rows_limit (all_mentioned c.args.self.now) _ _ _ _ _ _ c.in_ok-placings.ensures c.deref.ensures.value
+    rows_limit (all_mentioned c.args.self.now) c.in_ok-placings.ensures c.deref.ensures.value
     c.loop-bit.invariant.within
 
 pub first_inverting-requires-clause-places : goal.first_inverting-requires-clause-places
 first_inverting-requires-clause-places c =
-    slice_within c.args.self.now _ _ _ _ c.deref.ensures.value c.longer-size.ensures.within c.in_ok-placings.ensures
+    slice_within c.args.self.now c.deref.ensures.value c.longer-size.ensures.within c.in_ok-placings.ensures
 
 pub loop-bit-preserved : goal.loop-bit-preserved
 loop-bit-preserved c = elim c.if-may_differ.branch [
-  | then-may_differ+in_ok-placings+in_ok-least w ↦ rw w.least-is (member_step _ _ _ _ _ _ _
+  | then-may_differ+in_ok-placings+in_ok-least w ↦ rw w.least-is (member_step
       (subst (ArePlacingsOf c.args.self.now c.loop-bit.bit) (sym w.deref.ensures.value) w.in_ok-placings.ensures)
       c.requires (c.may_differ.ensures.right w.if-may_differ.true) w.in_ok-least.ensures c.loop-bit.invariant)
-  | else-may_differ w ↦ rw w.least-is (least_skip _ _ _ _
+  | else-may_differ w ↦ rw w.least-is (least_skip
       (same_pairs c.args.self.now c.loop-bit.bit (c.may_differ.ensures.same w.if-may_differ.false))
       c.loop-bit.invariant)
 ]
 
 pub returns : goal.returns
-returns c = least_done _ _ _ _ c.loop-bit-test.false c.loop-bit.invariant
+returns c = least_done c.loop-bit-test.false c.loop-bit.invariant

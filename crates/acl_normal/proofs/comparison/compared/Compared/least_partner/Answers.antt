@@ -7,7 +7,7 @@ use Rattle.acl_normal.specs.internal.comparison.TwoLists.{all_mentioned}
 pub split_at-requires : goal.split_at-requires
 split_at-requires c = omega (
   arith,
-  rows_length (all_mentioned c.args.self.now) _ _ _ _ c.in_ok-placings.ensures,
+  rows_length (all_mentioned c.args.self.now) c.in_ok-placings.ensures,
   ap length c.as_slice.ensures.value,
   c.requires.at,
 )
@@ -16,20 +16,20 @@ pub first_inverted-least-requires : goal.first_inverted-least-requires
 first_inverted-least-requires c =
     omega (
       arith,
-      others_length (all_mentioned c.args.self.now) _ _ _ c.args.at _ _ _ c.in_ok-placings.ensures
+      others_length (all_mentioned c.args.self.now) c.args.at c.in_ok-placings.ensures
           c.as_slice.ensures.value c.split_at.ensures.back,
       c.loop-bit.invariant.within,
     )
 
 pub loop-bit-preserved : goal.loop-bit-preserved
 loop-bit-preserved c = elim c.if-may_differ.branch [
-  | then-may_differ+in_ok-placings w ↦ rw w.least-is (partner_loop _ _ _ _ _ _ _ _ _ _ _ c.requires.at
+  | then-may_differ+in_ok-placings w ↦ rw w.least-is (partner_loop c.requires.at
       w.in_ok-placings.ensures w.as_slice.ensures.value w.split_at.ensures.back w.index.ensures c.requires.alone
       (c.may_differ.ensures.right w.if-may_differ.true) w.first_inverted-least.ensures c.loop-bit.invariant)
-  | else-may_differ w ↦ rw w.least-is (least_skip _ _ _ _
+  | else-may_differ w ↦ rw w.least-is (least_skip
       (same_pair c.args.self.now c.args.at c.loop-bit.bit (c.may_differ.ensures.same w.if-may_differ.false))
       c.loop-bit.invariant)
 ]
 
 pub returns : goal.returns
-returns c = least_done _ _ _ _ c.loop-bit-test.false c.loop-bit.invariant
+returns c = least_done c.loop-bit-test.false c.loop-bit.invariant

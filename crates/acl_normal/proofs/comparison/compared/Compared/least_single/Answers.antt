@@ -6,18 +6,18 @@ use Rattle.acl_normal.specs.internal.comparison.TwoLists.{ArePlacingsOf, all_men
 
 pub first_unlike-least-requires : goal.first_unlike-least-requires
 first_unlike-least-requires c =
-    rows_limit (all_mentioned c.args.self.now) _ _ _ _ _ _ c.in_ok-placings.ensures c.deref.ensures.value
+    rows_limit (all_mentioned c.args.self.now) c.in_ok-placings.ensures c.deref.ensures.value
     c.loop-bit.invariant.within
 
 pub loop-bit-preserved : goal.loop-bit-preserved
 loop-bit-preserved c = elim c.if-may_differ.branch [
-  | then-may_differ+in_ok-placings w ↦ rw w.least-is (single_step _ _ _ _ _ _ _
+  | then-may_differ+in_ok-placings w ↦ rw w.least-is (single_step
       (subst (ArePlacingsOf c.args.self.now c.loop-bit.bit) (sym w.deref.ensures.value) w.in_ok-placings.ensures)
       (c.may_differ.ensures.right w.if-may_differ.true) w.first_unlike-least.ensures c.loop-bit.invariant)
-  | else-may_differ w ↦ rw w.least-is (least_skip _ _ _ _
+  | else-may_differ w ↦ rw w.least-is (least_skip
       (same_one c.args.self.now c.loop-bit.bit (c.may_differ.ensures.same w.if-may_differ.false))
       c.loop-bit.invariant)
 ]
 
 pub returns : goal.returns
-returns c = least_done _ _ _ _ c.loop-bit-test.false c.loop-bit.invariant
+returns c = least_done c.loop-bit-test.false c.loop-bit.invariant

@@ -13,18 +13,18 @@ split_at-requires c = omega (
 
 pub rights_apart-requires-clause-other_whoms : goal.rights_apart-requires-clause-other_whoms
 rights_apart-requires-clause-other_whoms c = whoms_length (principals c.args.mentions.now.principals.items) _ _
-    (whoms_second _ c.args.first.now c.args.second.now _ _ _ refl
+    (whoms_second _ c.args.first.now c.args.second.now _ refl
     (c.split_at.ensures.back ∙ ap (drop (length c.args.first.now)) c.as_slice.ensures.value) c.requires.whoms)
 
 pub invariant_of-result : goal.invariant_of-result
 invariant_of-result c =
     let here : AreWhoms (principals c.args.mentions.now.principals.items) (aces_in c.args.first.now)
     c.split_at.result.0.now =
-    whoms_first _ c.args.first.now c.args.second.now _ _ _ refl
+    whoms_first _ c.args.first.now c.args.second.now _ refl
     (c.split_at.ensures.front ∙ ap (take (length c.args.first.now)) c.as_slice.ensures.value) c.requires.whoms in
     let there : AreWhoms (principals c.args.mentions.now.principals.items) (aces_in c.args.second.now)
     c.split_at.result.1.now =
-    whoms_second _ c.args.first.now c.args.second.now _ _ _ refl
+    whoms_second _ c.args.first.now c.args.second.now _ refl
     (c.split_at.ensures.back ∙ ap (drop (length c.args.first.now)) c.as_slice.ensures.value) c.requires.whoms in
     record {
       mentioned = ap principals c.as_slice-2.ensures.value ∙ c.requires.in_order;

@@ -14,20 +14,20 @@ loop-right-preserved c =
     let b = c.in-Some.right.bit in
     let next = c.in-Some.ensures.some in
     let before : AreNoted xs (place + 1) b old =
-    noted_up_to xs place _ _ _ old c.mask_at-mask.ensures.mask next.above next.lacks c.loop-right.invariant.0 in
+    noted_up_to xs place old c.mask_at-mask.ensures.mask next.above next.lacks c.loop-right.invariant.noted in
     let has : has_bit (mask_here xs place) b ≡ true =
     ap (λ v. has_bit v b) (sym c.mask_at-mask.ensures.mask) ∙ next.has in
     let slot : c.slot.result ≡ slot_of (kind_here xs place) (is_user (principal_here xs place)) b =
     c.slot.ensures ∙ ap (λ k. slot_of k (is_users c.class_at-class.result) b) c.kind_at-kind.ensures
-    ∙ ap (λ u. slot_of (kind_here xs place) u b) c.class_at-class.ensures in (
-      noted_on (kind_here xs place) (is_user (principal_here xs place)) xs place b old c.put.new.self
+    ∙ ap (λ u. slot_of (kind_here xs place) u b) c.class_at-class.ensures in record {
+      noted = noted_on (kind_here xs place) (is_user (principal_here xs place)) xs place b old c.put.new.self
           (waits_here b xs place c.mask_at-mask.ensures.list.tidy.quiet has) c.in-Some.right.within
-          (subst (λ v. PutsPlace place v old c.put.new.self) slot c.in_ok-put.ensures) before,
-      omega (arith, c.in-Some.right.within),
-    )
+          (subst (λ v. PutsPlace place v old c.put.new.self) slot c.in_ok-put.ensures) before;
+      within = omega (arith, c.in-Some.right.within);
+    }
 
 pub returns : goal.returns
 returns c =
     noted_place c.args.rows.now c.args.place c.loop-right.self
-    (noted_up_to c.args.rows.now c.args.place _ _ 21 c.loop-right.self c.mask_at-mask.ensures.mask
-    c.loop-right.invariant.1 c.in_default.ensures.none c.loop-right.invariant.0)
+    (noted_up_to c.args.rows.now c.args.place {n = 21} c.loop-right.self c.mask_at-mask.ensures.mask
+    c.loop-right.invariant.within c.in_default.ensures.none c.loop-right.invariant.noted)

@@ -9,7 +9,7 @@ pub index-bits-requires : goal.index-bits-requires
 index-bits-requires c = omega (
   arith,
   number_within c.self.inside.bits.items c.in_ok-number.field-0.0
-      (popped_some _ _ _ _ _ c.self.invariant refl c.in_ok-number.ensures.permutation),
+      (popped_some c.self.invariant refl c.in_ok-number.ensures.permutation),
   c.self.inside.bits.ok,
 )
 
@@ -17,7 +17,7 @@ pub index_mut-requires : goal.index_mut-requires
 index_mut-requires c = omega (
   arith,
   number_within c.self.inside.bits.items c.in_ok-number.field-0.0
-      (popped_some _ _ _ _ _ c.self.invariant refl c.in_ok-number.ensures.permutation),
+      (popped_some c.self.invariant refl c.in_ok-number.ensures.permutation),
   c.self.inside.bits.ok,
 )
 
@@ -31,7 +31,7 @@ pub returns-clause-least : goal.returns-clause-least
 returns-clause-least c =
     let n = c.in_ok-number.field-0.0 in
     let items = c.self.inside.bits.items in
-    let some = popped_some _ _ _ _ _ c.self.invariant refl c.in_ok-number.ensures.permutation in
+    let some = popped_some c.self.invariant refl c.in_ok-number.ensures.permutation in
     let found : c.index-bits.result.now ≡ slice_index_or items n 0 =
     c.index-bits.ensures ∙ get_or_default_zero items n c.index-bits.result.now (number_within items n some) in
     subst (λ v. IsLeastReady v n c.index-bits.result.now) c.self.view_is (record {

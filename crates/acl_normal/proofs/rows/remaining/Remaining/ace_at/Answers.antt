@@ -16,5 +16,5 @@ pub returns : goal.returns
 returns c =
     let s = c.self.inside in
     ap (λ (v : AceRef). (principal_of (ace v), v.kind)) c.index.ensures
-    ∙ key_of_left _ (masks_left (mask_numbers s.masks.items) s.rows.items (mask_numbers s.left.items)) _ _ _
+    ∙ key_of_left _ (masks_left (mask_numbers s.masks.items) s.rows.items (mask_numbers s.left.items)) _
     c.self.view_is c.requires

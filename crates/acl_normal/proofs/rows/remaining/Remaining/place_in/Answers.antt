@@ -15,8 +15,8 @@ returns-then-index-row c p at =
     c.index.ensures ∙ row_there s _ _ c.self.invariant here.1 ∙ ap (λ v. slice_index_or s.rows.items v 0) here.0 in
     subst (λ v. None ≡ first_place_of c.args.right.bit p v) c.self.view_is
     (sym (row_passed c.args.right.bit _ s.rows.items s.order.items c.args.row c.loop-at.at p c.self.invariant.list.rows
-    c.self.invariant.list.order (subst (IsRowOf c.args.row p) (sym c.self.view_is) at) c.loop-at.invariant.0
-    c.loop-at.invariant.1 (λ l e. c.if-index-row.true (row ∙ e))))
+    c.self.invariant.list.order (subst (IsRowOf c.args.row p) (sym c.self.view_is) at) c.loop-at.invariant.in_row
+    c.loop-at.invariant.passed (λ l e. c.if-index-row.true (row ∙ e))))
 
 pub returns-then-has : goal.returns-then-has
 returns-then-has c p at =
@@ -41,5 +41,5 @@ returns c p at =
     ∙ sym c.len-at-end.ensures.count in
     subst (λ v. None ≡ first_place_of c.args.right.bit p v) c.self.view_is
     (sym (row_passed c.args.right.bit _ s.rows.items s.order.items c.args.row c.loop-at.at p c.self.invariant.list.rows
-    c.self.invariant.list.order (subst (IsRowOf c.args.row p) (sym c.self.view_is) at) c.loop-at.invariant.0
-    c.loop-at.invariant.1 (λ l e. omega (arith, l, all, c.loop-at-test.false))))
+    c.self.invariant.list.order (subst (IsRowOf c.args.row p) (sym c.self.view_is) at) c.loop-at.invariant.in_row
+    c.loop-at.invariant.passed (λ l e. omega (arith, l, all, c.loop-at-test.false))))

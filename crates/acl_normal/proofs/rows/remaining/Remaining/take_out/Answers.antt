@@ -24,7 +24,7 @@ taken c =
     let s = c.self.inside in
     let at_row = subst (IsRowOf c.args.row (principal c.args.p)) (sym c.self.view_is) c.requires in
     let below = row_of_named s c.args.row (principal c.args.p) c.self.invariant at_row in
-    difference_is _ _ _ c.difference.ensures.meaning
+    difference_is _ _ c.difference.ensures.meaning
     ∙ ap (λ v. without v c.args.mask.bits) (sym (bits_at s.left.items c.args.row 0 _ below c.index.ensures))
 
 pub invariant_of-self : goal.invariant_of-self

@@ -1,4 +1,4 @@
--- The fault of a tag that occurs twice (this library's own).
+-- The fault of a tag that occurs twice (acl(5), "VALID ACLs").
 use Rattle.std.specs.Prelude.{ℕ, if◌then◌else◌}
 use Rattle.acl_posix.specs.declared.fault.AclFault.{AclFault}
 use Rattle.acl_posix.specs.declared.fault.AclFault.TheVariants.{Multi, Duplicate}

@@ -5,7 +5,7 @@ use Rattle.acl_normal.proofs.unique.FirstKind.{IsClique, none_within}
 use Rattle.acl_normal.proofs.unique.Irreducible.{IsClean}
 use Rattle.acl_normal.proofs.unique.Free.{once_from_clean}
 use Rattle.acl_normal.proofs.unique.Settled.{opposite, everyone_for, IsWitness, IsSettled}
-use Rattle.acl_normal.proofs.plain.Unshadowed.{same_unshadowed, unshadowed_clean}
+use Rattle.acl_normal.proofs.reduce.Unshadowed.{same_unshadowed, unshadowed_clean}
 
 -- a test that passes no key passes no needed key
 none_needed : (m : Principal → Bool) (d : Kind) (c : Column) → first_kind m c ≡ None
@@ -93,9 +93,17 @@ other_behind d p c q x j f h = record {
     skip = or_from _ _ f f
 
 -- a principal that a column lacks is not one that it has
-apart : (x q : Principal) (c : Column) (k : Kind) → first_kind (is_either x x) c ≡ None
+lacked_apart : (x q : Principal) (c : Column) (k : Kind) → first_kind (is_either x x) c ≡ None
     → first_kind (is_either q q) c ≡ Some k → principal_eq x q ≡ false
-apart x q c k none has = grind (arith, principal_eq_same x q)
+lacked_apart x q c k none has = grind (arith, principal_eq_same x q)
+
+-- the default kind does not differ from itself
+not_default : (d j : Kind) → j ≡ d → not (kind_eq j d) ≡ true → ⊥
+not_default d j same f = grind (arith, kind_eq_itself j)
+
+-- a kind that is not the default is its opposite
+opposite_kind : (d j : Kind) → not (kind_eq j d) ≡ true → j ≡ opposite d
+opposite_kind d j f = grind arith
 
 -- if a clean column has an opposite key, a needed key of another principal is one
 find_other : (d : Kind) (p : Principal) (c : Column) → IsClean c → default c ≡ d → has_opposite d p c ≡ true
@@ -105,12 +113,6 @@ find_other d p ((x, j) ∷ c) clean h has =
     go (principal_eq x everyone) refl (or_cases (may_overlap p x && not (kind_eq j d)) (has_opposite d p c) has)
     (find_other d p c clean.2)
   where
-    not_default : j ≡ d → not (kind_eq j d) ≡ true → ⊥
-    not_default same f = grind (arith, kind_eq_itself j)
-
-    other_kind : not (kind_eq j d) ≡ true → j ≡ opposite d
-    other_kind f = grind arith
-
     go : (b : Bool) → principal_eq x everyone ≡ b
         → ((may_overlap p x && not (kind_eq j d)) ≡ true) ⊎ (has_opposite d p c ≡ true)
         → (default c ≡ d → has_opposite d p c ≡ true → (q : Principal) × IsOther d p c q)
@@ -118,13 +120,13 @@ find_other d p ((x, j) ∷ c) clean h has =
     go true e (inl f) ih =
         let found : default ((x, j) ∷ c) ≡ j =
         rw (or_left (principal_eq x everyone) (principal_eq x everyone) e) refl in
-        absurd (not_default (sym found ∙ h) (and_parts (may_overlap p x) (not (kind_eq j d)) f).1)
+        absurd (not_default d j (sym found ∙ h) (and_parts (may_overlap p x) (not (kind_eq j d)) f).1)
     go true e (inr f) ih =
         let nothing = ap (has_opposite d p) (clean.1 e) in
         absurd (cc)
     go false e (inl f) ih =
         let parts = and_parts (may_overlap p x) (not (kind_eq j d)) f in
-        let kind : j ≡ opposite d = other_kind parts.1 in
+        let kind : j ≡ opposite d = opposite_kind d j parts.1 in
         let at : is_either x x x ≡ true = either_first x x in
         let stays : is_needed d x j c ≡ true = rw e (or_left (not (kind_eq j d)) (has_opposite d x c) parts.1) in (
           x,
@@ -139,7 +141,7 @@ find_other d p ((x, j) ∷ c) clean h has =
     go false e (inr f) ih = behind (ih (sym (default_rest x j c e) ∙ h) f)
       where
         behind : (q : Principal) × IsOther d p c q → (q : Principal) × IsOther d p ((x, j) ∷ c) q
-        behind (q, o) = (q, other_behind d p c q x j (apart x q c (opposite d) clean.0 o.source) o)
+        behind (q, o) = (q, other_behind d p c q x j (lacked_apart x q c (opposite d) clean.0 o.source) o)
 
 -- a needed key of a principal is needed without the key of another in front
 kept_before : (d : Kind) (p x : Principal) (j : Kind) (c : Column) → principal_eq x p ≡ false
@@ -153,23 +155,55 @@ needs_opposite : (d : Kind) (p x : Principal) (j : Kind) (c : Column) → princi
     → first_kind (is_either p p) (needed_keys d ((x, j) ∷ c)) ≡ Some d → has_opposite d x c ≡ true
 needs_opposite d p x j c e f n h = grind (arith, kind_eq_itself d)
 
+-- another principal overlaps with p, and of both keys the needed one of p is first
+abbrev pub HasWitness : Kind → Principal → Column → Type 0
+HasWitness d p c = (q : Principal) × IsOther d p c q × (first_kind (is_either p q) (needed_keys d c) ≡ Some d)
+
+-- a needed key of the default kind at the front has a needed key of the other kind after it that overlaps
+front_witness : (d : Kind) (p x : Principal) (j : Kind) (c : Column) → IsClean ((x, j) ∷ c)
+    → default ((x, j) ∷ c) ≡ d → principal_eq p everyone ≡ false → principal_eq x p ≡ true → is_needed d x j c ≡ true
+    → first_kind (is_either p p) (needed_keys d ((x, j) ∷ c)) ≡ Some d → HasWitness d p ((x, j) ∷ c)
+front_witness d p x j c clean h ne e f has = here (find_other d p c clean.2 dc opp)
+  where
+    same : x ≡ p
+    same = principal_eq_same x p e
+
+    not_all : principal_eq x everyone ≡ false
+    not_all = subst (λ v. principal_eq v everyone ≡ false) (sym same) ne
+
+    dc : default c ≡ d
+    dc = sym (default_rest x j c not_all) ∙ h
+
+    at_x : is_either p p x ≡ true
+    at_x = or_left (principal_eq x p) (principal_eq x p) e
+
+    kind : j ≡ d
+    kind =
+        let step : first_kind (is_either p p) ((x, j) ∷ needed_keys d c) ≡ Some d = rw f at has in
+        let step' : Some j ≡ Some d = rw at_x at step in
+        same_Some _ _ step'
+
+    opp : has_opposite d p c ≡ true
+    opp = subst (λ v. has_opposite d v c ≡ true) same (needs_opposite d p x j c e not_all f has)
+
+    here : (q : Principal) × IsOther d p c q → HasWitness d p ((x, j) ∷ c)
+    here (q, o) = (
+      q,
+      other_behind d p c q x j (lacked_apart x q c (opposite d) clean.0 o.source) o,
+      rw f
+          (rw (or_left (principal_eq x p) (principal_eq x q) e) (ap Some kind)),
+    )
+
 -- a needed key of the default kind has a needed key of the other kind after it that overlaps
 find_witness : (d : Kind) (p : Principal) (c : Column) → IsClean c → default c ≡ d → principal_eq p everyone ≡ false
-    → first_kind (is_either p p) (needed_keys d c) ≡ Some d
-    → (q : Principal) × IsOther d p c q × (first_kind (is_either p q) (needed_keys d c) ≡ Some d)
+    → first_kind (is_either p p) (needed_keys d c) ≡ Some d → HasWitness d p c
 find_witness d p [] clean h ne has = cc
 find_witness d p ((x, j) ∷ c) clean h ne has =
     go (principal_eq x p) refl (is_needed d x j c) refl (find_witness d p c clean.2)
   where
-    Found : Column → Type 0
-    Found v = (q : Principal) × IsOther d p v q × (first_kind (is_either p q) (needed_keys d v) ≡ Some d)
-
-    later : principal_eq x p ≡ false
-        → (q : Principal) × IsOther d p c q × (first_kind (is_either p q) (needed_keys d c) ≡ Some d)
-        → (q : Principal) × IsOther d p ((x, j) ∷ c) q
-        × (first_kind (is_either p q) (needed_keys d ((x, j) ∷ c)) ≡ Some d)
+    later : principal_eq x p ≡ false → HasWitness d p c → HasWitness d p ((x, j) ∷ c)
     later e (q, o, a) =
-        let other : principal_eq x q ≡ false = apart x q c (opposite d) clean.0 o.source in
+        let other : principal_eq x q ≡ false = lacked_apart x q c (opposite d) clean.0 o.source in
         (q, other_behind d p c q x j other o, kept_behind d p q x j c d e other a)
 
     rest_default : first_kind (is_either p p) (needed_keys d c) ≡ Some d → (t : Bool) → principal_eq x everyone ≡ t
@@ -181,9 +215,7 @@ find_witness d p ((x, j) ∷ c) clean h ne has =
 
     go : (b : Bool) → principal_eq x p ≡ b → (t : Bool) → is_needed d x j c ≡ t
         → (default c ≡ d → principal_eq p everyone ≡ false → first_kind (is_either p p) (needed_keys d c) ≡ Some d
-        → (q : Principal) × IsOther d p c q × (first_kind (is_either p q) (needed_keys d c) ≡ Some d))
-        → (q : Principal) × IsOther d p ((x, j) ∷ c) q
-        × (first_kind (is_either p q) (needed_keys d ((x, j) ∷ c)) ≡ Some d)
+        → HasWitness d p c) → HasWitness d p ((x, j) ∷ c)
     go false e t f ih =
         let i = kept_before d p x j c e has in
         later e (ih (rest_default i (principal_eq x everyone) refl) ne i)
@@ -193,38 +225,7 @@ find_witness d p ((x, j) ∷ c) clean h ne has =
         (subst (λ v. first_kind (is_either v v) c ≡ None) (principal_eq_same x p e) clean.0) in
         let still : first_kind (is_either p p) (needed_keys d c) ≡ Some d = rw f at has in
         absurd (cc)
-    go true e true f ih = here (find_other d p c clean.2 dc opp)
-      where
-        same : x ≡ p
-        same = principal_eq_same x p e
-
-        not_all : principal_eq x everyone ≡ false
-        not_all = subst (λ v. principal_eq v everyone ≡ false) (sym same) ne
-
-        dc : default c ≡ d
-        dc = sym (default_rest x j c not_all) ∙ h
-
-        at_x : is_either p p x ≡ true
-        at_x = or_left (principal_eq x p) (principal_eq x p) e
-
-        kind : j ≡ d
-        kind =
-            let step : first_kind (is_either p p) ((x, j) ∷ needed_keys d c) ≡ Some d = rw f at has in
-            let step' : Some j ≡ Some d = rw at_x at step in
-            same_Some _ _ step'
-
-        opp : has_opposite d p c ≡ true
-        opp = subst (λ v. has_opposite d v c ≡ true) same (needs_opposite d p x j c e not_all f has)
-
-        here : (q : Principal) × IsOther d p c q
-            → (q : Principal) × IsOther d p ((x, j) ∷ c) q
-            × (first_kind (is_either p q) (needed_keys d ((x, j) ∷ c)) ≡ Some d)
-        here (q, o) = (
-          q,
-          other_behind d p c q x j (apart x q c (opposite d) clean.0 o.source) o,
-          rw f
-              (rw (or_left (principal_eq x p) (principal_eq x q) e) (ap Some kind)),
-        )
+    go true e true f ih = front_witness d p x j c clean h ne e f has
 
 -- the needed keys of a clean column are settled
 needed_settled : (d : Kind) (c : Column) → IsClean c → default c ≡ d → IsSettled (needed_keys d c) d

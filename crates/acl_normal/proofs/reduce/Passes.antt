@@ -26,10 +26,10 @@ abbrev pub IsGathered : (List Ace → ℕ → Bool) → Type 0
 IsGathered test = (xs ys : List Ace) (bit : ℕ) → test (xs ++ ys) bit ≡ (test xs bit || test ys bit)
 
 -- one more ACE adds its bits
-pub union_more : (test : List Ace → ℕ → Bool) → IsGathered test → (xs : List AceRef) (x : AceRef) (i m n u : ℕ)
+pub union_more : (test : List Ace → ℕ → Bool) → IsGathered test → (xs : List AceRef) {x : AceRef} {i : ℕ} (m n u : ℕ)
     → i < length xs → x ≡ slice_index_or xs i x → Marks m (test (aces_in (take i xs))) → Marks n (test (ace x ∷ []))
     → IsUnion m n u → Marks u (test (aces_in (take (i + 1) xs)))
-union_more test gathered xs x i m n u lt is before here both bit =
+union_more test gathered xs {x} {i} m n u lt is before here both bit =
     both bit
     ∙ rw (before bit, here bit) (sym (gathered (aces_in (take i xs)) (ace x ∷ []) bit))
     ∙ ap (λ v. test v bit) (sym (list_of-more xs x i lt is))
@@ -77,12 +77,12 @@ decided-append m [] r = grind arith
 decided-append m ((p, k) ∷ l) r = grind (arith, decided-append m l r)
 
 -- one more ACE adds what it allows everyone, where none before it decides
-pub allowed_more : (xs : List AceRef) (x : AceRef) (i m n s u : ℕ) → i < length xs → x ≡ slice_index_or xs i x
+pub default_allows_more : (xs : List AceRef) {x : AceRef} {i : ℕ} (m n s u : ℕ) → i < length xs → x ≡ slice_index_or xs i x
     → Marks m (λ bit. kind_eq (default (column (aces_in (take i xs)) bit)) Allow)
     → Marks s (is_shadowed everyone (aces_in (take i xs)))
     → Marks n (λ bit. kind_eq (default (column (ace x ∷ []) bit)) Allow && not (has_bit s bit))
     → IsUnion m n u → Marks u (λ bit. kind_eq (default (column (aces_in (take (i + 1) xs)) bit)) Allow)
-allowed_more xs x i m n s u lt is before seen here both bit =
+default_allows_more xs {x} {i} m n s u lt is before seen here both bit =
     both bit
     ∙ rw (before bit, here bit, seen bit)
     (sym (decided-append (is_either everyone everyone) (column (aces_in (take i xs)) bit) (column (ace x ∷ []) bit)))
@@ -106,12 +106,12 @@ free-append e (f ∷ l) r =
     (is_free r e)
 
 -- one more ACE adds its bits of that key, where none before it conflicts
-pub free_more : (e : ColumnKey) (xs : List AceRef) (x : AceRef) (i m n s u : ℕ) → i < length xs
+pub free_more : (e : ColumnKey) (xs : List AceRef) {x : AceRef} {i : ℕ} (m n s u : ℕ) → i < length xs
     → x ≡ slice_index_or xs i x → Marks m (λ bit. is_free (column (aces_in (take i xs)) bit) e)
     → Marks s (λ bit. conflicts_before (column (aces_in (take i xs)) bit) e)
     → Marks n (λ bit. is_free (column (ace x ∷ []) bit) e && not (has_bit s bit))
     → IsUnion m n u → Marks u (λ bit. is_free (column (aces_in (take (i + 1) xs)) bit) e)
-free_more e xs x i m n s u lt is before blocked here both bit =
+free_more e xs {x} {i} m n s u lt is before blocked here both bit =
     both bit
     ∙ rw (before bit, here bit, blocked bit)
     (sym (free-append e (column (aces_in (take i xs)) bit) (column (ace x ∷ []) bit)))
