@@ -15,7 +15,7 @@ import (
 func mode(list []byte) (uint32, C.uint32_t) {
 	var mode C.uint32_t
 	var fault C.aclck_fault
-	status := C.aclck_mode(unsafe.Pointer(unsafe.SliceData(append(list, 0))), C.size_t(len(list)), C.ACLCK_FULL, &mode, &fault)
+	status := C.aclck_mode(unsafe.Pointer(&append(list, 0)[0]), C.size_t(len(list)), C.ACLCK_FULL, &mode, &fault)
 	return uint32(mode), status
 }
 
