@@ -1,0 +1,104 @@
+"""What the scripts tests/tree and tests/tree_* share: lists and attributes as bytes, runs of aclck-tree, and a directory
+for each test. The scripts need the library that `make library` leaves, or the one that ACLCK_LIBRARY names.
+"""
+import json
+import os
+import shutil
+import struct
+import subprocess
+import sys
+import tempfile
+import unittest
+
+ROOT = os.path.dirname(os.path.dirname(os.path.abspath(__file__)))
+TOOL = os.path.join(ROOT, "bin/aclck-tree")
+LIBRARY = os.environ.setdefault("ACLCK_LIBRARY", os.path.join(ROOT, "library/out/libaclck.so.0"))
+if not os.path.exists(LIBRARY):
+    sys.exit(f"tree: {LIBRARY} is not built: make library")
+sys.path.insert(0, os.path.join(ROOT, "bindings/python"))
+
+IS_ROOT = os.getuid() == 0
+ANYBODY = 0xFFFFFFFF
+OWNER, EDITORS, BOB = (0, 0, 7, "OWNER@"), (0, 0x40, 7, "editors@example.com"), (1, 0, 6, "bob@example.com")
+EVERYONE = (0, 0, 0x80, "EVERYONE@")
+PEOPLE = "alice: staff\nbob: editors staff\ndora: editors\ncarl:\n"
+
+
+def nfs(*aces):
+    """Returns the bytes of a list. Each ACE is its type, flags, mask and who (RFC 8881, section 6.2.1; RFC 4506)."""
+    data = struct.pack(">I", len(aces))
+    for kind, flags, mask, name in aces:
+        who = name.encode("utf-8", "surrogateescape")
+        data += struct.pack(">IIII", kind, flags, mask, len(who)) + who + bytes(-len(who) % 4)
+    return data
+
+
+def posix(*entries):
+    """Returns the bytes of an attribute. Each entry is its tag, permissions and id (linux/posix_acl_xattr.h)."""
+    return struct.pack("<I", 2) + b"".join(struct.pack("<HHI", *entry) for entry in entries)
+
+
+def tool(*words, directory=None, **more):
+    """Runs the program, and returns its exit status, its output and its lines on standard error."""
+    done = subprocess.run([TOOL, *words], cwd=directory, capture_output=True, **more)
+    return done.returncode, done.stdout.decode(errors="surrogateescape"), done.stderr.decode(errors="surrogateescape")
+
+
+def keeps(directory, name, value):
+    try:
+        os.setxattr(directory, name, value)
+    except OSError:
+        return False
+    return True
+
+
+class Scratch(unittest.TestCase):
+    def setUp(self):
+        self.directory = tempfile.mkdtemp()
+        os.chmod(self.directory, 0o755)
+        self.addCleanup(shutil.rmtree, self.directory)
+        self.write("people", PEOPLE)
+
+    def path(self, *parts):
+        return os.path.join(self.directory, *parts)
+
+    def write(self, name, text=""):
+        os.makedirs(os.path.dirname(self.path(name)), exist_ok=True)
+        with open(self.path(name), "w", encoding="utf-8", errors="surrogateescape") as file:
+            file.write(text)
+        return self.path(name)
+
+    def put(self, name, data, is_directory=False):
+        """Makes a file or a directory with an NFSv4 list."""
+        if is_directory:
+            os.makedirs(self.path(name), exist_ok=True)
+        else:
+            self.write(name)
+        if not keeps(self.path(name), "user.nfs4_acl", data):
+            self.skipTest("files in the directory for temporary files cannot have attributes")
+
+    def scan(self, name="tree", output="snapshot", attribute="user.nfs4_acl"):
+        found = tool("scan", name, "-o", output, "--attribute", attribute, directory=self.directory)
+        self.assertNotIn("Traceback", found[2])
+        return found
+
+    def ask(self, *words):
+        """Asks a question, and returns the exit status and the JSON objects of the answer."""
+        status, out, printed = tool(*words, "--json", directory=self.directory)
+        self.assertNotIn("Traceback", printed)
+        return status, [json.loads(line) for line in out.splitlines()]
+
+    def asked(self, word, *words):
+        return self.ask(word, "snapshot", "--domain", "example.com", *words)[1]
+
+
+class Loud(unittest.TextTestResult):
+    def addSkip(self, test, reason):
+        super().addSkip(test, reason)
+        print(f"tree: SKIPPED: {test.id().rpartition('.')[2]}: {reason}")
+
+
+def run():
+    """Runs the tests of a script, or those that its words name, and exits with 1 if one fails."""
+    runner = unittest.TextTestRunner(resultclass=Loud, verbosity=0, stream=sys.stdout)
+    sys.exit(not unittest.main(exit=False, testRunner=runner).result.wasSuccessful())
