@@ -27,8 +27,8 @@
 extern "C" {
 #endif
 
-/* The version of this interface, as aclck_version() returns it: major * 65536 + minor * 256 + patch. */
-#define ACLCK_VERSION 0x000100u
+/* The version of this header, as aclck_version() returns that of the library: major * 65536 + minor * 256 + patch. */
+#define ACLCK_VERSION 0x000600u
 
 /* What a call returns. */
 enum aclck_status {
@@ -255,6 +255,16 @@ uint32_t aclck_normalize_inherit(const void *acl, size_t acl_len, uint32_t optio
 uint32_t aclck_table(const void *acl, size_t acl_len, uint32_t right, uint32_t options, void *out, size_t cap,
                      size_t *needed, aclck_fault *fault);
 
+/* ---- NFSv4 lists: which rights are needed */
+
+/* Writes to masks[i] the rights of the ACE at place i that are needed, for every ACE, and their number to *count. The
+   list cut to these masks grants everybody the same, and no right can be taken out of it. So all ACEs whose mask is 0
+   can be removed together. `masks` has room for `nmasks` numbers; the first four bytes of a list are the number of its
+   ACEs. ACLCK_DONE (`masks`, *count), ACLCK_REFUSED (*fault), ACLCK_BAD_ARGUMENT, ACLCK_MEMORY, ACLCK_SHORT (*count).
+   `options`: ACLCK_NARROW. */
+uint32_t aclck_needed(const void *acl, size_t acl_len, uint32_t options, uint32_t *masks, size_t nmasks, size_t *count,
+                      aclck_fault *fault);
+
 /* ---- NFSv4 lists: two lists */
 
 /* Returns whether two lists grant everybody the same. ACLCK_YES, ACLCK_NO, ACLCK_REFUSED (*fault), ACLCK_BAD_ARGUMENT,
@@ -321,7 +331,7 @@ uint32_t aclck_bridge(const void *text, size_t text_len, const aclck_name *names
 
 /* ---- The library */
 
-/* Returns the version of the interface: major * 65536 + minor * 256 + patch. No memory. */
+/* Returns the version of the library: major * 65536 + minor * 256 + patch. No memory. */
 uint32_t aclck_version(void);
 
 /* Returns `at`, or a valid pointer where it is NULL, for bytes of length 0. */

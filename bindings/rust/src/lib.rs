@@ -216,6 +216,15 @@ pub fn table(acl: &[u8], right: u32, profile: Profile) -> Result<Vec<u8>, Error>
     })
 }
 
+/// Returns for each ACE, in order, the rights that are needed: the list cut to them grants everybody the same, and no
+/// right can be taken out of it.
+pub fn needed(acl: &[u8], profile: Profile) -> Result<Vec<u32>, Error> {
+    // An ACE has at least 20 bytes.
+    made(acl.len() / 20, |masks, room, count, fault| unsafe {
+        raw::aclck_needed(acl.as_ptr(), acl.len(), profile as u32, masks, room, count, fault)
+    })
+}
+
 /// Returns whether two lists grant everybody the same.
 pub fn same(first: &[u8], second: &[u8], profile: Profile) -> Result<bool, Error> {
     let mut fault = Fault::default();
@@ -338,7 +347,7 @@ pub fn bridge(text: &[u8], names: &[Name]) -> Result<Vec<u8>, Error> {
     })
 }
 
-/// Returns the version of the interface: major, minor, patch.
+/// Returns the version of the library: major, minor, patch.
 pub fn version() -> (u32, u32, u32) {
     let version = unsafe { raw::aclck_version() };
     (version >> 16, version >> 8 & 255, version & 255)
@@ -364,15 +373,15 @@ fn answered(status: u32, fault: Fault) -> Result<bool, Error> {
 
 /// Returns the bytes that a call writes. The first buffer has this length; if it is too short, the next one has the
 /// length that the call needs.
-fn made(
-    length: usize, mut call: impl FnMut(*mut u8, usize, *mut usize, *mut Fault) -> u32,
-) -> Result<Vec<u8>, Error> {
-    let mut out = vec![0; length];
+fn made<T: Clone + Default>(
+    length: usize, mut call: impl FnMut(*mut T, usize, *mut usize, *mut Fault) -> u32,
+) -> Result<Vec<T>, Error> {
+    let mut out = vec![T::default(); length];
     loop {
         let (mut needed, mut fault) = (0, Fault::default());
         let status = call(out.as_mut_ptr(), out.len(), &mut needed, &mut fault);
         if status == raw::SHORT {
-            out.resize(needed, 0);
+            out.resize(needed, T::default());
             continue;
         }
         answered(status, fault)?;

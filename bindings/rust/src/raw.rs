@@ -106,6 +106,9 @@ extern "C" {
         acl: In, acl_len: usize, right: u32, options: u32, out: Out, cap: usize, needed: *mut usize,
         fault: *mut Fault,
     ) -> u32;
+    pub fn aclck_needed(
+        acl: In, acl_len: usize, options: u32, masks: *mut u32, nmasks: usize, count: *mut usize, fault: *mut Fault,
+    ) -> u32;
     pub fn aclck_same(
         first: In, first_len: usize, second: In, second_len: usize, options: u32, fault: *mut Fault,
     ) -> u32;

@@ -15,6 +15,7 @@ fn a_list_is_asked() {
     assert_eq!(deciding(DIRECTORY, OBJECT, BOB, mask, Profile::Full), Err(Error::BadArgument));
     let by = deciding(DIRECTORY, OBJECT, BOB, rights::READ_DATA, Profile::Full).unwrap().unwrap();
     assert_eq!(by.kind, 0);
+    assert_eq!(deciding(DIRECTORY, OBJECT, BOB, rights::WRITE_OWNER, Profile::Full), Ok(None));
     let cut = check_nfs(&DIRECTORY[..149], OBJECT, BOB, mask, Profile::Full).unwrap_err();
     assert!(matches!(cut, Error::Refused(Fault { reason: 1, offset: 149, .. })), "{cut}");
 }
@@ -34,6 +35,14 @@ fn a_normal_form_grants_the_same() {
     assert_eq!(compare(DIRECTORY, &form, Profile::Full), Ok(None));
     let found = compare(DIRECTORY, &[0; 4], Profile::Full).unwrap().unwrap();
     assert!(found.first_grants && !found.user.is_empty());
+}
+
+#[test]
+fn a_right_that_an_earlier_ace_has_is_not_needed() {
+    let list = encode(b"ALLOW - READ_DATA amy\nALLOW - READ_DATA|EXECUTE amy\n", Profile::Full).unwrap();
+    assert_eq!(needed(&list, Profile::Full), Ok(vec![rights::READ_DATA, rights::EXECUTE]));
+    assert_eq!(needed(&[0; 4], Profile::Full), Ok(vec![]));
+    assert!(matches!(needed(&list[..9], Profile::Full), Err(Error::Refused(Fault { reason: 1, .. }))));
 }
 
 #[test]
@@ -57,5 +66,6 @@ fn names_of_rights_are_read_and_written() {
     assert_eq!(mask_text(0x21).as_deref(), Some("READ_DATA|EXECUTE"));
     assert_eq!(mask_text(0x800), None);
     assert_eq!(reason_text(1).as_deref(), Some("Truncated"));
-    assert_eq!(version(), (0, 1, 0));
+    let (major, minor, patch) = version();
+    assert_eq!(format!("{major}.{minor}.{patch}"), env!("CARGO_PKG_VERSION"));
 }

@@ -4,18 +4,17 @@ use Rattle.std.proofs.lemmas.Bool.{cases_lt}
 use Rattle.std.proofs.lemmas.List.{get_or-map, length-map}
 use Rattle.std.proofs.lemmas.List.Elements.{All-map}
 use Rattle.std.proofs.lemmas.List.Folds.{list_any_at, list_any_none}
-use Rattle.std.proofs.lemmas.List.Sorted.{searchable_from_sorted}
+use Rattle.std.proofs.lemmas.List.Sorted.{IsPermutation-map, list_any-IsPermutation, searchable_from_sorted}
 use Rattle.std.specs.Prelude.{All, map, ◌↔◌, ◌||◌, Result, Ok, Err, Some, is_ok, ◌⊎◌, slice_index_or}
 use Rattle.std.specs.Borrow.{Bor}
 use Rattle.std.specs.Cmp.Lexicographic.{lists_agrees, nat_list_cmp_total, nat_list_eq_equiv, slice_cmp, slice_partial_cmp, texts_ties}
 use Rattle.std.specs.List.{IsAllAdjacentAnswer, list_any}
-use Rattle.std.specs.List.Sorted.{IsBinarySearchResult, IsPartitionPoint, IsSearchInRange}
+use Rattle.std.specs.List.Sorted.{IsBinarySearchResult, IsPartitionPoint, IsPermutation, IsSearchInRange}
 use Rattle.std.specs.Ordering.{is_eq, is_le, is_lt, is_some_and, nat_cmp, ordering_reverse, partial_le}
 use Rattle.std.specs.Str.{bytes_eq}
 use Rattle.std.specs.declared.cmp.Ordering.{Ordering}
 use Rattle.std.specs.declared.cmp.Ordering.TheVariants.{Less, Equal, Greater}
-use Rattle.acl_eval.specs.internal.GroupOrder.{AreInOrder}
-use Rattle.acl_eval.specs.internal.GroupTable.{is_same_name}
+use Rattle.acl_eval.specs.internal.GroupOrder.{AreInOrder, AreSameGroups}
 
 -- a test of the values behind references
 pub any_now : (p : List ℕ → Bool) (xs : List (Bor (List ℕ)))
@@ -23,12 +22,12 @@ pub any_now : (p : List ℕ → Bool) (xs : List (Bor (List ℕ)))
 any_now p [] = refl
 any_now p (x ∷ xs) = ap (λ (b : Bool). p x.now || b) (any_now p xs)
 
--- a set of groups has a name if and only if the name is one of its names
-pub named_alike : (groups : List (Bor (List ℕ))) (name : Bor (List ℕ))
-    → list_any (is_same_name (record { bytes = name })) (map (λ g. record { bytes = g }) groups)
-    ≡ list_any (bytes_eq name.now) (map (λ g. g.now) groups)
-named_alike [] name = refl
-named_alike (group ∷ groups) name = ap (λ (b : Bool). bytes_eq name.now group.now || b) (named_alike groups name)
+-- names in another order are the same names
+pub same_names : (groups others : List (Bor (List ℕ))) → IsPermutation groups others
+    → AreSameGroups (map (λ g. g.now) others) (map (λ g. g.now) groups)
+same_names groups others moves name =
+    sym (list_any-IsPermutation (bytes_eq name) (map (λ g. g.now) groups) (map (λ g. g.now) others)
+    (IsPermutation-map (λ (g : Bor (List ℕ)). g.now) groups others moves))
 
 -- no name is empty, for the references and for the values behind them
 pub all_named : (names : List (Bor (List ℕ)))

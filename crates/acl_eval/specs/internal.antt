@@ -5,7 +5,6 @@ pub mod LastByte
 -- the order of groups, in which a group is looked up
 pub mod GroupOrder
 -- the table of many groups
-pub mod GroupTable
 -- what the code keeps about a requester and an object, as a situation
 pub mod Asked
 -- what is known about the rights of a mask before the rest of a list is read

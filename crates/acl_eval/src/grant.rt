@@ -1,31 +1,31 @@
 //! Whether a list grants a request.
-ghost use Rattle.std.specs.Prelude.{◌≡◌, ◌↔◌, IfOk, IsTrue};
+ghost use Rattle.std.specs.Prelude.{◌≡◌, ◌↔◌, IfOk, IsTrue, map};
 ghost use Rattle.acl_eval.specs.Situation.{groups_of, situation};
-ghost use Rattle.acl_eval.specs.internal.GroupTable.{HoldsGroups};
+ghost use Rattle.acl_eval.specs.internal.GroupOrder.{AreSameGroups};
 ghost use Rattle.acl_eval.specs.Grant.{Grant};
 ghost use Rattle.acl_eval.specs.Scan.{scan};
 ghost use Rattle.acl_eval.specs.internal.Asked.{asked_situation};
 
-use crate::group_table::GroupTable;
+use crate::groups::{Groups, sorted_names};
 use crate::situation::{Object, Requester};
 use crate::standing::Standing;
 use acl_nfs4::{Aces, AclView};
 use acl_perm::{Kind, Mask};
 use std::alloc::{AllocError, Global};
 
-/// Returns whether the list grants the request, as `grants` does, for a requester in many groups. Where it saves time,
-/// the groups are put into a hash table first. Each group of the list is then looked up in constant time, in whatever
-/// order the groups of the requester are. The seed of the hashes is fixed: names that are chosen so that their hashes
-/// are equal are looked up one by one. Returns an error if there is no memory for the table.
+/// Returns whether the list grants the request, as `grants` does, for a requester in many groups. If the groups are many
+/// and in no order, they are sorted first. Each group of the list is then looked up by binary search. So the time is
+/// proportional to the number of ACEs and groups, times the logarithm of the number of groups, whatever the names are.
+/// Returns an error if there is no memory for the sorted copy.
 ///
 /// ```rust
 /// let list = parse_text(alloc, b"DENY GROUP WRITE_DATA staff\nALLOW - WRITE_DATA EVERYONE@")?;
 /// let object = Object::new(b"alice", b"staff").ok_or("a name is empty")?;
 /// let bob = Requester::new(b"bob", &[b"users", b"staff"]).ok_or("a name is empty")?;
-/// let may_write = grants_by_table(alloc, &list.view(), &object, &bob, Mask::WRITE_DATA)?;
+/// let may_write = grants_for_many_groups(alloc, &list.view(), &object, &bob, Mask::WRITE_DATA)?;
 /// assert!(rt; !may_write);
 /// ```
-pub fn grants_by_table(
+pub fn grants_for_many_groups(
     alloc: Global,
     list: &AclView<'_>,
     object: &Object<'_>,
@@ -35,11 +35,17 @@ pub fn grants_by_table(
     ensures { IfOk result (λ granted. IsTrue granted
         ↔ Grant list.now (situation object.now requester.now) mask.bits) }
 {
-    if !requester.is_worth_a_table(list.len()) {
+    if !requester.groups.are_worth_sorting(list.len()) {
         return Ok(grants(list.aces(), object, requester, mask));
     }
-    let table = GroupTable::new(alloc, requester.groups())?;
-    Ok(is_granted_by(list.aces(), object, requester, &table, mask))
+    let names = sorted_names(alloc, requester.groups())?;
+    Ok(is_granted_in(
+        list.aces(),
+        object,
+        requester,
+        Groups::in_order(&names),
+        mask,
+    ))
 }
 
 /// Returns whether the list grants the requester the whole mask on the object (RFC 8881, section 6.2.1). For each right
@@ -49,7 +55,7 @@ pub fn grants_by_table(
 ///
 /// The group of an ACE is looked up among the groups of the requester: by binary search if there are many and they are
 /// in the order of their bytes, and otherwise one by one, which takes up to a microsecond for 1,000 groups. So in the
-/// worst case the time is proportional to the number of ACEs times the number of groups. `grants_by_table` is faster
+/// worst case the time is proportional to the number of ACEs times the number of groups. `grants_for_many_groups` is faster
 /// for many groups.
 ///
 /// ```rust
@@ -66,21 +72,20 @@ pub fn grants(aces: Aces<'_>, object: &Object<'_>, requester: &Requester<'_>, ma
     scan(aces, &Standing::new(*object, *requester), mask.bits())
 }
 
-// Returns whether the list grants the request, with the groups of the requester in a table.
-#[tactic(auto, using(crate::proofs::Scans::scan_is))]
-fn is_granted_by(
+// Returns whether the list grants the request. The groups of the requester are looked up among `groups`.
+fn is_granted_in(
     aces: Aces<'_>,
     object: &Object<'_>,
     requester: &Requester<'_>,
-    table: &GroupTable<'_>,
+    groups: Groups<'_>,
     mask: Mask,
 ) -> bool
-    requires { HoldsGroups table.now (groups_of requester.now) }
+    requires { AreSameGroups (map (λ g. g.now) groups.names.now) (groups_of requester.now) }
     ensures { IsTrue result ↔ Grant aces.entry (situation object.now requester.now) mask.bits }
 {
     scan(
         aces,
-        &Standing::with_table(*object, *requester, Some(table)),
+        &Standing::with_groups(*object, *requester, groups),
         mask.bits(),
     )
 }

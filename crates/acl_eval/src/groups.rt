@@ -1,14 +1,14 @@
 //! The groups of a requester, and the look-up of one among many.
-ghost use Rattle.std.specs.Prelude.{◌≡◌, true};
+ghost use Rattle.std.specs.Prelude.{◌≡◌, IfOk, true};
 ghost use Rattle.std.specs.List.{list_any};
+ghost use Rattle.std.specs.List.Sorted.{IsPermutation};
 ghost use Rattle.std.specs.Str.{bytes_eq};
 ghost use Rattle.acl_eval.specs.internal.GroupOrder.{AreInOrder};
 
-// Up to this number of names, a look-up one by one is faster than a binary search or a table.
-const FEW: usize = 16;
+use std::alloc::{AllocError, Global};
 
-// A binary search takes about as long as putting this many names into a table.
-const PUTS_PER_SEARCH: usize = 4;
+// Up to this number of names, a look-up one by one is faster than a binary search.
+const FEW: usize = 16;
 
 /// The names of groups, and whether they are many and known to be in the order of their bytes.
 #[derive(Clone, Copy, Debug)]
@@ -29,6 +29,17 @@ impl<'a> Groups<'a> {
         }
     }
 
+    /// Makes the groups of these names, which are in order.
+    pub(crate) fn in_order(names: &'a [&'a [u8]]) -> Self
+        requires { AreInOrder names.now }
+        ensures { result.names.now ≡ names.entry.now }
+    {
+        Groups {
+            names,
+            in_order: true,
+        }
+    }
+
     /// Returns the names, in the order in which they were given.
     pub(crate) fn names(&self) -> &'a [&'a [u8]]
         ensures { result.now ≡ self.now.names.now }
@@ -36,13 +47,9 @@ impl<'a> Groups<'a> {
         self.names
     }
 
-    /// Returns whether this many look-ups take longer than making a table of the names.
-    pub(crate) fn are_worth_a_table(&self, look_ups: usize) -> bool {
-        if self.in_order {
-            look_ups > self.names.len() / PUTS_PER_SEARCH
-        } else {
-            look_ups > FEW && self.names.len() > FEW
-        }
+    /// Returns whether this many look-ups take longer than sorting the names first.
+    pub(crate) fn are_worth_sorting(&self, look_ups: usize) -> bool {
+        !self.in_order && look_ups > FEW && self.names.len() > FEW
     }
 
     /// Returns whether one of the groups has the name: by binary search if they are many and in order, and otherwise
@@ -56,6 +63,19 @@ impl<'a> Groups<'a> {
             is_met(self.names, name)
         }
     }
+}
+
+/// Returns a copy of the names in the order of their bytes. Fails if memory runs out.
+pub(crate) fn sorted_names<'a>(
+    alloc: Global,
+    names: &[&'a [u8]],
+) -> Result<Vec<&'a [u8]>, AllocError>
+    ensures order { IfOk result (λ sorted. AreInOrder sorted.items) }
+    ensures same { IfOk result (λ sorted. IsPermutation names.now sorted.items) }
+{
+    let mut sorted = names.to_vec(alloc)?;
+    sorted.sort_unstable();
+    Ok(sorted)
 }
 
 // Returns whether no name comes after the next name.

@@ -50,7 +50,7 @@ impl<'a> Object<'a> {
 #[derive(Clone, Copy, Debug)]
 pub struct Requester<'a> {
     user: &'a [u8],
-    groups: Groups<'a>,
+    pub(crate) groups: Groups<'a>,
 }
 
 impl<'a> Requester<'a> {
@@ -98,11 +98,6 @@ impl<'a> Requester<'a> {
         ensures { map (λ g. g.now) result.now ≡ groups_of self.now }
     {
         self.groups.names()
-    }
-
-    /// Returns whether this many look-ups of groups take longer than making a table of the groups.
-    pub(crate) fn is_worth_a_table(&self, look_ups: usize) -> bool {
-        self.groups.are_worth_a_table(look_ups)
     }
 
     /// Returns whether the user is in the group with this name.

@@ -1,35 +1,34 @@
 //! The facts about a requester and an object that are the same for each ACE of a list. They are computed once.
-ghost use Rattle.std.specs.Prelude.{◌≡◌, ◌≤◌, length};
+ghost use Rattle.std.specs.Prelude.{◌≡◌, ◌≤◌, length, map};
 ghost use Rattle.std.specs.List.{list_any};
-ghost use Rattle.std.specs.Option.{ForSome};
 ghost use Rattle.std.specs.Str.{bytes_eq};
 ghost use Rattle.acl_perm.specs.Principal.{group, owner, principal};
 ghost use Rattle.acl_perm.specs.Situation.{matches};
 ghost use Rattle.acl_nfs4.specs.Ace.{ace};
 ghost use Rattle.acl_eval.specs.Situation.{groups_of, situation, user_of};
-ghost use Rattle.acl_eval.specs.internal.GroupTable.{HoldsGroups};
+ghost use Rattle.acl_eval.specs.internal.GroupOrder.{AreSameGroups};
 ghost use Rattle.acl_eval.specs.internal.LastByte.{last_of};
 ghost use Rattle.acl_eval.specs.Scan.{applies};
 
-use crate::group_table::GroupTable;
+use crate::groups::Groups;
 use crate::situation::{Object, Requester};
 use acl_nfs4::AceRef;
 use acl_perm::Principal;
 
 /// A requester of an object, with the facts that are the same for each ACE: whether the requester is the owner, whether
-/// the requester is in the owning group, and the last byte of the requester's name. If the groups are in a table, they
-/// are looked up there.
+/// the requester is in the owning group, and the last byte of the requester's name. Groups are looked up among `groups`,
+/// which may have the names of the requester's groups in another order.
 #[derive(Drop)]
 pub(crate) struct Standing<'a> {
     object: Object<'a>,
     requester: Requester<'a>,
-    table: Option<&'a GroupTable<'a>>,
+    groups: Groups<'a>,
     is_owner: bool,
     is_in_owning_group: bool,
     last: u8,
     ghost owns: { is_owner ≡ matches (situation object requester) owner },
     ghost belongs: { is_in_owning_group ≡ matches (situation object requester) group },
-    ghost tabled: { ForSome table (λ t. HoldsGroups t.now (groups_of requester)) },
+    ghost named: { AreSameGroups (map (λ g. g.now) groups.names.now) (groups_of requester) },
     ghost ends: { last ≡ last_of (user_of requester) },
 }
 
@@ -39,22 +38,22 @@ impl<'a> Standing<'a> {
     pub(crate) fn new(object: Object<'a>, requester: Requester<'a>) -> Self
         ensures { asked_situation result ≡ situation object.entry requester.entry }
     {
-        Standing::with_table(object, requester, None)
+        Standing::with_groups(object, requester, requester.groups)
     }
 
-    /// Makes what `new` makes. If there is a table of the groups of the requester, groups are looked up in it.
-    pub(crate) fn with_table(
+    /// Makes what `new` makes, and looks groups up among `groups`.
+    pub(crate) fn with_groups(
         object: Object<'a>,
         requester: Requester<'a>,
-        table: Option<&'a GroupTable<'a>>,
+        groups: Groups<'a>,
     ) -> Self
-        requires { ForSome table (λ t. HoldsGroups t.now (groups_of requester)) }
+        requires { AreSameGroups (map (λ g. g.now) groups.names.now) (groups_of requester) }
         ensures { asked_situation result ≡ situation object.entry requester.entry }
     {
         Standing {
             object,
             requester,
-            table,
+            groups,
             is_owner: requester.is_named(object.owner()),
             is_in_owning_group: requester.is_in(object.group()),
             last: last_byte(requester.user()),
@@ -90,13 +89,11 @@ impl<'a> Standing<'a> {
         }
     }
 
+    #[tactic(auto, using(crate::proofs::Members::any_now))]
     fn is_in(&self, name: &[u8]) -> bool
         ensures { result ≡ list_any (bytes_eq name.now) (groups_of self.now.requester) }
     {
-        match self.table {
-            Some(table) => table.contains(name),
-            None => self.requester.is_in(name),
-        }
+        self.groups.contains(name)
     }
 }
 

@@ -1,6 +1,6 @@
 -- What each fault says about a text of ACEs, without reading it: the first line that spells no ACE, or no ACE that the
 -- list so far can accept, and what is wrong with it. The reasons, their order and their places are this library's own.
-use Rattle.std.specs.Prelude.{◌≡◌, ◌≢◌, ◌+◌, ◌<◌, ◌≤◌, ◌⊎◌, ◌==◌, ℕ, List, ◌∷◌, ◌++◌, length, count_by, count_ones, Some}
+use Rattle.std.specs.Prelude.{◌≡◌, ◌≢◌, ◌+◌, ◌<◌, ◌≤◌, ◌⊎◌, ◌==◌, ℕ, List, ◌∷◌, ◌++◌, length, codes, count_by, count_ones, decimal, Some}
 use Rattle.acl_perm.specs.Profile.{Profile}
 use Rattle.acl_perm.specs.declared.kind.Kind.{Kind}
 use Rattle.acl_nfs4.specs.Ace.{Ace}
@@ -147,3 +147,37 @@ pub record IsAceTextFault (p : Profile) (text : List ℕ) (fault : AceTextFault)
 -- a refusal reports the text's fault, or that memory ran out
 abbrev pub IsTextRefusal : Profile → List ℕ → AceTextFault → Type 0
 IsTextRefusal p text fault = (fault ≡ Memory) ⊎ IsAceTextFault p text fault
+
+-- ---- how a fault is shown
+
+-- the name of a fault, with which its message begins if it has a place
+abbrev pub text_fault_name : AceTextFault → List ℕ
+text_fault_name (TooManyAces line column) = codes "TooManyAces"
+text_fault_name (Fields line column) = codes "Fields"
+text_fault_name (AceType line column) = codes "AceType"
+text_fault_name (Flag line column) = codes "Flag"
+text_fault_name (Mask line column) = codes "Mask"
+text_fault_name (TooHeavy line column) = codes "TooHeavy"
+text_fault_name (WhoLength line column) = codes "WhoLength"
+text_fault_name (WhoUtf8 line column) = codes "WhoUtf8"
+text_fault_name (WhoControl line column) = codes "WhoControl"
+text_fault_name (SpecialWho line column) = codes "SpecialWho"
+text_fault_name Memory = codes "Memory"
+
+-- a name with a line and a column
+abbrev pub placed_text : List ℕ → ℕ → ℕ → List ℕ
+placed_text name line column = name ++ codes " at line " ++ decimal line ++ codes " column " ++ decimal column
+
+-- the message of a fault
+abbrev pub text_fault_text : AceTextFault → List ℕ
+text_fault_text (TooManyAces line column) = placed_text (codes "TooManyAces") line column
+text_fault_text (Fields line column) = placed_text (codes "Fields") line column
+text_fault_text (AceType line column) = placed_text (codes "AceType") line column
+text_fault_text (Flag line column) = placed_text (codes "Flag") line column
+text_fault_text (Mask line column) = placed_text (codes "Mask") line column
+text_fault_text (TooHeavy line column) = placed_text (codes "TooHeavy") line column
+text_fault_text (WhoLength line column) = placed_text (codes "WhoLength") line column
+text_fault_text (WhoUtf8 line column) = placed_text (codes "WhoUtf8") line column
+text_fault_text (WhoControl line column) = placed_text (codes "WhoControl") line column
+text_fault_text (SpecialWho line column) = placed_text (codes "SpecialWho") line column
+text_fault_text Memory = codes "out of memory"

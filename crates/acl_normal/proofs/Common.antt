@@ -14,7 +14,7 @@ pub use Rattle.acl_nfs4.specs.declared.ace.AceRef.{AceRef}
 pub use Rattle.acl_normal.specs.Keys.{ColumnKey, ace_key, compare_keys, conflicts, key_record, kind_eq, plain_key, principal_eq}
 pub use Rattle.acl_normal.specs.Laws.{Has}
 pub use Rattle.acl_normal.specs.Left.{KeepsFirsts, left}
-pub use Rattle.acl_normal.specs.Normal.{HasNoEmptyMask, HasNormalFlags, IsIrreducibleList, IsNormal, counts, flags_for, is_free, is_inherit_only, without_bit}
+pub use Rattle.acl_normal.specs.Normal.{HasNoEmptyMask, HasNormalFlags, HasOnlyNeeded, IsIrreducibleList, IsNormal, counts, flags_for, is_free, is_inherit_only, without_bit}
 pub use Rattle.acl_normal.specs.internal.Tidy.{HasMasks, HasNames, HaveNames, IsQuiet, IsTidy}
 pub use Rattle.acl_normal.specs.NormalForm.{IsNormalFormOf}
 pub use Rattle.acl_normal.specs.Places.{first_at, is_waiting, nothing_left, same_class, take_out, waits, without_bits}

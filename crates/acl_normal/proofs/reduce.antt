@@ -16,3 +16,5 @@ pub mod Reduced
 pub mod Shorter
 -- the unshadowed keys of a column decide as the column, and are a clean column
 pub mod Unshadowed
+-- the rights that a reduction leaves are those that are needed
+pub mod NeededRights

@@ -16,3 +16,4 @@ pub mod Difference
 pub mod RequesterNames
 pub mod Tables
 pub mod Programs
+pub mod Needed

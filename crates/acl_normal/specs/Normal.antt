@@ -25,11 +25,15 @@ IsNeeded before a after bit =
 abbrev pub HasNoEmptyMask : List Ace → Type 0
 HasNoEmptyMask list = AllByRecursion (λ a. a.mask ≢ 0) list
 
+-- each right of each mask is needed
+abbrev pub HasOnlyNeeded : List Ace → Type 0
+HasOnlyNeeded list = (before : List Ace) (a : Ace) (after : List Ace) (bit : ℕ) → list ≡ before ++ a ∷ after
+    → IsTrue (has_bit a.mask bit) → IsNeeded before a after bit
+
 -- no mask is empty, and each right of each mask is needed
 pub record IsIrreducibleList (list : List Ace) : Type 0 where
   pub no_empty_mask : HasNoEmptyMask list
-  pub needed : (before : List Ace) (a : Ace) (after : List Ace) (bit : ℕ) → list ≡ before ++ a ∷ after
-      → IsTrue (has_bit a.mask bit) → IsNeeded before a after bit
+  pub needed : HasOnlyNeeded list
 
 -- the key is free in a column: the column has it, and no key before it conflicts with it
 abbrev pub is_free : Column → ColumnKey → Bool

@@ -25,4 +25,5 @@ pub use comparison::{Difference, RequesterNames, compare, compare_views};
 pub use five_forms::{FiveForms, normalize_inherit};
 pub use merged::MergedRows;
 pub use normal_form::{is_normal, normal_bytes, normal_bytes_with, normalize, normalize_view};
+pub use reduce::{needed, needed_of_view};
 pub use row_lines::table_text;

@@ -11,6 +11,7 @@ mod forms;
 mod harness;
 mod merged_rows;
 mod names;
+mod needed_rights;
 mod plain_forms;
 mod small_situations;
 mod tables;

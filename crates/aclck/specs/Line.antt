@@ -4,6 +4,7 @@ use Rattle.std.specs.Option.{option_map_or}
 use Rattle.std.specs.Borrow.{Bor}
 use Rattle.std.specs.Str.{bytes_eq}
 use Rattle.clap.specs.Words.{App, Kinds, Row, Rule, Text, all_of, fault_of, first_of, found_of, matches_of, new_app, new_rule, rows_of}
+use Rattle.clap.specs.Lexer.{usize_max}
 use Rattle.clap.specs.Simple.{on_top}
 use Rattle.clap.specs.declared.builder.ArgAction.TheVariants.{Append, SetTrue}
 use Rattle.clap.specs.declared.parser.matches.ArgMatches.{ArgMatches}
@@ -41,7 +42,10 @@ rule_from (required name) = record (new_rule name) { long = Some name; required 
 rule_from (optional name) = record (new_rule name) { long = Some name }
 rule_from (default name value) = record (new_rule name) { long = Some name; defaults = value ∷ [] }
 rule_from (flag name) = record (new_rule name) { long = Some name; action = Some SetTrue }
-rule_from any_words = record (new_rule words_id) { action = Some Append }
+rule_from any_words = record (new_rule words_id) {
+  action = Some Append;
+  range = Some (record { start_inclusive = 1; end_inclusive = usize_max });
+}
 
 -- the id of an argument among the values of a parse
 abbrev pub term_id : Term → Text

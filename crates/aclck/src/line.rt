@@ -111,7 +111,9 @@ fn arg_of<'a>(alloc: Global, argument: Argument) -> Arg<'a>
         Argument::Optional(name) => Arg::new(alloc, name).long(name),
         Argument::Default(name, value) => Arg::new(alloc, name).long(name).default_value(value),
         Argument::Flag(name) => Arg::new(alloc, name).long(name).action(ArgAction::SetTrue),
-        Argument::Words => Arg::new(alloc, WORDS_ID).action(ArgAction::Append),
+        Argument::Words => Arg::new(alloc, WORDS_ID)
+            .action(ArgAction::Append)
+            .num_args(1..),
     }
 }
 

@@ -3,7 +3,7 @@ use Rattle.std.specs.Prelude.{◌≡◌, ◌≢◌, ◌<◌, ◌≤◌, ◌++◌
 use Rattle.aclck_c.specs.Status as status
 
 -- the buffer begins with the text, and is as it was after the text
-pub record Puts (text buffer buffer_after : List ℕ) : Type 0 where
+pub record Puts {A : Type 0} (text buffer buffer_after : List A) : Type 0 where
   pub room : length text ≤ length buffer
   pub put : buffer_after ≡ text ++ drop (length text) buffer
 

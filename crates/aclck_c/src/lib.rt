@@ -24,6 +24,7 @@ pub use nfs4::deciding::{RawDecision, aclck_deciding};
 pub use nfs4::encode::aclck_encode;
 pub use nfs4::granted::aclck_granted;
 pub use nfs4::mode::aclck_mode;
+pub use nfs4::needed::aclck_needed;
 pub use nfs4::same::aclck_same;
 pub use nfs4::texts::{
     aclck_child, aclck_normalize, aclck_normalize_inherit, aclck_show, aclck_table,

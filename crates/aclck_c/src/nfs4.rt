@@ -7,6 +7,7 @@ pub(crate) mod deciding;
 pub(crate) mod encode;
 pub(crate) mod granted;
 pub(crate) mod mode;
+pub(crate) mod needed;
 pub(crate) mod reading;
 pub(crate) mod request;
 pub(crate) mod same;

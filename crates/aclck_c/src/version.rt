@@ -1,11 +1,11 @@
-//! The version of the interface.
+//! The version of the library.
 ghost use Rattle.std.specs.Prelude.{◌≡◌};
 ghost use Rattle.aclck_c.specs.Version.{version_number};
 
-/// Returns the version of the interface, `ACLCK_VERSION` of `aclck.h`: major * 65536 + minor * 256 + patch.
+/// Returns the version of the library, `ACLCK_VERSION` of `aclck.h`: major * 65536 + minor * 256 + patch.
 #[unsafe(no_mangle)]
 pub extern "C" fn aclck_version() -> u32
-    ensures { result ≡ version_number 0 1 0 }
+    ensures { result ≡ version_number 0 6 0 }
 {
-    0x0000_0100
+    0x0000_0600
 }

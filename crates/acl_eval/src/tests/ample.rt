@@ -10,5 +10,5 @@ fn every_row_holds_with_enough_memory(rt: HostRuntime) -> Result<(), PushFault> 
     bridging::check_lists(&rt, alloc)?;
     creation::check_creations(&rt, alloc)?;
     modes::check_modes(&rt, alloc)?;
-    naming::check_tables(&rt, alloc)
+    naming::check_sorted_groups(&rt, alloc)
 }

@@ -32,7 +32,7 @@ fn a_group_that_is_denied_is_found_in_the_table(rt: HostRuntime) -> Result<(), F
     )?;
     let object = Object::new(b"alice", b"staff").ok_or("a name is empty")?;
     let bob = Requester::new(b"bob", &[b"users", b"staff"]).ok_or("a name is empty")?;
-    let may_write = grants_by_table(alloc, &list.view(), &object, &bob, Mask::WRITE_DATA)?;
+    let may_write = grants_for_many_groups(alloc, &list.view(), &object, &bob, Mask::WRITE_DATA)?;
     assert!(rt; !may_write);
     Ok(())
 }

@@ -11,6 +11,7 @@ fn feed_two_pieces(rt: &impl Abort, alloc: Global, first: usize, list: &Acl) {
     let (front, back) = THREE.split_at(first.min(72));
     let taken = 72usize.saturating_sub(first);
     assert!(rt; feed.feed(front) == Fed::More);
+    assert!(rt; feed.feed(&[]) == Fed::More);
     assert!(rt; feed.feed(back) == Fed::Done { taken });
     assert!(rt; feed.feed(back) == Fed::Done { taken: 0 });
     assert!(rt; feed.finish().is_ok_and(|fed| fed == *list));
@@ -40,6 +41,7 @@ fn fed_to_padding(rt: &impl Abort, alloc: Global) -> Feed {
     let (front, _) = ONE.split_at(29);
     assert!(rt; feed.feed(front) == Fed::More);
     assert!(rt; feed.feed(&[1]) == Fed::More);
+    assert!(rt; feed.feed(&[]) == Fed::More);
     feed
 }
 

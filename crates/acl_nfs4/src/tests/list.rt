@@ -186,10 +186,8 @@ pub fn a_principal_is_shown_as_its_who(rt: &impl Abort, alloc: Global) -> Result
 
 #[test]
 fn a_name_that_begins_like_the_owner_is_a_user(rt: HostRuntime) {
-    let Some(ace) = item((Kind::Allow, 0, 1, b"OWNER@x")) else {
-        return;
-    };
-    assert!(rt; ace.principal() == Principal::User(b"OWNER@x"));
+    let ace = item((Kind::Allow, 0, 1, b"OWNER@x"));
+    assert!(rt; ace.is_some_and(|ace| ace.principal() == Principal::User(b"OWNER@x")));
 }
 
 // Flags and a mask, and whether a list with them fits three profiles: the full one, the narrow one, and one without any

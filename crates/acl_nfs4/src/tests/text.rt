@@ -152,8 +152,12 @@ fn spelled_within(alloc: Global, text: &[u8], profile: Profile) -> Result<usize,
 #[test]
 fn a_text_is_written_up_to_the_failure(rt: HostRuntime) {
     let text = b"ALLOW DIR|GROUP READ_DATA|WRITE_DATA  two words \nDENY - - a\n".as_slice();
-    let Ok(list) = parse_text(rt.alloc(), text) else {
-        return;
+    let list = match parse_text(rt.alloc(), text) {
+        Ok(list) => list,
+        Err(fault) => {
+            assert!(rt; fault == AceTextFault::Memory);
+            return;
+        }
     };
     for size in 0..text.len() {
         let mut room = [0u8; 128];

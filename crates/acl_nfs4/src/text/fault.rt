@@ -1,5 +1,6 @@
 //! Why a text is not a list, by line and column.
-ghost use Rattle.std.specs.Prelude.{◌≡◌};
+ghost use Rattle.std.specs.Prelude.{◌≡◌, Some};
+ghost use Rattle.acl_nfs4.specs.AceTextFault.{text_fault_name, text_fault_text};
 
 use std::alloc::AllocError;
 use std::fmt;
@@ -45,7 +46,9 @@ impl From<AllocError> for AceTextFault {
 
 impl AceTextFault {
     // Returns the name of the fault, with which its message begins if it has a place.
-    fn name(&self) -> &'static str {
+    fn name(&self) -> &'static str
+        ensures { result.now ≡ text_fault_name self.now }
+    {
         match self {
             Self::TooManyAces { .. } => "TooManyAces",
             Self::Fields { .. } => "Fields",
@@ -64,6 +67,8 @@ impl AceTextFault {
 
 /// Writes the name of the fault with its line and its column, or that memory ran out.
 impl fmt::Display for AceTextFault {
+    ghost output = { λ fault. Some (text_fault_text fault) };
+
     fn fmt<W: fmt::Write>(&self, f: &mut fmt::Formatter<W>) -> fmt::Result {
         match *self {
             Self::TooManyAces { line, column }

@@ -1,5 +1,5 @@
 -- Lists whose columns are irreducible, and normal forms.
-use Rattle.acl_normal.proofs.Common.{[], Ace, ace_key, all_rights, ap, arith, bit_at-zero, Column, column, default, Deny, false, false≢true, first_kind, has_bit, HasMasks, HasName, HasNames, HasNoEmptyMask, HasNormalFlags, HaveNames, is_either, is_inherit_only, IsAlike, IsEmission, IsIrreducible, IsIrreducibleList, IsNormal, IsQuiet, IsSubset, Kind, List, matches, None, not, Option, Principal, principal_of, reduced, refl, SameGrants, Some, subst, sym, true, unshadowed, unwrap_or, verdict, without_bit, ℕ, ◌&&◌, ◌++◌, ◌∙◌, ◌∷◌, ◌≡◌}
+use Rattle.acl_normal.proofs.Common.{[], Ace, ace_key, all_rights, ap, arith, bit_at-zero, Column, column, default, Deny, false, false≢true, first_kind, has_bit, HasMasks, HasName, HasNames, HasNoEmptyMask, HasNormalFlags, HasOnlyNeeded, HaveNames, is_either, is_inherit_only, IsAlike, IsEmission, IsIrreducible, IsIrreducibleList, IsNormal, IsQuiet, IsSubset, Kind, List, matches, None, not, Option, Principal, principal_of, reduced, refl, SameGrants, Some, subst, sym, true, unshadowed, unwrap_or, verdict, without_bit, ℕ, ◌&&◌, ◌++◌, ◌∙◌, ◌∷◌, ◌≡◌}
 use mathlib.Core.Logic.Iff.{trans}
 use Rattle.acl_normal.proofs.Each.{at_split, from_splits}
 use Rattle.acl_normal.proofs.unique.Names.{overlaps_itself, either_first}
@@ -50,23 +50,25 @@ pub column_quiet : (b : ℕ) (a : Ace) (xs : List Ace) → (is_inherit_only a �
     → has_bit a.mask b ≡ true → column (a ∷ xs) b ≡ ace_key a ∷ column xs b
 column_quiet b a xs h has = rw (counts_mask b a h ∙ has) refl
 
--- a list whose columns are irreducible is, where no key that takes no part has a bit
+-- a list whose columns are irreducible needs each of its rights, where no key that takes no part has a bit
+pub only_needed : (xs : List Ace) → HasMasks xs → IsQuiet xs → ((b : ℕ) → IsIrreducible (column xs b))
+    → HasOnlyNeeded xs
+only_needed xs masks quiet irr l a r b is has same =
+    let whole : column xs b ≡ column l b ++ ace_key a ∷ column r b =
+    ap (λ v. column v b) is ∙ column-append b l (a ∷ r)
+    ∙ ap (λ c. column l b ++ c) (column_quiet b a r (quiet_at l a r (subst (λ v. IsQuiet v) is quiet)) has) in
+    let less : column (l ++ without_bit a b ∷ r) b ≡ column l b ++ column r b =
+    column-append b l (without_bit a b ∷ r) ∙ ap (λ c. column l b ++ c) (column_without b a r) in
+    let inside = at_split (λ v. IsSubset v.mask all_rights) xs l a r is masks b has in
+    irr b (column l b) (ace_key a) (column r b) whole
+    (λ s valid. same_verdicts xs (l ++ without_bit a b ∷ r)
+    (subst (λ v. SameGrants all_rights v (l ++ without_bit a b ∷ r)) (sym is) same) b inside s valid
+    ∙ ap (verdict (matches s)) less)
+
+-- a list whose columns are irreducible is, where no mask is empty and no key that takes no part has a bit
 pub irreducible_list : (xs : List Ace) → HasNoEmptyMask xs → HasMasks xs → IsQuiet xs
     → ((b : ℕ) → IsIrreducible (column xs b)) → IsIrreducibleList xs
-irreducible_list xs full masks quiet irr = record {
-  no_empty_mask = full;
-  needed = λ l a r b is has same.
-      let whole : column xs b ≡ column l b ++ ace_key a ∷ column r b =
-      ap (λ v. column v b) is ∙ column-append b l (a ∷ r)
-      ∙ ap (λ c. column l b ++ c) (column_quiet b a r (quiet_at l a r (subst (λ v. IsQuiet v) is quiet)) has) in
-      let less : column (l ++ without_bit a b ∷ r) b ≡ column l b ++ column r b =
-      column-append b l (without_bit a b ∷ r) ∙ ap (λ c. column l b ++ c) (column_without b a r) in
-      let inside = at_split (λ v. IsSubset v.mask all_rights) xs l a r is masks b has in
-      irr b (column l b) (ace_key a) (column r b) whole
-      (λ s valid. same_verdicts xs (l ++ without_bit a b ∷ r)
-      (subst (λ v. SameGrants all_rights v (l ++ without_bit a b ∷ r)) (sym is) same) b inside s valid
-      ∙ ap (verdict (matches s)) less);
-}
+irreducible_list xs full masks quiet irr = record { no_empty_mask = full; needed = only_needed xs masks quiet irr }
 
 -- what is emitted from the reduced columns of a list is its normal form
 pub emitted_is_normal : (xs rest ns : List Ace) → ((b : ℕ) → column rest b ≡ reduced (column xs b)) → HasNames rest

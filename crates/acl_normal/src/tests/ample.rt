@@ -1,7 +1,7 @@
 //! Checks that the calls of all tables of this crate succeed with ample memory. The tables with their expected values
 //! are in the files that are named here.
 
-use super::{differences, five_forms, forms, names, plain_forms, tables};
+use super::{differences, five_forms, forms, names, needed_rights, plain_forms, tables};
 use acl_nfs4::PushFault;
 
 #[test]
@@ -14,6 +14,7 @@ fn every_row_of_the_tables_holds_if_memory_is_ample(rt: HostRuntime) -> Result<(
     five_forms::lengths(&rt, alloc)?;
     forms::normal_forms(&rt, alloc)?;
     names::names(&rt, alloc)?;
+    needed_rights::needed_rights(&rt, alloc)?;
     tables::tables(&rt, alloc)?;
     plain_forms::plain_forms(&rt, alloc)
 }

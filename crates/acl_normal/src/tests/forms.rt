@@ -157,6 +157,34 @@ mod ample {
         Ok(is_spelled && !is_own)
     }
 
+    // Allows each user whose name is this digit and two more digits, in the order of the names.
+    fn allow_hundred(list: &mut Acl, first: u8) -> Result<(), PushFault> {
+        for second in b"0123456789" {
+            for third in b"0123456789" {
+                if let Some(ace) = ace_of(ALLOW, 0, READ_DATA, &[first, *second, *third]) {
+                    list.push(ace)?;
+                }
+            }
+        }
+        Ok(())
+    }
+
+    // Allows users in the order of their names, and then one user more.
+    #[test]
+    fn a_list_of_a_thousand_users_in_order_is_normal(rt: HostRuntime) -> Result<(), PushFault> {
+        let mut list = Acl::new(rt.alloc());
+        for first in b"0123456789" {
+            allow_hundred(&mut list, *first)?;
+            assert!(rt; is_normal(rt.alloc(), &list) == Ok(true));
+        }
+        assert!(rt; list.len() == 1_000);
+        if let Some(ace) = ace_of(ALLOW, 0, READ_DATA, b"0") {
+            list.push(ace)?;
+        }
+        assert!(rt; is_normal(rt.alloc(), &list) == Ok(false));
+        Ok(())
+    }
+
     // The sizes are no powers of two, except for the limit.
     #[test]
     fn equal_aces_normalize_to_one_ace_in_lists_of_every_size(rt: HostRuntime) {

@@ -22,7 +22,7 @@ const IN_ORDER: [AceRow; 4] = [
     (ALLOW, GROUP, READ_DATA | EXECUTE, b"EVERYONE@"),
 ];
 
-static TABLES: [(&[AceRow], u32, &[Shown]); 8] = [
+static TABLES: [(&[AceRow], u32, &[Shown]); 11] = [
     (
         &IN_ORDER,
         READ_DATA,
@@ -47,6 +47,18 @@ static TABLES: [(&[AceRow], u32, &[Shown]); 8] = [
     ),
     (&FOR_FILES, READ_DATA, &[(1, ALLOW, b"amy", false)]),
     (&FOR_FILES, 0, &[]),
+    // Of two rights the lower one counts. In the second list only another ACE has it.
+    (
+        &IN_ORDER,
+        EXECUTE | 0x0010_0000,
+        &[(3, ALLOW, b"EVERYONE@", false)],
+    ),
+    (
+        &NO_WRITE,
+        READ_DATA | WRITE_DATA,
+        &[(1, ALLOW, b"OWNER@", false)],
+    ),
+    (&STAFF, WRITE_DATA | EXECUTE, &[]),
 ];
 
 fn is_shown(row: &Row, shown: &Shown) -> bool {

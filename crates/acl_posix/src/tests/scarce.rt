@@ -13,8 +13,15 @@ fn each_worked_list_gives_its_answers_unless_memory_runs_out(rt: HostRuntime) {
 #[test]
 fn a_call_that_fails_adds_no_mask(rt: HostRuntime) {
     let memory = Memory::scarce(rt.alloc());
-    // A copy has no spare room, so another entry takes memory.
-    let Ok(Ok(mut acl)) = memory.acl(NO_OWNER).map(|acl| acl.copy(memory.alloc)) else {
+    let built = match memory.acl(NO_OWNER) {
+        Ok(acl) => acl,
+        Err(fault) => {
+            assert!(rt; fault == AclFault::Memory);
+            return;
+        }
+    };
+    // A copy has no spare room, so another entry takes memory. It fails only if memory runs out.
+    let Ok(mut acl) = built.copy(memory.alloc) else {
         return;
     };
     let is_added = acl.calc_mask().is_ok();

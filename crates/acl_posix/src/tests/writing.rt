@@ -48,8 +48,12 @@ fn is_cut(file: &PosixFile, form: Form, text: &[u8], size: usize) -> bool {
 #[test]
 fn a_write_that_fails_reports_how_many_bytes_it_wrote(rt: HostRuntime) {
     let names = Names::new(rt.alloc());
-    let Ok(file) = parse(rt.alloc(), SHORT, &names) else {
-        return;
+    let file = match parse(rt.alloc(), SHORT, &names) {
+        Ok(file) => file,
+        Err(fault) => {
+            assert!(rt; fault == TextFault::Memory);
+            return;
+        }
     };
     for (form, text) in [
         (Form::Canonical, CANONICAL),
@@ -77,8 +81,12 @@ fn written_thrice(acl: &PosixAcl, room: &mut [u8]) -> Option<usize> {
 #[test]
 fn an_acl_is_written_as_a_file_without_a_default_acl(rt: HostRuntime) {
     let names = Names::new(rt.alloc());
-    let Ok(file) = parse(rt.alloc(), SHORT, &names) else {
-        return;
+    let file = match parse(rt.alloc(), SHORT, &names) {
+        Ok(file) => file,
+        Err(fault) => {
+            assert!(rt; fault == TextFault::Memory);
+            return;
+        }
     };
     let written = written_thrice(&file.access, &mut [0u8; 256]);
     assert!(rt; written == Some(CANONICAL.len() + SHOWN.len() + SHORT.len()));

@@ -13,7 +13,7 @@ use crate::task::values::CheckNfs;
 use crate::words::options::{GROUP, MASK, OWNER, PROFILE, USER};
 use crate::words::profile::profile_in;
 use crate::words::values::within;
-use acl_eval::{Object, Requester, grants_by_table};
+use acl_eval::{Object, Requester, grants_for_many_groups};
 use acl_nfs4::{Acl, read_mask};
 use acl_perm::{Mask, Sink, Source};
 use clap::ArgMatches;
@@ -115,6 +115,6 @@ fn decide(alloc: Global, list: &Acl, task: &CheckNfs<'_>) -> Result<Outcome, All
         ↔ Grant list.now (situation task.now.object task.now.requester) task.now.mask.bits) }
 {
     let mask = task.mask;
-    let granted = grants_by_table(alloc, &list.view(), &task.object, &task.requester, mask)?;
+    let granted = grants_for_many_groups(alloc, &list.view(), &task.object, &task.requester, mask)?;
     Ok(Outcome::of(granted))
 }

@@ -8,7 +8,7 @@ use Rattle.aclck_c.specs.declared.failure.Failure.TheVariants as failure
 use Rattle.aclck_c.specs.declared.refusal.Refusal.{Refusal}
 
 -- the effect of bytes on the buffer and on the reported length, and the status
-pub record PutsIfRoom (bytes buffer buffer_after : List ℕ) (needed_after returned : ℕ) : Type 0 where
+pub record PutsIfRoom {A : Type 0} (bytes buffer buffer_after : List A) (needed_after returned : ℕ) : Type 0 where
   pub reported : needed_after ≡ length bytes
   pub put : returned ≡ status.done → Puts bytes buffer buffer_after
   pub short : returned ≡ status.short → length buffer < length bytes
@@ -24,8 +24,8 @@ ReportsFailure (failure.Refused found) shown shown_after returned =
 ReportsFailure failure.Memory shown shown_after returned = (returned ≡ status.memory) × (shown_after ≡ shown)
 
 -- the effect of the bytes that a call made, or of its failure, and the status
-pub record EndsCall (made : Result (Vec ℕ) Failure) (buffer buffer_after : List ℕ) (needed needed_after : ℕ)
-    (fault fault_after : Refusal) (returned : ℕ) : Type 0 where
+pub record EndsCall {A : Type 0} (made : Result (Vec A) Failure) (buffer buffer_after : List A)
+    (needed needed_after : ℕ) (fault fault_after : Refusal) (returned : ℕ) : Type 0 where
   pub put : IfOk made (λ bytes. PutsIfRoom bytes.items buffer buffer_after needed_after returned)
   pub kept : OnOk made (fault_after ≡ fault)
   pub reported : IfErr made (λ f. ReportsFailure f fault fault_after returned)
