@@ -1,15 +1,15 @@
 # Completion of aclck-tree for bash: commands, options, the names of rights, and files.
 
 declare -gA _aclck_tree_options=(
-    [scan]='-o --one-file-system --threads --attribute --host'
+    [scan]='-o --one-file-system --threads --attribute --host --quiet'
     [merge]='-o'
-    [info]='--csv --json'
-    [who]='--may --any --path --people --passwd --group --getent --each --domain --linux --csv --json'
-    [may]='--may --any --path --user --groups --all --domain --linux --csv --json'
-    [why]='--user --groups --may --domain --linux --csv --json'
-    [same]='--inherit --each --csv --json'
-    [diff]='--people --passwd --group --getent --each --domain --csv --json'
-    [report]='-o --people --passwd --group --getent --domain --linux --csv --json'
+    [info]='--csv --raw --json'
+    [who]='--may --any --path --reach --people --passwd --group --getent --each --domain --linux --csv --raw --json'
+    [may]='--may --any --path --reach --user --groups --all --domain --linux --csv --raw --json'
+    [why]='--user --groups --may --domain --linux --csv --raw --json'
+    [same]='--inherit --path --each --csv --raw --json'
+    [diff]='--people --passwd --group --getent --pair --each --domain --csv --raw --json'
+    [report]='-o --path --reach --people --passwd --group --getent --domain --linux --csv --raw --json'
 )
 
 _aclck_tree_rights='READ_DATA LIST_DIRECTORY WRITE_DATA ADD_FILE APPEND_DATA ADD_SUBDIRECTORY READ_NAMED_ATTRS
@@ -39,7 +39,7 @@ _aclck_tree() {
         --may) _aclck_tree_mask "$current"; return ;;
         --user) mapfile -t COMPREPLY < <(compgen -u -- "$current"); return ;;
         --groups) mapfile -t COMPREPLY < <(compgen -g -- "$current"); return ;;
-        --threads | --attribute | --host | --domain | --path) return ;;
+        --threads | --attribute | --host | --domain | --path | --pair) return ;;
     esac
     if [[ $current == -* ]]; then
         mapfile -t COMPREPLY < <(compgen -W "${_aclck_tree_options[$word]} --help" -- "$current")

@@ -20,12 +20,14 @@ complete -c aclck-tree -n "not __fish_seen_subcommand_from $words" -a report -d 
 
 complete -c aclck-tree -n '__fish_seen_subcommand_from scan merge report' -s o -r -d 'The file to make'
 complete -c aclck-tree -n '__fish_seen_subcommand_from scan' -l one-file-system -d 'Do not go into others'
+complete -c aclck-tree -n '__fish_seen_subcommand_from scan' -l quiet -d 'Report failures alone'
 complete -c aclck-tree -n '__fish_seen_subcommand_from scan' -l threads -x -d 'Reads at once'
 complete -c aclck-tree -n '__fish_seen_subcommand_from scan' -l attribute -x -d 'Where NFSv4 lists are'
 complete -c aclck-tree -n '__fish_seen_subcommand_from scan' -l host -x -d 'The name of this host'
 complete -c aclck-tree -n '__fish_seen_subcommand_from who may why' -l may -x -a "$rights" -d 'What is asked'
 complete -c aclck-tree -n '__fish_seen_subcommand_from who may' -l any -d 'Any of the rights'
-complete -c aclck-tree -n '__fish_seen_subcommand_from who may' -l path -x -d 'Only these objects'
+complete -c aclck-tree -n '__fish_seen_subcommand_from who may same report' -l path -x -d 'Only these objects'
+complete -c aclck-tree -n '__fish_seen_subcommand_from who may report' -l reach -d 'Directories above count too'
 complete -c aclck-tree -n '__fish_seen_subcommand_from may why' -l user -x -a '(__fish_complete_users)' -d 'Who asks'
 complete -c aclck-tree -n '__fish_seen_subcommand_from may why' -l groups -x -a '(__fish_complete_groups)' \
     -d 'The groups of the user'
@@ -38,7 +40,10 @@ complete -c aclck-tree -n '__fish_seen_subcommand_from who may why diff report' 
     -d 'What follows @ in names'
 complete -c aclck-tree -n '__fish_seen_subcommand_from who may why report' -l linux -d 'Ask POSIX lists as Linux does'
 complete -c aclck-tree -n '__fish_seen_subcommand_from who same diff' -l each -d 'One line per object'
+complete -c aclck-tree -n '__fish_seen_subcommand_from diff' -l pair -x -d 'OLD=NEW are one tree'
 complete -c aclck-tree -n '__fish_seen_subcommand_from same' -l inherit -d 'What is made below counts too'
 complete -c aclck-tree -n '__fish_seen_subcommand_from who may why same diff report info' -l csv -d 'Write CSV'
+complete -c aclck-tree -n '__fish_seen_subcommand_from who may why same diff report info' -l raw \
+    -d 'With --csv, guard no cell'
 complete -c aclck-tree -n '__fish_seen_subcommand_from who may why same diff report info' -l json \
     -d 'Write one JSON object per line'

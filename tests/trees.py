@@ -1,6 +1,8 @@
-"""What the scripts tests/tree and tests/tree_* share: lists and attributes as bytes, runs of aclck-tree, and a directory
-for each test. The scripts need the library that `make library` leaves, or the one that ACLCK_LIBRARY names.
+"""What the scripts tests/tree and tests/tree_* share: lists and attributes as bytes, runs of aclck-tree, and a
+directory for each test. The scripts need the library that `make library` leaves, or the one that ACLCK_LIBRARY names.
 """
+import contextlib
+import ctypes
 import json
 import os
 import shutil
@@ -9,6 +11,7 @@ import subprocess
 import sys
 import tempfile
 import unittest
+from unittest import mock
 
 ROOT = os.path.dirname(os.path.dirname(os.path.abspath(__file__)))
 TOOL = os.path.join(ROOT, "bin/aclck-tree")
@@ -50,6 +53,27 @@ def keeps(directory, name, value):
     except OSError:
         return False
     return True
+
+
+def exchange(first, second, directory=-100):
+    """Exchanges two names at once (renameat2(2), RENAME_EXCHANGE), the first below a directory if it is given."""
+    if ctypes.CDLL(None, use_errno=True).renameat2(directory, os.fsencode(first), -100, os.fsencode(second), 2):
+        raise OSError(ctypes.get_errno(), "renameat2")
+
+
+@contextlib.contextmanager
+def before(name, call, function="os.open"):
+    """Calls `call` once, before `function` is called for a name."""
+    place, real = [], getattr(os, function[3:])
+
+    def hooked(one, *words, **more):
+        if os.path.basename(os.fsencode(one)) == name and not place:
+            place.append(one)
+            call()
+        return real(one, *words, **more)
+    with mock.patch(function, hooked):
+        yield
+    assert place, name
 
 
 class Scratch(unittest.TestCase):
@@ -95,7 +119,7 @@ class Scratch(unittest.TestCase):
 class Loud(unittest.TextTestResult):
     def addSkip(self, test, reason):
         super().addSkip(test, reason)
-        print(f"tree: SKIPPED: {test.id().rpartition('.')[2]}: {reason}")
+        print(f"{os.path.basename(sys.argv[0])}: SKIPPED: {test.id().rpartition('.')[2]}: {reason}")
 
 
 def run():

@@ -8,7 +8,7 @@ Names of users and groups are `str` or `bytes`. In a `str`, bytes that are not U
 
 from ._library import VERSION
 from .faults import Refused
-from .nfs import ALLOW, DENY, Ace, Decision, Difference, NfsAcl, Requesters, TableRow
+from .nfs import ALLOW, DENY, Ace, AceFlag, AceKind, Decision, Difference, NfsAcl, Requesters, TableRow
 from .posix import Entry, PosixAcl
 from .rights import (
     ADD_FILE,
@@ -43,6 +43,8 @@ __all__ = [
     "ALLOW",
     "APPEND_DATA",
     "Ace",
+    "AceFlag",
+    "AceKind",
     "DELETE",
     "DELETE_CHILD",
     "DENY",

@@ -8,13 +8,16 @@ of the system searches.
 from __future__ import annotations
 
 import ctypes
+import operator
 import os
-from typing import Any, Iterable, Sequence, Tuple, Union
+from typing import Any, Iterable, List, Sequence, Tuple, TypeVar, Union
 
 from .faults import refused
 
 Name = Union[str, bytes]
 """The name of a user or a group."""
+
+T = TypeVar("T")
 
 YES, NO, REFUSED, BAD_ARGUMENT, MEMORY, SHORT = range(6)
 NARROW, DIRECTORY, SHOWN, FORM_SHORT = 1, 2, 4, 8
@@ -94,6 +97,7 @@ _TYPES: "dict[str, list[Any]]" = {
     "normalize": [*_in, _word, *_out, _fault],
     "normalize_inherit": [*_in, _word, *_out, _fault],
     "table": [*_in, _word, _word, *_out, _fault],
+    "needed": [*_in, _word, _words, _size, ctypes.POINTER(_size), _fault],
     "same": [*_in, *_in, _word, _fault],
     "compare": [*_in, *_in, _word, ctypes.POINTER(Difference), *_out, _fault],
     "read_mask": [*_in, _words],
@@ -128,8 +132,12 @@ VERSION = f"{_number >> 16}.{_number >> 8 & 255}.{_number & 255}"
 
 
 def encoded(name: Name) -> bytes:
-    """Returns a name or a text as bytes."""
-    return name if isinstance(name, bytes) else name.encode("utf-8", "surrogateescape")
+    """Returns a name or a text as bytes. Raises TypeError if it is neither `str` nor `bytes`."""
+    if isinstance(name, str):
+        return name.encode("utf-8", "surrogateescape")
+    if isinstance(name, bytes):
+        return name
+    raise TypeError(f"a name or a text is str or bytes, and not {type(name).__name__}")
 
 
 def decoded(name: bytes) -> str:
@@ -137,10 +145,27 @@ def decoded(name: bytes) -> str:
     return name.decode("utf-8", "surrogateescape")
 
 
-def slices(names: Iterable[Name]) -> Tuple[Any, int]:
-    """Returns an array of names for C, and its length."""
-    held = [encoded(name) for name in names]
+def several(groups: Iterable[T]) -> List[T]:
+    """Returns some groups as a list. Raises TypeError for one name, whose letters or bytes would be the groups."""
+    if isinstance(groups, (str, bytes, bytearray, memoryview)):
+        raise TypeError(f"groups are a list or another iterable, and not {type(groups).__name__}")
+    return list(groups)
+
+
+def slices(groups: Iterable[Name]) -> Tuple[Any, int]:
+    """Returns an array of the names of groups for C, and its length. Raises TypeError as `several` and `encoded` do."""
+    held = [encoded(name) for name in several(groups)]
     return (Bytes * len(held))(*[Bytes(name, len(name)) for name in held]), len(held)
+
+
+def word(number: int) -> int:
+    """Returns a number that C gets in 32 bits. ctypes itself would cut a larger number in silence.
+
+    Raises ValueError if the number is outside 32 bits, and TypeError if it is not an `int`.
+    """
+    if not 0 <= operator.index(number) <= 0xFFFFFFFF:
+        raise ValueError(f"outside 32 bits: {number:#x}")
+    return number
 
 
 def reason_name(reason: int) -> str:

@@ -3,6 +3,7 @@
 from __future__ import annotations
 
 import ctypes
+import enum
 import os
 import struct
 from typing import Iterable, Iterator, List, NamedTuple, Optional, Sequence, Tuple, Union
@@ -11,25 +12,63 @@ from . import _library as c
 from ._library import Name
 from .rights import ALL
 
-ALLOW, DENY = "ALLOW", "DENY"
+
+class AceKind(str, enum.Enum):
+    """The kind of an ACE (section 6.2.1.1). It is equal to its word."""
+
+    ALLOW = "ALLOW"
+    DENY = "DENY"
+
+    def __str__(self) -> str:
+        return self.value
+
+
+ALLOW, DENY = AceKind.ALLOW, AceKind.DENY
 _KINDS = (ALLOW, DENY)
-_FULL_MASK = 0xFFFFFFFF
+
+
+class AceFlag(enum.IntFlag):
+    """The flags of an ACE (section 6.2.1.4). A set of flags is equal to its number, and is written as its number."""
+
+    FILE_INHERIT = 0x01
+    DIRECTORY_INHERIT = 0x02
+    NO_PROPAGATE_INHERIT = 0x04
+    INHERIT_ONLY = 0x08
+    SUCCESSFUL_ACCESS = 0x10
+    FAILED_ACCESS = 0x20
+    IDENTIFIER_GROUP = 0x40
+    INHERITED = 0x80
+
+    def __str__(self) -> str:
+        return str(self.value)
+
+    def __format__(self, spec: str) -> str:
+        return format(self.value, spec)
+
+
+_FLAGS = tuple(map(AceFlag, range(0x100)))
+"""All sets of flags, made once because lists are long. The library refuses lists with other flags."""
 
 
 class Ace(NamedTuple):
-    """One ACE: `kind` is ALLOW or DENY, `flags` and `mask` are the numbers of sections 6.2.1.4 and 6.2.1.3."""
+    """One ACE: its kind, its flags, its mask as a number (section 6.2.1.3), and its who."""
 
-    kind: str
-    flags: int
+    kind: AceKind
+    flags: AceFlag
     mask: int
     who: str
+
+    @property
+    def is_group(self) -> bool:
+        """Whether the who is the name of a group."""
+        return bool(self.flags & AceFlag.IDENTIFIER_GROUP)
 
 
 class Decision(NamedTuple):
     """The ACE that decides a right: its place in the list, from 0, and its kind."""
 
     place: int
-    kind: str
+    kind: AceKind
 
 
 class Difference(NamedTuple):
@@ -47,7 +86,7 @@ class TableRow(NamedTuple):
     """An ACE of the normal form: the place of its source in the given list, its kind, whether `who` is a group."""
 
     source: int
-    kind: str
+    kind: AceKind
     is_group: bool
     who: str
 
@@ -56,7 +95,8 @@ class Requesters:
     """Users with their groups, prepared for `NfsAcl.granted_many`, which can then be called for many lists."""
 
     def __init__(self, people: Iterable[Tuple[Name, Sequence[Name]]]) -> None:
-        """Takes pairs of a user and the names of the groups of that user."""
+        """Takes pairs of a user and the names of the groups of that user. Raises TypeError if the groups are one
+        name."""
         self._held: List[object] = []
         rows = [self._requester(user, groups) for user, groups in people]
         self.count = len(rows)
@@ -81,9 +121,9 @@ class NfsAcl:
     def __init__(self, data: bytes, *, narrow: bool = False) -> None:
         """Takes the bytes of a list; with `narrow`, only those of the narrow profile (docs/formats.md).
 
-        Raises Refused, with the offset, if the bytes are not a list.
+        Raises Refused, with the offset, if the bytes are not a list, and TypeError if they are not bytes.
         """
-        self._bytes = bytes(data)
+        self._bytes = memoryview(data).tobytes()  # bytes() would take a number, and make as many zeros
         self._options = c.NARROW if narrow else 0
         self._mode()
 
@@ -141,7 +181,7 @@ class NfsAcl:
         for _ in range(len(self)):
             kind, flags, mask, length = struct.unpack_from(">IIII", self._bytes, at)
             at += 16
-            yield Ace(_KINDS[kind], flags, mask, c.decoded(self._bytes[at:at + length]))
+            yield Ace(_KINDS[kind], _FLAGS[flags], mask, c.decoded(self._bytes[at:at + length]))
             at += length + -length % 4
 
     def _text(self, call: str, room: int, *words: int) -> bytes:
@@ -150,35 +190,37 @@ class NfsAcl:
     def _asked(self, user: Name, groups: Iterable[Name], owner: Name, group: Name, mask: int) -> Tuple[object, ...]:
         who = [c.encoded(owner), c.encoded(group), c.encoded(user)]
         array, count = c.slices(groups)
-        if not 0 <= mask <= _FULL_MASK:
-            raise ValueError(f"no mask: {mask}")
         return (self._bytes, len(self._bytes), who[0], len(who[0]), who[1], len(who[1]), who[2], len(who[2]), array,
-                count, mask, self._options)
+                count, c.word(mask), self._options)
 
     def grants(self, *, user: Name, groups: Iterable[Name] = (), owner: Name, group: Name, mask: int) -> bool:
         """Returns whether the user, who is in these groups and no others, is granted all rights of the mask on an
         object of this owner and group (section 6.2.1).
 
-        Raises ValueError if a name is empty or the mask has a bit that is not a right.
+        Raises ValueError if a name is empty or the mask has a bit that is not a right, and TypeError if `groups` is one
+        name.
         """
         fault = c.Fault()
         asked = self._asked(user, groups, owner, group, mask)
         return c.judged(c.calls["check_nfs"](*asked, ctypes.byref(fault)), fault) == c.YES
 
     def granted(self, *, user: Name, groups: Iterable[Name] = (), owner: Name, group: Name, mask: int = ALL) -> int:
-        """Returns the rights of the mask that the user is granted. Reads the list once. Raises ValueError as `grants`
-        does."""
+        """Returns the rights of the mask that the user is granted. Reads the list once. Raises ValueError and TypeError
+        as `grants` does."""
         found, fault = ctypes.c_uint32(), c.Fault()
         asked = self._asked(user, groups, owner, group, mask)
         c.judged(c.calls["granted"](*asked, ctypes.byref(found), ctypes.byref(fault)), fault)
         return found.value
 
     def granted_many(self, requesters: Requesters, *, owner: Name, group: Name, mask: int = ALL) -> List[int]:
-        """Returns for each of the requesters the rights of the mask that are granted. Reads the list once."""
+        """Returns for each of the requesters the rights of the mask that are granted. Reads the list once. Raises
+        ValueError as `grants` does, and TypeError if the requesters are not `Requesters`."""
+        if not isinstance(requesters, Requesters):
+            raise TypeError("granted_many takes Requesters")
         owned, grouped, fault = c.encoded(owner), c.encoded(group), c.Fault()
         found = (ctypes.c_uint32 * requesters.count)()
         c.judged(c.calls["check_many"](self._bytes, len(self._bytes), owned, len(owned), grouped, len(grouped),
-                                       requesters.array, requesters.count, mask, self._options, found,
+                                       requesters.array, requesters.count, c.word(mask), self._options, found,
                                        requesters.count, ctypes.byref(fault)), fault)
         return list(found)
 
@@ -187,7 +229,8 @@ class NfsAcl:
         """Returns the place and the kind of the ACE that decides one right, or None if no ACE does, which denies the
         right.
 
-        Raises ValueError if `right` is not exactly one right, or a name is empty.
+        Raises ValueError if `right` is not exactly one right, or a name is empty, and TypeError if `groups` is one
+        name.
         """
         found, fault = c.Decision(), c.Fault()
         asked = self._asked(user, groups, owner, group, right)
@@ -218,9 +261,17 @@ class NfsAcl:
 
     def table(self, right: int) -> List[TableRow]:
         """Returns the ACEs of the normal form that have one right. Raises ValueError if it is not exactly one right."""
-        lines = c.decoded(self._text("table", 64 * (len(self) + 1), right)).split("\n")[:-1]
+        lines = c.decoded(self._text("table", 64 * (len(self) + 1), c.word(right))).split("\n")[:-1]
         rows = [line.split(" ", 3) for line in lines]
-        return [TableRow(int(source), kind, flag == "GROUP", who) for source, kind, flag, who in rows]
+        return [TableRow(int(source), AceKind(kind), flag == "GROUP", who) for source, kind, flag, who in rows]
+
+    def needed(self) -> List[int]:
+        """Returns for each ACE, in order, the rights that are needed: the list cut to these masks grants the same, and
+        no right can be taken out of it (docs/lists.md, "Needed rights")."""
+        masks, count, fault = (ctypes.c_uint32 * len(self))(), ctypes.c_size_t(), c.Fault()
+        c.judged(c.calls["needed"](self._bytes, len(self._bytes), self._options, masks, len(masks), ctypes.byref(count),
+                                   ctypes.byref(fault)), fault)
+        return list(masks)
 
     def means_the_same(self, other: NfsAcl) -> bool:
         """Returns whether both lists grant everybody the same, for every owner and group of the object."""

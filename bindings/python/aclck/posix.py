@@ -28,6 +28,11 @@ class Entry(NamedTuple):
     id: Optional[int]
     perm: int
 
+    def __str__(self) -> str:
+        """Returns the line of the entry in the canonical text."""
+        number = "" if self.id is None else self.id
+        return f"{'default:' if self.default else ''}{self.tag}:{number}:{_letters(self.perm)}"
+
 
 class PosixAcl:
     """An access ACL, with the default ACL if it is the list of a directory that has one. Both are valid (acl(5), "VALID
@@ -56,8 +61,9 @@ class PosixAcl:
 
     @classmethod
     def from_mode(cls, mode: int) -> PosixAcl:
-        """Makes the list of the three entries that a mode means (acl(5), "CORRESPONDENCE ..")."""
-        return cls("\n".join(_mode_lines(mode)))
+        """Makes the list of the three entries that a mode means (acl(5), "CORRESPONDENCE .."). Bits above the nine do
+        not count."""
+        return cls("\n".join(_mode_lines(c.word(mode))))
 
     @classmethod
     def from_attributes(cls, access: Optional[bytes], default: Optional[bytes] = None, mode: int = 0) -> PosixAcl:
@@ -122,18 +128,17 @@ class PosixAcl:
         """Returns whether the user, who is in these groups and no others, is granted all of `want` (4 r, 2 w, 1 x) on
         an object of this owner and group (acl(5), "ACCESS CHECK ALGORITHM").
 
-        Raises ValueError if an id is above 4294967294 or `want` above 7.
+        Raises ValueError if an id is above 4294967294 or `want` above 7, and TypeError if `groups` is a text.
         """
-        ids = _array(groups)
-        fault = c.Fault()
-        _words([user, owner, group, want])
-        status = c.calls["check_posix"](self._text, len(self._text), *_table(()), owner, group, user, ids, len(ids),
-                                        want, ctypes.byref(fault))
+        members = [c.word(number) for number in c.several(groups)]
+        ids, fault = (ctypes.c_uint32 * len(members))(*members), c.Fault()
+        status = c.calls["check_posix"](self._text, len(self._text), *_table(()), c.word(owner), c.word(group),
+                                        c.word(user), ids, len(ids), c.word(want), ctypes.byref(fault))
         return c.judged(status, fault) == c.YES
 
     def chmod(self, mode: int) -> PosixAcl:
         """Returns the list after chmod(2) with these nine bits. Raises ValueError if the mode is above 0o777."""
-        return PosixAcl(_posix_text("chmod", self._text, None, _words([mode])))
+        return PosixAcl(_posix_text("chmod", self._text, None, [c.word(mode)]))
 
     def calc_mask(self) -> PosixAcl:
         """Returns the list with a calculated mask: the union of the permissions that it limits (acl_calc_mask(3))."""
@@ -144,7 +149,7 @@ class PosixAcl:
 
         Raises ValueError if `mode` or `umask` is above 0o777.
         """
-        words = _words([mode, umask, c.DIRECTORY if directory else 0])
+        words = [c.word(mode), c.word(umask), c.DIRECTORY if directory else 0]
         return PosixAcl(_posix_text("create", self._text, None, words))
 
     def bridge(self) -> NfsAcl:
@@ -155,26 +160,14 @@ class PosixAcl:
         return NfsAcl(_posix_text("bridge", self._text, None, []))
 
 
-def _array(ids: Iterable[int]) -> "ctypes.Array[ctypes.c_uint32]":
-    held = _words(list(ids))
-    return (ctypes.c_uint32 * len(held))(*held)
-
-
-def _words(numbers: Sequence[int]) -> Sequence[int]:
-    for number in numbers:
-        if not 0 <= number <= _ANYBODY:
-            raise ValueError(f"outside 32 bits: {number}")
-    return numbers
-
-
 _NONE = ((c.NamedId * 0)(), 0)
 
 
 def _table(names: Iterable[Tuple[str, int, bool]]) -> Tuple[object, int]:
-    held = [(c.encoded(name), number, int(is_group)) for name, number, is_group in names]
+    held = [(c.encoded(name), c.word(number), int(is_group)) for name, number, is_group in names]
     if not held:
         return _NONE
-    rows = [c.NamedId(c.Bytes(name, len(name)), _words([number])[0], is_group) for name, number, is_group in held]
+    rows = [c.NamedId(c.Bytes(name, len(name)), number, is_group) for name, number, is_group in held]
     return (c.NamedId * len(rows))(*rows), len(rows)
 
 

@@ -5,7 +5,7 @@ from __future__ import annotations
 import ctypes
 from typing import Dict
 
-from ._library import BAD_ARGUMENT, Name, calls, decoded, encoded
+from ._library import BAD_ARGUMENT, Name, calls, decoded, encoded, word
 
 RIGHTS: Dict[str, int] = {
     "READ_DATA": 0x1, "WRITE_DATA": 0x2, "APPEND_DATA": 0x4, "READ_NAMED_ATTRS": 0x8, "WRITE_NAMED_ATTRS": 0x10,
@@ -51,6 +51,6 @@ def mask_text(mask: int) -> str:
     Raises ValueError if a bit is not a right.
     """
     out, needed = ctypes.create_string_buffer(256), ctypes.c_size_t()
-    if not 0 <= mask <= 0xFFFFFFFF or calls["mask_text"](mask, out, 256, ctypes.byref(needed)) == BAD_ARGUMENT:
+    if calls["mask_text"](word(mask), out, 256, ctypes.byref(needed)) == BAD_ARGUMENT:
         raise ValueError(f"a bit is no right: {mask:#x}")
     return out.raw[:needed.value].decode()

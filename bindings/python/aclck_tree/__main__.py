@@ -3,14 +3,20 @@
 from __future__ import annotations
 
 import argparse
+import contextlib
 import io
 import os
+import signal
 import sqlite3
 import sys
-from typing import Callable, Dict, List, NoReturn, Optional
+from typing import TYPE_CHECKING, Callable, Dict, Iterator, List, NoReturn, Optional
 
 from . import VERSION
-from .errors import DEVICE, REFUSED, USAGE, DeviceError, TreeError
+from .errors import DEVICE, REFUSED, USAGE, DeviceError, TreeError, UsageError, tell
+from .text import Form, quoted_line
+
+if TYPE_CHECKING:
+    from _typeshed import SupportsWrite
 
 _EXIT = """exit status: 0 yes or done, 1 something is denied or different, 2 something was
 refused, is not known or could not be read, 3 the command line is wrong,
@@ -32,7 +38,10 @@ EXAMPLES = {
 
 class _Parser(argparse.ArgumentParser):
     def error(self, message: str) -> NoReturn:
-        self.exit(USAGE, f"aclck-tree: {message}\n")
+        self.exit(USAGE, f"aclck-tree: {quoted_line(message)}\n")
+
+    def _print_message(self, message: str, file: Optional[SupportsWrite[str]] = None) -> None:
+        (file or sys.stderr).write(message)  # that of argparse says nothing of a failure
 
 
 def _add_word(words: "argparse._SubParsersAction[_Parser]", word: str, about: str, description: str) -> _Parser:
@@ -43,10 +52,13 @@ def _add_word(words: "argparse._SubParsersAction[_Parser]", word: str, about: st
 
 def _add_form(parser: argparse.ArgumentParser) -> None:
     form = parser.add_mutually_exclusive_group()
-    form.add_argument("--csv", dest="form", action="store_const", const="csv",
+    form.add_argument("--csv", dest="form", action="store_const", const=Form.CSV,
                       help="write CSV, one line per object or answer")
-    form.add_argument("--json", dest="form", action="store_const", const="json", help="write one JSON object per line")
-    parser.set_defaults(form="text")
+    form.add_argument("--json", dest="form", action="store_const", const=Form.JSON,
+                      help="write one JSON object per line")
+    parser.add_argument("--raw", action="store_true", help="with --csv: put no apostrophe in front of a cell that a "
+                        "spreadsheet would run")
+    parser.set_defaults(form=Form.TEXT)
 
 
 def _add_people(parser: argparse.ArgumentParser) -> None:
@@ -69,6 +81,16 @@ def _add_want(parser: argparse.ArgumentParser) -> None:
     parser.add_argument("--may", metavar="RIGHTS", required=True,
                         help="letters of rwx, or names of rights with | between")
     parser.add_argument("--any", action="store_true", help="ask for any of the rights, and not for all")
+    _add_path(parser)
+    _add_reach(parser)
+
+
+def _add_reach(parser: argparse.ArgumentParser) -> None:
+    parser.add_argument("--reach", action="store_true",
+                        help="EXECUTE, or x, on each directory of the tree above an object counts too")
+
+
+def _add_path(parser: argparse.ArgumentParser) -> None:
     parser.add_argument("--path", metavar="GLOB",
                         help="only the objects whose path matches, where * matches a slash too")
 
@@ -91,6 +113,7 @@ def _add_scan(words: "argparse._SubParsersAction[_Parser]") -> None:
     scan.add_argument("--attribute", default="system.nfs4_acl", metavar="NAME", help="where NFSv4 lists are "
                       "(system.nfs4_acl)")
     scan.add_argument("--host", metavar="NAME", help="the name of this host in the snapshot")
+    scan.add_argument("--quiet", action="store_true", help="report failures alone")
     merge = _add_word(words, "merge", "join snapshots",
                       "Joins the snapshots of several hosts.")
     merge.add_argument("snapshot", nargs="+", metavar="SNAPSHOT")
@@ -126,11 +149,14 @@ def _add_comparisons(words: "argparse._SubParsersAction[_Parser]") -> None:
     same.add_argument("snapshot", metavar="SNAPSHOT")
     same.add_argument("--inherit", action="store_true", help="of directories, what is made below them counts too")
     same.add_argument("--each", action="store_true", help="write one line per object")
+    _add_path(same)
     diff = _add_word(words, "diff", "what changed between two snapshots, and for whom",
                      "Writes which objects came, went or changed, and for whom access changed.")
     diff.add_argument("old", metavar="OLD")
     diff.add_argument("new", metavar="NEW")
     diff.add_argument("--each", action="store_true", help="write one line per object, and not one per class of changes")
+    diff.add_argument("--pair", metavar="OLD=NEW", action="append", default=[],
+                      help="these are one tree at two places; may be given several times")
     _add_people(diff)
     _add_domain(diff, linux=False)
     report = _add_word(words, "report", "make a page of HTML",
@@ -139,6 +165,8 @@ def _add_comparisons(words: "argparse._SubParsersAction[_Parser]") -> None:
     report.add_argument("-o", dest="output", metavar="FILE", help="the page to make; else it goes to standard output")
     _add_people(report)
     _add_domain(report)
+    _add_path(report)
+    _add_reach(report)
     info = _add_word(words, "info", "what a snapshot has",
                      "Writes which trees a snapshot has, and each step of its scan that failed.")
     info.add_argument("snapshot", metavar="SNAPSHOT")
@@ -160,6 +188,10 @@ def parser_of() -> argparse.ArgumentParser:
 
 
 def _run(args: argparse.Namespace) -> int:
+    if getattr(args, "raw", False):
+        if args.form is not Form.CSV:
+            raise UsageError("--raw goes with --csv")
+        args.form = Form.RAW_CSV
     if args.word == "scan":
         from .making import scan
         return scan(args)
@@ -167,42 +199,87 @@ def _run(args: argparse.Namespace) -> int:
         from .making import merge
         return merge(args)
     try:
-        from . import commands, diffing, report
+        from . import commands, diffing, questions, report
     except ImportError as error:
         raise DeviceError(str(error)) from None
     found: Dict[str, Callable[[argparse.Namespace], int]] = {
-        "who": commands.who, "may": commands.may, "why": commands.why, "same": commands.same,
+        "who": questions.who, "may": questions.may, "why": questions.why, "same": commands.same,
         "diff": diffing.diff, "info": commands.info, "report": report.report}
     return found[args.word](args)
 
 
+def _answer(words: Optional[List[str]]) -> int:
+    try:
+        args = parser_of().parse_args(words)
+    except SystemExit as done:  # after --help or --version, or a wrong command line
+        return done.code if isinstance(done.code, int) else USAGE
+    return _run(args)
+
+
 def main(words: Optional[List[str]] = None) -> int:
-    """Runs the program and returns its exit status."""
+    """Runs the program and returns its exit status. No error has a status that is an answer."""
+    _open_streams()
+    try:
+        with _signals_as_ctrl_c():
+            status = _answer(words)
+            sys.stdout.flush()
+    except TreeError as error:
+        status = _told(str(error), error.status)
+    except sqlite3.DatabaseError as error:
+        status = _told(f"a snapshot cannot be read: {error}", REFUSED)
+    except BrokenPipeError:
+        status = DEVICE
+    except OSError as error:
+        status = _told(error.strerror or str(error), DEVICE)
+    except MemoryError:
+        status = _told("out of memory", DEVICE)
+    except KeyboardInterrupt:
+        status = 130
+    except Exception as error:  # a fault of this program; Python would exit with 1, which means `denied`
+        status = _told(f"internal error: {type(error).__name__}: {error}", DEVICE)
+    return _end_streams(status)
+
+
+def _open_streams() -> None:
+    """Prepares the standard streams. If they are closed, writing to standard output fails, and lines to standard error
+    are lost."""
+    if sys.stdout is None:
+        sys.stdout = open(os.open(os.devnull, os.O_RDONLY), "w", encoding="utf-8")
+    if sys.stderr is None:
+        sys.stderr = open(os.devnull, "w", encoding="utf-8")
     for stream in (sys.stdout, sys.stderr):
         if isinstance(stream, io.TextIOWrapper):
             stream.reconfigure(encoding="utf-8", errors="surrogateescape")
+
+
+def _end_streams(status: int) -> int:
+    """Writes what the standard streams still hold, and returns the exit status. If a stream cannot be written, it goes
+    nowhere from now on: otherwise Python would fail at it once more when it ends, and exit with 120."""
+    for stream in (sys.stdout, sys.stderr):
+        try:
+            stream.flush()
+        except OSError:
+            status = DEVICE
+            os.dup2(os.open(os.devnull, os.O_WRONLY), stream.fileno())
+    return status
+
+
+@contextlib.contextmanager
+def _signals_as_ctrl_c() -> Iterator[None]:
+    """Lets SIGTERM and SIGHUP do what Ctrl-C does, unless they are ignored, as after nohup(1)."""
+    taken = [one for one in (signal.SIGTERM, signal.SIGHUP) if signal.getsignal(one) == signal.SIG_DFL]
+    for one in taken:
+        signal.signal(one, signal.default_int_handler)
     try:
-        status = _run(parser_of().parse_args(words))
-        sys.stdout.flush()
-        return status
-    except TreeError as error:
-        return _told(str(error), error.status)
-    except sqlite3.DatabaseError as error:
-        return _told(f"a snapshot cannot be read: {error}", REFUSED)
-    except BrokenPipeError:
-        os.dup2(os.open(os.devnull, os.O_WRONLY), sys.stdout.fileno())
-        return DEVICE
-    except OSError as error:
-        return _told(error.strerror or str(error), DEVICE)
-    except MemoryError:
-        return _told("out of memory", DEVICE)
-    except KeyboardInterrupt:
-        return 130
+        yield
+    finally:
+        for one in taken:
+            signal.signal(one, signal.SIG_DFL)
 
 
 def _told(line: str, status: int) -> int:
-    safe = "".join(letter if letter.isprintable() else f"\\x{ord(letter) & 255:02x}" for letter in line)
-    sys.stderr.write(f"aclck-tree: {safe}\n")
+    with contextlib.suppress(OSError):
+        tell(line)
     return status
 
 

@@ -1,43 +1,40 @@
-"""The commands about one snapshot. Each writes answers and returns an exit status."""
+"""What the commands about snapshots share, and the commands same and info. Each command writes answers and returns an
+exit status."""
 
 from __future__ import annotations
 
 import argparse
 import fnmatch
+import glob as globs
 import os
-import sys
-from typing import Dict, Iterable, Iterator, List, NamedTuple, Optional, Set, Tuple, Union
+import re
+from dataclasses import replace
+from typing import AnyStr, Dict, Iterable, Iterator, List, NamedTuple, Optional, Pattern, Set, Tuple, TypeVar
 
-from .ask import DENIED, GRANTED, UNKNOWN, Asker, Options, Want, want_of
-from .ask import why as why_of
+from . import mentions
+from .ask import DENIED, UNKNOWN, Answer, Asker, Options
 from .compare import same as same_of
-from .errors import NO, REFUSED, YES, TreeError, UsageError
-from .lists import Asked, RefusedList
-from .people import Person, groups_in, one_person, passwd_files, people_file, snapshot_people, system_people
-from .snapshot import Face, Snapshot, Tree
+from .errors import NO, REFUSED, YES, TreeError, UsageError, tell
+from .lists import Kind
+from .people import Person, listed_person, one_person, passwd_files, people_file, snapshot_people, system_people
+from .snapshot import Snapshot, Tree
 from .text import Output, Row, plural, quoted, quoted_path, table
-
-
-def warn(line: str) -> None:
-    """Writes a line to standard error."""
-    sys.stderr.write(f"aclck-tree: {line}\n")
 
 
 def opened(place: str) -> Snapshot:
     """Opens a snapshot, and reports on standard error what it lacks."""
     snapshot = Snapshot(place)
     if not snapshot.is_whole():
-        warn(f"{quoted(place)} is partial: its scan was ended early")
+        tell(f"{quoted(place)} is partial: its scan was ended early")
     errors = sum(1 for _ in snapshot.errors())
     if errors:
-        warn(f"{quoted(place)} lacks what failed in {plural(errors, 'step')}: aclck-tree info lists them")
+        tell(f"{quoted(place)} lacks what failed in {plural(errors, 'step')}: aclck-tree info lists them")
     return snapshot
 
 
 def status_of(status: int, *snapshots: Snapshot) -> int:
     """Returns an exit status, which is 2 if a snapshot lacks something."""
-    whole = all(one.is_whole() and not any(True for _ in one.errors()) for one in snapshots)
-    return status if whole else REFUSED
+    return status if all(one.is_complete() for one in snapshots) else REFUSED
 
 
 def people_of(args: argparse.Namespace, snapshot: Snapshot) -> List[Person]:
@@ -52,21 +49,33 @@ def people_of(args: argparse.Namespace, snapshot: Snapshot) -> List[Person]:
 
 
 def asker_of(args: argparse.Namespace, snapshot: Snapshot, people: List[Person]) -> Asker:
-    """Makes the `Asker` of a snapshot, and reports on standard error whose ids are not known."""
+    """Makes the `Asker` of a snapshot, and reports on standard error which names the snapshot does not mention, and
+    whose ids are not known."""
     asker = Asker(snapshot, people, Options(args.domain or "", getattr(args, "linux", False)))
-    unknown: Set[str] = set()
-    for face in snapshot.faces().values():
-        if snapshot.is_posix(face.list):
-            accounts = asker.accounts[face.tree]
-            for person in people:
-                names = [(person.name, False), *((group, True) for group in person.groups)]
-                unknown.update(name for name, kind in names if accounts.id(person, name, kind) is None)
-            break
-    if unknown:
-        held = sorted(unknown)
-        more = f" and {len(held) - 5:,} more" if len(held) > 5 else ""
-        warn(f"no id is known for {', '.join(map(quoted, held[:5]))}{more}: answers about POSIX lists are unknown")
+    is_typed = bool(getattr(args, "people", None) or getattr(args, "user", None))
+    for line in mentions.lines(asker, not is_typed):
+        tell(f"{quoted(snapshot.place)}: {line}")
+    for host, names in _without_ids(asker).items():
+        if len({tree.host for tree in snapshot.trees.values()}) > 1:
+            line = f"the host {quoted(host)} does not list {mentions.words_of(names)}: answers about its"
+        else:
+            line = f"no id is known for {mentions.words_of(names)}: answers about"
+        tell(f"{quoted(snapshot.place)}: {line} POSIX lists are unknown")
     return asker
+
+
+def _without_ids(asker: Asker) -> Dict[str, Set[mentions.Name]]:
+    """Returns, for each host with POSIX lists, the people and groups who have no id there. People of whom only other
+    hosts listed the groups are among them."""
+    found: Dict[str, Set[mentions.Name]] = {}
+    for tree in {face.tree for face in asker.faces.values() if asker.kind(face.list) is Kind.POSIX}:
+        names = {(is_group, name) for one in asker.people
+                 for is_group, name in ((False, one.name), *((True, group) for group in one.groups_in(tree) or ()))
+                 if asker.id(one, name, is_group, tree) is None}
+        names |= {(False, one.name) for one in asker.people if one.groups_in(tree) is None}
+        if names:
+            found.setdefault(asker.snapshot.trees[tree].host, set()).update(names)
+    return dict(sorted(found.items()))
 
 
 class Counted(NamedTuple):
@@ -76,25 +85,76 @@ class Counted(NamedTuple):
     first: bytes
 
 
+_Key = TypeVar("_Key")
+
+
+def count_by(snapshot: Snapshot, objects: Iterable[Tuple[_Key, int, bytes]]) -> Dict[_Key, Counted]:
+    """Counts objects by a key. Each has its key, its tree and the path below the root, in the order of trees and
+    paths."""
+    places: Dict[_Key, int] = {}
+    counts: List[int] = []
+    firsts: List[bytes] = []
+    for key, tree, path in objects:
+        place = places.get(key)
+        if place is None:
+            places[key] = len(places)
+            counts.append(1)
+            firsts.append(snapshot.trees[tree].full(path))
+        else:
+            counts[place] += 1
+    return dict(zip(places, map(Counted, counts, firsts)))
+
+
 def counted(snapshot: Snapshot, glob: Optional[str]) -> Dict[int, Counted]:
     """Counts the objects of each face. With a pattern, only objects whose whole path matches it count."""
-    faces = snapshot.faces()
     if glob is None:
+        faces = snapshot.faces()
         return {face: Counted(count, snapshot.trees[faces[face].tree].full(first))
-                for face, (count, _, first) in snapshot.face_counts().items()}
-    found: Dict[int, Counted] = {}
-    for path, _, face in matching(snapshot, glob):
-        known = found.get(face)
-        found[face] = Counted(known.objects + 1, known.first) if known else Counted(1, path)
-    return found
+                for face, (count, first) in snapshot.face_counts().items()}
+    return count_by(snapshot, ((face, tree, path) for tree, path, _, face in selected(snapshot, glob)))
+
+
+class Paths:
+    """A pattern for whole paths. It may be written as the path of a tree was typed for the scan, or from `/`."""
+
+    def __init__(self, snapshot: Snapshot, glob: str) -> None:
+        here = glob if os.path.isabs(glob) else os.path.join(globs.escape(os.getcwd()), glob)
+        typed, from_root = (re.compile(fnmatch.translate(_normal(one))) for one in (glob, here))
+        self._forms: Dict[int, List[Tuple[Pattern[str], bytes]]] = {}
+        for number, tree in snapshot.trees.items():
+            self._forms[number] = [(typed, _normal(tree.root)), (from_root, _normal(tree.place))]
+
+    def has(self, tree: int, path: bytes) -> bool:
+        """Whether the pattern matches an object, which is given by its path below the root of a tree."""
+        return any(pattern.match(os.fsdecode(_whole(root, path))) for pattern, root in self._forms[tree])
+
+
+def _normal(path: AnyStr) -> AnyStr:
+    """Returns a path without needless parts. Two slashes in front are one, because here they mean nothing else."""
+    found = os.path.normpath(path)
+    return found[1:] if found[:2] in ("//", b"//") else found
+
+
+def _whole(root: bytes, path: bytes) -> bytes:
+    """Returns the path of an object in normal form, from the root in normal form and the path below it."""
+    if not path:
+        return root
+    return path if root == b"." else root.rstrip(b"/") + b"/" + path
+
+
+def selected(snapshot: Snapshot, glob: Optional[str]) -> Iterator[Tuple[int, bytes, str, int]]:
+    """Yields the tree, the path below its root, the kind and the face of each object whose whole path matches a
+    pattern, in the order of trees and paths."""
+    paths = None if glob is None else Paths(snapshot, glob)
+    for tree, path, kind, _, face in snapshot.objects():
+        if paths is None or paths.has(tree, path):
+            yield tree, path, kind, face
 
 
 def matching(snapshot: Snapshot, glob: Optional[str]) -> Iterator[Tuple[bytes, str, int]]:
     """Yields the whole path, the kind and the face of each object whose whole path matches a pattern."""
-    for tree, path, kind, _, face in snapshot.objects():
-        full = snapshot.trees[tree].full(path)
-        if glob is None or fnmatch.fnmatchcase(os.fsdecode(full), glob):
-            yield full, kind, face
+    for tree, path, kind, face in selected(snapshot, glob):
+        yield snapshot.trees[tree].full(path), kind, face
 
 
 class Tally:
@@ -105,136 +165,20 @@ class Tally:
 
     def add(self, answer: str, count: int = 1) -> None:
         """Counts an answer."""
-        self.counts[answer] = self.counts.get(answer, 0) + count
+        if count:
+            self.counts[answer] = self.counts.get(answer, 0) + count
 
     def status(self) -> int:
         """Returns 2 if something was refused or is not known or nothing was asked, 1 if something is denied, and
         otherwise 0."""
-        if not self.counts or self.counts.get("refused") or self.counts.get(UNKNOWN):
+        if not self.counts or self.counts.get(Answer.REFUSED.value) or self.counts.get(UNKNOWN.value):
             return REFUSED
-        return NO if self.counts.get(DENIED) else YES
+        return NO if self.counts.get(DENIED.value) else YES
 
-    def line(self, order: Iterable[str]) -> str:
-        """Returns the counts in words."""
-        return ", ".join(f"{self.counts[word]:,} {word}" for word in order if self.counts.get(word))
-
-
-def left_out(asker: Asker, faces: Iterable[int]) -> str:
-    """Reports how many AUDIT and ALARM ACEs were left out of the lists of some faces, if there are any."""
-    known = asker.snapshot.faces()
-    asked = [asker.ready(number) for number in {known[face].list for face in faces}]
-    numbers = [one.left_out for one in asked if isinstance(one, Asked) and one.left_out]
-    if not numbers:
-        return ""
-    return f"; {plural(sum(numbers), 'AUDIT or ALARM ACE')} left out of {plural(len(numbers), 'list')}"
-
-
-def _specials(asker: Asker, face: Face) -> str:
-    asked = asker.ready(face.list)
-    return " ".join(sorted(name for name, _ in asked.specials)) if isinstance(asked, Asked) else ""
-
-
-Answers = Union[RefusedList, List[str]]
-
-
-def _linux_changes(args: argparse.Namespace, asker: Asker, want: Want, answers: Dict[int, Answers],
-                   counts: Dict[int, Counted]) -> str:
-    """Reports how many answers `--linux` changes."""
-    if not args.linux:
-        return ""
-    other = Asker(asker.snapshot, asker.people, Options(asker.options.domain))
-    faces = asker.snapshot.faces()
-    changed = 0
-    for face, mine in answers.items():
-        plain = other.answers(faces[face], want)
-        if not isinstance(mine, RefusedList) and not isinstance(plain, RefusedList):
-            changed += counts[face].objects * sum(one != two for one, two in zip(mine, plain))
-    return f"; --linux changes {plural(changed, 'answer')}"
-
-
-def who(args: argparse.Namespace) -> int:
-    """Writes which of the people may do what is asked, for each object or for each class of objects."""
-    snapshot = opened(args.snapshot)
-    people = people_of(args, snapshot)
-    asker, want = asker_of(args, snapshot, people), want_of(args.may, args.any)
-    faces, counts, tally = snapshot.faces(), counted(snapshot, args.path), Tally()
-    answers = {face: asker.answers(faces[face], want) for face in counts}
-    rows = {face: _who_row(asker, faces[face], found) for face, found in answers.items()}
-    for face, row in rows.items():
-        found = answers[face]
-        for answer in ["refused"] if isinstance(found, RefusedList) else found:
-            tally.add(answer, counts[face].objects)
-    out = Output(args.form, ["path", GRANTED, UNKNOWN, "refused"],
-                 lambda row: f"{quoted(row['path'])}: {_who_text(row)}")
-    if args.form != "text" or args.each:
-        for path, _, face in matching(snapshot, args.path):
-            out.put({"path": os.fsdecode(path), **rows[face]})
-    else:
-        _who_classes(out, rows, counts)
-    objects = sum(one.objects for one in counts.values())
-    out.note(f"{plural(objects, 'object')}, {plural(len(people), 'person').replace('persons', 'people')}: "
-             f"{tally.line([GRANTED, DENIED, UNKNOWN, 'refused']) or 'nothing asked'}"
-             f"{left_out(asker, counts)}{_linux_changes(args, asker, want, answers, counts)}")
-    return status_of(tally.status(), snapshot)
-
-
-def _who_row(asker: Asker, face: Face, found: Answers) -> Row:
-    if isinstance(found, RefusedList):
-        return {GRANTED: [], UNKNOWN: [], "special": "", "refused": found.reason}
-    named = {word: [person.name for person, answer in zip(asker.people, found) if answer == word]
-             for word in (GRANTED, UNKNOWN)}
-    special = _specials(asker, face) if named[UNKNOWN] else ""
-    return {**named, "special": special, "refused": None}
-
-
-def _who_text(row: Row) -> str:
-    if row["refused"] is not None:
-        return f"refused {row['refused']}"
-    text = " ".join(map(quoted, row[GRANTED])) or "nobody"
-    if row[UNKNOWN]:
-        hangs = f" (depends on {row['special']})" if row["special"] else ""
-        text += "; unknown: " + " ".join(map(quoted, row[UNKNOWN])) + hangs
-    return text
-
-
-def _who_classes(out: Output, rows: Dict[int, Row], counts: Dict[int, Counted]) -> None:
-    classes: Dict[str, Counted] = {}
-    for face, row in rows.items():
-        text, one = _who_text(row), counts[face]
-        known = classes.get(text)
-        classes[text] = Counted(known.objects + one.objects, min(known.first, one.first)) if known else one
-    ordered = sorted(classes.items(), key=lambda pair: (-pair[1].objects, pair[1].first))
-    lines = [("OBJECTS", "FIRST OF THEM", "WHO")]
-    lines += [(f"{one.objects:,}", quoted_path(one.first), text) for text, one in ordered]
-    for line in table(lines, right=[0]):
-        out.note(line)
-
-
-def may(args: argparse.Namespace) -> int:
-    """Writes on which objects one user is granted what is asked."""
-    snapshot = opened(args.snapshot)
-    person = person_of(args, snapshot)
-    asker, want = asker_of(args, snapshot, [person]), want_of(args.may, args.any)
-    faces, counts, tally = snapshot.faces(), counted(snapshot, args.path), Tally()
-    answers = {face: asker.answers(faces[face], want) for face in counts}
-    out = Output(args.form, ["answer", "path", "reason"], _may_text)
-    for path, _, face in matching(snapshot, args.path):
-        found = answers[face]
-        answer = "refused" if isinstance(found, RefusedList) else found[0]
-        reason = found.reason if isinstance(found, RefusedList) else _specials(asker, faces[face])
-        tally.add(answer)
-        if args.all or answer != DENIED:
-            reason = reason if answer in ("refused", UNKNOWN) else ""
-            out.put({"answer": answer, "path": os.fsdecode(path), "reason": reason})
-    out.note(f"{plural(sum(tally.counts.values()), 'object')}: "
-             f"{tally.line([GRANTED, DENIED, UNKNOWN, 'refused']) or 'nothing asked'}"
-             f"{left_out(asker, counts)}{_linux_changes(args, asker, want, answers, counts)}")
-    return status_of(tally.status(), snapshot)
-
-
-def _may_text(row: Row) -> str:
-    reason = f" {row['reason']}" if row["reason"] else ""
-    return f"{row['answer']}{reason}: {quoted(row['path'])}"
+    def line(self) -> str:
+        """Returns the counts of answers in words."""
+        found = ", ".join(f"{self.counts[one.value]:,} {one.value}" for one in Answer if self.counts.get(one.value))
+        return found or "nothing asked"
 
 
 def person_of(args: argparse.Namespace, snapshot: Snapshot) -> Person:
@@ -242,87 +186,65 @@ def person_of(args: argparse.Namespace, snapshot: Snapshot) -> Person:
     if args.groups is not None:
         return one_person(args.user, [group for group in args.groups.split(",") if group])
     person = one_person(args.user, [])
-    return Person(person.name, tuple(groups_in(snapshot, person.name)), person.ids)
-
-
-def why(args: argparse.Namespace) -> int:
-    """Writes which ACE or entry decides about each right of one user on one object."""
-    snapshot = opened(args.snapshot)
-    person = person_of(args, snapshot)
-    asker = asker_of(args, snapshot, [person])
-    tree, path, face_number = find(snapshot, args.path)
-    face = snapshot.faces()[face_number]
-    found = why_of(asker, face, person)
-    if isinstance(found, RefusedList):
-        warn(f"{quoted_path(tree.full(path))}: refused {found.reason}")
-        return REFUSED
-    kind = "posix" if snapshot.is_posix(face.list) else "nfs4"
-    owner, group = asker.owner_and_group(face, kind)
-    out = Output(args.form, ["right", "answer", "place", "decided_by"], lambda row: "")
-    wanted = want_of(args.may) if args.may else None
-    found = [one for one in found if not wanted or _is_asked(one.right, wanted)]
-    out.note(f"{quoted_path(tree.full(path))}: owner {quoted(owner)}, group {quoted(group)}")
-    lines = []
-    for one in found:
-        place = "" if one.place is None else str(one.place)
-        lines.append((one.right, one.answer, place, quoted_line(one.text)))
-        if args.form != "text":
-            out.put({"right": one.right, "answer": one.answer, "place": one.place, "decided_by": one.text})
-    if args.form == "text":
-        for line in table(lines, right=[2]):
-            out.note(line)
-    answers = {one.answer for one in found}
-    return REFUSED if UNKNOWN in answers else NO if DENIED in answers else YES
-
-
-def _is_asked(right: str, want: Want) -> bool:
-    asked = want_of(right)
-    return bool(asked.perms & want.perms) if right in "rwx" else bool(asked.mask & want.mask)
-
-
-def quoted_line(text: str) -> str:
-    """Returns a line of a list. Nothing in it can break the line, because a who has no control characters."""
-    return "".join(letter if letter.isprintable() else f"\\u{ord(letter):04x}" for letter in text)
+    listed = listed_person(snapshot, Options(args.domain or "").account(person.name))
+    if not listed.groups:
+        tell(f"the snapshot has no groups of {quoted(person.name)}: --groups names them")
+    return replace(listed, name=person.name, ids=person.ids)
 
 
 def find(snapshot: Snapshot, path: str) -> Tuple[Tree, bytes, int]:
     """Finds an object by its path as the scan wrote it, from `/`, or below the root. Raises TreeError if there is
     none."""
-    typed = os.fsencode(os.path.normpath(path))
+    typed = _normal(os.fsencode(path))
     for tree in snapshot.trees.values():
-        for whole, root in ((typed, tree.root), (os.path.abspath(typed), tree.place), (b"./" + typed, b".")):
-            prefix = root.rstrip(b"/") + b"/"
-            below = b"" if whole == root else whole[len(prefix):] if whole.startswith(prefix) else None
+        for whole, root in ((typed, _normal(tree.root)), (_normal(os.path.abspath(typed)), _normal(tree.place))):
+            below = _below(root, whole)
             found = snapshot.find(tree.tree, below) if below is not None else None
             if found and below is not None:
                 return tree, below, found[2]
     raise TreeError(f"{quoted(path)}: not in the snapshot")
 
 
+def _below(root: bytes, path: bytes) -> Optional[bytes]:
+    """Returns the path below a root, or None if the path is not there. Both are in normal form."""
+    if path == root:
+        return b""
+    if root == b".":
+        return path
+    prefix = root.rstrip(b"/") + b"/"
+    return path[len(prefix):] if path.startswith(prefix) else None
+
+
 def same(args: argparse.Namespace) -> int:
     """Writes the classes of objects that grant the same, greatest first."""
     snapshot = opened(args.snapshot)
     asker = Asker(snapshot, [], Options())
-    classes, places = same_of(asker, args.inherit)
-    faces = snapshot.faces()
-    firsts: Dict[int, bytes] = {}
+    if args.inherit:
+        keys = (((face, kind == "d"), tree, path) for tree, path, kind, face in selected(snapshot, args.path))
+        by_face = count_by(snapshot, keys)
+    else:
+        by_face = {(face, False): one for face, one in counted(snapshot, args.path).items()}
+    counts: Dict[Tuple[int, bool], Counted] = {}
+    for (face, is_directory), one in by_face.items():
+        key = asker.faces[face].list, is_directory
+        known = counts.get(key, Counted(0, one.first))
+        counts[key] = Counted(known.objects + one.objects, min(known.first, one.first))
+    classes, places = same_of(asker, counts)
     out = Output(args.form, ["class", "kind", "path", "refused"],
                  lambda row: f"{row['class']} {quoted(row['path'])}{_refused(row)}")
-    each = args.form != "text" or args.each
-    for path, kind, face in matching(snapshot, None):
-        place = places[faces[face].list, kind == "d" and args.inherit]
-        firsts.setdefault(place, path)
-        if each:
-            one = classes[place]
-            out.put({"class": place + 1, "kind": one.kind, "path": os.fsdecode(path), "refused": one.refused})
-    if not each:
+    if args.form != "text" or args.each:
+        for full, kind, face in matching(snapshot, args.path):
+            place = places[asker.faces[face].list, kind == "d" and args.inherit]
+            out.put({"class": place + 1, "kind": classes[place].kind, "path": os.fsdecode(full),
+                     "refused": classes[place].refused})
+    else:
         lines = [("CLASS", "OBJECTS", "LISTS", "KIND", "FIRST OF THEM")]
         lines += [(str(place + 1), f"{one.objects:,}", f"{len(one.lists):,}", one.kind,
-                   quoted_path(firsts[place]) + (f" ({one.refused})" if one.refused else ""))
+                   quoted_path(one.first) + (f" ({one.refused})" if one.refused else ""))
                   for place, one in enumerate(classes)]
         for line in table(lines, right=[0, 1, 2]):
             out.note(line)
-    return status_of(REFUSED if any(one.refused for one in classes) else YES, snapshot)
+    return status_of(REFUSED if not classes or any(one.refused for one in classes) else YES, snapshot)
 
 
 def _refused(row: Row) -> str:
@@ -333,19 +255,18 @@ def info(args: argparse.Namespace) -> int:
     """Writes what a snapshot has: its trees, counts, and each step that failed."""
     snapshot = Snapshot(args.snapshot)
     out = Output(args.form, ["tree", "path", "step", "message"],
-                 lambda row: f"failed to {row['step']} {quoted(row['path'])}: {row['message']}")
+                 lambda row: f"failed to {quoted(row['step'])} {quoted(row['path'])}: {row['message']}")
     for tree in snapshot.trees.values():
         state = "whole" if tree.whole else "partial"
-        out.note(f"{tree.host}:{quoted_path(tree.place)}, scanned as {quoted_path(tree.root)} from {tree.began} to "
-                 f"{tree.ended or 'no end'} by aclck-tree {tree.version}: {state}, "
+        ended = quoted(tree.ended) if tree.ended else "no end"
+        out.note(f"{quoted(tree.host)}:{quoted_path(tree.place)}, scanned as {quoted_path(tree.root)} from "
+                 f"{quoted(tree.began)} to {ended} by aclck-tree {quoted(tree.version)}: {state}, "
                  f"{plural(tree.links, 'link')} not followed")
     kinds = snapshot.count_kinds()
     directories = f"{kinds.get('d', 0):,} director" + ("y" if kinds.get("d") == 1 else "ies")
     out.note(f"{plural(snapshot.count(), 'object')} ({directories}), {plural(len(snapshot.lists()), 'distinct list')}, "
              f"{len(snapshot.faces()):,} distinct owners, groups and lists")
-    failed = 0
     for number, path, step, message in snapshot.errors():
-        failed += 1
         whole = snapshot.trees[number].full(path)
         out.put({"tree": number, "path": os.fsdecode(whole), "step": step, "message": message})
-    return REFUSED if failed or not snapshot.is_whole() else YES
+    return status_of(YES, snapshot)

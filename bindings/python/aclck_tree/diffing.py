@@ -4,71 +4,116 @@ from __future__ import annotations
 
 import argparse
 import os
-from typing import Dict, Optional, Tuple
+from typing import Dict, Iterator, List, Optional
 
 from aclck import mask_text
 
-from .commands import Counted, Tally, asker_of, opened, people_of, quoted_line, status_of
-from .compare import Change, Compared, FaceChange, pair_trees
+from .changes import Change, Compared, ChangeKind, ObjectChange
+from .commands import Counted, Tally, asker_of, opened, people_of, status_of
 from .errors import NO, REFUSED, YES
+from .pairing import pair_trees
+from .snapshot import Snapshot, Tree
 from .text import Output, Row, plural, quoted
+
+_WORDS = {
+    ChangeKind.GONE: "gone", ChangeKind.CAME: "came", ChangeKind.BYTES: "with other bytes and the same meaning",
+    ChangeKind.MEANING: "with another meaning", ChangeKind.INHERITS: "with another meaning for new objects",
+    ChangeKind.PEOPLE: "with other people", ChangeKind.BITS: "with other special bits", ChangeKind.REFUSED: "refused",
+    ChangeKind.SAME: "as before"}
+"""What the last line says of each kind, in its order."""
+
+
+class _Diff:
+    """Writes changes: with `each` each object by itself, and otherwise each class of objects in one place."""
+
+    def __init__(self, args: argparse.Namespace) -> None:
+        self._is_text = args.form == "text"
+        self.each = args.each or not self._is_text
+        self._out = Output(args.form, ["change", "path", "whom", "gained", "lost", "unclear", "note", "on"], _text)
+        self._classes: Dict[ObjectChange, Counted] = {}
+        self._tally = Tally()
+        self._has_refused = False
+
+    def add(self, change: ObjectChange, path: bytes, count: int = 1) -> None:
+        """Takes objects that changed in one way, with the whole path of the first."""
+        self._tally.add(change.kind, count)
+        self._has_refused |= change.is_refused
+        if change.kind is ChangeKind.SAME:
+            return
+        if self.each:
+            self._put(change, path)
+            return
+        known = self._classes.get(change)
+        self._classes[change] = Counted(known.objects + count, known.first) if known else Counted(count, path)
+
+    def end(self) -> None:
+        """Writes the classes: the objects that are gone, those that came, and the others, greatest first."""
+        order = {ChangeKind.UNPAIRED: 0, ChangeKind.GONE: 1, ChangeKind.CAME: 2}
+        for change, one in sorted(self._classes.items(),
+                                  key=lambda item: (order.get(item[0].kind, 3), -item[1].objects, item[1].first)):
+            self._put(change, one.first, one.objects - 1)
+        self._classes.clear()
+
+    def _put(self, change: ObjectChange, path: bytes, others: int = 0) -> None:
+        self._out.put(self._row(change.kind, path, change.note, others=others))
+        for one in change.changes:
+            for whom in [one.whom] if self._is_text else [(name,) for name in one.whom]:
+                self._out.put(self._row(change.kind, path, one.note, one._replace(whom=whom)))
+
+    def _row(self, kind: ChangeKind, path: bytes, note: str, change: Optional[Change] = None, others: int = 0) -> Row:
+        row: Row = {"change": kind.value, "path": os.fsdecode(path), "note": note, "whom": None, "on": None}
+        if change:
+            row["on"] = change.on or None
+            row["whom"] = change.whom if self._is_text else str(change.whom[0])
+        if self._is_text:
+            row["others"] = others
+        for name in ("gained", "lost", "unclear"):
+            mask = getattr(change, name) if change else 0
+            row[name] = mask_text(mask) if mask else None
+        return row
+
+    def status(self) -> int:
+        """Writes the last line, and returns the exit status for whole snapshots."""
+        counts = self._tally.counts
+        words = [f"{counts[kind]:,} {text}" for kind, text in _WORDS.items() if counts.get(kind)]
+        if counts.get(ChangeKind.UNPAIRED):
+            words.append(f"{plural(counts[ChangeKind.UNPAIRED], 'tree')} without a pair")
+        self._out.note(", ".join(words) or "no objects")
+        return REFUSED if self._has_refused else YES if set(counts) <= {ChangeKind.SAME} else NO
 
 
 def diff(args: argparse.Namespace) -> int:
     """Writes which objects are new, gone or changed between two snapshots, and for whom."""
     old, new = opened(args.old), opened(args.new)
+    pairs = pair_trees(old, new, args.pair)
     people = people_of(args, new)
-    compared = Compared(asker_of(args, old, people), asker_of(args, new, people))
-    joined = old.join(new, pair_trees(old, new))
-    tally = Tally()
-    out = Output(args.form, ["change", "path", "whom", "gained", "lost", "unclear", "note"], _diff_text)
-    for word, rows, trees in (("gone", joined.gone(), old.trees), ("came", joined.came(), new.trees)):
-        for tree, path in rows:
-            tally.add(word)
-            out.put(_diff_row(word, trees[tree].full(path)))
-    classes: Dict[Tuple[int, int], Counted] = {}
-    for tree, path, before, after, _ in joined.kept():
-        change = compared.faces(before, after)
-        tally.add(change.kind)
-        if change.kind == "same":
-            continue
-        full = new.trees[tree].full(path)
-        if args.form == "text" and not args.each:
-            known = classes.get((before, after))
-            classes[before, after] = Counted(known.objects + 1, known.first) if known else Counted(1, full)
-        else:
-            _put_change(out, change, full, "")
-    for pair, one in sorted(classes.items(), key=lambda item: (-item[1].objects, item[1].first)):
-        more = f" and {plural(one.objects - 1, 'other object')}" if one.objects > 1 else ""
-        _put_change(out, compared.faces(*pair), one.first, more)
-    counts = tally.counts
-    words = (("gone", "gone"), ("came", "came"), ("bytes", "with other bytes and the same meaning"),
-             ("meaning", "with another meaning"), ("refused", "refused"), ("same", "as before"))
-    out.note(", ".join(f"{counts[key]:,} {text}" for key, text in words if counts.get(key)) or "no objects")
-    return status_of(REFUSED if counts.get("refused") else YES if set(counts) <= {"same"} else NO, old, new)
+    before = people if args.people or args.passwd or args.getent else people_of(args, old)
+    compared = Compared(asker_of(args, old, before), asker_of(args, new, people))
+    out = _Diff(args)
+    for snapshot, side, word in ((old, 0, "first"), (new, 1, "second")):
+        for tree in _unpaired(snapshot, [pair[side] for pair in pairs]):
+            note = f"host {quoted(tree.host)}; this tree of the {word} snapshot has no pair"
+            out.add(ObjectChange(ChangeKind.UNPAIRED, note), tree.place)
+    for one in old.join(new, pairs).changes(out.each):
+        snapshot = new if one.new else old
+        out.add(compared.change(one.old, one.new), snapshot.trees[one.tree].full(one.path), one.objects)
+    out.end()
+    return status_of(out.status(), old, new)
 
 
-def _diff_row(word: str, path: bytes, more: str = "", note: str = "", change: Optional[Change] = None) -> Row:
-    row: Row = {"change": word, "path": os.fsdecode(path), "more": more, "note": note}
-    row["whom"] = change.whom if change else None
-    for name in ("gained", "lost", "unclear"):
-        mask = getattr(change, name) if change else 0
-        row[name] = mask_text(mask) if mask else None
-    return row
+def _unpaired(snapshot: Snapshot, paired: List[int]) -> Iterator[Tree]:
+    return (tree for number, tree in snapshot.trees.items() if number not in paired)
 
 
-def _put_change(out: Output, change: FaceChange, path: bytes, more: str) -> None:
-    out.put(_diff_row(change.kind, path, more, change.note))
-    for one in change.changes:
-        out.put(_diff_row(change.kind, path, more, "", one))
-    if change.difference:
-        out.put(_diff_row(change.kind, path, more, "", change.difference))
-
-
-def _diff_text(row: Row) -> Optional[str]:
+def _text(row: Row) -> str:
     if row["whom"] is None:
-        note = f" ({quoted_line(row['note'])})" if row["note"] else ""
-        return f"{row['change']}: {quoted(row['path'])}{row['more']}{note}"
-    words = (("gained", "gains"), ("lost", "loses"), ("unclear", "may gain or lose"))
-    parts = [f"{verb} {row[key]}" for key, verb in words if row[key]]
-    return f"    {quoted_line(row['whom'])} {'; '.join(parts)}"
+        noun = "other tree" if row["change"] == ChangeKind.UNPAIRED.value else "other object"
+        others = f" and {plural(row['others'], noun)}" if row["others"] else ""
+        note = f" ({row['note']})" if row["note"] else ""
+        return f"{row['change']}: {quoted(row['path'])}{others}{note}"
+    is_one = len(row["whom"]) == 1
+    words = (("gained", "gain"), ("lost", "lose"), ("unclear", "may gain or lose"))
+    parts = [f"{verb}{'s' if is_one and key != 'unclear' else ''} {row[key]}" for key, verb in words if row[key]]
+    note = f" ({row['note'] if is_one else row['note'].replace('is ', 'are ', 1)})" if row["note"] else ""
+    on = f"{row['on']}: " if row["on"] else ""
+    return f"    {on}{', '.join(whom.quoted() for whom in row['whom'])}{note} {'; '.join(parts)}"

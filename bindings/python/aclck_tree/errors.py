@@ -2,6 +2,10 @@
 
 from __future__ import annotations
 
+import sys
+
+from .text import quoted_line
+
 YES, NO, REFUSED, USAGE, DEVICE = range(5)
 """The exit statuses, the same as those of aclck(1)."""
 
@@ -22,3 +26,8 @@ class DeviceError(TreeError):
     """A read or a write failed, such as on a full disk."""
 
     status = DEVICE
+
+
+def tell(line: str) -> None:
+    """Writes a line to standard error."""
+    sys.stderr.write(f"aclck-tree: {quoted_line(line)}\n")

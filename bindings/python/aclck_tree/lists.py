@@ -9,11 +9,12 @@ from __future__ import annotations
 
 import struct
 from dataclasses import dataclass
-from typing import Dict, List, NamedTuple, Optional, Tuple, Union
+from enum import Enum, IntEnum
+from typing import Collection, Dict, List, NamedTuple, Optional, Sequence, Tuple, Union
 
-from aclck import APPEND_DATA, EXECUTE, READ_DATA, WRITE_DATA, NfsAcl, PosixAcl, Refused
+from aclck import APPEND_DATA, EXECUTE, READ_DATA, WRITE_DATA, AceFlag, NfsAcl, PosixAcl, Refused
 
-from .snapshot import StoredList
+from .snapshot import ListForm, StoredList
 
 MOST_SPECIALS = 6
 """How many special names a list may have and still be asked: each doubles the cases."""
@@ -21,9 +22,45 @@ MOST_SPECIALS = 6
 POSIX_MASKS = {4: READ_DATA, 2: WRITE_DATA | APPEND_DATA, 1: EXECUTE}
 """The rights of the bridge by permissions."""
 
-_KNOWN = (b"OWNER@", b"GROUP@", b"EVERYONE@")
-_GROUP_FLAG = 0x40
-_AUDIT, _ALARM = 2, 3
+_EVERYONE = b"EVERYONE@"
+_KNOWN = (b"OWNER@", b"GROUP@", _EVERYONE)
+
+
+class Kind(str, Enum):
+    """What a list is. A kind equals its word, which is what the output has."""
+
+    POSIX = "posix"
+    NFS4 = "nfs4"
+
+    __hash__ = str.__hash__
+
+    def __str__(self) -> str:
+        return str(self.value)
+
+
+class AceType(IntEnum):
+    """The types of an ACE (RFC 8881, section 6.2.1.1)."""
+
+    ALLOW = 0
+    DENY = 1
+    AUDIT = 2
+    ALARM = 3
+
+
+_DECIDES_NOTHING = (AceType.AUDIT, AceType.ALARM)
+
+_ACE = struct.Struct(">IIII")
+"""The numbers of an ACE: its type, its flags, its mask, and the length of its who (RFC 8881, section 6.2.1)."""
+
+
+_GROUP = int(AceFlag.IDENTIFIER_GROUP)  # `&` of two numbers is quicker
+
+
+class Case(NamedTuple):
+    """A list in one case of who is a member of its special names, and the places of its ACEs in `Asked.acl`."""
+
+    acl: NfsAcl
+    places: Sequence[int]
 
 
 @dataclass(frozen=True)
@@ -37,13 +74,33 @@ class Asked:
     acl: NfsAcl
     posix: Optional[PosixAcl] = None
     specials: Tuple[Tuple[str, str], ...] = ()
-    places: Tuple[int, ...] = ()
+    places: Sequence[int] = ()
     left_out: int = 0
 
     @property
-    def kind(self) -> str:
-        """`posix` for a POSIX list or a mode, and otherwise `nfs4`."""
-        return "posix" if self.posix else "nfs4"
+    def kind(self) -> Kind:
+        """`POSIX` for a POSIX list or a mode, and otherwise `NFS4`."""
+        return Kind.POSIX if self.posix else Kind.NFS4
+
+    def case(self, members: Collection[str]) -> Case:
+        """Returns the list that asks a user who is a member of some of the special names, given by their groups, and
+        of no others: the ACEs of these names are for everyone, and those of the other special names are left out.
+
+        So the people are the same in all cases, and the number of questions kept at once does not grow with them.
+        """
+        if not self.specials:
+            return Case(self.acl, range(len(self.acl)))
+        data = bytes(self.acl)
+        groups = {encoded(group) for _, group in self.specials}
+        chosen = {encoded(group) for group in members}
+        parts: List[bytes] = []
+        places: List[int] = []
+        for place, piece in enumerate(pieces(data)):
+            if piece.who in groups - chosen:
+                continue
+            parts.append(_for_everyone(piece) if piece.who in chosen else data[piece.start:piece.end])
+            places.append(place)
+        return Case(NfsAcl(struct.pack(">I", len(parts)) + b"".join(parts)), places)
 
     def name(self, who: str) -> str:
         """Returns the special name that a group replaces, and every other name as it is."""
@@ -76,6 +133,16 @@ class Piece(NamedTuple):
     mask: int
     who: bytes
 
+    @property
+    def is_group(self) -> bool:
+        """Whether the who is a group."""
+        return bool(self.flags & _GROUP)
+
+
+def encoded(name: str) -> bytes:
+    """Returns a name as the bytes that a list has."""
+    return name.encode("utf-8", "surrogateescape")
+
 
 def pieces(data: bytes) -> List[Piece]:
     """Returns the ACEs of some bytes, up to the first one that is cut short (RFC 4506, sections 4.11 and 4.13)."""
@@ -84,7 +151,7 @@ def pieces(data: bytes) -> List[Piece]:
     for _ in range(int.from_bytes(data[:4], "big")):
         if at + 16 > len(data):
             break
-        kind, flags, mask, length = struct.unpack_from(">IIII", data, at)
+        kind, flags, mask, length = _ACE.unpack_from(data, at)
         end = at + 16 + length + -length % 4
         if end > len(data):
             break
@@ -94,8 +161,22 @@ def pieces(data: bytes) -> List[Piece]:
 
 
 def _is_special(data: bytes, piece: Piece) -> bool:
-    padding = data[piece.start + 16 + len(piece.who):piece.end]
-    return piece.who.endswith(b"@") and piece.who not in _KNOWN and len(piece.who) < 1000 and not any(padding)
+    return (piece.who.endswith(b"@") and piece.who not in _KNOWN and len(piece.who) < 1000 and
+            not any(data[piece.start + 16 + len(piece.who):piece.end]))
+
+
+def decoded(who: bytes) -> str:
+    """Returns the name for the bytes that a list has."""
+    return who.decode("utf-8", "surrogateescape")
+
+
+def _packed(kind: int, flags: int, mask: int, who: bytes) -> bytes:
+    """Returns an ACE (RFC 8881, section 6.2.1; RFC 4506, sections 4.11 and 4.13)."""
+    return _ACE.pack(kind, flags, mask, len(who)) + who + bytes(-len(who) % 4)
+
+
+def _for_everyone(piece: Piece) -> bytes:
+    return _packed(piece.kind, piece.flags & ~AceFlag.IDENTIFIER_GROUP, piece.mask, _EVERYONE)
 
 
 def _stand_in(who: bytes, taken: Dict[bytes, bytes], names: "set[bytes]") -> bytes:
@@ -110,7 +191,7 @@ def _stand_in(who: bytes, taken: Dict[bytes, bytes], names: "set[bytes]") -> byt
 class _Rewritten(NamedTuple):
     data: bytes
     starts: List[Tuple[int, int]]  # where a part begins, in this list and in the list as it was found
-    places: Tuple[int, ...]
+    places: Sequence[int]
     specials: Dict[bytes, bytes]
     left_out: int
 
@@ -118,19 +199,20 @@ class _Rewritten(NamedTuple):
 def _rewrite(data: bytes) -> _Rewritten:
     """Leaves out AUDIT and ALARM ACEs, and replaces special names by groups. The rest stays as it is."""
     found = pieces(data)
+    if not any(piece.kind in _DECIDES_NOTHING or _is_special(data, piece) for piece in found):
+        return _Rewritten(data, [(0, 0)], range(len(found)), {}, 0)
     names = {piece.who for piece in found}
     parts: List[bytes] = []
     starts, length = [(0, 0)], 4
     places: List[int] = []
     specials: Dict[bytes, bytes] = {}
     for place, piece in enumerate(found):
-        if piece.kind in (_AUDIT, _ALARM):
+        if piece.kind in _DECIDES_NOTHING:
             continue
         part = data[piece.start:piece.end]
         if _is_special(data, piece):
             who = _stand_in(piece.who, specials, names)
-            part = struct.pack(">IIII", piece.kind, piece.flags | _GROUP_FLAG, piece.mask, len(who)) + who
-            part += bytes(-len(who) % 4)
+            part = _packed(piece.kind, piece.flags | AceFlag.IDENTIFIER_GROUP, piece.mask, who)
         starts.append((length, piece.start))
         length += len(part)
         parts.append(part)
@@ -159,7 +241,7 @@ def _ready_nfs(data: bytes) -> Ready:
         acl = NfsAcl(rewritten.data)
     except Refused as refused:
         return RefusedList(f"{refused.reason} at byte {_found_at(rewritten, refused.offset or 0)}")
-    specials = tuple((name.decode(), group.decode()) for name, group in rewritten.specials.items())
+    specials = tuple((decoded(name), decoded(group)) for name, group in rewritten.specials.items())
     return Asked(acl, None, specials, rewritten.places, rewritten.left_out)
 
 
@@ -183,6 +265,6 @@ def _ready_posix(stored: StoredList, linux: bool) -> Ready:
 
 def ready(stored: StoredList, linux: bool = False) -> Ready:
     """Makes a list ready for questions. With `linux`, a POSIX list with an empty mask grants as it does on Linux."""
-    if stored.kind == "nfs4":
+    if stored.kind == ListForm.NFS4:
         return _ready_nfs(stored.access or b"")
     return _ready_posix(stored, linux)

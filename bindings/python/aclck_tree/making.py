@@ -3,22 +3,28 @@
 from __future__ import annotations
 
 import argparse
-import contextlib
 import os
 import sys
 from typing import Optional
 
-from .errors import REFUSED, YES, TreeError, UsageError
+from .errors import REFUSED, YES, TreeError, UsageError, tell
+from .files import refuse_what_is_no_file
 from .scan import Options, scan_trees
-from .snapshot import Snapshot, Writer, new_snapshot
-from .snapshot import merge as merge_into
+from .snapshot import Snapshot
 from .text import plural, quoted
+from .writer import Writer, new_snapshot
+from .writer import merge as merge_into
 
 
 def _known_total(place: str) -> Optional[int]:
-    """Returns the number of objects of the snapshot that this scan will replace."""
-    with contextlib.suppress(TreeError):
-        return Snapshot(place).count()
+    """Returns the number of objects of the snapshot that this scan will replace, if there is one. Reports a file that
+    is no snapshot. Raises TreeError if something else than a file is there."""
+    refuse_what_is_no_file(place)
+    if os.path.lexists(place):
+        try:
+            return Snapshot(place).count()
+        except TreeError as error:
+            tell(f"{error}: a scan that is whole replaces it")
     return None
 
 
@@ -26,17 +32,18 @@ def scan(args: argparse.Namespace) -> int:
     """Scans trees into a snapshot. A scan that ended early does not replace a whole snapshot."""
     if args.threads < 1:
         raise UsageError("--threads takes a number from 1")
-    options = Options(args.threads, args.one_file_system, args.attribute)
+    options = Options(args.threads, args.one_file_system, args.attribute, quiet=args.quiet)
     if args.host:
         options.host = args.host
     roots = [os.fsencode(tree) for tree in args.tree]
     place = args.output
-    total = _known_total(place) if os.path.exists(place) else None
+    total = _known_total(place)
     with new_snapshot(place) as writer:
         writer.whole, errors = scan_trees(roots, options, writer, total)
     failed = f", {plural(errors, 'step')} failed (aclck-tree info lists them)" if errors else ""
     state = "" if writer.whole else ", ended early: partial"
-    sys.stderr.write(f"{_made(writer)}{failed}{state}\n")
+    if failed or state or not args.quiet:
+        sys.stderr.write(f"{_made(writer)}{failed}{state}\n")
     return REFUSED if errors or not writer.whole else YES
 
 
@@ -51,4 +58,4 @@ def merge(args: argparse.Namespace) -> int:
         for snapshot in snapshots:
             merge_into(writer, snapshot)
     sys.stderr.write(f"{_made(writer)}\n")
-    return YES if all(snapshot.is_whole() for snapshot in snapshots) else REFUSED
+    return YES if all(snapshot.is_complete() for snapshot in snapshots) else REFUSED

@@ -1,77 +1,271 @@
-"""The frame of the page of `report`: its style and its script. The page loads nothing else."""
+"""The page of `report`: HTML with one style and one script of its own. It loads nothing else, and every string of a
+snapshot is escaped in it."""
 
-HEAD = """<!DOCTYPE html>
-<html lang="en"><head><meta charset="utf-8">
-<meta http-equiv="Content-Security-Policy" 
-content="default-src 'none'; style-src 'unsafe-inline'; script-src 'unsafe-inline'">
-<meta name="viewport" content="width=device-width">
-<title>TITLE</title>
-<style>
-body { font: 15px/1.45 system-ui, sans-serif; margin: 2rem auto; max-width: 80rem; padding: 0 1rem; color: #1b1f24; }
-h1 { font-size: 1.5rem; overflow-wrap: anywhere; } h2 { margin-top: 2.2rem; }
-h3 { margin: 1.6rem 0 .2rem; font-size: 1.05rem; }
-table { border-collapse: collapse; } th, td { padding: .3rem .6rem; text-align: left; vertical-align: top; }
-thead th { position: sticky; top: 0; background: #eef1f4; border-bottom: 2px solid #c9d1d9; }
-#access th[scope=col] { cursor: pointer; min-width: 3.5rem; max-width: 12rem; overflow-wrap: break-word; }
-#access td.where, #access th:nth-child(2) { position: sticky; left: 0; background: #fff; min-width: 24rem; }
-#access th:nth-child(2) { background: #eef1f4; z-index: 1; }
-#access th[aria-sort=ascending]::after { content: " \\25B2"; }
-#access th[aria-sort=descending]::after { content: " \\25BC"; }
-tbody tr { border-bottom: 1px solid #e3e7eb; } .totals th { font-weight: 600; }
-.scroll { overflow: auto; max-height: 36rem; border: 1px solid #c9d1d9; }
-.number { text-align: right; font-variant-numeric: tabular-nums; }
-code { font: 13px ui-monospace, monospace; overflow-wrap: anywhere; } ul { margin: .3rem 0; padding-left: 1.2rem; }
-summary { cursor: pointer; }
-.tools label { margin-right: .8rem; } input, select { font: inherit; padding: .15rem .3rem; max-width: 16rem; }
-td.none { color: #6a737d; } td.read { background: #dcecfb; } td.write { background: #ffe2b8; }
-td.all { background: #f6b8b0; font-weight: 600; }
-td.unknown { background: #e9e2f5; } td.refused { background: #d8d8d8; }
-@media print { .scroll { max-height: none; } .tools { display: none; } }
-</style></head><body>
-<h1>TITLE</h1>
-<p>Made by aclck-tree. A cell says <b>all</b> for every right, <b>write</b> for writing or appending, <b>read</b> for
-reading alone, <b>–</b> for none of these, <b>?</b> where the answer depends on whom the server takes for a special name
-or on an id that is not known. What a server grants beyond a list, as to root, is not counted.</p>
-"""
+from __future__ import annotations
 
-FOOT = """
-<script>
-"use strict";
-const table = document.getElementById("access"), body = table.tBodies[0];
-const heads = Array.from(table.tHead.rows[0].cells), rows = Array.from(body.rows);
-const order = ["–", "read", "write", "all", "?", "refused"];
-function value(row, place) {
-  const text = row.cells[place].textContent;
-  if (place === 0) return Number(text.replace(/,/g, ""));
-  return place === 1 ? text : order.indexOf(text);
-}
-function sort(place) {
-  const was = heads[place].getAttribute("aria-sort"), up = was === "descending" || (place === 1 && was === null);
-  heads.forEach(head => head.removeAttribute("aria-sort"));
-  heads[place].setAttribute("aria-sort", up ? "ascending" : "descending");
-  rows.sort((one, two) => {
-    const a = value(one, place), b = value(two, place);
-    return (a < b ? -1 : a > b ? 1 : 0) * (up ? 1 : -1);
-  });
-  body.append(...rows);
-}
-const filter = document.getElementById("filter"), person = document.getElementById("person");
-const level = document.getElementById("level"), count = document.getElementById("count");
-function show() {
-  let objects = 0;
-  for (const row of rows) {
-    const cells = Array.from(row.cells).slice(2);
-    const asked = person.value === "" ? cells : [cells[Number(person.value)]];
-    const good = row.cells[1].textContent.includes(filter.value) &&
-      (level.value === "" || asked.some(cell => cell.className === level.value));
-    row.hidden = !good;
-    if (good) objects += value(row, 0);
-  }
-  count.textContent = objects.toLocaleString("en") + " objects";
-}
-heads.forEach((head, place) => head.addEventListener("click", () => sort(place)));
-for (const tool of [filter, person, level]) tool.addEventListener("input", show);
-show();
-</script>
-</body></html>
-"""
+import base64
+import hashlib
+import html
+from typing import TYPE_CHECKING, Iterator, List, Tuple
+
+from .findings import Finding
+from .lists import Asked
+from .page_script import SCRIPT
+from .page_style import STYLE
+from .people import Person
+from .rows import Level, Row, Shown, columns_of, shortened, shown
+from .text import plural, quoted, quoted_line, quoted_path
+
+if TYPE_CHECKING:
+    from .report import Places, Report
+
+MOST_SHOWN = 300
+"""How many rows the page has."""
+
+MOST_COLUMNS = 40
+"""How many columns of people the page has."""
+
+MOST_OPEN = 60
+"""How many rows the page may have and still show all of them when it is opened. Of others, the first two levels."""
+
+MOST_NAMED = 2000
+"""How many names the rows have together."""
+
+MOST_WORDS = 20
+"""How many rows the table of a finding has."""
+
+_LEVELS = {Level.NONE: ("n", "–"), Level.READ: ("r", "read"), Level.WRITE_ONLY: ("o", "write only"),
+           Level.WRITE: ("w", "write"), Level.ALL: ("a", "all"), Level.UNKNOWN: ("u", "?"),
+           Level.REFUSED: ("f", "refused")}
+"""The class and the words of a cell."""
+
+
+def escaped(text: str) -> str:
+    """Returns a text as HTML, with numbers in place of characters that are not shown."""
+    return html.escape(quoted_line(text), False)
+
+
+def _code(text: str) -> str:
+    return f"<code>{escaped(text)}</code>"
+
+
+def _hash(text: str) -> str:
+    return "'sha256-" + base64.b64encode(hashlib.sha256(text.encode()).digest()).decode() + "'"
+
+
+def _css_string(text: str) -> str:
+    """Returns a text as a string of CSS, in which each character that is no letter or digit is a number."""
+    return '"' + "".join(letter if letter.isalnum() and letter.isascii() else f"\\{ord(letter):x} "
+                         for letter in text) + '"'
+
+
+def _objects(folders: int, files: int) -> str:
+    """Returns counts in words, such as `14 folders and 1 file`."""
+    parts = [plural(count, word) for count, word in ((folders, "folder"), (files, "file")) if count]
+    return " and ".join(parts) or "nothing"
+
+
+def page(report: Report) -> Iterator[str]:
+    """Yields the page, piece by piece."""
+    rows = shown(report.rows.top, MOST_SHOWN)
+    columns = columns_of(rows[1:], len(report.people))
+    heads = [_head(report, column) for column in columns[:MOST_COLUMNS]]
+    labels = "".join(f"#access td:nth-child({place})::before{{content:{_css_string(name + ': ')}}}\n"
+                     for place, (name, _) in enumerate(heads, 3))
+    style = STYLE + "@media print, (max-width: 40rem) {\n" + labels + "}\n"
+    names = ", ".join(f"{quoted(tree.host)}:{quoted_path(tree.place)}" for tree in report.snapshot.trees.values())
+    title = escaped(f"Access in {shortened(names)}")
+    yield "<!DOCTYPE html>\n<html lang=en><head><meta charset=utf-8>\n"
+    yield "<meta http-equiv=Content-Security-Policy content=\"default-src 'none'; base-uri 'none'; form-action 'none'; "
+    yield f"style-src {_hash(style)}; script-src {_hash(SCRIPT)}\">\n"
+    yield "<meta name=viewport content='width=device-width, initial-scale=1'>\n"
+    yield f"<title>{title}</title>\n<style>{style}</style></head>\n<body><h1>{title}</h1>\n"
+    yield from _summary(report)
+    yield from _findings(report)
+    yield from _table(report, rows, columns, heads)
+    yield from _scan(report)
+    yield f"<script>{SCRIPT}</script>\n</body></html>\n"
+
+
+def _number_of_people(report: Report) -> str:
+    return plural(len(report.people), "person").replace("persons", "people")
+
+
+def _summary(report: Report) -> Iterator[str]:
+    pattern = f" whose path matches {_code(quoted(report.glob))}" if report.glob is not None else ""
+    yield f"<p>This page says who may read and change {_objects(report.folders, report.files)}{pattern}, by their "
+    yield f"access control lists. It asks about {_number_of_people(report)}. "
+    yield ("Nobody has access below a folder that does not let them pass. " if report.is_reach else
+           "It does not ask whether somebody gets past the folders above an object. ")
+    yield "What a server grants beyond a list, as to root, is not counted.</p>\n"
+    for tree in report.snapshot.trees.values():
+        if not tree.whole:
+            where = f"{quoted(tree.host)}:{quoted_path(tree.place)}"
+            yield f"<p class=warning>The scan of {escaped(where)} was ended early: objects are missing.</p>\n"
+    failed = sum(1 for _ in report.snapshot.errors())
+    if failed:
+        yield f"<p class=warning>{plural(failed, 'step')} of the scan failed: objects may be missing.</p>\n"
+
+
+def _findings(report: Report) -> Iterator[str]:
+    yield "<h2>Findings</h2>\n"
+    for finding in report.findings:
+        places = list(report.found[finding.key].values())
+        if places:
+            yield from _finding(finding, sorted(places, key=lambda one: -one.folders - one.files))
+    absent = [finding.title for finding in report.findings if not report.found[finding.key]]
+    if absent:
+        yield f"<p>Not found: {', '.join(absent)}.</p>\n"
+
+
+def _finding(finding: Finding, places: List[Places]) -> Iterator[str]:
+    objects = _objects(sum(one.folders for one in places), sum(one.files for one in places))
+    sentence = finding.sentence.format(objects)
+    yield f"<details class=found id={finding.key}><summary><strong>{sentence}</strong></summary>\n"
+    yield f"<p>{finding.about}</p>\n<table><caption>{sentence}</caption>\n"
+    yield "<thead><tr><th scope=col class=k>Objects<th scope=col>What<th scope=col>Where</thead><tbody>\n"
+    named = max(3, 100 // len(places))
+    for one in places[:MOST_WORDS]:
+        yield (f"<tr><td class=k>{one.folders + one.files:,}<td>{escaped(shortened(one.words, 400))}"
+               f"<td>{_names(one.names[:named], one.folders + one.files)}\n")
+    yield "</tbody></table>\n"
+    if len(places) > MOST_WORDS:
+        rest = sum(one.folders + one.files for one in places[MOST_WORDS:])
+        yield f"<p>{plural(rest, 'object')} with other words: aclck-tree report --csv writes all of them.</p>\n"
+    yield "</details>\n"
+
+
+def _names(names: List[str], count: int) -> str:
+    """Returns the first names of some objects, and how many others there are."""
+    if count == 1:
+        return _code(names[0])
+    items = "".join(f"<li>{_code(name)}" for name in names)
+    more = f"<li>and {count - len(names):,} more that this page does not name" if count > len(names) else ""
+    return (f"<details><summary>{_code(names[0])} <small>and {count - 1:,} more</small></summary>"
+            f"<ul>{items}{more}</ul></details>")
+
+
+def _person(report: Report, person: Person) -> str:
+    """Returns the name of a person, with the ids."""
+    ids = report.id_of(person)
+    return shortened(quoted(person.name), 40) + (f" ({ids})" if ids else "")
+
+
+def _head(report: Report, column: List[int]) -> Tuple[str, str]:
+    """Returns the head of a column, and the words for the ids of a column of one person."""
+    people = [report.people[place] for place in column]
+    if len(people) > 2:
+        return f"{shortened(quoted(people[0].name), 40)} and {len(people) - 1:,} more", ""
+    return ", ".join(shortened(quoted(person.name), 40) for person in people), \
+        ", ".join(filter(None, (report.id_of(person) for person in people)))
+
+
+def _table(report: Report, rows: List[Shown], columns: List[List[int]], heads: List[Tuple[str, str]]) -> Iterator[str]:
+    yield "<h2 id=title>Who has access to what</h2>\n<p>A row stands for a folder and for everything below it, except "
+    yield "the rows under it: these are the exceptions. People whose access is equal in all rows share a column. A "
+    yield "cell says <b>all</b> for every right (of a file: except to run it), <b>write</b> for reading and writing or "
+    yield "appending, <b>write only</b>, <b>read</b>, <b>–</b> for none of these, and <b>?</b> where the answer "
+    yield "depends on whom the server takes for a special name, or on an id that is not known. <b>own:</b> says what a "
+    yield "person has on those objects of the row that he or she owns, if that is something else.</p>\n"
+    yield "<p id=tools hidden><label>Show rows with <input id=search type=search placeholder='part of a path'></label> "
+    yield "<label>where <select id=person><option value=''>anybody</option>"
+    for place, (head, _) in enumerate(heads):
+        yield f"<option value={place}>{escaped(head)}</option>"
+    yield "</select></label> <label>has <select id=level><option value=''>any access</option><option>read</option>"
+    yield "<option>write</option><option>all</option><option value=none>none of these</option><option value=unknown>an "
+    yield "unknown answer</option><option value=refused>a refused list</option></select></label> "
+    yield "<span id=count role=status></span></p>\n"
+    yield "<p class=cards>Who is not named in a row has no access to it.</p>\n"
+    yield "<div class=scroll tabindex=0 role=region aria-labelledby=title>\n<table id=access><caption>Access of "
+    yield f"{_number_of_people(report)}</caption>\n<thead><tr>"
+    yield "<th scope=col aria-sort=ascending><button type=button>Where</button>"
+    yield "<th scope=col class=k><button type=button>Objects</button>"
+    for head, ids in heads:
+        yield f"<th scope=col><button type=button>{escaped(head)}</button>"
+        yield f"<small>{escaped(ids)}</small>" if ids else ""
+    yield "</thead><tbody>\n"
+    most = max(3, min(20, MOST_NAMED // len(rows)))
+    deepest_open = 2 if len(rows) > MOST_OPEN else len(rows)
+    firsts = [column[0] for column in columns[:MOST_COLUMNS]]
+    waiting: List[Shown] = []
+    for one in rows:
+        while waiting and waiting[-1].depth >= one.depth:
+            last = waiting.pop()
+            yield _rest(last, last.depth >= deepest_open)
+        if one.depth:
+            cells = "".join(_cell(one.row, person) for person in firsts)
+            yield f"{_row(one, most, one.depth > deepest_open)}{cells}\n"
+        waiting.append(one)
+    while waiting:
+        last = waiting.pop()
+        yield _rest(last, last.depth >= deepest_open)
+    yield "</tbody></table></div>\n<div id=print></div>\n"
+    yield from _people(report, columns)
+
+
+def _row(one: Shown, most: int, is_hidden: bool) -> str:
+    row, depth = one.row, one.depth
+    names = row.names[:most]
+    below = ", with what is below" if row.objects > row.begins else ""
+    words = f"<small>{'except ' if depth > 1 else ''}{_objects(row.folders, row.files)}{below}</small>"
+    more = " data-more=1" if row.begins > len(names) else ""
+    deep = " class=deep" if depth > 5 else ""
+    hidden = " hidden" if is_hidden else ""
+    return (f"<tr data-d={depth}{deep}{more}{hidden}><th scope=row>{_names(names, row.begins)}{words}"
+            f"<td class=k>{row.objects:,}")
+
+
+def _cell(row: Row, person: int) -> str:
+    level = Level(row.cells.levels[person])
+    letter, words = _LEVELS[level]
+    if person not in row.owners or row.cells.owner == level:
+        return f"<td class={letter}>{words}"
+    own, own_words = _LEVELS[row.cells.owner]
+    before = "" if level == Level.NONE else f"{words}, "
+    return f"<td class='{letter} x{own}'>{before}own: {own_words}"
+
+
+def _rest(one: Shown, is_hidden: bool) -> str:
+    if not one.left_out_objects:
+        return ""
+    rows = f"{plural(one.left_out_rows, 'row')} with " if one.left_out_rows else ""
+    hidden = " hidden" if is_hidden else ""
+    return (f"<tr class=rest data-d={one.depth + 1}{hidden}><th scope=row>exceptions without room on this page: {rows}"
+            f"{plural(one.left_out_objects, 'object')}<td class=k>{one.left_out_objects:,}\n")
+
+
+def _people(report: Report, columns: List[List[int]]) -> Iterator[str]:
+    """Names the people of the columns whose heads do not."""
+    many = [column for column in columns[:MOST_COLUMNS] if len(column) > 2]
+    if many:
+        yield "<h3>Who shares a column</h3>\n<ul>\n"
+        for column in many:
+            names = [_person(report, report.people[place]) for place in column]
+            rest = f" and {len(names) - 1000:,} more" if len(names) > 1000 else ""
+            yield f"<li><b>{escaped(_head(report, column)[0])}</b>: {escaped(', '.join(names[:1000]))}{rest}\n"
+        yield "</ul>\n"
+    absent = sum(len(column) for column in columns[MOST_COLUMNS:])
+    if absent:
+        yield f"<p class=warning>{absent:,} people have no column, because the page has room for {MOST_COLUMNS}. Ask "
+        yield "about fewer people with --people.</p>\n"
+
+
+def _scan(report: Report) -> Iterator[str]:
+    snapshot = report.snapshot
+    asked = [report.asker.ready(number) for number in report.lists]
+    left_out = sum(one.left_out for one in asked if isinstance(one, Asked))
+    yield "<h2>The scan</h2>\n<table><caption>What was scanned and asked</caption><tbody>\n"
+    errors = list(snapshot.errors())
+    rows = [("Distinct lists", f"{len(asked):,}"), ("AUDIT and ALARM ACEs left out", f"{left_out:,}"),
+            ("Steps that failed", f"{len(errors):,}")]
+    for tree in snapshot.trees.values():
+        rows.append((f"{tree.host}:{shortened(quoted_path(tree.place))}", f"{tree.began} to {tree.ended or 'no end'}"))
+    for name, value in rows:
+        yield f"<tr><th scope=row>{escaped(name)}<td>{escaped(value)}\n"
+    yield "</tbody></table>\n"
+    if errors:
+        yield f"<details><summary>{plural(len(errors), 'step')} failed</summary><ul>\n"
+        for number, path, step, message in errors[:100]:
+            full = _code(report.name(number, path))
+            yield f"<li>{escaped(shortened(step))} {full}: {escaped(shortened(message))}\n"
+        yield "</ul></details>\n"

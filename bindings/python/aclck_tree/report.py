@@ -1,234 +1,269 @@
-"""The command `report`: one page of HTML for people, which loads nothing else."""
+"""The command `report`: one page of HTML for people, or the findings as CSV or JSON."""
 
 from __future__ import annotations
 
 import argparse
-import html
+import contextlib
+import functools
+import itertools
 import os
 import sys
-from dataclasses import dataclass, field
-from typing import Dict, Iterable, List, Optional, Sequence, Set, Tuple, Union
+from dataclasses import dataclass, field, replace
+from typing import Dict, Iterator, List, NamedTuple, Optional, TextIO, Tuple
 
-from aclck import APPEND_DATA, EXECUTE, READ_DATA, WRITE_DATA
-
-from .ask import Asker, Cases
-from .commands import asker_of, opened, people_of
-from .errors import NO, REFUSED, YES, DeviceError
-from .findings import Finding, findings
-from .lists import Asked, RefusedList
-from .page import FOOT, HEAD
-from .snapshot import Snapshot
-from .text import Output, plural, quoted, quoted_path
-
-SHOWN = 100
-"""How many objects of a class of access, or of one kind of finding, the page names; it counts them all."""
-
-_ALL = {"posix": READ_DATA | WRITE_DATA | APPEND_DATA | EXECUTE, "nfs4": 0x1F01FF}
-_LETTERS = {"none": "–", "read": "read", "write": "write", "all": "all", "unknown": "?", "refused": "refused"}
-
-
-def _level(mask: int, kind: str) -> str:
-    """Returns what a cell says: the first that applies of all rights, write, read and none."""
-    if mask & _ALL[kind] == _ALL[kind]:
-        return "all"
-    if mask & (WRITE_DATA | APPEND_DATA):
-        return "write"
-    return "read" if mask & READ_DATA else "none"
-
-
-def _levels(masks: Union[RefusedList, List[Optional[Cases]]], kind: str, people: int) -> Tuple[str, ...]:
-    if isinstance(masks, RefusedList):
-        return ("refused",) * people
-    found = []
-    for row in masks:
-        words = {_level(mask, kind) for mask in row} if row else {"unknown"}
-        found.append(words.pop() if len(words) == 1 else "unknown")
-    return tuple(found)
+from .ask import DENIED, GRANTED, UNKNOWN, Answers, Asker
+from .commands import Paths, asker_of, opened, people_of
+from .errors import NO, REFUSED, YES, tell
+from .files import replaced
+from .findings import Finding, everyone_words, findings, special_bits_words
+from .lists import Asked, Kind, RefusedList
+from .page import page
+from .people import HIGHEST_ID, Person, stranger_of
+from .reach import reached
+from .rows import NAMED, Cells, Level, Rows, level_of, name_of
+from .snapshot import Face, Snapshot
+from .text import Form, Output, quoted
 
 
 @dataclass
-class _RowOf:
-    levels: Tuple[str, ...]
-    faces: Set[int] = field(default_factory=set)
+class Places:
+    """The objects of which one thing was found: how many, and the names of the first."""
+
+    words: str
+    folders: int = 0
+    files: int = 0
+    names: List[str] = field(default_factory=list)
+
+
+@dataclass
+class _Kind:
+    """What all objects with one face, one kind and the same special bits of the mode have in common, and how many they
+    are. `unnamed` are those of `places` that still take names."""
+
+    is_folder: bool
+    cells: Cells
+    owners: Tuple[int, ...]
+    places: List[Places]
+    unnamed: List[Places]
     objects: int = 0
 
+    def name(self, name: str) -> None:
+        """Adds the name of an object to what was found about it."""
+        self.unnamed = [places for places in self.unnamed if len(places.names) < NAMED]
+        for places in self.unnamed:
+            places.names.append(name)
 
-_Key = Tuple[str, str]
+
+class Object(NamedTuple):
+    """An object as `Snapshot.objects` yields it, and with --reach who gets past the folders above it."""
+
+    tree: int
+    path: bytes
+    is_folder: bool
+    bits: int
+    face: int
+    above: Optional[Answers]
 
 
 class Report:
-    """What the page shows about a snapshot."""
+    """What the page shows about a snapshot: with a pattern, only about the objects whose path matches. With `is_reach`,
+    nobody has access to what is below a folder that does not let them pass."""
 
-    def __init__(self, asker: Asker) -> None:
-        self.asker = asker
+    def __init__(self, asker: Asker, glob: Optional[str] = None, is_reach: bool = False) -> None:
+        self.glob = glob
+        self.is_reach = is_reach
         self.snapshot: Snapshot = asker.snapshot
+        self.people = asker.people
         self.faces = self.snapshot.faces()
-        self.counts = self.snapshot.face_counts()
-        self.directories = {face for face, (_, directories, _) in self.counts.items() if directories}
-        self.findings = findings(asker, self.directories)
-        self.rows = self._rows()
-        self.columns = self._columns()
-        self.paths = self._paths()
+        self._nobody = _id_of_nobody(asker)
+        self._owner, self._stranger = len(self.people), len(self.people) + 1
+        stored = (asker.stored(number) for number in {face.list for face in self.faces.values()})
+        # Two more are asked about: who owns all objects that none of the people owns, and somebody whom nothing names.
+        stranger = stranger_of(self.snapshot, stored, asker.people)
+        self.asker = Asker(self.snapshot, [*asker.people, Person(str(self._nobody)), stranger], asker.options)
+        self.findings = findings(self.asker, self.snapshot.directory_faces(), stranger)
+        self.found: Dict[str, Dict[str, Places]] = {finding.key: {} for finding in self.findings}
+        self._has_posix = any(self.asker.kind(face.list) is Kind.POSIX for face in self.faces.values())
+        self._has_hosts = len({tree.host for tree in self.snapshot.trees.values()}) > 1
+        self._users: Dict[Tuple[int, Kind], Dict[str, Tuple[int, ...]]] = {}
+        self._cells: Dict[Tuple[bytes, Level], Cells] = {}
+        self._levels: Dict[Tuple[int, int, int, bool], bytes] = {}
+        self.rows = self._walk()
 
-    def _rows(self) -> List[_RowOf]:
-        found: Dict[Tuple[str, ...], _RowOf] = {}
-        for number, (objects, _, _) in self.counts.items():
-            face = self.faces[number]
-            kind = "posix" if self.snapshot.is_posix(face.list) else "nfs4"
-            levels = _levels(self.asker.masks(face), kind, len(self.asker.people))
-            row = found.setdefault(levels, _RowOf(levels))
-            row.faces.add(number)
-            row.objects += objects
-        return sorted(found.values(), key=lambda row: -row.objects)
+    def _walk(self) -> Rows:
+        rows = Rows()
+        kinds: Dict[Tuple[bool, int, int, Optional[Answers]], _Kind] = {}
+        for one in self.objects():
+            tree, path, is_folder = one[:3]
+            kind = kinds.get(one[2:])
+            if kind is None:
+                kind = kinds[one[2:]] = self._kind(one)
+            kind.objects += 1
+            if kind.unnamed:
+                kind.name(self.name(tree, path))
+            row, begins = rows.add(tree, path, is_folder, kind.cells)
+            if row is not None:
+                if kind.owners:
+                    row.owners.update(kind.owners)
+                if begins and len(row.names) < NAMED:
+                    row.names.append(self.name(tree, path))
+        self.folders = sum(kind.objects for kind in kinds.values() if kind.is_folder)
+        self.files = sum(kind.objects for kind in kinds.values() if not kind.is_folder)
+        self.lists = {self.faces[face].list for _, _, face, _ in kinds}
+        for kind in kinds.values():
+            for places in kind.places:
+                places.folders += kind.objects if kind.is_folder else 0
+                places.files += 0 if kind.is_folder else kind.objects
+        return rows
 
-    def _columns(self) -> List[List[int]]:
-        """Returns the people in columns. People with equal access to everything share a column."""
-        found: Dict[Tuple[str, ...], List[int]] = {}
-        for place in range(len(self.asker.people)):
-            found.setdefault(tuple(row.levels[place] for row in self.rows), []).append(place)
-        return list(found.values())
+    def name(self, tree: int, path: bytes) -> str:
+        """Returns the whole path of an object as the page shows it, with the host if there are several."""
+        found = self.snapshot.trees[tree]
+        return (f"{quoted(found.host)}:" if self._has_hosts else "") + name_of(found.full(path))
 
-    def _keys(self) -> Dict[int, List[_Key]]:
-        """Returns the classes in which the page names the objects of each face: its row, and what was found about
-        it."""
-        found: Dict[int, List[_Key]] = {face: [("", str(place))] for place, row in enumerate(self.rows)
-                                        for face in row.faces}
+    def objects(self) -> Iterator[Object]:
+        """Yields the objects that the report is about, in the order of trees and paths."""
+        paths = None if self.glob is None else Paths(self.snapshot, self.glob)
+        reach = (one[3] for one in reached(self.asker)) if self.is_reach else itertools.repeat(None)
+        for (tree, path, letter, mode, face), above in zip(self.snapshot.objects(), reach):
+            if paths is None or paths.has(tree, path):
+                yield Object(tree, path, letter == "d", mode & 0o7000, face, above)
+
+    def _kind(self, one: Object) -> _Kind:
+        cells, owners = self._cells_of(one)
+        places = [self.found[finding.key].setdefault(words, Places(words)) for finding, words in self.words(one)]
+        return _Kind(one.is_folder, cells, owners, places, places)
+
+    def words(self, one: Object) -> Iterator[Tuple[Finding, str]]:
+        """Yields what was found about an object."""
+        face = self.faces[one.face]
+        stranger_is_stopped = one.above is not None and one.above.of(self._stranger) is DENIED
         for finding in self.findings:
-            for face, words in finding.faces.items():
-                found.setdefault(face, []).append((finding.key, words))
-        return found
+            words = finding.faces.get(one.face, "")
+            if finding.key == "bits":
+                words = special_bits_words(self.asker.accounts[face.tree], face, one.bits)
+            elif finding.key in ("everyone", "readable") and stranger_is_stopped:
+                words = ""
+            elif finding.key == "everyone" and words:
+                words = everyone_words(words, one.is_folder, one.bits)
+            if words and (one.is_folder or not finding.directories_only):
+                yield finding, words
 
-    def _paths(self) -> Dict[_Key, List[str]]:
-        """Returns the first paths of each class."""
-        keys = self._keys()
-        directories_only = {finding.key for finding in self.findings if finding.directories_only}
-        found: Dict[_Key, List[str]] = {}
-        for tree, path, kind, _, face in self.snapshot.objects():
-            for key in keys[face]:
-                paths = found.setdefault(key, [])
-                if len(paths) < SHOWN and (kind == "d" or key[0] not in directories_only):
-                    paths.append(quoted_path(self.snapshot.trees[tree].full(path)))
-        return found
+    def _cells_of(self, one: Object) -> Tuple[Cells, Tuple[int, ...]]:
+        """Returns how an object answers, and which of the people own it."""
+        face, is_folder = self.faces[one.face], one.is_folder
+        asked = self.asker.ready(face.list)
+        if isinstance(asked, RefusedList):
+            return self._same(bytes([Level.REFUSED]) * len(self.people), Level.REFUSED), ()
+        owners, others = self._owners(face, asked), self._others(face, asked, is_folder)
+        if not owners:
+            return self._same(_past(others, one.above), Level(others[self._owner])), ()
+        levels = _past(self._levels_of(face, asked, is_folder), one.above)
+        owned = {levels[place] for place in owners}
+        if len(owned) > 1:  # one user was named twice, with other groups
+            return self._same(levels, Level.UNKNOWN), ()
+        return self._same(_past(others, one.above), Level(owned.pop())), owners
 
-    def page(self) -> Iterable[str]:
-        """Yields the page, piece by piece."""
-        names = ", ".join(f"{tree.host}:{quoted_path(tree.place)}" for tree in self.snapshot.trees.values())
-        yield HEAD.replace("TITLE", html.escape(f"Access in {names}"))
-        yield from self._totals()
-        yield from self._table()
-        yield "<h2>Findings</h2>"
-        for finding in self.findings:
-            yield from self._finding(finding)
-        yield FOOT
+    def _others(self, face: Face, asked: Asked, is_folder: bool) -> bytes:
+        """Returns the levels of the people on objects that they do not own, and of an owner in no group."""
+        key = face.tree, face.gid, face.list, is_folder
+        if key not in self._levels:
+            self._levels[key] = self._levels_of(replace(face, uid=self._nobody), asked, is_folder)
+        return self._levels[key]
 
-    def _totals(self) -> Iterable[str]:
-        kinds = self.snapshot.count_kinds()
-        asked = [self.asker.ready(number) for number in {face.list for face in self.faces.values()}]
-        left_out = sum(one.left_out for one in asked if isinstance(one, Asked))
-        errors = list(self.snapshot.errors())
-        rows = [("Objects", f"{sum(kinds.values()):,}, of which {kinds.get('d', 0):,} directories"),
-                ("Distinct lists", f"{len(asked):,}"), ("People", f"{len(self.asker.people):,}"),
-                ("AUDIT and ALARM ACEs left out", f"{left_out:,}"),
-                ("Steps of the scan that failed", f"{len(errors):,}")]
-        for tree in self.snapshot.trees.values():
-            state = "" if tree.whole else " (partial: the scan was ended early)"
-            rows.append((f"Scan of {tree.host}:{quoted_path(tree.place)}", f"{tree.began} to {tree.ended}{state}"))
-        yield "<table class='totals'>"
-        for name, value in rows:
-            yield f"<tr><th scope='row'>{html.escape(name)}</th><td>{html.escape(value)}</td></tr>"
-        yield "</table>"
-        if errors:
-            yield f"<details><summary>{plural(len(errors), 'step')} failed</summary><ul>"
-            for tree_number, path, step, message in errors[:SHOWN]:
-                full = quoted_path(self.snapshot.trees[tree_number].full(path))
-                yield f"<li>{html.escape(step)} <code>{html.escape(full)}</code>: {html.escape(message)}</li>"
-            yield "</ul></details>"
+    def _levels_of(self, face: Face, asked: Asked, is_folder: bool) -> bytes:
+        """Returns the levels of the people: unknown where the cases of special names differ in it, and for a person
+        whose id is not known."""
+        found: List[bytes] = []
+        for masks in self.asker.masks(face, asked):
+            levels = {mask: Level.UNKNOWN if mask is None else level_of(mask, asked.kind, is_folder)
+                      for mask in set(masks)}
+            found.append(bytes(map(levels.__getitem__, masks)))
+        return functools.reduce(_agreed, found)
 
-    def _table(self) -> Iterable[str]:
-        yield "<h2>Who has access to what</h2><p class='tools'><label>Show rows with <input id='filter' type='search' "
-        yield "placeholder='part of a path'></label> <label>where <select id='person'><option value=''>anybody</option>"
-        heads = [self._head(column) for column in self.columns]
-        for place, head in enumerate(heads):
-            yield f"<option value='{place}'>{html.escape(head)}</option>"
-        yield "</select></label> <label>has <select id='level'><option value=''>any access</option>"
-        yield "".join(f"<option>{level}</option>" for level in _LETTERS)
-        yield "</select></label> <span id='count'></span></p><div class='scroll'><table id='access'><thead><tr>"
-        yield "<th scope='col' data-sort='number'>Objects</th><th scope='col'>Where</th>"
-        for column, head in zip(self.columns, heads):
-            title = html.escape(" ".join(quoted(self.asker.people[place].name) for place in column), quote=True)
-            yield f"<th scope='col' title='{title}'>{html.escape(head)}</th>"
-        yield "</tr></thead><tbody>"
-        for place, row in enumerate(self.rows):
-            where = self._where(("", str(place)), row.objects)
-            yield f"<tr><td class='number'>{row.objects:,}</td><td class='where'>{where}</td>"
-            levels = [row.levels[column[0]] for column in self.columns]
-            yield "".join(f"<td class='{level}'>{_LETTERS[level]}</td>" for level in levels) + "</tr>"
-        yield "</tbody></table></div>"
+    def _owners(self, face: Face, asked: Asked) -> Tuple[int, ...]:
+        """Returns which of the people are the owner of a face."""
+        key = face.tree, asked.kind
+        if key not in self._users:
+            users: Dict[str, Tuple[int, ...]] = {}
+            for place, person in enumerate(self.people):
+                identity = self.asker.identity(person, face, asked.kind)
+                if identity is not None:
+                    users[identity.user] = (*users.get(identity.user, ()), place)
+            self._users[key] = users
+        return self._users[key].get(self.asker.owner_and_group(face, asked.kind)[0], ())
 
-    def _head(self, column: Sequence[int]) -> str:
-        names = [quoted(self.asker.people[place].name) for place in column[:2]]
-        return " ".join(names) + (f" and {len(column) - 2:,} more" if len(column) > 2 else "")
+    def _same(self, levels: bytes, owner: Level) -> Cells:
+        levels = levels[:len(self.people)]
+        return self._cells.setdefault((levels, owner), Cells(len(self._cells), levels, owner))
 
-    def _where(self, key: _Key, count: int) -> str:
-        paths = self.paths[key]
-        if len(paths) == 1:
-            return f"<code>{html.escape(paths[0])}</code>"
-        items = "".join(f"<li><code>{html.escape(path)}</code></li>" for path in paths)
-        more = f"<li>and {count - len(paths):,} more</li>" if count > len(paths) else ""
-        first = html.escape(paths[0])
-        summary = f"<summary><code>{first}</code> and {count - 1:,} more</summary>"
-        return f"<details>{summary}<ul>{items}{more}</ul></details>"
-
-    def _finding(self, finding: Finding) -> Iterable[str]:
-        counts = {face: directories if finding.directories_only else objects
-                  for face, (objects, directories, _) in self.counts.items()}
-        by_words: Dict[str, Set[int]] = {}
-        for face, words in finding.faces.items():
-            if face in counts:
-                by_words.setdefault(words, set()).add(face)
-        total = sum(counts[face] for faces in by_words.values() for face in faces)
-        yield f"<section id='{finding.key}'><h3>{html.escape(finding.title)}: {plural(total, 'object')}</h3>"
-        yield f"<p>{html.escape(finding.about)}</p>"
-        if by_words:
-            yield "<table class='finding'><thead><tr><th>Objects</th><th>What</th><th>Where</th></tr></thead><tbody>"
-            counted = {words: sum(counts[face] for face in faces) for words, faces in by_words.items()}
-            for words in sorted(by_words, key=lambda one: -counted[one]):
-                where = self._where((finding.key, words), counted[words])
-                yield f"<tr><td class='number'>{counted[words]:,}</td><td>{html.escape(words)}</td>"
-                yield f"<td>{where}</td></tr>"
-            yield "</tbody></table>"
-        yield "</section>"
+    def id_of(self, person: Person) -> str:
+        """Returns the ids of a person on the scanned systems, or the names if the person was named by an id. Returns
+        nothing if no list is a POSIX list, because other lists have names."""
+        if not self._has_posix:
+            return ""
+        found = []
+        for tree, accounts in self.asker.accounts.items():
+            number = self.asker.id(person, person.name, False, tree)
+            if number is not None:
+                is_id = str(number) == person.name
+                found.append(accounts.names.get((False, number), "") if is_id else str(number))
+        return " or ".join(dict.fromkeys(filter(None, found)))
 
     def status(self) -> int:
-        """Returns 2 if a list is refused or something could not be read, 1 if something else was found, and otherwise
-        0."""
-        found = {finding.key for finding in self.findings if finding.faces}
-        if "refused" in found or not self.snapshot.is_whole() or any(True for _ in self.snapshot.errors()):
+        """Returns 2 if a list is refused, something could not be read or the report is about no object, 1 if something
+        else was found, and otherwise 0."""
+        if self.found["refused"] or not self.snapshot.is_complete() or not self.folders + self.files:
             return REFUSED
-        return NO if found else YES
+        return NO if any(self.found.values()) else YES
+
+
+def _agreed(some: bytes, others: bytes) -> bytes:
+    """Returns the levels that are the same in both, and otherwise unknown ones."""
+    return some if some == others else bytes(one if one == other else Level.UNKNOWN for one, other in zip(some, others))
+
+
+def _past(levels: bytes, above: Optional[Answers]) -> bytes:
+    """Returns the levels of people on an object, given who gets past the folders above it."""
+    if above is None or not above.denied | above.unknown:
+        return levels
+    stopped = {GRANTED: None, DENIED: Level.NONE, UNKNOWN: Level.UNKNOWN}
+    found = []
+    for place, level in enumerate(levels):
+        other = stopped[above.of(place)]
+        found.append(level if other is None or level == Level.NONE else other)
+    return bytes(found)
+
+
+def _id_of_nobody(asker: Asker) -> int:
+    """Returns an id that none of the people has, and that is not the name of one in an NFSv4 list."""
+    taken = {asker.full_name(person.name) for person in asker.people}
+    taken |= {str(asker.id(person, person.name, False, tree)) for tree in asker.accounts for person in asker.people}
+    known = {number for accounts in asker.accounts.values() for _, number in accounts.names}
+    return next(number for number in range(HIGHEST_ID, 0, -1) if number not in known and
+                taken.isdisjoint((str(number), asker.full_name(str(number)))))
 
 
 def report(args: argparse.Namespace) -> int:
     """Writes the page, or with --csv or --json the findings, one line per object."""
     snapshot = opened(args.snapshot)
-    made = Report(asker_of(args, snapshot, people_of(args, snapshot)))
-    if args.form != "text":
-        _put_findings(args, made)
-    elif args.output:
-        try:
-            with open(args.output, "w", encoding="utf-8") as file:
-                file.writelines(made.page())
-        except OSError as error:
-            raise DeviceError(f"{args.output}: {error.strerror}") from None
-    else:
-        sys.stdout.writelines(made.page())
+    made = Report(asker_of(args, snapshot, people_of(args, snapshot)), args.path, args.reach)
+    if not made.folders + made.files:
+        tell(f"{quoted(args.snapshot)}: no object is selected")
+    with replaced(args.output) if args.output else contextlib.nullcontext(sys.stdout) as file:
+        if args.form is Form.TEXT:
+            file.writelines(page(made))
+        else:
+            _put_findings(args, made, file)
     return made.status()
 
 
-def _put_findings(args: argparse.Namespace, made: Report) -> None:
-    out = Output(args.form, ["finding", "path", "what"], lambda row: "")
-    for tree, path, kind, _, face in made.snapshot.objects():
-        for finding in made.findings:
-            if face in finding.faces and (kind == "d" or not finding.directories_only):
-                full = os.fsdecode(made.snapshot.trees[tree].full(path))
-                out.put({"finding": finding.key, "path": full, "what": finding.faces[face]})
+def _put_findings(args: argparse.Namespace, made: Report, file: TextIO) -> None:
+    out = Output(args.form, ["finding", "path", "what"], lambda row: "", file)
+    known: Dict[Tuple[bool, int, int, Optional[Answers]], List[Tuple[Finding, str]]] = {}
+    for one in made.objects():
+        if one[2:] not in known:
+            known[one[2:]] = list(made.words(one))
+        for finding, words in known[one[2:]]:
+            full = os.fsdecode(made.snapshot.trees[one.tree].full(one.path))
+            out.put({"finding": finding.key, "path": full, "what": words})

@@ -16,14 +16,13 @@ import sys
 import time
 from concurrent.futures import FIRST_COMPLETED, Future, ThreadPoolExecutor, wait
 from dataclasses import dataclass, field
-from typing import Dict, Iterator, List, Optional, Sequence, Set, Tuple, Union
+from typing import Dict, Iterator, List, NamedTuple, Optional, Sequence, Set, Tuple, Union
 
 from . import VERSION
 from .errors import TreeError
-from .snapshot import Account, Found, StoredList, Tree, Writer
-
-AT_ONCE = 256
-"""How many objects one task reads."""
+from .handles import OBJECT, Directory, Handles, open_list, open_root, read_names
+from .snapshot import Account, Found, ListForm, StoredList, Tree
+from .writer import Writer
 
 SLOW = 0.0002
 """Seconds per object from which on objects are read side by side; a local file system is faster without threads."""
@@ -41,120 +40,159 @@ class Options:
     one_file_system: bool = False
     attribute: str = "system.nfs4_acl"
     host: str = field(default_factory=socket.gethostname)
+    quiet: bool = False
 
 
 @dataclass
 class Result:
-    """What one task found: objects, directories to read next, names of a large directory to read, and failures."""
+    """What one task found: objects, tasks that follow from it, failures, and the number of links."""
 
     found: List[Found] = field(default_factory=list)
-    directories: List[bytes] = field(default_factory=list)
-    chunks: List[Tuple[bytes, List[bytes]]] = field(default_factory=list)
+    tasks: List[Task] = field(default_factory=list)
     errors: List[Tuple[bytes, str, str]] = field(default_factory=list)
     links: int = 0
 
 
-Task = Union[bytes, Tuple[bytes, List[bytes]]]
-"""A directory to list, or a directory and names in it to read; paths below the root."""
+class Listing(NamedTuple):
+    """A directory whose names are to be read, and where in the directory to begin."""
+
+    directory: Directory
+    start: int = 0
+
+
+class Piece(NamedTuple):
+    """A directory, and names in it whose objects are to be read."""
+
+    directory: Directory
+    names: List[bytes]
+
+
+Task = Union[Listing, Piece]
 
 
 class Reader:
     """Reads the objects of one tree. Any number of threads can use it at once."""
 
     def __init__(self, root: bytes, options: Options) -> None:
-        self._root = root
+        """Opens the root. Raises OSError if that fails."""
         self._options = options
-        self._device = os.stat(root).st_dev
-        self._without: Set[int] = set()  # devices on which no object has an NFSv4 list
+        self._root_handle = open_root(root)
+        status = os.fstat(self._root_handle)
+        self._device = status.st_dev
+        self._root = Directory(None, b"", status)
+        self._handles = Handles(self._root, self._root_handle)
+        self._with_lists: Set[int] = set()  # devices on which an object has an NFSv4 list
+        self._unsupported: Dict[int, bytes] = {}  # devices without support for such lists: the path that showed it
 
-    def _full(self, path: bytes) -> bytes:
-        return os.path.join(self._root, path) if path else self._root
+    def close(self) -> None:
+        """Closes the handles."""
+        self._handles.close()
+
+    def mixed(self) -> List[bytes]:
+        """Returns the path of an object that seemed to be on a device without NFSv4 lists, for each device on which
+        another object turned out to have one."""
+        return [path for device, path in self._unsupported.items() if device in self._with_lists]
 
     def read_root(self) -> Result:
-        """Reads the root itself, which may be a symbolic link to the tree."""
+        """Reads the root itself, which may be a symbolic link to the tree. Raises OSError."""
         result = Result()
-        self._read(b"", result, os.stat(self._root))
+        status = os.fstat(self._root_handle)
+        self._keep(self._root_handle, status, b"", result)
+        if stat.S_ISDIR(status.st_mode):
+            result.tasks.append(Listing(self._root))
         return result
 
     def run(self, task: Task) -> Result:
         """Does one task. Failures are in the result; the only exception it raises is MemoryError."""
         result = Result()
-        if isinstance(task, tuple):
-            self._read_names(task[0], task[1], result)
-            return result
         try:
-            self._list(task, result)
+            with self._handles.held(task.directory) as handle:
+                if isinstance(task, Piece):
+                    self._read_names(task.directory, handle, task.names, result)
+                else:
+                    self._list(task, handle, result)
         except OSError as error:
-            result.errors.append((task, "list", _words(error)))
+            result.errors.append((task.directory.path(), "list", _words(error)))
         return result
 
-    def _list(self, path: bytes, result: Result) -> None:
-        handle = _open_directory(self._full(path), follow=not path)
+    def _list(self, task: Listing, handle: int, result: Result) -> None:
+        """Reads the names of a directory, and their objects too if there are few."""
+        names = open_list(handle)
         try:
-            names: List[bytes] = []
-            with os.scandir(handle) as entries:
-                for entry in entries:
-                    names.append(os.fsencode(entry.name))
-                    if len(names) == AT_ONCE:
-                        result.chunks.append((path, names))
-                        names = []
+            if task.start:
+                os.lseek(names, task.start, os.SEEK_SET)
+            first = read_names(names)
+            second = read_names(names)
+        finally:
+            os.close(names)
+        if first and second:  # tasks are done last first: so the objects of these names, and all below them, come next
+            result.tasks = [Listing(task.directory, second.after), Piece(task.directory, second.names),
+                            Piece(task.directory, first.names)]
+        elif first:
+            self._read_names(task.directory, handle, first.names, result)
+
+    def _read_names(self, directory: Directory, above: int, names: Sequence[bytes], result: Result) -> None:
+        path = directory.path()
+        prefix = path + b"/" if path else b""
+        for name in names:
+            try:
+                self._read(directory, above, name, prefix + name, result)
+            except OSError as error:
+                result.errors.append((prefix + name, "read", _words(error)))
+
+    def _read(self, directory: Directory, above: int, name: bytes, path: bytes, result: Result) -> None:
+        handle = os.open(name, OBJECT, dir_fd=above)
+        try:
+            status = os.fstat(handle)
+            if stat.S_ISLNK(status.st_mode):
+                result.links += 1
+            elif not stat.S_ISDIR(status.st_mode):
+                self._keep(handle, status, path, result)
         finally:
             os.close(handle)
-        if result.chunks:
-            result.chunks.append((path, names))
-        else:
-            self._read_names(path, names, result)
+        if stat.S_ISDIR(status.st_mode):
+            self._read_directory(directory, above, name, path, result)
 
-    def _read_names(self, directory: bytes, names: Sequence[bytes], result: Result) -> None:
-        for name in names:
-            path = directory + b"/" + name if directory else name
-            try:
-                status = os.lstat(self._full(path))
-                if stat.S_ISLNK(status.st_mode):
-                    result.links += 1
-                    continue
-                self._read(path, result, status)
-            except OSError as error:
-                result.errors.append((path, "read", _words(error)))
+    def _read_directory(self, directory: Directory, above: int, name: bytes, path: bytes, result: Result) -> None:
+        handle = os.open(name, OBJECT | os.O_DIRECTORY, dir_fd=above)  # mounts what is mounted on demand
+        try:
+            found = os.fstat(handle)
+            if not self._options.one_file_system or found.st_dev == self._device:
+                result.tasks.append(Listing(Directory(directory, name, found)))
+            self._keep(handle, found, path, result)
+        finally:
+            os.close(handle)
 
-    def _read(self, path: bytes, result: Result, status: os.stat_result) -> None:
+    def _keep(self, handle: int, status: os.stat_result, path: bytes, result: Result) -> None:
         kind = _KINDS.get(stat.S_IFMT(status.st_mode), "?")
-        stored = self._stored(self._full(path), status, kind == "d", follow=not path)
+        stored = self._stored(b"/proc/self/fd/%d" % handle, status, path)
         result.found.append(Found(path, kind, stat.S_IMODE(status.st_mode), status.st_uid, status.st_gid, stored))
-        if kind == "d" and (not self._options.one_file_system or status.st_dev == self._device):
-            result.directories.append(path)
 
-    def _stored(self, place: bytes, status: os.stat_result, is_directory: bool, follow: bool) -> StoredList:
-        if status.st_dev not in self._without:
-            try:
-                return StoredList("nfs4", 0, os.getxattr(place, self._options.attribute, follow_symlinks=follow), None)
-            except OSError as error:
-                if error.errno == errno.ENOTSUP:
-                    self._without.add(status.st_dev)
-                elif error.errno != errno.ENODATA:
-                    raise
-        access = _attribute(place, "system.posix_acl_access", follow)
-        default = _attribute(place, "system.posix_acl_default", follow) if is_directory else None
+    def _stored(self, place: bytes, status: os.stat_result, path: bytes) -> StoredList:
+        """Returns the list of an object. `place` leads to the object that the handle has, and not by its name."""
+        try:
+            data = os.getxattr(place, self._options.attribute)
+            self._with_lists.add(status.st_dev)
+            return StoredList(ListForm.NFS4, 0, data, None)
+        except OSError as error:
+            if error.errno == errno.ENOTSUP and status.st_dev not in self._with_lists:
+                self._unsupported.setdefault(status.st_dev, path)
+            elif error.errno != errno.ENODATA:
+                raise
+        access = _attribute(place, "system.posix_acl_access")
+        default = _attribute(place, "system.posix_acl_default") if stat.S_ISDIR(status.st_mode) else None
         if access is None and default is None:
-            return StoredList("mode", status.st_mode & 0o777, None, None)
-        return StoredList("posix", status.st_mode & 0o777 if access is None else 0, access, default)
+            return StoredList(ListForm.MODE, status.st_mode & 0o777, None, None)
+        return StoredList(ListForm.POSIX, status.st_mode & 0o777 if access is None else 0, access, default)
 
 
-def _attribute(place: bytes, name: str, follow: bool) -> Optional[bytes]:
+def _attribute(place: bytes, name: str) -> Optional[bytes]:
     try:
-        return os.getxattr(place, name, follow_symlinks=follow)
+        return os.getxattr(place, name)
     except OSError as error:
         if error.errno not in _ABSENT:
             raise
     return None
-
-
-def _open_directory(place: bytes, follow: bool) -> int:
-    flags = os.O_RDONLY | os.O_DIRECTORY | (0 if follow else os.O_NOFOLLOW)
-    try:
-        return os.open(place, flags | os.O_NOATIME)
-    except PermissionError:  # only the owner may use O_NOATIME
-        return os.open(place, flags)
 
 
 def _words(error: OSError) -> str:
@@ -166,12 +204,13 @@ def _now() -> str:
 
 
 class Progress:
-    """A line on a terminal, written at most five times a second. Without a terminal nothing is written."""
+    """A line on a terminal, written at most five times a second. Without a terminal, or with `quiet`, nothing is
+    written."""
 
-    def __init__(self, writer: Writer, total: Optional[int]) -> None:
+    def __init__(self, writer: Writer, total: Optional[int], quiet: bool) -> None:
         self._writer = writer
         self._total = total
-        self._on = sys.stderr.isatty()
+        self._on = sys.stderr.isatty() and not quiet
         self._began = self._last = time.monotonic()
 
     def tell(self) -> None:
@@ -221,7 +260,10 @@ class Scan:
                 self._fail(b"", "read", _words(error))
             self._walk()
             whole = True
+            for path in self._reader.mixed():
+                self._fail(path, "read", "NFSv4 lists are not supported here, but others of this file system have one")
         finally:
+            self._reader.close()
             self._writer.end_tree(self.tree, _now(), whole, self._links)
 
     def _walk(self) -> None:
@@ -255,8 +297,7 @@ class Scan:
         for path, step, message in result.errors:
             self._fail(path, step, message)
         self._links += result.links
-        self._tasks += result.directories
-        self._tasks += result.chunks
+        self._tasks += result.tasks
         self._progress.tell()
 
     def _fail(self, path: bytes, step: str, message: str) -> None:
@@ -270,7 +311,7 @@ def scan_trees(roots: Sequence[bytes], options: Options, writer: Writer,
 
     Ctrl-C ends the scan early. Raises TreeError if a root cannot be read.
     """
-    progress = Progress(writer, total)
+    progress = Progress(writer, total, options.quiet)
     scans = [Scan(root, options, writer, progress) for root in roots]
     whole = True
     try:

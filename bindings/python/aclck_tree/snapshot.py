@@ -1,4 +1,5 @@
-"""A snapshot: one SQLite file with what a scan found. All SQL of the program is in this module.
+"""A snapshot, to be read: one SQLite file with what a scan found. `writer.py` makes it, and `joined.py` reads two
+together. The SQL of the program is in these modules and in `schema.py`.
 
 The tables:
 
@@ -18,33 +19,28 @@ The version of this layout is in `PRAGMA user_version`. A newer version is refus
 
 from __future__ import annotations
 
-import contextlib
+import enum
 import hashlib
 import os
 import sqlite3
+import stat
+import sys
 import urllib.parse
 from dataclasses import dataclass
-from typing import Dict, Iterable, Iterator, List, Optional, Sequence, Tuple
+from typing import Any, Dict, Iterator, Optional, Sequence, Set, Tuple
 
-from .errors import DeviceError, TreeError
+from .errors import TreeError
+from .joined import Joined
+from .schema import judge
 
-FORMAT = 1
-APPLICATION = 0x61636C6B  # "aclk"
+STEP = 100_000
+"""After how many instructions of SQLite the work is counted."""
 
-SCHEMA = """
-CREATE TABLE trees (tree INTEGER PRIMARY KEY, host TEXT NOT NULL, root BLOB NOT NULL, place BLOB NOT NULL,
-                    began TEXT NOT NULL, ended TEXT, whole INTEGER NOT NULL, version TEXT NOT NULL,
-                    links INTEGER NOT NULL);
-CREATE TABLE lists (list INTEGER PRIMARY KEY, kind TEXT NOT NULL, mode INTEGER NOT NULL, access BLOB, dflt BLOB);
-CREATE TABLE faces (face INTEGER PRIMARY KEY, tree INTEGER NOT NULL, uid INTEGER NOT NULL, gid INTEGER NOT NULL,
-                    list INTEGER NOT NULL);
-CREATE TABLE objects (tree INTEGER NOT NULL, path BLOB NOT NULL, kind TEXT NOT NULL, mode INTEGER NOT NULL,
-                      face INTEGER NOT NULL);
-CREATE TABLE names (tree INTEGER NOT NULL, is_group INTEGER NOT NULL, id INTEGER NOT NULL, name BLOB NOT NULL);
-CREATE TABLE members (tree INTEGER NOT NULL, user BLOB NOT NULL, grp BLOB NOT NULL);
-CREATE TABLE errors (tree INTEGER NOT NULL, path BLOB NOT NULL, step TEXT NOT NULL, message TEXT NOT NULL);
-"""
-INDEX = "CREATE INDEX objects_by_path ON objects (tree, path)"
+READ_ONLY = "mode=ro&immutable=1"
+"""The file is read as it is: without locks, without a journal, and without a write-ahead log beside it."""
+
+WORK, WORK_PER_BYTE = 2_000_000, 30
+"""How many instructions the questions of one run may need, and how many more for each byte of the file."""
 
 
 @dataclass(frozen=True)
@@ -66,11 +62,19 @@ class Tree:
         return self.root.rstrip(b"/") + b"/" + path if path else self.root
 
 
+class ListForm(str, enum.Enum):
+    """How a list was found: as an NFSv4 list, as POSIX lists, or as a mode alone. A form equals its word."""
+
+    NFS4 = "nfs4"
+    POSIX = "posix"
+    MODE = "mode"
+
+
 @dataclass(frozen=True)
 class StoredList:
     """A list as the file system gave it."""
 
-    kind: str
+    kind: ListForm
     mode: int
     access: Optional[bytes]
     default: Optional[bytes]
@@ -108,263 +112,131 @@ class Found:
 Account = Tuple[int, bool, int, bytes]  # tree, whether it is a group, id, name
 
 
-class Writer:
-    """Makes a new snapshot in a file that does not exist yet."""
-
-    def __init__(self, place: str) -> None:
-        self._lists: Dict[bytes, int] = {}
-        self._faces: Dict[Tuple[int, int, int, int], int] = {}
-        self.objects = 0
-        self.whole = True
-        self.place = place
-        self._db = sqlite3.connect(place, isolation_level=None)
-        for line in ("PRAGMA journal_mode = OFF", "PRAGMA synchronous = OFF", "PRAGMA locking_mode = EXCLUSIVE",
-                     f"PRAGMA application_id = {APPLICATION}", f"PRAGMA user_version = {FORMAT}"):
-            self._db.execute(line)
-        self._db.execute("BEGIN")
-        for line in SCHEMA.split(";"):
-            self._db.execute(line)
-
-    @property
-    def lists(self) -> int:
-        """The number of distinct lists so far."""
-        return len(self._lists)
-
-    def add_tree(self, tree: Tree) -> int:
-        """Adds a tree and returns its new number."""
-        row = (tree.host, tree.root, tree.place, tree.began, tree.ended, tree.whole, tree.version, tree.links)
-        cursor = self._db.execute("INSERT INTO trees VALUES (NULL, ?, ?, ?, ?, ?, ?, ?, ?)", row)
-        return cursor.lastrowid or 0
-
-    def end_tree(self, tree: int, ended: str, whole: bool, links: int) -> None:
-        """Records how the scan of a tree ended."""
-        self._db.execute("UPDATE trees SET ended = ?, whole = ?, links = ? WHERE tree = ?", (ended, whole, links, tree))
-
-    def add_objects(self, tree: int, found: Sequence[Found]) -> None:
-        """Adds objects of a tree."""
-        self.objects += len(found)
-        self._db.executemany("INSERT INTO objects VALUES (?, ?, ?, ?, ?)",
-                             [(tree, one.path, one.kind, one.mode, self._face(tree, one)) for one in found])
-
-    def _face(self, tree: int, found: Found) -> int:
-        stored = found.stored
-        digest = stored.digest()
-        number = self._lists.get(digest)
-        if number is None:
-            number = self._lists[digest] = len(self._lists) + 1
-            self._db.execute("INSERT INTO lists VALUES (?, ?, ?, ?, ?)",
-                             (number, stored.kind, stored.mode, stored.access, stored.default))
-        key = (tree, found.uid, found.gid, number)
-        face = self._faces.get(key)
-        if face is None:
-            face = self._faces[key] = len(self._faces) + 1
-            self._db.execute("INSERT INTO faces VALUES (?, ?, ?, ?, ?)", (face, *key))
-        return face
-
-    def add_error(self, tree: int, path: bytes, step: str, message: str) -> None:
-        """Records that a step failed at a path."""
-        self._db.execute("INSERT INTO errors VALUES (?, ?, ?, ?)", (tree, path, step, message))
-
-    def add_names(self, accounts: Iterable[Account]) -> None:
-        """Adds names of users and groups."""
-        self._db.executemany("INSERT INTO names VALUES (?, ?, ?, ?)", accounts)
-
-    def add_members(self, rows: Iterable[Tuple[int, bytes, bytes]]) -> None:
-        """Adds rows of a tree, a user and a group that the user is in."""
-        self._db.executemany("INSERT INTO members VALUES (?, ?, ?)", rows)
-
-    def seen_ids(self, tree: int) -> Tuple[List[int], List[int]]:
-        """Returns the ids of the owners and of the groups of a tree."""
-        both = [[row[0] for row in self._db.execute(f"SELECT DISTINCT {column} FROM faces WHERE tree = ?", (tree,))]
-                for column in ("uid", "gid")]
-        return both[0], both[1]
-
-    def posix_lists(self) -> Iterator[Optional[bytes]]:
-        """Yields the attributes of all POSIX lists."""
-        for row in self._db.execute("SELECT access, dflt FROM lists WHERE kind = 'posix'"):
-            yield from row
-
-    def finish(self) -> None:
-        """Makes the file whole."""
-        self._db.execute(INDEX)
-        self._db.execute("COMMIT")
-        self._db.close()
-
-    def drop(self) -> None:
-        """Closes the file, in whatever state it is."""
-        with contextlib.suppress(sqlite3.Error):
-            self._db.close()
-
-
 class Snapshot:
-    """A snapshot to read."""
+    """A snapshot to read. It can come from anybody: whatever is in the file, it is judged before it is used."""
 
     def __init__(self, place: str) -> None:
-        """Opens a snapshot. Raises TreeError if the file is not a snapshot, is cut short, or has a newer layout."""
+        """Opens a snapshot. Raises TreeError if the file is not a snapshot, is damaged, has a newer layout, or has
+        something in it that a scan does not write."""
         self.place = place
-        if not os.path.exists(place):
-            raise TreeError(f"{place}: no such snapshot")
-        uri = "file:" + urllib.parse.quote(os.path.abspath(os.fsencode(place))) + "?mode=ro"
+        self._size = _file_size(place)
+        self._steps = 0
         try:
-            self._db = sqlite3.connect(uri, uri=True)
-            self._check()
+            self._db = sqlite3.connect(uri(place, READ_ONLY), uri=True)
         except sqlite3.DatabaseError as error:
-            raise TreeError(f"{place}: no snapshot: {error}") from None
-        rows = self._db.execute("SELECT * FROM trees ORDER BY tree")
+            raise self._unreadable(error) from None
+        self._db.text_factory = lambda data: data.decode("utf-8", "surrogateescape")
+        if sys.version_info >= (3, 11):
+            self._db.setlimit(sqlite3.SQLITE_LIMIT_LENGTH, max(self._size, 1 << 20))
+        self.allow_work(self._size)
+        for line in ("trusted_schema = OFF", "cell_size_check = ON"):
+            self._db.execute(f"PRAGMA {line}")
+        self._count = judge(place, self._rows, self._size)
+        rows = self._rows("SELECT * FROM trees ORDER BY tree")
         self.trees = {row[0]: Tree(row[0], row[1], row[2], row[3], row[4], row[5], bool(row[6]), row[7], row[8])
                       for row in rows}
 
-    def _pragma(self, name: str) -> int:
-        return int(self._db.execute(f"PRAGMA {name}").fetchone()[0])
+    def allow_work(self, size: int) -> None:
+        """Allows as much work as questions about a snapshot of this size need. A file can be built so that a question
+        about it would never end."""
+        self._steps += (WORK + WORK_PER_BYTE * size) // STEP
+        self._db.set_progress_handler(self._count_step, STEP)
 
-    def _check(self) -> None:
-        if self._pragma("application_id") != APPLICATION:
-            raise TreeError(f"{self.place}: no snapshot of aclck-tree")
-        version = self._pragma("user_version")
-        if version > FORMAT:
-            raise TreeError(f"{self.place}: format {version} of a newer aclck-tree; this one reads up to {FORMAT}")
-        if os.path.getsize(self.place) < self._pragma("page_count") * self._pragma("page_size"):
-            raise TreeError(f"{self.place}: the file is cut short")
+    def _count_step(self) -> bool:
+        self._steps -= 1
+        return self._steps < 0
+
+    def _rows(self, query: str, values: Sequence[object] = ()) -> Iterator[Any]:
+        """Yields the rows of a query. Raises TreeError if the file is damaged."""
+        try:
+            yield from self._db.execute(query, values)
+        except (sqlite3.DatabaseError, UnicodeDecodeError) as error:  # a message of SQLite can have any bytes in it
+            raise self._unreadable(error) from None
+
+    def _unreadable(self, error: Exception) -> TreeError:
+        words = "it makes more work than any snapshot of its size" if self._steps < 0 else str(error)
+        return TreeError(f"{self.place}: cannot be read as a snapshot: {words}")
 
     def is_whole(self) -> bool:
         """Whether all its scans were completed."""
         return all(tree.whole for tree in self.trees.values())
 
+    def is_complete(self) -> bool:
+        """Whether all its scans were completed, and no step of them failed."""
+        return self.is_whole() and next(self.errors(), None) is None
+
     def count(self) -> int:
         """Returns the number of objects."""
-        return int(self._db.execute("SELECT COUNT(*) FROM objects").fetchone()[0])
+        return self._count
 
     def count_kinds(self) -> Dict[str, int]:
         """Returns the number of objects of each kind."""
-        return dict(self._db.execute("SELECT kind, COUNT(*) FROM objects GROUP BY kind ORDER BY kind").fetchall())
+        return dict(self._rows("SELECT kind, COUNT(*) FROM objects GROUP BY kind ORDER BY kind"))
 
     def lists(self) -> Dict[int, StoredList]:
         """Returns all lists by their numbers."""
-        return {row[0]: StoredList(*row[1:]) for row in self._db.execute("SELECT * FROM lists")}
+        return {row[0]: StoredList(ListForm(row[1]), *row[2:]) for row in self._rows("SELECT * FROM lists")}
 
     def is_posix(self, number: int) -> bool:
         """Whether a list is a POSIX list or a mode."""
-        rows = self._db.execute("SELECT kind <> 'nfs4' FROM lists WHERE list = ?", (number,))
-        return bool(rows.fetchone()[0])
+        rows = self._rows("SELECT kind <> 'nfs4' FROM lists WHERE list = ?", (number,))
+        return bool(next(rows)[0])
 
     def faces(self) -> Dict[int, Face]:
         """Returns all faces by their numbers."""
-        return {row[0]: Face(*row) for row in self._db.execute("SELECT * FROM faces")}
+        return {row[0]: Face(*row) for row in self._rows("SELECT * FROM faces")}
 
-    def face_counts(self) -> Dict[int, Tuple[int, int, bytes]]:
-        """Returns for each face how many objects have it, how many of these are directories, and the first path."""
-        rows = self._db.execute("SELECT face, COUNT(*), SUM(kind = 'd'), MIN(path) FROM objects GROUP BY face")
-        return {row[0]: (row[1], row[2], row[3]) for row in rows}
+    def face_counts(self) -> Dict[int, Tuple[int, bytes]]:
+        """Returns for each face how many objects have it, and the first path."""
+        rows = self._rows("SELECT face, COUNT(*), MIN(path) FROM objects GROUP BY face")
+        return {row[0]: (row[1], row[2]) for row in rows}
+
+    def directory_faces(self) -> Set[int]:
+        """Returns the faces that directories have."""
+        return {row[0] for row in self._rows("SELECT DISTINCT face FROM objects WHERE kind = 'd'")}
 
     def objects(self) -> Iterator[Tuple[int, bytes, str, int, int]]:
         """Yields the tree, path, kind, mode and face of all objects, in the order of trees and paths."""
-        yield from self._db.execute("SELECT tree, path, kind, mode, face FROM objects ORDER BY tree, path")
+        yield from self._rows("SELECT tree, path, kind, mode, face FROM objects ORDER BY tree, path")
 
     def find(self, tree: int, path: bytes) -> Optional[Tuple[str, int, int]]:
         """Returns the kind, mode and face of an object, or None if there is no such object."""
-        rows = self._db.execute("SELECT kind, mode, face FROM objects WHERE tree = ? AND path = ?", (tree, path))
-        found: Optional[Tuple[str, int, int]] = rows.fetchone()
-        return found
+        rows = self._rows("SELECT kind, mode, face FROM objects WHERE tree = ? AND path = ?", (tree, path))
+        return next(rows, None)
 
     def names(self) -> Iterator[Account]:
         """Yields tree, whether it is a group, id and name of all accounts that the scans knew."""
-        for tree, is_group, number, name in self._db.execute("SELECT * FROM names ORDER BY rowid"):
+        for tree, is_group, number, name in self._rows("SELECT * FROM names ORDER BY rowid"):
             yield tree, bool(is_group), number, name
 
     def members(self) -> Iterator[Tuple[int, bytes, bytes]]:
         """Yields tree, user and group of all memberships that the scans knew."""
-        yield from self._db.execute("SELECT * FROM members")
+        yield from self._rows("SELECT * FROM members")
 
     def errors(self) -> Iterator[Tuple[int, bytes, str, str]]:
         """Yields the tree, path, step and message of each failure to read."""
-        yield from self._db.execute("SELECT * FROM errors ORDER BY tree, path")
+        yield from self._rows("SELECT * FROM errors ORDER BY tree, path")
 
     def join(self, other: Snapshot, pairs: Sequence[Tuple[int, int]]) -> Joined:
         """Opens a later snapshot together with this one; `pairs` are the trees of both that are one tree at two
         times."""
-        return Joined(self._db, other.place, pairs)
+        self.allow_work(self._size + other._size)
+        return Joined(self._db, uri(other.place, READ_ONLY), pairs)
 
 
-class Joined:
-    """Two snapshots to compare."""
-
-    def __init__(self, db: sqlite3.Connection, place: str, pairs: Sequence[Tuple[int, int]]) -> None:
-        self._db = db
-        uri = "file:" + urllib.parse.quote(os.path.abspath(os.fsencode(place))) + "?mode=ro"
-        db.execute("ATTACH ? AS later", (uri,))
-        db.execute("CREATE TEMP TABLE pairs (old INTEGER PRIMARY KEY, new INTEGER UNIQUE)")
-        db.executemany("INSERT INTO pairs VALUES (?, ?)", pairs)
-
-    def gone(self) -> Iterator[Tuple[int, bytes]]:
-        """Yields the tree and the path of the objects that the later snapshot lacks."""
-        yield from self._db.execute(
-            "SELECT o.tree, o.path FROM main.objects o LEFT JOIN pairs ON o.tree = pairs.old WHERE NOT EXISTS "
-            "(SELECT 1 FROM later.objects n WHERE n.tree = pairs.new AND n.path = o.path) ORDER BY o.tree, o.path")
-
-    def came(self) -> Iterator[Tuple[int, bytes]]:
-        """Yields the tree and the path of the objects that the earlier snapshot lacks."""
-        yield from self._db.execute(
-            "SELECT n.tree, n.path FROM later.objects n LEFT JOIN pairs ON n.tree = pairs.new WHERE NOT EXISTS "
-            "(SELECT 1 FROM main.objects o WHERE o.tree = pairs.old AND o.path = n.path) ORDER BY n.tree, n.path")
-
-    def kept(self) -> Iterator[Tuple[int, bytes, int, int, bool]]:
-        """Yields the tree and the path of the objects that both have, the face in each, and whether it is a directory
-        now."""
-        yield from self._db.execute(
-            "SELECT n.tree, n.path, o.face, n.face, n.kind = 'd' FROM pairs JOIN main.objects o ON o.tree = pairs.old "
-            "JOIN later.objects n ON n.tree = pairs.new AND n.path = o.path ORDER BY n.tree, n.path")
+def uri(place: str, options: str) -> str:
+    """Returns the URI by which SQLite opens a file."""
+    return "file:" + urllib.parse.quote(os.path.abspath(os.fsencode(place))) + "?" + options
 
 
-def merge(writer: Writer, snapshot: Snapshot) -> None:
-    """Adds everything in a snapshot to a new one."""
-    lists, faces = snapshot.lists(), snapshot.faces()
-    numbers = {number: writer.add_tree(tree) for number, tree in snapshot.trees.items()}
-    batch: List[Found] = []
-    at = 0
-    for tree, path, kind, mode, face in snapshot.objects():
-        if batch and (tree != at or len(batch) == 1000):
-            writer.add_objects(numbers[at], batch)
-            batch = []
-        at = tree
-        batch.append(Found(path, kind, mode, faces[face].uid, faces[face].gid, lists[faces[face].list]))
-    if batch:
-        writer.add_objects(numbers[at], batch)
-    writer.add_names((numbers[tree], is_group, number, name) for tree, is_group, number, name in snapshot.names())
-    writer.add_members((numbers[tree], user, group) for tree, user, group in snapshot.members())
-    for tree, path, step, message in snapshot.errors():
-        writer.add_error(numbers[tree], path, step, message)
-
-
-@contextlib.contextmanager
-def new_snapshot(place: str) -> Iterator[Writer]:
-    """Makes a snapshot next to `place`, and moves it there when the block is done. If the block raises, `place` stays
-    as it was.
-
-    A snapshot that is not whole does not replace a file: it is written to `PLACE.partial` instead. Raises DeviceError
-    if the snapshot cannot be written.
-    """
-    part = f"{place}.{os.getpid()}.part"
-    writer: Optional[Writer] = None
+def _file_size(place: str) -> int:
+    """Returns the size of a regular file without opening it. Raises TreeError if there is none."""
     try:
-        try:
-            writer = Writer(part)
-            yield writer
-            writer.finish()
-            _sync(part)
-            writer.place = place if writer.whole or not os.path.exists(place) else f"{place}.partial"
-            os.replace(part, writer.place)
-        except (sqlite3.Error, OSError) as error:
-            raise DeviceError(f"{place}: {getattr(error, 'strerror', None) or error}") from None
-    finally:
-        if writer:
-            writer.drop()
-        with contextlib.suppress(OSError):
-            os.unlink(part)
-
-
-def _sync(place: str) -> None:
-    handle = os.open(place, os.O_RDONLY)
-    try:
-        os.fsync(handle)
-    finally:
-        os.close(handle)
+        status = os.stat(place)
+    except FileNotFoundError:
+        raise TreeError(f"{place}: no such snapshot") from None
+    except (OSError, ValueError) as error:
+        raise TreeError(f"{place}: {getattr(error, 'strerror', error)}") from None
+    if not stat.S_ISREG(status.st_mode):
+        raise TreeError(f"{place}: no snapshot: not a regular file")
+    return status.st_size

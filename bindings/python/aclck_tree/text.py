@@ -2,34 +2,69 @@
 
 from __future__ import annotations
 
+import enum
 import json
 import os
+import re
+import stat
 import sys
 from typing import Any, Callable, Dict, Iterable, List, Optional, Sequence, TextIO
 
 Row = Dict[str, Any]
 """One answer. Names and paths in it are `str` as os.fsdecode makes them."""
 
-_SAFE = set("abcdefghijklmnopqrstuvwxyzABCDEFGHIJKLMNOPQRSTUVWXYZ0123456789@%+=:,./-_^")
+_PLAIN = re.compile(r"[\w@%+=:,./^-]+")
+"""Texts that bash reads as they are: `\\w` is a letter or a digit of any alphabet, or `_`."""
+
+_INVISIBLE = re.compile("[\u034f\u115f\u1160\u17b4\u17b5\u180b-\u180f\u3164\ufe00-\ufe0f\uffa0\U000e0100-\U000e01ef]")
+"""Letters and marks that nothing is shown for: those that Unicode lists as Default_Ignorable_Code_Point, apart from the
+ones that `str.isprintable` leaves out."""
+
+
+class Form(str, enum.Enum):
+    """The form of the output. CSV guards the cells that a spreadsheet would run, and RAW_CSV does not."""
+
+    TEXT = "text"
+    CSV = "csv"
+    RAW_CSV = "raw-csv"
+    JSON = "json"
+
+
+def is_shown(text: str) -> bool:
+    """Whether each character of a text is seen, and none ends the line or changes the direction of what is near it."""
+    return text.isprintable() and (text.isascii() or not _INVISIBLE.search(text))
 
 
 def quoted(name: str) -> str:
     """Returns a name as bash reads it, on one line: as it is if it has only letters, digits and `@%+=:,./-_^`, as
-    `$'..'` if a character in it is not printable or not UTF-8, and otherwise between quotes."""
-    if name and all(letter in _SAFE or (letter > "\x7f" and letter.isalnum()) for letter in name):
+    `$'..'` if a character in it is not shown or not UTF-8, and otherwise between quotes."""
+    if not is_shown(name):
+        return "$'" + "".join(_escaped(letter) for letter in name) + "'"
+    if _PLAIN.fullmatch(name):
         return name
-    if name.isprintable():
-        return "'" + name.replace("'", "'\\''") + "'"
-    return "$'" + "".join(_escaped(letter) for letter in name) + "'"
+    return "'" + name.replace("'", "'\\''") + "'"
 
 
 def _escaped(letter: str) -> str:
     known = {"\n": "\\n", "\t": "\\t", "\r": "\\r", "\\": "\\\\", "'": "\\'"}
     if letter in known:
         return known[letter]
-    if letter.isprintable():
+    if is_shown(letter):
         return letter
-    return "".join(f"\\{byte:03o}" for byte in os.fsencode(letter))
+    return "".join(f"\\{byte:03o}" for byte in letter.encode("utf-8", "surrogateescape"))
+
+
+def quoted_line(text: str) -> str:
+    """Returns a text on one line, with `\\u202e` or `\\xff` in place of each character that is not shown or not UTF-8.
+    All lines that the program writes for people pass through it, so that no text from outside can forge one."""
+    return text if is_shown(text) else "".join(letter if is_shown(letter) else _numbered(letter) for letter in text)
+
+
+def _numbered(letter: str) -> str:
+    number = ord(letter)
+    if number < 0x80 or 0xDC80 <= number <= 0xDCFF:
+        return f"\\x{number & 0xFF:02x}"
+    return f"\\u{number:04x}" if number <= 0xFFFF else f"\\U{number:08x}"
 
 
 def quoted_path(path: bytes) -> str:
@@ -42,24 +77,25 @@ class Output:
 
     def __init__(self, form: str, columns: Sequence[str], line: Callable[[Row], Optional[str]],
                  stream: Optional[TextIO] = None) -> None:
-        """`form` is `text`, `csv` or `json`; `line` makes the text of a row, or None for a row without text."""
-        self._form = form
+        """`line` makes the text of a row, or None for a row without text."""
+        self._form = Form(form)
         self._columns = list(columns)
         self._line = line
         self._stream = stream or sys.stdout
-        if form == "csv":
+        if self._form in _GUARDS:
             self._put_csv(self._columns)
 
     def put(self, row: Row) -> None:
         """Writes one answer."""
-        if self._form == "json":
+        if self._form is Form.JSON:
             self._stream.write(json.dumps(row, ensure_ascii=True) + "\n")
-        elif self._form == "csv":
-            self._put_csv([_cell(row.get(column)) for column in self._columns])
+        elif self._form in _GUARDS:
+            guard = _GUARDS[self._form]
+            self._put_csv([guard(_cell(row.get(column))) for column in self._columns])
         else:
             line = self._line(row)
             if line is not None:
-                self._stream.write(line + "\n")
+                self._stream.write(quoted_line(line) + "\n")
 
     def _put_csv(self, cells: Sequence[str]) -> None:
         """Writes a line of RFC 4180 that ends with a line feed only."""
@@ -69,8 +105,8 @@ class Output:
     def note(self, line: str) -> None:
         """Writes a line that is not an answer: to standard output if the form is text, and otherwise to standard
         error."""
-        stream = self._stream if self._form == "text" else sys.stderr
-        stream.write(line + "\n")
+        stream = self._stream if self._form is Form.TEXT else sys.stderr
+        stream.write(quoted_line(line) + "\n")
 
 
 def _cell(value: Any) -> str:
@@ -83,6 +119,16 @@ def _cell(value: Any) -> str:
     return str(value)
 
 
+def _guarded(cell: str) -> str:
+    """Returns a cell with an apostrophe in front if a spreadsheet would run it. A cell that begins with an apostrophe
+    gets one more, so that a reader can take the first apostrophe of each cell away."""
+    return "'" + cell if cell.startswith(tuple("=+-@\t\r\n'")) else cell
+
+
+_GUARDS: Dict[Form, Callable[[str], str]] = {Form.CSV: _guarded, Form.RAW_CSV: str}
+"""What the forms with cells do to each cell."""
+
+
 def table(rows: Iterable[Sequence[str]], right: Sequence[int] = ()) -> List[str]:
     """Returns rows as lines with columns of one width. The columns in `right` are right-aligned."""
     held = [list(row) for row in rows]
@@ -91,6 +137,15 @@ def table(rows: Iterable[Sequence[str]], right: Sequence[int] = ()) -> List[str]
     widths = [max(len(row[place]) for row in held) for place in range(len(held[0]))]
     return ["  ".join(cell.rjust(width) if place in right else cell.ljust(width)
                       for place, (cell, width) in enumerate(zip(row, widths))).rstrip() for row in held]
+
+
+_SPECIAL_BITS = ((stat.S_ISUID, "setuid"), (stat.S_ISGID, "setgid"), (stat.S_ISVTX, "sticky"))
+
+
+def special_bits(mode: int) -> List[str]:
+    """Returns the names of the bits of a mode that are not among its nine permissions, such as `setgid` and
+    `sticky`."""
+    return [name for bit, name in _SPECIAL_BITS if mode & bit]
 
 
 def plural(count: int, word: str) -> str:

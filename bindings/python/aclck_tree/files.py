@@ -1,0 +1,94 @@
+"""New files, which take the place of older ones when they are whole."""
+
+from __future__ import annotations
+
+import contextlib
+import fcntl
+import os
+import re
+import secrets
+import stat
+from typing import Iterator, TextIO
+
+from .errors import DeviceError, TreeError
+
+
+class Part:
+    """A new, empty file next to the place that it will take. Nobody can guess its name, and only its owner may read
+    it. While it is open it is locked, so that other runs can see that it is in use."""
+
+    def __init__(self, place: str) -> None:
+        """Raises TreeError if something is at the place that is not a file, and OSError if the file cannot be made."""
+        refuse_what_is_no_file(place)
+        directory, base = os.path.split(place)
+        self._remove_leftovers(directory or ".", base[:200])
+        self.name = os.path.join(directory, f".{base[:200]}.{secrets.token_hex(16)}.part")
+        self.handle = os.open(self.name, os.O_RDWR | os.O_CREAT | os.O_EXCL | os.O_NOFOLLOW, 0o600)
+        _lock(self.handle)
+
+    @staticmethod
+    def _remove_leftovers(directory: str, base: str) -> None:
+        """Removes the files of this kind that no process has open any more."""
+        pattern = re.compile(re.escape(base).join((r"\.", r"\.[0-9a-f]{32}\.part")))
+        with contextlib.suppress(OSError), os.scandir(directory) as entries:
+            for name in [entry.name for entry in entries if pattern.fullmatch(entry.name)]:
+                _remove_leftover(os.path.join(directory, name))
+
+    def take(self, place: str) -> None:
+        """Moves the file to its place. Raises OSError if that fails, or if the file is no longer where it was made."""
+        os.fsync(self.handle)
+        if not os.path.samestat(os.fstat(self.handle), os.lstat(self.name)):
+            raise OSError(0, f"{self.name} was exchanged")
+        os.replace(self.name, place)
+
+    def drop(self) -> None:
+        """Closes the file, and removes it if it has not taken its place."""
+        with contextlib.suppress(OSError):
+            if os.path.samestat(os.fstat(self.handle), os.lstat(self.name)):
+                os.unlink(self.name)
+        os.close(self.handle)
+
+
+def refuse_what_is_no_file(place: str) -> None:
+    """Raises TreeError if there is a directory, a link, a device or the like at a place. It opens nothing."""
+    with contextlib.suppress(OSError):
+        if not stat.S_ISREG(os.lstat(place).st_mode):
+            raise TreeError(f"{place}: not a regular file, and is not replaced")
+
+
+def _lock(handle: int) -> bool:
+    """Locks an open file, or returns False if another process has locked it."""
+    try:
+        fcntl.flock(handle, fcntl.LOCK_EX | fcntl.LOCK_NB)
+    except OSError:
+        return False
+    return True
+
+
+def _remove_leftover(name: str) -> None:
+    with contextlib.suppress(OSError):
+        handle = os.open(name, os.O_RDWR | os.O_NOFOLLOW | os.O_NONBLOCK)
+        try:
+            status = os.fstat(handle)
+            if stat.S_ISREG(status.st_mode) and status.st_uid == os.geteuid() and _lock(handle):
+                os.unlink(name)
+        finally:
+            os.close(handle)
+
+
+@contextlib.contextmanager
+def replaced(place: str) -> Iterator[TextIO]:
+    """Makes a text file that replaces `place` when the block is done. If the block raises, `place` stays as it was.
+
+    Raises TreeError if something is at the place that is not a file, and DeviceError if the file cannot be written.
+    """
+    try:
+        part = Part(place)
+        try:
+            with open(part.handle, "w", encoding="utf-8", errors="surrogateescape", closefd=False) as file:
+                yield file
+            part.take(place)
+        finally:
+            part.drop()
+    except OSError as error:
+        raise DeviceError(f"{place}: {error.strerror or error}") from None

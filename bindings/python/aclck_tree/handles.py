@@ -1,0 +1,181 @@
+"""Directories of a tree by handles. A tree is walked by handles and single names, which are never followed if they are
+links. So nobody can lead a scan out of the tree by exchanging a name while the scan runs."""
+
+from __future__ import annotations
+
+import contextlib
+import ctypes
+import errno
+import os
+import struct
+import threading
+from collections import OrderedDict
+from typing import Iterator, List, NamedTuple, Optional
+
+KEPT = 128
+"""How many handles stay open that no thread uses."""
+
+PIECE = 8192
+"""How many bytes of names are read at once: at most 341 names."""
+
+OBJECT = os.O_PATH | os.O_NOFOLLOW
+"""The flags for a handle of any object. A link has a handle of its own."""
+
+_ENTRY = struct.Struct("=QqHB")  # getdents64(2): inode, where the next entry is, length, type; the name follows
+_LIBC = ctypes.CDLL(None, use_errno=True)
+_LIBC.getdents64.argtypes = (ctypes.c_int, ctypes.c_void_p, ctypes.c_size_t)
+_LIBC.getdents64.restype = ctypes.c_ssize_t
+
+
+class Directory:
+    """A directory of a tree: its name in the directory above it, and its device and inode when it was read."""
+
+    __slots__ = ("above", "name", "identity")
+
+    def __init__(self, above: Optional[Directory], name: bytes, status: os.stat_result) -> None:
+        self.above = above
+        self.name = name
+        self.identity = status.st_dev, status.st_ino
+
+    def path(self) -> bytes:
+        """Returns the path below the root, which is empty for the root itself."""
+        names: List[bytes] = []
+        at = self
+        while at.above is not None:
+            names.append(at.name)
+            at = at.above
+        return b"/".join(reversed(names))
+
+
+class _Held:
+    __slots__ = ("handle", "users")
+
+    def __init__(self, handle: int) -> None:
+        self.handle = handle
+        self.users = 1
+
+
+class Handles:
+    """Opens the directories of one tree, and keeps the handles that were used last. Any number of threads can use it at
+    once; each keeps one handle more open."""
+
+    def __init__(self, root: Directory, handle: int) -> None:
+        """Takes over a handle of the root."""
+        self._lock = threading.Lock()
+        self._held: OrderedDict[Directory, _Held] = OrderedDict({root: _Held(handle)})  # the root is always in use
+
+    @contextlib.contextmanager
+    def held(self, directory: Directory) -> Iterator[int]:
+        """Opens a directory from the nearest directory above it that is open.
+
+        Raises OSError if a directory on this way cannot be opened, or is not the one that was read.
+        """
+        held = self._open(directory)
+        try:
+            yield held.handle
+        finally:
+            self._release(held)
+
+    def close(self) -> None:
+        """Closes all handles."""
+        with self._lock:
+            while self._held:
+                os.close(self._held.popitem()[1].handle)
+
+    def _open(self, directory: Directory) -> _Held:
+        missing: List[Directory] = []
+        held = self._take(directory)
+        while held is None:
+            assert directory.above
+            missing.append(directory)
+            directory = directory.above
+            held = self._take(directory)
+        for below in reversed(missing):
+            try:
+                handle = _enter(below, held.handle)
+            finally:
+                self._release(held)
+            held = self._keep(below, handle)
+        return held
+
+    def _take(self, directory: Directory) -> Optional[_Held]:
+        with self._lock:
+            held = self._held.get(directory)
+            if held is not None:
+                held.users += 1
+                self._held.move_to_end(directory)
+            return held
+
+    def _release(self, held: _Held) -> None:
+        with self._lock:
+            held.users -= 1
+
+    def _keep(self, directory: Directory, handle: int) -> _Held:
+        """Keeps a new handle, or closes it if another thread has opened the directory in the meantime."""
+        with self._lock:
+            held = self._held.get(directory)
+            if held is not None:
+                os.close(handle)
+                held.users += 1
+                return held
+            if len(self._held) > KEPT:
+                unused = next((one for one, known in self._held.items() if not known.users), None)
+                if unused is not None:
+                    os.close(self._held.pop(unused).handle)
+            held = self._held[directory] = _Held(handle)
+            return held
+
+
+def _enter(directory: Directory, above: int) -> int:
+    handle = os.open(directory.name, OBJECT | os.O_DIRECTORY, dir_fd=above)
+    try:
+        status = os.fstat(handle)
+        if (status.st_dev, status.st_ino) != directory.identity:
+            raise OSError(errno.ESTALE, "another directory has this name now")
+    except OSError:
+        os.close(handle)
+        raise
+    return handle
+
+
+def open_root(root: bytes) -> int:
+    """Returns a handle of the root of a tree, which may be a link. Raises OSError."""
+    try:
+        return os.open(root, os.O_PATH | os.O_DIRECTORY)  # O_DIRECTORY mounts what is mounted on demand
+    except NotADirectoryError:
+        return os.open(root, os.O_PATH)
+
+
+def open_list(directory: int) -> int:
+    """Opens a directory, given by its handle, to read its names. Raises OSError."""
+    flags = os.O_RDONLY | os.O_DIRECTORY
+    try:
+        return os.open(b".", flags | os.O_NOATIME, dir_fd=directory)
+    except PermissionError:  # only the owner may use O_NOATIME
+        return os.open(b".", flags, dir_fd=directory)
+
+
+class Names(NamedTuple):
+    """Some names of a directory, and where in the directory the next name is."""
+
+    names: List[bytes]
+    after: int
+
+
+def read_names(handle: int) -> Optional[Names]:
+    """Reads the next names of a directory, or returns None at its end. Raises OSError."""
+    buffer = ctypes.create_string_buffer(PIECE)
+    size = _LIBC.getdents64(handle, buffer, PIECE)
+    if size < 0:
+        number = ctypes.get_errno()
+        raise OSError(number, os.strerror(number))
+    data = buffer.raw[:size]
+    names: List[bytes] = []
+    at = after = 0
+    while at < size:
+        _, after, length, _ = _ENTRY.unpack_from(data, at)
+        name = data[at + _ENTRY.size:at + length].partition(b"\0")[0]
+        if name not in (b".", b".."):
+            names.append(name)
+        at += length
+    return Names(names, after) if size else None

@@ -1,0 +1,320 @@
+"""The commands who, may and why: what is granted to whom, and what decides about it."""
+
+from __future__ import annotations
+
+import argparse
+import functools
+import itertools
+import os
+from collections import Counter
+from typing import Dict, Iterable, Iterator, NamedTuple, Optional, Tuple, Union
+
+from aclck import mask_text
+
+from .ask import DENIED, GRANTED, UNKNOWN, Answer, Answers, Asker, Options, Want, Why, chosen, ones, want_of
+from .ask import why as why_of
+from .ask import why_request
+from .commands import (
+    Counted,
+    Paths,
+    Tally,
+    asker_of,
+    count_by,
+    counted,
+    find,
+    opened,
+    people_of,
+    person_of,
+    selected,
+    status_of,
+)
+from .errors import NO, REFUSED, YES, tell
+from .lists import Asked, Kind, RefusedList
+from .people import Person
+from .reach import reached
+from .snapshot import Tree
+from .text import Output, Row, plural, quoted, quoted_path, table
+
+
+def left_out(asker: Asker, faces: Iterable[int]) -> str:
+    """Reports how many AUDIT and ALARM ACEs were left out of the lists of some faces, if there are any."""
+    asked = [asker.ready(number) for number in {asker.faces[face].list for face in faces}]
+    numbers = [one.left_out for one in asked if isinstance(one, Asked) and one.left_out]
+    if not numbers:
+        return ""
+    return f"; {plural(sum(numbers), 'AUDIT or ALARM ACE')} left out of {plural(len(numbers), 'list')}"
+
+
+Found = Union[RefusedList, Answers]
+
+
+class Basis(NamedTuple):
+    """What the answer about an object depends on: its face, and with --reach who gets past the directories above."""
+
+    face: int
+    above: Optional[Answers]
+
+
+class Question:
+    """What `who` and `may` ask about the objects of a snapshot that a pattern selects."""
+
+    def __init__(self, asker: Asker, want: Want, glob: Optional[str], is_reach: bool) -> None:
+        self.asker = asker
+        self.want = want
+        self.glob = glob
+        self.is_reach = is_reach
+        self._own: Dict[int, Found] = {}
+
+    def _objects(self) -> Iterator[Tuple[int, bytes, int, Optional[Answers]]]:
+        """Returns the tree, the path below its root and the face of each object, and with --reach who gets past the
+        directories above."""
+        snapshot = self.asker.snapshot
+        if self.is_reach:
+            return reached(self.asker, None if self.glob is None else Paths(snapshot, self.glob).has)
+        return ((tree, path, face, None) for tree, path, _, face in selected(snapshot, self.glob))
+
+    def objects(self) -> Iterator[Tuple[bytes, Basis]]:
+        """Yields the whole path of each object, and what the answer about it depends on."""
+        trees = self.asker.snapshot.trees
+        for tree, path, face, above in self._objects():
+            yield trees[tree].full(path), Basis(face, above)
+
+    def counts(self) -> Dict[Basis, Counted]:
+        """Counts the objects about which the answer depends on the same."""
+        snapshot = self.asker.snapshot
+        if not self.is_reach:
+            return {Basis(face, None): one for face, one in counted(snapshot, self.glob).items()}
+        keys = (((face, above), tree, path) for tree, path, face, above in self._objects())
+        return {Basis(*key): one for key, one in count_by(snapshot, keys).items()}
+
+    def own(self, face: int) -> Found:
+        """Returns whom the list of a face grants what is asked."""
+        if face not in self._own:
+            self._own[face] = self.asker.answers(self.asker.faces[face], self.want)
+        return self._own[face]
+
+    def found(self, basis: Basis) -> Found:
+        """Returns whom what is asked is granted: by the list, and with --reach by the directories above too."""
+        own = self.own(basis.face)
+        if isinstance(own, RefusedList) or basis.above is None:
+            return own
+        return self.asker.both(own, basis.above)
+
+    def reason(self, basis: Basis) -> str:
+        """Returns what the unknown answers about an object depend on."""
+        found, own, asked = self.found(basis), self.own(basis.face), self.asker.ready(self._list(basis))
+        if isinstance(found, RefusedList) or isinstance(own, RefusedList) or isinstance(asked, RefusedList):
+            return ""
+        parts = [quoted(name) for name, _ in sorted(asked.specials)] if found.unknown & own.unknown else []
+        return " ".join(parts + (["directories above"] if basis.above and found.unknown & basis.above.unknown else []))
+
+    def _list(self, basis: Basis) -> int:
+        return self.asker.faces[basis.face].list
+
+    def last_line(self, what: str, tally: Tally, counts: Dict[Basis, int]) -> str:
+        """Returns the line that counts the answers, and says what else was asked or was not."""
+        faces = {basis.face for basis in counts}
+        has_posix = any(self.asker.kind(self.asker.faces[face].list) is Kind.POSIX for face in faces)
+        missing = f"; POSIX lists have no {mask_text(self.want.missing)}" if has_posix and self.want.missing else ""
+        above = "" if self.is_reach or not counts else "; directories above were not asked (--reach)"
+        return f"{what}: {tally.line()}{missing}{left_out(self.asker, faces)}{self._linux(counts)}{above}"
+
+    def _linux(self, counts: Dict[Basis, int]) -> str:
+        """Reports how many answers `--linux` changes."""
+        if not self.asker.options.linux:
+            return ""
+        plain = Asker(self.asker.snapshot, self.asker.people, Options(self.asker.options.domain))
+        other = Question(plain, self.want, self.glob, self.is_reach)
+        pairs = {(basis, basis): count for basis, count in counts.items()}
+        if self.is_reach:
+            pairs = Counter((mine, its) for (_, mine), (_, its) in zip(self.objects(), other.objects()))
+        changed = 0
+        for (mine, its), count in pairs.items():
+            one, two = self.found(mine), other.found(its)
+            if not isinstance(one, RefusedList) and not isinstance(two, RefusedList):
+                changed += count * ones((one.granted ^ two.granted) | (one.denied ^ two.denied))
+        return f"; --linux changes {plural(changed, 'answer')}"
+
+
+MOST_NAMES = 1000000
+"""How many names `who` keeps at once in rows that it has written."""
+
+
+def who(args: argparse.Namespace) -> int:
+    """Writes which of the people may do what is asked, for each object or for each class of objects."""
+    snapshot = opened(args.snapshot)
+    people = people_of(args, snapshot)
+    question = Question(asker_of(args, snapshot, people), want_of(args.may, args.any), args.path, args.reach)
+    counts, tally = question.counts(), Tally()
+    for basis, one in counts.items():
+        found = question.found(basis)
+        if isinstance(found, RefusedList):
+            tally.add(Answer.REFUSED.value, one.objects)
+            continue
+        for answer, bits in ((GRANTED, found.granted), (DENIED, found.denied), (UNKNOWN, found.unknown)):
+            tally.add(answer.value, one.objects * ones(bits))
+    out = Output(args.form, ["path", "granted", "unknown", "refused"],
+                 lambda row: f"{quoted(row['path'])}: {_who_text(row)}")
+    if args.form != "text" or args.each:
+        row_of = functools.lru_cache(max(16, MOST_NAMES // max(1, len(people))))(functools.partial(_who_row, question))
+        for path, basis in question.objects():
+            out.put({"path": os.fsdecode(path), **row_of(basis)})
+    else:
+        _who_classes(out, question, counts)
+    objects = sum(one.objects for one in counts.values())
+    what = f"{plural(objects, 'object')}, {plural(len(people), 'person').replace('persons', 'people')}"
+    out.note(question.last_line(what, tally, {basis: one.objects for basis, one in counts.items()}))
+    return status_of(tally.status(), snapshot)
+
+
+def _who_row(question: Question, basis: Basis) -> Row:
+    found, people = question.found(basis), question.asker.people
+    if isinstance(found, RefusedList):
+        return {"granted": [], "unknown": [], "special": "", "refused": found.reason}
+    granted, unknown = ([person.name for person in chosen(people, bits)] for bits in (found.granted, found.unknown))
+    return {"granted": granted, "unknown": unknown, "special": question.reason(basis), "refused": None}
+
+
+def _who_text(row: Row) -> str:
+    if row["refused"] is not None:
+        return f"refused {row['refused']}"
+    text = " ".join(map(quoted, row["granted"])) or "nobody"
+    if row["unknown"]:
+        hangs = f" (depends on {row['special']})" if row["special"] else ""
+        text += "; unknown: " + " ".join(map(quoted, row["unknown"])) + hangs
+    return text
+
+
+def _who_classes(out: Output, question: Question, counts: Dict[Basis, Counted]) -> None:
+    """Writes a line for each class of objects with the same answers. The names are made for one line at a time."""
+    classes: Dict[Tuple[Union[Answers, str], str], Tuple[Counted, Basis]] = {}
+    for basis, one in counts.items():
+        found = question.found(basis)
+        answer: Union[Answers, str] = found.reason if isinstance(found, RefusedList) else found
+        key = answer, question.reason(basis)
+        known = classes[key][0] if key in classes else Counted(0, one.first)
+        classes[key] = Counted(known.objects + one.objects, min(known.first, one.first)), basis
+    ordered = sorted(classes.values(), key=lambda pair: (-pair[0].objects, pair[0].first))
+    heads = [("OBJECTS", "FIRST OF THEM")]
+    heads += [(f"{one.objects:,}", quoted_path(one.first)) for one, _ in ordered]
+    right, left = (max(len(head[place]) for head in heads) for place in (0, 1))
+    texts = itertools.chain(["WHO"], (_who_text(_who_row(question, basis)) for _, basis in ordered))
+    for (objects, first), text in zip(heads, texts):
+        out.note(f"{objects.rjust(right)}  {first.ljust(left)}  {text}")
+
+
+def may(args: argparse.Namespace) -> int:
+    """Writes on which objects one user is granted what is asked."""
+    snapshot = opened(args.snapshot)
+    asker = asker_of(args, snapshot, [person_of(args, snapshot)])
+    question = Question(asker, want_of(args.may, args.any), args.path, args.reach)
+    answers: Dict[Basis, Tuple[Answer, str]] = {}
+    counts: Dict[Basis, int] = {}
+    out = Output(args.form, ["answer", "path", "reason"], _may_text)
+    for path, basis in question.objects():
+        if basis not in answers:
+            answers[basis], counts[basis] = _may_answer(question, basis), 0
+        counts[basis] += 1
+        answer, reason = answers[basis]
+        if args.all or answer is not DENIED:
+            out.put({"answer": answer.value, "path": os.fsdecode(path), "reason": reason})
+    tally = Tally()
+    for basis, count in counts.items():
+        tally.add(answers[basis][0].value, count)
+    out.note(question.last_line(plural(sum(counts.values()), "object"), tally, counts))
+    return status_of(tally.status(), snapshot)
+
+
+def _may_answer(question: Question, basis: Basis) -> Tuple[Answer, str]:
+    """Returns the answer for the one user, and why it is none."""
+    found = question.found(basis)
+    if isinstance(found, RefusedList):
+        return Answer.REFUSED, found.reason
+    answer = found.of(0)
+    return answer, question.reason(basis) if answer is UNKNOWN else ""
+
+
+def _may_text(row: Row) -> str:
+    reason = f" {row['reason']}" if row["reason"] else ""
+    return f"{row['answer']}{reason}: {quoted(row['path'])}"
+
+
+def why(args: argparse.Namespace) -> int:
+    """Writes which ACE or entry decides about each right of one user on one object, and which directory above the
+    object stops the user."""
+    snapshot = opened(args.snapshot)
+    person = person_of(args, snapshot)
+    asker = asker_of(args, snapshot, [person])
+    tree, path, number = find(snapshot, args.path)
+    face = asker.faces[number]
+    found = why_of(asker, face, person)
+    if isinstance(found, RefusedList):
+        tell(f"{quoted_path(tree.full(path))}: refused {found.reason}")
+        return REFUSED
+    owner, group = asker.owner_and_group(face, asker.kind(face.list))
+    out = Output(args.form, ["right", "answer", "place", "decided_by", "directory"], lambda row: "")
+    wanted = want_of(args.may) if args.may else None
+    if wanted:
+        found = [*(one for one in found if _is_asked(one.right, wanted)), *why_request(asker, face, person, wanted)]
+    out.note(f"{quoted_path(tree.full(path))}: owner {quoted(owner)}, group {quoted(group)}")
+    if args.form == "text":
+        lines = [(one.right, one.answer.value, _place(one), one.text) for one in found]
+        for line in table(lines, right=[2]):
+            out.note(line)
+    for one in found if args.form != "text" else []:
+        out.put(_why_row(one, None))
+    stop = _stopped(asker, tree, path, person)
+    if stop:
+        at, one = stop
+        verb = "stops" if one.answer is DENIED else "may stop"
+        if args.form == "text":
+            place = "" if one.place is None else f" {one.place}"
+            out.note(f"{quoted_path(at)} {verb} {quoted(person.name)}: {one.right} {one.answer.value}{place}: "
+                     f"{one.text}")
+        else:
+            out.put(_why_row(one, at))
+    answers = {one.answer for one in found} | ({stop[1].answer} if stop else set())
+    is_known = answers.isdisjoint((UNKNOWN, Answer.REFUSED))
+    return status_of(REFUSED if not is_known else NO if DENIED in answers else YES, snapshot)
+
+
+def _place(one: Why) -> str:
+    return "" if one.place is None else str(one.place)
+
+
+def _why_row(one: Why, directory: Optional[bytes]) -> Row:
+    return {"right": one.right, "answer": one.answer.value, "place": one.place, "decided_by": one.text,
+            "directory": None if directory is None else os.fsdecode(directory)}
+
+
+def _stopped(asker: Asker, tree: Tree, path: bytes, person: Person) -> Optional[Tuple[bytes, Why]]:
+    """Returns the first directory from the root down that does not let a person pass, and what decides that there: one
+    that denies it, or else one of which it is not known."""
+    unsure: Optional[Tuple[bytes, Why]] = None
+    for directory in _above(path):
+        known = asker.snapshot.find(tree.tree, directory)
+        found = why_of(asker, asker.faces[known[2]], person) if known else RefusedList("not in the snapshot")
+        if isinstance(found, RefusedList):
+            one = Why("EXECUTE", UNKNOWN, None, found.reason)
+        else:
+            one = next(one for one in found if one.right in ("EXECUTE", "x"))
+        if one.answer is DENIED:
+            return tree.full(directory), one
+        if one.answer is UNKNOWN and not unsure:
+            unsure = tree.full(directory), one
+    return unsure
+
+
+def _above(path: bytes) -> Iterator[bytes]:
+    """Yields the paths of the directories above an object, below the root of its tree, from the root down."""
+    if path:
+        yield b""
+    at = path.find(b"/")
+    while at >= 0:
+        yield path[:at]
+        at = path.find(b"/", at + 1)
+
+
+def _is_asked(right: str, want: Want) -> bool:
+    asked = want_of(right)
+    return bool(asked.perms & want.perms) if right in "rwx" else bool(asked.mask & want.mask)

@@ -1,0 +1,200 @@
+"""Who is asked about an object at two times, people and those whom a list mentions, and what differs for them."""
+
+from __future__ import annotations
+
+import itertools
+from typing import Dict, Iterable, Iterator, List, NamedTuple, Optional, Sequence, Tuple
+
+from aclck import ALL
+
+from .ask import Cases
+from .counterparts import is_same_owner, who_at
+from .crowd import Asking, Crowd, Identity, Missing
+from .lists import MOST_SPECIALS, POSIX_MASKS, Kind
+from .sides import Place, Question, Side
+from .text import quoted
+
+_SPECIAL = {"OWNER@", "GROUP@", "EVERYONE@"}
+
+
+class Whom(NamedTuple):
+    """Who is treated differently: a name, after words that say what has this name."""
+
+    words: str
+    name: str = ""
+
+    def __str__(self) -> str:
+        return " ".join(filter(None, self))
+
+    def quoted(self) -> str:
+        """Returns the same with a name as text output has it."""
+        return " ".join(filter(None, (self.words, self.name and quoted(self.name))))
+
+    def alone(self) -> Sequence[str]:
+        """Returns how `compare` names the same requester: a user in no group, or anybody else."""
+        return [quoted(self.name)] if self.name and self.words in ("", "user") else [] if self.name else [self.words]
+
+
+class Requester(NamedTuple):
+    """Who is asked about, with the identity on each side."""
+
+    whom: Whom
+    old: Asking
+    new: Asking
+    note: str = ""
+
+    def users(self) -> List[Tuple[bool, str]]:
+        """Returns the user on each side, with whether this is the new side."""
+        sides = ((False, self.old), (True, self.new))
+        return [(is_new, one.user) for is_new, one in sides if isinstance(one, Identity)]
+
+
+Effect = Tuple[int, int, int]
+"""The rights gained, the rights lost, and those of which it is not known."""
+
+Affected = Tuple[Requester, Effect]
+"""A requester for whom something differs."""
+
+_Part = List[Optional[Cases]]
+
+
+def _difference(before: Optional[Cases], after: Optional[Cases], aligned: bool) -> Effect:
+    """Compares what is granted on both sides. If the cases of both sides are not the same cases one by one, a right is
+    known only if it is granted in all cases of a side or in none."""
+    if aligned and before is not None and after is not None:
+        gained, lost, unclear = ALL, ALL, 0
+        for old, new in zip(before, after):
+            gained, lost, unclear = gained & new & ~old, lost & old & ~new, unclear | (old ^ new)
+    else:
+        old_sure, old_maybe = _states(before)
+        new_sure, new_maybe = _states(after)
+        gained, lost = new_sure & ~old_maybe, old_sure & ~new_maybe
+        unclear = (old_sure ^ new_sure) | (old_maybe & ~old_sure) | (new_maybe & ~new_sure)
+    return gained, lost, unclear & ~gained & ~lost
+
+
+def _states(masks: Optional[Cases]) -> Tuple[int, int]:
+    """Returns the rights that are granted in every case, and those that are granted in some case. If the id of a person
+    is not known, which only matters for POSIX lists, each right of such a list may be granted."""
+    if masks is None:
+        return 0, sum(POSIX_MASKS.values())
+    sure, maybe = ALL, 0
+    for mask in masks:
+        sure &= mask
+        maybe |= mask
+    return sure, maybe
+
+
+def _cases_at(place: Optional[Place], crowd: Crowd) -> Iterator[Optional[Cases]]:
+    """Yields what each of a crowd is granted in each case. On an object that is not there nothing is granted."""
+    if not place:
+        return iter([(0,)] * len(crowd))
+    found = [itertools.chain.from_iterable(crowd.granted(view, [name for name, _ in view.asked.specials]))
+             for view in place.views]
+    return (None if None in cases else tuple(itertools.chain.from_iterable(one for one in cases if one))
+            for cases in zip(*found))
+
+
+def differences(question: Question, rows: Sequence[Requester], old: Crowd, new: Crowd) -> Iterator[Affected]:
+    """Yields those of the rows for whom something differs."""
+    names = question.specials()
+    if (question.old and question.new and len(question.old.views) == len(question.new.views) == 1
+            and len(names) <= MOST_SPECIALS):
+        parts = zip(old.granted(question.old.views[0], names), new.granted(question.new.views[0], names))
+        yield from _aligned_differences(rows, parts)
+        return
+    for row, before, after in zip(rows, _cases_at(question.old, old), _cases_at(question.new, new)):
+        found = _difference(before, after, False)
+        if any(found):
+            yield row, found
+
+
+def _aligned_differences(rows: Sequence[Requester], parts: Iterable[Tuple[_Part, _Part]]) -> Iterator[Affected]:
+    """Yields those of the rows for whom something differs, if the cases of both sides are the same one by one. Usually
+    whole parts of the rows are equal."""
+    start = 0
+    for old, new in parts:
+        if old != new or None in old:
+            for row, before, after in zip(rows[start:start + len(old)], old, new):
+                found = _difference(before, after, True) if before is None or before != after else (0, 0, 0)
+                if any(found):
+                    yield row, found
+        start += len(old)
+
+
+def crowds(rows: Sequence[Requester]) -> Tuple[Crowd, Crowd]:
+    """Returns the rows as each side names them, which is one crowd if both name them alike."""
+    old, new = [row.old for row in rows], [row.new for row in rows]
+    before = Crowd(old)
+    return before, before if old == new else Crowd(new)
+
+
+class PairedPeople:
+    """The people of both sides, in the names of one host and of one kind of list on each side."""
+
+    def __init__(self, old: Side, new: Side, question: Question) -> None:
+        """Pairs the people by their names."""
+        before = {person.name: person for person in reversed(old.asker.people)}
+        after = {person.name: person for person in reversed(new.asker.people)}
+        self.rows = []
+        for name in dict.fromkeys(one.name for one in itertools.chain(new.asker.people, old.asker.people)):
+            sides = [place.side.identity(people.get(name), place.face, place.kind) if place else Missing.PERSON
+                     for people, place in ((before, question.old), (after, question.new))]
+            note = "is new" if name not in before else "is gone" if name not in after else ""
+            self.rows.append(Requester(Whom("", name), sides[0], sides[1], note))
+        self.have_moved = any(row.old != row.new for row in self.rows)
+        self.crowds = crowds(self.rows)
+
+    def differences(self, question: Question, has_known_list: bool = False) -> Iterator[Affected]:
+        """Yields the people for whom something differs. If the list grants the same on both sides, nothing is unclear
+        about somebody who has an id on neither side."""
+        return (found for found in differences(question, self.rows, *self.crowds)
+                if not (has_known_list and found[0].old is found[0].new is Missing.ID))
+
+
+def mentioned(question: Question) -> List[Requester]:
+    """Returns a row for the owner, the group, and each user and group that a list mentions, with those first about whom
+    the lists differ, and one for anybody else at the end. Lists of two kinds have no names in common.
+
+    In a normal form no right can be taken from an ACE. So its ACEs about one user or group, and those for everyone,
+    decide about a right in whatever order they are. Nobody is asked about whom these are the same.
+    """
+    forms = [[ace for view in place.views for ace in view.asked.acl.normal()] for place in question.places()]
+    whos = {ace.who for form in forms for ace in form}
+    rows = [row for who, is_group in (("OWNER@", False), ("GROUP@", True)) if who in whos
+            for row in _owners(question, is_group)]
+    if len({place.kind for place in question.places()}) == 1:
+        unlike = set(forms[0]) ^ set(forms[-1])
+        is_enough = (len(forms) == 2 and question.places()[0].kind is Kind.NFS4 and not question.specials()
+                     and not any(ace.who == "EVERYONE@" for ace in unlike))
+        for are_unlike in (True,) if is_enough else (True, False):
+            for place, form in zip(question.places(), forms):
+                others = {group for view in place.views for _, group in view.asked.specials} | _SPECIAL
+                for is_group, who in dict.fromkeys((ace.is_group, ace.who) for ace in form
+                                                   if (ace in unlike) == are_unlike and ace.who not in others):
+                    rows.append(_row(question, place, "member of" if is_group else "user", is_group, who))
+    rows.append(Requester(Whom("anybody else"), *question.each(lambda place: Identity(place.stranger()))))
+    found: Dict[Tuple[Asking, Asking], Requester] = {}
+    for row in rows:
+        found.setdefault((row.old, row.new), row)
+    return list(found.values())
+
+
+def _owners(question: Question, is_group: bool) -> Iterator[Requester]:
+    """Yields a row for the owner or for a member of the group, or two if these changed."""
+    if question.on or len(question.places()) == 1 or is_same_owner(question, is_group):
+        yield Requester(Whom("a member of its group" if is_group else "its owner"),
+                   *question.each(lambda place: _identity(place, is_group, place.owner(is_group))))
+    elif len({place.kind for place in question.places()}) == 1:
+        for place in question.places():
+            yield _row(question, place, "member of group" if is_group else "owner", is_group, place.owner(is_group))
+
+
+def _row(question: Question, place: Place, words: str, is_group: bool, who: str) -> Requester:
+    """Makes the row for a who of the list of one side."""
+    sides = question.each(lambda other: _identity(other, is_group, who_at(place, other, is_group, who)))
+    return Requester(Whom(words, place.name(is_group, who)), *sides)
+
+
+def _identity(place: Place, is_group: bool, who: str) -> Identity:
+    return Identity(place.stranger(), (who,)) if is_group else Identity(who)

@@ -1,0 +1,155 @@
+"""The writer of a snapshot: it puts what a scan found into a new file, which takes its place when it is done."""
+
+from __future__ import annotations
+
+import contextlib
+import os
+import sqlite3
+from typing import Dict, Iterable, Iterator, List, Optional, Sequence, Tuple
+
+from .errors import DeviceError
+from .files import Part, refuse_what_is_no_file
+from .schema import APPLICATION, FORMAT, SCHEMA, TABLES
+from .snapshot import Account, Found, Snapshot, Tree, uri
+
+
+class Writer:
+    """Makes a new snapshot in an empty file."""
+
+    def __init__(self, place: str, part: str) -> None:
+        """`place` is the name of the snapshot in messages, and `part` that of the file."""
+        self._lists: Dict[bytes, int] = {}
+        self._faces: Dict[Tuple[int, int, int, int], int] = {}
+        self.objects = 0
+        self.whole = True
+        self.place = place
+        # No other program knows the name of the file, so it needs no locks of SQLite.
+        self._db = sqlite3.connect(uri(part, "mode=rw&nolock=1"), uri=True, isolation_level=None)
+        for line in ("PRAGMA journal_mode = OFF", "PRAGMA synchronous = OFF", "PRAGMA locking_mode = EXCLUSIVE",
+                     f"PRAGMA application_id = {APPLICATION}", f"PRAGMA user_version = {FORMAT}"):
+            self._db.execute(line)
+        self._db.execute("BEGIN")
+        for name in TABLES:
+            self._db.execute(SCHEMA[name])
+
+    @property
+    def lists(self) -> int:
+        """The number of distinct lists so far."""
+        return len(self._lists)
+
+    def add_tree(self, tree: Tree) -> int:
+        """Adds a tree and returns its new number."""
+        row = (_bytes(tree.host), tree.root, tree.place, tree.began, tree.ended, tree.whole, tree.version, tree.links)
+        cursor = self._db.execute("INSERT INTO trees VALUES (NULL, CAST(? AS TEXT), ?, ?, ?, ?, ?, ?, ?)", row)
+        return cursor.lastrowid or 0
+
+    def end_tree(self, tree: int, ended: str, whole: bool, links: int) -> None:
+        """Records how the scan of a tree ended."""
+        self._db.execute("UPDATE trees SET ended = ?, whole = ?, links = ? WHERE tree = ?", (ended, whole, links, tree))
+
+    def add_objects(self, tree: int, found: Sequence[Found]) -> None:
+        """Adds objects of a tree."""
+        self.objects += len(found)
+        self._db.executemany("INSERT INTO objects VALUES (?, ?, ?, ?, ?)",
+                             [(tree, one.path, one.kind, one.mode, self._face(tree, one)) for one in found])
+
+    def _face(self, tree: int, found: Found) -> int:
+        stored = found.stored
+        digest = stored.digest()
+        number = self._lists.get(digest)
+        if number is None:
+            number = self._lists[digest] = len(self._lists) + 1
+            self._db.execute("INSERT INTO lists VALUES (?, ?, ?, ?, ?)",
+                             (number, stored.kind, stored.mode, stored.access, stored.default))
+        key = (tree, found.uid, found.gid, number)
+        face = self._faces.get(key)
+        if face is None:
+            face = self._faces[key] = len(self._faces) + 1
+            self._db.execute("INSERT INTO faces VALUES (?, ?, ?, ?, ?)", (face, *key))
+        return face
+
+    def add_error(self, tree: int, path: bytes, step: str, message: str) -> None:
+        """Records that a step failed at a path."""
+        self._db.execute("INSERT INTO errors VALUES (?, ?, ?, CAST(? AS TEXT))", (tree, path, step, _bytes(message)))
+
+    def add_names(self, accounts: Iterable[Account]) -> None:
+        """Adds names of users and groups."""
+        self._db.executemany("INSERT INTO names VALUES (?, ?, ?, ?)", accounts)
+
+    def add_members(self, rows: Iterable[Tuple[int, bytes, bytes]]) -> None:
+        """Adds rows of a tree, a user and a group that the user is in."""
+        self._db.executemany("INSERT INTO members VALUES (?, ?, ?)", rows)
+
+    def seen_ids(self, tree: int) -> Tuple[List[int], List[int]]:
+        """Returns the ids of the owners and of the groups of a tree."""
+        both = [[row[0] for row in self._db.execute(f"SELECT DISTINCT {column} FROM faces WHERE tree = ?", (tree,))]
+                for column in ("uid", "gid")]
+        return both[0], both[1]
+
+    def posix_lists(self) -> Iterator[Optional[bytes]]:
+        """Yields the attributes of all POSIX lists."""
+        for row in self._db.execute("SELECT access, dflt FROM lists WHERE kind = 'posix'"):
+            yield from row
+
+    def finish(self) -> None:
+        """Makes the file whole."""
+        self._db.execute(SCHEMA["objects_by_path"])
+        self._db.execute("COMMIT")
+        self._db.close()
+
+    def drop(self) -> None:
+        """Closes the file, in whatever state it is."""
+        with contextlib.suppress(sqlite3.Error):
+            self._db.close()
+
+
+def merge(writer: Writer, snapshot: Snapshot) -> None:
+    """Adds everything in a snapshot to a new one."""
+    lists, faces = snapshot.lists(), snapshot.faces()
+    numbers = {number: writer.add_tree(tree) for number, tree in snapshot.trees.items()}
+    batch: List[Found] = []
+    at = 0
+    for tree, path, kind, mode, face in snapshot.objects():
+        if batch and (tree != at or len(batch) == 1000):
+            writer.add_objects(numbers[at], batch)
+            batch = []
+        at = tree
+        batch.append(Found(path, kind, mode, faces[face].uid, faces[face].gid, lists[faces[face].list]))
+    if batch:
+        writer.add_objects(numbers[at], batch)
+    writer.add_names((numbers[tree], is_group, number, name) for tree, is_group, number, name in snapshot.names())
+    writer.add_members((numbers[tree], user, group) for tree, user, group in snapshot.members())
+    for tree, path, step, message in snapshot.errors():
+        writer.add_error(numbers[tree], path, step, message)
+
+
+@contextlib.contextmanager
+def new_snapshot(place: str) -> Iterator[Writer]:
+    """Makes a snapshot next to `place`, and moves it there when the block is done. If the block raises, `place` stays
+    as it was.
+
+    A snapshot that is not whole does not replace a file: it is written to `PLACE.partial` instead. Raises TreeError if
+    something is at the place that is not a file, and DeviceError if the snapshot cannot be written.
+    """
+    try:
+        part = Part(place)
+        writer: Optional[Writer] = None
+        try:
+            writer = Writer(place, part.name)
+            yield writer
+            writer.finish()
+            if not writer.whole and os.path.lexists(place):
+                writer.place = f"{place}.partial"
+                refuse_what_is_no_file(writer.place)
+            part.take(writer.place)
+        finally:
+            if writer:
+                writer.drop()
+            part.drop()
+    except (sqlite3.Error, OSError) as error:
+        raise DeviceError(f"{place}: {getattr(error, 'strerror', None) or error}") from None
+
+
+def _bytes(text: str) -> bytes:
+    """Returns a text, which may have bytes in it that are not UTF-8, as SQLite keeps it."""
+    return text.encode("utf-8", "surrogateescape")
