@@ -1,5 +1,5 @@
-# `try`, `run`, `quick` and `test` need the kit's `rt` on the PATH.
-.PHONY: try run quick test bench install uninstall install-tree uninstall-tree package
+# `try`, `run`, `quick` and `test` need the kit's `rt` on the PATH. `make help` prints the lines that begin with `##`.
+.PHONY: help try run quick test bench install uninstall install-tree uninstall-tree package
 
 # `install` puts everything under PREFIX, in the tree whose root is DESTDIR.
 PREFIX ?= /usr/local
@@ -7,13 +7,13 @@ PROGRAM = $(DESTDIR)$(PREFIX)/bin/aclck
 MANUAL = $(DESTDIR)$(PREFIX)/share/man/man1/aclck.1
 COMPLETION = $(DESTDIR)$(PREFIX)/share/bash-completion/completions/aclck
 SHARE = $(DESTDIR)$(PREFIX)/share
-PAGES = docs/recipes.md docs/lists.md docs/formats.md docs/convert.md docs/others.md CHANGELOG.md
+PAGES = docs/*.md CHANGELOG.md
 MODULES = $(DESTDIR)$(PREFIX)/lib/aclck/python
 
 # The first example of the README: may bob, an editor, write under a list of two entries?
 EXAMPLE = check-nfs --owner alice --group staff --user bob --mask 'WRITE_DATA|APPEND_DATA' editors < ../../examples/plan.xdr
 
-# Runs the example and proves nothing, in about a minute.
+## try                runs an example and proves nothing, in about a minute
 try:
 	cd crates/aclck && rt try -- $(EXAMPLE)
 	@echo
@@ -21,24 +21,26 @@ try:
 	@echo 'Then try a list of your own: getfattr --only-values -n system.nfs4_acl FILE | aclck show-nfs'
 	@echo 'docs/recipes.md answers common questions, one by one.'
 
-# Proves and builds aclck, and runs the example, with one job per processor.
+## help               prints this list
+help:
+	@sed -n 's/^## //p' $(MAKEFILE_LIST)
+
+## run                proves and builds aclck, and runs the example, with one job per processor or JOBS=N
 JOBS ?= $(shell nproc)
 run:
 	tools/prove --jobs $(JOBS) aclck
 	$(MAKE) --no-print-directory $(STATIC)
 	cd crates/aclck && out/aclck-static $(EXAMPLE)
 
-# For work on one crate: `make quick CRATE=acl_nfs4` formats the crate, proves it and its tests, and tries its must-fail
-# edits. It uses what earlier checks kept.
+## quick CRATE=NAME   formats a crate, proves it and its tests, and tries its must-fail edits
 quick:
 	cd crates/$(CRATE) && rt fmt && rt test && ../../tests/edits $(CRATE)
 
-# The gate.
+## test               runs every proof and every test
 test:
 	.ci/run
 
-# Measures time, memory and instructions of the commands, on inputs that the script makes. It needs python3 and cc, and
-# counts instructions if there is valgrind.
+## bench              measures time, memory and instructions of the commands
 bench:
 	bench/commands
 
@@ -51,20 +53,20 @@ $(STATIC): crates/aclck/out/aclck.o
 	$(CC) -static-pie -s -Wl,-z,relro,-z,now,-z,noexecstack,-z,pack-relative-relocs \
 	  -o $@ crates/aclck/out/aclck.o $(KIT)/libos_c.a $(KIT)/liblibc_c.a
 
-# Installs the static program, its manual, its completion for bash, its pages and its examples, and aclck-tree.
+## install            installs aclck, its pages and examples, and aclck-tree, below PREFIX
 install: $(STATIC) install-tree
 	install -D -m 755 $(STATIC) '$(PROGRAM)'
 	install -D -m 644 man/aclck.1 '$(MANUAL)'
 	install -D -m 644 completions/aclck.bash '$(COMPLETION)'
 	install -D -m 644 -t '$(SHARE)/doc/aclck' $(PAGES)
-	install -D -m 644 -t '$(SHARE)/doc/aclck/examples' examples/*.xdr examples/*.acl
+	install -D -m 644 -t '$(SHARE)/doc/aclck/examples' examples/*.xdr examples/*.acl examples/systemd/*
 
+## uninstall          removes what install installs
 uninstall: uninstall-tree
 	rm -f '$(PROGRAM)' '$(MANUAL)' '$(COMPLETION)'
 	rm -rf '$(SHARE)/doc/aclck'
 
-# Installs the program aclck-tree, its manual, the completions of both programs for bash, zsh and fish, and the Python
-# module. They use the library that `install-library` installs.
+## install-tree       installs aclck-tree, the Python module and the completions: they use the installed library
 install-tree:
 	install -D -m 755 bin/aclck-tree '$(DESTDIR)$(PREFIX)/bin/aclck-tree'
 	install -D -m 644 man/aclck-tree.1 '$(SHARE)/man/man1/aclck-tree.1'
@@ -72,9 +74,10 @@ install-tree:
 	for name in aclck aclck-tree; do \
 	  install -D -m 644 completions/_$$name '$(SHARE)/zsh/site-functions/'_$$name && \
 	  install -D -m 644 completions/$$name.fish '$(SHARE)/fish/vendor_completions.d/'$$name.fish || exit 1; done
-	cd bindings/python && for file in */*.py */py.typed; do \
-	  install -D -m 644 $$file '$(abspath $(MODULES))/'$$file || exit 1; done
+	for file in bindings/python/*/*.py bindings/python/*/py.typed; do \
+	  install -D -m 644 "$$file" '$(MODULES)/'"$${file#bindings/python/}" || exit 1; done
 
+## uninstall-tree     removes what install-tree installs
 uninstall-tree:
 	rm -f '$(DESTDIR)$(PREFIX)/bin/aclck-tree' '$(SHARE)/man/man1/aclck-tree.1' \
 	  '$(SHARE)/bash-completion/completions/aclck-tree' \
@@ -89,7 +92,7 @@ crates/aclck/out/aclck:
 crates/aclck/out/aclck.o: | crates/aclck/out/aclck
 	tools/prove aclck
 
-# Makes the Debian packages and a tarball in debian/out. Needs dpkg-deb and what `run` and `library` leave.
+## package            makes the Debian packages and a tarball of what run and library built, in debian/out
 package: $(STATIC)
 	$(MAKE) --no-print-directory $(MADE)/$(SHARED) $(MADE)/libaclck.a
 	debian/build

@@ -5,13 +5,13 @@ MADE = library/out
 PROVED = crates/aclck_c/out/libaclck_c.a
 # malloc, realloc and free as Rattle's code calls them. They are in an archive of the kit, next to its first page.
 HEAP = $(dir $(shell rt doc))c/liblibc_c.a
-VERSION = 0.1.0
+VERSION = 0.6.0
 SONAME = libaclck.so.0
 SHARED = libaclck.so.$(VERSION)
 LIBDIR = $(DESTDIR)$(PREFIX)/lib
 OBJCOPY ?= objcopy
 
-# Proves the exports, and makes both forms of the library.
+## library            proves the exports of the library for C, and makes both forms of it, in library/out
 library:
 	tools/prove aclck_c
 	$(MAKE) --no-print-directory $(MADE)/$(SHARED) $(MADE)/libaclck.a $(MADE)/aclck.pc
@@ -40,6 +40,7 @@ $(MADE)/aclck.pc: library/aclck.pc.in
 	mkdir -p $(MADE)
 	sed 's,@PREFIX@,$(PREFIX),; s,@VERSION@,$(VERSION),' $< > $@
 
+## install-library    installs the library, its header and its manual pages, below PREFIX
 install-library: $(MADE)/$(SHARED) $(MADE)/libaclck.a
 	install -D -m 755 $(MADE)/$(SHARED) '$(LIBDIR)/$(SHARED)'
 	strip --strip-unneeded '$(LIBDIR)/$(SHARED)'
@@ -51,6 +52,7 @@ install-library: $(MADE)/$(SHARED) $(MADE)/libaclck.a
 	sed 's,@PREFIX@,$(PREFIX),; s,@VERSION@,$(VERSION),' library/aclck.pc.in > '$(LIBDIR)/pkgconfig/aclck.pc'
 	for page in man/*.3; do install -D -m 644 $$page '$(DESTDIR)$(PREFIX)/share/man/man3/'$${page#man/}; done
 
+## uninstall-library  removes what install-library installs
 uninstall-library:
 	rm -f '$(LIBDIR)/$(SHARED)' '$(LIBDIR)/$(SONAME)' '$(LIBDIR)/libaclck.so' '$(LIBDIR)/libaclck.a' \
 	  '$(DESTDIR)$(PREFIX)/include/aclck.h' '$(LIBDIR)/pkgconfig/aclck.pc'

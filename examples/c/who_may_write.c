@@ -12,7 +12,14 @@
 #include <string.h>
 #include <sys/xattr.h>
 
-static unsigned char list[65536];
+enum { LIST = 65536 };
+
+static unsigned char list[LIST + 1];
+
+static int say_no_memory(void) {
+    fprintf(stderr, "no memory is left\n");
+    return 4;
+}
 
 static int refuse(const aclck_fault *fault) {
     char name[16];
@@ -32,20 +39,24 @@ static int print_writers(size_t len) {
     if (status == ACLCK_DONE)
         fwrite(text ? text : "", 1, text ? needed : 0, stdout);
     free(text);
-    return status == ACLCK_REFUSED ? refuse(&fault) : status != ACLCK_DONE;
+    if (status == ACLCK_REFUSED)
+        return refuse(&fault);
+    return status == ACLCK_DONE ? 0 : say_no_memory();
 }
 
+/* Every group counts: a DENY may name the last one. */
 static int print_answer(size_t len, char **names, size_t ngroups) {
-    aclck_bytes groups[64], owner = aclck_string(names[0]), group = aclck_string(names[1]);
-    aclck_bytes user = aclck_string(names[2]);
+    aclck_bytes owner = aclck_string(names[0]), group = aclck_string(names[1]), user = aclck_string(names[2]);
+    aclck_bytes *groups = malloc((ngroups + 1) * sizeof *groups);
     aclck_fault fault;
     uint32_t status;
-    if (ngroups > 64)
-        ngroups = 64;
+    if (!groups)
+        return say_no_memory();
     for (size_t i = 0; i < ngroups; i++)
         groups[i] = aclck_string(names[3 + i]);
     status = aclck_check_nfs(list, len, owner.at, owner.len, group.at, group.len, user.at, user.len, groups, ngroups,
                              ACLCK_WRITE_DATA, ACLCK_FULL, &fault);
+    free(groups);
     if (status == ACLCK_REFUSED)
         return refuse(&fault);
     if (status == ACLCK_BAD_ARGUMENT) {
@@ -65,12 +76,16 @@ int main(int argc, char **argv) {
     }
     len = strcmp(argv[1], "-") ? (long)getxattr(argv[1], "system.nfs4_acl", list, sizeof list)
                                : (long)fread(list, 1, sizeof list, stdin);
-    if (len < 0) {
+    if (len < 0 || ferror(stdin)) {
         perror(argv[1]);
         return 4;
+    }
+    if (len > LIST) {
+        fprintf(stderr, "the list has more than %d bytes\n", LIST);
+        return 2;
     }
     status = print_writers((size_t)len);
     if (status == 0 && argc > 2)
         status = print_answer((size_t)len, argv + 2, (size_t)argc - 5);
-    return status;
+    return fflush(stdout) ? 4 : status;
 }

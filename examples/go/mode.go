@@ -12,10 +12,19 @@ import (
 	"unsafe"
 )
 
+// Returns a pointer to the bytes, which is valid also if there are none.
+func at(bytes []byte) unsafe.Pointer {
+	if len(bytes) == 0 {
+		return C.aclck_in(nil)
+	}
+	return unsafe.Pointer(&bytes[0])
+}
+
+// Returns the mode of the list, and the status of the call.
 func mode(list []byte) (uint32, C.uint32_t) {
 	var mode C.uint32_t
 	var fault C.aclck_fault
-	status := C.aclck_mode(unsafe.Pointer(&append(list, 0)[0]), C.size_t(len(list)), C.ACLCK_FULL, &mode, &fault)
+	status := C.aclck_mode(at(list), C.size_t(len(list)), C.ACLCK_FULL, &mode, &fault)
 	return uint32(mode), status
 }
 
