@@ -22,12 +22,6 @@ use std::alloc::{AllocError, Global};
 /// list whose ACEs have only these rights grants the same, and no right can be taken out of it. An ACE that takes no
 /// part needs no right, and of two equal ACEs only the first does. It takes time that is nearly linear in the bytes of
 /// the list. Fails if memory runs out.
-///
-/// ```rust
-/// let list = parse_text(alloc, b"ALLOW - READ_DATA amy\nALLOW - READ_DATA|EXECUTE amy\n")?;
-/// let masks = needed(alloc, &list)?;
-/// assert!(rt; masks.as_slice() == [Mask::READ_DATA, Mask::EXECUTE].as_slice());
-/// ```
 pub fn needed(alloc: Global, list: &Acl) -> Result<Vec<Mask>, AllocError>
     ensures needed { IfOk result (λ masks.
         AreNeeded list.now (map (λ m. m.bits) masks.items)) }
