@@ -6,6 +6,7 @@ import ctypes
 import json
 import os
 import shutil
+import signal
 import struct
 import subprocess
 import sys
@@ -123,6 +124,10 @@ class Loud(unittest.TextTestResult):
 
 
 def run():
-    """Runs the tests of a script, or those that its words name, and exits with 1 if one fails."""
+    """Runs the tests of a script, or those that its words name, and exits with 1 if one fails. Signals that a shell or
+    nohup(1) had ignored have their usual effect."""
+    signal.signal(signal.SIGINT, signal.default_int_handler)
+    for number in (signal.SIGTERM, signal.SIGHUP):
+        signal.signal(number, signal.SIG_DFL)
     runner = unittest.TextTestRunner(resultclass=Loud, verbosity=0, stream=sys.stdout)
     sys.exit(not unittest.main(exit=False, testRunner=runner).result.wasSuccessful())
