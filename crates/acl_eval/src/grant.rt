@@ -13,10 +13,10 @@ use acl_nfs4::{Aces, AclView};
 use acl_perm::{Kind, Mask};
 use std::alloc::{AllocError, Global};
 
-/// Returns whether the list grants the request, as `grants` does, for a requester in many groups. If the groups are many
-/// and in no order, they are sorted first. Each group of the list is then looked up by binary search. So the time is
-/// proportional to the number of ACEs and groups, times the logarithm of the number of groups, whatever the names are.
-/// Returns an error if there is no memory for the sorted copy.
+/// Returns whether the list grants the request, as `grants` does, for a requester in many groups. If the groups are
+/// many and in no order, they are sorted first. Each group of the list is then looked up by binary search. So the time
+/// is proportional to the number of ACEs and groups, times the logarithm of the number of groups, whatever the names
+/// are. Returns an error if there is no memory for the sorted copy.
 ///
 /// ```rust
 /// let list = parse_text(alloc, b"DENY GROUP WRITE_DATA staff\nALLOW - WRITE_DATA EVERYONE@")?;
@@ -55,8 +55,8 @@ pub fn grants_for_many_groups(
 ///
 /// The group of an ACE is looked up among the groups of the requester: by binary search if there are many and they are
 /// in the order of their bytes, and otherwise one by one, which takes up to a microsecond for 1,000 groups. So in the
-/// worst case the time is proportional to the number of ACEs times the number of groups. `grants_for_many_groups` is faster
-/// for many groups.
+/// worst case the time is proportional to the number of ACEs times the number of groups. `grants_for_many_groups` is
+/// faster for many groups.
 ///
 /// ```rust
 /// let list = parse_text(alloc, b"ALLOW - READ_DATA bob\nDENY - WRITE_DATA bob")?;

@@ -16,8 +16,8 @@ use acl_nfs4::AceRef;
 use acl_perm::Principal;
 
 /// A requester of an object, with the facts that are the same for each ACE: whether the requester is the owner, whether
-/// the requester is in the owning group, and the last byte of the requester's name. Groups are looked up among `groups`,
-/// which may have the names of the requester's groups in another order.
+/// the requester is in the owning group, and the last byte of the requester's name. Groups are looked up among
+/// `groups`, which may have the names of the requester's groups in another order.
 #[derive(Drop)]
 pub(crate) struct Standing<'a> {
     object: Object<'a>,
