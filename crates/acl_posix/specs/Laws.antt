@@ -1,10 +1,12 @@
--- Laws of the mode and the mask, over sets of entries alone (this library's own).
+-- Laws of the mode, the mask and the attributes, over sets of entries alone (this library's own).
 use Rattle.std.specs.Prelude.{ℕ, ◌≡◌, Some}
 use Rattle.std.specs.FinMap as set
 use Rattle.acl_posix.specs.Tag.{Tag}
 use Rattle.acl_posix.specs.Entries.{Entries}
 use Rattle.acl_posix.specs.Mode.{mode_of, chmoded}
 use Rattle.acl_posix.specs.Mask.{with_mask, effective_of}
+use Rattle.acl_posix.specs.Texts.{IsAcl}
+use Rattle.acl_posix.specs.Attribute.{attribute_bytes, IsAttributeOf}
 
 -- after the mode is set, the mode is that mode
 abbrev pub ModeIsSet : Type 0
@@ -19,3 +21,7 @@ MaskLeavesAll =
 -- calculating the mask twice gives the same as calculating it once
 abbrev pub MaskStays : Type 0
 MaskStays = (entries : Entries) → with_mask (with_mask entries) ≡ with_mask entries
+
+-- the attribute that is written for an ACL holds that ACL
+abbrev pub AttributeReadsBack : Type 0
+AttributeReadsBack = (acl : Entries) → IsAcl acl → IsAttributeOf (attribute_bytes acl) (Some acl)

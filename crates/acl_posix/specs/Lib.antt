@@ -2,10 +2,14 @@ pub mod Id
 pub mod Tag
 pub mod Entries
 pub mod Valid
+pub mod RawEntries
+pub mod Attribute
 pub mod Equal
 pub mod Mode
 pub mod Mask
 pub mod Check
+pub mod Deciding
+pub mod MissingMask
 pub mod Create
 pub mod Laws
 pub mod Names

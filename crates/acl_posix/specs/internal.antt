@@ -24,3 +24,5 @@ pub mod WrittenLine
 pub mod Reading
 -- how a text is written, one entry after the other
 pub mod Writing
+-- the faults of a list of raw entries as faults of an attribute
+pub mod AttributeSteps

@@ -9,10 +9,12 @@ ghost use Rattle.acl_posix.specs.Valid.{is_refusal, IsFaultOf, IsFaultOfSet, IsR
 ghost use Rattle.acl_posix.specs.Mode.{chmoded, mode_of};
 ghost use Rattle.acl_posix.specs.Mask.{effective_of, with_mask};
 ghost use Rattle.acl_posix.specs.Check.{grants, ids};
+ghost use Rattle.acl_posix.specs.Deciding.{decider, is_masked_off};
 ghost use Rattle.acl_posix.specs.Create.{of_mode};
 ghost use Rattle.acl_posix.specs.Equal.{same_entry};
 ghost use Rattle.std.specs.Cmp.Lexicographic.{pointwise};
 
+use crate::deciding::Decision;
 use crate::entry::Entry;
 use crate::fault::AclFault;
 use crate::id::Id;
@@ -194,6 +196,36 @@ impl PosixAcl {
             want.bits }
     {
         self.entries.grants(owner, group, user, groups, want)
+    }
+
+    /// Returns how the request that `check` answers is decided (acl(5), "ACCESS CHECK ALGORITHM"): by USER_OBJ for the
+    /// owner; otherwise by the USER entry of the user; otherwise, if entries of groups match, by the first of them in
+    /// canonical order that has all that is requested; otherwise by OTHER. It takes no memory, and time number of
+    /// groups times number of entries.
+    ///
+    /// ```rust
+    /// let acl = PosixAcl::of_mode(alloc, Mode { bits: 0o640 })?;
+    /// let (owner, group, user) = (Id { value: 0 }, Id { value: 50 }, Id { value: 7 });
+    /// let decision = acl.deciding(owner, group, user, &[group], Perm { bits: 4 });
+    /// assert!(rt; decision.granted && decision.entry == Some(Tag::GroupObj));
+    /// let decision = acl.deciding(owner, group, user, &[group], Perm { bits: 2 });
+    /// assert!(rt; !decision.granted && decision.entry == None);
+    /// ```
+    pub fn deciding(&self, owner: Id, group: Id, user: Id, groups: &[Id], want: Perm) -> Decision
+        ensures granted { result.granted ≡ grants self.now
+            (record { user = owner.value; group = group.value })
+            (record { user = user.value; groups = ids groups.now })
+            want.bits }
+        ensures entry { option_map tag_of result.entry ≡ decider self.now
+            (record { user = owner.value; group = group.value })
+            (record { user = user.value; groups = ids groups.now })
+            want.bits }
+        ensures masked { result.masked ≡ is_masked_off self.now
+            (record { user = owner.value; group = group.value })
+            (record { user = user.value; groups = ids groups.now })
+            want.bits }
+    {
+        self.entries.deciding(owner, group, user, groups, want)
     }
 
     /// Returns the file mode bits: USER_OBJ, then MASK or, if there is no MASK, GROUP_OBJ, then OTHER. It takes no

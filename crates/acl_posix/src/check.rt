@@ -40,7 +40,7 @@ impl SortedEntries {
     /// Returns whether some entry matches by a group of the requester: whether some such entry contains the empty
     /// request.
     #[tactic(auto, using(crate::proofs::sorted::Groups::contains_empty))]
-    fn any_matches(&self, owning_group: Id, groups: &[Id]) -> bool
+    pub(crate) fn any_matches(&self, owning_group: Id, groups: &[Id]) -> bool
         ensures { result ≡ any_matches self.now owning_group.value (ids groups.now) }
     {
         self.any_contains(owning_group, groups, Perm::NONE)
@@ -77,7 +77,7 @@ impl SortedEntries {
     }
 
     /// Returns whether the entry of the tag contains all that is requested. Without such an entry it returns `false`.
-    fn entry_contains(&self, tag: Tag, request: Perm) -> bool
+    pub(crate) fn entry_contains(&self, tag: Tag, request: Perm) -> bool
         ensures { result ≡ entry_contains self.now (tag_of tag) request.bits }
     {
         match self.get(tag) {

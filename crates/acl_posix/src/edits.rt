@@ -73,7 +73,7 @@ impl SortedEntries {
 
 /// Returns the union of the permissions of all entries that the mask limits.
 #[tactic(auto, using(crate::proofs::sorted::ModeAndMask::union_more, crate::proofs::sorted::ModeAndMask::union_done))]
-fn class_union(entries: &[Entry]) -> Perm
+pub(crate) fn class_union(entries: &[Entry]) -> Perm
     ensures { result.bits ≡ class_union (pairs entries.now) }
 {
     let mut union = Perm::NONE;

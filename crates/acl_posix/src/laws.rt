@@ -1,11 +1,11 @@
-//! Laws of the mode, the mask and the texts, over sets of entries alone.
+//! Laws of the mode, the mask, the attributes and the texts, over sets of entries alone.
 
 ghost use Rattle.std.specs.Prelude.{◌≡◌, ℕ, IsTrue, List};
 ghost use Rattle.acl_posix.specs.declared.fault.AclFault.{AclFault};
 ghost use Rattle.acl_posix.specs.declared.file.PosixFile.{PosixFile};
 ghost use Rattle.acl_posix.specs.declared.text_fault.TextFault.{TextFault};
 ghost use Rattle.acl_posix.specs.Grammar.{Reads};
-ghost use Rattle.acl_posix.specs.Laws.{MaskLeavesAll, MaskStays, ModeIsSet};
+ghost use Rattle.acl_posix.specs.Laws.{AttributeReadsBack, MaskLeavesAll, MaskStays, ModeIsSet};
 ghost use Rattle.acl_posix.specs.Names.{Table};
 ghost use Rattle.acl_posix.specs.Tag.{Tag};
 ghost use Rattle.acl_posix.specs.TextFault.{IsTextFault};
@@ -29,6 +29,11 @@ pub fn mask_leaves_all()
 #[tactic(auto, using(crate::proofs::sorted::ModeAndMask::mask_again))]
 pub fn mask_stays()
     ensures { MaskStays }
+{}
+
+/// The extended attribute that is written for an ACL reads back as that ACL.
+pub fn attribute_reads_back()
+    ensures { AttributeReadsBack }
 {}
 
 /// The canonical text of a file reads back as that file and as no other, with every table of names.

@@ -3,7 +3,11 @@
 #![tactic(auto)]
 
 mod acl;
+mod attribute;
+mod attribute_fault;
+mod attribute_writer;
 mod check;
+mod deciding;
 mod digits;
 mod edits;
 mod entry;
@@ -17,10 +21,13 @@ mod id;
 pub mod laws;
 mod look_up;
 mod memory;
+mod missing_mask;
 mod names;
 mod packed;
 mod parser;
 mod piece;
+mod raw_entry;
+mod raw_list;
 mod reader;
 mod sorted;
 mod sorting;
@@ -31,6 +38,8 @@ mod writer;
 mod written_line;
 
 pub use acl::PosixAcl;
+pub use attribute_fault::AttributeFault;
+pub use deciding::Decision;
 pub use entry::Entry;
 pub use fault::AclFault;
 pub use file::{PosixFile, create};
@@ -38,6 +47,7 @@ pub use form::Form;
 pub use id::Id;
 pub use names::{NameFault, Names};
 pub use parser::parse;
+pub use raw_entry::{EntriesFault, EntryFault, RawEntry};
 pub use tag::Tag;
 pub use text_fault::{Cause, Part, TextFault};
 

@@ -2,6 +2,7 @@
 //! exact, and in `scarce` with memory that may run out, which is then an accepted answer and leaves a value as it was.
 
 mod ample;
+mod attributes;
 mod changes;
 mod checks;
 mod creation;

@@ -55,7 +55,8 @@ impl SortedEntries {
     }
 }
 
-fn any_entry_named(entries: &[Entry]) -> bool
+/// Returns whether there is a USER or GROUP entry.
+pub(crate) fn any_entry_named(entries: &[Entry]) -> bool
     ensures { result ≡ list_any (λ entry. is_named (tag_of entry.tag)) entries.now }
 {
     entries.iter().any(|entry| entry.tag.is_named())

@@ -81,3 +81,59 @@ fn a_user_name_is_added_once(rt: HostRuntime) -> Result<(), Fail> {
     assert!(rt; names.add_user(b"bob", id) == Err(NameFault::Taken));
     Ok(())
 }
+
+#[test]
+fn an_acl_is_made_of_plain_numbers(rt: HostRuntime) -> Result<(), Fail> {
+    let alloc = rt.alloc();
+    let mut raws = Vec::new(alloc);
+    for (tag, perm) in [(1, 6), (3, 4), (6, 0)] {
+        raws.push(RawEntry { tag, id: 0, perm })?;
+    }
+    let acl = PosixAcl::from_raw(alloc, &raws)?;
+    assert!(rt; acl.mode().bits == 0o640);
+    Ok(())
+}
+
+#[test]
+fn an_attribute_is_read(rt: HostRuntime) -> Result<(), Fail> {
+    let alloc = rt.alloc();
+    let bytes =
+        b"\x02\0\0\0\x01\0\x06\0\xff\xff\xff\xff\x04\0\x04\0\xff\xff\xff\xff\x20\0\0\0\xff\xff\xff\xff";
+    let acl = PosixAcl::from_attribute(alloc, bytes)?;
+    assert!(rt; acl == Some(PosixAcl::of_mode(alloc, Mode { bits: 0o640 })?));
+    Ok(())
+}
+
+#[test]
+fn an_attribute_that_is_written_reads_back(rt: HostRuntime) -> Result<(), Fail> {
+    let alloc = rt.alloc();
+    let acl = PosixAcl::of_mode(alloc, Mode { bits: 0o640 })?;
+    let bytes = acl.to_attribute(alloc)?;
+    assert!(rt; PosixAcl::from_attribute(alloc, &bytes)? == Some(acl));
+    Ok(())
+}
+
+#[test]
+fn a_list_without_a_mask_gets_one(rt: HostRuntime) -> Result<(), Fail> {
+    let alloc = rt.alloc();
+    let mut entries = Vec::new(alloc);
+    let (bob, perm) = (Tag::User(Id { value: 7 }), Perm::READ);
+    for tag in [Tag::UserObj, bob, Tag::GroupObj, Tag::Other] {
+        entries.push(Entry { tag, perm })?;
+    }
+    let acl = PosixAcl::from_entries_with_mask(alloc, entries)?;
+    assert!(rt; acl.get(Tag::Mask) == Some(Perm::READ));
+    Ok(())
+}
+
+#[test]
+fn the_entry_that_decides_is_named(rt: HostRuntime) -> Result<(), Fail> {
+    let alloc = rt.alloc();
+    let acl = PosixAcl::of_mode(alloc, Mode { bits: 0o640 })?;
+    let (owner, group, user) = (Id { value: 0 }, Id { value: 50 }, Id { value: 7 });
+    let decision = acl.deciding(owner, group, user, &[group], Perm { bits: 4 });
+    assert!(rt; decision.granted && decision.entry == Some(Tag::GroupObj));
+    let decision = acl.deciding(owner, group, user, &[group], Perm { bits: 2 });
+    assert!(rt; !decision.granted && decision.entry == None);
+    Ok(())
+}

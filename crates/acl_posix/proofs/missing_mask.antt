@@ -1,0 +1,2 @@
+-- when a list of entries lacks MASK
+pub mod Lacking

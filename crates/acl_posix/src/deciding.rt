@@ -1,0 +1,125 @@
+//! Which entry decides a request.
+ghost use Rattle.std.specs.Prelude.{◌≡◌, ◌&&◌, find, option_copied, option_map};
+ghost use Rattle.acl_posix.specs.Check.{any_matches, contains, grants, ids, is_member, tag_matches};
+ghost use Rattle.acl_posix.specs.Deciding.{decider, decider_contains, first_match, is_masked_off};
+ghost use Rattle.acl_posix.specs.Tag.{tag_of};
+
+use crate::entry::Entry;
+use crate::id::Id;
+use crate::sorted::SortedEntries;
+use crate::tag::Tag;
+use acl_perm::Perm;
+
+/// How a request is decided.
+#[derive(Clone, Copy, Debug, PartialEq, Eq)]
+pub struct Decision {
+    /// Whether all that is requested is granted.
+    pub granted: bool,
+    /// The entry that decides. `None` means that entries of groups match, and none of them has all that is requested.
+    pub entry: Option<Tag>,
+    /// Whether the request is denied although the entry that decides has all that is requested, because MASK has not.
+    pub masked: bool,
+}
+
+impl SortedEntries {
+    /// Returns how a request is decided.
+    pub(crate) fn deciding(
+        &self,
+        owner: Id,
+        group: Id,
+        user: Id,
+        groups: &[Id],
+        want: Perm,
+    ) -> Decision
+        ensures granted { result.granted ≡ grants self.now
+            (record { user = owner.value; group = group.value })
+            (record { user = user.value; groups = ids groups.now })
+            want.bits }
+        ensures entry { option_map tag_of result.entry ≡ decider self.now
+            (record { user = owner.value; group = group.value })
+            (record { user = user.value; groups = ids groups.now })
+            want.bits }
+        ensures masked { result.masked ≡ is_masked_off self.now
+            (record { user = owner.value; group = group.value })
+            (record { user = user.value; groups = ids groups.now })
+            want.bits }
+    {
+        let granted = self.grants(owner, group, user, groups, want);
+        let entry = self.decider(owner, group, user, groups, want);
+        let masked = self.decider_contains(entry, want) && !granted;
+        Decision {
+            granted,
+            entry,
+            masked,
+        }
+    }
+
+    #[tactic(auto, unfolding(crate::specs::Deciding::decider))]
+    fn decider(&self, owner: Id, group: Id, user: Id, groups: &[Id], want: Perm) -> Option<Tag>
+        ensures { option_map tag_of result ≡ decider self.now
+            (record { user = owner.value; group = group.value })
+            (record { user = user.value; groups = ids groups.now })
+            want.bits }
+    {
+        if user.value == owner.value {
+            Some(Tag::UserObj)
+        } else if self.has(Tag::User(user)) {
+            Some(Tag::User(user))
+        } else if self.any_matches(group, groups) {
+            self.first_match(group, groups, want)
+        } else {
+            Some(Tag::Other)
+        }
+    }
+
+    fn decider_contains(&self, entry: Option<Tag>, want: Perm) -> bool
+        ensures { result ≡ decider_contains self.now (option_map tag_of entry) want.bits }
+    {
+        match entry {
+            Some(tag) => self.entry_contains(tag, want),
+            None => false,
+        }
+    }
+
+    /// Returns the tag of the first entry that matches by a group of the requester and has all that is requested.
+    fn first_match(&self, owning_group: Id, groups: &[Id], want: Perm) -> Option<Tag>
+        ensures { option_map tag_of result ≡ option_map (λ entry. entry.0)
+            (first_match self.now owning_group.value (ids groups.now) want.bits) }
+    {
+        match first_in(self.as_slice(), owning_group, groups, want).copied() {
+            Some(entry) => Some(entry.tag),
+            None => None,
+        }
+    }
+}
+
+fn first_in<'a>(
+    entries: &'a [Entry],
+    owning_group: Id,
+    groups: &[Id],
+    want: Perm,
+) -> Option<&'a Entry>
+    ensures { option_copied result ≡ find
+        (λ entry. tag_matches owning_group.value (ids groups.now) (tag_of entry.tag)
+        && contains entry.perm.bits want.bits)
+        entries.now }
+{
+    entries.iter().find(|entry| tag_matches(owning_group, groups, entry.tag)
+        && entry.perm.contains(want))
+}
+
+fn tag_matches(owning_group: Id, groups: &[Id], tag: Tag) -> bool
+    ensures { result ≡ tag_matches owning_group.value (ids groups.now) (tag_of tag) }
+{
+    match tag {
+        Tag::GroupObj => is_member(owning_group, groups),
+        Tag::Group(id) => is_member(id, groups),
+        Tag::UserObj | Tag::User(_) | Tag::Mask | Tag::Other => false,
+    }
+}
+
+fn is_member(id: Id, groups: &[Id]) -> bool
+    ensures { result ≡ is_member id.value (ids groups.now) }
+{
+    groups.iter().any(|one| one.value == id.value)
+}
