@@ -2,3 +2,4 @@ pub mod Within
 pub mod Push
 pub mod Weights
 pub mod Ordered
+pub mod FromAces

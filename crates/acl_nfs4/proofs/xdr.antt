@@ -10,3 +10,4 @@ pub mod Decoding
 pub mod FromSource
 pub mod PulledAce
 pub mod PulledList
+pub mod Parts

@@ -14,6 +14,9 @@ pub mod AceTextFault
 pub mod Programs
 pub mod Owned
 pub mod Push
+pub mod AccessPart
+pub mod PartFault
+pub mod Build
 pub mod Laws
 pub mod Stream
 pub mod internal

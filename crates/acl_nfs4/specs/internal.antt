@@ -20,3 +20,5 @@ pub mod Pulling
 pub mod FedAlike
 -- to compare lists by their spellings is an equivalence
 pub mod SameSpelling
+-- the part of a list that access reads, while it is read
+pub mod PartReading

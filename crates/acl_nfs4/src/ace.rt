@@ -3,7 +3,7 @@ ghost use Rattle.std.specs.Prelude.{◌≡◌, not};
 ghost use Rattle.acl_perm.specs.Bits.{has_bit, inherit_only};
 ghost use Rattle.acl_perm.specs.Principal.{principal};
 
-use crate::who::{EVERYONE_NAME, GROUP_NAME, OWNER_NAME};
+use crate::who::{EVERYONE_NAME, GROUP_NAME, OWNER_NAME, is_unknown_special};
 use acl_perm::{Flags, Key, Kind, Mask, Principal};
 
 /// An ACE that borrows its who (RFC 8881, section 6.2.1).
@@ -21,7 +21,7 @@ pub struct AceRef<'a> {
 
 impl<'a> AceRef<'a> {
     ghost use Rattle.acl_nfs4.specs.Ace.{ace};
-    ghost use Rattle.acl_nfs4.specs.Who.{principal_of};
+    ghost use Rattle.acl_nfs4.specs.Who.{is_unknown_special, principal_of};
 
     /// Returns whom the ACE names: `OWNER@`, `GROUP@` and `EVERYONE@` whether or not IDENTIFIER_GROUP is set; for any
     /// other who a group if the flag is set, and a user if it is not (RFC 8881, section 6.2.1.5).
@@ -51,6 +51,14 @@ impl<'a> AceRef<'a> {
             principal: self.principal(),
             kind: self.kind,
         }
+    }
+
+    /// Returns whether the who is an unknown special identifier: it ends in `@` and is none of `OWNER@`, `GROUP@` and
+    /// `EVERYONE@` (RFC 8881, section 6.2.1.5, has others, such as `INTERACTIVE@`). Only `AccessPart` keeps such ACEs.
+    pub fn is_unknown(&self) -> bool
+        ensures { result ≡ is_unknown_special self.now.who.now }
+    {
+        !self.who.is_empty() && is_unknown_special(self.who)
     }
 
     /// Returns whether the ACE takes part in what its list grants, that is, whether it is not for new objects alone

@@ -2,4 +2,5 @@
 
 pub(crate) mod aces;
 pub(crate) mod acl;
+pub(crate) mod build;
 pub(crate) mod push_fault;

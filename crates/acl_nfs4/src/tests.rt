@@ -8,6 +8,7 @@ mod harness;
 mod list;
 mod names;
 mod parse;
+mod part;
 mod push;
 mod readers;
 mod rows;

@@ -61,6 +61,18 @@ pub(crate) fn judge_text(who: &[u8]) -> Result<(), WhoFault>
     Ok(())
 }
 
+/// Refuses bytes that are not UTF-8, or that have a control byte, whatever the name is.
+#[tactic(auto, using(crate::proofs::plain_ascii::PlainText::plain_ascii))]
+#[inline(always)]
+pub(crate) fn judge_any_text(who: &[u8]) -> Result<(), WhoFault>
+    ensures { Judges result (text_fault who.now) }
+{
+    if is_plain_ascii(who) {
+        return Ok(());
+    }
+    judge_bytes(who)
+}
+
 /// Returns whether the first `len` bytes are a who of plain ASCII, by a test of many bytes at once. `true` is certain;
 /// after `false`, `judge_text` decides.
 #[inline(always)]
@@ -105,9 +117,9 @@ fn is_plain_byte(byte: u8) -> bool
     byte >= 0x20 && byte != 0x7f
 }
 
-// Returns whether a who ends in `@` and is none of the three special identifiers.
+/// Returns whether a who ends in `@` and is none of the three special identifiers.
 #[inline(always)]
-fn is_unknown_special(who: &[u8]) -> bool
+pub(crate) fn is_unknown_special(who: &[u8]) -> bool
     requires { 1 ≤ length who.now }
     ensures { result ≡ is_unknown_special who.now }
 {

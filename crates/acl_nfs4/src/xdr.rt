@@ -1,5 +1,6 @@
 //! Lists as XDR: read in memory, read from a source, and written.
 
+pub(crate) mod access_part;
 pub(crate) mod cursor;
 pub(crate) mod decoder;
 pub(crate) mod encode;

@@ -36,6 +36,19 @@ mod ample {
     }
 
     #[test]
+    fn parse_whole_leaves_audits_out_of_the_part(rt: HostRuntime) -> Result<(), Fail> {
+        let alloc = rt.alloc();
+        let bytes =
+            b"\0\0\0\x02\0\0\0\x02\0\0\0\x10\0\0\0\x01\0\0\0\x03bob\0\0\0\0\0\0\0\0\0\0\0\0\x01\0\0\0\x04NOW@";
+        let part = AccessPart::parse_whole(alloc, bytes)?;
+        assert!(rt; part.left_out() == 1);
+        for ace in part.aces() {
+            assert!(rt; ace.is_unknown());
+        }
+        Ok(())
+    }
+
+    #[test]
     fn push_adds_an_ace_to_a_list(rt: HostRuntime) -> Result<(), Fail> {
         let alloc = rt.alloc();
         let mut list = Acl::new(alloc);

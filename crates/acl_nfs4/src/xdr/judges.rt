@@ -94,7 +94,7 @@ pub(crate) fn who_of(bytes: &[u8]) -> Result<&[u8], Reason>
 }
 
 #[inline(always)]
-fn who_reason(fault: WhoFault) -> Reason
+pub(crate) fn who_reason(fault: WhoFault) -> Reason
     ensures { result ≡ who_reason fault }
 {
     match fault {

@@ -132,7 +132,7 @@ fn kind(cursor: &mut Cursor<'_>) -> Result<Kind, Fault>
 }
 
 #[inline(always)]
-fn flags(cursor: &mut Cursor<'_>, profile: Profile) -> Result<Flags, Fault>
+pub(crate) fn flags(cursor: &mut Cursor<'_>, profile: Profile) -> Result<Flags, Fault>
     ensures { Gives (λ x. (x.bits, place cursor.new)) result
         (word_field (flags_of (profile_of profile)) (place cursor.old)) }
 {
@@ -141,7 +141,7 @@ fn flags(cursor: &mut Cursor<'_>, profile: Profile) -> Result<Flags, Fault>
 }
 
 #[inline(always)]
-fn mask(cursor: &mut Cursor<'_>, weight: u32, profile: Profile) -> Result<Mask, Fault>
+pub(crate) fn mask(cursor: &mut Cursor<'_>, weight: u32, profile: Profile) -> Result<Mask, Fault>
     requires { weight ≤ most_weight }
     ensures exact { Gives (λ x. (x.bits, place cursor.new)) result
         (word_field (mask_of (profile_of profile) weight) (place cursor.old)) }
@@ -152,7 +152,7 @@ fn mask(cursor: &mut Cursor<'_>, weight: u32, profile: Profile) -> Result<Mask, 
 }
 
 #[inline(always)]
-fn who_len(cursor: &mut Cursor<'_>) -> Result<usize, Fault>
+pub(crate) fn who_len(cursor: &mut Cursor<'_>) -> Result<usize, Fault>
     ensures exact { Gives (λ x. (x, place cursor.new)) result
         (word_field who_len_of (place cursor.old)) }
     ensures some { IfOk result (λ x. is_no_who_len x ≡ false) }
@@ -162,7 +162,7 @@ fn who_len(cursor: &mut Cursor<'_>) -> Result<usize, Fault>
 }
 
 #[inline(always)]
-fn word(cursor: &mut Cursor<'_>) -> Result<u32, Fault>
+pub(crate) fn word(cursor: &mut Cursor<'_>) -> Result<u32, Fault>
     ensures { Gives (λ x. (x, place cursor.new)) result
         (word_field (λ n. Ok n) (place cursor.old)) }
 {
@@ -180,7 +180,7 @@ fn who<'a>(cursor: &mut Cursor<'a>, len: usize) -> Result<&'a [u8], Fault>
 }
 
 #[inline(always)]
-fn padding(cursor: &mut Cursor<'_>, len: usize) -> Result<(), Fault>
+pub(crate) fn padding(cursor: &mut Cursor<'_>, len: usize) -> Result<(), Fault>
     ensures { Gives (λ _. (tt, place cursor.new)) result
         (field (pad_len len) padding_of (place cursor.old)) }
 {
@@ -201,7 +201,7 @@ pub(crate) fn placed<T>(offset: u64, judged: Result<T, Reason>) -> Result<T, Fau
 
 // Reads the next `n` bytes, or fails with Truncated at the place where they should begin.
 #[inline(always)]
-fn bytes<'a>(cursor: &mut Cursor<'a>, n: usize) -> Result<&'a [u8], Fault>
+pub(crate) fn bytes<'a>(cursor: &mut Cursor<'a>, n: usize) -> Result<&'a [u8], Fault>
     ensures { Gives (λ x. (x.now, place cursor.new)) result
         (field n (λ bytes. Ok bytes) (place cursor.old)) }
 {
@@ -218,7 +218,7 @@ fn bytes<'a>(cursor: &mut Cursor<'a>, n: usize) -> Result<&'a [u8], Fault>
 
 // Returns how many bytes were read. No cursor keeps this number, because only a fault needs it.
 #[inline(always)]
-fn offset_of(cursor: &Cursor<'_>) -> u64
+pub(crate) fn offset_of(cursor: &Cursor<'_>) -> u64
     ensures { result ≡ (place cursor.now).at }
 {
     (cursor.len - cursor.rest.len()) as u64

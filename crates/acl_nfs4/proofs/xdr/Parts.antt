@@ -1,0 +1,36 @@
+-- How the reader of a part goes on: one more ACE, and the end.
+use Rattle.acl_nfs4.proofs.Common.{arith, Bool, count_ones, Err, false, true, Fault, Ok, Place, Profile, refl, suc, zero, ℕ, ◌+◌, ◌-◌, ◌<◌, ◌≡◌, ◌≤◌}
+use Rattle.acl_nfs4.specs.AccessPart.{AnyAce, Part, is_for_access}
+unfoldable use Rattle.acl_nfs4.specs.PartFault.{any_ace_at, part_from}
+use Rattle.acl_nfs4.specs.PartFault.{with_ace}
+
+-- an ACE that is read is added to the part
+pub part_more : (p : Profile) (left weight : ℕ) (part : Part) (at : Place) (x : AnyAce × Place) → 0 < left
+    → any_ace_at p weight at ≡ Ok x
+    → part_from p left weight part at
+    ≡ part_from p (left - 1) (weight + count_ones x.0.mask) (with_ace part x.0) x.1
+unfolding part_from
+part_more p zero weight part at x lt e = absurd (omega (arith, lt))
+part_more p (suc n) weight part at x lt e = let less : suc n - 1 ≡ n = omega arith in rw (e, less) refl
+
+-- an ACE that is refused is the fault of the part
+pub part_refused : (p : Profile) (left weight : ℕ) (part : Part) (at : Place) (f : Fault) → 0 < left
+    → any_ace_at p weight at ≡ Err f → part_from p left weight part at ≡ Err f
+unfolding part_from
+part_refused p zero weight part at f lt e = absurd (omega (arith, lt))
+part_refused p (suc n) weight part at f lt e = rw e refl
+
+-- no more ACE is read
+pub part_done : (p : Profile) (left weight : ℕ) (part : Part) (at : Place) → left ≡ 0
+    → part_from p left weight part at ≡ Ok (part, at)
+unfolding part_from
+part_done p left weight part at e = rw e refl
+
+-- no more ACEs are left out than were read
+pub part_few : (part : Part) (a : AnyAce) (left most : ℕ) → 0 < left → part.left_out + left ≤ most
+    → (with_ace part a).left_out + (left - 1) ≤ most
+part_few part a left most lt few = by (is_for_access a) refl
+  where
+    by : (t : Bool) → is_for_access a ≡ t → (with_ace part a).left_out + (left - 1) ≤ most
+    by true e = rw e (omega (arith, lt, few))
+    by false e = rw e (omega (arith, lt, few))
