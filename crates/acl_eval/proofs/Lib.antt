@@ -1,12 +1,18 @@
 pub mod Bits
 pub mod Members
+pub mod Keys
+pub mod PreparedBytes
 pub mod Columns
 pub mod Scans
 pub mod Deciders
 pub mod Noted
+pub mod PreparedLists
 pub mod Same
 pub mod GrantedRights
+pub mod Unknowns
+pub mod Requests
 pub mod Children
+pub mod MarkedChildren
 pub mod FlagByFlag
 pub mod Classes
 pub mod Unnamed
@@ -20,3 +26,6 @@ pub mod BridgeLaws
 pub mod Parts
 pub mod Accepted
 pub mod BridgeWeight
+pub mod ListChmod
+pub mod ChmodGrants
+pub mod ChmodChildren

@@ -10,7 +10,7 @@ use Rattle.acl_perm.specs.Bits.{has_bit, IsSubset}
 use Rattle.acl_perm.specs.Situation.{Situation, IsSituation}
 use Rattle.acl_nfs4.specs.Ace.{Ace}
 use Rattle.acl_eval.specs.Column.{column, SameVerdicts}
-use Rattle.acl_eval.specs.Grant.{Grant, SameGrants, grants_bit, is_allow}
+use Rattle.acl_eval.specs.Grant.{Grant, GrantsAtMost, SameGrants, grants_bit, is_allow}
 use Rattle.acl_eval.specs.Laws.{IsEquivalence}
 
 -- granting the same is an equivalence
@@ -58,6 +58,18 @@ by_bits rights list other = (
     λ g bit h. sym (alike s valid bit (within bit h)) ∙ g bit h,
     λ g bit h. alike s valid bit (within bit h) ∙ g bit h,
   ),
+)
+
+-- a list grants at most what another grants if and only if it does so bit by bit
+pub at_most_by_bits : (rights : ℕ) (list other : List Ace) → GrantsAtMost rights list other
+    ↔ ((s : Situation) → IsSituation s → (bit : ℕ) → IsTrue (has_bit rights bit)
+    → IsTrue (grants_bit list s bit) → IsTrue (grants_bit other s bit))
+at_most_by_bits rights list other = (
+  λ within s valid bit has granted.
+      let inside : IsSubset (2 ^ bit) rights =
+      λ i h. subst (λ (n : ℕ). has_bit rights n ≡ true) (sym (only_bit bit i h)) has in
+      (grant_one other s bit).0 (within s valid (2 ^ bit) inside ((grant_one list s bit).1 granted)),
+  λ each s valid request within granted bit h. each s valid bit (within bit h) (granted bit h),
 )
 
 -- lists grant the same if and only if their columns decide alike

@@ -15,7 +15,7 @@ use Rattle.acl_eval.specs.ListMode.{is_for_group, is_for_others, is_for_owner, i
 use Rattle.acl_eval.specs.Unnamed.{is_unnamed, unnamed}
 
 -- no named principal passes the test
-abbrev PassesNoName : (Principal → Bool) → Type 0
+abbrev pub PassesNoName : (Principal → Bool) → Type 0
 PassesNoName test = (p : Principal) → is_unnamed p ≡ false → test p ≡ false
 
 -- the first key that passes such a test has the same kind without the ACEs of names
@@ -54,11 +54,11 @@ owner_no_name : PassesNoName is_for_owner
 owner_no_name p e = (or_false (is_for_owner p) (is_for_group p) e).0
 
 -- ACEs of names do not decide for the group
-group_no_name : PassesNoName is_for_group
+pub group_no_name : PassesNoName is_for_group
 group_no_name p e = (or_false (is_for_owner p) (is_for_group p) e).1
 
 -- ACEs of names do not decide for others
-others_no_name : PassesNoName is_for_others
+pub others_no_name : PassesNoName is_for_others
 others_no_name p e = (or_false (principal_rank p == 0) (is_everyone p) (owner_no_name p e)).1
 
 -- the mode of a list is the same without the ACEs of names

@@ -1,6 +1,6 @@
 -- Which ACE decides a right (RFC 8881, section 6.2.1): the first of those that have it, take part and match the
 -- requester. Places are counted from 0 (this library's own).
-use Rattle.std.specs.Prelude.{ℕ, Bool, ◌&&◌, List, Option, None, option_map, position, slice_index_or}
+use Rattle.std.specs.Prelude.{◌≡◌, ◌↔◌, ℕ, Bool, IsTrue, ◌&&◌, List, Option, None, Some, option_map, position, slice_index_or}
 use Rattle.std.specs.List.{find}
 use Rattle.acl_perm.specs.Bits.{has_bit}
 use Rattle.acl_perm.specs.Situation.{Situation}
@@ -25,3 +25,8 @@ deciding_kind list s bit = option_map (λ a. a.kind) (find (decides s bit) list)
 -- what is kept for the right with this bit
 abbrev pub decision_of : Decisions → ℕ → Option Decision
 decision_of decisions bit = slice_index_or decisions.by_bit bit None
+
+-- a set of rights has those rights of a mask that an ACE of this kind decides, and no others
+abbrev pub AreDecidedBy : Kind → List Ace → Situation → ℕ → ℕ → Type 0
+AreDecidedBy kind list s mask rights = (bit : ℕ) → IsTrue (has_bit rights bit)
+    ↔ (IsTrue (has_bit mask bit) × (deciding_kind list s bit ≡ Some kind))

@@ -29,3 +29,8 @@ SameColumns rights list other = (bit : ℕ) → IsTrue (has_bit rights bit)
 abbrev pub SameGrants : ℕ → List Ace → List Ace → Type 0
 SameGrants rights list other = (s : Situation) → IsSituation s → (request : ℕ) → IsSubset request rights
     → Grant list s request ↔ Grant other s request
+
+-- in every situation, the second list grants each request within a set of rights that the first list grants
+abbrev pub GrantsAtMost : ℕ → List Ace → List Ace → Type 0
+GrantsAtMost rights list other = (s : Situation) → IsSituation s → (request : ℕ) → IsSubset request rights
+    → Grant list s request → Grant other s request

@@ -1,6 +1,6 @@
 -- What a new object gets from the list of its parent: this library's own table, in the manner of RFC 8881, section 6.4.
 -- The flags are those of its section 6.2.1.4.1.
-use Rattle.std.specs.Prelude.{ℕ, bit_and, bit_or, if◌then◌else◌, List, filter_map, Option, None, Some, option_map}
+use Rattle.std.specs.Prelude.{ℕ, bit_and, bit_or, if◌then◌else◌, List, map, filter_map, Option, None, Some, option_map}
 use Rattle.acl_perm.specs.Bits.{has_bit}
 use Rattle.acl_nfs4.specs.Ace.{Ace}
 use Rattle.acl_eval.specs.declared.inherit.ChildKind.{ChildKind}
@@ -67,3 +67,15 @@ child_ace kind a = option_map (with_flags a) (child_flags kind a.flags)
 -- the list of the child: what it has from each ACE, in order
 abbrev pub children : ChildKind → List Ace → List Ace
 children kind list = filter_map (child_ace kind) list
+
+-- an ACE with more flags
+abbrev pub flagged : ℕ → Ace → Ace
+flagged more a = with_flags a (bit_or a.flags more)
+
+-- the flag INHERITED alone
+abbrev pub inherited_alone : ℕ
+inherited_alone = 0x80
+
+-- the list of the child, with INHERITED set on each ACE (RFC 8881, section 6.4.3.2, for automatic inheritance)
+abbrev pub inherited_children : ChildKind → List Ace → List Ace
+inherited_children kind list = map (flagged inherited_alone) (children kind list)

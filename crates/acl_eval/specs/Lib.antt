@@ -3,6 +3,8 @@ pub mod Column
 pub mod Grant
 pub mod Scan
 pub mod Deciding
+pub mod Prepared
+pub mod Unknown
 pub mod Laws
 pub mod Inheritance
 pub mod InheritanceLaws
@@ -10,6 +12,7 @@ pub mod Permissions
 pub mod ListMode
 pub mod Unnamed
 pub mod Bridge
+pub mod ListChmod
 pub mod BridgeLaws
 pub mod BridgeNames
 pub mod Programs

@@ -15,3 +15,11 @@ pub mod DecidingBody
 pub mod Settled
 -- the list of a POSIX ACL while it is made, and the weight of its entries
 pub mod BridgeBody
+-- a prepared list while it is read
+pub mod PreparedBody
+-- the keys of the groups of a requester
+pub mod Keys
+-- the answers that are possible where names are unknown
+pub mod UnknownBody
+-- the search for an assignment that grants a request
+pub mod RequestBody

@@ -203,8 +203,8 @@ fn push_denied(list: &mut Acl, acl: &PosixAcl, entry: Entry) -> Result<(), Alloc
     )
 }
 
-// Returns the permissions that are denied if these are allowed.
-fn rest_of(perm: Perm) -> Perm
+/// Returns the permissions that are denied if these are allowed.
+pub(crate) fn rest_of(perm: Perm) -> Perm
     ensures { result.bits ≡ all_permissions - perm.bits }
 {
     Perm::ALL.difference(perm)
@@ -250,8 +250,8 @@ fn flags_of(tag: Tag) -> Flags
     }
 }
 
-// Returns the rights of each permission in the set, together.
-fn image(perm: Perm) -> Mask
+/// Returns the rights of each permission in the set, together.
+pub(crate) fn image(perm: Perm) -> Mask
     ensures { result.bits ≡ image perm.bits }
 {
     rights_of(perm, READ, Mask::READ_DATA)

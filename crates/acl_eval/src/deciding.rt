@@ -43,7 +43,8 @@ pub fn deciding_ace(
     ensures kind { option_map (λ decision. decision.kind) result
         ≡ deciding_kind aces.entry (situation object.now requester.now) right.bit }
 {
-    first_deciding(aces, &Standing::new(*object, *requester), right)
+    let standing = Standing::new(*object, *requester, aces.len());
+    first_deciding(aces, &standing, right)
 }
 
 fn first_deciding(aces: Aces<'_>, standing: &Standing<'_>, right: Right) -> Option<Decision>

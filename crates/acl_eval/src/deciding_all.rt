@@ -60,7 +60,8 @@ pub fn deciding_aces(aces: Aces<'_>, object: &Object<'_>, requester: &Requester<
         → option_map (λ decision. decision.kind) (decision_of result bit)
         ≡ deciding_kind aces.entry (situation object.now requester.now) bit }
 {
-    decisions_of(aces, &Standing::new(*object, *requester))
+    let standing = Standing::new(*object, *requester, aces.len());
+    decisions_of(aces, &standing)
 }
 
 fn decisions_of(aces: Aces<'_>, standing: &Standing<'_>) -> Decisions

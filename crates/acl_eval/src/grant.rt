@@ -35,8 +35,9 @@ pub fn grants_for_many_groups(
     ensures { IfOk result (λ granted. IsTrue granted
         ↔ Grant list.now (situation object.now requester.now) mask.bits) }
 {
-    if !requester.groups.are_worth_sorting(list.len()) {
-        return Ok(grants(list.aces(), object, requester, mask));
+    let groups = requester.groups.for_look_ups(list.len());
+    if !groups.are_worth_sorting(list.len()) {
+        return Ok(is_granted_in(list.aces(), object, requester, groups, mask));
     }
     let names = sorted_names(alloc, requester.groups())?;
     Ok(is_granted_in(
@@ -53,10 +54,10 @@ pub fn grants_for_many_groups(
 /// no ACE decides is denied. The empty mask is granted. The function reads the list once, stops as soon as the answer
 /// is known, and takes no memory.
 ///
-/// The group of an ACE is looked up among the groups of the requester: by binary search if there are many and they are
-/// in the order of their bytes, and otherwise one by one, which takes up to a microsecond for 1,000 groups. So in the
-/// worst case the time is proportional to the number of ACEs times the number of groups. `grants_for_many_groups` is
-/// faster for many groups.
+/// The group of an ACE is looked up among the groups of the requester: by binary search if there are many groups and
+/// many ACEs and the groups are in the order of their bytes, and otherwise one by one, which takes up to a microsecond
+/// for 1,000 groups. So in the worst case the time is proportional to the number of ACEs times the number of groups.
+/// `grants_for_many_groups` is faster for many groups.
 ///
 /// ```rust
 /// let list = parse_text(alloc, b"ALLOW - READ_DATA bob\nDENY - WRITE_DATA bob")?;
@@ -69,7 +70,8 @@ pub fn grants_for_many_groups(
 pub fn grants(aces: Aces<'_>, object: &Object<'_>, requester: &Requester<'_>, mask: Mask) -> bool
     ensures { IsTrue result ↔ Grant aces.entry (situation object.now requester.now) mask.bits }
 {
-    scan(aces, &Standing::new(*object, *requester), mask.bits())
+    let standing = Standing::new(*object, *requester, aces.len());
+    scan(aces, &standing, mask.bits())
 }
 
 // Returns whether the list grants the request. The groups of the requester are looked up among `groups`.

@@ -10,6 +10,10 @@ use std::alloc::{AllocError, Global};
 // Up to this number of names, a look-up one by one is faster than a binary search.
 const FEW: usize = 16;
 
+// To find out whether many names are in order takes as long as about sixteen look-ups one by one. A list of more ACEs
+// than this has so many look-ups, even if it ends early or is mostly about users.
+const MANY_LOOK_UPS: usize = 64;
+
 /// The names of groups, and whether they are many and known to be in the order of their bytes.
 #[derive(Clone, Copy, Debug)]
 pub(crate) struct Groups<'a> {
@@ -19,13 +23,38 @@ pub(crate) struct Groups<'a> {
 }
 
 impl<'a> Groups<'a> {
-    /// Makes the groups of these names. If there are many, finds out once whether they are in order.
+    /// Makes the groups of these names. It does not find out whether they are in order.
     pub(crate) fn new(names: &'a [&'a [u8]]) -> Self
         ensures { result.names.now ≡ names.entry.now }
     {
         Groups {
             names,
+            in_order: false,
+        }
+    }
+
+    /// Makes the groups of these names, for any number of look-ups. If there are many names, it finds out whether they
+    /// are in order.
+    pub(crate) fn judged(names: &'a [&'a [u8]]) -> Self
+        ensures { result.names.now ≡ names.entry.now }
+    {
+        Groups {
+            names,
             in_order: names.len() > FEW && are_in_order(names),
+        }
+    }
+
+    /// Returns the same groups, for this many look-ups. If there are many look-ups and many names, it finds out whether
+    /// the names are in order, since each look-up then takes less time.
+    pub(crate) fn for_look_ups(self, look_ups: usize) -> Self
+        ensures { result.names.now ≡ self.entry.names.now }
+    {
+        if self.in_order || look_ups <= MANY_LOOK_UPS || self.names.len() <= FEW {
+            return self;
+        }
+        Groups {
+            names: self.names,
+            in_order: are_in_order(self.names),
         }
     }
 
@@ -49,7 +78,7 @@ impl<'a> Groups<'a> {
 
     /// Returns whether this many look-ups take longer than sorting the names first.
     pub(crate) fn are_worth_sorting(&self, look_ups: usize) -> bool {
-        !self.in_order && look_ups > FEW && self.names.len() > FEW
+        !self.in_order && look_ups > MANY_LOOK_UPS && self.names.len() > FEW
     }
 
     /// Returns whether one of the groups has the name: by binary search if they are many and in order, and otherwise

@@ -1,10 +1,10 @@
 //! What a new object inherits from the list of its directory.
-ghost use Rattle.std.specs.Prelude.{◌≡◌, IfOk, IsTrue, option_map};
+ghost use Rattle.std.specs.Prelude.{◌≡◌, IfOk, IsTrue, map, option_map};
 ghost use Rattle.acl_perm.specs.Bits.{has_bit, inherit_only};
 ghost use Rattle.acl_perm.specs.Profile.{Profile};
 ghost use Rattle.acl_nfs4.specs.Ace.{ace};
 ghost use Rattle.acl_nfs4.specs.Spelling.{Fits};
-ghost use Rattle.acl_eval.specs.Inheritance.{child_flags, children};
+ghost use Rattle.acl_eval.specs.Inheritance.{child_flags, children, flagged, inherited_children};
 ghost use Rattle.acl_eval.specs.declared.inherit.ChildKind.TheVariants.{Directory, File};
 
 use acl_nfs4::{AceRef, Acl, AclView, Flags};
@@ -40,7 +40,6 @@ pub fn child(alloc: Global, parent: &Acl, kind: ChildKind) -> Result<Acl, AllocE
 
 /// Returns the list that `child` returns, for a parent whose list is still in its XDR bytes, without a copy of the
 /// parent. Returns `AllocError` only if memory runs out.
-#[tactic(auto)]
 pub fn child_of_view(
     alloc: Global,
     parent: &AclView<'_>,
@@ -50,10 +49,45 @@ pub fn child_of_view(
     ensures fits { IfOk result (λ list. (p : Profile) → IsTrue (has_bit p.flags inherit_only)
         → Fits p parent.now → Fits p list) }
 {
+    child_with(alloc, parent, kind, Flags::NONE)
+}
+
+/// Returns the list that `child_of_view` returns, with INHERITED set on each ACE, as a server does that offers automatic
+/// inheritance (RFC 8881, section 6.4.3.2): a later change of the directory's list then replaces these ACEs. Returns
+/// `AllocError` only if memory runs out.
+///
+/// ```rust
+/// let parent = parse_text(alloc, b"ALLOW FILE READ_DATA bob\nDENY - WRITE_DATA bob")?;
+/// let list = inherited_child(alloc, &parent.view(), ChildKind::File)?;
+/// assert!(rt; list == parse_text(alloc, b"ALLOW INHERITED READ_DATA bob")?);
+/// ```
+pub fn inherited_child(
+    alloc: Global,
+    parent: &AclView<'_>,
+    kind: ChildKind,
+) -> Result<Acl, AllocError>
+    ensures { IfOk result (λ list. list ≡ inherited_children kind parent.now) }
+{
+    child_with(alloc, parent, kind, Flags::INHERITED)
+}
+
+// Returns the list of a new object, with more flags on each ACE.
+#[tactic(auto)]
+fn child_with(
+    alloc: Global,
+    parent: &AclView<'_>,
+    kind: ChildKind,
+    more: Flags,
+) -> Result<Acl, AllocError>
+    ensures { IfOk result (λ list. list ≡ map (flagged more.bits) (children kind parent.now)) }
+{
     let mut list = Acl::new(alloc);
     for ace in parent.aces() {
         if let Some(flags) = inherited(kind, ace.flags) {
-            list.push_accepted(AceRef { flags, ..ace })?;
+            list.push_accepted(AceRef {
+                flags: flags | more,
+                ..ace
+            })?;
         }
     }
     Ok(list)

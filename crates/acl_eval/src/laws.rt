@@ -1,7 +1,7 @@
 //! Laws of the evaluation, and of the list of a POSIX ACL.
-ghost use Rattle.std.specs.Prelude.{◌≡◌, ◌↔◌, ◌^◌, ℕ, List, IsTrue, None, Some, false, not, true};
-ghost use Rattle.acl_perm.specs.Bits.{has_bit, IsMask, inherit_only};
-ghost use Rattle.acl_perm.specs.Situation.{Situation};
+ghost use Rattle.std.specs.Prelude.{◌≡◌, ◌↔◌, ◌^◌, ◌≤◌, ℕ, List, IsFalse, IsTrue, None, Some, false, not, true};
+ghost use Rattle.acl_perm.specs.Bits.{has_bit, IsMask, all_mode_bits, inherit_only};
+ghost use Rattle.acl_perm.specs.Situation.{Situation, matches};
 ghost use Rattle.acl_perm.specs.Profile.{Profile};
 ghost use Rattle.acl_posix.specs.Check.{ids};
 ghost use Rattle.acl_nfs4.specs.Ace.{Ace};
@@ -9,11 +9,17 @@ ghost use Rattle.acl_nfs4.specs.Spelling.{IsAccepted};
 ghost use Rattle.acl_eval.specs.BridgeLaws.{AnswersAlike, GrantsSingles, KeepsGrants};
 ghost use Rattle.acl_eval.specs.BridgeNames.{NamesDiffer, NamesAreValid, OnlyLimitsRefuse};
 ghost use Rattle.acl_eval.specs.Deciding.{deciding_kind};
+ghost use Rattle.acl_perm.specs.Mode.{group_part};
+ghost use Rattle.acl_perm.specs.Principal.{owner};
+ghost use Rattle.acl_perm.specs.declared.kind.Kind.{Kind};
 ghost use Rattle.acl_perm.specs.declared.kind.Kind.TheVariants.{Allow};
 ghost use Rattle.acl_eval.specs.Grant.{Grant, SameBits, SameColumns, SameGrants, grants_bit};
 ghost use Rattle.acl_eval.specs.Inheritance.{child_flags, children, directory_inherit, ends, file_inherit, goes_on, no_propagate_inherit, waiting_flags};
 ghost use Rattle.acl_eval.specs.InheritanceLaws.{IsByFlag};
 ghost use Rattle.acl_eval.specs.Laws.{HaveSameNames, IsEquivalence};
+ghost use Rattle.acl_eval.specs.Bridge.{image};
+ghost use Rattle.acl_eval.specs.Column.{column, first_kind};
+ghost use Rattle.acl_eval.specs.ListChmod.{chmod_list, is_granted_after, mode_rights, named_aces};
 ghost use Rattle.acl_eval.specs.ListMode.{mode_of_list};
 ghost use Rattle.acl_eval.specs.declared.inherit.ChildKind.{ChildKind};
 ghost use Rattle.acl_eval.specs.declared.inherit.ChildKind.TheVariants.{Directory, File};
@@ -148,3 +154,33 @@ pub fn bridge_and_check(acl: &PosixAcl, owner: Id, group: Id, user: Id, groups: 
     // Called for its clauses: the entries of an ACL are valid, and the law is about valid entries.
     acl.entries();
 }
+
+/// What a list grants after a change of the mode.
+pub fn chmod_grants()
+    // Read, write and execute are granted by the mode and by the first ACE of a name.
+    ensures by_mode { (mode : ℕ) (list : List Ace) (s : Situation) (bit : ℕ) → mode ≤ all_mode_bits
+        → IsTrue (has_bit mode_rights bit)
+        → grants_bit (chmod_list mode list) s bit ≡ is_granted_after (matches s) mode list bit }
+    // A requester who is not the owner, and whom an ACE names for a right, gets it only if the group has it.
+    ensures names { (mode : ℕ) (list : List Ace) (s : Situation) (bit : ℕ) (kind : Kind)
+        → mode ≤ all_mode_bits → IsTrue (has_bit mode_rights bit) → IsFalse (matches s owner)
+        → first_kind (matches s) (column (named_aces list) bit) ≡ Some kind
+        → IsTrue (grants_bit (chmod_list mode list) s bit)
+        → IsTrue (has_bit (image (group_part mode)) bit) }
+    // All other rights are granted as before.
+    ensures as_before { (mode : ℕ) (list : List Ace) (s : Situation) (bit : ℕ) → mode ≤ all_mode_bits
+        → IsFalse (has_bit mode_rights bit)
+        → grants_bit (chmod_list mode list) s bit ≡ grants_bit list s bit }
+{}
+
+/// After a change of the mode, the list has this mode.
+pub fn chmod_mode()
+    ensures { (mode : ℕ) (list : List Ace) → mode ≤ all_mode_bits
+        → mode_of_list (chmod_list mode list) ≡ mode }
+{}
+
+/// After a change of the mode, new objects inherit what they inherited before.
+pub fn chmod_inheritance()
+    ensures { (kind : ChildKind) (mode : ℕ) (list : List Ace)
+        → children kind (chmod_list mode list) ≡ children kind list }
+{}

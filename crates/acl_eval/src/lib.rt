@@ -13,21 +13,31 @@ mod grant;
 mod granting;
 mod groups;
 mod inherit;
+mod keyed;
 pub mod laws;
 mod mode;
+mod mode_change;
 mod permissions;
+mod prepared_ace;
+mod preparing;
+mod requesting;
 mod situation;
 #[cfg(test)]
 mod speed;
 mod standing;
 #[cfg(test)]
 mod tests;
+mod unknown;
 
 pub use bridging::{BridgeFault, bridge};
 pub use deciding::{Decision, deciding_ace};
 pub use deciding_all::{Decisions, deciding_aces};
 pub use grant::{grants, grants_for_many_groups};
-pub use granting::granted;
-pub use inherit::{ChildKind, child, child_of_view};
+pub use granting::{DecidedRights, decided, granted};
+pub use inherit::{ChildKind, child, child_of_view, inherited_child};
 pub use mode::mode_of;
+pub use mode_change::{ChmodFault, chmod};
+pub use preparing::{Prepared, prepare};
+pub use requesting::{RequestAnswer, request_answer};
 pub use situation::{Object, Requester};
+pub use unknown::{DecidedWithUnknown, decided_with_unknown};

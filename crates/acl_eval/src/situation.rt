@@ -55,8 +55,8 @@ pub struct Requester<'a> {
 
 impl<'a> Requester<'a> {
     /// Makes a requester of these names, which it borrows. Returns `None` if one of them is empty. There may be no
-    /// group, and a group that is named twice counts once. Many groups are looked up by binary search if they are in
-    /// the order of their bytes, and otherwise one by one.
+    /// group, and a group that is named twice counts once. If the groups are in the order of their bytes, long lists
+    /// are decided faster.
     ///
     /// ```rust
     /// let requester = Requester::new(b"bob", &[b"staff", b"users"]);
@@ -76,6 +76,44 @@ impl<'a> Requester<'a> {
             Some(Requester { user, groups })
         } else {
             None
+        }
+    }
+
+    /// Makes what `new` makes, for a requester that is asked about many lists. If there are many groups, it finds out
+    /// once whether they are in the order of their bytes. If they are, every list is decided faster: a group is then
+    /// looked up by binary search, in short lists too.
+    ///
+    /// ```rust
+    /// let requester = Requester::for_many_lists(b"bob", &[b"staff", b"users"]);
+    /// assert!(rt; requester.is_some());
+    /// ```
+    pub fn for_many_lists(user: &'a [u8], groups: &'a [&'a [u8]]) -> Option<Self>
+        ensures named { IsSome result
+            ↔ ((0 < length user.now)
+            × All (λ g. 0 < length g) (map (λ g. g.now) groups.now)) }
+        ensures user { IfSome result (λ requester. user_of requester ≡ user.now) }
+        ensures groups { IfSome result (λ requester.
+            groups_of requester ≡ map (λ g. g.now) groups.now) }
+    {
+        if are_named(user, groups) {
+            let judged = Groups::judged(groups);
+            Some(Requester {
+                user,
+                groups: judged,
+            })
+        } else {
+            None
+        }
+    }
+
+    /// Returns the same requester, for this many look-ups of groups.
+    pub(crate) fn for_look_ups(self, look_ups: usize) -> Self
+        ensures user { user_of result ≡ user_of self.entry }
+        ensures groups { groups_of result ≡ groups_of self.entry }
+    {
+        Requester {
+            user: self.user,
+            groups: self.groups.for_look_ups(look_ups),
         }
     }
 

@@ -34,11 +34,16 @@ fn name(number: u32) -> [u8; 6] {
 
 // A list in which ACE i, from 0, is of user i with READ_DATA, and denies if i is even.
 fn spelled(alloc: Global) -> Result<Vec<u8>, AllocError> {
+    list_of(alloc, COUNT, 0)
+}
+
+// A list of this many ACEs. ACE i, from 0, is of user i with READ_DATA. If i is even, it denies, and has these flags.
+fn list_of(alloc: Global, count: u32, flags: u32) -> Result<Vec<u8>, AllocError> {
     let mut bytes = Vec::new(alloc);
-    push_word(&mut bytes, COUNT)?;
-    for number in 0..COUNT {
+    push_word(&mut bytes, count)?;
+    for number in 0..count {
         push_word(&mut bytes, 1 - number % 2)?;
-        push_word(&mut bytes, 0)?;
+        push_word(&mut bytes, (1 - number % 2) * flags)?;
         push_word(&mut bytes, 1)?;
         push_word(&mut bytes, 6)?;
         for byte in name(number) {
@@ -83,4 +88,66 @@ fn the_last_of_4096_aces_grants_1000_times(rt: HostRuntime) {
     if let Ok(bytes) = spelled(rt.alloc()) {
         assert!(rt; granted(&bytes, 1000) == Some(1000));
     }
+}
+
+// Sixteen groups that no list has.
+const GROUPS: [&[u8]; 16] = [
+    b"u80123", b"u80234", b"u80345", b"u80456", b"u80567", b"u80678", b"u80789", b"u80890",
+    b"u81123", b"u81234", b"u81345", b"u81456", b"u81567", b"u81678", b"u81789", b"u81890",
+];
+
+// How often, of this many times, a list of this many ACEs decides READ_DATA for a user in so many groups: never, so
+// that every ACE is read, and every second is of a group.
+fn decided_of(alloc: Global, count: u32, groups: usize, times: usize) -> Option<usize> {
+    let bytes = list_of(alloc, count, 0x40).ok()?;
+    let list = AclView::parse_whole(&bytes).ok()?;
+    let object = Object::new(b"owner", b"group")?;
+    let requester = Requester::new(b"u70000", GROUPS.get(..groups)?)?;
+    let mask = Mask::new(1)?;
+    let done = (0..times)
+        .filter(|_| decided(list.aces(), &object, &requester, mask).denied != Mask::NONE)
+        .count();
+    Some(done)
+}
+
+// The same from prepared bytes.
+fn prepared_of(alloc: Global, count: u32, groups: usize, times: usize) -> Option<usize> {
+    let bytes = list_of(alloc, count, 0x40).ok()?;
+    let list = AclView::parse_whole(&bytes).ok()?;
+    let made = prepare(alloc, &list).ok()?;
+    let object = Object::new(b"owner", b"group")?;
+    let requester = Requester::new(b"u70000", GROUPS.get(..groups)?)?;
+    let mask = Mask::new(1)?;
+    let prepared = Prepared::read(&made)?;
+    let done = (0..times)
+        .filter(|_| match prepared.decided(&object, &requester, mask) {
+            Some(rights) => rights.denied != Mask::NONE,
+            None => true,
+        })
+        .count();
+    Some(done)
+}
+
+#[test]
+fn a_list_of_128_aces_is_decided_once(rt: HostRuntime) {
+    let done = decided_of(rt.alloc(), 128, 16, 1);
+    assert!(rt; done == None || done == Some(0));
+}
+
+#[test]
+fn a_list_of_128_aces_is_decided_1000_times(rt: HostRuntime) {
+    let done = decided_of(rt.alloc(), 128, 16, 1000);
+    assert!(rt; done == None || done == Some(0));
+}
+
+#[test]
+fn a_prepared_list_of_128_aces_is_decided_once(rt: HostRuntime) {
+    let done = prepared_of(rt.alloc(), 128, 16, 1);
+    assert!(rt; done == None || done == Some(0));
+}
+
+#[test]
+fn a_prepared_list_of_128_aces_is_decided_1000_times(rt: HostRuntime) {
+    let done = prepared_of(rt.alloc(), 128, 16, 1000);
+    assert!(rt; done == None || done == Some(0));
 }

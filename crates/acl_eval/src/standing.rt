@@ -35,10 +35,11 @@ pub(crate) struct Standing<'a> {
 impl<'a> Standing<'a> {
     ghost use Rattle.acl_eval.specs.internal.Asked.{asked_situation};
 
-    pub(crate) fn new(object: Object<'a>, requester: Requester<'a>) -> Self
+    /// Computes the facts for a list of this many ACEs.
+    pub(crate) fn new(object: Object<'a>, requester: Requester<'a>, aces: usize) -> Self
         ensures { asked_situation result ≡ situation object.entry requester.entry }
     {
-        Standing::with_groups(object, requester, requester.groups)
+        Standing::with_groups(object, requester, requester.groups.for_look_ups(aces))
     }
 
     /// Makes what `new` makes, and looks groups up among `groups`.
@@ -55,7 +56,7 @@ impl<'a> Standing<'a> {
             requester,
             groups,
             is_owner: requester.is_named(object.owner()),
-            is_in_owning_group: requester.is_in(object.group()),
+            is_in_owning_group: is_among(&groups, &requester, object.group()),
             last: last_byte(requester.user()),
         }
     }
@@ -95,6 +96,15 @@ impl<'a> Standing<'a> {
     {
         self.groups.contains(name)
     }
+}
+
+// Returns whether the requester is in the group with this name, by a look-up among `groups`.
+#[tactic(auto, using(crate::proofs::Members::any_now))]
+fn is_among(groups: &Groups<'_>, requester: &Requester<'_>, name: &[u8]) -> bool
+    requires { AreSameGroups (map (λ g. g.now) groups.now.names.now) (groups_of requester.now) }
+    ensures { result ≡ list_any (bytes_eq name.now) (groups_of requester.now) }
+{
+    groups.contains(name)
 }
 
 // Returns the last byte of a name, or 0 for the empty name.

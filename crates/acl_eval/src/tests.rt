@@ -8,5 +8,7 @@ mod examples;
 mod granting;
 mod harness;
 mod lists;
+mod mode_changes;
 mod modes;
 mod naming;
+mod unknown;

@@ -2,11 +2,11 @@
 
 use crate::*;
 use acl_nfs4::parse_text;
-use acl_perm::{Mask, Right};
+use acl_perm::{Mask, Mode, Right};
 use acl_posix::{Names, parse};
 use std::test::Fail;
 
-// The examples of `grants`, `granted` and `deciding_ace`.
+// The examples of `grants`, `granted`, `decided` and `deciding_ace`.
 #[test]
 fn an_allow_grants_one_right_and_a_deny_decides_another(rt: HostRuntime) -> Result<(), Fail> {
     let alloc = rt.alloc();
@@ -17,9 +17,26 @@ fn an_allow_grants_one_right_and_a_deny_decides_another(rt: HostRuntime) -> Resu
     assert!(rt; !grants(list.aces(), &object, &bob, Mask::ALL));
     let rights = granted(list.aces(), &object, &bob, Mask::ALL);
     assert!(rt; rights == Mask::READ_DATA);
+    let rights = decided(list.aces(), &object, &bob, Mask::ALL);
+    assert!(rt; rights.allowed == Mask::READ_DATA && rights.denied == Mask::WRITE_DATA);
     let write = Right::new(1).ok_or("no such right")?;
     let decision = deciding_ace(list.aces(), &object, &bob, write).ok_or("no ACE decides")?;
     assert_eq!(rt; decision.place, 1);
+    Ok(())
+}
+
+#[test]
+fn a_prepared_list_decides_as_the_list(rt: HostRuntime) -> Result<(), Fail> {
+    let alloc = rt.alloc();
+    let list = parse_text(alloc, b"ALLOW - READ_DATA bob\nDENY - WRITE_DATA bob")?;
+    let bytes = prepare(alloc, &list.view())?;
+    let prepared = Prepared::read(&bytes).ok_or("not prepared")?;
+    let object = Object::new(b"alice", b"staff").ok_or("a name is empty")?;
+    let bob = Requester::new(b"bob", &[]).ok_or("a name is empty")?;
+    let rights = prepared
+        .decided(&object, &bob, Mask::ALL)
+        .ok_or("not prepared")?;
+    assert!(rt; rights.allowed == Mask::READ_DATA && rights.denied == Mask::WRITE_DATA);
     Ok(())
 }
 
@@ -43,6 +60,25 @@ fn a_file_inherits_the_ace_with_file_inherit(rt: HostRuntime) -> Result<(), Fail
     let parent = parse_text(alloc, b"ALLOW FILE READ_DATA bob\nDENY - WRITE_DATA bob")?;
     let list = child(alloc, &parent, ChildKind::File)?;
     assert!(rt; list == parse_text(alloc, b"ALLOW - READ_DATA bob")?);
+    Ok(())
+}
+
+#[test]
+fn an_inherited_ace_is_marked(rt: HostRuntime) -> Result<(), Fail> {
+    let alloc = rt.alloc();
+    let parent = parse_text(alloc, b"ALLOW FILE READ_DATA bob\nDENY - WRITE_DATA bob")?;
+    let list = inherited_child(alloc, &parent.view(), ChildKind::File)?;
+    assert!(rt; list == parse_text(alloc, b"ALLOW INHERITED READ_DATA bob")?);
+    Ok(())
+}
+
+#[test]
+fn a_list_has_the_mode_after_its_change(rt: HostRuntime) -> Result<(), Fail> {
+    let alloc = rt.alloc();
+    let list = parse_text(alloc, b"ALLOW - READ_DATA bob\nALLOW - READ_DATA EVERYONE@")?;
+    let mode = Mode::new(0o640).ok_or("no mode")?;
+    let changed = chmod(alloc, &list.view(), mode)?;
+    assert!(rt; mode_of(changed.aces()) == mode);
     Ok(())
 }
 
@@ -76,4 +112,6 @@ fn no_group_of_a_requester_has_an_empty_name(rt: HostRuntime) {
     let requester = Requester::new(b"bob", &[b"staff", b"users"]);
     assert!(rt; requester.is_some());
     assert!(rt; Requester::new(b"bob", &[b""]).is_none());
+    let requester = Requester::for_many_lists(b"bob", &[b"staff", b"users"]);
+    assert!(rt; requester.is_some());
 }

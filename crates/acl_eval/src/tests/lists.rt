@@ -3,6 +3,7 @@
 use crate::*;
 use acl_nfs4::AclView;
 use acl_perm::Mask;
+use std::alloc::Global;
 
 /// No ACE.
 pub const NONE: &[u8; 4] = b"\0\0\0\0";
@@ -68,5 +69,21 @@ impl<'a> Question<'a> {
     pub fn granted(&self, bits: u32) -> Option<u32> {
         let (list, object, requester) = self.values()?;
         Some(granted(list.aces(), &object, &requester, Mask::new(bits)?).bits())
+    }
+
+    /// Returns the rights of the mask that the list allows and those that it denies.
+    pub fn decided(&self, bits: u32) -> Option<(u32, u32)> {
+        let (list, object, requester) = self.values()?;
+        let rights = decided(list.aces(), &object, &requester, Mask::new(bits)?);
+        Some((rights.allowed.bits(), rights.denied.bits()))
+    }
+
+    /// Returns what `decided` returns, from the prepared bytes of the list.
+    pub fn decided_prepared(&self, alloc: Global, bits: u32) -> Option<(u32, u32)> {
+        let (list, object, requester) = self.values()?;
+        let bytes = prepare(alloc, &list).ok()?;
+        let prepared = Prepared::read(&bytes)?;
+        let rights = prepared.decided(&object, &requester, Mask::new(bits)?)?;
+        Some((rights.allowed.bits(), rights.denied.bits()))
     }
 }

@@ -9,6 +9,6 @@ use Rattle.acl_eval.proofs.granting.granted.Goals as goal
 pub returns-clause-requests : goal.returns-clause-requests
 returns-clause-requests c =
     within_granted c.args.aces (situation c.args.object.now c.args.requester.now) c.args.mask.bits
-    c.granted_to.result.bits
-    (λ bit. c.granted_to.ensures bit
-    ∙ ap (λ s. has_bit c.args.mask.bits bit && grants_bit c.args.aces s bit) c.new.ensures)
+    c.decided_to.result.granted.bits
+    (λ bit. c.decided_to.ensures.granted bit
+    ∙ ap (λ s. has_bit c.args.mask.bits bit && grants_bit c.args.aces s bit) c.new-standing.ensures)

@@ -2,15 +2,18 @@ use Rattle.std.specs.Prelude.{◌≡◌, ◌&&◌, ℕ}
 use Rattle.acl_perm.specs.Bits.{has_bit}
 use Rattle.acl_eval.specs.Grant.{grants_bit}
 use Rattle.acl_eval.specs.Situation.{situation}
-use Rattle.acl_eval.specs.internal.GrantingBody.{granted_in}
-use Rattle.acl_eval.proofs.granting.granted_to.Given as goal
+use Rattle.acl_eval.specs.internal.GrantingBody.{granted_in, is_undecided, left_in}
+use Rattle.acl_eval.proofs.granting.decided_to.Given as goal
 
 -- what is granted so far, with what the rest of the list grants of the rights that are left, is what the whole list
--- grants of the mask
+-- grants of the mask; what the rest of the list leaves is what the whole list leaves
 abbrev pub invariant-loop-ace : goal.invariant-loop-ace
 invariant-loop-ace l =
     (goal.iterator-loop-ace).can_next l.ace-iterator ×
     (goal.iterator-loop-ace).is_finite l.ace-iterator ×
     ((bit : ℕ) → granted_in (situation l.standing.object l.standing.requester) l.so_far l.ace-iterator bit
     ≡ (has_bit l.fn.mask.bits bit
-    && grants_bit l.fn.aces (situation l.standing.object l.standing.requester) bit))
+    && grants_bit l.fn.aces (situation l.standing.object l.standing.requester) bit)) ×
+    ((bit : ℕ) → left_in (situation l.standing.object l.standing.requester) l.so_far l.ace-iterator bit
+    ≡ (has_bit l.fn.mask.bits bit
+    && is_undecided (situation l.standing.object l.standing.requester) bit l.fn.aces))

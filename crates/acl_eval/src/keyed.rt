@@ -1,0 +1,117 @@
+//! The facts about a requester and an object that are the same for each ACE of a prepared list. They are computed once.
+ghost use Rattle.std.specs.Prelude.{◌≡◌, ◌<◌, ℕ, false, true, map, slice_index_or};
+ghost use Rattle.std.specs.List.{list_any};
+ghost use Rattle.std.specs.Str.{bytes_eq};
+ghost use Rattle.acl_perm.specs.Order.{principal_name};
+ghost use Rattle.acl_perm.specs.Principal.{group, group_named, owner, principal, user};
+ghost use Rattle.acl_perm.specs.Situation.{matches};
+ghost use Rattle.acl_eval.specs.Prepared.{name_key};
+ghost use Rattle.acl_eval.specs.Situation.{groups_of, situation, user_of};
+ghost use Rattle.acl_eval.specs.internal.Keys.{AreKeysOf};
+
+use crate::prepared_ace::{PreparedAce, name_key};
+use crate::situation::{Object, Requester};
+use acl_perm::Principal;
+
+// The number of keys.
+const KEYS: usize = 256;
+
+// If a requester is in more groups, all keys are marked: to compute the keys would take longer than to compare names.
+const MANY: usize = 64;
+
+/// A requester of an object, with the facts that are the same for each ACE: whether the requester is the owner, the key
+/// of the requester's name, and which keys the names of the groups have.
+#[derive(Drop)]
+pub(crate) struct Keyed<'a> {
+    object: Object<'a>,
+    requester: Requester<'a>,
+    is_owner: bool,
+    user_key: u8,
+    group_keys: [bool; KEYS],
+    ghost owns: { is_owner ≡ matches (situation object requester) owner },
+    ghost named: { user_key ≡ name_key (user_of requester) },
+    ghost members: { AreKeysOf group_keys (groups_of requester) },
+}
+
+impl<'a> Keyed<'a> {
+    ghost use Rattle.acl_eval.specs.internal.Asked.{keyed_situation};
+
+    /// Computes the facts for a list of at most this many ACEs.
+    pub(crate) fn new(object: Object<'a>, requester: Requester<'a>, aces: usize) -> Self
+        ensures { keyed_situation result ≡ situation object.entry requester.entry }
+    {
+        let requester = requester.for_look_ups(aces);
+        Keyed {
+            object,
+            requester,
+            is_owner: requester.is_named(object.owner()),
+            user_key: name_key(requester.user()),
+            group_keys: keys_of(requester.groups()),
+        }
+    }
+
+    /// Returns whether the principal matches the requester. The key is that of its name. Keys are compared before
+    /// names, since most names differ.
+    #[inline(always)]
+    pub(crate) fn is_match(&self, whom: Principal<'_>, key: u8) -> bool
+        ensures { key ≡ name_key (principal_name (principal whom.entry))
+            → result ≡ matches (keyed_situation self.now) (principal whom.entry) }
+    {
+        match whom {
+            Principal::Owner => self.is_owner,
+            Principal::User(name) => self.is_user(name, key),
+            Principal::Group => self.is_in_owning_group(),
+            Principal::GroupNamed(name) => self.is_in(name, key),
+            Principal::Everyone => true,
+        }
+    }
+
+    #[inline(always)]
+    fn is_user(&self, name: &[u8], key: u8) -> bool
+        ensures { key ≡ name_key name.now → result ≡ matches (keyed_situation self.now) (user name.now) }
+    {
+        key == self.user_key && self.requester.is_named(name)
+    }
+
+    #[inline(always)]
+    fn is_in(&self, name: &[u8], key: u8) -> bool
+        ensures { key ≡ name_key name.now → result ≡ matches (keyed_situation self.now) (group_named name.now) }
+    {
+        self.group_keys[key as usize] && self.requester.is_in(name)
+    }
+
+    fn is_in_owning_group(&self) -> bool
+        ensures { result ≡ matches (keyed_situation self.now) group }
+    {
+        let name = self.object.group();
+        self.is_in(name, name_key(name))
+    }
+}
+
+// Marks the key of each name, or all keys if there are many names.
+fn keys_of(names: &[&[u8]]) -> [bool; KEYS]
+    ensures { AreKeysOf result (map (λ g. g.now) names.now) }
+{
+    if names.len() > MANY {
+        all_marked()
+    } else {
+        marked(names)
+    }
+}
+
+fn all_marked() -> [bool; KEYS]
+    ensures { (key : ℕ) → key < 256 → slice_index_or result key false ≡ true }
+{
+    [true; KEYS]
+}
+
+// Marks the key of each name.
+fn marked(names: &[&[u8]]) -> [bool; KEYS]
+    ensures { AreKeysOf result (map (λ g. g.now) names.now) }
+{
+    let mut keys = [false; KEYS];
+    for name in names {
+        keys[name_key(name) as usize] = true;
+    }
+    keys
+}

@@ -1,0 +1,118 @@
+//! An ACE in the bytes of a prepared list: a number of eight bytes, and the name of a user or of a group.
+ghost use Rattle.std.specs.Prelude.{◌≡◌, ◌++◌, ◌<◌, ◌+◌, ◌*◌, ◌^◌, ◌%◌, ◌==◌, if◌then◌else◌, IfSome, IsSome, List, ℕ, OnOk, length};
+ghost use Rattle.acl_perm.specs.Kind.{kind_number};
+ghost use Rattle.acl_perm.specs.Order.{principal_name, principal_rank};
+ghost use Rattle.acl_perm.specs.Principal as plain;
+ghost use Rattle.acl_perm.specs.Principal.{principal};
+ghost use Rattle.acl_perm.specs.Profile.{full};
+ghost use Rattle.acl_perm.specs.declared.kind.Kind.TheVariants.{Allow, Deny};
+ghost use Rattle.acl_nfs4.specs.Ace.{Ace, ace};
+ghost use Rattle.acl_nfs4.specs.Spelling.{IsAce};
+ghost use Rattle.acl_nfs4.specs.Who.{IsWho, principal_of};
+ghost use Rattle.acl_eval.specs.Prepared.{ace_number, name_key, prepared_ace, sort_number};
+ghost use Rattle.acl_eval.specs.internal.PreparedBody.{IsReadAs};
+
+use acl_nfs4::AceRef;
+use acl_perm::{Kind, Mask, Principal};
+use std::alloc::AllocError;
+
+// What the sort, the key and the length are multiplied by in the number of an ACE.
+const SORT: u64 = 1 << 32;
+
+const KEY: u64 = 1 << 40;
+
+const LENGTH: u64 = 1 << 48;
+
+/// An ACE that was read from a prepared list, and the bytes after it.
+#[derive(Clone, Copy)]
+pub(crate) struct PreparedAce<'a> {
+    pub mask: Mask,
+    pub kind: Kind,
+    pub whom: Principal<'a>,
+    pub key: u8,
+    pub rest: &'a [u8],
+}
+
+/// Adds the bytes of an ACE at the end. If memory runs out, it may have added some of them.
+pub(crate) fn push_prepared(bytes: &mut Vec<u8>, item: &AceRef<'_>) -> Result<(), AllocError>
+    requires { IsAce full (ace item.now) }
+    ensures { OnOk result (bytes.new.items ≡ bytes.old.items ++ prepared_ace (ace item.now)) }
+{
+    let whom = item.principal();
+    let name = whom.name();
+    let number = number_of(whom.rank(), item.kind, item.mask, name);
+    bytes.extend_from_slice(&number.to_le_bytes())?;
+    bytes.extend_from_slice(name)
+}
+
+// Returns the number of an ACE with a principal of this rank and this name.
+fn number_of(rank: u8, kind: Kind, mask: Mask, name: &[u8]) -> u64
+    requires rank { rank < 5 }
+    requires name { length name.now < 2 ^ 16 }
+    ensures { result ≡ mask.bits + 2 ^ 32 * (kind_number kind + 2 * rank) + 2 ^ 40 * name_key name.now
+        + 2 ^ 48 * length name.now }
+{
+    let sort = kind.number() as u64 + 2 * rank as u64;
+    mask.bits() as u64 + SORT * sort + KEY * name_key(name) as u64 + LENGTH * name.len() as u64
+}
+
+/// Returns the key of a name: a byte that two different names seldom share.
+pub(crate) fn name_key(name: &[u8]) -> u8
+    ensures { result ≡ name_key name.now }
+{
+    let mut key: u8 = 0;
+    for byte in name {
+        key = key.wrapping_mul(31).wrapping_add(*byte);
+    }
+    key
+}
+
+/// Returns the ACE that the bytes begin with, or `None` if they begin with none.
+#[inline(always)]
+pub(crate) fn first_prepared(bytes: &[u8]) -> Option<PreparedAce<'_>>
+    ensures shorter { IfSome result (λ first. length first.rest.now < length bytes.now) }
+    ensures first { (a : Ace) (more : List ℕ) → IsAce full a → bytes.now ≡ prepared_ace a ++ more
+        → IsSome result × IfSome result (λ first. IsReadAs a first × (first.rest.now ≡ more)) }
+{
+    let (number, after) = bytes.split_first_chunk::<8>()?;
+    let number = u64::from_le_bytes(*number);
+    let (name, rest) = after.split_at_checked((number / LENGTH) as usize)?;
+    let mask = Mask::new((number % SORT) as u32)?;
+    let sort = number / SORT % 256;
+    let whom = principal_of(sort / 2, name)?;
+    Some(PreparedAce {
+        mask,
+        kind: kind_of(sort),
+        whom,
+        key: (number / KEY % 256) as u8,
+        rest,
+    })
+}
+
+// Returns the kind of an ACE of this sort.
+#[inline(always)]
+fn kind_of(sort: u64) -> Kind
+    ensures { result ≡ (if sort % 2 == 0 then Allow else Deny) }
+{
+    if sort % 2 == 0 {
+        Kind::Allow
+    } else {
+        Kind::Deny
+    }
+}
+
+// Returns the principal of this rank and this name, or `None` if there is none.
+#[inline(always)]
+fn principal_of(rank: u64, name: &[u8]) -> Option<Principal<'_>>
+    ensures { (p : plain.Principal) → rank ≡ principal_rank p → name.now ≡ principal_name p
+        → IsSome result × IfSome result (λ whom. principal whom ≡ p) }
+{
+    match rank {
+        0 => Some(Principal::Owner),
+        1 => Some(Principal::User(name)),
+        2 => Some(Principal::Group),
+        3 => Some(Principal::GroupNamed(name)),
+        4 => Some(Principal::Everyone),
+        _ => None,
+    }
+}
