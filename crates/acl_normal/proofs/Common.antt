@@ -41,6 +41,7 @@ pub use Rattle.acl_normal.specs.internal.Needed.{default_at}
 pub use Rattle.acl_normal.specs.internal.Passes.{Best, IsLeastCandidate, KeepsProfiles, conflicts_before, is_shadowed}
 pub use Rattle.acl_normal.specs.internal.comparison.PlaceTables.{is_of_camp}
 pub use Rattle.acl_normal.specs.internal.Plain.{default, has_opposite, is_needed, needed_keys, reduced, unshadowed, without_principal}
+pub use Rattle.acl_normal.specs.internal.comparison.Directions.{differ}
 pub use Rattle.acl_normal.specs.internal.emit.Queues.{AreNoted, AreQueues, IsQueueAt}
 pub use Rattle.acl_normal.specs.internal.emit.Ready.{Enters, FitsKeys, Grows, Marked, key_eq, low_bits, marks, who_for}
 pub use Rattle.acl_normal.specs.internal.Reduced.{IsReducedOf}
@@ -49,7 +50,7 @@ pub use Rattle.acl_normal.specs.internal.emit.Rising.{HasRisen, all_cleared, cle
 pub use Rattle.acl_normal.specs.internal.rows.RowNumbers.{named_at, named_from, who_here}
 pub use Rattle.acl_normal.specs.internal.rows.Rows.{AreRowNumbers, IsByPrincipal, IsRowOf, first_place_of, is_principal_of, key_number, row_of}
 pub use Rattle.acl_normal.specs.internal.comparison.SamePlaces.{ArePlacesOf}
-pub use Rattle.acl_normal.specs.internal.comparison.SetSearch.{FindsFirst, GrantAlikeTo, IsGrantedTo, IsRisingSet, differ, is_granted_to, principals}
+pub use Rattle.acl_normal.specs.internal.comparison.SetSearch.{FindsFirst, GrantAlikeTo, IsGrantedTo, IsRisingSet, is_granted_to, principals}
 pub use Rattle.acl_normal.specs.internal.Shown.{aces_in, aces_with, mask_numbers, with_masks}
 pub use Rattle.acl_normal.specs.internal.comparison.TwoLists.{FindSet, ArePlacingsOf, TwoLists, all_mentioned, two_lists}
 pub use Rattle.acl_perm.proofs.Bools.{and_false_right, same_answers}

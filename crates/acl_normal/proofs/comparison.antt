@@ -12,7 +12,9 @@ pub mod SetSearchLemmas
 pub mod MentionedNames
 -- principals in order: none is below itself, and rising lists of the same principals are the same
 pub mod Ordered
--- what the first small set at which two lists do not grant the same says of them
+-- two lists that differ in a direction in some situation, or in none
+pub mod Differing
+-- what the first small set at which two lists differ says of them
 pub mod FirstSet
 -- the numbers of rising principals
 pub mod Numbers
@@ -24,6 +26,8 @@ pub mod MentionedNumbers
 pub mod MentionedWhoms
 -- where a list first mentions each principal
 pub mod FirstPlaceLemmas
+-- two answers, and whether they differ in a direction
+pub mod Directions
 -- what two principals are granted, by what each is granted alone and which comes first
 pub mod PairGrants
 -- the least number of a principal at which two lists do not grant the same, bit by bit

@@ -13,6 +13,7 @@ pub mod OneRight
 pub mod Classes
 pub mod Common
 pub mod Difference
+pub mod Excess
 pub mod RequesterNames
 pub mod Tables
 pub mod Programs

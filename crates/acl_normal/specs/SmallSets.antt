@@ -85,6 +85,14 @@ pub record TellsApart (list other : List Ace) (s : Situation) (request : ℕ) (f
   pub first : Grant list s request ↔ IsTrue first_grants
   pub second : Grant other s request ↔ IsFalse first_grants
 
+-- If a test of two answers, each of one of two lists for a right, passes in each small situation of the lists, then it
+-- passes in every situation.
+abbrev pub AnswersSuffice : Type 0
+AnswersSuffice = (test : Bool → Bool → Bool) (list other : List Ace) (bit other_bit : ℕ)
+    → AllByRecursion (λ s. IsTrue (test (grants_bit list s bit) (grants_bit other s other_bit)))
+    (small_situations list other)
+    → (s : Situation) → IsTrue (test (grants_bit list s bit) (grants_bit other s other_bit))
+
 -- lists that agree in each of their small situations grant the same
 abbrev pub SmallSituationsSuffice : Type 0
 SmallSituationsSuffice = (list other : List Ace)

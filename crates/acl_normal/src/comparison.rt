@@ -1,11 +1,13 @@
-//! The first small situation in which two lists grant different rights.
+//! The first small situation in which two lists grant different rights, or in which one grants more than the other.
 ghost use Rattle.std.specs.Prelude.{◌<◌, ◌≤◌, All, length};
 ghost use Rattle.acl_normal.specs.OneRight.{IsOneRight};
 
 mod apart;
 pub(crate) mod compared;
 mod comparing;
+pub(crate) mod direction;
 pub(crate) mod evaluation;
+mod exceeding;
 mod inversions;
 pub(crate) mod members;
 pub(crate) mod mentioned;
@@ -20,6 +22,7 @@ pub(crate) mod small_set;
 
 use acl_perm::Mask;
 pub use comparing::{compare, compare_views};
+pub use exceeding::{excess, excess_of_views};
 pub use requester_names::RequesterNames;
 
 /// A requester and an object for which one of two lists grants a right that the other denies. The groups are in the

@@ -21,7 +21,7 @@ mod whom;
 
 pub use bit_table::{BorrowedRow, Row, borrowed_rows, table, table_of_view};
 pub use class::Class;
-pub use comparison::{Difference, RequesterNames, compare, compare_views};
+pub use comparison::{Difference, RequesterNames, compare, compare_views, excess, excess_of_views};
 pub use five_forms::{FiveForms, normalize_inherit};
 pub use merged::MergedRows;
 pub use normal_form::{is_normal, normal_bytes, normal_bytes_with, normalize, normalize_view};

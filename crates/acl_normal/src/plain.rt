@@ -12,7 +12,7 @@ use crate::reduce::collected::collect;
 use acl_nfs4::{AceRef, Acl};
 use emission::emit;
 use reduction::{drop_needless, drop_shadowed};
-pub use small_sets::compare;
+pub use small_sets::{compare, excess};
 use std::alloc::{AllocError, Global};
 
 /// Returns the normal form of a list, as [`crate::normalize`] does, but in time that grows with the third power of the

@@ -6,6 +6,7 @@ mod ample;
 mod bytes;
 mod differences;
 mod examples;
+mod excesses;
 mod five_forms;
 mod forms;
 mod harness;

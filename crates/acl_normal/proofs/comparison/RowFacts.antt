@@ -1,14 +1,16 @@
 -- The least number of a principal at which two lists do not grant the same, bit by bit.
-use Rattle.acl_normal.proofs.Common.{[], Ace, AgreesAt, all_mentioned, all_rights, AllByRecursion, AllZip, ap, AreFirstFrom, ArePlacings, arith, Bool, cases_eq, cases_lt, drop, everyone, false, get_or_read, has_bit, inl, inr, inverts, inverts_any, is_allow, is_among, is_granted_to, is_user, is_users, IsPlacing, length, length-map, List, map-append, no_placing, Principal, principal, principals, SameAlone, slice_index_or, Placing, subst, sym, take, take_more, true, TwoLists, verdict, ℕ, ◌++◌, ◌+◌, ◌<◌, ◌∙◌, ◌∷◌, ◌≡◌, ◌≤◌, ◌⊎◌}
+use Rattle.acl_normal.proofs.Common.{[], Ace, AgreesAt, all_mentioned, all_rights, AllByRecursion, AllZip, ap, AreFirstFrom, ArePlacings, arith, cases_eq, cases_lt, drop, everyone, false, get_or_read, has_bit, inl, inr, inverts, inverts_any, is_allow, is_among, is_granted_to, is_user, is_users, IsPlacing, length, length-map, List, map-append, no_placing, Principal, principal, principals, refl, SameAlone, slice_index_or, Placing, subst, sym, take, take_more, true, TwoLists, verdict, ℕ, ◌++◌, ◌+◌, ◌<◌, ◌∙◌, ◌∷◌, ◌≡◌, ◌≤◌, ◌⊎◌}
 use Rattle.std.proofs.Common.{suc}
 use Rattle.acl_perm.specs.declared.principal.Principal.{Principal as PrincipalRef}
-use Rattle.acl_normal.proofs.Each.{all_at, all_drop, zip_at, zip_length, zip_push, zip_drop}
+use Rattle.acl_normal.proofs.Each.{all_at, zip_at, zip_length, zip_push, zip_drop}
 use Rattle.acl_normal.proofs.unique.Bits.{below}
+use Rattle.acl_normal.proofs.comparison.Directions.{both_differ, differ_moved, never_itself}
 use Rattle.acl_normal.proofs.comparison.Numbers.{principal_numbered}
 use Rattle.acl_normal.proofs.comparison.PairGrants.{agrees_from_rows, inverted_differ, not_agrees_from_rows, not_inverted}
 use Rattle.acl_normal.specs.internal.comparison.FirstPlaces.{AlikeAlone, AlikeWith, AlikeWithAll, IsFirst, IsFirstBelow, IsFirstFrom, IsLeast, OnAll, is_unlike, no_first}
-use Rattle.acl_normal.specs.internal.comparison.SetSearch.{differ}
-use Rattle.acl_normal.specs.internal.comparison.TwoLists.{AlikeToOne, AlikeToPair, AlikeToPairs, HaveSameColumn, later_than, principal_at}
+use Rattle.acl_normal.specs.internal.comparison.SetSearch.{AlikeAt}
+use Rattle.acl_normal.specs.internal.comparison.TwoLists.{AlikeToOne, AlikeToPair, AlikeToPairs, AreAlikeAlone, ArePlacingsOf, HaveSameColumn, later_than, principal_at}
+use Rattle.acl_normal.specs.declared.comparison.direction.Direction.{Direction}
 use Rattle.acl_normal.specs.declared.class.Class.{Class}
 use Rattle.acl_normal.specs.declared.comparison.placing.First.{First}
 
@@ -101,89 +103,79 @@ pub least_done : {Q : ℕ → ℕ → Type 0} {n bit least : ℕ} → 21 ≤ bit
 least_done le h =
     record { within = h.within; before = λ k l b has. h.before k l b (omega (arith, below b has)) has; at = h.at }
 
--- kinds that do not differ are the same
-same_alone : (r : Placing) → is_unlike r ≡ false → SameAlone r
-same_alone r e = go (is_allow r.here.kind) (is_allow r.there.kind) e
-  where
-    go : (s t : Bool) → differ s t ≡ false → s ≡ t
-    go s t h = grind arith
+-- the lists do not differ for a principal alone if its placing is not unlike
+pub alone_from_row : (way : Direction) (ps : List Principal) (xs ys : List Ace) (b k : ℕ) (rows : List Placing)
+    → k < length ps → ArePlacings ps xs ys b rows → is_unlike way (slice_index_or rows k no_placing) ≡ false
+    → AlikeAlone way xs ys ps b k
+alone_from_row way ps xs ys b k rows lt h e = let r = row_at ps xs ys b k rows lt h.each in
+    differ_moved way (sym r.here.allows) (sym r.there.allows) e
 
--- kinds that differ are not the same
-not_same_alone : (r : Placing) → is_unlike r ≡ true → SameAlone r → ⊥
-not_same_alone r e = go (is_allow r.here.kind) (is_allow r.there.kind) e
-  where
-    go : (s t : Bool) → differ s t ≡ true → s ≡ t → ⊥
-    go s t h same = grind arith
-
--- the lists grant alike to a principal alone if its placing has one kind in both lists
-pub alone_from_row : (ps : List Principal) (xs ys : List Ace) (b k : ℕ) (rows : List Placing) → k < length ps
-    → ArePlacings ps xs ys b rows → is_unlike (slice_index_or rows k no_placing) ≡ false → AlikeAlone xs ys ps b k
-alone_from_row ps xs ys b k rows lt h e = let r = row_at ps xs ys b k rows lt h.each in
-    sym r.here.allows ∙ same_alone (slice_index_or rows k no_placing) e ∙ r.there.allows
-
--- the lists do not grant the same to a principal alone if its placing has two kinds
-pub not_alone_from_row : (ps : List Principal) (xs ys : List Ace) (b k : ℕ) (rows : List Placing) → k < length ps
-    → ArePlacings ps xs ys b rows → is_unlike (slice_index_or rows k no_placing) ≡ true → AlikeAlone xs ys ps b k → ⊥
-not_alone_from_row ps xs ys b k rows lt h n e = let r = row_at ps xs ys b k rows lt h.each in
-    not_same_alone (slice_index_or rows k no_placing) n (r.here.allows ∙ e ∙ sym r.there.allows)
+-- the lists differ for a principal alone if its placing is unlike
+pub not_alone_from_row : (way : Direction) (ps : List Principal) (xs ys : List Ace) (b k : ℕ) (rows : List Placing)
+    → k < length ps → ArePlacings ps xs ys b rows → is_unlike way (slice_index_or rows k no_placing) ≡ true
+    → AlikeAlone way xs ys ps b k → ⊥
+not_alone_from_row way ps xs ys b k rows lt h n = let r = row_at ps xs ys b k rows lt h.each in
+    both_differ way _ _ (differ_moved way (sym r.here.allows) (sym r.there.allows) n)
 
 -- the search for the first single principal continues with the next bit
-pub single_step : {ps : List Principal} {xs ys : List Ace} {bit old new : ℕ} {rows : List Placing}
-    → ArePlacings ps xs ys bit rows → has_bit all_rights bit ≡ true → IsFirstBelow is_unlike rows old new
-    → Least (AlikeAlone xs ys ps) (length ps) bit old
-    → Least (AlikeAlone xs ys ps) (length ps) (bit + 1) new
-single_step {ps} {xs} {ys} {bit} {old} {new} {rows} h has first l =
+pub single_step : (way : Direction) {own : Direction} {ps : List Principal} {xs ys : List Ace} {bit old new : ℕ}
+    {rows : List Placing} → own ≡ way → ArePlacings ps xs ys bit rows → has_bit all_rights bit ≡ true → IsFirstBelow (is_unlike own) rows old new
+    → Least (AlikeAlone way xs ys ps) (length ps) bit old
+    → Least (AlikeAlone way xs ys ps) (length ps) (bit + 1) new
+single_step way {own} {ps} {xs} {ys} {bit} {old} {new} {rows} same h has found l =
+    let first : IsFirstBelow (is_unlike way) rows old new =
+    subst (λ v. IsFirstBelow (is_unlike v) rows old new) same found in
     let le = first.within in
-    least_step (AlikeAlone xs ys ps) (length ps) bit old new le
-    (λ k lt. alone_from_row ps xs ys bit k rows (omega (arith, l.within)) h (first.before k lt))
-    (λ lt all. not_alone_from_row ps xs ys bit new rows (omega (arith, l.within)) h (first.at lt) (all bit has)) l
+    least_step (AlikeAlone way xs ys ps) (length ps) bit old new le
+    (λ k lt. alone_from_row way ps xs ys bit k rows (omega (arith, l.within)) h (first.before k lt))
+    (λ lt all. not_alone_from_row way ps xs ys bit new rows (omega (arith, l.within)) h (first.at lt) (all bit has)) l
 
--- if the lists grant alike to each principal alone, each placing has one kind in both lists
-pub all_alone : (ps : List Principal) (xs ys : List Ace) (b : ℕ) (rows : List Placing)
+-- if the lists do not differ for any principal alone, no placing is unlike
+pub all_alone : (way : Direction) (ps : List Principal) (xs ys : List Ace) (b : ℕ) (rows : List Placing)
     → AllZip (IsPlacing xs ys b) ps rows
-    → ((k : ℕ) → k < length ps → AlikeAlone xs ys ps b k) → AllByRecursion SameAlone rows
-all_alone [] xs ys b [] z h = tt
-all_alone (p ∷ ps) xs ys b (r ∷ rows) z h = (
-  z.0.here.allows ∙ h 0 (omega arith)
-      ∙ sym z.0.there.allows,
-  all_alone ps xs ys b rows z.1 (λ k lt. h (suc k) (omega arith)),
+    → ((k : ℕ) → k < length ps → AlikeAlone way xs ys ps b k) → AllByRecursion (SameAlone way) rows
+all_alone way [] xs ys b [] z h = tt
+all_alone way (p ∷ ps) xs ys b (r ∷ rows) z h = (
+  differ_moved way z.0.here.allows z.0.there.allows (h 0 (omega arith)),
+  all_alone way ps xs ys b rows z.1 (λ k lt. h (suc k) (omega arith)),
 )
-all_alone _ xs ys b _ z h = absurd z
+all_alone way _ xs ys b _ z h = absurd z
 
 -- the search for the first member of a pair continues with the next bit
-pub member_step : {ps : List Principal} {xs ys : List Ace} {bit old new : ℕ} {rows : List Placing}
-    → ArePlacings ps xs ys bit rows → ((k : ℕ) → k < length ps → OnAll (AlikeAlone xs ys ps) k)
-    → has_bit all_rights bit ≡ true → IsFirstBelow (λ r. inverts_any r rows) rows old new
-    → Least (AlikeWithAll xs ys ps) (length ps) bit old → Least (AlikeWithAll xs ys ps) (length ps) (bit + 1) new
-member_step {ps} {xs} {ys} {bit} {old} {new} {rows} h alone has first l =
+pub member_step : (way : Direction) {own : Direction} {ps : List Principal} {xs ys : List Ace} {bit old new : ℕ}
+    {rows : List Placing} → own ≡ way → ArePlacings ps xs ys bit rows → ((k : ℕ) → k < length ps → OnAll (AlikeAlone way xs ys ps) k)
+    → has_bit all_rights bit ≡ true → IsFirstBelow (λ r. inverts_any own r rows) rows old new
+    → Least (AlikeWithAll way xs ys ps) (length ps) bit old
+    → Least (AlikeWithAll way xs ys ps) (length ps) (bit + 1) new
+member_step way {own} {ps} {xs} {ys} {bit} {old} {new} {rows} is h alone has found l =
+    let first : IsFirstBelow (λ r. inverts_any way r rows) rows old new =
+    subst (λ v. IsFirstBelow (λ r. inverts_any v r rows) rows old new) is found in
     let le = first.within in
-    let same : AllByRecursion SameAlone rows = all_alone ps xs ys bit rows h.each (λ k lt. alone k lt bit has) in
+    let same : AllByRecursion (SameAlone way) rows =
+    all_alone way ps xs ys bit rows h.each (λ k lt. alone k lt bit has) in
     let count : length rows ≡ length ps = rows_length ps h in
-    least_step (AlikeWithAll xs ys ps) (length ps) bit old new le
-    (λ k lt. agrees_from_rows xs ys bit (slice_index_or ps k everyone) (slice_index_or rows k no_placing) ps rows
+    least_step (AlikeWithAll way xs ys ps) (length ps) bit old new le
+    (λ k lt. agrees_from_rows way xs ys bit (slice_index_or ps k everyone) (slice_index_or rows k no_placing) ps rows
     (row_at ps xs ys bit k rows (omega (arith, l.within)) h.each)
-    (all_at SameAlone rows k no_placing (omega (arith, l.within)) same)
-    h.each same (first.before k lt))
-    (λ lt all. not_agrees_from_rows xs ys bit (slice_index_or ps new everyone)
+    (all_at (SameAlone way) rows k no_placing (omega (arith, l.within)) same) h.each (first.before k lt))
+    (λ lt all. not_agrees_from_rows way xs ys bit (slice_index_or ps new everyone)
     (slice_index_or rows new no_placing) ps rows
-    (row_at ps xs ys bit new rows (omega (arith, l.within)) h.each)
-    (all_at SameAlone rows new no_placing (omega (arith, l.within)) same) h.each same (first.at lt) (all bit has)) l
+    (row_at ps xs ys bit new rows (omega (arith, l.within)) h.each) h.each (first.at lt) (all bit has)) l
 
 -- the search for the first partner of a principal continues with the next bit
-pub partner_step : (p : Principal) (r : Placing) (ps : List Principal) (xs ys : List Ace) (bit old new : ℕ)
-    (rows : List Placing) → IsPlacing xs ys bit p r → SameAlone r → ArePlacings ps xs ys bit rows
-    → AllByRecursion SameAlone rows → has_bit all_rights bit ≡ true → IsFirstBelow (inverts r) rows old new
-    → Least (AlikeWith xs ys p ps) (length ps) bit old → Least (AlikeWith xs ys p ps) (length ps) (bit + 1) new
-partner_step p r ps xs ys bit old new rows hp sp h same has first l =
+pub partner_step : (way : Direction) (p : Principal) (r : Placing) (ps : List Principal) (xs ys : List Ace)
+    (bit old new : ℕ) (rows : List Placing) → IsPlacing xs ys bit p r → SameAlone way r → ArePlacings ps xs ys bit rows
+    → has_bit all_rights bit ≡ true → IsFirstBelow (inverts way r) rows old new
+    → Least (AlikeWith way xs ys p ps) (length ps) bit old → Least (AlikeWith way xs ys p ps) (length ps) (bit + 1) new
+partner_step way p r ps xs ys bit old new rows hp sp h has first l =
     let le = first.within in
     let count : length rows ≡ length ps = rows_length ps h in
-    least_step (AlikeWith xs ys p ps) (length ps) bit old new le
-    (λ k lt o. not_inverted xs ys bit p (slice_index_or ps k everyone) r (slice_index_or rows k no_placing) hp
-    (row_at ps xs ys bit k rows (omega (arith, l.within)) h.each) sp
-    (all_at SameAlone rows k no_placing (omega (arith, l.within)) same) (first.before k lt) o)
-    (λ lt all. let d = inverted_differ xs ys bit p (slice_index_or ps new everyone) r (slice_index_or rows new no_placing) hp
-    (row_at ps xs ys bit new rows (omega (arith, l.within)) h.each) sp
-    (all_at SameAlone rows new no_placing (omega (arith, l.within)) same) (first.at lt) in d.1 (all bit has d.0)) l
+    least_step (AlikeWith way xs ys p ps) (length ps) bit old new le
+    (λ k lt o. not_inverted way xs ys bit p (slice_index_or ps k everyone) r (slice_index_or rows k no_placing) hp
+    (row_at ps xs ys bit k rows (omega (arith, l.within)) h.each) sp (first.before k lt) o)
+    (λ lt all. let d = inverted_differ way xs ys bit p (slice_index_or ps new everyone) r
+    (slice_index_or rows new no_placing) hp
+    (row_at ps xs ys bit new rows (omega (arith, l.within)) h.each) (first.at lt) in d.1 (all bit has d.0)) l
 
 -- there are as many later placings as later principals
 pub others_length : (ps : List Principal) {xs ys : List Ace} {b : ℕ} (at : ℕ) {items slice others : List Placing}
@@ -194,40 +186,53 @@ others_length ps {xs} {ys} {b} at {items} h is split = ap length (split ∙ ap (
     (zip_drop (IsPlacing xs ys b) (at + 1) ps items h.each)
 
 -- the search for the first partner continues with the next bit, with the placings as the code holds them
-pub partner_loop : {ps : List Principal} {xs ys : List Ace} {bit at old new : ℕ} {row : Placing}
-    {items slice others : List Placing} → at < length ps → ArePlacings ps xs ys bit items → slice ≡ items
+pub partner_loop : (way : Direction) {own : Direction} {ps : List Principal} {xs ys : List Ace} {bit at old new : ℕ}
+    {row : Placing} {items slice others : List Placing} → own ≡ way → at < length ps → ArePlacings ps xs ys bit items → slice ≡ items
     → others ≡ drop (at + 1) slice → row ≡ slice_index_or items at row
-    → ((k : ℕ) → k < length ps → OnAll (AlikeAlone xs ys ps) k) → has_bit all_rights bit ≡ true
-    → IsFirstBelow (inverts row) others old new
-    → Least (AlikeWith xs ys (slice_index_or ps at everyone) (drop (at + 1) ps)) (length (drop (at + 1) ps)) bit old
-    → Least (AlikeWith xs ys (slice_index_or ps at everyone) (drop (at + 1) ps)) (length (drop (at + 1) ps))
+    → ((k : ℕ) → k < length ps → OnAll (AlikeAlone way xs ys ps) k) → has_bit all_rights bit ≡ true
+    → IsFirstBelow (inverts own row) others old new
+    → Least (AlikeWith way xs ys (slice_index_or ps at everyone) (drop (at + 1) ps)) (length (drop (at + 1) ps)) bit old
+    → Least (AlikeWith way xs ys (slice_index_or ps at everyone) (drop (at + 1) ps)) (length (drop (at + 1) ps))
     (bit + 1) new
-partner_loop {ps} {xs} {ys} {bit} {at} {old} {new} {row} {items} {slice} {others} lt h is split read alone has first l =
+partner_loop way {own} {ps} {xs} {ys} {bit} {at} {old} {new} {row} {items} {slice} {others} oe lt h is split read alone has found l =
+    let first : IsFirstBelow (inverts way row) others old new =
+    subst (λ v. IsFirstBelow (inverts v row) others old new) oe found in
     let count : length items ≡ length ps = rows_length ps h in
-    let same : AllByRecursion SameAlone items = all_alone ps xs ys bit items h.each (λ k lk. alone k lk bit has) in
+    let same : AllByRecursion (SameAlone way) items =
+    all_alone way ps xs ys bit items h.each (λ k lk. alone k lk bit has) in
     let own : row ≡ slice_index_or items at no_placing = get_or_read items at row (omega arith) read no_placing in
     let rest : others ≡ drop (at + 1) items = split ∙ ap (drop (at + 1)) is in
-    partner_step (slice_index_or ps at everyone) row (drop (at + 1) ps) xs ys bit old new others
+    partner_step way (slice_index_or ps at everyone) row (drop (at + 1) ps) xs ys bit old new others
     (subst (λ v. IsPlacing xs ys bit (slice_index_or ps at everyone) v) (sym own)
     (row_at ps xs ys bit at items lt h.each))
-    (subst (λ v. SameAlone v) (sym own) (all_at SameAlone items at no_placing (omega arith) same))
+    (subst (λ v. SameAlone way v) (sym own) (all_at (SameAlone way) items at no_placing (omega arith) same))
     (record {
       each = subst (λ v. AllZip (IsPlacing xs ys bit) (drop (at + 1) ps) v) (sym rest)
           (zip_drop (IsPlacing xs ys bit) (at + 1) ps items h.each);
-    })
-    (subst (λ v. AllByRecursion SameAlone v) (sym rest) (all_drop SameAlone (at + 1) items same))
-    has first l
+    }) has first l
+
+-- if the lists do not differ for any principal alone, no placing that the code holds is unlike
+pub slice_alone : (both : TwoLists) {own : Direction} {bit : ℕ} {items slice : List Placing} → own ≡ both.direction
+    → slice ≡ items → AreAlikeAlone both → has_bit all_rights bit ≡ true → ArePlacingsOf both bit items
+    → AllByRecursion (SameAlone own) slice
+slice_alone both {own} {bit} {items} {slice} oe is alone has h =
+    subst (λ v. AllByRecursion (SameAlone v) slice) (sym oe)
+    (subst (AllByRecursion (SameAlone both.direction)) (sym is)
+    (all_alone both.direction (all_mentioned both) both.first both.second bit items h.each
+    (λ k lk. alone k lk bit has)))
 
 -- ---- two lists that are compared
 
--- lists with the same column at a bit grant it alike to each set
+-- lists with the same column at a bit do not differ on it for any set
 pub same_alike : (both : TwoLists) (bit : ℕ) (set : List Principal) → HaveSameColumn both bit
-    → is_granted_to both.first set bit ≡ is_granted_to both.second set bit
-same_alike both bit set h = ap (λ c. is_allow (verdict (λ r. is_among r (everyone ∷ set)) c)) h
+    → AlikeAt both.direction both.first both.second set bit
+same_alike both bit set h =
+    differ_moved both.direction (ap (λ c. is_allow (verdict (λ r. is_among r (everyone ∷ set)) c)) h) refl
+    (never_itself both.direction (is_granted_to both.second set bit))
 
 -- lists with the same column at a bit agree on it at each principal with any others
 same_agree : (both : TwoLists) (bit : ℕ) (p : Principal) (ps : List Principal) → HaveSameColumn both bit
-    → AgreesAt both.first both.second ps bit p
+    → AgreesAt both.direction both.first both.second ps bit p
 same_agree both bit p [] h = tt
 same_agree both bit p (q ∷ ps) h =
     (λ _. same_alike both bit (p ∷ q ∷ []) h, same_agree both bit p ps h)

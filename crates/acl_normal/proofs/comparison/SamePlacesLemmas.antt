@@ -1,5 +1,5 @@
 -- Lists that name the same as another, place by place.
-use Rattle.acl_normal.proofs.Common.{AceRef, AllByRecursion, ArePlacesOf, AreWhoms, Err, IfOk, IsWhom, List, Nobody, Ok, Principal, Result, Whom, [], ace, aces_in, ap, arith, cases_lt, everyone, get_or-append_seam, get_or-map, get_or_append_left, get_or_read, has_bit, inl, inr, is_among, is_mentioning, length, length-append, length-map, map, map-append, mentioned, mentioned_in, no_ace, not, principal_eq, principal_of, principals, same_answers, slice_index_or, subst, sym, takes_part, true, two_lists, ℕ, ◌&&◌, ◌++◌, ◌+◌, ◌<◌, ◌∙◌, ◌∷◌, ◌≡◌, ◌≤◌, ◌⊎◌}
+use Rattle.acl_normal.proofs.Common.{AceRef, AllByRecursion, ArePlacesOf, AreWhoms, Err, IfOk, IsWhom, List, Nobody, Ok, Principal, Result, Whom, [], ace, aces_in, ap, arith, cases_lt, everyone, get_or-append_seam, get_or-map, get_or_append_left, get_or_read, has_bit, inl, inr, is_among, is_mentioning, length, length-append, length-map, map, map-append, mentioned, mentioned_in, no_ace, not, principal_eq, principal_of, principals, same_answers, slice_index_or, subst, sym, takes_part, true, ℕ, ◌&&◌, ◌++◌, ◌+◌, ◌<◌, ◌∙◌, ◌∷◌, ◌≡◌, ◌≤◌, ◌⊎◌}
 use Rattle.std.specs.declared.alloc.AllocError.{AllocError}
 use Rattle.std.proofs.Common.{suc}
 use Rattle.acl_normal.proofs.Each.{all_append, zip_append}
@@ -166,7 +166,7 @@ copies_there whole refs others ws places shown n h is all e i lt =
 -- the principals that two lists together mention are those that the two lists mention
 pub joined_mentions : (list other : List AceRef) {aces shown : List AceRef} (r : Result Mentions AllocError) → shown ≡ aces
     → aces ≡ list ++ other → IfOk r (AreMentionsOf (aces_in shown))
-    → IfOk r (AreMentioned (two_lists (aces_in list) (aces_in other)))
+    → IfOk r (AreMentioned (aces_in list) (aces_in other))
 joined_mentions list other {aces} {shown} (Ok m) se ae h =
     let both : aces_in shown ≡ aces_in list ++ aces_in other =
     ap aces_in (se ∙ ae) ∙ map-append ace list other in

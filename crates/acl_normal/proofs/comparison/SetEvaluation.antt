@@ -1,8 +1,10 @@
 -- What a list grants to a small set of principals, as the code finds it: for all rights at once.
-use Rattle.acl_normal.proofs.Common.{Ace, ace, AceRef, aces_in, all_rights, ap, IsGrantedTo, arith, at_drop_more, bit_at, bits_from_mask, Bool, column, cond, differ, drop, eq-eqb, everyone, false, false_from_ne_true, false≢true, GrantAlikeTo, has_bit, is_allow, is_among, is_granted_to, IsMask, IsMask-lt, IsSubset, IsTrue, IsUnion, Kind, length, List, ne_eqb, no_bit, not, or_parts, Principal, principal_of, refl, same_set, slice_index_or, subst, sym, takes_part, trailing_zeros, true, w32, ℕ, ◌&&◌, ◌+◌, ◌<◌, ◌==◌, ◌^◌, ◌||◌, ◌↔◌, ◌∙◌, ◌∷◌, ◌≡◌, ◌≢◌, only_bit, same_answers, one_bit}
+use Rattle.acl_normal.proofs.Common.{Ace, ace, AceRef, aces_in, all_rights, ap, IsGrantedTo, arith, at_drop_more, bit_at, bits_from_mask, Bool, column, cond, drop, eq-eqb, everyone, false, false_from_ne_true, false≢true, GrantAlikeTo, has_bit, is_allow, is_among, is_granted_to, IsMask, IsMask-lt, IsSubset, IsTrue, IsUnion, Kind, length, List, ne_eqb, no_bit, not, or_parts, Principal, principal_of, refl, same_set, slice_index_or, subst, sym, takes_part, trailing_zeros, true, w32, ℕ, ◌&&◌, ◌+◌, ◌<◌, ◌==◌, ◌^◌, ◌||◌, ◌↔◌, ◌∙◌, ◌∷◌, ◌≡◌, ◌≢◌, only_bit, same_answers, one_bit}
 use Rattle.std.specs.Bool.{OnFalse}
 use Rattle.std.proofs.lemmas.Nat.Bits.{bit_at-trailing_zeros}
 use Rattle.acl_normal.specs.Left.{IsLowest}
+use Rattle.acl_normal.specs.internal.comparison.Directions.{differ_in}
+use Rattle.acl_normal.specs.declared.comparison.direction.Direction.{Direction}
 use Rattle.acl_normal.specs.internal.comparison.SetSearch.{AreDiffering, HasBitsOf, IsLowestDifference}
 use Rattle.acl_perm.proofs.Sets.{mask_from_bits}
 
@@ -45,45 +47,37 @@ loop_more {refs} {x} {set} {granted} {decided} {own} anew {new} {more} {i} lt at
       ∙ sym (at_drop_more (λ r. decides granted decided (aces_in r) set bit) refs i x lt) ∙ inv.bits bit;
 }
 
--- answers that don't differ are the same
-differ_same : (x y : Bool) → differ x y ≡ false → x ≡ y
-differ_same x y h = grind arith
-
--- an answer does not differ from itself
-differ_itself : (x : Bool) → differ x x ≡ false
-differ_itself x = grind arith
-
--- what one list grants and the other doesn't is what they differ on
-pub differing_are : {list other : List Ace} {set : List Principal} {m n result : ℕ}
+-- what one list grants and the other doesn't, in the direction, is what they differ on
+pub differing_are : {way : Direction} {list other : List Ace} {set : List Principal} {m n result : ℕ}
     → IsGrantedTo list set m → IsGrantedTo other set n
-    → ((bit : ℕ) → has_bit result bit ≡ differ (has_bit m bit) (has_bit n bit)) → AreDiffering list other set result
+    → ((bit : ℕ) → has_bit result bit ≡ differ_in way (has_bit m bit) (has_bit n bit))
+    → AreDiffering way list other set result
 differing_are h i is = record {
   bits = λ bit. is bit ∙ rw (h.bits bit, i.bits bit) refl;
 }
 
 -- there is no right on which the lists differ if and only if they grant alike
-pub none_differ : (list other : List Ace) (set : List Principal) (rights : ℕ) → IsMask rights
-    → AreDiffering list other set rights → (rights ≡ 0) ↔ GrantAlikeTo list other set
-none_differ list other set rights within h = (
-  λ e bit i. differ_same _ _ (sym (h.bits bit) ∙ ap (λ v. has_bit v bit) e ∙ no_bit bit),
+pub none_differ : (way : Direction) (list other : List Ace) (set : List Principal) (rights : ℕ) → IsMask rights
+    → AreDiffering way list other set rights → (rights ≡ 0) ↔ GrantAlikeTo way list other set
+none_differ way list other set rights within h = (
+  λ e bit i. sym (h.bits bit) ∙ ap (λ v. has_bit v bit) e ∙ no_bit bit,
   λ alike. same_set rights 0 (λ bit. false_from_ne_true (has_bit rights bit) (λ has. absurd (never alike bit has))
       ∙ sym (no_bit bit)),
 )
   where
-    never : GrantAlikeTo list other set → (bit : ℕ) → has_bit rights bit ≡ true → ⊥
+    never : GrantAlikeTo way list other set → (bit : ℕ) → has_bit rights bit ≡ true → ⊥
     never alike bit has =
-        let same = alike bit (bits_from_mask rights bit within has) in
-        false≢true (sym (differ_itself (is_granted_to other set bit))
-        ∙ ap (λ v. differ v (is_granted_to other set bit)) (sym same) ∙ sym (h.bits bit) ∙ has)
+        false≢true (sym (alike bit (bits_from_mask rights bit within has)) ∙ sym (h.bits bit) ∙ has)
 
 -- if the rights on which the lists differ are not zero, the lists do not grant alike
-pub tells_unlike : {list other : List Ace} {set : List Principal} {rights : ℕ} → IsMask rights
-    → AreDiffering list other set rights → OnFalse (rights == 0) (GrantAlikeTo list other set → ⊥)
-tells_unlike {list} {other} {set} {rights} within h = go (rights == 0) refl
+pub tells_unlike : {way : Direction} {list other : List Ace} {set : List Principal} {rights : ℕ} → IsMask rights
+    → AreDiffering way list other set rights → OnFalse (rights == 0) (GrantAlikeTo way list other set → ⊥)
+tells_unlike {way} {list} {other} {set} {rights} within h = go (rights == 0) refl
   where
-    go : (t : Bool) → (rights == 0) ≡ t → OnFalse t (GrantAlikeTo list other set → ⊥)
+    go : (t : Bool) → (rights == 0) ≡ t → OnFalse t (GrantAlikeTo way list other set → ⊥)
     go true e = tt
-    go false e = λ alike. false≢true (sym e ∙ eq-eqb rights 0 ((none_differ list other set rights within h).1 alike))
+    go false e = λ alike. false≢true (sym e
+        ∙ eq-eqb rights 0 ((none_differ way list other set rights within h).1 alike))
 
 -- the number of zeros at the end of a set that isn't empty is its lowest bit
 pub lowest_is : (rights : ℕ) → rights ≢ 0 → IsMask rights → IsLowest (trailing_zeros w32 rights) rights
@@ -107,17 +101,16 @@ has_part mask granted k part is h = same_answers part (has_bit granted k)
     subst (λ v. has_bit granted v ≡ true) (sym same) has))
 
 -- the lowest right on which the lists differ, as a set of one right, is their lowest difference
-pub lowest_difference : {list other : List Ace} {set : List Principal} {rights mask granted k : ℕ} {first : Bool}
-    → IsMask rights → AreDiffering list other set rights → IsLowest k rights → mask ≡ 2 ^ k
+pub lowest_difference : {way : Direction} {list other : List Ace} {set : List Principal} {rights mask granted k : ℕ}
+    {first : Bool} → IsMask rights → AreDiffering way list other set rights → IsLowest k rights → mask ≡ 2 ^ k
     → IsGrantedTo list set granted → IsTrue first ↔ IsSubset mask granted
-    → IsLowestDifference list other set mask first
-lowest_difference {list} {other} {set} {rights} {mask} {granted} {k} {first} within d l is g f = record {
+    → IsLowestDifference way list other set mask first
+lowest_difference {way} {list} {other} {set} {rights} {mask} {granted} {k} {first} within d l is g f = record {
   bit = k;
   one_bit = is;
   of_rights = bits_from_mask rights k within l.0;
-  differs = λ e. false≢true (sym (differ_itself (is_granted_to other set k))
-      ∙ ap (λ v. differ v (is_granted_to other set k)) (sym e) ∙ sym (d.bits k) ∙ l.0);
-  lowest = λ b lt i. differ_same _ _ (sym (d.bits b) ∙ l.1 b lt);
+  differs = sym (d.bits k) ∙ l.0;
+  lowest = λ b lt i. sym (d.bits b) ∙ l.1 b lt;
   first = has_part mask granted k first is f ∙ g.bits k;
 }
 

@@ -1,16 +1,19 @@
--- The small situations of two lists decide whether the lists grant the same.
-use Rattle.std.specs.Prelude.{IsFalse}
-use Rattle.acl_normal.proofs.Common.{[], Ace, all_rights, AllByRecursion, ap, arith, Bool, column, Deny, everyone, false, false≢true, FindsFirst, GrantAlikeTo, has_bit, HasName, HasNames, inl, inr, is_allow, is_among, is_granted_to, IsRisingSet, IsSituation, IsTrue, Kind, length, Less, List, longest, map, map-append, matches, may_overlap, mentioned, None, not, or_cases, or_left, principal_pairs, partners, Principal, principal_cmp, principal_eq, principal_name, refl, SameGrants, singles, Situation, small_sets, small_situation, Some, subst, sym, true, unwrap_or, user, ℕ, ⊎_elim, ◌++◌, ◌+◌, ◌<◌, ◌^◌, ◌||◌, ◌↔◌, ◌∙◌, ◌∷◌, ◌≡◌, ◌≢◌, ◌⊎◌, only_bit, one_bit}
-use Rattle.acl_perm.proofs.Orders.{kinds_alike}
-use Rattle.acl_eval.specs.Grant.{Grant, grants_bit}
+-- The small situations of two lists decide whether the lists differ in any situation.
+use Rattle.acl_normal.proofs.Common.{[], Ace, all_rights, AllByRecursion, ap, arith, Bool, column, Deny, everyone, false, false≢true, FindsFirst, GrantAlikeTo, has_bit, HasName, HasNames, inl, inr, is_allow, is_among, is_granted_to, IsRisingSet, IsSituation, length, Less, List, longest, map, map-append, matches, may_overlap, mentioned, None, or_cases, or_left, principal_pairs, partners, Principal, principal_cmp, principal_eq, principal_name, refl, singles, Situation, small_sets, small_situation, Some, subst, sym, true, unwrap_or, user, ℕ, ⊎_elim, ◌++◌, ◌+◌, ◌<◌, ◌^◌, ◌||◌, ◌↔◌, ◌∙◌, ◌∷◌, ◌≡◌, ◌⊎◌}
+use Rattle.acl_eval.specs.Grant.{grants_bit}
 use Rattle.std.proofs.lemmas.Bool.{cond_both}
-use Rattle.acl_normal.proofs.Each.{all_append, all_left, at_split, all_right}
-use Rattle.acl_normal.proofs.unique.ListColumns.{same_grants_from_columns, same_verdicts}
+use Rattle.acl_normal.proofs.Each.{all_append, all_left, all_weaker, at_split, all_right}
+use Rattle.acl_normal.proofs.comparison.Differing.{AlikeEverywhere, AlikeIn, FirstApart, same_everywhere}
+use Rattle.acl_normal.proofs.comparison.Directions.{differ_moved, never_itself}
 use Rattle.acl_normal.proofs.comparison.MentionedPrincipals.{IsOneOf, column_is_short, first_has, mentioned_named, mentioned_others, mentioned_rising, one_is_short, second_has}
 use Rattle.acl_normal.proofs.unique.Names.{overlaps_itself, principal_eq_same, longest_name}
 use Rattle.acl_normal.proofs.unique.Realised.{HasOneUser, first_kind_alike, one_user, small_is_situation, small_matches}
-use Rattle.acl_normal.proofs.unique.Small.{IsSmallSet, none, one, small_suffice, two}
-use Rattle.acl_normal.specs.SmallSets.{GrantAlike, IsFirstDifference, SmallSituationsSuffice, TellsApart, strange_length}
+use Rattle.acl_normal.proofs.unique.Small.{IsSmallSet, none, one, small_relate, two}
+use Rattle.acl_normal.specs.SmallSets.{AnswersSuffice, GrantAlike, SmallSituationsSuffice, small_situations, strange_length}
+use Rattle.acl_normal.specs.internal.comparison.Directions.{differ_in}
+use Rattle.acl_normal.specs.internal.comparison.SetSearch.{AlikeAt}
+use Rattle.acl_normal.specs.declared.comparison.direction.Direction.{Direction}
+use Rattle.acl_normal.specs.declared.comparison.direction.Direction.TheVariants.{Either}
 use Rattle.acl_normal.proofs.comparison.Ordered.{below_one, not_below_itself, not_both_below}
 
 -- what holds of mapped elements holds of the elements by their map
@@ -154,19 +157,41 @@ situation_is_set n set xs b pos small short =
     (first_kind_alike (matches (small_situation n set)) (λ r. is_among r (everyone ∷ set)) (column xs b) n
     (λ r l. small_matches n set (small_each _ set small) (small_one_user _ set small) pos r l) short)
 
--- lists that grant alike in each small situation grant the same
-pub small_situations_suffice : SmallSituationsSuffice
-small_situations_suffice xs ys all =
+-- what relates the answers of two lists, each for a right, in each of their small situations relates them in every
+-- situation
+answers_relate : (R : Bool → Bool → Type 0) (xs ys : List Ace) (b k : ℕ)
+    → AllByRecursion (λ s. R (grants_bit xs s b) (grants_bit ys s k)) (small_situations xs ys)
+    → (s : Situation) → R (grants_bit xs s b) (grants_bit ys s k)
+answers_relate R xs ys b k all =
     let ms = mentioned xs ys in
     let n : ℕ = longest ms + 1 in
-    let each : AllByRecursion (λ set. GrantAlike xs ys (small_situation n set)) (small_sets ms) =
-    all_mapped (GrantAlike xs ys) (small_situation n) (small_sets ms) all in
-    same_grants_from_columns xs ys (λ b is_bit.
-    small_suffice (IsOneOf ms) n (column xs b) (column ys b) (first_has b xs ys) (second_has b xs ys) (omega arith)
-    (column_is_short ms (column xs b) (first_has b xs ys)) (column_is_short ms (column ys b) (second_has b xs ys))
+    let each : AllByRecursion (λ set. R (grants_bit xs (small_situation n set) b)
+    (grants_bit ys (small_situation n set) k)) (small_sets ms) =
+    all_mapped (λ s. R (grants_bit xs s b) (grants_bit ys s k)) (small_situation n) (small_sets ms) all in
+    small_relate (λ x y. R (is_allow x) (is_allow y)) (IsOneOf ms) n (column xs b) (column ys k) refl
+    (first_has b xs ys) (second_has k xs ys) (omega arith)
+    (column_is_short ms (column xs b) (first_has b xs ys)) (column_is_short ms (column ys k) (second_has k xs ys))
     (λ p h. one_is_short ms p h)
-    (λ set small. kinds_alike _ _
-    (at_small (λ v. GrantAlike xs ys (small_situation n v)) ms set (mentioned_rising xs ys) each small b is_bit)))
+    (λ set small. at_small (λ v. R (grants_bit xs (small_situation n v) b) (grants_bit ys (small_situation n v) k)) ms set
+    (mentioned_rising xs ys) each small)
+
+-- a test of two answers that passes in each small situation passes in every situation
+pub answers_suffice : AnswersSuffice
+answers_suffice test xs ys = answers_relate (λ x y. test x y ≡ true) xs ys
+
+-- lists that differ in no small situation differ in none
+pub alike_everywhere : (way : Direction) (xs ys : List Ace)
+    → AllByRecursion (AlikeIn way xs ys) (small_situations xs ys) → AlikeEverywhere way xs ys
+alike_everywhere way xs ys all s valid b has =
+    answers_relate (λ x y. differ_in way x y ≡ false) xs ys b b
+    (all_weaker (AlikeIn way xs ys) (λ t. differ_in way (grants_bit xs t b) (grants_bit ys t b) ≡ false)
+    (small_situations xs ys) (λ t alike. alike b has) all) s
+
+-- lists that grant alike in each small situation grant the same
+pub small_situations_suffice : SmallSituationsSuffice
+small_situations_suffice xs ys all = same_everywhere xs ys
+    (alike_everywhere Either xs ys (all_weaker (GrantAlike xs ys) (AlikeIn Either xs ys) (small_situations xs ys)
+    (λ s alike b has. differ_moved Either (alike b has) refl (never_itself Either (grants_bit ys s b))) all))
 
 -- in the small situation of a set, both lists grant what they grant to the set
 both_situations : (xs ys : List Ace) (set : List Principal) (b : ℕ)
@@ -181,12 +206,12 @@ both_situations xs ys set b small = (
 )
 
 -- the lists agree in the small situation of a set if and only if they agree at the set
-pub alike_in_situation : (xs ys : List Ace) (set : List Principal)
+pub alike_in_situation : (way : Direction) (xs ys : List Ace) (set : List Principal)
     → IsSmallSet (λ p. length (principal_name p) < strange_length xs ys) set
-    → (GrantAlike xs ys (small_situation (strange_length xs ys) set)) ↔ (GrantAlikeTo xs ys set)
-alike_in_situation xs ys set small = (
-  λ h b i. sym (both_situations xs ys set b small).0 ∙ h b i ∙ (both_situations xs ys set b small).1,
-  λ h b i. (both_situations xs ys set b small).0 ∙ h b i ∙ sym (both_situations xs ys set b small).1,
+    → AlikeIn way xs ys (small_situation (strange_length xs ys) set) ↔ GrantAlikeTo way xs ys set
+alike_in_situation way xs ys set small = (
+  λ h b i. differ_moved way (sym (both_situations xs ys set b small).0) (sym (both_situations xs ys set b small).1) (h b i),
+  λ h b i. differ_moved way (both_situations xs ys set b small).0 (both_situations xs ys set b small).1 (h b i),
 )
 
 -- the small sets of the mentioned principals have names shorter than the strange ones
@@ -202,19 +227,20 @@ sets_named xs ys h i = all_small HasName (mentioned xs ys) (mentioned_named xs y
     (mentioned_rising xs ys)
 
 -- the first set at which the lists differ, with those before it
-pub record FirstSet (xs ys : List Ace) (sets : List (List Principal)) (set : List Principal) : Type 0 where
+pub record FirstSet (way : Direction) (xs ys : List Ace) (sets : List (List Principal)) (set : List Principal) :
+    Type 0 where
   pub before : List (List Principal)
   pub after : List (List Principal)
   pub is : sets ≡ before ++ set ∷ after
-  pub alike : AllByRecursion (GrantAlikeTo xs ys) before
-  pub differs : GrantAlikeTo xs ys set → ⊥
+  pub alike : AllByRecursion (GrantAlikeTo way xs ys) before
+  pub differs : GrantAlikeTo way xs ys set → ⊥
 
 -- the set that is found is one of the sets, and the lists grant alike at those before it
-pub first_set : (xs ys : List Ace) (sets : List (List Principal)) (set : List Principal)
-    → FindsFirst xs ys sets (Some set) → FirstSet xs ys sets set
-first_set xs ys [] set h = cc
-first_set xs ys (ps ∷ sets) set (inl h) =
-    let s = first_set xs ys sets set h.1 in
+pub first_set : (way : Direction) (xs ys : List Ace) (sets : List (List Principal)) (set : List Principal)
+    → FindsFirst way xs ys sets (Some set) → FirstSet way xs ys sets set
+first_set way xs ys [] set h = cc
+first_set way xs ys (ps ∷ sets) set (inl h) =
+    let s = first_set way xs ys sets set h.1 in
     record {
       before = ps ∷ s.before;
       after = s.after;
@@ -223,7 +249,7 @@ first_set xs ys (ps ∷ sets) set (inl h) =
       differs =
           s.differs;
     }
-first_set xs ys (ps ∷ sets) set (inr h) =
+first_set way xs ys (ps ∷ sets) set (inr h) =
     let same : ps ≡ set = cc in
     record {
       before = [];
@@ -231,57 +257,46 @@ first_set xs ys (ps ∷ sets) set (inr h) =
       is = ap (λ v. v ∷ sets) same;
       alike = tt;
       differs =
-          subst (λ v. GrantAlikeTo xs ys v → ⊥) same h.0;
+          subst (λ v. GrantAlikeTo way xs ys v → ⊥) same h.0;
     }
 
 -- if no set is found, the lists grant alike at all sets
-pub none_differs : (xs ys : List Ace) (sets : List (List Principal)) → FindsFirst xs ys sets None
-    → AllByRecursion (GrantAlikeTo xs ys) sets
-none_differs xs ys [] h = tt
-none_differs xs ys (ps ∷ sets) (inl h) = (h.0, none_differs xs ys sets h.1)
-none_differs xs ys (ps ∷ sets) (inr h) = absurd (cc)
+pub none_differs : (way : Direction) (xs ys : List Ace) (sets : List (List Principal)) → FindsFirst way xs ys sets None
+    → AllByRecursion (GrantAlikeTo way xs ys) sets
+none_differs way xs ys [] h = tt
+none_differs way xs ys (ps ∷ sets) (inl h) = (h.0, none_differs way xs ys sets h.1)
+none_differs way xs ys (ps ∷ sets) (inr h) = absurd (cc)
 
--- if no small set of the mentioned principals is found, the lists grant the same
-pub none_then_same : (xs ys : List Ace) → FindsFirst xs ys (small_sets (mentioned xs ys)) None
-    → SameGrants all_rights xs ys
-none_then_same xs ys h =
-    small_situations_suffice xs ys
-    (all_map_by (IsSmallSet (λ p. length (principal_name p) < strange_length xs ys)) (GrantAlikeTo xs ys)
-    (GrantAlike xs ys) (small_situation (strange_length xs ys)) (small_sets (mentioned xs ys))
-    (λ set small alike. (alike_in_situation xs ys set small).1 alike) (sets_short xs ys)
-    (none_differs xs ys (small_sets (mentioned xs ys)) h))
+-- if no small set of the mentioned principals is found, the lists differ in no situation
+pub none_then_alike : (way : Direction) (xs ys : List Ace) → FindsFirst way xs ys (small_sets (mentioned xs ys)) None
+    → AlikeEverywhere way xs ys
+none_then_alike way xs ys h =
+    alike_everywhere way xs ys
+    (all_map_by (IsSmallSet (λ p. length (principal_name p) < strange_length xs ys)) (GrantAlikeTo way xs ys)
+    (AlikeIn way xs ys) (small_situation (strange_length xs ys)) (small_sets (mentioned xs ys))
+    (λ set small alike. (alike_in_situation way xs ys set small).1 alike) (sets_short xs ys)
+    (none_differs way xs ys (small_sets (mentioned xs ys)) h))
 
 -- the small situation of the set that is found first has names, if the lists have names
-pub found_is_situation : (xs ys : List Ace) (set : List Principal) → HasNames xs → HasNames ys
-    → FindsFirst xs ys (small_sets (mentioned xs ys)) (Some set)
+pub found_is_situation : (way : Direction) (xs ys : List Ace) (set : List Principal) → HasNames xs → HasNames ys
+    → FindsFirst way xs ys (small_sets (mentioned xs ys)) (Some set)
     → IsSituation (small_situation (strange_length xs ys) set)
-found_is_situation xs ys set nx ny h =
-    let s = first_set xs ys (small_sets (mentioned xs ys)) set h in
+found_is_situation way xs ys set nx ny h =
+    let s = first_set way xs ys (small_sets (mentioned xs ys)) set h in
     let named = at_split (IsSmallSet HasName) (small_sets (mentioned xs ys)) s.before set s.after s.is
     (sets_named xs ys nx ny) in
     small_is_situation (strange_length xs ys) set (omega arith) (small_each HasName set named)
 
--- if a small set is found, the lists do not grant the same
-pub some_then_differ : (xs ys : List Ace) (set : List Principal) → HasNames xs → HasNames ys
-    → FindsFirst xs ys (small_sets (mentioned xs ys)) (Some set) → SameGrants all_rights xs ys → ⊥
-some_then_differ xs ys set nx ny h same =
-    let s = first_set xs ys (small_sets (mentioned xs ys)) set h in
-    let small = at_split (IsSmallSet (λ p. length (principal_name p) < strange_length xs ys))
-    (small_sets (mentioned xs ys)) s.before set s.after s.is (sets_short xs ys) in
-    let valid = found_is_situation xs ys set nx ny h in
-    s.differs ((alike_in_situation xs ys set small).0
-    (λ b i. ap is_allow (same_verdicts xs ys same b i (small_situation (strange_length xs ys) set) valid)))
-
--- the first set and the lowest bit on which the lists differ there are their first difference
-pub first_difference : (xs ys : List Ace) (set : List Principal) (bit mask : ℕ) (first : Bool)
-    → FindsFirst xs ys (small_sets (mentioned xs ys)) (Some set) → mask ≡ 2 ^ bit → has_bit all_rights bit ≡ true
-    → is_granted_to xs set bit ≢ is_granted_to ys set bit
-    → ((b : ℕ) → b < bit → has_bit all_rights b ≡ true → is_granted_to xs set b ≡ is_granted_to ys set b)
-    → first ≡ is_granted_to xs set bit → IsFirstDifference xs ys (small_situation (strange_length xs ys) set) mask first
-first_difference xs ys set bit mask first h is_power sixteen differs lowest grants =
+-- the first set and the lowest bit on which the lists differ there are where they first differ
+pub first_apart : (way : Direction) (xs ys : List Ace) (set : List Principal) (bit mask : ℕ) (first : Bool)
+    → FindsFirst way xs ys (small_sets (mentioned xs ys)) (Some set) → mask ≡ 2 ^ bit → has_bit all_rights bit ≡ true
+    → differ_in way (is_granted_to xs set bit) (is_granted_to ys set bit) ≡ true
+    → ((b : ℕ) → b < bit → has_bit all_rights b ≡ true → AlikeAt way xs ys set b)
+    → first ≡ is_granted_to xs set bit → FirstApart way xs ys (small_situation (strange_length xs ys) set) mask first
+first_apart way xs ys set bit mask first h is_power sixteen differs lowest grants =
     let sets = small_sets (mentioned xs ys) in
     let n = strange_length xs ys in
-    let s = first_set xs ys sets set h in
+    let s = first_set way xs ys sets set h in
     let small = at_split (IsSmallSet (λ p. length (principal_name p) < n)) sets s.before set s.after s.is
     (sets_short xs ys) in
     let earlier : AllByRecursion (IsSmallSet (λ p. length (principal_name p) < n)) s.before =
@@ -292,48 +307,13 @@ first_difference xs ys set bit mask first h is_power sixteen differs lowest gran
       before = map (small_situation n) s.before;
       after = map (small_situation n) s.after;
       place = ap (map (small_situation n)) s.is ∙ map-append (small_situation n) s.before (set ∷ s.after);
-      alike_before = all_map_by (IsSmallSet (λ p. length (principal_name p) < n)) (GrantAlikeTo xs ys)
-          (GrantAlike xs ys) (small_situation n) s.before (λ v k alike. (alike_in_situation xs ys v k).1 alike)
+      alike_before = all_map_by (IsSmallSet (λ p. length (principal_name p) < n)) (GrantAlikeTo way xs ys)
+          (AlikeIn way xs ys) (small_situation n) s.before (λ v k alike. (alike_in_situation way xs ys v k).1 alike)
           earlier s.alike;
-      right = record {
-        bit = bit;
-        one_bit = is_power;
-        of_rights = sixteen;
-        differs = λ e. differs (sym (at bit).0 ∙ e ∙ (at bit).1);
-        lowest = λ b l i. (at b).0 ∙ lowest b l i ∙ sym (at b).1;
-        first = grants ∙ sym (at bit).0;
-      };
-    }
-
--- a request of one bit is granted if and only if the bit is
-one_bit_granted : (xs : List Ace) (s : Situation) (bit mask : ℕ) (first : Bool) → mask ≡ 2 ^ bit
-    → first ≡ grants_bit xs s bit → Grant xs s mask ↔ IsTrue first
-one_bit_granted xs s bit mask first is h = (
-  λ g. h ∙ g bit (subst (λ m. has_bit m bit ≡ true) (sym is) (one_bit bit)),
-  λ e b i.
-      let same : b ≡ bit = only_bit bit b (subst (λ m. has_bit m b ≡ true) is i) in
-      subst (λ v. grants_bit xs s v ≡ true) (sym same) (sym h ∙ e),
-)
-
--- the other of two answers that differ
-other_answer : (x y : Bool) → (x ≡ y → ⊥) → not x ≡ y
-other_answer x y h = grind arith
-
--- what is not true is false
-false_by_not : (x : Bool) → IsTrue (not x) ↔ IsFalse x
-false_by_not true = (λ e. sym e, λ e. sym e)
-false_by_not false = (λ _. refl, λ _. refl)
-
--- the lists answer the requester of a first difference differently
-pub tells_apart : (xs ys : List Ace) (s : Situation) (mask : ℕ) (first : Bool) → IsSituation s
-    → IsFirstDifference xs ys s mask first → TellsApart xs ys s mask first
-tells_apart xs ys s mask first valid difference =
-    let d = difference.right in
-    let second : not first ≡ grants_bit ys s d.bit = ap not d.first ∙ other_answer _ _ d.differs in
-    let granted = one_bit_granted ys s d.bit mask (not first) d.one_bit second in
-    let turned = false_by_not first in
-    record {
-      valid = valid;
-      first = one_bit_granted xs s d.bit mask first d.one_bit d.first;
-      second = (λ g. turned.0 (granted.0 g), λ e. granted.1 (turned.1 e));
+      bit = bit;
+      one_bit = is_power;
+      of_rights = sixteen;
+      differs = differ_moved way (at bit).0 (at bit).1 differs;
+      lowest = λ b l i. differ_moved way (at b).0 (at b).1 (lowest b l i);
+      grants = grants ∙ sym (at bit).0;
     }

@@ -1,21 +1,21 @@
 -- Tables that show which placings invert another.
-use Rattle.acl_normal.proofs.Common.{Ace, AllByRecursion, AllZip, Bool, IsPlacing, Kind, List, Principal, ArePlacingsOf, Placing, TwoLists, [], all_mentioned, and_parts, ap, arith, cases_eq, cond, differ, eq-eqb, false, first_place, get_or-replicate, get_or-set_other, get_or-set_same, get_or_default, get_or_read, inl, inr, inverts, inverts_any, is_of_camp, is_users, le-ltb, length, length-replicate, length-set, max, nat_lt, ne_eqb, no_placing, not, refl, replicate, slice_index_or, slice_set, subst, sym, take, take_more, true, ℕ, ◌&&◌, ◌++◌, ◌+◌, ◌-◌, ◌<◌, ◌==◌, ◌||◌, ◌∙◌, ◌∷◌, ◌≡◌, ◌≤◌, ◌⊎◌}
+use Rattle.acl_normal.proofs.Common.{Ace, AllByRecursion, AllZip, Allow, Bool, Deny, IsPlacing, List, Principal, ArePlacingsOf, Placing, SameAlone, TwoLists, [], all_mentioned, and_parts, ap, arith, cases_eq, cases_lt, cond, differ, eq-eqb, false, false≢true, first_place, get_or-replicate, get_or-set_other, get_or-set_same, get_or_default, get_or_read, inl, inr, inverts, inverts_any, is_of_camp, is_users, le-ltb, length, length-replicate, length-set, max, nat_lt, ne_eqb, no_placing, not, or_cases, refl, replicate, slice_index_or, slice_set, subst, sym, take, take_more, true, ℕ, ◌&&◌, ◌++◌, ◌+◌, ◌-◌, ◌<◌, ◌==◌, ◌||◌, ◌∙◌, ◌∷◌, ◌≡◌, ◌≤◌, ◌⊎◌}
 use borrow.Author.Count.{below_more}
 use Rattle.std.proofs.lemmas.Bool.Decides.{nat_tests}
 use Rattle.std.proofs.lemmas.List.{get_or-take, length-take-le}
 use Rattle.acl_normal.proofs.Each.{all_at}
-use Rattle.acl_normal.specs.internal.comparison.FirstPlaces.{IsFirstBelow}
-use Rattle.acl_normal.specs.internal.comparison.PlaceTables.{IsFirstOf, IsPlaceTable, IsScattered, IsPlacingWithin, Raises, is_counted, is_inverting, most_at, most_before, other_place, place_of}
+use Rattle.acl_normal.specs.internal.comparison.Directions.{differ_in}
+use Rattle.acl_normal.specs.internal.comparison.FirstPlaces.{IsFirstBelow, earlier_allows}
+use Rattle.acl_normal.specs.internal.comparison.PlaceTables.{IsFirstOf, IsPlaceTable, IsScattered, IsPlacingWithin, Raises, camp_of, has_kind, is_counted, is_inverting, is_wanted, most_at, most_before, other_place, place_of, wants}
 use Rattle.acl_normal.specs.internal.comparison.TwoLists.{AreWithin}
 use Rattle.acl_normal.specs.declared.class.Class.{Class}
+use Rattle.acl_normal.specs.declared.class.Class.TheVariants.{Others, Users}
+use Rattle.acl_normal.specs.declared.comparison.direction.Direction.{Direction}
+use Rattle.acl_normal.specs.declared.comparison.direction.Direction.TheVariants.{Either, Over}
 use Rattle.acl_normal.specs.declared.comparison.inversions.Camp.{Camp}
 use Rattle.acl_normal.specs.declared.comparison.inversions.Side.{Side}
 use Rattle.acl_normal.specs.declared.comparison.inversions.Side.TheVariants.{Here, There}
 use Rattle.acl_perm.specs.Kind.{is_allow}
-
--- the camp of a placing
-abbrev pub camp_of : Placing → Camp
-camp_of r = record { kind = r.here.kind; class = r.class }
 
 -- the greatest of two parts is the greater of theirs
 pub most_at-append : (q : Camp) (w : Side) (k : ℕ) (xs ys : List Placing)
@@ -68,35 +68,66 @@ over_is q w k v (r ∷ rows) =
     ∙ ap (λ t. (is_counted q r && (nat_lt (place_of w r) k && not (nat_lt (other_place w r) v))) || t)
     (over_is q w k v rows)
 
--- two orders differ if and only if one holds and the other does not, either way round
-either_order : (c l m x y : Bool)
-    → ((c && differ l m) || (x || y)) ≡ (((c && (l && not m)) || x) || ((c && (m && not l)) || y))
-either_order c l m x y = grind arith
+-- if two principals are each answered alike, one is of a kind in both lists, and the orders of both are known, then they
+-- differ together if and only if the other is of the other kind and the orders differ as the direction wants
+crosses : (way : Direction) (k c l m rh rt sh st : Bool) → differ_in way rh rt ≡ false → differ_in way sh st ≡ false
+    → cond k rh (not rt) ≡ true
+    → (c && differ_in way (cond l sh rh) (cond m st rt))
+    ≡ ((is_wanted way k Here && ((c && cond (not k) sh (not st)) && (l && not m)))
+    || (is_wanted way k There && ((c && cond (not k) sh (not st)) && (m && not l))))
+crosses Either k c l m rh rt sh st h i e = grind arith
+crosses Over true c l m rh rt sh st h i e = grind arith
+crosses Over false c l m rh rt sh st h i e = grind arith
 
--- a placing inverts another if and only if one is over its place, in one direction or in the other
-pub inverts_is : (r : Placing) (rows : List Placing)
-    → inverts_any r rows ≡ (any_over (camp_of r) Here r.here.place r.there.place rows || any_over
-    (camp_of r) There r.there.place r.here.place rows)
-inverts_is r [] = refl
-inverts_is r (s ∷ rows) =
-    ap (λ t. inverts r s || t) (inverts_is r rows)
-    ∙ either_order (is_counted (camp_of r) s) (nat_lt s.here.place r.here.place)
-    (nat_lt s.there.place r.there.place) (any_over (camp_of r) Here r.here.place r.there.place rows)
-    (any_over (camp_of r) There r.there.place r.here.place rows)
+-- what one and the others add on two sides, side by side
+by_side : (v w x y p q : Bool) → (((v && x) || (w && y)) || ((v && p) || (w && q))) ≡ ((v && (x || p)) || (w && (y || q)))
+by_side v w x y p q = grind arith
 
--- a placing inverts another if and only if one of two greatest values is over its place
-pub inverts_by_tables : (r : Placing) (rows : List Placing) (f s : ℕ)
-    → f ≡ most_before (camp_of r) Here r.here.place rows
-    → s ≡ most_before (camp_of r) There r.there.place rows
-    → inverts_any r rows ≡ (nat_lt r.there.place f || nat_lt r.here.place s)
-inverts_by_tables r rows f s h i =
-    inverts_is r rows ∙ rw (
-      h,
-      i,
-      over_is (camp_of r) Here r.here.place r.there.place rows,
-      over_is
-          (camp_of r) There r.there.place r.here.place rows,
-    ) refl
+-- classes that don't differ are the same
+same_class : (k l : Class) → not (differ (is_users k) (is_users l)) ≡ true → is_users k ≡ is_users l
+same_class k l h = grind arith
+
+-- a placing of a camp inverts another if and only if one is over its place, on a side that the camp wants
+inverts_is : (q : Camp) (r : Placing) (rows : List Placing) → is_of_camp q r ≡ true → SameAlone q.direction r
+    → AllByRecursion (SameAlone q.direction) rows
+    → inverts_any q.direction r rows ≡ ((wants q Here && any_over q Here r.here.place r.there.place rows)
+    || (wants q There && any_over q There r.there.place r.here.place rows))
+inverts_is q r [] h u all = neither (wants q Here) (wants q There)
+  where
+    neither : (v w : Bool) → false ≡ ((v && false) || (w && false))
+    neither v w = grind arith
+inverts_is q r (s ∷ rows) h u all =
+    let parts = and_parts (has_kind (is_allow q.kind) r) (not (differ (is_users q.class) (is_users r.class))) h in
+    let one : inverts q.direction r s ≡ ((wants q Here && (is_counted q s && (nat_lt s.here.place r.here.place
+    && not (nat_lt s.there.place r.there.place)))) || (wants q There && (is_counted q s
+    && (nat_lt s.there.place r.there.place && not (nat_lt s.here.place r.here.place))))) =
+    ap (λ t. not (t && is_users s.class)
+    && differ_in q.direction (earlier_allows r.here s.here) (earlier_allows r.there s.there))
+    (sym (same_class q.class r.class parts.1))
+    ∙ crosses q.direction (is_allow q.kind) (not (is_users q.class && is_users s.class))
+    (nat_lt s.here.place r.here.place) (nat_lt s.there.place r.there.place) (is_allow r.here.kind)
+    (is_allow r.there.kind) (is_allow s.here.kind) (is_allow s.there.kind) u all.0 parts.0 in
+    ap (λ t. t || inverts_any q.direction r rows) one
+    ∙ ap (λ t. ((wants q Here && (is_counted q s && (nat_lt s.here.place r.here.place
+    && not (nat_lt s.there.place r.there.place)))) || (wants q There && (is_counted q s
+    && (nat_lt s.there.place r.there.place && not (nat_lt s.here.place r.here.place))))) || t)
+    (inverts_is q r rows h u all.1)
+    ∙ by_side (wants q Here) (wants q There) _ _ (any_over q Here r.here.place r.there.place rows)
+    (any_over q There r.there.place r.here.place rows)
+
+-- a placing that is of no camp inverts none
+outside : (way : Direction) (r : Placing) (rows : List Placing) → SameAlone way r → has_kind true r ≡ false
+    → has_kind false r ≡ false → AllByRecursion (SameAlone way) rows → inverts_any way r rows ≡ false
+outside way r [] u h i all = refl
+outside way r (s ∷ rows) u h i all =
+    rw (outside way r rows u h i all.1) (none way (not (is_users r.class && is_users s.class))
+    (nat_lt s.here.place r.here.place) (nat_lt s.there.place r.there.place) (is_allow r.here.kind)
+    (is_allow r.there.kind) (is_allow s.here.kind) (is_allow s.there.kind) u all.0 h i)
+  where
+    none : (way : Direction) (c l m rh rt sh st : Bool) → differ_in way rh rt ≡ false → differ_in way sh st ≡ false
+        → rh ≡ false → not rt ≡ false → ((c && differ_in way (cond l sh rh) (cond m st rt)) || false) ≡ false
+    none Either c l m rh rt sh st u v h i = grind arith
+    none Over c l m rh rt sh st u v h i = grind arith
 
 -- a placing that counts raises the value after its place
 pub raises_set : (q : Camp) (w : Side) (r : Placing) (old new : List ℕ) (j v : ℕ) → j < length old
@@ -205,58 +236,67 @@ summed_more {q} {w} {size} {k} {x} {y} {rows} {old} pos lt xi yi is h = record {
     at j l (inr n) = get_or-set_other old k j (max x y) 0 n ∙ h.done j (omega arith)
 
 -- after the last place the table is finished
-pub summed_done : (q : Camp) (w : Side) (size k : ℕ) (rows : List Placing) (table : List ℕ) → size + 2 ≤ k
-    → IsSummed q w size k rows table → IsPlaceTable q w size rows table
-summed_done q w size k rows table le h = record { count = h.count; each = λ j lt. h.done j (omega arith) }
+pub summed_done : (q : Camp) (w : Side) (size k : ℕ) (rows : List Placing) (table : List ℕ) → wants q w ≡ true
+    → size + 2 ≤ k → IsSummed q w size k rows table → IsPlaceTable q w size rows table
+summed_done q w size k rows table wanted le h = record {
+  count = h.count;
+  each = λ j lt. h.done j (omega arith) ∙ sym (ap (λ t. cond t (most_before q w j rows) 0) wanted);
+}
+
+-- the table of a side that is not wanted is zero everywhere
+pub unwanted : (q : Camp) (w : Side) (size n : ℕ) (rows : List Placing) (table : List ℕ) → wants q w ≡ false
+    → table ≡ replicate n 0 → n ≡ size + 2 → IsPlaceTable q w size rows table
+unwanted q w size n rows table off is e = record {
+  count = ap length is ∙ length-replicate n 0 ∙ e;
+  each = λ k lt. ap (λ l. slice_index_or l k 0) is ∙ get_or-replicate n k 0 0 (omega arith)
+      ∙ sym (ap (λ t. cond t (most_before q w k rows) 0) off);
+}
 
 -- where the two loops of a table begin and end
-pub ruleset table_ends = (scatter_start, summed_done)
+pub ruleset table_ends = (scatter_start, summed_done, unwanted)
 
--- kinds that don't differ are the same
-pub same_kind : (k l : Kind) → not (differ (is_allow k) (is_allow l)) ≡ true → k ≡ l
-same_kind k l h = grind arith
-
--- classes that don't differ are the same
-same_class : (k l : Class) → not (differ (is_users k) (is_users l)) ≡ true → k ≡ l
-same_class k l h = grind arith
-
--- a placing of a camp has that camp
-pub camp_is : (q : Camp) (r : Placing) → is_of_camp q r ≡ true → q ≡ camp_of r
-camp_is q r h = let p = and_parts (not (differ (is_allow q.kind) (is_allow r.here.kind)))
-    (not (differ (is_users q.class) (is_users r.class))) h in
-    ap (λ v. record { kind = v; class = q.class }) (same_kind q.kind r.here.kind p.0)
-    ∙ ap (λ v. record { kind = r.here.kind; class = v }) (same_class q.class r.class p.1)
+-- a number is below another that counts if and only if this counts and the number is below it
+counted_below : (t : Bool) (v x : ℕ) → nat_lt v (cond t x 0) ≡ (t && nat_lt v x)
+counted_below true v x = refl
+counted_below false v x = le-ltb v 0 (omega arith)
 
 -- a placing of a camp inverts another if and only if one of the camp's two tables is over its place
-pub by_camp : (q : Camp) (size : ℕ) (rows : List Placing) (r : Placing) (forward back : List ℕ)
-    → is_of_camp q r ≡ true
-    → IsPlacingWithin size r → IsPlaceTable q Here size rows forward → IsPlaceTable q There size rows back
-    → inverts_any r rows ≡ (nat_lt r.there.place (slice_index_or forward r.here.place 0) || nat_lt r.here.place
-    (slice_index_or back r.there.place 0))
-by_camp q size rows r forward back k p f b =
-    let own = camp_is q r k in
+by_camp : (q : Camp) (size : ℕ) (rows : List Placing) (r : Placing) (forward back : List ℕ) → is_of_camp q r ≡ true
+    → SameAlone q.direction r → AllByRecursion (SameAlone q.direction) rows → IsPlacingWithin size r
+    → IsPlaceTable q Here size rows forward → IsPlaceTable q There size rows back
+    → inverts_any q.direction r rows ≡ (nat_lt r.there.place (slice_index_or forward r.here.place 0)
+    || nat_lt r.here.place (slice_index_or back r.there.place 0))
+by_camp q size rows r forward back k u all p f b =
     let here_in = p.here in
     let there_in = p.there in
-    inverts_by_tables r rows (slice_index_or forward r.here.place 0) (slice_index_or back r.there.place 0)
-    (f.each r.here.place (omega arith) ∙ ap (λ v. most_before v Here r.here.place rows) own)
-    (b.each r.there.place (omega arith) ∙ ap (λ v. most_before v There r.there.place rows) own)
+    inverts_is q r rows k u all
+    ∙ rw (
+      f.each r.here.place (omega arith),
+      b.each r.there.place (omega arith),
+      counted_below (wants q Here) r.there.place (most_before q Here r.here.place rows),
+      counted_below (wants q There) r.here.place (most_before q There r.there.place rows),
+      over_is q Here r.here.place r.there.place rows,
+      over_is q There r.there.place r.here.place rows,
+    ) refl
 
 -- a placing that the tables report inverts another
-pub found_true : (q : Camp) (size : ℕ) (rows : List Placing) (r : Placing) (forward back : List ℕ) (t : Bool)
-    → t ≡ is_inverting q r forward back → t ≡ true → IsPlacingWithin size r → IsPlaceTable q Here size rows forward
-    → IsPlaceTable q There size rows back → inverts_any r rows ≡ true
-found_true q size rows r forward back t h e p f b =
+found_true : (q : Camp) (size : ℕ) (rows : List Placing) (r : Placing) (forward back : List ℕ) (t : Bool)
+    → t ≡ is_inverting q r forward back → t ≡ true → SameAlone q.direction r
+    → AllByRecursion (SameAlone q.direction) rows → IsPlacingWithin size r → IsPlaceTable q Here size rows forward
+    → IsPlaceTable q There size rows back → inverts_any q.direction r rows ≡ true
+found_true q size rows r forward back t h e u all p f b =
     let parts = and_parts (is_of_camp q r)
     (nat_lt r.there.place (slice_index_or forward r.here.place 0) || nat_lt r.here.place
     (slice_index_or back r.there.place 0)) (sym h ∙ e) in
-    by_camp q size rows r forward back parts.0 p f b ∙ parts.1
+    by_camp q size rows r forward back parts.0 u all p f b ∙ parts.1
 
 -- a placing of the camp that the tables do not report inverts none
-pub found_false : (q : Camp) (size : ℕ) (rows : List Placing) (r : Placing) (forward back : List ℕ) (t : Bool)
-    → t ≡ is_inverting q r forward back → t ≡ false → IsPlacingWithin size r → IsPlaceTable q Here size rows forward
-    → IsPlaceTable q There size rows back → is_of_camp q r ≡ true → inverts_any r rows ≡ false
-found_false q size rows r forward back t h e p f b k =
-    by_camp q size rows r forward back k p f b
+found_false : (q : Camp) (size : ℕ) (rows : List Placing) (r : Placing) (forward back : List ℕ) (t : Bool)
+    → t ≡ is_inverting q r forward back → t ≡ false → SameAlone q.direction r
+    → AllByRecursion (SameAlone q.direction) rows → IsPlacingWithin size r → IsPlaceTable q Here size rows forward
+    → IsPlaceTable q There size rows back → is_of_camp q r ≡ true → inverts_any q.direction r rows ≡ false
+found_false q size rows r forward back t h e u all p f b k =
+    by_camp q size rows r forward back k u all p f b
     ∙ sym (ap (λ v. v && (nat_lt r.there.place (slice_index_or forward r.here.place 0) || nat_lt r.here.place
     (slice_index_or back r.there.place 0))) k)
     ∙ sym h ∙ e
@@ -338,13 +378,15 @@ pub ruleset first_below = (found_below, passed_below, none_below)
 pub first_of_camp : {q : Camp} {size limit k : ℕ} {rows : List Placing} {forward back fs bs : List ℕ} {t : Bool}
     → k < limit → limit ≤ length rows
     → ((j : ℕ) → j < k → is_of_camp q (slice_index_or rows j no_placing) ≡ true
-    → inverts_any (slice_index_or rows j no_placing) rows ≡ false) → AllByRecursion (IsPlacingWithin size) rows
+    → inverts_any q.direction (slice_index_or rows j no_placing) rows ≡ false)
+    → AllByRecursion (SameAlone q.direction) rows → AllByRecursion (IsPlacingWithin size) rows
     → IsPlaceTable q Here size rows forward → IsPlaceTable q There size rows back → fs ≡ forward → bs ≡ back
     → t ≡ is_inverting q (slice_index_or rows k no_placing) fs bs → t ≡ true → IsFirstOf q rows limit k
-first_of_camp {q} {size} {limit} {k} {rows} {forward} {back} {fs} {bs} {t} lt le before places f b fe be h e = record {
+first_of_camp {q} {size} {limit} {k} {rows} {forward} {back} {fs} {bs} {t} lt le before alone places f b fe be h e = record {
   within = omega arith;
   before = before;
   at = λ _. found_true q size rows (slice_index_or rows k no_placing) fs bs t h e
+      (all_at (SameAlone q.direction) rows k no_placing (omega arith) alone) alone
       (all_at (IsPlacingWithin size) rows k no_placing (omega arith) places)
       (subst (λ v. IsPlaceTable q Here size rows v) (sym fe) f)
       (subst (λ v. IsPlaceTable q There size rows v) (sym be) b);
@@ -352,15 +394,76 @@ first_of_camp {q} {size} {limit} {k} {rows} {forward} {back} {fs} {bs} {t} lt le
 
 -- a placing of the camp that the code's tables do not report inverts none
 pub not_of_camp : {q : Camp} {size k : ℕ} {rows : List Placing} {forward back fs bs : List ℕ} {t : Bool}
-    → k < length rows → AllByRecursion (IsPlacingWithin size) rows → IsPlaceTable q Here size rows forward
-    → IsPlaceTable q There size rows back → fs ≡ forward → bs ≡ back
+    → k < length rows → AllByRecursion (SameAlone q.direction) rows → AllByRecursion (IsPlacingWithin size) rows
+    → IsPlaceTable q Here size rows forward → IsPlaceTable q There size rows back → fs ≡ forward → bs ≡ back
     → t ≡ is_inverting q (slice_index_or rows k no_placing) fs bs → t ≡ false
     → is_of_camp q (slice_index_or rows k no_placing) ≡ true
-    → inverts_any (slice_index_or rows k no_placing) rows ≡ false
-not_of_camp {q} {size} {k} {rows} {forward} {back} {fs} {bs} {t} lt places f b fe be h e =
+    → inverts_any q.direction (slice_index_or rows k no_placing) rows ≡ false
+not_of_camp {q} {size} {k} {rows} {forward} {back} {fs} {bs} {t} lt alone places f b fe be h e =
     found_false q size rows (slice_index_or rows k no_placing) fs bs t h e
+    (all_at (SameAlone q.direction) rows k no_placing lt alone) alone
     (all_at (IsPlacingWithin size) rows k no_placing lt places)
     (subst (λ v. IsPlaceTable q Here size rows v) (sym fe) f) (subst (λ v. IsPlaceTable q There size rows v) (sym be) b)
+
+-- the first below a limit, of those that pass a test, that inverts another
+record IsFirstAmong (way : Direction) (test : Placing → Bool) (rows : List Placing) (limit first : ℕ) : Type 0 where
+  pub within : first ≤ limit
+  pub before : (k : ℕ) → k < first → test (slice_index_or rows k no_placing) ≡ true
+      → inverts_any way (slice_index_or rows k no_placing) rows ≡ false
+  pub at : first < limit → inverts_any way (slice_index_or rows first no_placing) rows ≡ true
+
+-- the first of a camp, below the first of some, is the first of these and the camp
+with_camp : {way : Direction} {test : Placing → Bool} {rows : List Placing} {limit most first : ℕ} (q : Camp)
+    → q.direction ≡ way → IsFirstAmong way test rows limit most → IsFirstOf q rows most first
+    → IsFirstAmong way (λ r. is_of_camp q r || test r) rows limit first
+with_camp {way} {test} {rows} {limit} {most} {first} q own some next = record {
+  within = omega (arith, some.within, next.within);
+  before = λ k l h. elim (or_cases (is_of_camp q (slice_index_or rows k no_placing)) _ h) [
+    | inl e ↦ subst (λ v. inverts_any v (slice_index_or rows k no_placing) rows ≡ false) own (next.before k l e)
+    | inr e ↦ some.before k (omega (arith, l, next.within)) e
+  ];
+  at = λ l. elim (cases_lt first most) [
+    | inl less ↦ subst (λ v. inverts_any v (slice_index_or rows first no_placing) rows ≡ true) own (next.at less)
+    | inr past ↦ let e : most ≡ first = omega (arith, past, next.within) in
+        subst (λ v. inverts_any way (slice_index_or rows v no_placing) rows ≡ true) e (some.at (omega (arith, l, e)))
+  ];
+}
+
+-- the first of the four camps, one after the other, is the first of all
+pub first_of_four : (way : Direction) (rows : List Placing) (limit a b c d : ℕ) → limit ≤ length rows
+    → AllByRecursion (SameAlone way) rows → IsFirstOf (camp_of way Allow Users) rows limit a
+    → IsFirstOf (camp_of way Allow Others) rows a b → IsFirstOf (camp_of way Deny Users) rows b c
+    → IsFirstOf (camp_of way Deny Others) rows c d → IsFirstBelow (λ r. inverts_any way r rows) rows limit d
+first_of_four way rows limit a b c d le alone ha hb hc hd = record {
+  within = all.within;
+  before = λ k l. go k l (in_camp (slice_index_or rows k no_placing)) refl;
+  at = all.at;
+}
+  where
+    in_camp : Placing → Bool
+    in_camp r = is_of_camp (camp_of way Deny Others) r || (is_of_camp (camp_of way Deny Users) r
+        || (is_of_camp (camp_of way Allow Others) r || (is_of_camp (camp_of way Allow Users) r || false)))
+
+    start : IsFirstAmong way (λ r. false) rows limit limit
+    start = record { within = omega arith; before = λ k l h. absurd (false≢true h); at = λ l. absurd (omega arith) }
+
+    all : IsFirstAmong way in_camp rows limit d
+    all = with_camp (camp_of way Deny Others) refl (with_camp (camp_of way Deny Users) refl
+        (with_camp (camp_of way Allow Others) refl (with_camp (camp_of way Allow Users) refl start ha) hb) hc) hd
+
+    no_kind : (rh rt u : Bool) → ((not rt && not (differ false u)) || ((not rt && not (differ true u))
+        || ((rh && not (differ false u)) || ((rh && not (differ true u)) || false)))) ≡ false
+        → (rh ≡ false) × (not rt ≡ false)
+    no_kind rh rt u h = (grind arith, grind arith)
+
+    go : (k : ℕ) → k < d → (t : Bool) → in_camp (slice_index_or rows k no_placing) ≡ t
+        → inverts_any way (slice_index_or rows k no_placing) rows ≡ false
+    go k l true e = all.before k l e
+    go k l false e =
+        let r : Placing = slice_index_or rows k no_placing in
+        let none = no_kind (is_allow r.here.kind) (is_allow r.there.kind) (is_users r.class) e in
+        outside way r rows (all_at (SameAlone way) rows k no_placing (omega (arith, l, all.within)) alone) none.0 none.1
+        alone
 
 -- a placing raises the table, or leaves it
 pub ruleset raising = (raises_set, raises_none)

@@ -1,5 +1,5 @@
 -- The first key of a column that passes a test.
-use Rattle.acl_normal.proofs.Common.{[], AllByRecursion, ap, arith, Bool, Column, Deny, everyone, false, first_kind, is_either, is_either_or_everyone, IsAlike, Kind, matches, may_overlap, None, Option, Principal, refl, Situation, Some, sym, true, unwrap_or, verdict, ◌++◌, ◌∙◌, ◌∷◌, ◌≡◌}
+use Rattle.acl_normal.proofs.Common.{[], AllByRecursion, ap, arith, Bool, Column, Deny, everyone, false, first_kind, is_either, is_either_or_everyone, IsAlike, Kind, matches, may_overlap, None, Option, Principal, refl, Situation, Some, subst, sym, true, unwrap_or, verdict, ◌++◌, ◌∙◌, ◌∷◌, ◌≡◌}
 use Rattle.acl_normal.proofs.Each.{at_split}
 use Rattle.acl_normal.proofs.unique.Names.{either_first, either_or_everyone_within, either_second, either_within, or_everyone_first, or_everyone_second}
 use Rattle.acl_normal.proofs.unique.Columns.{HasOnly}
@@ -139,13 +139,53 @@ abbrev pub AgreeWhere : (Principal → Type 0) → Column → Column → Type 0
 AgreeWhere P c d = (p q : Principal) → P p → P q → may_overlap p q ≡ true
     → verdict (is_either_or_everyone p q) c ≡ verdict (is_either_or_everyone p q) d
 
--- columns that agree at their own pairs agree at every clique with everyone
+-- a principal that decides a column under a test: each narrower test that it passes finds the same
+pub record Decider (P : Principal → Type 0) (m : Principal → Bool) (c : Column) : Type 0 where
+  pub principal : Principal
+  pub is : P principal
+  pub passes : m principal ≡ true
+  pub kept : (n : Principal → Bool) → n principal ≡ true → IsNarrower n m → first_kind n c ≡ first_kind m c
+
+-- under a test that everyone passes, a principal of the column decides, or everyone
+decider_of : (P : Principal → Type 0) (m : Principal → Bool) (c : Column) → P everyone → m everyone ≡ true → HasOnly P c
+    → Decider P m c
+decider_of P m c pe me only = go (first_kind m c) refl
+  where
+    go : (x : Option Kind) → first_kind m c ≡ x → Decider P m c
+    go None h = record {
+      principal = everyone;
+      is = pe;
+      passes = me;
+      kept = λ n t w. none_within m n c h w ∙ sym h;
+    }
+    go (Some k) h =
+        let s = splits_at m c k h in
+        record {
+          principal = s.principal;
+          is = only_at P c s.before s.after s.principal k s.is only;
+          passes = s.passes;
+          kept = λ n t w. first_within m n c k s t w ∙ sym h;
+        }
+
+-- what relates the answers of two columns at each two overlapping principals with P, together with everyone, relates
+-- their answers at every clique with everyone
+pub cliques_relate : (R : Kind → Kind → Type 0) (P : Principal → Type 0) (m : Principal → Bool) (c d : Column)
+    → IsClique m → m everyone ≡ true → P everyone → HasOnly P c → HasOnly P d
+    → ((p q : Principal) → P p → P q → may_overlap p q ≡ true
+    → R (verdict (is_either_or_everyone p q) c) (verdict (is_either_or_everyone p q) d)) → R (verdict m c) (verdict m d)
+cliques_relate R P m c d clique me pe oc od related =
+    let s = decider_of P m c pe me oc in
+    let t = decider_of P m d pe me od in
+    let p : Principal = s.principal in
+    let q : Principal = t.principal in
+    let w : IsNarrower (is_either_or_everyone p q) m =
+    λ x. either_or_everyone_within m p q s.passes t.passes me x in
+    subst (λ v. R (unwrap_or v Deny) (verdict m d)) (s.kept (is_either_or_everyone p q) (or_everyone_first p q) w)
+    (subst (λ v. R (verdict (is_either_or_everyone p q) c) (unwrap_or v Deny))
+    (t.kept (is_either_or_everyone p q) (or_everyone_second p q) w)
+    (related p q s.is t.is (clique p q s.passes t.passes)))
+
+-- columns that agree at each two overlapping principals agree at every clique with everyone
 pub cliques_agree : (P : Principal → Type 0) (m : Principal → Bool) (c d : Column) → IsClique m → m everyone ≡ true
-    → HasOnly P c → HasOnly P d → AgreeWhere P c d → verdict m c ≡ verdict m d
-cliques_agree P m c d q e oc od a =
-    own_pairs_agree (λ o. unwrap_or o Deny) is_either_or_everyone m
-    (record {
-      within = λ p r h i. either_or_everyone_within m p r h i e;
-      first = or_everyone_first;
-      second = or_everyone_second;
-    }) P c d oc od (λ p r hp hr i j. a p r hp hr (q p r i j))
+    → P everyone → HasOnly P c → HasOnly P d → AgreeWhere P c d → verdict m c ≡ verdict m d
+cliques_agree = cliques_relate (λ k l. k ≡ l)

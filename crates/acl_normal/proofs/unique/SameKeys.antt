@@ -82,7 +82,7 @@ kind_present c d p q k irr names agree h i = go (splits_at (is_either p q) c k h
             (first_within (is_either p q) (is_either x x) c k s (either_first x x) w))
             (subst (λ v. first_kind (is_either v v) d ≡ None) is missing)
         by false e = irr s.before (x, k) s.after s.is (λ v valid.
-            cliques_agree HasName (matches v) c (without_principal x c) (clique_of v) refl names
+            cliques_agree HasName (matches v) c (without_principal x c) (clique_of v) refl tt names
             (names_without HasName x c names) (lost_agrees c d x e agree missing)
             ∙ ap (verdict (matches v)) (without_key c s.before s.after x k (once_from_clean c (irreducible_clean c irr)) s.is))
 

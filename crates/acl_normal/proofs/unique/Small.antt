@@ -1,7 +1,7 @@
--- Small situations suffice to compare columns.
-use Rattle.acl_normal.proofs.Common.{[], ap, arith, Bool, Column, Deny, Equal, everyone, false, false≢true, Greater, inl, inr, is_among, is_either_or_everyone, length, Less, List, matches, may_overlap, or_cases, or_left, Ordering, Principal, principal_cmp, principal_eq, principal_exact, principal_name, refl, SameVerdicts, small_situation, sym, true, unwrap_or, user, verdict, ℕ, ⊎_elim, ◌<◌, ◌∙◌, ◌∷◌, ◌≡◌, ◌⊎◌}
+-- Small situations suffice for any relation of what two columns answer.
+use Rattle.acl_normal.proofs.Common.{[], arith, Bool, Column, Deny, Equal, everyone, false, false≢true, Greater, inl, inr, is_among, is_either_or_everyone, length, Less, List, matches, may_overlap, or_cases, or_left, Ordering, Principal, principal_cmp, principal_eq, principal_exact, principal_name, refl, Kind, Situation, small_situation, subst, sym, true, unwrap_or, user, verdict, ℕ, ⊎_elim, ◌<◌, ◌∙◌, ◌∷◌, ◌≡◌, ◌⊎◌}
 use Rattle.acl_normal.proofs.unique.Names.{principal_eq_same, overlaps_itself, overlaps_back, longest_name}
-use Rattle.acl_normal.proofs.unique.FirstKind.{clique_of, cliques_agree}
+use Rattle.acl_normal.proofs.unique.FirstKind.{clique_of, cliques_relate}
 use Rattle.acl_normal.proofs.unique.Realised.{AreShort, one_user, small_matches, first_kind_alike, HasOneUser, everyone_moved}
 use Rattle.acl_normal.proofs.comparison.Ordered.{principal_greater}
 use Rattle.acl_normal.proofs.unique.Columns.{HasOnly}
@@ -97,21 +97,23 @@ has_cover P p q n hp hq sp sq o = go (principal_eq p everyone) refl (principal_e
       same = λ r. both_turned p q r;
     }
 
--- columns that agree in each small situation of their principals agree in every situation
-pub small_suffice : (P : Principal → Type 0) (n : ℕ) (c d : Column) → HasOnly P c → HasOnly P d → 0 < n
-    → longest_name c < n → longest_name d < n → ((p : Principal) → P p → length (principal_name p) < n)
-    → ((ps : List Principal) → IsSmallSet P ps → verdict (matches (small_situation n ps)) c ≡ verdict
-    (matches (small_situation n ps)) d) → SameVerdicts c d
-small_suffice P n c d oc od pos lc ld short small s valid =
-    cliques_agree P (matches s) c d (clique_of s) refl oc od
+-- what relates the answers of two columns in each small situation of their principals relates them in every situation
+pub small_relate : (R : Kind → Kind → Type 0) (P : Principal → Type 0) (n : ℕ) (c d : Column) → P everyone
+    → HasOnly P c → HasOnly P d → 0 < n → longest_name c < n → longest_name d < n
+    → ((p : Principal) → P p → length (principal_name p) < n)
+    → ((ps : List Principal) → IsSmallSet P ps → R (verdict (matches (small_situation n ps)) c)
+    (verdict (matches (small_situation n ps)) d)) → (s : Situation) → R (verdict (matches s) c) (verdict (matches s) d)
+small_relate R P n c d pe oc od pos lc ld short small s =
+    cliques_relate R P (matches s) c d (clique_of s) refl pe oc od
     (λ p q hp hq o. at p q (has_cover P p q n hp hq (short p hp) (short q hq) o))
   where
     at : (p q : Principal) → Covers P p q n
-        → verdict (is_either_or_everyone p q) c ≡ verdict (is_either_or_everyone p q) d
+        → R (verdict (is_either_or_everyone p q) c) (verdict (is_either_or_everyone p q) d)
     at p q h =
         let m = matches (small_situation n h.set) in
         let same : (r : Principal) → length (principal_name r) < n → m r ≡ is_either_or_everyone p q r =
         λ r l. small_matches n h.set h.short h.one_user pos r l ∙ h.same r in
-        sym (ap (λ o. unwrap_or o Deny) (first_kind_alike m (is_either_or_everyone p q) c n same lc))
-        ∙ small h.set h.small
-        ∙ ap (λ o. unwrap_or o Deny) (first_kind_alike m (is_either_or_everyone p q) d n same ld)
+        subst (λ v. R (unwrap_or v Deny) (verdict (is_either_or_everyone p q) d))
+        (first_kind_alike m (is_either_or_everyone p q) c n same lc)
+        (subst (λ v. R (verdict m c) (unwrap_or v Deny)) (first_kind_alike m (is_either_or_everyone p q) d n same ld)
+        (small h.set h.small))

@@ -4,6 +4,8 @@
 pub mod CodeSets
 -- how the fields of a comparison relate to the two lists
 pub mod Compared
+-- the directions in which two lists are compared
+pub mod Directions
 -- where two lists first mention each principal, and what they say there
 pub mod FirstPlaces
 -- sets of principals by their numbers

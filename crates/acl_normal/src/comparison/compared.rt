@@ -1,12 +1,14 @@
 //! Two lists that are compared. What the search needs again and again is computed once: which principals the lists
 //! mention, which of these each ACE names, and on which rights the lists may differ.
 ghost use Rattle.std.specs.Prelude.{◌<◌, ◌≡◌};
-ghost use Rattle.acl_normal.specs.Common.{AreAlikeTo, AreMentioned, AreNumbered, IfOk, IsGrantedTo, OnFalse, OnTrue, [], aces_in, all_mentioned, all_rights, false, has_bit, length, members_of, principal, set_of, true, two_lists};
+ghost use Rattle.acl_normal.specs.Common.{AreAlikeTo, AreMentioned, AreNumbered, IfOk, IsGrantedTo, OnFalse, OnTrue, [], aces_in, all_mentioned, all_rights, false, has_bit, length, members_of, principal, set_of, true, two_lists, ℕ};
+ghost use Rattle.acl_normal.specs.internal.comparison.Directions.{differ_in};
 ghost use Rattle.acl_normal.specs.internal.comparison.TwoLists.{AreWithin, HaveSameColumn, ArePlacingsOf, principal_at};
 ghost use Rattle.acl_normal.specs.internal.Limits.{slice_limit};
 
 use super::apart::rights_apart;
-use super::evaluation::{granted_to, unlike};
+use super::direction::Direction;
+use super::evaluation::granted_to;
 use super::members::Members;
 use super::mentioned::Mentions;
 use super::placing::{Placing, Whom, firsts};
@@ -18,9 +20,12 @@ use acl_perm::{Mask, Principal};
 use std::alloc::{AllocError, Global};
 use std::marker::Model;
 
-/// Two lists that are compared. Clauses mention only the two lists, because all other fields follow from them.
+/// Two lists that are compared in a direction. Clauses mention only the direction and the two lists, because all other
+/// fields follow from the lists.
 #[derive(Drop)]
 pub(crate) struct Compared<'a, 'b> {
+    /// Which differences the search looks for.
+    pub(crate) direction: Direction,
     pub(crate) first: &'b [AceRef<'a>],
     pub(crate) second: &'b [AceRef<'a>],
     /// The principals that the lists mention, in order.
@@ -35,6 +40,7 @@ pub(crate) struct Compared<'a, 'b> {
 
 impl<'a, 'b> Model for Compared<'a, 'b> {
     ghost use Rattle.acl_normal.specs.internal.comparison.Compared.{IsCompared, lists_in};
+    ghost use Rattle.acl_normal.specs.internal.comparison.Directions.{differ_in};
     ghost use Rattle.acl_normal.specs.internal.comparison.TwoLists.{TwoLists};
 
     ghost Value = { TwoLists };
@@ -45,18 +51,20 @@ impl<'a, 'b> Model for Compared<'a, 'b> {
 }
 
 impl<'a, 'b> Compared<'a, 'b> {
-    /// Prepares two lists for the search. `mentions` has the principals that they mention.
+    /// Prepares two lists for the search in a direction. `mentions` has the principals that the lists mention.
     #[tactic(auto, using(crate::proofs::comparison::MentionedWhoms::compared_parts))]
     pub(crate) fn of(
+        direction: Direction,
         first: &'b [AceRef<'a>],
         second: &'b [AceRef<'a>],
         mentions: &'b Mentions<'a>,
     ) -> Compared<'a, 'b>
-        requires { AreMentioned (two_lists (aces_in first.now) (aces_in second.now)) mentions.now }
-        ensures { result ≡ two_lists (aces_in first.now) (aces_in second.now) }
+        requires { AreMentioned (aces_in first.now) (aces_in second.now) mentions.now }
+        ensures { result ≡ two_lists direction (aces_in first.now) (aces_in second.now) }
     {
         let (first_whoms, second_whoms) = mentions.whoms.as_slice().split_at(first.len());
         Compared {
+            direction,
             first,
             second,
             mentioned: mentions.principals.as_slice(),
@@ -110,18 +118,27 @@ impl<'a, 'b> Compared<'a, 'b> {
         right.is_in(self.apart)
     }
 
-    /// Returns whether the lists grant the same if only everyone matches, and no principal that they mention.
+    /// Returns whether the lists do not differ in the direction if only everyone matches, and no principal that they
+    /// mention.
     pub(crate) fn grant_strangers_alike(&self) -> bool
         ensures alike { OnTrue result (AreAlikeTo self.now []) }
         ensures differ { OnFalse result (AreAlikeTo self.now [] → ⊥) }
     {
         let nobody = Members::Nobody;
-        unlike(
+        self.differing(
             self.granted_by_first(nobody),
             self.granted_by_second(nobody),
         )
         .bits()
             == 0
+    }
+
+    /// Returns the rights on which the answers of the lists differ in the direction, given the rights that each grants.
+    pub(crate) fn differing(&self, here: Mask, there: Mask) -> Mask
+        ensures { (bit : ℕ) → has_bit result.bits bit
+            ≡ differ_in self.now.direction (has_bit here.bits bit) (has_bit there.bits bit) }
+    {
+        self.direction.differing(here, there)
     }
 
     /// Returns the rights that the first list grants if only the principals with these numbers match, and everyone.

@@ -1,11 +1,13 @@
 //! The comparison of two lists: the first small situation in which one grants a right that the other denies.
 ghost use Rattle.std.specs.Prelude.{◌↔◌, ◌≡◌, IsNone};
-ghost use Rattle.acl_normal.specs.Common.{all_rights, IfOk, IfSome, IsOk, SameGrants};
-ghost use Rattle.acl_normal.specs.Difference.{IsComparison, situation_of};
+ghost use Rattle.acl_normal.specs.Common.{all_rights, IfOk, IfSome, IsOk, SameGrants, two_lists};
+ghost use Rattle.acl_normal.specs.Difference.{situation_of};
 ghost use Rattle.acl_normal.specs.SmallSets.{IsFirstDifference, TellsApart};
+ghost use Rattle.acl_normal.specs.internal.comparison.TwoLists.{IsSearched};
 
 use super::Difference;
 use super::compared::Compared;
+use super::direction::Direction;
 use super::mentioned::mentioned;
 use crate::reduce::collected::collect;
 use acl_nfs4::{Acl, AclView};
@@ -60,21 +62,23 @@ pub fn compare_views(
     ensures requester { IfOk result (λ r. IfSome r (λ d. TellsApart first.now second.now
         (situation_of d) d.bit.bits d.first_grants)) }
 {
-    first_difference(alloc, first, second)
+    searched(alloc, Direction::Either, first, second)
 }
 
-// The first difference of two lists. They are borrowed for the same lifetime, because one value holds both.
-fn first_difference<'a>(
+/// Returns the first small situation in which two lists differ in a direction. The lists are borrowed for the same
+/// lifetime, because one value holds both.
+pub(crate) fn searched<'a>(
     alloc: Global,
+    direction: Direction,
     first: &AclView<'a>,
     second: &AclView<'a>,
 ) -> Result<Option<Difference>, AllocError>
-    ensures { IfOk result (IsComparison first.now second.now) }
+    ensures { IfOk result (IsSearched (two_lists direction first.now second.now)) }
 {
     let list = collect(alloc, first)?;
     let other = collect(alloc, second)?;
     let mentions = mentioned(alloc, &list, &other)?;
-    let compared = Compared::of(&list, &other, &mentions);
+    let compared = Compared::of(direction, &list, &other, &mentions);
     let found = compared.first_set(alloc)?;
     compared.difference_of(alloc, found)
 }

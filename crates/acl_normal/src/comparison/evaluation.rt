@@ -3,21 +3,13 @@ ghost use Rattle.std.specs.Prelude.{◌&&◌, ◌^◌, ◌≡◌, ◌≢◌};
 ghost use Rattle.acl_normal.specs.Common.{ace, aces_in, AreNumbered, AreWhoms, has_bit, is_matched, IsGrantedTo, IsLowest, length, List, members_of, not, Principal, set_of, ℕ};
 ghost use Rattle.std.specs.Int.{trailing_zeros, w32};
 ghost use Rattle.acl_perm.specs.Kind.{is_allow};
-ghost use Rattle.acl_normal.specs.internal.comparison.SetSearch.{AreRightsOf, HasBitsOf, differ};
+ghost use Rattle.acl_normal.specs.internal.comparison.SetSearch.{AreRightsOf, HasBitsOf};
 
 use super::members::Members;
 use super::placing::Whom;
 use super::small_set::SmallSet;
 use acl_nfs4::AceRef;
 use acl_perm::{Kind, Mask};
-
-/// Returns the rights that exactly one of the masks has.
-pub(crate) fn unlike(here: Mask, there: Mask) -> Mask
-    ensures { (bit : ℕ) → has_bit result.bits bit
-        ≡ differ (has_bit here.bits bit) (has_bit there.bits bit) }
-{
-    here.difference(there).union(there.difference(here))
-}
 
 /// Returns the rights that a list grants if only the principals of a set match, and everyone.
 pub(crate) fn granted(list: &[AceRef<'_>], set: SmallSet<'_>) -> Mask

@@ -1,25 +1,26 @@
 //! The search for principals that two lists name in opposite orders. Tables save a test of each pair of principals.
 ghost use Rattle.std.specs.Prelude.{◌&&◌, ◌+◌, ◌<◌, ◌≡◌, ◌≤◌};
 ghost use Rattle.acl_normal.specs.Common.{AllByRecursion, IfOk, is_users, length, not, true, vec_len};
-ghost use Rattle.acl_normal.specs.internal.comparison.FirstPlaces.{IsFirstBelow, inverts, inverts_any, is_unlike};
-ghost use Rattle.acl_normal.specs.internal.comparison.PlaceTables.{HasNone, IsPlacingWithin, IsFirstOf, IsPlaceTable, Raises, is_counted, is_inverting, is_of_camp, other_place, place_of};
+ghost use Rattle.acl_normal.specs.internal.comparison.FirstPlaces.{IsFirstBelow, SameAlone, earlier_allows, inverts, inverts_any, is_unlike};
+ghost use Rattle.acl_normal.specs.internal.comparison.PlaceTables.{HasNone, IsPlacingWithin, IsFirstOf, IsPlaceTable, Raises, camp_of, has_kind, is_counted, is_inverting, is_of_camp, other_place, place_of, wants};
 ghost use Rattle.acl_normal.specs.internal.Limits.{slice_limit};
 
-use super::placing::Placing;
+use super::direction::Direction;
+use super::placing::{First, Placing};
 use crate::class::Class;
 use acl_perm::Kind;
 use std::alloc::{AllocError, Global};
 
-/// Returns the number of the first principal, below a limit, to whom alone one list grants the right and the other does
-/// not, or the limit.
+/// Returns the number of the first principal, below a limit, for whom alone the lists differ in the direction, or the
+/// limit.
 #[tactic(auto, using(crate::proofs::comparison::TableFacts::first_below))]
-pub(crate) fn first_unlike(placings: &[Placing], limit: usize) -> usize
+pub(crate) fn first_unlike(direction: Direction, placings: &[Placing], limit: usize) -> usize
     requires { limit ≤ length placings.now }
-    ensures { IsFirstBelow is_unlike placings.now limit result }
+    ensures { IsFirstBelow (is_unlike direction) placings.now limit result }
 {
     let (near, _) = placings.split_at(limit);
     for (k, placing) in near.iter().enumerate() {
-        if placing.is_unlike() {
+        if placing.is_unlike(direction) {
             return k;
         }
     }
@@ -27,10 +28,11 @@ pub(crate) fn first_unlike(placings: &[Placing], limit: usize) -> usize
 }
 
 /// Returns the number of the first principal, below a limit, that comes before another in one list and not in the
-/// other, or the limit. There is one search for each camp, because the tables of a camp have only principals of the
-/// other kind.
+/// other, so that the lists differ in the direction for both together; or the limit. There is one search for each camp,
+/// because the tables of a camp have only principals of the other kind.
 pub(crate) fn first_inverting(
     alloc: Global,
+    direction: Direction,
     placings: &[Placing],
     size: usize,
     limit: usize,
@@ -38,12 +40,17 @@ pub(crate) fn first_inverting(
     requires limit { limit ≤ length placings.now }
     requires places { AllByRecursion (IsPlacingWithin size) placings.now }
     requires size { size < slice_limit }
-    ensures { IfOk result (IsFirstBelow (λ r. inverts_any r placings.now) placings.now limit) }
+    requires alone { AllByRecursion (SameAlone direction) placings.now }
+    ensures { IfOk result (IsFirstBelow (λ r. inverts_any direction r placings.now) placings.now limit) }
 {
-    let allowed_users = first_of(alloc, placings, size, limit, Camp::ALLOWED_USERS)?;
-    let allowed = first_of(alloc, placings, size, allowed_users, Camp::ALLOWED_OTHERS)?;
-    let users = first_of(alloc, placings, size, allowed, Camp::DENIED_USERS)?;
-    first_of(alloc, placings, size, users, Camp::DENIED_OTHERS)
+    let camp = Camp::of(direction, Kind::Allow, Class::Users);
+    let allowed_users = first_of(alloc, placings, size, limit, camp)?;
+    let camp = Camp::of(direction, Kind::Allow, Class::Others);
+    let allowed = first_of(alloc, placings, size, allowed_users, camp)?;
+    let camp = Camp::of(direction, Kind::Deny, Class::Users);
+    let users = first_of(alloc, placings, size, allowed, camp)?;
+    let camp = Camp::of(direction, Kind::Deny, Class::Others);
+    first_of(alloc, placings, size, users, camp)
 }
 
 // The number of the first principal of a camp, below a limit, that inverts another principal, or the limit.
@@ -57,6 +64,7 @@ fn first_of(
     requires limit { limit ≤ length placings.now }
     requires places { AllByRecursion (IsPlacingWithin size) placings.now }
     requires size { size < slice_limit }
+    requires alone { AllByRecursion (SameAlone camp.direction) placings.now }
     ensures { IfOk result (λ v. IsFirstOf camp placings.now limit v) }
 {
     if is_empty_camp(placings, camp) {
@@ -84,37 +92,42 @@ fn is_empty_camp(placings: &[Placing], camp: Camp) -> bool
     true
 }
 
-/// A camp of principals: those of a class whose first ACE is of a kind.
+/// A camp of principals: those of a class for whom the first ACE of both lists is of a kind. The principals that both
+/// lists treat differently are in no camp: they make no difference with another one in the direction.
 #[derive(Clone, Copy)]
 pub(crate) struct Camp {
+    pub direction: Direction,
     pub kind: Kind,
     pub class: Class,
 }
 
 impl Camp {
-    const ALLOWED_USERS: Camp = Camp {
-        kind: Kind::Allow,
-        class: Class::Users,
-    };
+    fn of(direction: Direction, kind: Kind, class: Class) -> Camp
+        ensures { result ≡ camp_of direction kind class }
+    {
+        Camp {
+            direction,
+            kind,
+            class,
+        }
+    }
 
-    const ALLOWED_OTHERS: Camp = Camp {
-        kind: Kind::Allow,
-        class: Class::Others,
-    };
-
-    const DENIED_USERS: Camp = Camp {
-        kind: Kind::Deny,
-        class: Class::Users,
-    };
-
-    const DENIED_OTHERS: Camp = Camp {
-        kind: Kind::Deny,
-        class: Class::Others,
-    };
+    // Returns whether the counted principals that come before one of the camp in the list of the side, and not in the
+    // other list, make a difference in the direction.
+    fn wants(self, side: Side) -> bool
+        ensures { result ≡ wants self side }
+    {
+        match (self.direction, self.kind, side) {
+            (Direction::Either, _, _) => true,
+            (Direction::Over, Kind::Allow, Side::There) => true,
+            (Direction::Over, Kind::Deny, Side::Here) => true,
+            _ => false,
+        }
+    }
 }
 
-// By place in one list, one more than the greatest place in the other list of the counted principals before the place.
-// First, only the principals just before each place count.
+// By place in one list, one more than the greatest place in the other list of the counted principals before the place;
+// or zeros if the camp does not want the side. First, only the principals just before each place count.
 #[tactic(auto, using(crate::proofs::comparison::TableFacts::table_ends))]
 fn table(
     alloc: Global,
@@ -128,6 +141,9 @@ fn table(
     ensures { IfOk result (λ v. IsPlaceTable camp side size placings.now v.items) }
 {
     let mut table = vec![in alloc; 0usize; size + 2]?;
+    if !camp.wants(side) {
+        return Ok(table);
+    }
     for placing in placings {
         raise(&mut table, *placing, camp, side);
     }
@@ -163,7 +179,19 @@ fn raise(table: &mut Vec<usize>, placing: Placing, camp: Camp, side: Side)
 fn is_counted(camp: Camp, placing: Placing) -> bool
     ensures { result ≡ is_counted camp placing }
 {
-    may_overlap(camp.class, placing.class) && camp.kind.is_allow() != placing.here.allows()
+    may_overlap(camp.class, placing.class) && has_kind(!camp.kind.is_allow(), placing)
+}
+
+// Returns whether both lists allow (deny) the right to a principal for which they do not differ in the direction: then
+// an ALLOW in the first list is one in both, and a DENY in the second.
+fn has_kind(allowed: bool, placing: Placing) -> bool
+    ensures { result ≡ has_kind allowed placing }
+{
+    if allowed {
+        placing.here.allows()
+    } else {
+        !placing.there.allows()
+    }
 }
 
 // The place of the first ACE that concerns a principal in the list of a side.
@@ -200,32 +228,49 @@ fn is_inverting(placing: Placing, camp: Camp, forward: &[usize], back: &[usize])
 fn is_of_camp(placing: Placing, camp: Camp) -> bool
     ensures { result ≡ is_of_camp camp placing }
 {
-    placing.here.allows() == camp.kind.is_allow()
-        && placing.class.is_users() == camp.class.is_users()
+    has_kind(camp.kind.is_allow(), placing) && placing.class.is_users() == camp.class.is_users()
 }
 
 /// Returns the number of the first of the others, below a limit, that the principal inverts, or the limit.
 #[tactic(auto, using(crate::proofs::comparison::TableFacts::first_below))]
-pub(crate) fn first_inverted(placing: Placing, others: &[Placing], limit: usize) -> usize
+pub(crate) fn first_inverted(
+    direction: Direction,
+    placing: Placing,
+    others: &[Placing],
+    limit: usize,
+) -> usize
     requires { limit ≤ length others.now }
-    ensures { IsFirstBelow (inverts placing) others.now limit result }
+    ensures { IsFirstBelow (inverts direction placing) others.now limit result }
 {
     let (near, _) = others.split_at(limit);
     for (k, other) in near.iter().enumerate() {
-        if is_inverted(placing, *other) {
+        if is_inverted(direction, placing, *other) {
             return k;
         }
     }
     limit
 }
 
-// Returns whether two principals may overlap, have different kinds, and come in different orders in the two lists.
-fn is_inverted(placing: Placing, other: Placing) -> bool
-    ensures { result ≡ inverts placing other }
+// Returns whether two principals may overlap, and the lists differ in the direction for both together.
+fn is_inverted(direction: Direction, placing: Placing, other: Placing) -> bool
+    ensures { result ≡ inverts direction placing other }
 {
     may_overlap(placing.class, other.class)
-        && placing.here.allows() != other.here.allows()
-        && (other.here.place < placing.here.place) != (other.there.place < placing.there.place)
+        && direction.differ(
+            earlier_allows(placing.here, other.here),
+            earlier_allows(placing.there, other.there),
+        )
+}
+
+// Returns whether the first of two ACEs is an ALLOW.
+fn earlier_allows(first: First, other: First) -> bool
+    ensures { result ≡ earlier_allows first other }
+{
+    if other.place < first.place {
+        other.allows()
+    } else {
+        first.allows()
+    }
 }
 
 // Returns whether different principals of two classes may overlap: all but two users may.

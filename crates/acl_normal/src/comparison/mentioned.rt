@@ -1,6 +1,6 @@
 //! The principals that two lists mention, in order and each once. A principal's number is its place among them.
 ghost use Rattle.std.specs.Prelude.{◌++◌, ◌<◌, ◌≡◌};
-ghost use Rattle.acl_normal.specs.Common.{AreMentioned, AreRowNumbers, AreWhoms, IfOk, OnOk, ace, aces_in, length, option_map, principal, principals, slice_index_or, two_lists, vec_len, ℕ};
+ghost use Rattle.acl_normal.specs.Common.{AreMentioned, AreRowNumbers, AreWhoms, IfOk, OnOk, ace, aces_in, length, option_map, principal, principals, slice_index_or, vec_len, ℕ};
 ghost use Rattle.acl_perm.specs.Order.{principal_name};
 ghost use Rattle.acl_normal.specs.SmallSituations.{longest};
 ghost use Rattle.acl_normal.specs.internal.comparison.MentionedRows.{AreByRow, AreMentionedNumbers, AreMentionedRows, AreMentionsOf, mentioned_by, noted, whom_of, with_found};
@@ -29,7 +29,7 @@ pub(crate) fn mentioned<'a>(
     list: &[AceRef<'a>],
     other: &[AceRef<'a>],
 ) -> Result<Mentions<'a>, AllocError>
-    ensures { IfOk result (AreMentioned (two_lists (aces_in list.now) (aces_in other.now))) }
+    ensures { IfOk result (AreMentioned (aces_in list.now) (aces_in other.now)) }
 {
     if let Some(places) = same_places(alloc, list, other)? {
         let mut mentions = mentions_of(alloc, list)?;

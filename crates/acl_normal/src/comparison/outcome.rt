@@ -2,13 +2,12 @@
 ghost use Rattle.std.specs.Prelude.{◌≡◌};
 ghost use Rattle.acl_normal.specs.Common.{all_mentioned, AreAlikeTo, AreNumbered, FindSet, IfOk, IfSome, IsGrantedTo, members_or_none, set_of, set_or_none};
 ghost use Rattle.acl_perm.specs.Situation.{IsSituation};
-ghost use Rattle.acl_normal.specs.Difference.{IsComparison};
 ghost use Rattle.acl_normal.specs.SmallSets.{strange_length};
-ghost use Rattle.acl_normal.specs.internal.comparison.TwoLists.{AreNamed, DifferLowestOn, ShowsSituation, situation_at};
+ghost use Rattle.acl_normal.specs.internal.comparison.TwoLists.{AreNamed, DifferLowestOn, IsSearched, ShowsSituation, situation_at};
 
 use super::Difference;
 use super::compared::Compared;
-use super::evaluation::{granted, lowest, unlike};
+use super::evaluation::{granted, lowest};
 use super::members::Members;
 use super::mentioned::longest_of;
 use super::situation::{groups_in, owner_in, owning_group_in, user_in};
@@ -17,7 +16,7 @@ use acl_perm::Mask;
 use std::alloc::{AllocError, Global};
 
 impl Compared<'_, '_> {
-    /// Returns the result of the comparison, given the first small set at which the lists differ, if there is one.
+    /// Returns the result of the search, given the first small set at which the lists differ, if there is one.
     pub(crate) fn difference(
         &self,
         alloc: Global,
@@ -25,7 +24,7 @@ impl Compared<'_, '_> {
     ) -> Result<Option<Difference>, AllocError>
         requires named { AreNamed self.now }
         requires found { FindSet self.now (set_or_none found) }
-        ensures { IfOk result (IsComparison self.now.first self.now.second) }
+        ensures { IfOk result (IsSearched self.now) }
     {
         match found {
             None => Ok(None),
@@ -37,7 +36,7 @@ impl Compared<'_, '_> {
         }
     }
 
-    /// Returns the result of the comparison as `difference` does, but takes the set by the numbers of its members.
+    /// Returns the result of the search as `difference` does, but takes the set by the numbers of its members.
     pub(crate) fn difference_of(
         &self,
         alloc: Global,
@@ -46,7 +45,7 @@ impl Compared<'_, '_> {
         requires named { AreNamed self.now }
         requires found { FindSet self.now (members_or_none (all_mentioned self.now) found) }
         requires within { IfSome found (AreNumbered (all_mentioned self.now)) }
-        ensures { IfOk result (IsComparison self.now.first self.now.second) }
+        ensures { IfOk result (IsSearched self.now) }
     {
         match found {
             None => Ok(None),
@@ -58,8 +57,8 @@ impl Compared<'_, '_> {
         }
     }
 
-    // The small situation of a set at which the lists differ, and the lowest right on which they differ. `here` and
-    // `there` are the rights that each list grants in that situation.
+    // The small situation of a set at which the lists differ in the direction, and the lowest right on which they do.
+    // `here` and `there` are the rights that each list grants in that situation.
     fn difference_at(
         &self,
         alloc: Global,
@@ -75,7 +74,7 @@ impl Compared<'_, '_> {
         ensures bit { IfOk result (DifferLowestOn self.now (set_of set.entry)) }
     {
         let n = self.strange_length();
-        let bit = lowest(unlike(here, there));
+        let bit = lowest(self.differing(here, there));
         Ok(Difference {
             owner: owner_in(alloc, set, n)?,
             group: owning_group_in(alloc, set, n)?,

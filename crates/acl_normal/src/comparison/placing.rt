@@ -4,6 +4,7 @@ ghost use Rattle.acl_normal.specs.Common.{ace, aces_in, AreWhoms, false, IfOk, l
 ghost use Rattle.acl_perm.specs.Kind.{is_allow};
 ghost use Rattle.acl_normal.specs.internal.comparison.FirstPlaces.{AreFirstFrom, IsWhomWithin, is_unlike, no_ace, put, same_whom, stops, stops_at};
 
+use super::direction::Direction;
 use crate::class::Class;
 use acl_nfs4::AceRef;
 use acl_perm::internal::Bit;
@@ -35,11 +36,11 @@ pub(crate) struct Placing {
 }
 
 impl Placing {
-    /// Returns whether exactly one of the lists grants the right to the principal alone.
-    pub(crate) fn is_unlike(self) -> bool
-        ensures { result ≡ is_unlike self }
+    /// Returns whether the answers of the lists for the principal alone differ in the direction.
+    pub(crate) fn is_unlike(self, direction: Direction) -> bool
+        ensures { result ≡ is_unlike direction self }
     {
-        self.here.allows() != self.there.allows()
+        direction.differ(self.here.allows(), self.there.allows())
     }
 }
 

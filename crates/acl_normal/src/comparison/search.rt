@@ -1,4 +1,4 @@
-//! The search for the first small set at which two lists differ. A test of each pair of principals would take time that
+//! The search for the first small set at which two lists differ in a direction. A test of each pair of principals would take time that
 //! grows with the square of their number, so the search finds one principal of the pair first, and then the other.
 ghost use Rattle.std.specs.Prelude.{◌<◌};
 ghost use Rattle.acl_normal.specs.Common.{all_mentioned, AreNumbered, FindSet, IfOk, IfSome, length, members_or_none};
@@ -11,7 +11,7 @@ use acl_perm::internal::Bit;
 use std::alloc::{AllocError, Global};
 
 impl Compared<'_, '_> {
-    /// Returns the first small set at which the lists differ. The lesser member of the first such pair is the least
+    /// Returns the first small set at which the lists differ in the direction. The lesser member of the first such pair is the least
     /// principal that is in any such pair, and the other member is the least later principal that makes a pair with it.
     pub(crate) fn first_set(&self, alloc: Global) -> Result<Option<Members>, AllocError>
         ensures found { IfOk result (λ r.
@@ -44,7 +44,7 @@ impl Compared<'_, '_> {
             let right = Bit { bit };
             if self.may_differ(right) {
                 let placings = self.placings(alloc, right)?;
-                least = first_unlike(&placings, least);
+                least = first_unlike(self.direction, &placings, least);
             }
         }
         Ok(least)
@@ -63,7 +63,7 @@ impl Compared<'_, '_> {
             let right = Bit { bit };
             if self.may_differ(right) {
                 let placings = self.placings(alloc, right)?;
-                least = first_inverting(alloc, &placings, size, least)?;
+                least = first_inverting(alloc, self.direction, &placings, size, least)?;
             }
         }
         Ok(least)
@@ -83,7 +83,7 @@ impl Compared<'_, '_> {
             if self.may_differ(right) {
                 let placings = self.placings(alloc, right)?;
                 let (_, others) = placings.as_slice().split_at(at + 1);
-                least = first_inverted(placings[at], others, least);
+                least = first_inverted(self.direction, placings[at], others, least);
             }
         }
         Ok(least)

@@ -1,13 +1,14 @@
 //! Checks that the calls of all tables of this crate succeed with ample memory. The tables with their expected values
 //! are in the files that are named here.
 
-use super::{differences, five_forms, forms, names, needed_rights, plain_forms, tables};
+use super::{differences, excesses, five_forms, forms, names, needed_rights, plain_forms, tables};
 use acl_nfs4::PushFault;
 
 #[test]
 fn every_row_of_the_tables_holds_if_memory_is_ample(rt: HostRuntime) -> Result<(), PushFault> {
     let alloc = rt.alloc();
     differences::worked_pairs(&rt, alloc)?;
+    excesses::worked_excesses(&rt, alloc)?;
     five_forms::five_forms(&rt, alloc)?;
     five_forms::equal_forms(&rt, alloc)?;
     five_forms::cut_forms(&rt, alloc)?;

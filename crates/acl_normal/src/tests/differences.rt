@@ -11,8 +11,8 @@ use acl_perm::Mask;
 use std::alloc::{AllocError, Global};
 use std::process::Abort;
 
-// A difference: the owner, the owning group, the user, the groups, the right, and whether the first list grants it.
-type Expected = (
+/// A difference: the owner, the owning group, the user, the groups, the right, and whether the first list grants it.
+pub type Expected = (
     &'static [u8],
     &'static [u8],
     &'static [u8],
@@ -194,7 +194,8 @@ fn is_as_expected(
         && d.first_grants == first_grants
 }
 
-fn is_expected(answer: &Option<Difference>, expected: Option<Expected>) -> bool {
+/// Returns whether the answer is the expected one.
+pub fn is_expected(answer: &Option<Difference>, expected: Option<Expected>) -> bool {
     match (answer, expected) {
         (None, None) => true,
         (Some(d), Some(expected)) => is_as_expected(d, expected),

@@ -58,6 +58,20 @@ mod ample {
     }
 
     #[test]
+    fn a_list_without_the_deny_of_bob_grants_him_more(rt: HostRuntime) -> Result<(), Fail> {
+        let alloc = rt.alloc();
+        let policy = parse_text(
+            alloc,
+            b"DENY - WRITE_DATA bob\nALLOW - READ_DATA|WRITE_DATA EVERYONE@\n",
+        )?;
+        let list = parse_text(alloc, b"ALLOW - READ_DATA|WRITE_DATA EVERYONE@\n")?;
+        let more = excess(alloc, &list, &policy)?.ok_or("the list grants no more")?;
+        assert!(rt; more.user.as_slice() == b"bob".as_slice() && more.bit == Mask::WRITE_DATA);
+        assert!(rt; excess(alloc, &policy, &list)?.is_none());
+        Ok(())
+    }
+
+    #[test]
     fn an_ace_for_files_is_in_the_normal_forms_of_both_files(rt: HostRuntime) -> Result<(), Fail> {
         let alloc = rt.alloc();
         let list = parse_text(alloc, b"ALLOW FILE READ_DATA amy")?;

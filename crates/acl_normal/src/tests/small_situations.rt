@@ -73,7 +73,8 @@ fn is_of_two(d: &Difference) -> bool {
     groups.saturating_add(others) == 2
 }
 
-fn same_difference(d: &Option<Difference>, e: &Option<Difference>) -> bool {
+/// Returns whether two answers are the same.
+pub fn same_difference(d: &Option<Difference>, e: &Option<Difference>) -> bool {
     match (d, e) {
         (None, None) => true,
         (Some(d), Some(e)) => {

@@ -7,9 +7,9 @@ use Rattle.acl_normal.specs.internal.comparison.SetSearch.{principals}
 use Rattle.acl_normal.specs.internal.comparison.TwoLists.{TwoLists, all_mentioned, two_lists}
 use Rattle.acl_normal.specs.declared.comparison.compared.Compared.TheInside.{Inside}
 
--- the lists that are held
+-- the lists that are held, and the direction in which they are compared
 abbrev pub lists_in : Inside → TwoLists
-lists_in c = two_lists (aces_in c.first.now) (aces_in c.second.now)
+lists_in c = two_lists c.direction (aces_in c.first.now) (aces_in c.second.now)
 
 -- the principals are those that the lists mention, whom each ACE names of these is known, and past some rights the
 -- lists have the same ACEs

@@ -6,7 +6,9 @@ use Rattle.acl_eval.specs.Grant.{is_allow}
 use Rattle.acl_nfs4.specs.Ace.{Ace}
 use Rattle.acl_nfs4.specs.Who.{principal_of}
 use Rattle.acl_normal.specs.Classes.{is_users}
-use Rattle.acl_normal.specs.internal.comparison.SetSearch.{GrantAlikeTo, differ, is_granted_to}
+use Rattle.acl_normal.specs.internal.comparison.Directions.{differ_in}
+use Rattle.acl_normal.specs.internal.comparison.SetSearch.{AlikeAt, GrantAlikeTo, is_granted_to}
+use Rattle.acl_normal.specs.declared.comparison.direction.Direction.{Direction}
 use Rattle.acl_normal.specs.Keys.{principal_eq}
 use Rattle.acl_normal.specs.SmallSituations.{is_among}
 use Rattle.acl_normal.specs.declared.class.Class.TheVariants.{Users}
@@ -38,24 +40,29 @@ pub record IsPlacing (list other : List Ace) (bit : ℕ) (p : Principal) (r : Pl
   pub there : IsFirst other bit p r.there
   pub class : is_users r.class ≡ is_user p
 
--- of two that may overlap and are of different kinds, the one comes first in one list, and not in the other
-abbrev pub inverts : Placing → Placing → Bool
-inverts r s = (not (is_users r.class && is_users s.class) && differ (is_allow r.here.kind) (is_allow s.here.kind))
-    && differ (nat_lt s.here.place r.here.place) (nat_lt s.there.place r.there.place)
+-- of two first ACEs, that which comes first is an ALLOW
+abbrev pub earlier_allows : First → First → Bool
+earlier_allows f g = if nat_lt g.place f.place then is_allow g.kind else is_allow f.kind
+
+-- two may overlap, and for both together the answers of the lists differ in the direction, since the two come in
+-- different orders
+abbrev pub inverts : Direction → Placing → Placing → Bool
+inverts way r s = not (is_users r.class && is_users s.class)
+    && differ_in way (earlier_allows r.here s.here) (earlier_allows r.there s.there)
 
 -- a principal inverts one of the others
-abbrev pub inverts_any : Placing → List Placing → Bool
-inverts_any r = list_any (inverts r)
+abbrev pub inverts_any : Direction → Placing → List Placing → Bool
+inverts_any way r = list_any (inverts way r)
 
--- on one right, the lists grant the same wherever this principal and another that may overlap match
-abbrev pub AgreesAt : List Ace → List Ace → List Principal → ℕ → Principal → Type 0
-AgreesAt list other whole bit p = AllByRecursion (λ q. may_overlap p q ≡ true
-    → is_granted_to list (p ∷ q ∷ []) bit ≡ is_granted_to other (p ∷ q ∷ []) bit) whole
+-- on one right, the lists do not differ in the direction wherever this principal and another that may overlap match
+abbrev pub AgreesAt : Direction → List Ace → List Ace → List Principal → ℕ → Principal → Type 0
+AgreesAt way list other whole bit p =
+    AllByRecursion (λ q. may_overlap p q ≡ true → AlikeAt way list other (p ∷ q ∷ []) bit) whole
 
--- on all rights, the lists grant alike wherever this principal and another that may overlap match
-abbrev pub Agrees : List Ace → List Ace → List Principal → Principal → Type 0
-Agrees list other whole p =
-    AllByRecursion (λ q. may_overlap p q ≡ true → GrantAlikeTo list other (p ∷ q ∷ [])) whole
+-- on all rights, the lists do not differ in the direction wherever this principal and another that may overlap match
+abbrev pub Agrees : Direction → List Ace → List Ace → List Principal → Principal → Type 0
+Agrees way list other whole p =
+    AllByRecursion (λ q. may_overlap p q ≡ true → GrantAlikeTo way list other (p ∷ q ∷ [])) whole
 
 -- the ACE takes part, and is of the principal or of everyone
 abbrev pub is_of : Ace → Principal → Bool
@@ -149,13 +156,13 @@ put firsts a Everyone place bit = firsts
 abbrev pub no_placing : Placing
 no_placing = record { here = no_first; there = no_first; class = Users }
 
--- both lists say the same of the principal alone
-abbrev pub SameAlone : Placing → Type 0
-SameAlone r = is_allow r.here.kind ≡ is_allow r.there.kind
+-- for the principal alone, the answers of the lists differ in the direction
+abbrev pub is_unlike : Direction → Placing → Bool
+is_unlike way r = differ_in way (is_allow r.here.kind) (is_allow r.there.kind)
 
--- the lists say different things of the principal alone
-abbrev pub is_unlike : Placing → Bool
-is_unlike r = differ (is_allow r.here.kind) (is_allow r.there.kind)
+-- for the principal alone, the answers of the lists do not differ in the direction
+abbrev pub SameAlone : Direction → Placing → Type 0
+SameAlone way r = is_unlike way r ≡ false
 
 -- the first below a limit that passes a test, or the limit
 pub record IsFirstBelow (test : Placing → Bool) (placings : List Placing) (limit first : ℕ) : Type 0 where
@@ -173,18 +180,15 @@ pub record IsLeast (P : ℕ → Type 0) (n least : ℕ) : Type 0 where
   pub before : (k : ℕ) → k < least → P k
   pub at : least < n → P least → ⊥
 
--- the lists grant alike to one principal alone
-abbrev pub AlikeAlone : List Ace → List Ace → List Principal → ℕ → ℕ → Type 0
-AlikeAlone list other whole bit k =
-    is_granted_to list (slice_index_or whole k everyone ∷ []) bit
-    ≡ is_granted_to other (slice_index_or whole k everyone ∷ []) bit
+-- the lists do not differ in the direction for one principal alone
+abbrev pub AlikeAlone : Direction → List Ace → List Ace → List Principal → ℕ → ℕ → Type 0
+AlikeAlone way list other whole bit k = AlikeAt way list other (slice_index_or whole k everyone ∷ []) bit
 
--- both lists grant alike to the pair of one principal and any other
-abbrev pub AlikeWithAll : List Ace → List Ace → List Principal → ℕ → ℕ → Type 0
-AlikeWithAll list other whole bit k = AgreesAt list other whole bit (slice_index_or whole k everyone)
+-- the lists do not differ in the direction for one principal and any other that it may overlap
+abbrev pub AlikeWithAll : Direction → List Ace → List Ace → List Principal → ℕ → ℕ → Type 0
+AlikeWithAll way list other whole bit k = AgreesAt way list other whole bit (slice_index_or whole k everyone)
 
--- both lists grant alike to a principal and this other one, if the two may overlap
-abbrev pub AlikeWith : List Ace → List Ace → Principal → List Principal → ℕ → ℕ → Type 0
-AlikeWith list other p rest bit k = may_overlap p (slice_index_or rest k everyone) ≡ true
-    → is_granted_to list (p ∷ slice_index_or rest k everyone ∷ []) bit
-    ≡ is_granted_to other (p ∷ slice_index_or rest k everyone ∷ []) bit
+-- the lists do not differ in the direction for a principal and this other one, if the two may overlap
+abbrev pub AlikeWith : Direction → List Ace → List Ace → Principal → List Principal → ℕ → ℕ → Type 0
+AlikeWith way list other p rest bit k = may_overlap p (slice_index_or rest k everyone) ≡ true
+    → AlikeAt way list other (p ∷ slice_index_or rest k everyone ∷ []) bit

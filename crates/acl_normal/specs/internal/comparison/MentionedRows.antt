@@ -6,7 +6,7 @@ use Rattle.acl_eval.specs.Column.{takes_part}
 use Rattle.acl_nfs4.specs.Ace.{Ace}
 use Rattle.acl_nfs4.specs.Who.{principal_of}
 use Rattle.acl_normal.specs.Keys.{principal_eq}
-use Rattle.acl_normal.specs.SmallSets.{is_mentioning, mentioned_in}
+use Rattle.acl_normal.specs.SmallSets.{is_mentioning, mentioned, mentioned_in}
 use Rattle.acl_normal.specs.SmallSituations.{is_among}
 use Rattle.acl_normal.specs.declared.comparison.mentioned.Mentions.{Mentions}
 use Rattle.acl_normal.specs.declared.comparison.placing.Whom.{Whom}
@@ -14,7 +14,6 @@ use Rattle.acl_normal.specs.declared.comparison.placing.Whom.TheVariants.{Everyo
 use Rattle.acl_normal.specs.internal.comparison.FirstPlaces.{AreWhoms, no_ace}
 use Rattle.acl_normal.specs.internal.rows.Rows.{is_principal_of, row_of}
 use Rattle.acl_normal.specs.internal.comparison.SetSearch.{IsRisingSet, principals}
-use Rattle.acl_normal.specs.internal.comparison.TwoLists.{TwoLists, all_mentioned}
 
 -- whom the ACE mentions, if it mentions anyone
 abbrev pub mentioned_by : Ace → Option Principal
@@ -87,6 +86,6 @@ pub record AreMentionsOf (xs : List Ace) (found : Mentions) : Type 0 where
 
 -- the principals that two lists mention, in order, and whom of these each ACE names: of the first list, and then of the
 -- second
-pub record AreMentioned (both : TwoLists) (found : Mentions) : Type 0 where
-  pub in_order : principals found.principals.items ≡ all_mentioned both
-  pub whoms : AreWhoms (principals found.principals.items) (both.first ++ both.second) found.whoms.items
+pub record AreMentioned (list other : List Ace) (found : Mentions) : Type 0 where
+  pub in_order : principals found.principals.items ≡ mentioned list other
+  pub whoms : AreWhoms (principals found.principals.items) (list ++ other) found.whoms.items

@@ -1,5 +1,5 @@
--- The search for the first small set of principals at which two lists do not grant the same (this library's own).
-use Rattle.std.specs.Prelude.{◌≡◌, ◌≢◌, ℕ, ◌<◌, ◌^◌, Bool, true, false, not, ◌&&◌, IsTrue, List, [], ◌∷◌, Option, Some, None, map, ◌⊎◌}
+-- The search for the first small set of principals at which two lists differ in a direction (this library's own).
+use Rattle.std.specs.Prelude.{◌≡◌, ℕ, ◌<◌, ◌^◌, Bool, true, false, ◌&&◌, IsTrue, List, [], ◌∷◌, Option, Some, None, map, ◌⊎◌}
 use Rattle.std.specs.List.{AllByRecursion}
 use Rattle.std.specs.declared.cmp.Ordering.TheVariants.{Less}
 use Rattle.acl_perm.specs.declared.principal.Principal.{Principal as PrincipalRef}
@@ -8,6 +8,8 @@ use Rattle.acl_eval.specs.Grant.{is_allow}
 use Rattle.acl_nfs4.specs.Ace.{Ace}
 use Rattle.acl_nfs4.specs.Who.{principal_of}
 use Rattle.acl_normal.specs.SmallSituations.{is_among}
+use Rattle.acl_normal.specs.internal.comparison.Directions.{differ_in}
+use Rattle.acl_normal.specs.declared.comparison.direction.Direction.{Direction}
 use Rattle.acl_perm.specs.Bits.{all_rights, has_bit}
 use Rattle.acl_perm.specs.Order.{principal_cmp}
 use Rattle.acl_perm.specs.Principal.{Principal, everyone, principal}
@@ -25,50 +27,48 @@ IsRisingSet (p ∷ rest) = AllByRecursion (λ q. principal_cmp p q ≡ Less) res
 abbrev pub is_granted_to : List Ace → List Principal → ℕ → Bool
 is_granted_to list set bit = is_allow (verdict (λ r. is_among r (everyone ∷ set)) (column list bit))
 
--- each right is granted there by both lists or by none
-abbrev pub GrantAlikeTo : List Ace → List Ace → List Principal → Type 0
-GrantAlikeTo list other set = (bit : ℕ) → IsTrue (has_bit all_rights bit)
-    → is_granted_to list set bit ≡ is_granted_to other set bit
+-- on a right, the answers of the lists do not differ in the direction there
+abbrev pub AlikeAt : Direction → List Ace → List Ace → List Principal → ℕ → Type 0
+AlikeAt way list other set bit = differ_in way (is_granted_to list set bit) (is_granted_to other set bit) ≡ false
 
--- the first of the sets at which the lists do not grant the same, if there is one
-abbrev pub FindsFirst : List Ace → List Ace → List (List Principal) → Option (List Principal) → Type 0
-FindsFirst list other [] found = found ≡ None
-FindsFirst list other (set ∷ sets) found = (GrantAlikeTo list other set × FindsFirst list other sets found)
-    ⊎ ((GrantAlikeTo list other set → ⊥) × (found ≡ Some set))
+-- on each right, the answers of the lists do not differ in the direction there
+abbrev pub GrantAlikeTo : Direction → List Ace → List Ace → List Principal → Type 0
+GrantAlikeTo way list other set = (bit : ℕ) → IsTrue (has_bit all_rights bit) → AlikeAt way list other set bit
+
+-- the first of the sets at which the lists differ in the direction, if there is one
+abbrev pub FindsFirst : Direction → List Ace → List Ace → List (List Principal) → Option (List Principal) → Type 0
+FindsFirst way list other [] found = found ≡ None
+FindsFirst way list other (set ∷ sets) found =
+    (GrantAlikeTo way list other set × FindsFirst way list other sets found)
+    ⊎ ((GrantAlikeTo way list other set → ⊥) × (found ≡ Some set))
 
 -- what `FindsFirst` says, as a record, which stays one fact where the sets are known and `FindsFirst` unfolds into its
 -- cases
-pub record FindsSet (list other : List Ace) (sets : List (List Principal))
+pub record FindsSet (way : Direction) (list other : List Ace) (sets : List (List Principal))
     (found : Option (List Principal)) : Type 0 where
-  pub first : FindsFirst list other sets found
+  pub first : FindsFirst way list other sets found
 
 -- the rights of an ACE that takes part, if its principal is of the set or everyone
 pub record HasBitsOf (a : Ace) (set : List Principal) (mask : ℕ) : Type 0 where
   pub bits : (bit : ℕ) → has_bit mask bit
       ≡ ((has_bit a.mask bit && takes_part a) && is_among (principal_of a) (everyone ∷ set))
 
--- of two answers just one is true
-abbrev pub differ : Bool → Bool → Bool
-differ true b = not b
-differ false b = b
-
 -- the rights that the list grants where exactly these principals match, and everyone
 pub record IsGrantedTo (list : List Ace) (set : List Principal) (mask : ℕ) : Type 0 where
   pub bits : (bit : ℕ) → has_bit mask bit ≡ is_granted_to list set bit
 
--- the rights on which the lists differ there
-pub record AreDiffering (list other : List Ace) (set : List Principal) (mask : ℕ) : Type 0 where
-  pub bits : (bit : ℕ) → has_bit mask bit ≡ differ (is_granted_to list set bit) (is_granted_to other set bit)
+-- the rights on which the lists differ in the direction there
+pub record AreDiffering (way : Direction) (list other : List Ace) (set : List Principal) (mask : ℕ) : Type 0 where
+  pub bits : (bit : ℕ) → has_bit mask bit ≡ differ_in way (is_granted_to list set bit) (is_granted_to other set bit)
 
--- the lowest right on which the lists differ there, and whether the first grants it
-pub record IsLowestDifference (list other : List Ace) (set : List Principal) (mask : ℕ) (first_grants : Bool) :
-    Type 0 where
+-- the lowest right on which the lists differ in the direction there, and whether the first grants it
+pub record IsLowestDifference (way : Direction) (list other : List Ace) (set : List Principal) (mask : ℕ)
+    (first_grants : Bool) : Type 0 where
   pub bit : ℕ
   pub one_bit : mask ≡ 2 ^ bit
   pub of_rights : IsTrue (has_bit all_rights bit)
-  pub differs : is_granted_to list set bit ≢ is_granted_to other set bit
-  pub lowest : (b : ℕ) → b < bit → IsTrue (has_bit all_rights b)
-      → is_granted_to list set b ≡ is_granted_to other set b
+  pub differs : differ_in way (is_granted_to list set bit) (is_granted_to other set bit) ≡ true
+  pub lowest : (b : ℕ) → b < bit → IsTrue (has_bit all_rights b) → AlikeAt way list other set b
   pub first : first_grants ≡ is_granted_to list set bit
 
 -- no ACE of the list has a right past these

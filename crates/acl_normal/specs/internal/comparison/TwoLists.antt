@@ -4,23 +4,27 @@ use Rattle.acl_eval.specs.Column.{column}
 use Rattle.acl_nfs4.specs.Ace.{Ace}
 use Rattle.acl_perm.specs.Principal.{Principal, everyone}
 use Rattle.acl_perm.specs.Situation.{Situation}
-use Rattle.acl_normal.specs.Difference.{situation_of}
+use Rattle.acl_normal.specs.Difference.{IsComparison, situation_of}
+use Rattle.acl_normal.specs.Excess.{IsExcess}
 use Rattle.acl_normal.specs.internal.Tidy.{HasNames}
 use Rattle.acl_normal.specs.SmallSets.{mentioned, small_sets, strange_length}
 use Rattle.acl_normal.specs.SmallSituations.{small_situation}
 use Rattle.acl_normal.specs.internal.comparison.FirstPlaces.{AlikeAlone, AlikeWith, AlikeWithAll, ArePlacings, IsLeast, OnAll}
 use Rattle.acl_normal.specs.internal.comparison.SetSearch.{FindsSet, GrantAlikeTo, IsLowestDifference}
 use Rattle.acl_normal.specs.declared.comparison.Difference.{Difference}
+use Rattle.acl_normal.specs.declared.comparison.direction.Direction.{Direction}
+use Rattle.acl_normal.specs.declared.comparison.direction.Direction.TheVariants.{Either, Over}
 use Rattle.acl_normal.specs.declared.comparison.placing.Placing.{Placing}
 
--- the two lists
+-- the two lists, and the direction in which they are compared
 pub record TwoLists : Type 0 where
+  pub direction : Direction
   pub first : List Ace
   pub second : List Ace
 
--- the value of two lists
-abbrev pub two_lists : List Ace → List Ace → TwoLists
-two_lists first second = record { first = first; second = second }
+-- the value of two lists that are compared in a direction
+abbrev pub two_lists : Direction → List Ace → List Ace → TwoLists
+two_lists direction first second = record { direction = direction; first = first; second = second }
 
 -- the principals that they mention, in order
 abbrev pub all_mentioned : TwoLists → List Principal
@@ -52,44 +56,54 @@ pub record AreWithin (both : TwoLists) (size : ℕ) : Type 0 where
 abbrev pub ArePlacingsOf : TwoLists → ℕ → List Placing → Type 0
 ArePlacingsOf both bit placings = ArePlacings (all_mentioned both) both.first both.second bit placings
 
--- both lists grant alike where exactly these principals match, and everyone
+-- the lists do not differ in the direction where exactly these principals match, and everyone
 abbrev pub AreAlikeTo : TwoLists → List Principal → Type 0
-AreAlikeTo both set = GrantAlikeTo both.first both.second set
+AreAlikeTo both set = GrantAlikeTo both.direction both.first both.second set
 
--- on a right, both lists grant alike to the principal of a number alone
+-- on a right, the lists do not differ in the direction for the principal of a number alone
 abbrev pub AlikeToOne : TwoLists → ℕ → ℕ → Type 0
-AlikeToOne both = AlikeAlone both.first both.second (all_mentioned both)
+AlikeToOne both = AlikeAlone both.direction both.first both.second (all_mentioned both)
 
--- on a right, both lists grant alike to the principal of a number and each other that it may overlap
+-- on a right, the lists do not differ in the direction for the principal of a number and any other that it may overlap
 abbrev pub AlikeToPairs : TwoLists → ℕ → ℕ → Type 0
-AlikeToPairs both = AlikeWithAll both.first both.second (all_mentioned both)
+AlikeToPairs both = AlikeWithAll both.direction both.first both.second (all_mentioned both)
 
--- on a right, both lists grant alike to the principal of a number and one of those after it that it may overlap
+-- on a right, the lists do not differ in the direction for the principal of a number and one of those after it that it
+-- may overlap
 abbrev pub AlikeToPair : TwoLists → ℕ → ℕ → ℕ → Type 0
-AlikeToPair both at = AlikeWith both.first both.second (principal_at both at) (later_than both at)
+AlikeToPair both at = AlikeWith both.direction both.first both.second (principal_at both at) (later_than both at)
 
--- both lists grant alike to each mentioned principal alone
+-- the lists do not differ in the direction for any mentioned principal alone
 abbrev pub AreAlikeAlone : TwoLists → Type 0
 AreAlikeAlone both = (k : ℕ) → k < length (all_mentioned both) → OnAll (AlikeToOne both) k
 
--- the number of the first principal to whom alone the lists do not grant the same; if there is none, the number of
+-- the number of the first principal for whom alone the lists differ in the direction; if there is none, the number of
 -- principals
 abbrev pub IsFirstSingle : TwoLists → ℕ → Type 0
 IsFirstSingle both least = IsLeast (OnAll (AlikeToOne both)) (length (all_mentioned both)) least
 
--- the number of the first principal that is one of a pair to whom the lists do not grant the same; if there is none,
--- the number of principals
+-- the number of the first principal that is one of a pair for which the lists differ in the direction; if there is
+-- none, the number of principals
 abbrev pub IsFirstMember : TwoLists → ℕ → Type 0
 IsFirstMember both least = IsLeast (OnAll (AlikeToPairs both)) (length (all_mentioned both)) least
 
--- among the principals after one, the number of the first with whom it is a pair to whom the lists do not grant the
--- same; if there is none, the number of these principals
+-- among the principals after one, the number of the first with whom it is a pair for which the lists differ in the
+-- direction; if there is none, the number of these principals
 abbrev pub IsFirstPartner : TwoLists → ℕ → ℕ → Type 0
 IsFirstPartner both at least = IsLeast (OnAll (AlikeToPair both at)) (length (later_than both at)) least
 
--- what is found is the first small set at which the lists do not grant the same, if there is one
+-- what is found is the first small set at which the lists differ in the direction, if there is one
 abbrev pub FindSet : TwoLists → Option (List Principal) → Type 0
-FindSet both found = FindsSet both.first both.second (small_sets (all_mentioned both)) found
+FindSet both found = FindsSet both.direction both.first both.second (small_sets (all_mentioned both)) found
+
+-- the result of the search in a direction: the comparison of the lists, or the excess of the first over the second
+abbrev pub IsFoundIn : Direction → List Ace → List Ace → Option Difference → Type 0
+IsFoundIn Either list other found = IsComparison list other found
+IsFoundIn Over list other found = IsExcess list other found
+
+-- the result of the search
+abbrev pub IsSearched : TwoLists → Option Difference → Type 0
+IsSearched both found = IsFoundIn both.direction both.first both.second found
 
 -- the small situation of a set of the mentioned principals
 abbrev pub situation_at : TwoLists → List Principal → Situation
@@ -99,7 +113,8 @@ situation_at both set = small_situation (strange_length both.first both.second) 
 abbrev pub ShowsSituation : TwoLists → List Principal → Difference → Type 0
 ShowsSituation both set d = situation_of d ≡ situation_at both set
 
--- a difference names the lowest right on which the lists do not grant the same at a set, and says whether the first
+-- a difference names the lowest right on which the lists differ in the direction at a set, and says whether the first
 -- list grants it
 abbrev pub DifferLowestOn : TwoLists → List Principal → Difference → Type 0
-DifferLowestOn both set d = IsLowestDifference both.first both.second set d.bit.bits d.first_grants
+DifferLowestOn both set d =
+    IsLowestDifference both.direction both.first both.second set d.bit.bits d.first_grants

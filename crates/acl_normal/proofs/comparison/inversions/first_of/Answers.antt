@@ -9,7 +9,7 @@ pub returns-then-is_inverting : goal.returns-then-is_inverting
 returns-then-is_inverting c =
     first_of_camp
     (near_is _ no_placing c.split_at.ensures.front c.requires.limit c.loop-k-test.true).0
-    c.requires.limit c.loop-k.invariant c.requires.places
+    c.requires.limit c.loop-k.invariant c.requires.alone c.requires.places
     c.in_ok-forward.ensures c.in_ok-back.ensures c.deref.ensures.value c.deref-in-loop-k.ensures.value
     (c.is_inverting.ensures
     ∙ ap (λ r. is_inverting c.args.camp r c.deref.result.now c.deref-in-loop-k.result.now)
@@ -24,7 +24,7 @@ loop-k-preserved c =
       arith,
       (near_is _ no_placing c.split_at.ensures.front c.requires.limit c.loop-k-test.true).0,
       c.requires.limit,
-    )) c.requires.places
+    )) c.requires.alone c.requires.places
     c.in_ok-forward.ensures c.in_ok-back.ensures c.deref.ensures.value c.deref-in-loop-k.ensures.value
     (c.is_inverting.ensures
     ∙ ap (λ r. is_inverting c.args.camp r c.deref.result.now c.deref-in-loop-k.result.now)

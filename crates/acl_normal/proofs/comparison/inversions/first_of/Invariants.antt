@@ -3,4 +3,4 @@ use Rattle.acl_normal.proofs.comparison.inversions.first_of.Given as goal
 
 abbrev pub invariant-loop-k : goal.invariant-loop-k
 invariant-loop-k l = (k : ℕ) → k < l.k → is_of_camp l.camp (slice_index_or l.placings k no_placing) ≡ true
-    → inverts_any (slice_index_or l.placings k no_placing) l.placings ≡ false
+    → inverts_any l.camp.direction (slice_index_or l.placings k no_placing) l.placings ≡ false

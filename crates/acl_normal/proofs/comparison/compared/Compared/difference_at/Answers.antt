@@ -5,8 +5,8 @@ use Rattle.acl_normal.proofs.comparison.Asked.{few_groups, one_alone, some_bytes
 use Rattle.acl_normal.proofs.comparison.SetEvaluation.{differing_are, lowest_difference}
 
 pub returns-clause-bit : goal.returns-clause-bit
-returns-clause-bit c = lowest_difference c.unlike.result.within
-    (differing_are c.requires.here c.requires.there c.unlike.ensures)
+returns-clause-bit c = lowest_difference c.differing.result.within
+    (differing_are c.requires.here c.requires.there c.differing.ensures)
     c.lowest-bit.ensures.lowest c.lowest-bit.ensures.value c.requires.here c.contains.ensures.meaning
 
 pub invariant_of-result : goal.invariant_of-result

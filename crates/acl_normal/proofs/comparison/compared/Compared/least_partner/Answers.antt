@@ -2,7 +2,7 @@ use Rattle.std.proofs.Common.{arith, ap, length}
 use Rattle.acl_normal.proofs.comparison.compared.Compared.least_partner.Goals as goal
 use Rattle.acl_normal.proofs.comparison.compared.Compared.least_partner.Goals.{then-may_differ+in_ok-placings, else-may_differ}
 use Rattle.acl_normal.proofs.comparison.RowFacts.{least_done, least_skip, others_length, partner_loop, rows_length, same_pair}
-use Rattle.acl_normal.specs.internal.comparison.TwoLists.{all_mentioned}
+use Rattle.acl_normal.specs.internal.comparison.TwoLists.{TwoLists, all_mentioned}
 
 pub split_at-requires : goal.split_at-requires
 split_at-requires c = omega (
@@ -23,7 +23,8 @@ first_inverted-least-requires c =
 
 pub loop-bit-preserved : goal.loop-bit-preserved
 loop-bit-preserved c = elim c.if-may_differ.branch [
-  | then-may_differ+in_ok-placings w ↦ rw w.least-is (partner_loop c.requires.at
+  | then-may_differ+in_ok-placings w ↦ rw w.least-is (partner_loop c.args.self.now.direction
+      (ap (λ (both : TwoLists). both.direction) c.self.view_is) c.requires.at
       w.in_ok-placings.ensures w.as_slice.ensures.value w.split_at.ensures.back w.index.ensures c.requires.alone
       (c.may_differ.ensures.right w.if-may_differ.true) w.first_inverted-least.ensures c.loop-bit.invariant)
   | else-may_differ w ↦ rw w.least-is (least_skip

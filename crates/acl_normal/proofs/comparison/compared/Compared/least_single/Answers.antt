@@ -1,8 +1,8 @@
-use Rattle.std.proofs.Common.{sym, subst}
+use Rattle.std.proofs.Common.{ap, sym, subst}
 use Rattle.acl_normal.proofs.comparison.compared.Compared.least_single.Goals as goal
 use Rattle.acl_normal.proofs.comparison.compared.Compared.least_single.Goals.{then-may_differ+in_ok-placings, else-may_differ}
 use Rattle.acl_normal.proofs.comparison.RowFacts.{least_done, least_skip, rows_limit, single_step, same_one}
-use Rattle.acl_normal.specs.internal.comparison.TwoLists.{ArePlacingsOf, all_mentioned}
+use Rattle.acl_normal.specs.internal.comparison.TwoLists.{ArePlacingsOf, TwoLists, all_mentioned}
 
 pub first_unlike-least-requires : goal.first_unlike-least-requires
 first_unlike-least-requires c =
@@ -11,7 +11,8 @@ first_unlike-least-requires c =
 
 pub loop-bit-preserved : goal.loop-bit-preserved
 loop-bit-preserved c = elim c.if-may_differ.branch [
-  | then-may_differ+in_ok-placings w ↦ rw w.least-is (single_step
+  | then-may_differ+in_ok-placings w ↦ rw w.least-is (single_step c.args.self.now.direction
+      (ap (λ (both : TwoLists). both.direction) c.self.view_is)
       (subst (ArePlacingsOf c.args.self.now c.loop-bit.bit) (sym w.deref.ensures.value) w.in_ok-placings.ensures)
       (c.may_differ.ensures.right w.if-may_differ.true) w.first_unlike-least.ensures c.loop-bit.invariant)
   | else-may_differ w ↦ rw w.least-is (least_skip

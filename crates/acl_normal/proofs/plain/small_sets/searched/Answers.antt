@@ -1,5 +1,5 @@
 use Rattle.acl_normal.proofs.Common.{aces_in, ap, ◌∙◌}
-use Rattle.acl_normal.proofs.plain.small_sets.first_difference.Goals as goal
+use Rattle.acl_normal.proofs.plain.small_sets.searched.Goals as goal
 use Rattle.acl_normal.proofs.comparison.FirstSet.{named_of}
 
 pub difference-requires-clause-named : goal.difference-requires-clause-named

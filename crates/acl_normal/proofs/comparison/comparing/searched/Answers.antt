@@ -1,5 +1,5 @@
 use Rattle.acl_normal.proofs.Common.{aces_in, ap, ◌∙◌}
-use Rattle.acl_normal.proofs.comparison.comparing.first_difference.Goals as goal
+use Rattle.acl_normal.proofs.comparison.comparing.searched.Goals as goal
 use Rattle.acl_normal.proofs.comparison.FirstSet.{named_of}
 
 pub difference_of-requires-clause-named : goal.difference_of-requires-clause-named
