@@ -1,15 +1,19 @@
 /* aclck.h: access control lists of NFSv4 and POSIX, checked, converted and compared, for C99 and C++.
  *
- * Every call is proved to keep its contract, which docs/contracts.md lists and man/libaclck.3 explains. These rules hold
- * for all calls:
+ * Every call is proved to keep its contract, which docs/contracts.md lists and man/libaclck.3 explains. These rules
+ * hold for all calls:
  *
- * - A call takes bytes as a pointer and a length. It reads what it is given until it returns, and keeps no
- *   pointer.
- * - A call writes only what its comment names, and only at the status that the comment names. Everything
- *   else stays as it was, also the bytes after a text in a buffer.
- * - Every status is one of `enum aclck_status`. No other result exists, and no call ends the process.
- * - A call that takes `options` takes the sum of the bits that its comment names. It refuses every other bit.
- * - A pointer must not be NULL, also where its length is 0. aclck_in() and aclck_out() give a pointer for NULL.
+ * - A call returns ACLCK_DONE, which is 0, if its answer is written, and another number of `enum aclck_status` if it
+ *   failed. So `if (aclck_...(...))` means "it failed". No status is an answer: answers are written through pointers.
+ * - A call that answers a question about access writes the answer that grants nothing if it fails. All other calls
+ *   write what their comment names, only at the status that their comment names. Everything else stays as it was, also
+ *   the bytes after a text in a buffer.
+ * - No other number is returned, and no call ends the process.
+ * - A call that takes options takes the sum of those that its comment names. It refuses every other bit, and so it
+ *   refuses rights that are given as options, and options that are given as rights.
+ * - A call reads what it is given until it returns, and keeps no pointer.
+ * - A pointer must not be NULL, also where its length is 0. aclck_bytes_of() and the functions beside it take NULL for
+ *   the length 0.
  * - What a call writes must not overlap anything else that the call is given.
  * - Any number of threads may call at once, because calls share nothing but what their callers share.
  * - Calls marked "no memory" call no malloc. They may be called from a signal handler, and after fork() in a child of a
@@ -23,33 +27,57 @@
 #include <stddef.h>
 #include <stdint.h>
 
+/* What compilers are told, where they can be: a status must be looked at, no pointer is NULL, and which argument,
+   counted from 1, is read or written through its pointer. */
+#ifdef __has_attribute
+#if __has_attribute(warn_unused_result)
+#define ACLCK_MUST_USE __attribute__((warn_unused_result))
+#endif
+#if __has_attribute(nonnull)
+#define ACLCK_NO_NULL __attribute__((nonnull))
+#endif
+#if __has_attribute(access)
+#define ACLCK_READS(n) __attribute__((access(read_only, n)))
+#define ACLCK_WRITES(n) __attribute__((access(write_only, n)))
+#endif
+#endif
+#ifndef ACLCK_MUST_USE
+#define ACLCK_MUST_USE
+#endif
+#ifndef ACLCK_NO_NULL
+#define ACLCK_NO_NULL
+#endif
+#ifndef ACLCK_READS
+#define ACLCK_READS(n)
+#define ACLCK_WRITES(n)
+#endif
+#define ACLCK_CALL ACLCK_MUST_USE ACLCK_NO_NULL
+
 #ifdef __cplusplus
 extern "C" {
 #endif
 
 /* The version of this header, as aclck_version() returns that of the library: major * 65536 + minor * 256 + patch. */
-#define ACLCK_VERSION 0x000600u
+#define ACLCK_VERSION 0x010000u
 
 /* What a call returns. */
 enum aclck_status {
-    ACLCK_DONE = 0,         /* the result is written */
-    ACLCK_YES = 0,          /* granted, or the same */
-    ACLCK_NO = 1,           /* denied, or different, or nothing */
+    ACLCK_DONE = 0,         /* the answer is written */
     ACLCK_REFUSED = 2,      /* the list or the text is refused; the fault says why and where */
     ACLCK_BAD_ARGUMENT = 3, /* a name is empty, or a number or an option means nothing */
     ACLCK_MEMORY = 4,       /* memory ran out */
-    ACLCK_SHORT = 5         /* the buffer is too short; *needed says how many bytes it must have */
+    ACLCK_SHORT = 5         /* the buffer is too short; *needed says how much room it must have */
 };
 
-/* Bits of `options`. */
+/* Options. Their numbers are outside ACLCK_ALL_RIGHTS. */
 enum aclck_option {
-    ACLCK_FULL = 0,       /* every right and every flag of RFC 8881 */
-    ACLCK_NARROW = 1,     /* only the rights and flags of the narrow profile (docs/formats.md) */
-    ACLCK_FILE = 0,       /* the new object is a file */
-    ACLCK_DIRECTORY = 2,  /* the new object is a directory */
-    ACLCK_CANONICAL = 0,  /* the canonical text: one line per entry, with ids */
-    ACLCK_FORM_SHOWN = 4, /* the text with comments on entries that the mask limits */
-    ACLCK_FORM_SHORT = 8  /* the short text: entries between commas */
+    ACLCK_FULL = 0,                /* every right and every flag of RFC 8881 */
+    ACLCK_NARROW = 0x01000000,     /* only the rights and flags of the narrow profile (docs/formats.md) */
+    ACLCK_FILE = 0,                /* the new object is a file */
+    ACLCK_DIRECTORY = 0x02000000,  /* the new object is a directory */
+    ACLCK_CANONICAL = 0,           /* the canonical text: one line per entry, with ids */
+    ACLCK_FORM_SHOWN = 0x04000000, /* the text with comments on entries that the mask limits */
+    ACLCK_FORM_SHORT = 0x08000000  /* the short text: entries between commas */
 };
 
 /* Why something is refused. The numbers never change; later versions may add some. */
@@ -97,7 +125,11 @@ enum aclck_tag {
 };
 
 /* Kinds of ACEs, which RFC 8881 calls types (section 6.2.1.1). */
-enum aclck_kind { ACLCK_ALLOW = 0, ACLCK_DENY = 1 };
+enum aclck_kind {
+    ACLCK_ALLOW = 0,
+    ACLCK_DENY = 1,
+    ACLCK_UNDECIDED = 2 /* no ACE: only in aclck_decision */
+};
 
 /* Rights of a mask (RFC 8881, section 6.2.1.3.1). */
 enum aclck_right {
@@ -144,6 +176,18 @@ typedef struct aclck_bytes {
     size_t len;
 } aclck_bytes;
 
+/* Room for bytes. */
+typedef struct aclck_buffer {
+    void *at;
+    size_t cap;
+} aclck_buffer;
+
+/* An object: its owner and its owning group. No name may be empty. */
+typedef struct aclck_object {
+    aclck_bytes owner;
+    aclck_bytes group;
+} aclck_object;
+
 /* A user and the groups of that user. No name may be empty. */
 typedef struct aclck_requester {
     aclck_bytes user;
@@ -151,14 +195,61 @@ typedef struct aclck_requester {
     size_t ngroups;
 } aclck_requester;
 
-/* A name that a POSIX text may use for an id: of a group where `is_group` is 1, of a user where it is 0. A table is
-   refused with ACLCK_BAD_ARGUMENT if a name is empty, has digits alone, or occurs twice for users or twice for groups, if
-   an id is 4294967295, or if `is_group` is above 1. */
+/* Some requesters. */
+typedef struct aclck_requesters {
+    const aclck_requester *at;
+    size_t len;
+} aclck_requesters;
+
+/* What is asked: rights, and options. A question without rights is granted. */
+typedef struct aclck_question {
+    enum aclck_right mask;
+    enum aclck_option options;
+} aclck_question;
+
+/* Room for masks of rights. */
+typedef struct aclck_masks {
+    uint32_t *at;
+    size_t len;
+} aclck_masks;
+
+/* A name that a POSIX text may use for an id: of a group where `is_group` is 1, of a user where it is 0. */
 typedef struct aclck_name {
     aclck_bytes name;
     uint32_t id;
     uint32_t is_group;
 } aclck_name;
+
+/* A table of names. It is refused with ACLCK_BAD_ARGUMENT if a name is empty, has digits alone, or occurs twice for
+   users or twice for groups, if an id is 4294967295, or if an `is_group` is above 1. */
+typedef struct aclck_names {
+    const aclck_name *at;
+    size_t len;
+} aclck_names;
+
+/* The text of POSIX ACLs, and the names that it may use. */
+typedef struct aclck_posix_text {
+    aclck_bytes text;
+    aclck_names names;
+} aclck_posix_text;
+
+/* What is asked of a POSIX ACL: whether a user, who is in these groups, may do all of `want` (enum aclck_permission) to
+   an object of this owner and this group. */
+typedef struct aclck_posix_question {
+    uint32_t owner;
+    uint32_t group;
+    uint32_t user;
+    uint32_t want;
+    const uint32_t *groups;
+    size_t ngroups;
+} aclck_posix_question;
+
+/* How a new object is created: its mode, the umask of its creator, and ACLCK_FILE or ACLCK_DIRECTORY. */
+typedef struct aclck_creation {
+    uint32_t mode;
+    uint32_t umask;
+    enum aclck_option options;
+} aclck_creation;
 
 /* Why and where something is refused. At ACLCK_REFUSED a call writes all of it; what a reason does not use is 0.
    - A list of bytes (reasons 1 to 13): `offset` is the place of the refused field, from 0. `list` is 0 for the first or
@@ -177,172 +268,200 @@ typedef struct aclck_fault {
     uint32_t tag;
 } aclck_fault;
 
-/* The ACE that decides a right: its place in the list, from 0, and its kind (enum aclck_kind). */
+/* Of the rights that are asked: those that an ALLOW decides, and those that a DENY decides. No ACE decides the rest,
+   and so they are not granted. */
+typedef struct aclck_decided {
+    uint32_t allowed;
+    uint32_t denied;
+} aclck_decided;
+
+/* The ACE that decides a right: its place in the list, from 0, and its kind (enum aclck_kind). If no ACE decides the
+   right, which denies it, the kind is ACLCK_UNDECIDED and the place is 0. */
 typedef struct aclck_decision {
     uint64_t place;
     uint32_t kind;
 } aclck_decision;
 
-/* Where two lists differ: one right, and 1 if the first list grants it and the second does not, and 0
-   otherwise. */
+/* Whether two lists grant everybody the same. If not, where they differ: one right, 1 if the first list grants it and
+   the second does not, and 0 otherwise, and how many bytes the names are for whom they differ. */
 typedef struct aclck_difference {
+    uint64_t names;
+    uint32_t same;
     uint32_t right;
     uint32_t first_grants;
 } aclck_difference;
 
 /* ---- NFSv4 lists: questions (RFC 8881, section 6.2.1). A list is the bytes of `nfsace4<>`, as the extended attribute
-   system.nfs4_acl holds them. `options`: ACLCK_NARROW. No memory. */
+   system.nfs4_acl holds them. Options: ACLCK_NARROW. Each call answers whatever it returns: if it returns no
+   ACLCK_DONE, its answer grants nothing. ACLCK_DONE, ACLCK_REFUSED (*fault), ACLCK_BAD_ARGUMENT. No memory. */
 
-/* Returns whether the list grants the user, who is in the groups, every right of `mask`, on an object of this owner and
-   this owning group. ACLCK_YES, ACLCK_NO, ACLCK_REFUSED (*fault), ACLCK_BAD_ARGUMENT. */
-uint32_t aclck_check_nfs(const void *acl, size_t acl_len, const void *owner, size_t owner_len, const void *group,
-                         size_t group_len, const void *user, size_t user_len, const aclck_bytes *groups, size_t ngroups,
-                         uint32_t mask, uint32_t options, aclck_fault *fault);
+/* Writes to *decided which of the rights that are asked the list allows the requester on the object, and which it
+   denies. */
+ACLCK_CALL ACLCK_READS(2) ACLCK_READS(3) ACLCK_READS(4) ACLCK_WRITES(5) ACLCK_WRITES(6)
+enum aclck_status aclck_decide(aclck_bytes acl, const aclck_object *object, const aclck_requester *requester,
+                               const aclck_question *question, aclck_decided *decided, aclck_fault *fault);
 
-/* Writes to *granted which rights of `mask` the list grants the user. ACLCK_DONE (*granted), ACLCK_REFUSED (*fault),
-   ACLCK_BAD_ARGUMENT. */
-uint32_t aclck_granted(const void *acl, size_t acl_len, const void *owner, size_t owner_len, const void *group,
-                       size_t group_len, const void *user, size_t user_len, const aclck_bytes *groups, size_t ngroups,
-                       uint32_t mask, uint32_t options, uint32_t *granted, aclck_fault *fault);
+/* Writes to *granted 1 if the list grants the requester all the rights that are asked, and otherwise 0. */
+ACLCK_CALL ACLCK_READS(2) ACLCK_READS(3) ACLCK_READS(4) ACLCK_WRITES(5) ACLCK_WRITES(6)
+enum aclck_status aclck_check(aclck_bytes acl, const aclck_object *object, const aclck_requester *requester,
+                              const aclck_question *question, uint32_t *granted, aclck_fault *fault);
 
-/* Writes to *decision which ACE decides the one right `right` for the user: the first one that has the right, matches
-   the user, and does not have INHERIT_ONLY. ACLCK_YES (*decision), ACLCK_NO: no ACE decides, which denies the right,
-   ACLCK_REFUSED (*fault), ACLCK_BAD_ARGUMENT: also where `right` is not exactly one right. */
-uint32_t aclck_deciding(const void *acl, size_t acl_len, const void *owner, size_t owner_len, const void *group,
-                        size_t group_len, const void *user, size_t user_len, const aclck_bytes *groups, size_t ngroups,
-                        uint32_t right, uint32_t options, aclck_decision *decision, aclck_fault *fault);
+/* Writes to *rights which of the rights that are asked the list grants the requester. */
+ACLCK_CALL ACLCK_READS(2) ACLCK_READS(3) ACLCK_READS(4) ACLCK_WRITES(5) ACLCK_WRITES(6)
+enum aclck_status aclck_granted(aclck_bytes acl, const aclck_object *object, const aclck_requester *requester,
+                                const aclck_question *question, uint32_t *rights, aclck_fault *fault);
 
-/* Writes to granted[i] which rights of `mask` the list grants requesters[i], for every i, and reads the list once.
-   ACLCK_DONE (all of `granted`), ACLCK_REFUSED (*fault), ACLCK_BAD_ARGUMENT: also where `ngranted` is not
-   `nrequesters`. */
-uint32_t aclck_check_many(const void *acl, size_t acl_len, const void *owner, size_t owner_len, const void *group,
-                          size_t group_len, const aclck_requester *requesters, size_t nrequesters, uint32_t mask,
-                          uint32_t options, uint32_t *granted, size_t ngranted, aclck_fault *fault);
+/* Writes to *decision which ACE decides the one right that is asked: the first one that has the right, matches the
+   requester, and does not have INHERIT_ONLY. ACLCK_BAD_ARGUMENT also where not exactly one right is asked. */
+ACLCK_CALL ACLCK_READS(2) ACLCK_READS(3) ACLCK_READS(4) ACLCK_WRITES(5) ACLCK_WRITES(6)
+enum aclck_status aclck_deciding(aclck_bytes acl, const aclck_object *object, const aclck_requester *requester,
+                                 const aclck_question *question, aclck_decision *decision, aclck_fault *fault);
 
-/* Writes the mode of the list to *mode (RFC 8881, section 6.3.2). ACLCK_DONE (*mode), ACLCK_REFUSED (*fault),
-   ACLCK_BAD_ARGUMENT. */
-uint32_t aclck_mode(const void *acl, size_t acl_len, uint32_t options, uint32_t *mode, aclck_fault *fault);
+/* Writes to rights.at[i] which of the rights that are asked the list grants requesters.at[i], for every i, and reads
+   the list once. ACLCK_BAD_ARGUMENT also where `rights` has another length than `requesters`. */
+ACLCK_CALL ACLCK_READS(2) ACLCK_READS(4) ACLCK_WRITES(6)
+enum aclck_status aclck_check_many(aclck_bytes acl, const aclck_object *object, aclck_requesters requesters,
+                                   const aclck_question *question, aclck_masks rights, aclck_fault *fault);
 
-/* ---- NFSv4 lists: texts and bytes. Each call writes its result to the front of `out`, which has room for `cap` bytes,
-   and the number of its bytes to *needed. ACLCK_DONE (`out`, *needed), ACLCK_REFUSED (*fault), ACLCK_BAD_ARGUMENT,
-   ACLCK_MEMORY, ACLCK_SHORT (*needed). */
+/* Writes the mode of the list to *mode (RFC 8881, section 6.3.2), and 0 if it fails. */
+ACLCK_CALL ACLCK_WRITES(3) ACLCK_WRITES(4)
+enum aclck_status aclck_mode(aclck_bytes acl, enum aclck_option options, uint32_t *mode, aclck_fault *fault);
 
-/* The list that a new object gets in a directory with this list. `options`: ACLCK_NARROW, ACLCK_DIRECTORY. */
-uint32_t aclck_child(const void *acl, size_t acl_len, uint32_t options, void *out, size_t cap, size_t *needed,
-                     aclck_fault *fault);
+/* ---- NFSv4 lists: texts and bytes. Each call writes its result to the front of `out`, and the number of its bytes to
+   *needed. ACLCK_DONE (`out`, *needed), ACLCK_REFUSED (*fault), ACLCK_BAD_ARGUMENT, ACLCK_MEMORY, ACLCK_SHORT
+   (*needed). */
 
-/* The text of the list, one line per ACE (docs/formats.md). `options`: ACLCK_NARROW. */
-uint32_t aclck_show(const void *acl, size_t acl_len, uint32_t options, void *out, size_t cap, size_t *needed,
-                    aclck_fault *fault);
+/* The list that a new object gets in a directory with this list. Options: ACLCK_NARROW, ACLCK_DIRECTORY. */
+ACLCK_CALL ACLCK_WRITES(4) ACLCK_WRITES(5)
+enum aclck_status aclck_child(aclck_bytes acl, enum aclck_option options, aclck_buffer out, size_t *needed,
+                              aclck_fault *fault);
 
-/* The bytes of the list whose text this is. The fault has a line and a column. `options`: ACLCK_NARROW. */
-uint32_t aclck_encode(const void *text, size_t text_len, uint32_t options, void *out, size_t cap, size_t *needed,
-                      aclck_fault *fault);
+/* The text of the list, one line per ACE (docs/formats.md). Options: ACLCK_NARROW. */
+ACLCK_CALL ACLCK_WRITES(4) ACLCK_WRITES(5)
+enum aclck_status aclck_show(aclck_bytes acl, enum aclck_option options, aclck_buffer out, size_t *needed,
+                             aclck_fault *fault);
+
+/* The bytes of the list whose text this is. The fault has a line and a column. Options: ACLCK_NARROW. */
+ACLCK_CALL ACLCK_WRITES(4) ACLCK_WRITES(5)
+enum aclck_status aclck_encode(aclck_bytes text, enum aclck_option options, aclck_buffer out, size_t *needed,
+                               aclck_fault *fault);
 
 /* The normal form of the list: two lists get equal bytes if and only if they grant everybody the same.
-   `options`: ACLCK_NARROW. */
-uint32_t aclck_normalize(const void *acl, size_t acl_len, uint32_t options, void *out, size_t cap, size_t *needed,
-                         aclck_fault *fault);
+   Options: ACLCK_NARROW. */
+ACLCK_CALL ACLCK_WRITES(4) ACLCK_WRITES(5)
+enum aclck_status aclck_normalize(aclck_bytes acl, enum aclck_option options, aclck_buffer out, size_t *needed,
+                                  aclck_fault *fault);
 
 /* The five normal forms of a directory's list, one after the other: of the directory, of a new file, of a new
-   directory, and of a new file and a new directory in that new directory. `options`: ACLCK_NARROW. */
-uint32_t aclck_normalize_inherit(const void *acl, size_t acl_len, uint32_t options, void *out, size_t cap,
-                                 size_t *needed, aclck_fault *fault);
+   directory, and of a new file and a new directory in that new directory. Options: ACLCK_NARROW. */
+ACLCK_CALL ACLCK_WRITES(4) ACLCK_WRITES(5)
+enum aclck_status aclck_normalize_inherit(aclck_bytes acl, enum aclck_option options, aclck_buffer out, size_t *needed,
+                                          aclck_fault *fault);
 
-/* The ACEs of the normal form that have the one right `right`, one line per ACE: the place in the given list, from 0,
-   the kind, GROUP or `-`, and the who. ACLCK_BAD_ARGUMENT also where `right` is not exactly one right of the profile.
-   `options`: ACLCK_NARROW. */
-uint32_t aclck_table(const void *acl, size_t acl_len, uint32_t right, uint32_t options, void *out, size_t cap,
-                     size_t *needed, aclck_fault *fault);
+/* The ACEs of the normal form that have the one right that is asked, one line per ACE: the place in the given list,
+   from 0, the kind, GROUP or `-`, and the who. ACLCK_BAD_ARGUMENT also where not exactly one right of the profile is
+   asked. Options: ACLCK_NARROW. */
+ACLCK_CALL ACLCK_READS(2) ACLCK_WRITES(4) ACLCK_WRITES(5)
+enum aclck_status aclck_table(aclck_bytes acl, const aclck_question *question, aclck_buffer out, size_t *needed,
+                              aclck_fault *fault);
 
 /* ---- NFSv4 lists: which rights are needed */
 
-/* Writes to masks[i] the rights of the ACE at place i that are needed, for every ACE, and their number to *count. The
-   list cut to these masks grants everybody the same, and no right can be taken out of it. So all ACEs whose mask is 0
-   can be removed together. `masks` has room for `nmasks` numbers; the first four bytes of a list are the number of its
-   ACEs. ACLCK_DONE (`masks`, *count), ACLCK_REFUSED (*fault), ACLCK_BAD_ARGUMENT, ACLCK_MEMORY, ACLCK_SHORT (*count).
-   `options`: ACLCK_NARROW. */
-uint32_t aclck_needed(const void *acl, size_t acl_len, uint32_t options, uint32_t *masks, size_t nmasks, size_t *count,
-                      aclck_fault *fault);
+/* Writes to masks.at[i] the rights of the ACE at place i that are needed, for every ACE, and their number to *needed.
+   The list cut to these masks grants everybody the same, and no right can be taken out of it. So all ACEs whose mask is
+   0 can be removed together. The first four bytes of a list are the number of its ACEs. ACLCK_DONE (`masks`, *needed),
+   ACLCK_REFUSED (*fault), ACLCK_BAD_ARGUMENT, ACLCK_MEMORY, ACLCK_SHORT (*needed). Options: ACLCK_NARROW. */
+ACLCK_CALL ACLCK_WRITES(4) ACLCK_WRITES(5)
+enum aclck_status aclck_needed(aclck_bytes acl, enum aclck_option options, aclck_masks masks, size_t *needed,
+                               aclck_fault *fault);
 
-/* ---- NFSv4 lists: two lists */
+/* ---- NFSv4 lists: two lists. Options: ACLCK_NARROW. If a call fails, its answer is that they are not the same. */
 
-/* Returns whether two lists grant everybody the same. ACLCK_YES, ACLCK_NO, ACLCK_REFUSED (*fault), ACLCK_BAD_ARGUMENT,
-   ACLCK_MEMORY. `options`: ACLCK_NARROW. */
-uint32_t aclck_same(const void *first, size_t first_len, const void *second, size_t second_len, uint32_t options,
-                    aclck_fault *fault);
+/* Writes to *same 1 if two lists grant everybody the same, and otherwise 0. ACLCK_DONE, ACLCK_REFUSED (*fault),
+   ACLCK_BAD_ARGUMENT, ACLCK_MEMORY. */
+ACLCK_CALL ACLCK_WRITES(4) ACLCK_WRITES(5)
+enum aclck_status aclck_same(aclck_bytes first, aclck_bytes second, enum aclck_option options, uint32_t *same,
+                             aclck_fault *fault);
 
-/* Returns whether two lists grant everybody the same, and if not, on whom and on what they differ. At ACLCK_NO
-   *difference is the right, and `out` has the owner, the owning group, the user and each group of the user, in this
-   order, each with a zero byte after it; *needed is the number of these bytes. At ACLCK_SHORT they also differ:
-   *difference and *needed are written, and `out` is not. ACLCK_YES, ACLCK_NO, ACLCK_REFUSED (*fault),
-   ACLCK_BAD_ARGUMENT, ACLCK_MEMORY, ACLCK_SHORT. `options`: ACLCK_NARROW. */
-uint32_t aclck_compare(const void *first, size_t first_len, const void *second, size_t second_len, uint32_t options,
-                       aclck_difference *difference, void *out, size_t cap, size_t *needed, aclck_fault *fault);
+/* Writes to *difference whether two lists grant everybody the same, and if not, on whom and on what they differ. Where
+   they differ, `out` has the owner, the owning group, the user and each group of the user, in this order, each with a
+   zero byte after it. At ACLCK_SHORT they also differ: *difference is written, and `out` is not. ACLCK_DONE
+   (*difference, `out`), ACLCK_REFUSED (*fault), ACLCK_BAD_ARGUMENT, ACLCK_MEMORY, ACLCK_SHORT (*difference). If it
+   fails otherwise, all of *difference is 0. */
+ACLCK_CALL ACLCK_WRITES(4) ACLCK_WRITES(6)
+enum aclck_status aclck_compare(aclck_bytes first, aclck_bytes second, enum aclck_option options,
+                                aclck_difference *difference, aclck_buffer out, aclck_fault *fault);
 
 /* ---- Names. No memory. */
 
-/* Writes to *mask which rights a text names: names with `|` between them, or `-` for none. ACLCK_YES (*mask), ACLCK_NO:
-   the text names no mask. */
-uint32_t aclck_read_mask(const void *text, size_t text_len, uint32_t *mask);
+/* Writes to *mask which rights a text names: names with `|` between them, or `-` for none. ACLCK_DONE (*mask),
+   ACLCK_BAD_ARGUMENT: the text names no mask. */
+ACLCK_CALL ACLCK_WRITES(2)
+enum aclck_status aclck_read_mask(aclck_bytes text, uint32_t *mask);
 
 /* Writes the names of the rights of `mask`, with `|` between them, or `-` for none. ACLCK_DONE (`out`, *needed),
    ACLCK_BAD_ARGUMENT: a bit is no right, ACLCK_SHORT (*needed). 250 bytes are always enough. */
-uint32_t aclck_mask_text(uint32_t mask, void *out, size_t cap, size_t *needed);
+ACLCK_CALL ACLCK_WRITES(3)
+enum aclck_status aclck_mask_text(enum aclck_right mask, aclck_buffer out, size_t *needed);
 
 /* Writes the name of a reason, as the program prints it. ACLCK_DONE (`out`, *needed), ACLCK_BAD_ARGUMENT: no reason has
    this number, ACLCK_SHORT (*needed). 13 bytes are always enough. */
-uint32_t aclck_reason_text(uint32_t reason, void *out, size_t cap, size_t *needed);
+ACLCK_CALL ACLCK_WRITES(3)
+enum aclck_status aclck_reason_text(uint32_t reason, aclck_buffer out, size_t *needed);
 
 /* ---- POSIX ACLs: texts as acl(5) and docs/formats.md describe them, with a table of the names that a text may use. */
 
-/* Returns whether the access ACL of the text grants the user, who is in the groups, all of `want` (enum
-   aclck_permission) on an object of this owner and this group (acl(5), "ACCESS CHECK ALGORITHM"). ACLCK_YES, ACLCK_NO,
-   ACLCK_REFUSED (*fault), ACLCK_BAD_ARGUMENT: also an id of 4294967295, or `want` above 7, ACLCK_MEMORY. */
-uint32_t aclck_check_posix(const void *text, size_t text_len, const aclck_name *names, size_t nnames, uint32_t owner,
-                           uint32_t group, uint32_t user, const uint32_t *groups, size_t ngroups, uint32_t want,
-                           aclck_fault *fault);
+/* Writes to *granted 1 if the access ACL of the text grants what is asked (acl(5), "ACCESS CHECK ALGORITHM"), and
+   otherwise 0, also if it fails. ACLCK_DONE, ACLCK_REFUSED (*fault), ACLCK_BAD_ARGUMENT: also an id of 4294967295, or
+   `want` above 7, ACLCK_MEMORY. */
+ACLCK_CALL ACLCK_READS(1) ACLCK_READS(2) ACLCK_WRITES(3) ACLCK_WRITES(4)
+enum aclck_status aclck_posix_check(const aclck_posix_text *text, const aclck_posix_question *question,
+                                    uint32_t *granted, aclck_fault *fault);
 
 /* The other calls write their result to the front of `out` and the number of its bytes to *needed. ACLCK_DONE (`out`,
    *needed), ACLCK_REFUSED (*fault), ACLCK_BAD_ARGUMENT, ACLCK_MEMORY, ACLCK_SHORT (*needed). */
 
-/* The text of the ACLs in one form. The short text has a line feed after it. `options`: ACLCK_CANONICAL,
-   ACLCK_FORM_SHOWN or ACLCK_FORM_SHORT. */
-uint32_t aclck_show_posix(const void *text, size_t text_len, const aclck_name *names, size_t nnames, uint32_t options,
-                          void *out, size_t cap, size_t *needed, aclck_fault *fault);
+/* The text of the ACLs in one form. The short text has a line feed after it. Options: ACLCK_CANONICAL, ACLCK_FORM_SHOWN
+   or ACLCK_FORM_SHORT. */
+ACLCK_CALL ACLCK_READS(1) ACLCK_WRITES(4) ACLCK_WRITES(5)
+enum aclck_status aclck_posix_show(const aclck_posix_text *text, enum aclck_option options, aclck_buffer out,
+                                   size_t *needed, aclck_fault *fault);
 
 /* The canonical text after the mask of the access ACL is calculated. */
-uint32_t aclck_calc_mask(const void *text, size_t text_len, const aclck_name *names, size_t nnames, void *out,
-                         size_t cap, size_t *needed, aclck_fault *fault);
+ACLCK_CALL ACLCK_READS(1) ACLCK_WRITES(3) ACLCK_WRITES(4)
+enum aclck_status aclck_posix_calc_mask(const aclck_posix_text *text, aclck_buffer out, size_t *needed,
+                                        aclck_fault *fault);
 
 /* The canonical text after the mode of the access ACL is set. ACLCK_BAD_ARGUMENT also where `mode` is above 0777. */
-uint32_t aclck_chmod(const void *text, size_t text_len, const aclck_name *names, size_t nnames, uint32_t mode, void *out,
-                     size_t cap, size_t *needed, aclck_fault *fault);
+ACLCK_CALL ACLCK_READS(1) ACLCK_WRITES(4) ACLCK_WRITES(5)
+enum aclck_status aclck_posix_chmod(const aclck_posix_text *text, uint32_t mode, aclck_buffer out, size_t *needed,
+                                    aclck_fault *fault);
 
-/* The canonical text of a new object in a directory with this text. ACLCK_BAD_ARGUMENT also where `mode` or `umask` is
-   above 0777. `options`: ACLCK_DIRECTORY. */
-uint32_t aclck_create(const void *text, size_t text_len, const aclck_name *names, size_t nnames, uint32_t mode,
-                      uint32_t umask, uint32_t options, void *out, size_t cap, size_t *needed, aclck_fault *fault);
+/* The canonical text of a new object in a directory with this text. ACLCK_BAD_ARGUMENT also where the mode or the umask
+   is above 0777. */
+ACLCK_CALL ACLCK_READS(1) ACLCK_READS(2) ACLCK_WRITES(4) ACLCK_WRITES(5)
+enum aclck_status aclck_posix_create(const aclck_posix_text *text, const aclck_creation *creation, aclck_buffer out,
+                                     size_t *needed, aclck_fault *fault);
 
 /* The bytes of the NFSv4 list that grants the same single permissions as the access ACL of the text. ACLCK_REFUSED also
    with ACLCK_LIMITS. */
-uint32_t aclck_bridge(const void *text, size_t text_len, const aclck_name *names, size_t nnames, void *out, size_t cap,
-                      size_t *needed, aclck_fault *fault);
+ACLCK_CALL ACLCK_READS(1) ACLCK_WRITES(3) ACLCK_WRITES(4)
+enum aclck_status aclck_posix_bridge(const aclck_posix_text *text, aclck_buffer out, size_t *needed,
+                                     aclck_fault *fault);
 
 /* ---- The library */
 
 /* Returns the version of the library: major * 65536 + minor * 256 + patch. No memory. */
 uint32_t aclck_version(void);
 
-/* Returns `at`, or a valid pointer where it is NULL, for bytes of length 0. */
-static inline const void *aclck_in(const void *at) {
-    return at ? at : "";
-}
+/* ---- Values */
 
-/* Returns `at`, or a valid pointer where it is NULL, for a buffer of length 0. */
-static inline void *aclck_out(void *at) {
-    static char none;
-    return at ? at : &none;
+/* Returns these bytes. `at` may be NULL if `len` is 0. */
+static inline aclck_bytes aclck_bytes_of(const void *at, size_t len) {
+    aclck_bytes bytes;
+    bytes.at = at ? at : "";
+    bytes.len = len;
+    return bytes;
 }
 
 /* Returns the bytes of a string, without the zero byte at its end. */
@@ -355,7 +474,34 @@ static inline aclck_bytes aclck_string(const char *string) {
     return bytes;
 }
 
+/* Returns this buffer. `at` may be NULL if `cap` is 0. */
+static inline aclck_buffer aclck_buffer_of(void *at, size_t cap) {
+    static char none;
+    aclck_buffer buffer;
+    buffer.at = at ? at : &none;
+    buffer.cap = cap;
+    return buffer;
+}
+
+/* Returns this user, who is in these groups. `groups` may be NULL if `ngroups` is 0. */
+static inline aclck_requester aclck_requester_of(aclck_bytes user, const aclck_bytes *groups, size_t ngroups) {
+    static const aclck_bytes none = {"", 0};
+    aclck_requester requester;
+    requester.user = user;
+    requester.groups = groups ? groups : &none;
+    requester.ngroups = ngroups;
+    return requester;
+}
+
 #ifdef __cplusplus
+}
+
+/* Sums of rights, and sums of options. */
+static inline enum aclck_right operator|(enum aclck_right a, enum aclck_right b) {
+    return (enum aclck_right)((uint32_t)a | (uint32_t)b);
+}
+static inline enum aclck_option operator|(enum aclck_option a, enum aclck_option b) {
+    return (enum aclck_option)((uint32_t)a | (uint32_t)b);
 }
 #endif
 

@@ -5,8 +5,9 @@ MADE = library/out
 PROVED = crates/aclck_c/out/libaclck_c.a
 # malloc, realloc and free as Rattle's code calls them. They are in an archive of the kit, next to its first page.
 HEAP = $(dir $(shell rt doc))c/liblibc_c.a
-VERSION = 0.6.0
-SONAME = libaclck.so.0
+# The version of the library, which is not that of the program (docs/DECISIONS.md).
+VERSION = 1.0.0
+SONAME = libaclck.so.1
 SHARED = libaclck.so.$(VERSION)
 LIBDIR = $(DESTDIR)$(PREFIX)/lib
 OBJCOPY ?= objcopy

@@ -74,57 +74,89 @@ typedef struct {
     size_t needed;
 } results;
 
-#define BLOB(i) c->blobs[i].at, c->blobs[i].len
-#define NAMES c->names, c->nnames
 #define IS(name) (strcmp(c->call, name) == 0)
-#define NULL_NAMES aclck_in(NULL), 0
-#define NULL_GROUPS aclck_in(NULL), 0
 
-static uint32_t invoke(const testcase *c, void *out, size_t cap, results *r) {
+static aclck_question asks(uint32_t mask, uint32_t options) {
+    aclck_question question;
+    question.mask = (enum aclck_right)mask;
+    question.options = (enum aclck_option)options;
+    return question;
+}
+
+static aclck_posix_text with_names(aclck_bytes text, const aclck_name *names, size_t count) {
+    static const aclck_name none;
+    aclck_posix_text given;
+    given.text = text;
+    given.names.at = names ? names : &none;
+    given.names.len = count;
+    return given;
+}
+
+static uint32_t ask_posix(const testcase *c, const aclck_posix_text *text, results *r) {
     const uint32_t *n = c->numbers;
-    if (IS("check_nfs"))
-        return aclck_check_nfs(BLOB(0), BLOB(1), BLOB(2), BLOB(3), c->groups, c->ngroups, n[0], n[1], &r->fault);
-    if (IS("mode"))
-        return aclck_mode(BLOB(0), n[0], &r->value, &r->fault);
-    if (IS("child"))
-        return aclck_child(BLOB(0), n[0], out, cap, &r->needed, &r->fault);
-    if (IS("show"))
-        return aclck_show(BLOB(0), n[0], out, cap, &r->needed, &r->fault);
-    if (IS("encode"))
-        return aclck_encode(BLOB(0), n[0], out, cap, &r->needed, &r->fault);
-    if (IS("normalize"))
-        return aclck_normalize(BLOB(0), n[0], out, cap, &r->needed, &r->fault);
-    if (IS("normalize_inherit"))
-        return aclck_normalize_inherit(BLOB(0), n[0], out, cap, &r->needed, &r->fault);
-    if (IS("table"))
-        return aclck_table(BLOB(0), n[0], n[1], out, cap, &r->needed, &r->fault);
-    if (IS("compare"))
-        return aclck_compare(BLOB(0), BLOB(1), n[0], &r->difference, out, cap, &r->needed, &r->fault);
-    if (IS("same"))
-        return aclck_same(BLOB(0), BLOB(1), n[0], &r->fault);
-    if (IS("check_posix"))
-        return aclck_check_posix(BLOB(0), NAMES, n[0], n[1], n[2], c->ids, c->nids, n[3], &r->fault);
-    if (IS("show_posix"))
-        return aclck_show_posix(BLOB(0), NAMES, n[0], out, cap, &r->needed, &r->fault);
-    if (IS("calc_mask"))
-        return aclck_calc_mask(BLOB(0), NAMES, out, cap, &r->needed, &r->fault);
-    if (IS("chmod"))
-        return aclck_chmod(BLOB(0), NAMES, n[0], out, cap, &r->needed, &r->fault);
-    if (IS("create"))
-        return aclck_create(BLOB(0), NAMES, n[0], n[1], n[2], out, cap, &r->needed, &r->fault);
-    if (IS("bridge"))
-        return aclck_bridge(BLOB(0), NAMES, out, cap, &r->needed, &r->fault);
+    const aclck_posix_question question = {n[0], n[1], n[2], n[3], c->ids, c->nids};
+    return aclck_posix_check(text, &question, &r->value, &r->fault);
+}
+
+/* Calls over POSIX texts. */
+static uint32_t invoke_posix(const testcase *c, aclck_buffer out, results *r) {
+    const uint32_t *n = c->numbers;
+    const aclck_posix_text text = with_names(c->blobs[0], c->names, c->nnames);
+    const aclck_creation creation = {n[0], n[1], (enum aclck_option)n[2]};
+    if (IS("posix_check"))
+        return ask_posix(c, &text, r);
+    if (IS("posix_show"))
+        return aclck_posix_show(&text, n[0], out, &r->needed, &r->fault);
+    if (IS("posix_calc_mask"))
+        return aclck_posix_calc_mask(&text, out, &r->needed, &r->fault);
+    if (IS("posix_chmod"))
+        return aclck_posix_chmod(&text, n[0], out, &r->needed, &r->fault);
+    if (IS("posix_create"))
+        return aclck_posix_create(&text, &creation, out, &r->needed, &r->fault);
+    if (IS("posix_bridge"))
+        return aclck_posix_bridge(&text, out, &r->needed, &r->fault);
     fprintf(stderr, "library: no call %s\n", c->call);
     exit(1);
 }
 
-/* Returns whether a call writes bytes. */
-static int writes_bytes(const testcase *c) {
-    return !IS("check_nfs") && !IS("mode") && !IS("same") && !IS("check_posix");
+static uint32_t invoke(const testcase *c, void *at, size_t cap, results *r) {
+    const uint32_t *n = c->numbers;
+    const aclck_bytes acl = c->blobs[0];
+    const aclck_buffer out = aclck_buffer_of(at, cap);
+    const aclck_object object = {c->blobs[1], c->blobs[2]};
+    const aclck_requester who = {c->blobs[3], c->groups, c->ngroups};
+    const aclck_question question = asks(n[0], n[1]);
+    if (IS("check"))
+        return aclck_check(acl, &object, &who, &question, &r->value, &r->fault);
+    if (IS("mode"))
+        return aclck_mode(acl, n[0], &r->value, &r->fault);
+    if (IS("child"))
+        return aclck_child(acl, n[0], out, &r->needed, &r->fault);
+    if (IS("show"))
+        return aclck_show(acl, n[0], out, &r->needed, &r->fault);
+    if (IS("encode"))
+        return aclck_encode(acl, n[0], out, &r->needed, &r->fault);
+    if (IS("normalize"))
+        return aclck_normalize(acl, n[0], out, &r->needed, &r->fault);
+    if (IS("normalize_inherit"))
+        return aclck_normalize_inherit(acl, n[0], out, &r->needed, &r->fault);
+    if (IS("table"))
+        return aclck_table(acl, &question, out, &r->needed, &r->fault);
+    if (IS("compare"))
+        return aclck_compare(acl, c->blobs[1], n[0], &r->difference, out, &r->fault);
+    if (IS("same"))
+        return aclck_same(acl, c->blobs[1], n[0], &r->value, &r->fault);
+    return invoke_posix(c, out, r);
 }
 
-static uint32_t done_status(const testcase *c) {
-    return IS("compare") ? ACLCK_NO : ACLCK_DONE;
+/* Returns whether a call answers with one number, which is 0 if the call fails. */
+static int answers(const testcase *c) {
+    return IS("check") || IS("mode") || IS("same") || IS("posix_check");
+}
+
+/* Returns whether a call writes bytes. */
+static int writes_bytes(const testcase *c) {
+    return !answers(c);
 }
 
 static results untouched(void) {
@@ -140,10 +172,27 @@ static int fail(const testcase *c, const char *what, int line) {
     return 0;
 }
 
+static int is_difference(const aclck_difference *found, uint64_t names, uint32_t same, uint32_t right,
+                         uint32_t first_grants) {
+    return found->names == names && found->same == same && found->right == right && found->first_grants == first_grants;
+}
+
+/* Returns whether a call wrote the answer that its status allows: at failure the one that grants nothing. */
+static int is_answer_right(const testcase *c, uint32_t status, const results *r) {
+    results was = untouched();
+    int done = status == ACLCK_DONE, written = done || status == ACLCK_SHORT;
+    int ok = EXPECT(c, r->value == (answers(c) ? done ? c->value : 0 : was.value));
+    if (!IS("compare"))
+        return ok & EXPECT(c, memcmp(&r->difference, &was.difference, sizeof was.difference) == 0);
+    if (written)
+        return ok & EXPECT(c, is_difference(&r->difference, c->out.len, c->value, c->right, c->first_grants));
+    return ok & EXPECT(c, is_difference(&r->difference, 0, 0, 0, 0));
+}
+
 /* Returns whether a call with a buffer of `cap` bytes wrote what its status allows. */
 static int is_right(const testcase *c, uint32_t status, size_t cap, const unsigned char *room, const results *r) {
     results was = untouched();
-    int done = writes_bytes(c) && status == done_status(c);
+    int done = writes_bytes(c) && status == ACLCK_DONE;
     size_t written = done ? c->out.len : 0;
     int ok = 1;
     ok &= EXPECT(c, status == c->status || (status == ACLCK_SHORT && cap < c->out.len));
@@ -155,7 +204,7 @@ static int is_right(const testcase *c, uint32_t status, size_t cap, const unsign
         ok &= EXPECT(c, room[SIDE + i] == CANARY);
     if (done)
         ok &= EXPECT(c, memcmp(room + SIDE, c->out.at, written) == 0);
-    if (done || status == ACLCK_SHORT)
+    if ((done || status == ACLCK_SHORT) && !IS("compare"))
         ok &= EXPECT(c, r->needed == c->out.len);
     else
         ok &= EXPECT(c, r->needed == was.needed);
@@ -163,15 +212,7 @@ static int is_right(const testcase *c, uint32_t status, size_t cap, const unsign
         ok &= EXPECT(c, memcmp(&r->fault, &c->fault, sizeof r->fault) == 0);
     else
         ok &= EXPECT(c, memcmp(&r->fault, &was.fault, sizeof was.fault) == 0);
-    if (IS("mode") && status == ACLCK_DONE)
-        ok &= EXPECT(c, r->value == c->value);
-    else
-        ok &= EXPECT(c, r->value == was.value);
-    if (IS("compare") && (status == ACLCK_NO || status == ACLCK_SHORT))
-        ok &= EXPECT(c, r->difference.right == c->right && r->difference.first_grants == c->first_grants);
-    else
-        ok &= EXPECT(c, memcmp(&r->difference, &was.difference, sizeof was.difference) == 0);
-    return ok;
+    return ok & is_answer_right(c, status, r);
 }
 
 /* Runs a case with a buffer of `cap` bytes. */
@@ -183,45 +224,55 @@ static int is_answered(const testcase *c, size_t cap, unsigned char *room) {
 
 /* ---- what the calls promise about each other */
 
-static int agree_on_requests(const testcase *c) {
-    const uint32_t *n = c->numbers;
-    aclck_fault fault;
-    aclck_decision decision = {77, 77};
-    uint32_t granted = 77, stranger = 77, many[3] = {77, 77, 77};
-    aclck_requester who[3];
+/* Each right is decided as check, granted, decide and deciding say. */
+static int agree_on_rights(const testcase *c, const aclck_object *object, const aclck_requester *who,
+                           uint32_t granted) {
     int ok = 1;
-    uint32_t status = aclck_granted(BLOB(0), BLOB(1), BLOB(2), BLOB(3), c->groups, c->ngroups, n[0], n[1], &granted,
-                                    &fault);
-    for (int i = 0; i < 3; i++) {
-        who[i].user = c->blobs[3];
-        who[i].groups = c->groups;
-        who[i].ngroups = c->ngroups;
-    }
-    who[1].user = aclck_string("nobody-of-the-cases");
-    ok &= EXPECT(c, status == (c->status == ACLCK_NO ? (uint32_t)ACLCK_DONE : c->status));
-    uint32_t several = aclck_check_many(BLOB(0), BLOB(1), BLOB(2), who, 3, n[0], n[1], many, 3, &fault);
-    ok &= EXPECT(c, several == status);
-    ok &= EXPECT(c, aclck_check_many(BLOB(0), BLOB(1), BLOB(2), who, 3, n[0], n[1], many, 2, &fault) ==
-                        ACLCK_BAD_ARGUMENT);
-    if (status != ACLCK_DONE)
-        return ok & EXPECT(c, granted == 77 && many[0] == 77 && many[2] == 77);
-    ok &= EXPECT(c, (granted == n[0]) == (c->status == ACLCK_YES));
-    ok &= EXPECT(c, many[0] == granted && many[2] == granted);
-    status = aclck_granted(BLOB(0), BLOB(1), BLOB(2), who[1].user.at, who[1].user.len, c->groups, c->ngroups, n[0],
-                           n[1], &stranger, &fault);
-    ok &= EXPECT(c, status == ACLCK_DONE && many[1] == stranger);
     for (int bit = 0; bit < 21; bit++) {
-        uint32_t right = (uint32_t)1 << bit;
-        if (!(right & ACLCK_ALL_RIGHTS))
+        const aclck_question question = asks((uint32_t)1 << bit, c->numbers[1]);
+        aclck_fault fault;
+        aclck_decision decision;
+        aclck_decided decided;
+        uint32_t one = 77;
+        if (!(question.mask & ACLCK_ALL_RIGHTS))
             continue;
-        uint32_t one = aclck_check_nfs(BLOB(0), BLOB(1), BLOB(2), BLOB(3), c->groups, c->ngroups, right, n[1], &fault);
-        uint32_t by = aclck_deciding(BLOB(0), BLOB(1), BLOB(2), BLOB(3), c->groups, c->ngroups, right, n[1],
-                                     &decision, &fault);
-        if (n[0] & right)
-            ok &= EXPECT(c, ((granted & right) != 0) == (one == ACLCK_YES));
-        ok &= EXPECT(c, (by == ACLCK_YES && decision.kind == ACLCK_ALLOW) == (one == ACLCK_YES));
+        ok &= EXPECT(c, aclck_check(c->blobs[0], object, who, &question, &one, &fault) == ACLCK_DONE);
+        ok &= EXPECT(c, aclck_deciding(c->blobs[0], object, who, &question, &decision, &fault) == ACLCK_DONE);
+        ok &= EXPECT(c, aclck_decide(c->blobs[0], object, who, &question, &decided, &fault) == ACLCK_DONE);
+        if (c->numbers[0] & (uint32_t)question.mask)
+            ok &= EXPECT(c, ((granted & (uint32_t)question.mask) != 0) == one);
+        ok &= EXPECT(c, (decision.kind == ACLCK_ALLOW) == one);
+        ok &= EXPECT(c, decided.allowed == (decision.kind == ACLCK_ALLOW ? (uint32_t)question.mask : 0));
+        ok &= EXPECT(c, decided.denied == (decision.kind == ACLCK_DENY ? (uint32_t)question.mask : 0));
     }
     return ok;
+}
+
+static int agree_on_requests(const testcase *c) {
+    const aclck_object object = {c->blobs[1], c->blobs[2]};
+    const aclck_question question = asks(c->numbers[0], c->numbers[1]);
+    aclck_fault fault;
+    uint32_t granted = 77, stranger = 77, many[3] = {77, 77, 77};
+    aclck_decided decided = {77, 77};
+    aclck_requester who[3];
+    const aclck_requesters all = {who, 3};
+    const aclck_masks room = {many, 3}, two = {many, 2};
+    int ok = 1;
+    for (int i = 0; i < 3; i++)
+        who[i] = aclck_requester_of(c->blobs[3], c->groups, c->ngroups);
+    who[1].user = aclck_string("nobody-of-the-cases");
+    ok &= EXPECT(c, aclck_check_many(c->blobs[0], &object, all, &question, two, &fault) == ACLCK_BAD_ARGUMENT);
+    ok &= EXPECT(c, many[0] == 0 && many[1] == 0 && many[2] == 77);
+    ok &= EXPECT(c, aclck_check_many(c->blobs[0], &object, all, &question, room, &fault) == c->status);
+    ok &= EXPECT(c, aclck_granted(c->blobs[0], &object, who, &question, &granted, &fault) == c->status);
+    ok &= EXPECT(c, aclck_decide(c->blobs[0], &object, who, &question, &decided, &fault) == c->status);
+    ok &= EXPECT(c, many[0] == granted && many[2] == granted && decided.allowed == granted);
+    if (c->status != ACLCK_DONE)
+        return ok & EXPECT(c, granted == 0 && many[1] == 0 && decided.denied == 0);
+    ok &= EXPECT(c, (granted == c->numbers[0]) == c->value);
+    ok &= EXPECT(c, (decided.allowed & decided.denied) == 0);
+    ok &= EXPECT(c, aclck_granted(c->blobs[0], &object, &who[1], &question, &stranger, &fault) == ACLCK_DONE);
+    return ok & EXPECT(c, many[1] == stranger) & agree_on_rights(c, &object, who, granted);
 }
 
 static uint32_t word_at(const unsigned char *at) {
@@ -244,24 +295,29 @@ static int agree_on_needed(const testcase *c) {
     size_t len = c->blobs[0].len, most = len / 20 + 1, count = 77, again;
     uint32_t *masks = malloc(most * sizeof *masks), *kept = malloc(most * sizeof *kept);
     unsigned char *list = malloc(len ? len : 1), *form = malloc(c->out.len);
+    const aclck_masks room = {masks, most};
+    const aclck_bytes cut = {list, len};
     aclck_fault fault;
     int ok = 1;
     memcpy(list, c->blobs[0].at, len);
     for (size_t i = 0; i < most; i++)
         masks[i] = 77;
-    uint32_t status = aclck_needed(BLOB(0), c->numbers[0], masks, most, &count, &fault);
+    uint32_t status = aclck_needed(c->blobs[0], c->numbers[0], room, &count, &fault);
     ok &= EXPECT(c, status == c->status);
     if (status == ACLCK_DONE) {
         ok &= EXPECT(c, count == word_at(list) && masks[count] == 77);
         cut_to(list, masks, count);
-        ok &= EXPECT(c, aclck_normalize(list, len, c->numbers[0], form, c->out.len, &again, &fault) == ACLCK_DONE);
+        ok &= EXPECT(c, aclck_normalize(cut, c->numbers[0], aclck_buffer_of(form, c->out.len), &again, &fault) ==
+                            ACLCK_DONE);
         ok &= EXPECT(c, again == c->out.len && memcmp(form, c->out.at, again) == 0);
-        ok &= EXPECT(c, aclck_needed(list, len, c->numbers[0], kept, count, &again, &fault) == ACLCK_DONE);
+        aclck_masks rest = {kept, count};
+        ok &= EXPECT(c, aclck_needed(cut, c->numbers[0], rest, &again, &fault) == ACLCK_DONE);
         ok &= EXPECT(c, again == count && memcmp(kept, masks, count * sizeof *masks) == 0);
         kept[0] = 77;
+        rest.len = count - 1;
         if (count > 0)
-            ok &= EXPECT(c, aclck_needed(list, len, c->numbers[0], kept, count - 1, &again, &fault) == ACLCK_SHORT &&
-                                again == count && kept[0] == 77);
+            ok &= EXPECT(c, aclck_needed(cut, c->numbers[0], rest, &again, &fault) == ACLCK_SHORT && again == count &&
+                                kept[0] == 77);
     } else {
         ok &= EXPECT(c, count == 77 && masks[0] == 77 && memcmp(&fault, &c->fault, sizeof fault) == 0);
     }
@@ -273,7 +329,7 @@ static int agree_on_needed(const testcase *c) {
 }
 
 static int agree(const testcase *c) {
-    if (IS("check_nfs"))
+    if (IS("check"))
         return agree_on_requests(c);
     if (IS("normalize"))
         return agree_on_needed(c);
@@ -284,24 +340,25 @@ static int agree(const testcase *c) {
 static int are_words_right(void) {
     testcase none, *c = &none;
     char room[256];
+    const aclck_buffer all = aclck_buffer_of(room, sizeof room);
     size_t needed;
     uint32_t mask;
     int ok = 1;
     memset(c, 0, sizeof *c);
     strcpy(c->call, "words");
     for (uint32_t bits = 0; bits < 1u << 21; bits += 127) {
-        uint32_t status = aclck_mask_text(bits, room, sizeof room, &needed);
+        uint32_t status = aclck_mask_text(bits, all, &needed);
         if (bits & ~(uint32_t)ACLCK_ALL_RIGHTS) {
             ok &= EXPECT(c, status == ACLCK_BAD_ARGUMENT);
             continue;
         }
         ok &= EXPECT(c, status == ACLCK_DONE && needed <= 250);
-        ok &= EXPECT(c, aclck_read_mask(room, needed, &mask) == ACLCK_YES && mask == bits);
-        ok &= EXPECT(c, aclck_mask_text(bits, room, needed - 1, &needed) == ACLCK_SHORT);
+        ok &= EXPECT(c, aclck_read_mask(aclck_bytes_of(room, needed), &mask) == ACLCK_DONE && mask == bits);
+        ok &= EXPECT(c, aclck_mask_text(bits, aclck_buffer_of(room, needed - 1), &needed) == ACLCK_SHORT);
     }
-    ok &= EXPECT(c, aclck_mask_text(ACLCK_ALL_RIGHTS, room, sizeof room, &needed) == ACLCK_DONE && needed <= 250);
+    ok &= EXPECT(c, aclck_mask_text(ACLCK_ALL_RIGHTS, all, &needed) == ACLCK_DONE && needed <= 250);
     mask = 77;
-    ok &= EXPECT(c, aclck_read_mask("READ", 4, &mask) == ACLCK_NO && mask == 77);
+    ok &= EXPECT(c, aclck_read_mask(aclck_string("READ"), &mask) == ACLCK_BAD_ARGUMENT && mask == 77);
     ok &= EXPECT(c, aclck_version() == ACLCK_VERSION);
     return ok;
 }
@@ -320,9 +377,10 @@ static int are_reasons_right(void) {
         char room[16];
         size_t len = strlen(names[reason - 1]), needed = 0;
         memset(room, CANARY, sizeof room);
-        ok &= EXPECT(c, aclck_reason_text(reason, room, len - 1, &needed) == ACLCK_SHORT && needed == len);
+        ok &= EXPECT(c, aclck_reason_text(reason, aclck_buffer_of(room, len - 1), &needed) == ACLCK_SHORT);
+        ok &= EXPECT(c, needed == len);
         ok &= EXPECT(c, (unsigned char)room[0] == CANARY);
-        ok &= EXPECT(c, aclck_reason_text(reason, room, 13, &needed) == ACLCK_DONE && needed == len);
+        ok &= EXPECT(c, aclck_reason_text(reason, aclck_buffer_of(room, 13), &needed) == ACLCK_DONE && needed == len);
         ok &= EXPECT(c, memcmp(room, names[reason - 1], len) == 0 && (unsigned char)room[len] == CANARY);
     }
     return ok;
@@ -334,16 +392,22 @@ static int are_reasons_right(void) {
 typedef struct {
     results r;
     aclck_decision decision;
+    aclck_decided decided;
     uint32_t granted[4];
     char room[64];
 } outputs;
 
 /* ALLOW - READ_DATA bob: 24 bytes, the last of which is the zero byte of the string. */
 #define BOB "\0\0\0\1" "\0\0\0\0" "\0\0\0\0" "\0\0\0\1" "\0\0\0\3" "bob"
-#define LIST BOB, sizeof BOB
-#define ENTRIES "u::rwx,g::r-x,o::r--", 20
-#define THEM "a", 1, "s", 1
-#define OUT o.room, sizeof o.room, &o.r.needed, &o.r.fault
+static const aclck_bytes LIST = {BOB, sizeof BOB};
+static const aclck_bytes ENTRIES = {"u::rwx,g::r-x,o::r--", 20};
+static const aclck_object THEM = {{"a", 1}, {"s", 1}};
+static const aclck_bytes STAFF[] = {{"staff", 5}, {"", 0}};
+static const aclck_requester IN_STAFF = {{"bob", 3}, STAFF, 1};
+
+#define OUT aclck_buffer_of(o.room, sizeof o.room), &o.r.needed, &o.r.fault
+
+/* A call with a bad argument writes nothing. */
 #define BAD(call)                                                                                                      \
     do {                                                                                                               \
         memset(&o, 0xee, sizeof o);                                                                                    \
@@ -351,44 +415,88 @@ typedef struct {
         ok &= EXPECT(c, memcmp(&o, &untouched_outputs, sizeof o) == 0);                                                \
     } while (0)
 
-/* Returns whether each call refuses each option that it does not have. */
-static int are_options_judged(void) {
-    static const aclck_bytes groups[] = {{"staff", 5}};
-    const aclck_requester who = {{"bob", 3}, groups, 1};
+/* A call with a bad argument writes the answer that grants nothing, and nothing else. */
+#define CLOSED(call, answer, is_closed)                                                                                \
+    do {                                                                                                               \
+        memset(&o, 0xee, sizeof o);                                                                                    \
+        ok &= EXPECT(c, (call) == ACLCK_BAD_ARGUMENT);                                                                 \
+        ok &= EXPECT(c, is_closed);                                                                                    \
+        memset(&(answer), 0xee, sizeof(answer));                                                                       \
+        ok &= EXPECT(c, memcmp(&o, &untouched_outputs, sizeof o) == 0);                                                \
+    } while (0)
+
+/* The calls that ask whether one requester may do something are closed by an argument that is bad for all of them. */
+static int are_questions_closed(const testcase *c, const aclck_object *object, const aclck_requester *who,
+                                aclck_question question) {
     outputs o, untouched_outputs;
+    int ok = 1;
+    memset(&untouched_outputs, 0xee, sizeof o);
+    CLOSED(aclck_check(LIST, object, who, &question, &o.r.value, &o.r.fault), o.r.value, o.r.value == 0);
+    CLOSED(aclck_granted(LIST, object, who, &question, &o.r.value, &o.r.fault), o.r.value, o.r.value == 0);
+    CLOSED(aclck_decide(LIST, object, who, &question, &o.decided, &o.r.fault), o.decided,
+           o.decided.allowed == 0 && o.decided.denied == 0);
+    CLOSED(aclck_deciding(LIST, object, who, &question, &o.decision, &o.r.fault), o.decision,
+           o.decision.place == 0 && o.decision.kind == ACLCK_UNDECIDED);
+    return ok;
+}
+
+/* aclck_check_many is closed by a bad argument: with room for `count` answers, all of them are 0. */
+static int is_many_closed(const testcase *c, const aclck_object *object, const aclck_requester *who,
+                          aclck_question question, size_t count) {
+    outputs o, untouched_outputs;
+    const aclck_requesters three = {who, 3};
+    const aclck_masks room = {o.granted, count};
+    int ok = 1;
+    memset(&untouched_outputs, 0xee, sizeof o);
+    memset(&o, 0xee, sizeof o);
+    ok &= EXPECT(c, aclck_check_many(LIST, object, three, &question, room, &o.r.fault) == ACLCK_BAD_ARGUMENT);
+    for (size_t i = 0; i < count; i++)
+        ok &= EXPECT(c, o.granted[i] == 0);
+    memset(o.granted, 0xee, count * sizeof *o.granted);
+    return ok & EXPECT(c, memcmp(&o, &untouched_outputs, sizeof o) == 0);
+}
+
+/* Returns whether each call refuses these options, which are not its own. */
+static int is_option_judged(const testcase *c, uint32_t options) {
+    const aclck_requester who[] = {IN_STAFF, IN_STAFF, IN_STAFF};
+    const aclck_question question = asks(1, options);
+    const aclck_posix_text text = with_names(ENTRIES, NULL, 0);
+    const aclck_creation creation = {0777, 022, (enum aclck_option)options};
+    outputs o, untouched_outputs;
+    int ok = are_questions_closed(c, &THEM, who, question) & is_many_closed(c, &THEM, who, question, 3);
+    memset(&untouched_outputs, 0xee, sizeof o);
+    CLOSED(aclck_mode(LIST, options, &o.r.value, &o.r.fault), o.r.value, o.r.value == 0);
+    CLOSED(aclck_same(LIST, LIST, options, &o.r.value, &o.r.fault), o.r.value, o.r.value == 0);
+    CLOSED(aclck_compare(LIST, LIST, options, &o.r.difference, aclck_buffer_of(o.room, sizeof o.room), &o.r.fault),
+           o.r.difference, is_difference(&o.r.difference, 0, 0, 0, 0));
+    BAD(aclck_show(LIST, options, OUT));
+    BAD(aclck_encode(aclck_string(""), options, OUT));
+    BAD(aclck_normalize(LIST, options, OUT));
+    BAD(aclck_normalize_inherit(LIST, options, OUT));
+    BAD(aclck_table(LIST, &question, OUT));
+    if (options & ~(uint32_t)(ACLCK_NARROW | ACLCK_DIRECTORY))
+        BAD(aclck_child(LIST, options, OUT));
+    if (options != ACLCK_DIRECTORY)
+        BAD(aclck_posix_create(&text, &creation, OUT));
+    if (options != ACLCK_FORM_SHOWN && options != ACLCK_FORM_SHORT)
+        BAD(aclck_posix_show(&text, options, OUT));
+    return ok;
+}
+
+/* Returns whether each call refuses each option that it does not have, and rights in place of options. */
+static int are_options_judged(void) {
     testcase none, *c = &none;
     int ok = 1;
     memset(c, 0, sizeof *c);
     strcpy(c->call, "bad options");
-    memset(&untouched_outputs, 0xee, sizeof o);
-    for (uint32_t options = 2; options < 64; options++) {
-        BAD(aclck_check_nfs(LIST, THEM, "bob", 3, groups, 1, 1, options, &o.r.fault));
-        BAD(aclck_granted(LIST, THEM, "bob", 3, groups, 1, 1, options, o.granted, &o.r.fault));
-        BAD(aclck_deciding(LIST, THEM, "bob", 3, groups, 1, 1, options, &o.decision, &o.r.fault));
-        BAD(aclck_check_many(LIST, THEM, &who, 1, 1, options, o.granted, 1, &o.r.fault));
-        BAD(aclck_mode(LIST, options, &o.r.value, &o.r.fault));
-        BAD(aclck_show(LIST, options, OUT));
-        BAD(aclck_encode("", 0, options, OUT));
-        BAD(aclck_normalize(LIST, options, OUT));
-        BAD(aclck_normalize_inherit(LIST, options, OUT));
-        BAD(aclck_table(LIST, 1, options, OUT));
-        BAD(aclck_same(LIST, LIST, options, &o.r.fault));
-        BAD(aclck_compare(LIST, LIST, options, &o.r.difference, OUT));
-        if (options >= 4)
-            BAD(aclck_child(LIST, options, OUT));
-        if (options != ACLCK_DIRECTORY)
-            BAD(aclck_create(ENTRIES, NULL_NAMES, 0777, 022, options, OUT));
-        if (options != ACLCK_FORM_SHOWN && options != ACLCK_FORM_SHORT)
-            BAD(aclck_show_posix(ENTRIES, NULL_NAMES, options, OUT));
-    }
-    BAD(aclck_create(ENTRIES, NULL_NAMES, 0777, 022, 1, OUT));
-    BAD(aclck_show_posix(ENTRIES, NULL_NAMES, 1, OUT));
-    return ok;
+    for (int bit = 0; bit < 32; bit++)
+        if ((uint32_t)1 << bit != ACLCK_NARROW)
+            ok &= is_option_judged(c, (uint32_t)1 << bit) & is_option_judged(c, (uint32_t)1 << bit | ACLCK_NARROW);
+    return ok & is_option_judged(c, ACLCK_ALL_RIGHTS);
 }
 
-/* Returns whether each call refuses each other argument that has no meaning. */
-static int are_arguments_judged(void) {
-    static const aclck_bytes groups[] = {{"staff", 5}, {"", 0}};
+/* Returns whether calls over POSIX texts refuse a table of names, or an argument, that has no meaning. */
+static int are_posix_arguments_judged(const testcase *c) {
     static const uint32_t ids[] = {7, 0xffffffff};
     static const aclck_name names[][2] = {
         {{{"", 0}, 7, 0}, {{"b", 1}, 8, 0}},          {{{"b", 1}, 8, 0}, {{"12", 2}, 7, 1}},
@@ -396,71 +504,78 @@ static int are_arguments_judged(void) {
         {{{"b", 1}, 0xffffffff, 0}, {{"d", 1}, 8, 0}}, {{{"b", 1}, 7, 0}, {{"d", 1}, 0xffffffff, 1}},
         {{{"b", 1}, 7, 0}, {{"d", 1}, 8, 2}},
     };
-    static const uint32_t no_masks[] = {0x800, 0x8000, 0x200000, 0x80000000, 0xffffffff};
+    static const aclck_creation good = {0777, 022, ACLCK_FILE}, creations[] = {{01000, 022, ACLCK_FILE},
+                                                                              {0777, 01000, ACLCK_FILE}};
+    const aclck_posix_question read = {7, 7, 7, 4, ids, 1}, more = {7, 7, 7, 8, ids, 1};
+    const aclck_posix_text plain = with_names(ENTRIES, NULL, 0);
+    outputs o, untouched_outputs;
+    int ok = 1;
+    memset(&untouched_outputs, 0xee, sizeof o);
+    for (int i = 0; i < 4; i++) { /* the owner, the group, the user or one of the groups is no id */
+        const aclck_posix_question no_id = {ids[i == 0], ids[i == 1], ids[i == 2], 4, ids, i == 3 ? 2 : 1};
+        CLOSED(aclck_posix_check(&plain, &no_id, &o.r.value, &o.r.fault), o.r.value, o.r.value == 0);
+    }
+    CLOSED(aclck_posix_check(&plain, &more, &o.r.value, &o.r.fault), o.r.value, o.r.value == 0);
+    BAD(aclck_posix_chmod(&plain, 01000, OUT));
+    BAD(aclck_posix_create(&plain, &creations[0], OUT));
+    BAD(aclck_posix_create(&plain, &creations[1], OUT));
+    for (size_t i = 0; i < sizeof names / sizeof *names; i++) {
+        const aclck_posix_text text = with_names(ENTRIES, names[i], 2);
+        CLOSED(aclck_posix_check(&text, &read, &o.r.value, &o.r.fault), o.r.value, o.r.value == 0);
+        BAD(aclck_posix_show(&text, 0, OUT));
+        BAD(aclck_posix_calc_mask(&text, OUT));
+        BAD(aclck_posix_chmod(&text, 0750, OUT));
+        BAD(aclck_posix_create(&text, &good, OUT));
+        BAD(aclck_posix_bridge(&text, OUT));
+    }
+    return ok;
+}
+
+/* Returns whether each call refuses each other argument that has no meaning. */
+static int are_arguments_judged(void) {
+    static const uint32_t no_masks[] = {0x800, 0x8000, 0x200000, 0x80000000, 0xffffffff, ACLCK_NARROW};
     static const uint32_t no_rights[] = {0, 3, 0x1f07ff, 0x800, 0x200000, 0x80000000};
-    aclck_requester who[3];
+    static const aclck_object no_owner = {{"", 0}, {"s", 1}}, no_group = {{"a", 1}, {"", 0}};
+    static const aclck_requester no_user = {{"", 0}, STAFF, 1}, no_name = {{"bob", 3}, STAFF, 2};
+    const aclck_question read = asks(1, 0);
+    aclck_requester who[] = {IN_STAFF, IN_STAFF, IN_STAFF};
     outputs o, untouched_outputs;
     testcase none, *c = &none;
     int ok = 1;
     memset(c, 0, sizeof *c);
     strcpy(c->call, "bad arguments");
     memset(&untouched_outputs, 0xee, sizeof o);
-    for (int i = 0; i < 3; i++) {
-        who[i].user = aclck_string("bob");
-        who[i].groups = groups;
-        who[i].ngroups = 1;
-    }
-    for (size_t n = 0; n < 5; n++) /* one name for each of three requesters, and not fewer or more */
+    for (size_t n = 0; n < 5; n++) /* one answer for each of three requesters, and not fewer or more */
         if (n != 3)
-            BAD(aclck_check_many(LIST, THEM, who, 3, 1, 0, o.granted, n, &o.r.fault));
+            ok &= is_many_closed(c, &THEM, who, read, n);
     for (int i = 0; i < 3; i++) {
-        who[i].ngroups = 2;
-        BAD(aclck_check_many(LIST, THEM, who, 3, 1, 0, o.granted, 3, &o.r.fault));
-        who[i].ngroups = 1;
-        who[i].user.len = 0;
-        BAD(aclck_check_many(LIST, THEM, who, 3, 1, 0, o.granted, 3, &o.r.fault));
-        who[i].user.len = 3;
+        who[i] = no_name;
+        ok &= is_many_closed(c, &THEM, who, read, 3);
+        who[i] = no_user;
+        ok &= is_many_closed(c, &THEM, who, read, 3);
+        who[i] = IN_STAFF;
     }
-    BAD(aclck_check_many(LIST, "", 0, "s", 1, who, 3, 1, 0, o.granted, 3, &o.r.fault));
-    BAD(aclck_check_many(LIST, "a", 1, "", 0, who, 3, 1, 0, o.granted, 3, &o.r.fault));
-    for (int i = 0; i < 4; i++) { /* the owner, the group, the user or one of the groups is empty */
-        size_t owner = i != 0, group = i != 1, user = i != 2, ngroups = i == 3 ? 2 : 1;
-        BAD(aclck_check_nfs(LIST, "a", owner, "s", group, "b", user, groups, ngroups, 1, 0, &o.r.fault));
-        BAD(aclck_granted(LIST, "a", owner, "s", group, "b", user, groups, ngroups, 1, 0, o.granted, &o.r.fault));
-        BAD(aclck_deciding(LIST, "a", owner, "s", group, "b", user, groups, ngroups, 1, 0, &o.decision, &o.r.fault));
-    }
+    ok &= is_many_closed(c, &no_owner, who, read, 3) & is_many_closed(c, &no_group, who, read, 3);
+    ok &= are_questions_closed(c, &no_owner, who, read) & are_questions_closed(c, &no_group, who, read);
+    ok &= are_questions_closed(c, &THEM, &no_user, read) & are_questions_closed(c, &THEM, &no_name, read);
     for (size_t i = 0; i < sizeof no_masks / sizeof *no_masks; i++) {
-        BAD(aclck_check_nfs(LIST, THEM, "b", 1, groups, 1, no_masks[i], 0, &o.r.fault));
-        BAD(aclck_granted(LIST, THEM, "b", 1, groups, 1, no_masks[i], 0, o.granted, &o.r.fault));
-        BAD(aclck_check_many(LIST, THEM, who, 3, no_masks[i], 0, o.granted, 3, &o.r.fault));
-        BAD(aclck_mask_text(no_masks[i], o.room, sizeof o.room, &o.r.needed));
+        const aclck_question question = asks(no_masks[i], 0);
+        ok &= are_questions_closed(c, &THEM, who, question) & is_many_closed(c, &THEM, who, question, 3);
+        BAD(aclck_mask_text(no_masks[i], aclck_buffer_of(o.room, sizeof o.room), &o.r.needed));
     }
     for (size_t i = 0; i < sizeof no_rights / sizeof *no_rights; i++) {
-        BAD(aclck_deciding(LIST, THEM, "b", 1, groups, 1, no_rights[i], 0, &o.decision, &o.r.fault));
-        BAD(aclck_table(LIST, no_rights[i], 0, OUT));
+        const aclck_question question = asks(no_rights[i], 0);
+        CLOSED(aclck_deciding(LIST, &THEM, who, &question, &o.decision, &o.r.fault), o.decision,
+               o.decision.place == 0 && o.decision.kind == ACLCK_UNDECIDED);
+        BAD(aclck_table(LIST, &question, OUT));
     }
-    BAD(aclck_table(LIST, ACLCK_WRITE_RETENTION, ACLCK_NARROW, OUT));
-    BAD(aclck_table(LIST, ACLCK_WRITE_RETENTION_HOLD, ACLCK_NARROW, OUT));
-    for (int i = 0; i < 4; i++) { /* the owner, the group, the user or one of the groups is no id */
-        const uint32_t *n = ids;
-        size_t nids = i == 3 ? 2 : 1;
-        BAD(aclck_check_posix(ENTRIES, NULL_NAMES, n[i == 0], n[i == 1], n[i == 2], ids, nids, 4, &o.r.fault));
-    }
-    BAD(aclck_check_posix(ENTRIES, NULL_NAMES, 7, 7, 7, ids, 1, 8, &o.r.fault));
-    BAD(aclck_chmod(ENTRIES, NULL_NAMES, 01000, OUT));
-    BAD(aclck_create(ENTRIES, NULL_NAMES, 01000, 022, 0, OUT));
-    BAD(aclck_create(ENTRIES, NULL_NAMES, 0777, 01000, 0, OUT));
-    for (size_t i = 0; i < sizeof names / sizeof *names; i++) {
-        BAD(aclck_check_posix(ENTRIES, names[i], 2, 7, 7, 7, ids, 1, 4, &o.r.fault));
-        BAD(aclck_show_posix(ENTRIES, names[i], 2, 0, OUT));
-        BAD(aclck_calc_mask(ENTRIES, names[i], 2, OUT));
-        BAD(aclck_chmod(ENTRIES, names[i], 2, 0750, OUT));
-        BAD(aclck_create(ENTRIES, names[i], 2, 0777, 022, 0, OUT));
-        BAD(aclck_bridge(ENTRIES, names[i], 2, OUT));
-    }
-    BAD(aclck_reason_text(0, o.room, sizeof o.room, &o.r.needed));
-    BAD(aclck_reason_text(29, o.room, sizeof o.room, &o.r.needed));
-    return ok;
+    const aclck_question retention = asks(ACLCK_WRITE_RETENTION, ACLCK_NARROW),
+                         hold = asks(ACLCK_WRITE_RETENTION_HOLD, ACLCK_NARROW);
+    BAD(aclck_table(LIST, &retention, OUT));
+    BAD(aclck_table(LIST, &hold, OUT));
+    BAD(aclck_reason_text(0, aclck_buffer_of(o.room, sizeof o.room), &o.r.needed));
+    BAD(aclck_reason_text(29, aclck_buffer_of(o.room, sizeof o.room), &o.r.needed));
+    return ok & are_posix_arguments_judged(c);
 }
 
 enum { MOST_ACES = 65536, HEAVY_ACES = 4096 };
@@ -505,11 +620,15 @@ static aclck_bytes many_users(unsigned count) {
     return aclck_string(all);
 }
 
-/* Returns whether a call was refused for the reason at the place, and wrote nothing else. */
+/* Returns whether a call was refused for the reason at the place, gave the answer that grants nothing if it answers,
+   and wrote nothing else. */
 static int is_refused(const testcase *c, uint32_t status, const results *r, aclck_fault fault) {
     results was = untouched();
-    was.fault = fault;
-    return EXPECT(c, status == ACLCK_REFUSED) & EXPECT(c, memcmp(r, &was, sizeof was) == 0);
+    int value = r->value == 0 || r->value == was.value;
+    int difference = is_difference(&r->difference, 0, 0, 0, 0) ||
+                     memcmp(&r->difference, &was.difference, sizeof was.difference) == 0;
+    return EXPECT(c, status == ACLCK_REFUSED) & EXPECT(c, memcmp(&r->fault, &fault, sizeof fault) == 0) &
+           EXPECT(c, value && difference && r->needed == was.needed);
 }
 
 #define REFUSED(call, reason, offset, line, column, list)                                                              \
@@ -527,29 +646,31 @@ static int are_limits_kept(void) {
     aclck_bytes too_many = many_lines("ALLOW - READ_DATA a\n", MOST_ACES, "ALLOW - - a\n");
     aclck_bytes too_heavy = many_lines("ALLOW - READ_DATA a\n", MOST_ACES - 1, "ALLOW - READ_DATA|EXECUTE a\n");
     aclck_bytes users = many_users(40000);
+    const aclck_posix_text text = with_names(users, NULL, 0);
+    const aclck_question read = asks(1, 0);
     char out[8];
+    const aclck_buffer room = aclck_buffer_of(out, sizeof out);
     uint32_t status;
     results r;
     testcase none, *c = &none;
     int ok = 1;
     memset(c, 0, sizeof *c);
     strcpy(c->call, "limits");
-#define ALL(of) of.at, of.len
-#define TO out, sizeof out, &r.needed, &r.fault
-    REFUSED(aclck_check_nfs(ALL(full), THEM, "b", 1, NULL_GROUPS, 1, 0, &r.fault), ACLCK_TOO_MANY_ACES, 0, 0, 0, 0);
-    REFUSED(aclck_check_nfs(ALL(heavy), THEM, "b", 1, NULL_GROUPS, 1, 0, &r.fault), ACLCK_TOO_HEAVY, mask_at, 0, 0, 0);
-    REFUSED(aclck_mode(ALL(full), 0, &r.value, &r.fault), ACLCK_TOO_MANY_ACES, 0, 0, 0, 0);
-    REFUSED(aclck_mode(ALL(heavy), 0, &r.value, &r.fault), ACLCK_TOO_HEAVY, mask_at, 0, 0, 0);
-    REFUSED(aclck_normalize(ALL(full), 0, TO), ACLCK_TOO_MANY_ACES, 0, 0, 0, 0);
-    REFUSED(aclck_normalize(ALL(heavy), 0, TO), ACLCK_TOO_HEAVY, mask_at, 0, 0, 0);
-    REFUSED(aclck_same(ALL(full), LIST, 0, &r.fault), ACLCK_TOO_MANY_ACES, 0, 0, 0, 0);
-    REFUSED(aclck_same(LIST, ALL(full), 0, &r.fault), ACLCK_TOO_MANY_ACES, 0, 0, 0, 1);
-    REFUSED(aclck_same(LIST, ALL(heavy), 0, &r.fault), ACLCK_TOO_HEAVY, mask_at, 0, 0, 1);
-    REFUSED(aclck_compare(LIST, ALL(full), 0, &r.difference, TO), ACLCK_TOO_MANY_ACES, 0, 0, 0, 1);
-    REFUSED(aclck_compare(ALL(heavy), ALL(full), 0, &r.difference, TO), ACLCK_TOO_HEAVY, mask_at, 0, 0, 0);
-    REFUSED(aclck_encode(ALL(too_many), 0, TO), ACLCK_TOO_MANY_ACES, 0, MOST_ACES + 1, 1, 0);
-    REFUSED(aclck_encode(ALL(too_heavy), 0, TO), ACLCK_TOO_HEAVY, 0, MOST_ACES, 9, 0);
-    REFUSED(aclck_bridge(ALL(users), NULL_NAMES, TO), ACLCK_LIMITS, 0, 0, 0, 0);
+#define TO room, &r.needed, &r.fault
+    REFUSED(aclck_check(full, &THEM, &IN_STAFF, &read, &r.value, &r.fault), ACLCK_TOO_MANY_ACES, 0, 0, 0, 0);
+    REFUSED(aclck_check(heavy, &THEM, &IN_STAFF, &read, &r.value, &r.fault), ACLCK_TOO_HEAVY, mask_at, 0, 0, 0);
+    REFUSED(aclck_mode(full, 0, &r.value, &r.fault), ACLCK_TOO_MANY_ACES, 0, 0, 0, 0);
+    REFUSED(aclck_mode(heavy, 0, &r.value, &r.fault), ACLCK_TOO_HEAVY, mask_at, 0, 0, 0);
+    REFUSED(aclck_normalize(full, 0, TO), ACLCK_TOO_MANY_ACES, 0, 0, 0, 0);
+    REFUSED(aclck_normalize(heavy, 0, TO), ACLCK_TOO_HEAVY, mask_at, 0, 0, 0);
+    REFUSED(aclck_same(full, LIST, 0, &r.value, &r.fault), ACLCK_TOO_MANY_ACES, 0, 0, 0, 0);
+    REFUSED(aclck_same(LIST, full, 0, &r.value, &r.fault), ACLCK_TOO_MANY_ACES, 0, 0, 0, 1);
+    REFUSED(aclck_same(LIST, heavy, 0, &r.value, &r.fault), ACLCK_TOO_HEAVY, mask_at, 0, 0, 1);
+    REFUSED(aclck_compare(LIST, full, 0, &r.difference, room, &r.fault), ACLCK_TOO_MANY_ACES, 0, 0, 0, 1);
+    REFUSED(aclck_compare(heavy, full, 0, &r.difference, room, &r.fault), ACLCK_TOO_HEAVY, mask_at, 0, 0, 0);
+    REFUSED(aclck_encode(too_many, 0, TO), ACLCK_TOO_MANY_ACES, 0, MOST_ACES + 1, 1, 0);
+    REFUSED(aclck_encode(too_heavy, 0, TO), ACLCK_TOO_HEAVY, 0, MOST_ACES, 9, 0);
+    REFUSED(aclck_posix_bridge(&text, TO), ACLCK_LIMITS, 0, 0, 0, 0);
     free((void *)full.at);
     free((void *)heavy.at);
     free((void *)too_many.at);
@@ -565,15 +686,17 @@ static int is_place_of_decision_right(void) {
     static const struct {
         const char *user;
         size_t ngroups;
-        uint32_t right, status, place, kind;
+        enum aclck_right right;
+        uint32_t place, kind;
     } rows[] = {
-        {"bob", 1, ACLCK_READ_DATA, ACLCK_YES, 1, ACLCK_ALLOW},  {"eve", 1, ACLCK_READ_DATA, ACLCK_YES, 2, ACLCK_DENY},
-        {"bob", 1, ACLCK_EXECUTE, ACLCK_YES, 2, ACLCK_DENY},     {"bob", 0, ACLCK_EXECUTE, ACLCK_YES, 3, ACLCK_ALLOW},
-        {"eve", 1, ACLCK_WRITE_DATA, ACLCK_YES, 3, ACLCK_ALLOW}, {"eve", 0, ACLCK_READ_DATA, ACLCK_NO, 77, 77},
+        {"bob", 1, ACLCK_READ_DATA, 1, ACLCK_ALLOW},  {"eve", 1, ACLCK_READ_DATA, 2, ACLCK_DENY},
+        {"bob", 1, ACLCK_EXECUTE, 2, ACLCK_DENY},     {"bob", 0, ACLCK_EXECUTE, 3, ACLCK_ALLOW},
+        {"eve", 1, ACLCK_WRITE_DATA, 3, ACLCK_ALLOW}, {"eve", 0, ACLCK_READ_DATA, 0, ACLCK_UNDECIDED},
     };
-    static const char text[] = "DENY FILE|INHERITONLY READ_DATA EVERYONE@\nALLOW - READ_DATA bob\n"
-                               "DENY GROUP READ_DATA|EXECUTE staff\nALLOW - WRITE_DATA|EXECUTE EVERYONE@\n";
     static const aclck_bytes staff[] = {{"staff", 5}};
+    const aclck_bytes text = aclck_string("DENY FILE|INHERITONLY READ_DATA EVERYONE@\nALLOW - READ_DATA bob\n"
+                                          "DENY GROUP READ_DATA|EXECUTE staff\n"
+                                          "ALLOW - WRITE_DATA|EXECUTE EVERYONE@\n");
     char list[128];
     size_t len = 0;
     aclck_fault fault;
@@ -581,12 +704,13 @@ static int is_place_of_decision_right(void) {
     int ok;
     memset(c, 0, sizeof *c);
     strcpy(c->call, "deciding");
-    ok = EXPECT(c, aclck_encode(text, sizeof text - 1, 0, list, sizeof list, &len, &fault) == ACLCK_DONE);
+    ok = EXPECT(c, aclck_encode(text, 0, aclck_buffer_of(list, sizeof list), &len, &fault) == ACLCK_DONE);
     for (size_t i = 0; ok && i < sizeof rows / sizeof *rows; i++) {
+        const aclck_requester who = aclck_requester_of(aclck_string(rows[i].user), staff, rows[i].ngroups);
+        const aclck_question question = asks(rows[i].right, 0);
         aclck_decision decision = {77, 77};
-        uint32_t status = aclck_deciding(list, len, THEM, rows[i].user, 3, staff, rows[i].ngroups, rows[i].right, 0,
-                                         &decision, &fault);
-        ok &= EXPECT(c, status == rows[i].status);
+        ok &= EXPECT(c, aclck_deciding(aclck_bytes_of(list, len), &THEM, &who, &question, &decision, &fault) ==
+                            ACLCK_DONE);
         ok &= EXPECT(c, decision.place == rows[i].place && decision.kind == rows[i].kind);
     }
     return ok;
@@ -700,8 +824,8 @@ static int run_plain(void) {
     return ok;
 }
 
-/* Each request for memory fails in turn. The call must return ACLCK_MEMORY and change nothing, or do without the
-   memory. It must free all memory that it got. */
+/* Each request for memory fails in turn. The call must return ACLCK_MEMORY and write at most the answer that grants
+   nothing, or do without the memory. It must free all memory that it got. */
 static int run_memory(void) {
     int ok = 1;
     size_t requests = 0;
@@ -711,6 +835,7 @@ static int run_memory(void) {
         unsigned char *room = malloc(len + 2 * SIDE);
         for (long at = 0;; at++, requests++) {
             results r = untouched(), was = untouched();
+            was.value = answers(c) ? 0 : was.value;
             memset(room, CANARY, len + 2 * SIDE);
             long before = held;
             left = at;
@@ -719,7 +844,9 @@ static int run_memory(void) {
             left = -1;
             ok &= EXPECT(c, held == before);
             if (status == ACLCK_MEMORY) {
-                ok &= EXPECT(c, !all && memcmp(&r, &was, sizeof r) == 0);
+                ok &= EXPECT(c, !all && memcmp(&r.fault, &was.fault, sizeof r.fault) == 0);
+                ok &= EXPECT(c, r.value == was.value && r.needed == was.needed);
+                ok &= EXPECT(c, !IS("compare") || is_difference(&r.difference, 0, 0, 0, 0));
                 for (size_t k = 0; k < len + 2 * SIDE; k++)
                     ok &= EXPECT(c, room[k] == CANARY);
             } else {
@@ -765,9 +892,9 @@ int LLVMFuzzerTestOneInput(const uint8_t *data, size_t size);
 /* The first byte selects the call, and the second byte is its number or its options. The rest is its input, or its two
    inputs. */
 int LLVMFuzzerTestOneInput(const uint8_t *data, size_t size) {
-    static const char *const calls[] = {"check_nfs", "mode", "child", "show", "encode", "normalize",
-        "normalize_inherit", "table", "compare", "same", "check_posix", "show_posix", "calc_mask", "chmod", "create",
-        "bridge"};
+    static const char *const calls[] = {"check", "mode", "child", "show", "encode", "normalize", "normalize_inherit",
+        "table", "compare", "same", "posix_check", "posix_show", "posix_calc_mask", "posix_chmod", "posix_create",
+        "posix_bridge"};
     testcase one, *c = &one;
     unsigned char room[1024 + 2 * SIDE];
     results r;
@@ -779,14 +906,14 @@ int LLVMFuzzerTestOneInput(const uint8_t *data, size_t size) {
     strcpy(c->call, calls[data[0] % (sizeof calls / sizeof *calls)]);
     for (int i = 0; i < 6; i++)
         c->numbers[i] = data[1];
-    if (IS("check_nfs") || IS("table"))
-        c->numbers[1] = data[1] & 1;
+    if (IS("check") || IS("table"))
+        c->numbers[1] = data[1] & 1 ? ACLCK_NARROW : 0;
     half = IS("compare") || IS("same") ? data[2] % (size - 2) : size - 3;
     c->blobs[0].at = data + 3;
     c->blobs[0].len = half < size - 3 ? half : size - 3;
     c->blobs[1].at = data + 3 + c->blobs[0].len;
     c->blobs[1].len = size - 3 - c->blobs[0].len;
-    if (IS("check_nfs"))
+    if (IS("check"))
         c->blobs[1] = c->blobs[2] = c->blobs[3] = aclck_string("bob");
     c->names[0].name = aclck_string("bob");
     c->names[0].id = 7;
@@ -797,7 +924,9 @@ int LLVMFuzzerTestOneInput(const uint8_t *data, size_t size) {
     for (int i = 0; i < SIDE; i++)
         if (room[i] != CANARY || room[SIDE + 1024 + i] != CANARY)
             abort();
-    if (status > ACLCK_SHORT || status == ACLCK_MEMORY || (status == ACLCK_SHORT && r.needed <= 1024))
+    if (status > ACLCK_SHORT || status == 1 || status == ACLCK_MEMORY)
+        abort();
+    if (status == ACLCK_SHORT && r.needed <= 1024 && r.difference.names <= 1024)
         abort();
     if (status == ACLCK_REFUSED && (r.fault.reason < 1 || r.fault.reason > ACLCK_LIMITS))
         abort();

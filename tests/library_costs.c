@@ -52,58 +52,74 @@ static void name_groups(size_t count, int is_shuffled) {
     }
 }
 
-#define OBJECT "o", 1, "g", 1
-#define LIST input, len
-#define HALVES input, len / 2, input + len / 2, len / 2
-#define TEXT input, len, aclck_in(NULL), 0
-#define OUT out, sizeof out, &needed, &fault
+#define LIST aclck_bytes_of(input, len)
+#define HALVES aclck_bytes_of(input, len / 2), aclck_bytes_of(input + len / 2, len / 2)
+#define ROOM_FOR_ALL aclck_buffer_of(out, sizeof out)
+#define OUT ROOM_FOR_ALL, &needed, &fault
 #define IS(name) (strcmp(call, name) == 0)
 
+static uint32_t invoke_posix(const char *call, size_t len, size_t count) {
+    aclck_posix_text text = {LIST, {&(aclck_name){{"", 0}, 0, 0}, 0}};
+    aclck_posix_question question = {1, 1, 1, ACLCK_PERM_READ, ids, count};
+    aclck_creation creation = {0777, 022, ACLCK_DIRECTORY};
+    aclck_fault fault;
+    uint32_t word;
+    size_t needed;
+    if (IS("posix_check"))
+        return aclck_posix_check(&text, &question, &word, &fault);
+    if (IS("posix_show"))
+        return aclck_posix_show(&text, ACLCK_FORM_SHOWN, OUT);
+    if (IS("posix_calc_mask"))
+        return aclck_posix_calc_mask(&text, OUT);
+    if (IS("posix_chmod"))
+        return aclck_posix_chmod(&text, 0750, OUT);
+    if (IS("posix_create"))
+        return aclck_posix_create(&text, &creation, OUT);
+    if (IS("posix_bridge"))
+        return aclck_posix_bridge(&text, OUT);
+    return 99;
+}
+
 static uint32_t invoke(const char *call, size_t len, size_t count) {
+    aclck_object object = {{"o", 1}, {"g", 1}};
+    aclck_requester requester = {{"x", 1}, groups, count};
+    aclck_question all = {ACLCK_ALL_RIGHTS, ACLCK_FULL}, one = {ACLCK_READ_DATA, ACLCK_FULL};
     aclck_fault fault;
     aclck_decision decision;
+    aclck_decided decided;
     aclck_difference difference;
     uint32_t word;
     size_t needed;
-    if (IS("check_nfs"))
-        return aclck_check_nfs(LIST, OBJECT, "x", 1, groups, count, ACLCK_READ_DATA, 0, &fault);
+    if (IS("decide"))
+        return aclck_decide(LIST, &object, &requester, &all, &decided, &fault);
+    if (IS("check"))
+        return aclck_check(LIST, &object, &requester, &one, &word, &fault);
     if (IS("granted"))
-        return aclck_granted(LIST, OBJECT, "x", 1, groups, count, ACLCK_ALL_RIGHTS, 0, &word, &fault);
+        return aclck_granted(LIST, &object, &requester, &all, &word, &fault);
     if (IS("deciding"))
-        return aclck_deciding(LIST, OBJECT, "x", 1, groups, count, ACLCK_READ_DATA, 0, &decision, &fault);
+        return aclck_deciding(LIST, &object, &requester, &one, &decision, &fault);
     if (IS("check_many"))
-        return aclck_check_many(LIST, OBJECT, who, REQUESTERS, ACLCK_ALL_RIGHTS, 0, granted, REQUESTERS, &fault);
+        return aclck_check_many(LIST, &object, (aclck_requesters){who, REQUESTERS}, &all,
+                                (aclck_masks){granted, REQUESTERS}, &fault);
     if (IS("mode"))
-        return aclck_mode(LIST, 0, &word, &fault);
+        return aclck_mode(LIST, ACLCK_FULL, &word, &fault);
     if (IS("child"))
         return aclck_child(LIST, ACLCK_DIRECTORY, OUT);
     if (IS("show"))
-        return aclck_show(LIST, 0, OUT);
+        return aclck_show(LIST, ACLCK_FULL, OUT);
     if (IS("encode"))
-        return aclck_encode(LIST, 0, OUT);
+        return aclck_encode(LIST, ACLCK_FULL, OUT);
     if (IS("normalize"))
-        return aclck_normalize(LIST, 0, OUT);
+        return aclck_normalize(LIST, ACLCK_FULL, OUT);
     if (IS("normalize_inherit"))
-        return aclck_normalize_inherit(LIST, 0, OUT);
+        return aclck_normalize_inherit(LIST, ACLCK_FULL, OUT);
     if (IS("table"))
-        return aclck_table(LIST, ACLCK_READ_DATA, 0, OUT);
+        return aclck_table(LIST, &one, OUT);
     if (IS("same"))
-        return aclck_same(HALVES, 0, &fault);
+        return aclck_same(HALVES, ACLCK_FULL, &word, &fault);
     if (IS("compare"))
-        return aclck_compare(HALVES, 0, &difference, OUT);
-    if (IS("check_posix"))
-        return aclck_check_posix(TEXT, 1, 1, 1, ids, count, ACLCK_PERM_READ, &fault);
-    if (IS("show_posix"))
-        return aclck_show_posix(TEXT, ACLCK_FORM_SHOWN, OUT);
-    if (IS("calc_mask"))
-        return aclck_calc_mask(TEXT, OUT);
-    if (IS("chmod"))
-        return aclck_chmod(TEXT, 0750, OUT);
-    if (IS("create"))
-        return aclck_create(TEXT, 0777, 022, ACLCK_DIRECTORY, OUT);
-    if (IS("bridge"))
-        return aclck_bridge(TEXT, OUT);
-    return 99;
+        return aclck_compare(HALVES, ACLCK_FULL, &difference, ROOM_FOR_ALL, &fault);
+    return invoke_posix(call, len, count);
 }
 
 typedef struct {

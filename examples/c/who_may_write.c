@@ -24,47 +24,51 @@ static int say_no_memory(void) {
 static int refuse(const aclck_fault *fault) {
     char name[16];
     size_t len = 0;
-    aclck_reason_text(fault->reason, name, sizeof name, &len);
+    if (aclck_reason_text(fault->reason, aclck_buffer_of(name, sizeof name), &len))
+        len = 0;
     fprintf(stderr, "the list is refused: %.*s at byte %llu\n", (int)len, name, (unsigned long long)fault->offset);
     return 2;
 }
 
-static int print_writers(size_t len) {
+static int print_writers(aclck_bytes acl) {
+    aclck_question question = {ACLCK_WRITE_DATA, ACLCK_FULL};
     aclck_fault fault;
     size_t needed = 0;
     char *text = NULL;
-    uint32_t status = aclck_table(list, len, ACLCK_WRITE_DATA, ACLCK_FULL, aclck_out(NULL), 0, &needed, &fault);
+    enum aclck_status status = aclck_table(acl, &question, aclck_buffer_of(NULL, 0), &needed, &fault);
     if (status == ACLCK_SHORT && (text = malloc(needed)) != NULL)
-        status = aclck_table(list, len, ACLCK_WRITE_DATA, ACLCK_FULL, text, needed, &needed, &fault);
-    if (status == ACLCK_DONE)
-        fwrite(text ? text : "", 1, text ? needed : 0, stdout);
+        status = aclck_table(acl, &question, aclck_buffer_of(text, needed), &needed, &fault);
+    if (text && !status)
+        fwrite(text, 1, needed, stdout);
     free(text);
     if (status == ACLCK_REFUSED)
         return refuse(&fault);
-    return status == ACLCK_DONE ? 0 : say_no_memory();
+    return status ? say_no_memory() : 0;
 }
 
 /* Every group counts: a DENY may name the last one. */
-static int print_answer(size_t len, char **names, size_t ngroups) {
-    aclck_bytes owner = aclck_string(names[0]), group = aclck_string(names[1]), user = aclck_string(names[2]);
+static int print_answer(aclck_bytes acl, char **names, size_t ngroups) {
+    aclck_object object = {aclck_string(names[0]), aclck_string(names[1])};
+    aclck_question question = {ACLCK_WRITE_DATA, ACLCK_FULL};
     aclck_bytes *groups = malloc((ngroups + 1) * sizeof *groups);
+    aclck_requester requester = {aclck_string(names[2]), groups, ngroups};
     aclck_fault fault;
-    uint32_t status;
+    uint32_t granted;
+    enum aclck_status status;
     if (!groups)
         return say_no_memory();
     for (size_t i = 0; i < ngroups; i++)
         groups[i] = aclck_string(names[3 + i]);
-    status = aclck_check_nfs(list, len, owner.at, owner.len, group.at, group.len, user.at, user.len, groups, ngroups,
-                             ACLCK_WRITE_DATA, ACLCK_FULL, &fault);
+    status = aclck_check(acl, &object, &requester, &question, &granted, &fault);
     free(groups);
     if (status == ACLCK_REFUSED)
         return refuse(&fault);
-    if (status == ACLCK_BAD_ARGUMENT) {
+    if (status) {
         fprintf(stderr, "a name is empty\n");
         return 3;
     }
-    printf("%s %s write\n", names[2], status == ACLCK_YES ? "may" : "may not");
-    return status != ACLCK_YES;
+    printf("%s %s write\n", names[2], granted ? "may" : "may not");
+    return !granted;
 }
 
 int main(int argc, char **argv) {
@@ -84,8 +88,8 @@ int main(int argc, char **argv) {
         fprintf(stderr, "the list has more than %d bytes\n", LIST);
         return 2;
     }
-    status = print_writers((size_t)len);
+    status = print_writers(aclck_bytes_of(list, (size_t)len));
     if (status == 0 && argc > 2)
-        status = print_answer((size_t)len, argv + 2, (size_t)argc - 5);
+        status = print_answer(aclck_bytes_of(list, (size_t)len), argv + 2, (size_t)argc - 5);
     return fflush(stdout) ? 4 : status;
 }

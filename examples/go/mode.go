@@ -12,20 +12,20 @@ import (
 	"unsafe"
 )
 
-// Returns a pointer to the bytes, which is valid also if there are none.
-func at(bytes []byte) unsafe.Pointer {
-	if len(bytes) == 0 {
-		return C.aclck_in(nil)
+// Returns the bytes for C. Their pointer is valid also if there are none.
+func bytesOf(list []byte) C.aclck_bytes {
+	if len(list) == 0 {
+		return C.aclck_bytes_of(nil, 0)
 	}
-	return unsafe.Pointer(&bytes[0])
+	return C.aclck_bytes{at: unsafe.Pointer(&list[0]), len: C.size_t(len(list))}
 }
 
 // Returns the mode of the list, and the status of the call.
-func mode(list []byte) (uint32, C.uint32_t) {
+func mode(list []byte) (uint32, uint32) {
 	var mode C.uint32_t
 	var fault C.aclck_fault
-	status := C.aclck_mode(at(list), C.size_t(len(list)), C.ACLCK_FULL, &mode, &fault)
-	return uint32(mode), status
+	status := C.aclck_mode(bytesOf(list), C.ACLCK_FULL, &mode, &fault)
+	return uint32(mode), uint32(status)
 }
 
 func main() {

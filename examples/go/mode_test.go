@@ -20,7 +20,7 @@ func TestAListIsReadAndNothingIsWritten(t *testing.T) {
 	}
 	for _, row := range rows {
 		found, status := mode(row.list)
-		if found != 0 || uint32(status) != row.status {
+		if found != 0 || status != row.status {
 			t.Errorf("mode(%v) is %o with the status %d", row.list, found, status)
 		}
 		if !bytes.Equal(whole, []byte{0, 0, 0, 0, 5, 6, 7, 8}) {

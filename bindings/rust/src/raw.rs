@@ -1,10 +1,10 @@
 //! The declarations of `aclck.h`.
 
 pub const DONE: u32 = 0;
-pub const NO: u32 = 1;
 pub const REFUSED: u32 = 2;
 pub const BAD_ARGUMENT: u32 = 3;
 pub const SHORT: u32 = 5;
+pub const UNDECIDED: u32 = 2;
 
 /// `aclck_bytes`.
 #[repr(C)]
@@ -20,20 +20,81 @@ impl Bytes {
     }
 }
 
+/// `aclck_buffer`, and `aclck_masks` for numbers.
+#[repr(C)]
+pub struct Buffer<T> {
+    at: *mut T,
+    len: usize,
+}
+
+impl<T> Buffer<T> {
+    pub fn of(room: &mut [T]) -> Buffer<T> {
+        Buffer { at: room.as_mut_ptr(), len: room.len() }
+    }
+}
+
+/// `aclck_object`.
+#[repr(C)]
+pub struct Object {
+    pub owner: Bytes,
+    pub group: Bytes,
+}
+
 /// `aclck_requester`.
 #[repr(C)]
-pub struct RawRequester {
+pub struct Requester {
     pub user: Bytes,
     pub groups: *const Bytes,
     pub ngroups: usize,
 }
 
+/// `aclck_requesters`.
+#[repr(C)]
+pub struct Requesters {
+    pub at: *const Requester,
+    pub len: usize,
+}
+
+/// `aclck_question`.
+#[repr(C)]
+pub struct Question {
+    pub mask: u32,
+    pub options: u32,
+}
+
 /// `aclck_name`.
 #[repr(C)]
-pub struct RawName {
+pub struct Name {
     pub name: Bytes,
     pub id: u32,
     pub is_group: u32,
+}
+
+/// `aclck_posix_text`.
+#[repr(C)]
+pub struct PosixText {
+    pub text: Bytes,
+    pub names: *const Name,
+    pub nnames: usize,
+}
+
+/// `aclck_posix_question`.
+#[repr(C)]
+pub struct PosixQuestion {
+    pub owner: u32,
+    pub group: u32,
+    pub user: u32,
+    pub want: u32,
+    pub groups: *const u32,
+    pub ngroups: usize,
+}
+
+/// `aclck_creation`.
+#[repr(C)]
+pub struct Creation {
+    pub mode: u32,
+    pub umask: u32,
+    pub options: u32,
 }
 
 /// `aclck_fault`: why and where something is refused.
@@ -49,99 +110,89 @@ pub struct Fault {
     pub tag: u32,
 }
 
-/// `aclck_decision`: the place of an ACE, and its type, 0 for ALLOW or 1 for DENY.
+/// `aclck_decided`.
 #[repr(C)]
-#[derive(Clone, Copy, Debug, Default, PartialEq, Eq)]
+#[derive(Default)]
+pub struct Decided {
+    pub allowed: u32,
+    pub denied: u32,
+}
+
+/// `aclck_decision`.
+#[repr(C)]
+#[derive(Default)]
 pub struct Decision {
     pub place: u64,
     pub kind: u32,
 }
 
-/// `aclck_difference`: where two lists differ.
+/// `aclck_difference`.
 #[repr(C)]
-#[derive(Clone, Copy, Debug, Default, PartialEq, Eq)]
+#[derive(Default)]
 pub struct Difference {
+    pub names: u64,
+    pub same: u32,
     pub right: u32,
     pub first_grants: u32,
 }
 
-type In = *const u8;
-type Out = *mut u8;
-
 extern "C" {
-    pub fn aclck_check_nfs(
-        acl: In, acl_len: usize, owner: In, owner_len: usize, group: In, group_len: usize, user: In, user_len: usize,
-        groups: *const Bytes, ngroups: usize, mask: u32, options: u32, fault: *mut Fault,
+    pub fn aclck_decide(
+        acl: Bytes, object: *const Object, requester: *const Requester, question: *const Question,
+        decided: *mut Decided, fault: *mut Fault,
+    ) -> u32;
+    pub fn aclck_check(
+        acl: Bytes, object: *const Object, requester: *const Requester, question: *const Question, granted: *mut u32,
+        fault: *mut Fault,
     ) -> u32;
     pub fn aclck_granted(
-        acl: In, acl_len: usize, owner: In, owner_len: usize, group: In, group_len: usize, user: In, user_len: usize,
-        groups: *const Bytes, ngroups: usize, mask: u32, options: u32, granted: *mut u32, fault: *mut Fault,
+        acl: Bytes, object: *const Object, requester: *const Requester, question: *const Question, rights: *mut u32,
+        fault: *mut Fault,
     ) -> u32;
     pub fn aclck_deciding(
-        acl: In, acl_len: usize, owner: In, owner_len: usize, group: In, group_len: usize, user: In, user_len: usize,
-        groups: *const Bytes, ngroups: usize, right: u32, options: u32, decision: *mut Decision, fault: *mut Fault,
+        acl: Bytes, object: *const Object, requester: *const Requester, question: *const Question,
+        decision: *mut Decision, fault: *mut Fault,
     ) -> u32;
     pub fn aclck_check_many(
-        acl: In, acl_len: usize, owner: In, owner_len: usize, group: In, group_len: usize,
-        requesters: *const RawRequester, nrequesters: usize, mask: u32, options: u32, granted: *mut u32,
-        ngranted: usize, fault: *mut Fault,
+        acl: Bytes, object: *const Object, requesters: Requesters, question: *const Question, rights: Buffer<u32>,
+        fault: *mut Fault,
     ) -> u32;
-    pub fn aclck_mode(acl: In, acl_len: usize, options: u32, mode: *mut u32, fault: *mut Fault) -> u32;
-    pub fn aclck_child(
-        acl: In, acl_len: usize, options: u32, out: Out, cap: usize, needed: *mut usize, fault: *mut Fault,
-    ) -> u32;
-    pub fn aclck_show(
-        acl: In, acl_len: usize, options: u32, out: Out, cap: usize, needed: *mut usize, fault: *mut Fault,
-    ) -> u32;
-    pub fn aclck_encode(
-        text: In, text_len: usize, options: u32, out: Out, cap: usize, needed: *mut usize, fault: *mut Fault,
-    ) -> u32;
-    pub fn aclck_normalize(
-        acl: In, acl_len: usize, options: u32, out: Out, cap: usize, needed: *mut usize, fault: *mut Fault,
-    ) -> u32;
+    pub fn aclck_mode(acl: Bytes, options: u32, mode: *mut u32, fault: *mut Fault) -> u32;
+    pub fn aclck_child(acl: Bytes, options: u32, out: Buffer<u8>, needed: *mut usize, fault: *mut Fault) -> u32;
+    pub fn aclck_show(acl: Bytes, options: u32, out: Buffer<u8>, needed: *mut usize, fault: *mut Fault) -> u32;
+    pub fn aclck_encode(text: Bytes, options: u32, out: Buffer<u8>, needed: *mut usize, fault: *mut Fault) -> u32;
+    pub fn aclck_normalize(acl: Bytes, options: u32, out: Buffer<u8>, needed: *mut usize, fault: *mut Fault) -> u32;
     pub fn aclck_normalize_inherit(
-        acl: In, acl_len: usize, options: u32, out: Out, cap: usize, needed: *mut usize, fault: *mut Fault,
+        acl: Bytes, options: u32, out: Buffer<u8>, needed: *mut usize, fault: *mut Fault,
     ) -> u32;
     pub fn aclck_table(
-        acl: In, acl_len: usize, right: u32, options: u32, out: Out, cap: usize, needed: *mut usize,
-        fault: *mut Fault,
+        acl: Bytes, question: *const Question, out: Buffer<u8>, needed: *mut usize, fault: *mut Fault,
     ) -> u32;
-    pub fn aclck_needed(
-        acl: In, acl_len: usize, options: u32, masks: *mut u32, nmasks: usize, count: *mut usize, fault: *mut Fault,
-    ) -> u32;
-    pub fn aclck_same(
-        first: In, first_len: usize, second: In, second_len: usize, options: u32, fault: *mut Fault,
-    ) -> u32;
+    pub fn aclck_needed(acl: Bytes, options: u32, masks: Buffer<u32>, needed: *mut usize, fault: *mut Fault) -> u32;
+    pub fn aclck_same(first: Bytes, second: Bytes, options: u32, same: *mut u32, fault: *mut Fault) -> u32;
     pub fn aclck_compare(
-        first: In, first_len: usize, second: In, second_len: usize, options: u32, difference: *mut Difference,
-        out: Out, cap: usize, needed: *mut usize, fault: *mut Fault,
+        first: Bytes, second: Bytes, options: u32, difference: *mut Difference, out: Buffer<u8>, fault: *mut Fault,
     ) -> u32;
-    pub fn aclck_read_mask(text: In, text_len: usize, mask: *mut u32) -> u32;
-    pub fn aclck_mask_text(mask: u32, out: Out, cap: usize, needed: *mut usize) -> u32;
-    pub fn aclck_reason_text(reason: u32, out: Out, cap: usize, needed: *mut usize) -> u32;
-    pub fn aclck_check_posix(
-        text: In, text_len: usize, names: *const RawName, nnames: usize, owner: u32, group: u32, user: u32,
-        groups: *const u32, ngroups: usize, want: u32, fault: *mut Fault,
+    pub fn aclck_read_mask(text: Bytes, mask: *mut u32) -> u32;
+    pub fn aclck_mask_text(mask: u32, out: Buffer<u8>, needed: *mut usize) -> u32;
+    pub fn aclck_reason_text(reason: u32, out: Buffer<u8>, needed: *mut usize) -> u32;
+    pub fn aclck_posix_check(
+        text: *const PosixText, question: *const PosixQuestion, granted: *mut u32, fault: *mut Fault,
     ) -> u32;
-    pub fn aclck_show_posix(
-        text: In, text_len: usize, names: *const RawName, nnames: usize, options: u32, out: Out, cap: usize,
-        needed: *mut usize, fault: *mut Fault,
+    pub fn aclck_posix_show(
+        text: *const PosixText, options: u32, out: Buffer<u8>, needed: *mut usize, fault: *mut Fault,
     ) -> u32;
-    pub fn aclck_calc_mask(
-        text: In, text_len: usize, names: *const RawName, nnames: usize, out: Out, cap: usize, needed: *mut usize,
-        fault: *mut Fault,
+    pub fn aclck_posix_calc_mask(
+        text: *const PosixText, out: Buffer<u8>, needed: *mut usize, fault: *mut Fault,
     ) -> u32;
-    pub fn aclck_chmod(
-        text: In, text_len: usize, names: *const RawName, nnames: usize, mode: u32, out: Out, cap: usize,
-        needed: *mut usize, fault: *mut Fault,
+    pub fn aclck_posix_chmod(
+        text: *const PosixText, mode: u32, out: Buffer<u8>, needed: *mut usize, fault: *mut Fault,
     ) -> u32;
-    pub fn aclck_create(
-        text: In, text_len: usize, names: *const RawName, nnames: usize, mode: u32, umask: u32, options: u32,
-        out: Out, cap: usize, needed: *mut usize, fault: *mut Fault,
+    pub fn aclck_posix_create(
+        text: *const PosixText, creation: *const Creation, out: Buffer<u8>, needed: *mut usize, fault: *mut Fault,
     ) -> u32;
-    pub fn aclck_bridge(
-        text: In, text_len: usize, names: *const RawName, nnames: usize, out: Out, cap: usize, needed: *mut usize,
-        fault: *mut Fault,
+    pub fn aclck_posix_bridge(
+        text: *const PosixText, out: Buffer<u8>, needed: *mut usize, fault: *mut Fault,
     ) -> u32;
     pub fn aclck_version() -> u32;
 }

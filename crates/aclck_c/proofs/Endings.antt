@@ -10,7 +10,7 @@ use Rattle.aclck_c.specs.Out.{WritesBytes}
 use Rattle.aclck_c.specs.Status as status
 use Rattle.aclck_c.specs.declared.failure.Failure.{Failure}
 use Rattle.aclck_c.specs.declared.failure.Failure.TheVariants as failure
-use Rattle.aclck_c.specs.declared.posix.names.RawName.{RawName}
+use Rattle.aclck_c.specs.declared.posix.file.RawPosixText.{RawPosixText}
 use Rattle.aclck_c.specs.declared.refusal.Refusal.{Refusal}
 use Rattle.aclck_c.specs.internal.Endings.{EndsCall, ReportsFailure}
 use Rattle.aclck_c.specs.internal.Failures.{IsFailure, IsListFailure}
@@ -39,7 +39,7 @@ pub writes_bytes : (Means : List ℕ → Type 0) (made : Result (Vec ℕ) Failur
     {needed needed_after : ℕ} {fault fault_after : Refusal} {returned : ℕ}
     → IfOk made (λ bytes. Means bytes.items)
     → EndsCall made buffer buffer_after needed needed_after fault fault_after returned
-    → WritesBytes status.done Means buffer buffer_after needed needed_after returned
+    → WritesBytes Means buffer buffer_after needed needed_after returned
 writes_bytes Means (Ok bytes) means ends = record {
   done = λ is. record { text = bytes.items; means = means; puts = ends.put.put is; reported = ends.put.reported };
   short = λ is. record { text = bytes.items; means = means; short = ends.put.short is; reported = ends.put.reported };
@@ -152,37 +152,41 @@ writes_of_list {p} {list} {AreGood} Means {made} same good means says ends =
     }
 
 -- the names are good, unless an argument is bad or memory ran out
-names_are_good : (names : List RawName) (IsRefused : Refusal → Type 0) (Means : List ℕ → Type 0)
-    (made : Result (Vec ℕ) Failure) {buffer buffer_after : List ℕ} {needed needed_after : ℕ} {fault fault_after : Refusal} {returned : ℕ}
-    → ((text : List ℕ) → Means text → AreGoodNames names) → ((shown : Refusal) → IsRefused shown → AreGoodNames names)
-    → IfOk made (λ bytes. Means bytes.items) → IfErr made (IsFailure (AreGoodNames names) IsRefused ⊤)
+names_are_good : (given : RawPosixText) (IsRefused : Refusal → Type 0) (Means : List ℕ → Type 0)
+    (made : Result (Vec ℕ) Failure) {buffer buffer_after : List ℕ} {needed needed_after : ℕ}
+    {fault fault_after : Refusal} {returned : ℕ}
+    → ((text : List ℕ) → Means text → AreGoodNames given.names.now)
+    → ((shown : Refusal) → IsRefused shown → AreGoodNames given.names.now)
+    → IfOk made (λ bytes. Means bytes.items) → IfErr made (IsFailure (AreGoodNames given.names.now) IsRefused ⊤)
     → EndsCall made buffer buffer_after needed needed_after fault fault_after returned
-    → (returned ≢ status.bad_argument) → (returned ≢ status.memory) → AreGoodNames names
-names_are_good names IsRefused Means (Ok bytes) by_text by_refusal means says ends not_bad not_memory =
+    → (returned ≢ status.bad_argument) → (returned ≢ status.memory) → AreGoodNames given.names.now
+names_are_good given IsRefused Means (Ok bytes) by_text by_refusal means says ends not_bad not_memory =
     by_text bytes.items means
-names_are_good names IsRefused Means (Err failure.BadArgument) by_text by_refusal means says ends not_bad not_memory =
+names_are_good given IsRefused Means (Err failure.BadArgument) by_text by_refusal means says ends not_bad not_memory =
     absurd (not_bad ends.reported.0)
-names_are_good names IsRefused Means (Err (failure.Refused shown)) by_text by_refusal means says ends not_bad
+names_are_good given IsRefused Means (Err (failure.Refused shown)) by_text by_refusal means says ends not_bad
     not_memory = by_refusal shown says
-names_are_good names IsRefused Means (Err failure.Memory) by_text by_refusal means says ends not_bad not_memory =
+names_are_good given IsRefused Means (Err failure.Memory) by_text by_refusal means says ends not_bad not_memory =
     absurd (not_memory ends.reported.0)
 
 -- a call that made bytes of the text of POSIX ACLs, with arguments other than the names that are good
-pub writes_of_file : {names : List RawName} {IsRefused : Refusal → Type 0} {AreGood : Type 0} {Means : List ℕ → Type 0}
+pub writes_of_file : {given : RawPosixText} {IsRefused : Refusal → Type 0} {AreGood : Type 0} {Means : List ℕ → Type 0}
     {made : Result (Vec ℕ) Failure} {buffer buffer_after : List ℕ} {needed needed_after : ℕ}
     {fault fault_after : Refusal} {returned : ℕ}
-    → ((text : List ℕ) → Means text → AreGoodNames names) → ((shown : Refusal) → IsRefused shown → AreGoodNames names)
-    → AreGood → IfOk made (λ bytes. Means bytes.items) → IfErr made (IsFailure (AreGoodNames names) IsRefused ⊤)
+    → ((text : List ℕ) → Means text → AreGoodNames given.names.now)
+    → ((shown : Refusal) → IsRefused shown → AreGoodNames given.names.now)
+    → AreGood → IfOk made (λ bytes. Means bytes.items)
+    → IfErr made (IsFailure (AreGoodNames given.names.now) IsRefused ⊤)
     → EndsCall made buffer buffer_after needed needed_after fault fault_after returned
-    → WritesOfFile names AreGood IsRefused Means buffer buffer_after needed needed_after fault fault_after returned
-writes_of_file {names} {IsRefused} {Means} {made} by_text by_refusal good means says ends = record {
+    → WritesOfFile given AreGood IsRefused Means buffer buffer_after needed needed_after fault fault_after returned
+writes_of_file {given} {IsRefused} {Means} {made} by_text by_refusal good means says ends = record {
   bytes = writes_bytes Means made means ends;
   input = record {
-    refusal = reports_fault (AreGoodNames names) ⊤ IsRefused made says ends;
+    refusal = reports_fault (AreGoodNames given.names.now) ⊤ IsRefused made says ends;
     arguments = record {
-      bad = λ is named _. bad_argument (AreGoodNames names) ⊤ IsRefused made says ends is named;
+      bad = λ is named _. bad_argument (AreGoodNames given.names.now) ⊤ IsRefused made says ends is named;
       good = λ _. good;
-      named = names_are_good names IsRefused Means made by_text by_refusal means says ends;
+      named = names_are_good given IsRefused Means made by_text by_refusal means says ends;
     };
     known = is_known_status made ends;
   };

@@ -1,5 +1,7 @@
 -- failures of the bridge
 pub mod Bridges
+-- the names of a comparison
+pub mod Comparisons
 -- what a call promises, by what it made
 pub mod Endings
 -- failures of names and of texts

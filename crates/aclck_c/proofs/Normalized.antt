@@ -1,15 +1,14 @@
 -- The bytes that `aclck_normalize` puts into a buffer.
-use Rattle.std.proofs.Common.{◌≡◌, ◌∙◌, ℕ, List, true, false, ap, cond, drop, eqb, length, refl, take}
-use Rattle.std.specs.Prelude.{bit_and}
+use Rattle.std.proofs.Common.{◌≡◌, ◌∙◌, ℕ, List, true, false, ap, cond, drop, length, refl, take}
 use Rattle.std.proofs.Math.Seq.{take-append_seam}
 use Rattle.acl_perm.specs.Profile.{full, narrow}
 use Rattle.acl_nfs4.specs.Within.{IsProfile}
-use Rattle.aclck_c.specs.Options.{profile_from}
+use Rattle.aclck_c.specs.Options.{has_option, narrow_option, profile_from}
 use Rattle.aclck_c.specs.Out.{HandsOut}
 
 -- the profile of options is one
 pub is_profile : (options : ℕ) → IsProfile (profile_from options)
-is_profile options = elim (eqb (bit_and options 1) 1) as (λ t. IsProfile (cond t narrow full)) [
+is_profile options = elim (has_option narrow_option options) as (λ t. IsProfile (cond t narrow full)) [
   | true ↦ record { masks = refl; flags = refl }
   | false ↦ record { masks = refl; flags = refl }
 ]

@@ -1,5 +1,5 @@
 -- What calls from C promise (this library's own): what each status says about the answer, the arguments and the input.
-use Rattle.std.specs.Prelude.{◌≡◌, ◌≢◌, ◌++◌, ℕ, Bool, List, false, true}
+use Rattle.std.specs.Prelude.{◌≡◌, ◌≢◌, ◌++◌, ℕ, List}
 use Rattle.acl_perm.specs.Profile.{Profile}
 use Rattle.aclck_c.specs.Compare.{IsRefusedPair}
 use Rattle.aclck_c.specs.Lists.{AreList, IsRefusedList}
@@ -7,15 +7,8 @@ use Rattle.aclck_c.specs.Names.{AreGoodNames}
 use Rattle.aclck_c.specs.Out.{WritesBytes}
 use Rattle.aclck_c.specs.Posix.{IsRefusedPosix}
 use Rattle.aclck_c.specs.Status as status
-use Rattle.aclck_c.specs.declared.posix.names.RawName.{RawName}
+use Rattle.aclck_c.specs.declared.posix.file.RawPosixText.{RawPosixText}
 use Rattle.aclck_c.specs.declared.refusal.Refusal.{Refusal}
-
--- the answer of a call that says yes or no
-pub record SaysYesOrNo (Holds : Bool → Type 0) (returned : ℕ) : Type 0 where
-  -- it is granted, or both lists grant the same
-  pub granted : returned ≡ status.yes → Holds true
-  -- it is denied, or the lists differ
-  pub denied : returned ≡ status.no → Holds false
 
 -- the effect of a call on the fault of its caller
 pub record ReportsFault (IsRefused : Refusal → Type 0) (fault fault_after : Refusal) (returned : ℕ) : Type 0 where
@@ -30,33 +23,33 @@ pub record JudgesArguments (AreGood : Type 0) (returned : ℕ) : Type 0 where
   pub good : (returned ≢ status.bad_argument) → AreGood
 
 -- the promise of `JudgesArguments` for a call that also takes names
-pub record JudgesNames (names : List RawName) (AreGood : Type 0) (returned : ℕ) : Type 0 where
-  pub bad : returned ≡ status.bad_argument → AreGoodNames names → AreGood → ⊥
+pub record JudgesNames (given : RawPosixText) (AreGood : Type 0) (returned : ℕ) : Type 0 where
+  pub bad : returned ≡ status.bad_argument → AreGoodNames given.names.now → AreGood → ⊥
   pub good : (returned ≢ status.bad_argument) → AreGood
   -- if memory runs out, nothing is said about the names
-  pub named : (returned ≢ status.bad_argument) → (returned ≢ status.memory) → AreGoodNames names
+  pub named : (returned ≢ status.bad_argument) → (returned ≢ status.memory) → AreGoodNames given.names.now
 
--- what a call promises about its input and its arguments, if these statuses are its answers
-pub record JudgesInput (IsRefused : Refusal → Type 0) (Known AreGood : Type 0) (answers : List ℕ)
+-- what a call promises about its input and its arguments, if these are the statuses at which they are good
+pub record JudgesInput (IsRefused : Refusal → Type 0) (Known AreGood : Type 0) (others : List ℕ)
     (fault fault_after : Refusal) (returned : ℕ) : Type 0 where
   pub refusal : ReportsFault IsRefused fault fault_after returned
   -- what is known of the input if memory runs out
   pub memory : returned ≡ status.memory → Known
   pub arguments : JudgesArguments AreGood returned
   -- no other status is returned
-  pub known : status.IsOneOf (answers ++ status.failures) returned
+  pub known : status.IsOneOf (others ++ status.failures) returned
 
--- the promise of `JudgesInput` for a call that reads the text of POSIX ACLs, which may use these names
-pub record ReadsFile (names : List RawName) (IsRefused : Refusal → Type 0) (AreGood : Type 0) (answers : List ℕ)
+-- the promise of `JudgesInput` for a call that reads the text of POSIX ACLs
+pub record ReadsFile (given : RawPosixText) (IsRefused : Refusal → Type 0) (AreGood : Type 0) (others : List ℕ)
     (fault fault_after : Refusal) (returned : ℕ) : Type 0 where
   pub refusal : ReportsFault IsRefused fault fault_after returned
-  pub arguments : JudgesNames names AreGood returned
+  pub arguments : JudgesNames given AreGood returned
   -- no other status is returned
-  pub known : status.IsOneOf (answers ++ status.failures) returned
+  pub known : status.IsOneOf (others ++ status.failures) returned
 
 -- a call that only looks at the bytes of a list takes no memory
-abbrev pub LooksAtList : Profile → List ℕ → Type 0 → List ℕ → Refusal → Refusal → ℕ → Type 0
-LooksAtList p list AreGood = JudgesInput (IsRefusedList p list 0) ⊥ AreGood
+abbrev pub LooksAtList : Profile → List ℕ → Type 0 → Refusal → Refusal → ℕ → Type 0
+LooksAtList p list AreGood = JudgesInput (IsRefusedList p list 0) ⊥ AreGood status.only_done
 
 -- bytes with a fault are refused with that fault, also if memory runs out
 abbrev pub ReadsList : Profile → List ℕ → Type 0 → Refusal → Refusal → ℕ → Type 0
@@ -69,17 +62,17 @@ ReadsTwoLists p first second = JudgesInput (IsRefusedPair p first second) (AreLi
 -- what a call promises that makes bytes of the list that bytes spell
 pub record WritesOfList (p : Profile) (list : List ℕ) (AreGood : Type 0) (Means : List ℕ → Type 0)
     (buffer buffer_after : List ℕ) (needed needed_after : ℕ) (fault fault_after : Refusal) (returned : ℕ) : Type 0 where
-  pub bytes : WritesBytes status.done Means buffer buffer_after needed needed_after returned
+  pub bytes : WritesBytes Means buffer buffer_after needed needed_after returned
   pub input : ReadsList p list AreGood fault fault_after returned
 
 -- what a call promises that makes bytes of the text of POSIX ACLs
-pub record WritesOfFile (names : List RawName) (AreGood : Type 0) (IsRefused : Refusal → Type 0)
+pub record WritesOfFile (given : RawPosixText) (AreGood : Type 0) (IsRefused : Refusal → Type 0)
     (Means : List ℕ → Type 0) (buffer buffer_after : List ℕ) (needed needed_after : ℕ)
     (fault fault_after : Refusal) (returned : ℕ) : Type 0 where
-  pub bytes : WritesBytes status.done Means buffer buffer_after needed needed_after returned
-  pub input : ReadsFile names IsRefused AreGood status.done_or_short fault fault_after returned
+  pub bytes : WritesBytes Means buffer buffer_after needed needed_after returned
+  pub input : ReadsFile given IsRefused AreGood status.done_or_short fault fault_after returned
 
 -- the promise of `WritesOfFile` for a call that refuses only what is no text of POSIX ACLs
-abbrev pub WritesOfText : List RawName → List ℕ → Type 0 → (List ℕ → Type 0) → List ℕ → List ℕ → ℕ → ℕ
+abbrev pub WritesOfText : RawPosixText → Type 0 → (List ℕ → Type 0) → List ℕ → List ℕ → ℕ → ℕ
     → Refusal → Refusal → ℕ → Type 0
-WritesOfText names text AreGood = WritesOfFile names AreGood (IsRefusedPosix names text)
+WritesOfText given AreGood = WritesOfFile given AreGood (IsRefusedPosix given)

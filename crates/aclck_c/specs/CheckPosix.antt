@@ -1,7 +1,8 @@
--- What a call from C asks of the text of POSIX ACLs (this library's own, over acl(5)).
+-- What a call from C asks of POSIX ACLs (this library's own, over acl(5)).
 use Rattle.std.specs.Prelude.{◌≤◌, ℕ, All, List}
 use Rattle.acl_posix.specs.Check.{Object, Requester}
 use Rattle.acl_posix.specs.Id.{IsId}
+use Rattle.aclck_c.specs.declared.posix.check.RawPosixQuestion.{RawPosixQuestion}
 
 -- the owner and the owning group of the object
 abbrev pub object_of : ℕ → ℕ → Object
@@ -11,14 +12,22 @@ object_of owner group = record { user = owner; group = group }
 abbrev pub requester_of : ℕ → List ℕ → Requester
 requester_of user groups = record { user = user; groups = groups }
 
+-- the object that a question is about
+abbrev pub object_asked : RawPosixQuestion → Object
+object_asked q = object_of q.owner q.group
+
+-- who a question is about
+abbrev pub requester_asking : RawPosixQuestion → Requester
+requester_asking q = requester_of q.user q.groups.now
+
 -- three ids, and a set of permissions
-pub record AreNumbers (owner group user want : ℕ) : Type 0 where
-  pub is_owner : IsId owner
-  pub is_group : IsId group
-  pub is_user : IsId user
-  pub is_want : want ≤ 7
+pub record AreNumbers (q : RawPosixQuestion) : Type 0 where
+  pub is_owner : IsId q.owner
+  pub is_group : IsId q.group
+  pub is_user : IsId q.user
+  pub is_want : q.want ≤ 7
 
 -- the numbers are ids and permissions
-pub record AreGoodIds (owner group user : ℕ) (groups : List ℕ) (want : ℕ) : Type 0 where
-  pub numbers : AreNumbers owner group user want
-  pub are_groups : All IsId groups
+pub record AreGoodIds (q : RawPosixQuestion) : Type 0 where
+  pub numbers : AreNumbers q
+  pub are_groups : All IsId q.groups.now

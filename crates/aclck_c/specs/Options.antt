@@ -1,25 +1,63 @@
--- What the bits of `options` and modes mean in calls from C (this library's own).
-use Rattle.std.specs.Prelude.{◌==◌, ◌<◌, ◌≤◌, ℕ, bit_and, if◌then◌else◌}
+-- What the bits of `options` and modes mean in calls from C (this library's own). No option is a right: see
+-- `all_rights`.
+use Rattle.std.specs.Prelude.{◌≡◌, ◌==◌, ◌+◌, ◌≤◌, ℕ, Bool, None, Option, Some, bit_and, if◌then◌else◌}
 use Rattle.acl_perm.specs.Bits.{all_mode_bits}
 use Rattle.acl_perm.specs.Profile.{Profile, full, narrow}
+use Rattle.acl_posix.specs.declared.form.Form.{Form}
+use Rattle.acl_posix.specs.declared.form.Form.TheVariants as form
 use Rattle.acl_eval.specs.declared.inherit.ChildKind.{ChildKind}
 use Rattle.acl_eval.specs.declared.inherit.ChildKind.TheVariants.{Directory, File}
 
--- the profile: bit 1 means the narrow one
-abbrev pub profile_from : ℕ → Profile
-profile_from options = if bit_and options 1 == 1 then narrow else full
+-- ---- the numbers of `enum aclck_option`
 
--- what is created: bit 2 means a directory
+-- only the rights and flags of the narrow profile
+abbrev pub narrow_option : ℕ
+narrow_option = 0x01000000
+
+-- the new object is a directory
+abbrev pub directory_option : ℕ
+directory_option = 0x02000000
+
+-- the text has comments on entries that the mask limits
+abbrev pub shown_option : ℕ
+shown_option = 0x04000000
+
+-- the text has commas between the entries
+abbrev pub short_option : ℕ
+short_option = 0x08000000
+
+-- ---- what they mean
+
+-- the options are a sum of some of the allowed ones
+abbrev pub AreAllowed : ℕ → ℕ → Type 0
+AreAllowed allowed options = bit_and options allowed ≡ options
+
+-- the options have this one
+abbrev pub has_option : ℕ → ℕ → Bool
+has_option option options = bit_and options option == option
+
+-- the profile: the narrow one if the options say so
+abbrev pub profile_from : ℕ → Profile
+profile_from options = if has_option narrow_option options then narrow else full
+
+-- what is created: a directory if the options say so
 abbrev pub child_kind_from : ℕ → ChildKind
-child_kind_from options = if bit_and options 2 == 2 then Directory else File
+child_kind_from options = if has_option directory_option options then Directory else File
+
+-- the form of a text
+abbrev pub form_from : ℕ → Option Form
+form_from options =
+    if options == 0 then Some form.Canonical
+    else (if options == shown_option then Some form.Shown
+    else (if options == short_option then Some form.Short else None))
 
 -- the options are those of a call that reads a profile and nothing else
 abbrev pub IsProfileOption : ℕ → Type 0
-IsProfileOption options = options < 2
+IsProfileOption options = AreAllowed narrow_option options
 
--- the options are those of a call that creates an object
+-- the options are those of a call that creates an object in a directory with a list
 abbrev pub IsCreationOption : ℕ → Type 0
-IsCreationOption options = options < 4
+IsCreationOption options = AreAllowed (narrow_option + directory_option) options
 
 -- the number is a mode: it has no other bit than the nine file mode bits
 abbrev pub IsMode : ℕ → Type 0

@@ -1,5 +1,5 @@
 -- Bytes and values in what callers give for them (this library's own).
-use Rattle.std.specs.Prelude.{◌≡◌, ◌≢◌, ◌<◌, ◌≤◌, ◌++◌, ℕ, List, length, drop}
+use Rattle.std.specs.Prelude.{◌≡◌, ◌≢◌, ◌<◌, ◌≤◌, ◌++◌, ℕ, Bool, List, length, drop, false, true}
 use Rattle.aclck_c.specs.Status as status
 
 -- the buffer begins with the text, and is as it was after the text
@@ -21,18 +21,17 @@ pub record IsShortFor (Means : List ℕ → Type 0) (buffer : List ℕ) (needed_
   pub short : length buffer < length text
   pub reported : needed_after ≡ length text
 
--- the effect of a call that writes bytes of this meaning, if its status is this one, on the buffer and on the reported
--- length
-pub record WritesBytes (written : ℕ) (Means : List ℕ → Type 0) (buffer buffer_after : List ℕ)
-    (needed needed_after returned : ℕ) : Type 0 where
-  -- at that status the bytes are at the front of the buffer
-  pub done : returned ≡ written → HandsOut Means buffer buffer_after needed_after
+-- the effect of a call that writes bytes of this meaning on the buffer and on the reported length
+pub record WritesBytes (Means : List ℕ → Type 0) (buffer buffer_after : List ℕ) (needed needed_after returned : ℕ)
+    : Type 0 where
+  -- the bytes are at the front of the buffer
+  pub done : returned ≡ status.done → HandsOut Means buffer buffer_after needed_after
   -- the bytes are longer than the buffer
   pub short : returned ≡ status.short → IsShortFor Means buffer needed_after
   -- at every other status the buffer is as it was
-  pub unwritten : (returned ≢ written) → buffer_after ≡ buffer
+  pub unwritten : (returned ≢ status.done) → buffer_after ≡ buffer
   -- at every other status the reported length is as it was
-  pub unreported : (returned ≢ written) → (returned ≢ status.short) → needed_after ≡ needed
+  pub unreported : (returned ≢ status.done) → (returned ≢ status.short) → needed_after ≡ needed
 
 -- the effect of a call that writes a value of this meaning
 pub record WritesValue {A : Type 0} (Means : A → Type 0) (value value_after : A) (returned : ℕ) : Type 0 where
@@ -40,3 +39,22 @@ pub record WritesValue {A : Type 0} (Means : A → Type 0) (value value_after : 
   pub done : returned ≡ status.done → Means value_after
   -- at every other status the value is as it was
   pub unwritten : (returned ≢ status.done) → value_after ≡ value
+
+-- the effect of a call that answers a question about access: if it fails, it gives the closed answer, which grants
+-- nothing
+pub record GivesAnswer {A : Type 0} (Means : A → Type 0) (closed answer : A) (returned : ℕ) : Type 0 where
+  -- the answer is written
+  pub done : returned ≡ status.done → Means answer
+  -- at every other status the answer is the closed one
+  pub failed : (returned ≢ status.done) → answer ≡ closed
+
+-- the number of an answer: 1 for true, and 0 for false
+abbrev pub truth_number : Bool → ℕ
+truth_number false = 0
+truth_number true = 1
+
+-- the number is that of an answer that satisfies this
+pub record IsTruthOf (Holds : Bool → Type 0) (number : ℕ) : Type 0 where
+  pub answer : Bool
+  pub holds : Holds answer
+  pub is : number ≡ truth_number answer

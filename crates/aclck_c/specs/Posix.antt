@@ -1,12 +1,11 @@
 -- What calls from C make of the text of POSIX ACLs (this library's own, over acl(5)).
-use Rattle.std.specs.Prelude.{◌≡◌, ◌==◌, ◌⊎◌, ℕ, Bool, List, None, Option, Some, codes, if◌then◌else◌}
+use Rattle.std.specs.Prelude.{◌≡◌, ◌⊎◌, ℕ, List, None, Option, Some, codes}
 use Rattle.acl_posix.specs.Grammar.{Reads}
 use Rattle.acl_posix.specs.Names.{Table}
 use Rattle.acl_posix.specs.TextFault.{IsTextFault}
 use Rattle.acl_posix.specs.Programs.{MakesOfFile, chmod_text, created_text, file_text}
 use Rattle.acl_posix.specs.declared.file.PosixFile.{PosixFile}
 use Rattle.acl_posix.specs.declared.form.Form.{Form}
-use Rattle.acl_posix.specs.declared.form.Form.TheVariants as form
 use Rattle.acl_posix.specs.declared.tag.Tag.{Tag}
 use Rattle.acl_posix.specs.declared.tag.Tag.TheVariants as tag
 use Rattle.acl_posix.specs.declared.text_fault.Cause.{Cause}
@@ -17,52 +16,43 @@ use Rattle.acl_posix.specs.declared.text_fault.TextFault.{TextFault}
 use Rattle.acl_posix.specs.declared.text_fault.TextFault.TheVariants as fault
 use Rattle.acl_eval.specs.Programs.{IsPastLimits}
 use Rattle.aclck_c.specs.Names.{AreNames}
+use Rattle.aclck_c.specs.Options.{directory_option, form_from, has_option}
 use Rattle.aclck_c.specs.Refusal.{at_place, in_part, past_limits}
 use Rattle.aclck_c.specs.Words.{reason_called}
-use Rattle.aclck_c.specs.declared.posix.names.RawName.{RawName}
+use Rattle.aclck_c.specs.declared.posix.creation.RawCreation.{RawCreation}
+use Rattle.aclck_c.specs.declared.posix.file.RawPosixText.{RawPosixText}
 use Rattle.aclck_c.specs.declared.refusal.Refusal.{Refusal}
 
 -- ---- what is read
 
 -- the names make a table, with which the text spells this file
-pub record SpellsFile (names : List RawName) (text : List ℕ) (file : PosixFile) : Type 0 where
+pub record SpellsFile (given : RawPosixText) (file : PosixFile) : Type 0 where
   pub table : Table
-  pub named : AreNames names table
-  pub reads : Reads text table file
+  pub named : AreNames given.names.now table
+  pub reads : Reads given.text.now table file
 
 -- the names make a table, with which the text has this fault
-pub record HasTextFault (names : List RawName) (text : List ℕ) (f : TextFault) : Type 0 where
+pub record HasTextFault (given : RawPosixText) (f : TextFault) : Type 0 where
   pub table : Table
-  pub named : AreNames names table
-  pub has : IsTextFault text table f
+  pub named : AreNames given.names.now table
+  pub has : IsTextFault given.text.now table f
 
 -- ---- what is made
 
--- the form that options mean
-abbrev pub form_from : ℕ → Option Form
-form_from options =
-    if options == 0 then Some form.Canonical
-    else (if options == 4 then Some form.Shown
-    else (if options == 8 then Some form.Short else None))
-
 -- options mean a form, and the result is the text of the file in that form
-pub record IsShown (names : List RawName) (options : ℕ) (text result : List ℕ) : Type 0 where
+pub record IsShown (given : RawPosixText) (options : ℕ) (result : List ℕ) : Type 0 where
   pub form : Form
   pub is_form : form_from options ≡ Some form
-  pub makes : MakesOfFile (SpellsFile names text) (file_text form) result
+  pub makes : MakesOfFile (SpellsFile given) (file_text form) result
 
 -- the result is the canonical text of the file after its mode is set
-abbrev pub IsWithMode : List RawName → ℕ → List ℕ → List ℕ → Type 0
-IsWithMode names mode text = MakesOfFile (SpellsFile names text) (chmod_text mode)
-
--- the options mean a directory
-abbrev pub is_directory : ℕ → Bool
-is_directory options = options == 2
+abbrev pub IsWithMode : RawPosixText → ℕ → List ℕ → Type 0
+IsWithMode given mode = MakesOfFile (SpellsFile given) (chmod_text mode)
 
 -- the result is the canonical text of a new object in the directory
-abbrev pub IsCreated : List RawName → ℕ → ℕ → ℕ → List ℕ → List ℕ → Type 0
-IsCreated names mode umask options text =
-    MakesOfFile (SpellsFile names text) (created_text mode umask (is_directory options))
+abbrev pub IsCreated : RawPosixText → RawCreation → List ℕ → Type 0
+IsCreated given c =
+    MakesOfFile (SpellsFile given) (created_text c.mode c.umask (has_option directory_option c.options))
 
 -- ---- what is refused
 
@@ -99,12 +89,12 @@ posix_refusal (fault.Invalid which why) = Some (invalid_refusal (part_number whi
 posix_refusal fault.Memory = None
 
 -- the text has this fault
-pub record IsRefusedPosix (names : List RawName) (text : List ℕ) (shown : Refusal) : Type 0 where
+pub record IsRefusedPosix (given : RawPosixText) (shown : Refusal) : Type 0 where
   pub fault : TextFault
-  pub has : HasTextFault names text fault
+  pub has : HasTextFault given fault
   pub is : Some shown ≡ posix_refusal fault
 
 -- the text has this fault, or the list of its file is above a limit
-abbrev pub IsRefusedBridge : List RawName → List ℕ → Refusal → Type 0
-IsRefusedBridge names text shown =
-    IsRefusedPosix names text shown ⊎ (IsPastLimits (SpellsFile names text) × (shown ≡ past_limits))
+abbrev pub IsRefusedBridge : RawPosixText → Refusal → Type 0
+IsRefusedBridge given shown =
+    IsRefusedPosix given shown ⊎ (IsPastLimits (SpellsFile given) × (shown ≡ past_limits))

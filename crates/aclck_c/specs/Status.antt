@@ -1,17 +1,9 @@
 -- What calls from C return (this library's own): `enum aclck_status` of `aclck.h` has these names.
 use Rattle.std.specs.Prelude.{◌≡◌, ◌⊎◌, ◌∷◌, [], ℕ, List}
 
--- the result is written
+-- the answer is written; every other status means that the call failed
 abbrev pub done : ℕ
 done = 0
-
--- it is granted, or both lists grant the same
-abbrev pub yes : ℕ
-yes = 0
-
--- it is denied, or the lists differ, or there is nothing
-abbrev pub no : ℕ
-no = 1
 
 -- the list or the text is refused
 abbrev pub refused : ℕ
@@ -34,21 +26,13 @@ abbrev pub IsOneOf : List ℕ → ℕ → Type 0
 IsOneOf [] returned = ⊥
 IsOneOf (s ∷ statuses) returned = (returned ≡ s) ⊎ IsOneOf statuses returned
 
--- the answers of a call that says yes or no, or that finds something or nothing
-abbrev pub yes_or_no : List ℕ
-yes_or_no = yes ∷ no ∷ []
-
--- the answer of a call that only writes a value
+-- what a call returns, unless it fails for its input, its arguments, or memory
 abbrev pub only_done : List ℕ
 only_done = done ∷ []
 
--- the answers of a call that only writes bytes
+-- what a call that writes into a buffer returns, unless it fails for its input, its arguments, or memory
 abbrev pub done_or_short : List ℕ
 done_or_short = done ∷ short ∷ []
-
--- the answers of a call that writes bytes where it says no
-abbrev pub yes_or_no_or_short : List ℕ
-yes_or_no_or_short = yes ∷ no ∷ short ∷ []
 
 -- what every call returns that fails for its input, its arguments, or memory
 abbrev pub failures : List ℕ

@@ -2,7 +2,11 @@
 use Rattle.std.specs.Prelude.{◌==◌, ◌∷◌, [], ℕ, List, None, Option, Some, codes, if◌then◌else◌}
 use Rattle.std.specs.Str.{bytes_eq}
 use Rattle.acl_nfs4.specs.BitNames.{set_text}
-use Rattle.acl_nfs4.specs.Rights.{rights}
+use Rattle.acl_nfs4.specs.Rights.{SpellsMask, rights}
+
+-- the text names a mask
+abbrev pub NamesMask : List ℕ → Type 0
+NamesMask text = (mask : ℕ) × SpellsMask text mask
 
 -- the names of the rights of a mask (RFC 8881, section 6.2.1.3.1), in ascending order of their bits, with `|` between
 -- them; `-` for none

@@ -17,22 +17,27 @@ mod version;
 mod words;
 
 pub use mask_text::aclck_mask_text;
-pub use nfs4::check_many::{RawRequester, aclck_check_many};
-pub use nfs4::check_nfs::aclck_check_nfs;
+pub use nfs4::check::aclck_check;
+pub use nfs4::check_many::aclck_check_many;
 pub use nfs4::compare::{RawDifference, aclck_compare};
+pub use nfs4::decide::{RawDecided, aclck_decide};
 pub use nfs4::deciding::{RawDecision, aclck_deciding};
 pub use nfs4::encode::aclck_encode;
 pub use nfs4::granted::aclck_granted;
 pub use nfs4::mode::aclck_mode;
 pub use nfs4::needed::aclck_needed;
+pub use nfs4::request::{RawObject, RawQuestion, RawRequester};
 pub use nfs4::same::aclck_same;
 pub use nfs4::texts::{
     aclck_child, aclck_normalize, aclck_normalize_inherit, aclck_show, aclck_table,
 };
-pub use posix::check_posix::aclck_check_posix;
+pub use posix::check::{RawPosixQuestion, aclck_posix_check};
+pub use posix::creation::RawCreation;
+pub use posix::file::RawPosixText;
 pub use posix::names::RawName;
 pub use posix::texts::{
-    aclck_bridge, aclck_calc_mask, aclck_chmod, aclck_create, aclck_show_posix,
+    aclck_posix_bridge, aclck_posix_calc_mask, aclck_posix_chmod, aclck_posix_create,
+    aclck_posix_show,
 };
 pub use refusal::Refusal;
 pub use version::aclck_version;

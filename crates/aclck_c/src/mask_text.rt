@@ -15,7 +15,7 @@ use acl_perm::Mask;
 /// no memory.
 #[unsafe(no_mangle)]
 pub extern "C" fn aclck_mask_text(mask: u32, out: &mut [u8], needed: &mut usize) -> u32
-    ensures names { WritesBytes status.done (λ text. text ≡ rights_text mask)
+    ensures names { WritesBytes (λ text. text ≡ rights_text mask)
         out.old out.new needed.old needed.new result }
     ensures arguments { JudgesArguments (IsMask mask) result }
     ensures known { status.IsOneOf (status.bad_argument ∷ status.done_or_short) result }

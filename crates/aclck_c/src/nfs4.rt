@@ -1,8 +1,9 @@
 //! Calls over the bytes or the text of NFSv4 lists.
 
+pub(crate) mod check;
 pub(crate) mod check_many;
-pub(crate) mod check_nfs;
 pub(crate) mod compare;
+pub(crate) mod decide;
 pub(crate) mod deciding;
 pub(crate) mod encode;
 pub(crate) mod granted;

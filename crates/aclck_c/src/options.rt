@@ -1,32 +1,58 @@
 //! What the bits of `options` mean: `enum aclck_option` of `aclck.h`.
-ghost use Rattle.std.specs.Prelude.{◌≡◌, ◌↔◌};
-ghost use Rattle.aclck_c.specs.Common.{IfSome, IsSome, profile_of, IsCreationOption, IsMode, IsProfileOption, child_kind_from, profile_from};
+ghost use Rattle.std.specs.Prelude.{◌≡◌, ◌↔◌, ◌+◌};
+ghost use Rattle.aclck_c.specs.Common.{IfSome, IsSome, IsTrue, profile_of, IsCreationOption, IsMode, IsProfileOption, child_kind_from, profile_from};
+ghost use Rattle.aclck_c.specs.Options.{AreAllowed, form_from, has_option};
 
 use acl_eval::ChildKind;
 use acl_perm::{Mode, Profile};
+use acl_posix::Form;
 
-const NARROW: u32 = 1;
+/// Only the rights and flags of the narrow profile.
+pub(crate) const NARROW: u32 = 0x0100_0000;
 
 /// The new object is a directory.
-pub(crate) const DIRECTORY: u32 = 2;
-
-const NARROW_DIRECTORY: u32 = 3;
+pub(crate) const DIRECTORY: u32 = 0x0200_0000;
 
 /// The text has comments on entries that the mask limits.
-pub(crate) const FORM_SHOWN: u32 = 4;
+pub(crate) const FORM_SHOWN: u32 = 0x0400_0000;
 
 /// The text has commas between the entries.
-pub(crate) const FORM_SHORT: u32 = 8;
+pub(crate) const FORM_SHORT: u32 = 0x0800_0000;
+
+/// Returns whether `options` are a sum of some of the allowed ones.
+pub(crate) fn are_allowed(allowed: u32, options: u32) -> bool
+    ensures { IsTrue result ↔ AreAllowed allowed options }
+{
+    options & allowed == options
+}
+
+/// Returns whether `options` have this one.
+pub(crate) fn has_option(option: u32, options: u32) -> bool
+    ensures { result ≡ has_option option options }
+{
+    options & option == option
+}
 
 /// Returns the profile that `options` choose, or `None` if they have another bit.
 pub(crate) fn profile_from(options: u32) -> Option<Profile>
     ensures known { IsSome result ↔ IsProfileOption options }
     ensures value { IfSome result (λ profile. profile_of profile ≡ profile_from options) }
 {
-    match options {
-        0 => Some(Profile::FULL),
-        NARROW => Some(Profile::NARROW),
-        _ => None,
+    if are_allowed(NARROW, options) {
+        Some(profile_in(options))
+    } else {
+        None
+    }
+}
+
+/// Returns the profile that `options` choose, whatever else they have.
+pub(crate) fn profile_in(options: u32) -> Profile
+    ensures { profile_of result ≡ profile_from options }
+{
+    if has_option(NARROW, options) {
+        Profile::NARROW
+    } else {
+        Profile::FULL
     }
 }
 
@@ -43,14 +69,35 @@ pub(crate) fn child_options_from(options: u32) -> Option<ChildOptions>
     ensures profile { IfSome result (λ c. profile_of c.profile ≡ profile_from options) }
     ensures kind { IfSome result (λ c. c.kind ≡ child_kind_from options) }
 {
-    let (profile, kind) = match options {
-        0 => (Profile::FULL, ChildKind::File),
-        NARROW => (Profile::NARROW, ChildKind::File),
-        DIRECTORY => (Profile::FULL, ChildKind::Directory),
-        NARROW_DIRECTORY => (Profile::NARROW, ChildKind::Directory),
-        _ => return None,
-    };
-    Some(ChildOptions { profile, kind })
+    if !are_allowed(NARROW | DIRECTORY, options) {
+        return None;
+    }
+    Some(ChildOptions {
+        profile: profile_in(options),
+        kind: child_kind_in(options),
+    })
+}
+
+fn child_kind_in(options: u32) -> ChildKind
+    ensures { result ≡ child_kind_from options }
+{
+    if has_option(DIRECTORY, options) {
+        ChildKind::Directory
+    } else {
+        ChildKind::File
+    }
+}
+
+/// Returns the form of a text that `options` choose, or `None` if they choose none.
+pub(crate) fn form_from(options: u32) -> Option<Form>
+    ensures { result ≡ form_from options }
+{
+    match options {
+        0 => Some(Form::Canonical),
+        FORM_SHOWN => Some(Form::Shown),
+        FORM_SHORT => Some(Form::Short),
+        _ => None,
+    }
 }
 
 /// Returns the mode of a number, or `None` if the number is above `0o777`.

@@ -1,9 +1,18 @@
-//! Results in the buffers of callers: bytes, or numbers.
+//! Results for callers: in their buffers bytes or numbers, and the numbers of answers.
+ghost use Rattle.std.specs.Prelude.{◌≡◌};
+ghost use Rattle.aclck_c.specs.Out.{truth_number};
 ghost use Rattle.aclck_c.specs.internal.Endings.{EndsCall, PutsIfRoom};
 
 use crate::failure::Failure;
 use crate::refusal::Refusal;
 use crate::status::{DONE, SHORT};
+
+/// Returns 1 for true and 0 for false.
+pub(crate) fn truth_number(answer: bool) -> u32
+    ensures { result ≡ truth_number answer }
+{
+    if answer { 1 } else { 0 }
+}
 
 /// Puts the items that a call made at the front of the buffer, or reports why the call failed. Returns the status. If
 /// the call failed, the buffer and `needed` stay as they were.

@@ -1,13 +1,7 @@
-//! What a call returns: `enum aclck_status` of `aclck.h`.
+//! What a call returns: `enum aclck_status` of `aclck.h`. Every status but `DONE` means that the call failed.
 
-/// The result is written.
+/// The answer is written.
 pub(crate) const DONE: u32 = 0;
-
-/// It is granted, or both lists grant the same.
-pub(crate) const YES: u32 = 0;
-
-/// It is denied, or the lists differ, or there is no such ACE or mask.
-pub(crate) const NO: u32 = 1;
 
 /// The list or the text is refused.
 pub(crate) const REFUSED: u32 = 2;

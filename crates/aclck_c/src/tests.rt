@@ -3,8 +3,9 @@
 //! The numbers of statuses and reasons are those of `aclck.h`.
 mod ample;
 
-use crate::status::{BAD_ARGUMENT, DONE, MEMORY, NO, REFUSED, YES};
-use crate::{Refusal, aclck_check_nfs, aclck_normalize};
+use crate::options::NARROW;
+use crate::status::{BAD_ARGUMENT, DONE, MEMORY, REFUSED};
+use crate::{RawObject, RawQuestion, RawRequester, Refusal, aclck_check, aclck_normalize};
 use std::alloc::Global;
 use std::test::Fail;
 
@@ -31,23 +32,60 @@ fn normalize_into(alloc: Global, out: &mut [u8]) -> (u32, usize) {
     (status, needed)
 }
 
-#[test]
-fn the_list_grants_bob_alone_and_a_name_is_not_empty(rt: HostRuntime) -> Result<(), Fail> {
-    let mut fault = no_fault();
+const OBJECT: RawObject<'static> = RawObject {
+    owner: b"alice",
+    group: b"staff",
+};
+
+// The status of `aclck_check`, and the answer that it leaves in place of a 7.
+fn check(acl: &[u8], user: &[u8], question: &RawQuestion, fault: &mut Refusal) -> (u32, u32) {
     let groups = [b"editors".as_slice(), b"staff".as_slice()];
-    for (user, expected) in [("bob", YES), ("eve", NO), ("", BAD_ARGUMENT)] {
-        let user = user.as_bytes();
-        let status = aclck_check_nfs(LIST, b"alice", b"staff", user, &groups, 1, 0, &mut fault);
-        assert_eq!(rt; status, expected);
+    let requester = RawRequester {
+        user,
+        groups: &groups,
+    };
+    let mut granted = 7;
+    let status = aclck_check(acl, &OBJECT, &requester, question, &mut granted, fault);
+    (status, granted)
+}
+
+#[test]
+fn the_list_grants_bob_alone_and_what_has_no_meaning_is_refused(
+    rt: HostRuntime,
+) -> Result<(), Fail> {
+    let read = RawQuestion {
+        mask: 1,
+        options: 0,
+    };
+    let exchanged = RawQuestion {
+        mask: NARROW,
+        options: 1,
+    };
+    let rows = [
+        ("bob", read, (DONE, 1)),
+        ("eve", read, (DONE, 0)),
+        ("", read, (BAD_ARGUMENT, 0)),
+        ("bob", exchanged, (BAD_ARGUMENT, 0)),
+    ];
+    let mut fault = no_fault();
+    for (user, question, expected) in rows {
+        let answer = check(LIST, user.as_bytes(), &question, &mut fault);
+        assert_eq!(rt; answer, expected);
     }
     Ok(())
 }
 
 #[test]
-fn a_list_that_is_cut_short_is_refused_at_its_end(rt: HostRuntime) -> Result<(), Fail> {
+fn a_list_that_is_cut_short_is_refused_at_its_end_and_grants_nothing(
+    rt: HostRuntime,
+) -> Result<(), Fail> {
     let mut fault = no_fault();
-    let status = aclck_check_nfs(&LIST[..23], b"a", b"s", b"bob", &[], 1, 0, &mut fault);
-    assert_eq!(rt; status, REFUSED);
+    let read = RawQuestion {
+        mask: 1,
+        options: 0,
+    };
+    let answer = check(&LIST[..23], b"bob", &read, &mut fault);
+    assert_eq!(rt; answer, (REFUSED, 0));
     assert_eq!(rt; fault.offset, 23);
     assert_eq!(rt; fault.reason, 1);
     Ok(())

@@ -16,7 +16,7 @@ use Rattle.aclck_c.specs.Posix.{IsRefusedBridge, IsRefusedPosix, posix_refusal}
 use Rattle.aclck_c.specs.Refusal.{in_list, past_limits}
 use Rattle.aclck_c.specs.declared.failure.Failure.{Failure}
 use Rattle.aclck_c.specs.declared.failure.Failure.TheVariants as failure
-use Rattle.aclck_c.specs.declared.posix.names.RawName.{RawName}
+use Rattle.aclck_c.specs.declared.posix.file.RawPosixText.{RawPosixText}
 use Rattle.aclck_c.specs.declared.refusal.Refusal.{Refusal}
 
 -- memory ran out
@@ -71,12 +71,12 @@ abbrev pub IsTextFailure : Profile → List ℕ → Failure → Type 0
 IsTextFailure p text = IsFailure ⊤ (IsRefusedText p text) ⊤
 
 -- the names make no table, the text of POSIX ACLs has the fault, or memory ran out
-abbrev pub IsFileFailure : List RawName → List ℕ → Failure → Type 0
-IsFileFailure names text = IsFailure (AreGoodNames names) (IsRefusedPosix names text) ⊤
+abbrev pub IsFileFailure : RawPosixText → Failure → Type 0
+IsFileFailure given = IsFailure (AreGoodNames given.names.now) (IsRefusedPosix given) ⊤
 
 -- the same, or the list of the file is above a limit
-abbrev pub IsBridgeFailure : List RawName → List ℕ → Failure → Type 0
-IsBridgeFailure names text = IsFailure (AreGoodNames names) (IsRefusedBridge names text) ⊤
+abbrev pub IsBridgeFailure : RawPosixText → Failure → Type 0
+IsBridgeFailure given = IsFailure (AreGoodNames given.names.now) (IsRefusedBridge given) ⊤
 
 -- the table that a call reads from names: the expected table, or bad names if there is none
 abbrev pub ReadsTable : Option Table → Result Table Failure → Type 0

@@ -1,12 +1,12 @@
 //! Which rights of a mask a list grants many requesters.
 ghost use Rattle.acl_eval.specs.Situation.{owner_of, owning_group_of};
-ghost use Rattle.aclck_c.specs.Many.{AreEachGranted, AreGoodMany, HaveGranted, IsGoodRequester, IsGoodCall, asked_by};
-ghost use Rattle.aclck_c.specs.Requests.{AreGranted};
+ghost use Rattle.aclck_c.specs.Many.{AreEachGranted, AreGoodMany, HaveGranted, IsGoodCall, nothing_for};
+ghost use Rattle.aclck_c.specs.Requests.{AreGranted, IsGoodRequester, asked_by};
 ghost use Rattle.std.specs.Prelude.{◌≡◌, ◌<◌, ◌↔◌};
-ghost use Rattle.aclck_c.specs.Common.{All, IfSome, IsSome, IsTrue, length, profile_of, LooksAtList, profile_from, WritesValue};
-ghost use Rattle.aclck_c.specs.Status as status;
+ghost use Rattle.aclck_c.specs.Common.{All, IfSome, IsSome, IsTrue, length, profile_of, LooksAtList, profile_from, GivesAnswer};
 
 use crate::failure::Failure;
+use crate::nfs4::request::{RawObject, RawQuestion, RawRequester};
 use crate::options::profile_from;
 use crate::refusal::Refusal;
 use crate::status::{BAD_ARGUMENT, DONE};
@@ -14,44 +14,36 @@ use acl_eval::{Object, Requester, granted};
 use acl_nfs4::AclView;
 use acl_perm::{Mask, Profile};
 
-/// `struct aclck_requester`: a user, and the groups of that user.
-#[repr(C)]
-#[derive(Clone, Copy, Debug)]
-pub struct RawRequester<'a> {
-    pub user: &'a [u8],
-    pub groups: &'a [&'a [u8]],
-}
-
-/// Reports which rights of the mask the list that the bytes spell grants each of the requesters on the object (RFC
-/// 8881, section 6.2.1), and reads the list once. Returns 0 if they are in `granted`, one number for each requester; 2
-/// if the bytes are refused, with the reason in `fault`; 3 if a name is empty, a number or an option has no meaning, or
-/// `granted` has another length than `requesters`. It takes no memory.
+/// Answers which of the rights that are asked the list that the bytes spell grants each of the requesters on the object
+/// (RFC 8881, section 6.2.1), and reads the list once: they are in `rights`, one number for each requester, which are
+/// all 0 if the call fails. Returns 0 if it is answered; 2 if the bytes are refused, with the reason in `fault`; 3 if a
+/// name is empty, a number or an option has no meaning, or `rights` has another length than `requesters`. It takes no
+/// memory.
 #[unsafe(no_mangle)]
 pub extern "C" fn aclck_check_many(
     acl: &[u8],
-    owner: &[u8],
-    group: &[u8],
+    object: &RawObject<'_>,
     requesters: &[RawRequester<'_>],
-    mask: u32,
-    options: u32,
-    granted: &mut [u32],
+    question: &RawQuestion,
+    rights: &mut [u32],
     fault: &mut Refusal,
 ) -> u32
-    ensures rights { WritesValue (HaveGranted (profile_from options) acl.now owner.now group.now
-        requesters.now mask) granted.old granted.new result }
-    ensures input { LooksAtList (profile_from options) acl.now
-        (AreGoodMany owner.now group.now requesters.now mask options (length granted.old))
-        status.only_done fault.old fault.new result }
+    ensures answer { GivesAnswer (HaveGranted (profile_from question.now.options) acl.now object.now
+        requesters.now question.now.mask) (nothing_for rights.old) rights.new result }
+    ensures input { LooksAtList (profile_from question.now.options) acl.now
+        (AreGoodMany object.now requesters.now question.now (length rights.old))
+        fault.old fault.new result }
 {
-    let Some(request) = asked(owner, group, mask, options) else {
+    rights.fill(0);
+    let Some(request) = asked(object, question) else {
         return BAD_ARGUMENT;
     };
-    if granted.len() != requesters.len() || !are_good(requesters) {
+    if rights.len() != requesters.len() || !are_good(requesters) {
         return BAD_ARGUMENT;
     }
     match AclView::parse_whole_with(acl, request.profile) {
         Ok(view) => {
-            grant_each(&view, &request, requesters, granted);
+            grant_each(&view, &request, requesters, rights);
             DONE
         }
         Err(found) => Failure::from(found).report(fault),
@@ -66,17 +58,17 @@ struct Many<'a> {
     profile: Profile,
 }
 
-fn asked<'a>(owner: &'a [u8], group: &'a [u8], mask: u32, options: u32) -> Option<Many<'a>>
-    ensures good { IsSome result ↔ IsGoodCall owner.now group.now mask options }
-    ensures owner { IfSome result (λ r. owner_of r.object ≡ owner.now) }
-    ensures group { IfSome result (λ r. owning_group_of r.object ≡ group.now) }
-    ensures mask { IfSome result (λ r. r.mask.bits ≡ mask) }
-    ensures profile { IfSome result (λ r. profile_of r.profile ≡ profile_from options) }
+fn asked<'a>(object: &RawObject<'a>, question: &RawQuestion) -> Option<Many<'a>>
+    ensures good { IsSome result ↔ IsGoodCall object.now question.now }
+    ensures owner { IfSome result (λ r. owner_of r.object ≡ object.now.owner.now) }
+    ensures group { IfSome result (λ r. owning_group_of r.object ≡ object.now.group.now) }
+    ensures mask { IfSome result (λ r. r.mask.bits ≡ question.now.mask) }
+    ensures profile { IfSome result (λ r. profile_of r.profile ≡ profile_from question.now.options) }
 {
     Some(Many {
-        object: Object::new(owner, group)?,
-        mask: Mask::new(mask)?,
-        profile: profile_from(options)?,
+        object: Object::new(object.owner, object.group)?,
+        mask: Mask::new(question.mask)?,
+        profile: profile_from(question.options)?,
     })
 }
 

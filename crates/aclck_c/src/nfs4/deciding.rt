@@ -1,19 +1,19 @@
 //! Which ACE decides a right.
-ghost use Rattle.aclck_c.specs.Requests.{IsDecidedAt, IsSomeRight, IsRight, IsUndecided};
-ghost use Rattle.aclck_c.specs.Status as status;
-ghost use Rattle.aclck_c.specs.internal.Deciding.{Finds};
+ghost use Rattle.aclck_c.specs.Requests.{IsDecision, IsSomeRight, IsRight, no_decision};
+ghost use Rattle.aclck_c.specs.internal.Deciding.{Finds, raw_decision};
 ghost use Rattle.std.specs.Prelude.{◌≡◌};
-ghost use Rattle.aclck_c.specs.Common.{IfErr, IfOk, IfSome, IsNone, None, Some, profile_of, situation, LooksAtList, profile_from, WritesValue, AreGood, asked, IsViewFailure};
+ghost use Rattle.aclck_c.specs.Common.{IfErr, IfOk, IfSome, IsNone, profile_of, situation, LooksAtList, profile_from, GivesAnswer, AreGood, asked, IsViewFailure};
 
 use crate::failure::Failure;
-use crate::nfs4::request::{NfsRequest, asked};
+use crate::nfs4::request::{NfsRequest, RawObject, RawQuestion, RawRequester, asked};
 use crate::refusal::Refusal;
-use crate::status::{BAD_ARGUMENT, NO, YES};
+use crate::status::{BAD_ARGUMENT, DONE};
 use acl_eval::{Decision, deciding_ace};
 use acl_nfs4::AclView;
 use acl_perm::{Mask, Right};
 
-/// `struct aclck_decision`: the place of an ACE, from 0, and its kind, 0 ALLOW or 1 DENY.
+/// `struct aclck_decision`: the place of an ACE, from 0, and its kind, 0 ALLOW or 1 DENY. If there is no ACE, the place
+/// is 0 and the kind is 2.
 #[repr(C)]
 #[derive(Clone, Copy, Debug)]
 pub struct RawDecision {
@@ -21,47 +21,52 @@ pub struct RawDecision {
     pub kind: u32,
 }
 
-/// Reports which ACE of the list that the bytes spell decides one right for this requester and object (RFC 8881,
-/// section 6.2.1). Returns 0 if it is in `decision`; 1 if there is none, which denies the right; 2 if the bytes are
-/// refused, with the reason in `fault`; 3 if a name is empty, the mask is not exactly one right, or an option has no
-/// meaning. It takes no memory.
+const NO_DECISION: RawDecision = RawDecision { place: 0, kind: 2 };
+
+/// Answers which ACE of the list that the bytes spell decides the one right that is asked for this requester and object
+/// (RFC 8881, section 6.2.1). It is in `decision`, which has the kind 2 if no ACE decides, which denies the right, or
+/// if the call fails. Returns 0 if it is answered; 2 if the bytes are refused, with the reason in `fault`; 3 if a name
+/// is empty, not exactly one right is asked, or an option has no meaning. It takes no memory.
 #[unsafe(no_mangle)]
 pub extern "C" fn aclck_deciding(
     acl: &[u8],
-    owner: &[u8],
-    group: &[u8],
-    user: &[u8],
-    groups: &[&[u8]],
-    right: u32,
-    options: u32,
+    object: &RawObject<'_>,
+    requester: &RawRequester<'_>,
+    question: &RawQuestion,
     decision: &mut RawDecision,
     fault: &mut Refusal,
 ) -> u32
-    ensures decided { WritesValue (λ found. IsDecidedAt (profile_from options) acl.now
-        (asked owner.now group.now user.now groups.now) right found.place found.kind)
-        decision.old decision.new result }
-    ensures undecided { result ≡ status.no → IsUndecided (profile_from options) acl.now
-        (asked owner.now group.now user.now groups.now) right }
-    ensures input { LooksAtList (profile_from options) acl.now
-        (AreGood owner.now group.now user.now groups.now right options × IsSomeRight right)
-        status.yes_or_no fault.old fault.new result }
+    ensures answer { GivesAnswer (IsDecision (profile_from question.now.options) acl.now
+        (asked object.now requester.now) question.now.mask) no_decision decision.new result }
+    ensures input { LooksAtList (profile_from question.now.options) acl.now
+        (AreGood object.now requester.now question.now × IsSomeRight question.now.mask)
+        fault.old fault.new result }
 {
-    let Some(request) = asked(owner, group, user, groups, right, options) else {
+    *decision = NO_DECISION;
+    let Some(request) = asked(object, requester, question) else {
         return BAD_ARGUMENT;
     };
     let Some(bit) = right_of(request.mask) else {
         return BAD_ARGUMENT;
     };
     match decide(acl, &request, bit) {
-        Ok(Some(found)) => {
-            *decision = RawDecision {
-                place: found.place as u64,
-                kind: found.kind.number(),
-            };
-            YES
+        Ok(found) => {
+            *decision = raw_decision(found);
+            DONE
         }
-        Ok(None) => NO,
         Err(failure) => failure.report(fault),
+    }
+}
+
+fn raw_decision(found: Option<Decision>) -> RawDecision
+    ensures { result ≡ raw_decision found }
+{
+    match found {
+        Some(found) => RawDecision {
+            place: found.place as u64,
+            kind: found.kind.number(),
+        },
+        None => NO_DECISION,
     }
 }
 

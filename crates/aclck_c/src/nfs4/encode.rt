@@ -31,7 +31,7 @@ pub extern "C" fn aclck_encode(
     needed: &mut usize,
     fault: &mut Refusal,
 ) -> u32
-    ensures bytes { WritesBytes status.done (Encodes (profile_from options) text.now)
+    ensures bytes { WritesBytes (Encodes (profile_from options) text.now)
         out.old out.new needed.old needed.new result }
     ensures input { JudgesInput (IsRefusedText (profile_from options) text.now) ⊤
         (IsProfileOption options) status.done_or_short fault.old fault.new result }

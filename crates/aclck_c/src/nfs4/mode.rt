@@ -1,7 +1,6 @@
 //! The mode of a list.
 ghost use Rattle.aclck_c.specs.Mode.{HasMode};
-ghost use Rattle.aclck_c.specs.Common.{IfErr, IfOk, profile_of, LooksAtList, profile_from, WritesValue, IsViewFailure, IsProfileOption};
-ghost use Rattle.aclck_c.specs.Status as status;
+ghost use Rattle.aclck_c.specs.Common.{IfErr, IfOk, profile_of, LooksAtList, profile_from, GivesAnswer, IsViewFailure, IsProfileOption};
 
 use crate::failure::Failure;
 use crate::options::profile_from;
@@ -11,14 +10,16 @@ use acl_eval::mode_of;
 use acl_nfs4::AclView;
 use acl_perm::Profile;
 
-/// Reports the mode of the list that the bytes spell (RFC 8881, section 6.3.2). Returns 0 if it is in `mode`; 2 if the
-/// bytes are refused, with the reason in `fault`; 3 if an option has no meaning. It takes no memory.
+/// Answers what the mode of the list that the bytes spell is (RFC 8881, section 6.3.2): it is in `mode`, which is 0 if
+/// the call fails. Returns 0 if it is answered; 2 if the bytes are refused, with the reason in `fault`; 3 if an option
+/// has no meaning. It takes no memory.
 #[unsafe(no_mangle)]
 pub extern "C" fn aclck_mode(acl: &[u8], options: u32, mode: &mut u32, fault: &mut Refusal) -> u32
-    ensures mode { WritesValue (HasMode (profile_from options) acl.now) mode.old mode.new result }
+    ensures answer { GivesAnswer (HasMode (profile_from options) acl.now) 0 mode.new result }
     ensures input { LooksAtList (profile_from options) acl.now
-        (IsProfileOption options) status.only_done fault.old fault.new result }
+        (IsProfileOption options) fault.old fault.new result }
 {
+    *mode = 0;
     let Some(profile) = profile_from(options) else {
         return BAD_ARGUMENT;
     };

@@ -16,24 +16,24 @@ use std::alloc::{AllocError, Global};
 /// Writes, by place, the mask of the rights of each ACE of the list that are needed: the list cut to these masks grants
 /// the same, and no right can be taken out of it (this library's own, over RFC 8881, section 6.2.1). Returns 0 if the
 /// masks are at the front of `masks`; 2 if the bytes are refused, with the reason in `fault`; 3 if an option has no
-/// meaning; 4 if memory ran out; 5 if `masks` is too short. At 0 and 5 `count` is the number of ACEs.
+/// meaning; 4 if memory ran out; 5 if `masks` is too short. At 0 and 5 `needed` is the number of ACEs.
 #[unsafe(no_mangle)]
 pub extern "C" fn aclck_needed(
     alloc: Global,
     acl: &[u8],
     options: u32,
     masks: &mut [u32],
-    count: &mut usize,
+    needed: &mut usize,
     fault: &mut Refusal,
 ) -> u32
     ensures { WritesOfList (profile_from options) acl.now (IsProfileOption options)
         (HaveNeeded (profile_from options) acl.now)
-        masks.old masks.new count.old count.new fault.old fault.new result }
+        masks.old masks.new needed.old needed.new fault.old fault.new result }
 {
     let Some(profile) = profile_from(options) else {
         return BAD_ARGUMENT;
     };
-    answer(needed_masks(alloc, acl, profile), masks, count, fault)
+    answer(needed_masks(alloc, acl, profile), masks, needed, fault)
 }
 
 fn needed_masks(alloc: Global, acl: &[u8], profile: Profile) -> Result<Vec<u32>, Failure>

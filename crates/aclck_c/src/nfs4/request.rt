@@ -1,10 +1,34 @@
-//! A request: the object, the requester, and the rights that are requested.
+//! A request: the object, the requester, and what is asked.
 ghost use Rattle.std.specs.Prelude.{◌≡◌, ◌<◌, ◌↔◌};
 ghost use Rattle.aclck_c.specs.Common.{IfSome, IsSome, profile_of, situation, profile_from, AreGood, asked};
 
 use crate::options::profile_from;
 use acl_eval::{Object, Requester};
 use acl_perm::{Mask, Profile};
+
+/// `struct aclck_object`: the owner of an object, and its owning group.
+#[repr(C)]
+#[derive(Clone, Copy, Debug)]
+pub struct RawObject<'a> {
+    pub owner: &'a [u8],
+    pub group: &'a [u8],
+}
+
+/// `struct aclck_requester`: a user, and the groups of that user.
+#[repr(C)]
+#[derive(Clone, Copy, Debug)]
+pub struct RawRequester<'a> {
+    pub user: &'a [u8],
+    pub groups: &'a [&'a [u8]],
+}
+
+/// `struct aclck_question`: the rights that are asked, and the options.
+#[repr(C)]
+#[derive(Clone, Copy, Debug)]
+pub struct RawQuestion {
+    pub mask: u32,
+    pub options: u32,
+}
 
 /// A request of a call: the object, the requester, the rights that are requested, and the profile.
 #[derive(Clone, Copy)]
@@ -17,23 +41,20 @@ pub(crate) struct NfsRequest<'a> {
 
 /// Makes a request. Returns `None` if a name is empty, a bit of the mask is not a right, or an option has no meaning.
 pub(crate) fn asked<'a>(
-    owner: &'a [u8],
-    group: &'a [u8],
-    user: &'a [u8],
-    groups: &'a [&'a [u8]],
-    mask: u32,
-    options: u32,
+    object: &RawObject<'a>,
+    requester: &RawRequester<'a>,
+    question: &RawQuestion,
 ) -> Option<NfsRequest<'a>>
-    ensures good { IsSome result ↔ AreGood owner.now group.now user.now groups.now mask options }
+    ensures good { IsSome result ↔ AreGood object.now requester.now question.now }
     ensures situation { IfSome result (λ r. situation r.object r.requester
-        ≡ asked owner.now group.now user.now groups.now) }
-    ensures mask { IfSome result (λ r. r.mask.bits ≡ mask) }
-    ensures profile { IfSome result (λ r. profile_of r.profile ≡ profile_from options) }
+        ≡ asked object.now requester.now) }
+    ensures mask { IfSome result (λ r. r.mask.bits ≡ question.now.mask) }
+    ensures profile { IfSome result (λ r. profile_of r.profile ≡ profile_from question.now.options) }
 {
     Some(NfsRequest {
-        object: Object::new(owner, group)?,
-        requester: Requester::new(user, groups)?,
-        mask: Mask::new(mask)?,
-        profile: profile_from(options)?,
+        object: Object::new(object.owner, object.group)?,
+        requester: Requester::new(requester.user, requester.groups)?,
+        mask: Mask::new(question.mask)?,
+        profile: profile_from(question.options)?,
     })
 }

@@ -2,39 +2,44 @@
 ghost use Rattle.aclck_c.specs.Compare.{AreSameOrNot};
 ghost use Rattle.aclck_c.specs.Status as status;
 ghost use Rattle.std.specs.Prelude.{◌↔◌};
-ghost use Rattle.aclck_c.specs.Common.{IfErr, IfOk, IsNone, IsTrue, profile_of, ReadsTwoLists, SaysYesOrNo, profile_from, IsPairFailure, IsProfileOption};
+ghost use Rattle.aclck_c.specs.Common.{IfErr, IfOk, IsNone, IsTrue, profile_of, ReadsTwoLists, GivesAnswer, IsTruthOf, profile_from, IsPairFailure, IsProfileOption};
 
 use crate::failure::Failure;
 use crate::nfs4::reading::{list_of, second_list_of};
 use crate::options::profile_from;
+use crate::out::truth_number;
 use crate::refusal::Refusal;
-use crate::status::{BAD_ARGUMENT, NO, YES};
+use crate::status::{BAD_ARGUMENT, DONE};
 use acl_normal::{Difference, compare};
 use acl_perm::Profile;
 use std::alloc::Global;
 
-/// Returns whether two lists grant everybody the same (this library's own, over RFC 8881, section 6.2.1): 0 if they do;
-/// 1 if they do not; 2 if the bytes of a list are refused, with the reason in `fault`; 3 if an option has no meaning; 4
-/// if memory ran out.
+/// Answers whether two lists grant everybody the same (this library's own, over RFC 8881, section 6.2.1): `same` is 1
+/// if they do, and 0 if they do not or the call fails. Returns 0 if it is answered; 2 if the bytes of a list are
+/// refused, with the reason in `fault`; 3 if an option has no meaning; 4 if memory ran out.
 #[unsafe(no_mangle)]
 pub extern "C" fn aclck_same(
     alloc: Global,
     first: &[u8],
     second: &[u8],
     options: u32,
+    same: &mut u32,
     fault: &mut Refusal,
 ) -> u32
-    ensures answer { SaysYesOrNo
-        (AreSameOrNot (profile_from options) first.now second.now) result }
+    ensures answer { GivesAnswer (IsTruthOf
+        (AreSameOrNot (profile_from options) first.now second.now)) 0 same.new result }
     ensures input { ReadsTwoLists (profile_from options) first.now second.now
-        (IsProfileOption options) status.yes_or_no fault.old fault.new result }
+        (IsProfileOption options) status.only_done fault.old fault.new result }
 {
+    *same = 0;
     let Some(profile) = profile_from(options) else {
         return BAD_ARGUMENT;
     };
     match are_same(alloc, first, second, profile) {
-        Ok(true) => YES,
-        Ok(false) => NO,
+        Ok(answer) => {
+            *same = truth_number(answer);
+            DONE
+        }
         Err(failure) => failure.report(fault),
     }
 }

@@ -17,6 +17,7 @@ ghost use Rattle.aclck_c.specs.Common.{IfErr, IfOk, IfSome, IsSome, profile_of, 
 
 use crate::failure::Failure;
 use crate::nfs4::reading::list_of;
+use crate::nfs4::request::RawQuestion;
 use crate::options::{ChildOptions, child_options_from, profile_from};
 use crate::out::answer;
 use crate::refusal::Refusal;
@@ -28,7 +29,7 @@ use acl_perm::{Counted, Mask, Profile};
 use std::alloc::{AllocError, Global};
 
 /// Writes the bytes of the list that a new object gets in a directory with the list (RFC 8881, section 6.2.1.4.1). The
-/// new object is a directory if `options` has 2, and otherwise a file.
+/// new object is a directory if `options` have DIRECTORY, and otherwise a file.
 #[unsafe(no_mangle)]
 pub extern "C" fn aclck_child(
     alloc: Global,
@@ -158,27 +159,26 @@ fn spelled_forms(alloc: Global, forms: &FiveForms) -> Result<Vec<u8>, AllocError
     }
 }
 
-/// Writes the rows of one right of the list: one line for each ACE of its normal form that has the right, with its
-/// place in the given list (this library's own, over RFC 8881, section 6.2.1). It also returns 3 if `right` is not
-/// exactly one right of the profile.
+/// Writes the rows of the one right that is asked: one line for each ACE of the normal form of the list that has the
+/// right, with its place in the given list (this library's own, over RFC 8881, section 6.2.1). It also returns 3 if not
+/// exactly one right of the profile is asked.
 #[unsafe(no_mangle)]
 pub extern "C" fn aclck_table(
     alloc: Global,
     acl: &[u8],
-    right: u32,
-    options: u32,
+    question: &RawQuestion,
     out: &mut [u8],
     needed: &mut usize,
     fault: &mut Refusal,
 ) -> u32
-    ensures { WritesOfList (profile_from options) acl.now (IsGoodTable right options)
-        (Tabulates (profile_from options) right acl.now)
+    ensures { WritesOfList (profile_from question.now.options) acl.now (IsGoodTable question.now)
+        (Tabulates (profile_from question.now.options) question.now.mask acl.now)
         out.old out.new needed.old needed.new fault.old fault.new result }
 {
-    let Some(profile) = profile_from(options) else {
+    let Some(profile) = profile_from(question.options) else {
         return BAD_ARGUMENT;
     };
-    let Some(bit) = right_of(right, profile) else {
+    let Some(bit) = right_of(question.mask, profile) else {
         return BAD_ARGUMENT;
     };
     answer(tabulated(alloc, acl, bit, profile), out, needed, fault)

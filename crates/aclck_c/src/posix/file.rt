@@ -6,17 +6,21 @@ use crate::posix::names::{RawName, table_of};
 use acl_posix::{PosixFile, parse};
 use std::alloc::Global;
 
-/// Returns the file that a text spells with these names. Fails if the names make no table, the text is refused, or
-/// memory runs out.
+/// `struct aclck_posix_text`: the text of POSIX ACLs, and the names that it may use for ids.
+#[repr(C)]
+#[derive(Clone, Copy, Debug)]
+pub struct RawPosixText<'a> {
+    pub text: &'a [u8],
+    pub names: &'a [RawName<'a>],
+}
+
+/// Returns the file that a text spells with its names. Fails if the names make no table, the text is refused, or memory
+/// runs out.
 #[tactic(auto, using(crate::proofs::FileFailures::names_failure, crate::proofs::FileFailures::text_failure))]
-pub(crate) fn file_of(
-    alloc: Global,
-    text: &[u8],
-    names: &[RawName<'_>],
-) -> Result<PosixFile, Failure>
-    ensures ok { IfOk result (SpellsFile names.now text.now) }
-    ensures err { IfErr result (IsFileFailure names.now text.now) }
+pub(crate) fn file_of(alloc: Global, text: &RawPosixText<'_>) -> Result<PosixFile, Failure>
+    ensures ok { IfOk result (SpellsFile text.now) }
+    ensures err { IfErr result (IsFileFailure text.now) }
 {
-    let table = table_of(alloc, names)?;
-    Ok(parse(alloc, text, &table)?)
+    let table = table_of(alloc, text.names)?;
+    Ok(parse(alloc, text.text, &table)?)
 }

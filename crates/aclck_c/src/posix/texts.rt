@@ -1,20 +1,21 @@
-//! Calls that write a text or bytes made from the POSIX ACLs that the text `text` spells with the names `names`. Each
-//! returns 0 if its result is at the front of `out`; 2 if the text is refused, with the reason in `fault`; 3 if the
-//! names make no table or an option has no meaning; 4 if memory ran out; 5 if `out` is too short. At 0 and 5 `needed`
-//! is the number of bytes of the result.
-ghost use Rattle.std.specs.Prelude.{◌≡◌, ◌==◌, ◌<◌, ◌↔◌};
+//! Calls that write a text or bytes made from the POSIX ACLs that a text spells with its names. Each returns 0 if its
+//! result is at the front of `out`; 2 if the text is refused, with the reason in `fault`; 3 if the names make no table
+//! or an option has no meaning; 4 if memory ran out; 5 if `out` is too short. At 0 and 5 `needed` is the number of
+//! bytes of the result.
+ghost use Rattle.std.specs.Prelude.{◌≡◌};
 ghost use Rattle.acl_posix.specs.Programs.{created_text, file_text, masked_text};
 ghost use Rattle.acl_eval.specs.Programs.{Bridges};
 ghost use Rattle.aclck_c.specs.Create.{IsCreation};
-ghost use Rattle.aclck_c.specs.Posix.{IsCreated, IsRefusedBridge, IsShown, IsWithMode, form_from, is_directory};
+ghost use Rattle.aclck_c.specs.Options.{form_from};
+ghost use Rattle.aclck_c.specs.Posix.{IsCreated, IsRefusedBridge, IsShown, IsWithMode};
 ghost use Rattle.aclck_c.specs.internal.Failures.{IsBridgeFailure, of_bridge};
 ghost use Rattle.aclck_c.specs.Common.{⊤, IfErr, IfOk, IfSome, IsMode, IsSome, WritesOfFile, WritesOfText, MakesOfFile, SpellsFile, IsFileFailure};
 
 use crate::failure::Failure;
-use crate::options::{DIRECTORY, FORM_SHORT, FORM_SHOWN, mode_from};
+use crate::options::{form_from, mode_from};
 use crate::out::answer;
-use crate::posix::file::file_of;
-use crate::posix::names::RawName;
+use crate::posix::creation::{PosixCreation, RawCreation, creation_of};
+use crate::posix::file::{RawPosixText, file_of};
 use crate::refusal::Refusal;
 use crate::status::BAD_ARGUMENT;
 use acl_eval::{BridgeFault, bridge};
@@ -23,71 +24,59 @@ use acl_posix::{Form, create};
 use std::alloc::Global;
 
 /// Writes the text of the ACLs in one form (acl(5), "LONG TEXT FORM", "SHORT TEXT FORM"). The form is the canonical one
-/// if `options` is 0, the shown one if it is 4, and the short one if it is 8, with a line feed after it.
+/// if `options` is 0, the shown one if it is FORM_SHOWN, and the short one if it is FORM_SHORT, with a line feed after
+/// it.
 #[unsafe(no_mangle)]
-pub extern "C" fn aclck_show_posix(
+pub extern "C" fn aclck_posix_show(
     alloc: Global,
-    text: &[u8],
-    names: &[RawName<'_>],
+    text: &RawPosixText<'_>,
     options: u32,
     out: &mut [u8],
     needed: &mut usize,
     fault: &mut Refusal,
 ) -> u32
-    ensures { WritesOfText names.now text.now (IsSome (form_from options))
-        (IsShown names.now options text.now)
+    ensures { WritesOfText text.now (IsSome (form_from options))
+        (IsShown text.now options)
         out.old out.new needed.old needed.new fault.old fault.new result }
 {
     let Some(form) = form_from(options) else {
         return BAD_ARGUMENT;
     };
-    answer(shown(alloc, text, names, form), out, needed, fault)
+    answer(shown(alloc, text, form), out, needed, fault)
 }
 
-fn form_from(options: u32) -> Option<Form>
-    ensures { result ≡ form_from options }
-{
-    match options {
-        0 => Some(Form::Canonical),
-        FORM_SHOWN => Some(Form::Shown),
-        FORM_SHORT => Some(Form::Short),
-        _ => None,
-    }
-}
-
-fn shown(alloc: Global, text: &[u8], names: &[RawName<'_>], form: Form) -> Result<Vec<u8>, Failure>
+fn shown(alloc: Global, text: &RawPosixText<'_>, form: Form) -> Result<Vec<u8>, Failure>
     ensures ok { IfOk result (λ made.
-        MakesOfFile (SpellsFile names.now text.now) (file_text form) made.items) }
-    ensures err { IfErr result (IsFileFailure names.now text.now) }
+        MakesOfFile (SpellsFile text.now) (file_text form) made.items) }
+    ensures err { IfErr result (IsFileFailure text.now) }
 {
-    let file = file_of(alloc, text, names)?;
+    let file = file_of(alloc, text)?;
     Ok(file.to_text(alloc, form)?)
 }
 
 /// Writes the canonical text of the ACLs after the mask of the access ACL is calculated, and added if there is none
 /// (POSIX.1e draft 17, section 23.4).
 #[unsafe(no_mangle)]
-pub extern "C" fn aclck_calc_mask(
+pub extern "C" fn aclck_posix_calc_mask(
     alloc: Global,
-    text: &[u8],
-    names: &[RawName<'_>],
+    text: &RawPosixText<'_>,
     out: &mut [u8],
     needed: &mut usize,
     fault: &mut Refusal,
 ) -> u32
-    ensures { WritesOfText names.now text.now ⊤
-        (MakesOfFile (SpellsFile names.now text.now) masked_text)
+    ensures { WritesOfText text.now ⊤
+        (MakesOfFile (SpellsFile text.now) masked_text)
         out.old out.new needed.old needed.new fault.old fault.new result }
 {
-    answer(masked(alloc, text, names), out, needed, fault)
+    answer(masked(alloc, text), out, needed, fault)
 }
 
-fn masked(alloc: Global, text: &[u8], names: &[RawName<'_>]) -> Result<Vec<u8>, Failure>
+fn masked(alloc: Global, text: &RawPosixText<'_>) -> Result<Vec<u8>, Failure>
     ensures ok { IfOk result (λ made.
-        MakesOfFile (SpellsFile names.now text.now) masked_text made.items) }
-    ensures err { IfErr result (IsFileFailure names.now text.now) }
+        MakesOfFile (SpellsFile text.now) masked_text made.items) }
+    ensures err { IfErr result (IsFileFailure text.now) }
 {
-    let mut file = file_of(alloc, text, names)?;
+    let mut file = file_of(alloc, text)?;
     file.access.calc_mask()?;
     Ok(file.to_text(alloc, Form::Canonical)?)
 }
@@ -95,101 +84,65 @@ fn masked(alloc: Global, text: &[u8], names: &[RawName<'_>]) -> Result<Vec<u8>, 
 /// Writes the canonical text of the ACLs after the mode of the access ACL is set (acl(5), "CORRESPONDENCE BETWEEN ACL
 /// ENTRIES AND FILE PERMISSION BITS"). It also returns 3 if the mode is above 0o777.
 #[unsafe(no_mangle)]
-pub extern "C" fn aclck_chmod(
+pub extern "C" fn aclck_posix_chmod(
     alloc: Global,
-    text: &[u8],
-    names: &[RawName<'_>],
+    text: &RawPosixText<'_>,
     mode: u32,
     out: &mut [u8],
     needed: &mut usize,
     fault: &mut Refusal,
 ) -> u32
-    ensures { WritesOfText names.now text.now (IsMode mode)
-        (IsWithMode names.now mode text.now)
+    ensures { WritesOfText text.now (IsMode mode)
+        (IsWithMode text.now mode)
         out.old out.new needed.old needed.new fault.old fault.new result }
 {
     let Some(mode) = mode_from(mode) else {
         return BAD_ARGUMENT;
     };
-    answer(with_mode(alloc, text, names, mode), out, needed, fault)
+    answer(with_mode(alloc, text, mode), out, needed, fault)
 }
 
-fn with_mode(
-    alloc: Global,
-    text: &[u8],
-    names: &[RawName<'_>],
-    mode: Mode,
-) -> Result<Vec<u8>, Failure>
-    ensures ok { IfOk result (λ made. IsWithMode names.now mode.bits text.now made.items) }
-    ensures err { IfErr result (IsFileFailure names.now text.now) }
+fn with_mode(alloc: Global, text: &RawPosixText<'_>, mode: Mode) -> Result<Vec<u8>, Failure>
+    ensures ok { IfOk result (λ made. IsWithMode text.now mode.bits made.items) }
+    ensures err { IfErr result (IsFileFailure text.now) }
 {
-    let mut file = file_of(alloc, text, names)?;
+    let mut file = file_of(alloc, text)?;
     file.access.chmod(mode);
     Ok(file.to_text(alloc, Form::Canonical)?)
 }
 
 /// Writes the canonical text of a new object in a directory with the ACLs (acl(5), "OBJECT CREATION AND DEFAULT ACLs").
-/// The new object is a directory if `options` is 2, and a file if it is 0. It also returns 3 if the mode or the umask
-/// is above 0o777.
+/// It also returns 3 if the mode or the umask is above 0o777.
 #[unsafe(no_mangle)]
-pub extern "C" fn aclck_create(
+pub extern "C" fn aclck_posix_create(
     alloc: Global,
-    text: &[u8],
-    names: &[RawName<'_>],
-    mode: u32,
-    umask: u32,
-    options: u32,
+    text: &RawPosixText<'_>,
+    creation: &RawCreation,
     out: &mut [u8],
     needed: &mut usize,
     fault: &mut Refusal,
 ) -> u32
-    ensures { WritesOfText names.now text.now (IsCreation mode umask options)
-        (IsCreated names.now mode umask options text.now)
+    ensures { WritesOfText text.now (IsCreation creation.now)
+        (IsCreated text.now creation.now)
         out.old out.new needed.old needed.new fault.old fault.new result }
 {
-    let Some(creation) = creation_of(mode, umask, options) else {
+    let Some(creation) = creation_of(creation) else {
         return BAD_ARGUMENT;
     };
-    answer(created(alloc, text, names, &creation), out, needed, fault)
-}
-
-// The arguments of `aclck_create`, once they are judged.
-#[derive(Clone, Copy)]
-struct PosixCreation {
-    mode: Mode,
-    umask: Mode,
-    is_directory: bool,
-}
-
-// Returns `None` if the mode or the umask is above `0o777`, or an option has no meaning.
-fn creation_of(mode: u32, umask: u32, options: u32) -> Option<PosixCreation>
-    ensures known { IsSome result ↔ IsCreation mode umask options }
-    ensures mode { IfSome result (λ c. c.mode.bits ≡ mode) }
-    ensures umask { IfSome result (λ c. c.umask.bits ≡ umask) }
-    ensures directory { IfSome result (λ c. c.is_directory ≡ is_directory options) }
-{
-    if options != 0 && options != DIRECTORY {
-        return None;
-    }
-    Some(PosixCreation {
-        mode: mode_from(mode)?,
-        umask: mode_from(umask)?,
-        is_directory: options == DIRECTORY,
-    })
+    answer(created(alloc, text, &creation), out, needed, fault)
 }
 
 fn created(
     alloc: Global,
-    text: &[u8],
-    names: &[RawName<'_>],
+    text: &RawPosixText<'_>,
     creation: &PosixCreation,
 ) -> Result<Vec<u8>, Failure>
-    ensures ok { IfOk result (λ made. MakesOfFile (SpellsFile names.now text.now)
+    ensures ok { IfOk result (λ made. MakesOfFile (SpellsFile text.now)
         (created_text creation.now.mode.bits creation.now.umask.bits creation.now.is_directory)
         made.items) }
-    ensures err { IfErr result (IsFileFailure names.now text.now) }
+    ensures err { IfErr result (IsFileFailure text.now) }
 {
-    let parent = file_of(alloc, text, names)?;
+    let parent = file_of(alloc, text)?;
     let default = parent.default.as_ref();
     let file = create(
         alloc,
@@ -204,19 +157,18 @@ fn created(
 /// Writes the bytes of the NFSv4 list of the access ACL (this library's own, over POSIX.1e draft 17, section 23, and
 /// RFC 8881, section 6.2.1). It also returns 2 if the list is above a limit.
 #[unsafe(no_mangle)]
-pub extern "C" fn aclck_bridge(
+pub extern "C" fn aclck_posix_bridge(
     alloc: Global,
-    text: &[u8],
-    names: &[RawName<'_>],
+    text: &RawPosixText<'_>,
     out: &mut [u8],
     needed: &mut usize,
     fault: &mut Refusal,
 ) -> u32
-    ensures { WritesOfFile names.now ⊤ (IsRefusedBridge names.now text.now)
-        (Bridges (SpellsFile names.now text.now))
+    ensures { WritesOfFile text.now ⊤ (IsRefusedBridge text.now)
+        (Bridges (SpellsFile text.now))
         out.old out.new needed.old needed.new fault.old fault.new result }
 {
-    answer(bridged(alloc, text, names), out, needed, fault)
+    answer(bridged(alloc, text), out, needed, fault)
 }
 
 impl From<BridgeFault> for Failure {
@@ -232,11 +184,11 @@ impl From<BridgeFault> for Failure {
 
 // Fails if the text is refused, the list is above a limit, or memory runs out.
 #[tactic(auto, using(crate::proofs::Bridges::bridge_failure, crate::proofs::Bridges::file_failure))]
-fn bridged(alloc: Global, text: &[u8], names: &[RawName<'_>]) -> Result<Vec<u8>, Failure>
-    ensures ok { IfOk result (λ bytes. Bridges (SpellsFile names.now text.now) bytes.items) }
-    ensures err { IfErr result (IsBridgeFailure names.now text.now) }
+fn bridged(alloc: Global, text: &RawPosixText<'_>) -> Result<Vec<u8>, Failure>
+    ensures ok { IfOk result (λ bytes. Bridges (SpellsFile text.now) bytes.items) }
+    ensures err { IfErr result (IsBridgeFailure text.now) }
 {
-    let file = file_of(alloc, text, names)?;
+    let file = file_of(alloc, text)?;
     let list = bridge(alloc, &file.access)?;
     Ok(list.to_bytes(alloc)?)
 }

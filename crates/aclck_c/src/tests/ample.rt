@@ -1,8 +1,9 @@
 //! Calls that take memory, with enough of it: they do what they promise, and do not report that memory ran out. What a
 //! text grants is by acl(5), "ACCESS CHECK ALGORITHM", and the numbers of statuses and reasons are those of `aclck.h`.
 use super::{LIST, no_fault, normalize_into};
-use crate::status::{BAD_ARGUMENT, DONE, NO, REFUSED, SHORT, YES};
-use crate::{RawName, aclck_check_posix};
+use crate::status::{BAD_ARGUMENT, DONE, REFUSED, SHORT};
+use crate::{RawName, RawPosixQuestion, RawPosixText, Refusal, aclck_posix_check};
+use std::alloc::Global;
 use std::test::Fail;
 
 #[test]
@@ -20,9 +21,26 @@ fn a_short_buffer_stays_as_it_was(rt: HostRuntime) -> Result<(), Fail> {
     Ok(())
 }
 
+// The status of `aclck_posix_check` for a user who wants to read, and the answer that it leaves in place of a 7.
+fn may_read(alloc: Global, names: &[RawName<'_>], user: u32, fault: &mut Refusal) -> (u32, u32) {
+    let text = RawPosixText {
+        text: b"user::rw-,user:bob:r--,group::---,mask::r--,other::---",
+        names,
+    };
+    let question = RawPosixQuestion {
+        owner: 1,
+        group: 1,
+        user,
+        want: 4,
+        groups: &[],
+    };
+    let mut granted = 7;
+    let status = aclck_posix_check(alloc, &text, &question, &mut granted, fault);
+    (status, granted)
+}
+
 #[test]
 fn a_text_may_use_the_names_of_a_table(rt: HostRuntime) -> Result<(), Fail> {
-    let text = b"user::rw-,user:bob:r--,group::---,mask::r--,other::---";
     let bob = RawName {
         name: b"bob",
         id: 7,
@@ -30,20 +48,18 @@ fn a_text_may_use_the_names_of_a_table(rt: HostRuntime) -> Result<(), Fail> {
     };
     let twice = [bob, bob];
     let no_half = [RawName { is_group: 2, ..bob }];
-    let alloc = rt.alloc();
     let mut fault = no_fault();
     let rows = [
-        (&twice[1..], 7, YES),
-        (&twice[1..], 8, NO),
-        (&twice[..], 7, BAD_ARGUMENT),
-        (&no_half[..], 7, BAD_ARGUMENT),
+        (&twice[1..], 7, (DONE, 1)),
+        (&twice[1..], 8, (DONE, 0)),
+        (&twice[..], 7, (BAD_ARGUMENT, 0)),
+        (&no_half[..], 7, (BAD_ARGUMENT, 0)),
+        (&[], 7, (REFUSED, 0)),
     ];
     for (names, user, expected) in rows {
-        let status = aclck_check_posix(alloc, text, names, 1, 1, user, &[], 4, &mut fault);
-        assert_eq!(rt; status, expected);
+        let answer = may_read(rt.alloc(), names, user, &mut fault);
+        assert_eq!(rt; answer, expected);
     }
-    let status = aclck_check_posix(alloc, text, &[], 1, 1, 7, &[], 4, &mut fault);
-    assert_eq!(rt; status, REFUSED);
     assert_eq!(rt; fault.reason, 22);
     assert_eq!(rt; fault.column, 16);
     Ok(())

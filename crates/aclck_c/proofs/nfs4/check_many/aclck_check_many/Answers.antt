@@ -1,8 +1,8 @@
 use Rattle.std.proofs.Common.{refl}
 use Rattle.aclck_c.proofs.nfs4.check_many.aclck_check_many.Goals as goal
 
-pub returns-in-Ok-clause-rights : goal.returns-in-Ok-clause-rights
-returns-in-Ok-clause-rights c =
+pub returns-in-Ok-clause-answer : goal.returns-in-Ok-clause-answer
+returns-in-Ok-clause-answer c =
     let asked = c.in-Some.ensures in
     record {
       done = λ _. record {
@@ -11,5 +11,5 @@ returns-in-Ok-clause-rights c =
         rights = rw (asked.owner, asked.group, asked.mask) at c.grant_each.ensures.rights;
         count = c.grant_each.ensures.count;
       };
-      unwritten = λ not. absurd (not refl);
+      failed = λ not. absurd (not refl);
     }

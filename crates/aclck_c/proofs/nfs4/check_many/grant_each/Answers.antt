@@ -2,8 +2,7 @@ use Rattle.std.proofs.Common.{◌∙◌, arith}
 use Rattle.std.proofs.lemmas.List.{length-set}
 use Rattle.std.proofs.lemmas.Option.{slice_get_within}
 use Rattle.acl_eval.specs.Situation.{owner_of, owning_group_of}
-use Rattle.aclck_c.specs.Many.{asked_by}
-use Rattle.aclck_c.specs.Requests.{AreGranted}
+use Rattle.aclck_c.specs.Requests.{AreGranted, asked_by}
 use Rattle.aclck_c.proofs.ManyRequesters.{right_up_to}
 use Rattle.aclck_c.proofs.nfs4.check_many.grant_each.Goals as goal
 

@@ -1,8 +1,7 @@
 use Rattle.std.specs.Prelude.{◌≡◌, ◌<◌, ℕ, Some, length, slice_get, slice_index_or}
 use Rattle.acl_eval.specs.Situation.{owner_of, owning_group_of}
-use Rattle.aclck_c.specs.Many.{asked_by}
-use Rattle.aclck_c.specs.Requests.{AreGranted}
-use Rattle.aclck_c.specs.declared.nfs4.check_many.RawRequester.{RawRequester}
+use Rattle.aclck_c.specs.Requests.{AreGranted, asked_by}
+use Rattle.aclck_c.specs.declared.nfs4.request.RawRequester.{RawRequester}
 use Rattle.aclck_c.proofs.nfs4.check_many.grant_each.Given as goal
 
 -- the requesters so far have their rights at their places

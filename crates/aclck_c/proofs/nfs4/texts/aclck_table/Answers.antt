@@ -5,5 +5,5 @@ use Rattle.aclck_c.proofs.nfs4.texts.aclck_table.Goals as goal
 
 pub returns : goal.returns
 returns c =
-    writes_of_list (λ p. Tabulates p c.args.right c.args.acl.now) c.in-Some.ensures.value (search rules)
+    writes_of_list (λ p. Tabulates p c.args.question.now.mask c.args.acl.now) c.in-Some.ensures.value (search rules)
     (rw c.in-Some-right_of.ensures.value at c.tabulated.ensures.ok) c.tabulated.ensures.err c.answer.ensures

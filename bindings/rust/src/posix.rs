@@ -1,0 +1,97 @@
+//! POSIX ACLs by their texts (acl(5); docs/formats.md).
+
+use crate::answers::{answered, made};
+use crate::nfs4::DIRECTORY;
+use crate::raw::{self, Bytes};
+use crate::{Error, Form, Kind};
+
+/// The number of each option in `aclck.h`.
+const FORM_SHOWN: u32 = 0x0400_0000;
+const FORM_SHORT: u32 = 0x0800_0000;
+
+/// A name that a POSIX text may use for an id.
+#[derive(Clone, Copy, Debug)]
+pub struct Name<'a> {
+    pub name: &'a [u8],
+    pub id: u32,
+    pub is_group: bool,
+}
+
+/// The text of POSIX ACLs, and the names that it may use.
+#[derive(Clone, Copy, Debug)]
+pub struct PosixText<'a> {
+    pub text: &'a [u8],
+    pub names: &'a [Name<'a>],
+}
+
+/// Whether a user, who is in these groups, may do all of `want` (4 read, 2 write, 1 execute) to an object of this owner
+/// and this group.
+#[derive(Clone, Copy, Debug)]
+pub struct PosixQuestion<'a> {
+    pub owner: u32,
+    pub group: u32,
+    pub user: u32,
+    pub groups: &'a [u32],
+    pub want: u32,
+}
+
+/// Returns whether the access ACL of the text grants what is asked.
+pub fn posix_check(text: PosixText, question: PosixQuestion) -> Result<bool, Error> {
+    let PosixQuestion { owner, group, user, groups, want } = question;
+    let asked = raw::PosixQuestion { owner, group, user, want, groups: groups.as_ptr(), ngroups: groups.len() };
+    let names = raw_names(text.names);
+    let granted: u32 = answered(|granted, fault| unsafe {
+        raw::aclck_posix_check(&raw_text(text, &names), &asked, granted, fault)
+    })?;
+    Ok(granted == 1)
+}
+
+/// Returns the text in a form.
+pub fn posix_show(text: PosixText, form: Form) -> Result<Vec<u8>, Error> {
+    let options = match form {
+        Form::Canonical => 0,
+        Form::Shown => FORM_SHOWN,
+        Form::Short => FORM_SHORT,
+    };
+    changed(text, 2, |text, out, needed, fault| unsafe { raw::aclck_posix_show(text, options, out, needed, fault) })
+}
+
+/// Returns the canonical text after the mask is calculated.
+pub fn posix_calc_mask(text: PosixText) -> Result<Vec<u8>, Error> {
+    changed(text, 2, |text, out, needed, fault| unsafe { raw::aclck_posix_calc_mask(text, out, needed, fault) })
+}
+
+/// Returns the canonical text after the mode is set.
+pub fn posix_chmod(text: PosixText, mode: u32) -> Result<Vec<u8>, Error> {
+    changed(text, 2, |text, out, needed, fault| unsafe { raw::aclck_posix_chmod(text, mode, out, needed, fault) })
+}
+
+/// Returns the canonical text of a new object in a directory with this text.
+pub fn posix_create(text: PosixText, mode: u32, umask: u32, kind: Kind) -> Result<Vec<u8>, Error> {
+    let options = if kind == Kind::Directory { DIRECTORY } else { 0 };
+    let creation = raw::Creation { mode, umask, options };
+    changed(text, 2, |text, out, needed, fault| unsafe { raw::aclck_posix_create(text, &creation, out, needed, fault) })
+}
+
+/// Returns the bytes of the NFSv4 list that the bridge makes of the access ACL of the text.
+pub fn posix_bridge(text: PosixText) -> Result<Vec<u8>, Error> {
+    changed(text, 64, |text, out, needed, fault| unsafe { raw::aclck_posix_bridge(text, out, needed, fault) })
+}
+
+/// Makes a call on a text. The first buffer has room for some bytes for each byte of the text.
+fn changed(
+    text: PosixText, each: usize,
+    call: impl Fn(&raw::PosixText, raw::Buffer<u8>, &mut usize, &mut raw::Fault) -> u32,
+) -> Result<Vec<u8>, Error> {
+    let names = raw_names(text.names);
+    let given = raw_text(text, &names);
+    made(each * text.text.len() + 64, |out, needed, fault| call(&given, out, needed, fault))
+}
+
+fn raw_text(text: PosixText, names: &[raw::Name]) -> raw::PosixText {
+    raw::PosixText { text: Bytes::of(text.text), names: names.as_ptr(), nnames: names.len() }
+}
+
+fn raw_names(names: &[Name]) -> Vec<raw::Name> {
+    names.iter().map(|n| raw::Name { name: Bytes::of(n.name), id: n.id, is_group: n.is_group.into() }).collect()
+}

@@ -1,0 +1,36 @@
+-- The names of a comparison in a buffer.
+use Rattle.std.proofs.Common.{◌≡◌, ◌∙◌, ℕ, List, ap, inl, inr, length, subst, sym}
+use Rattle.acl_perm.specs.Profile.{Profile}
+use Rattle.acl_nfs4.specs.Ace.{Ace}
+use Rattle.aclck_c.specs.Compare.{AreCompared, ComparesAs}
+use Rattle.aclck_c.specs.Out.{WritesBytes}
+use Rattle.aclck_c.specs.Status as status
+use Rattle.aclck_c.specs.declared.nfs4.compare.RawDifference.{RawDifference}
+use Rattle.aclck_c.specs.internal.Endings.{PutsIfRoom}
+
+-- the answer has the length of the names
+names_counted : (list other : List Ace) (at : RawDifference) (names : List ℕ) → ComparesAs list other at names
+    → at.names ≡ length names
+names_counted list other at names (inl same) = ap (λ d. d.names) same.1 ∙ sym (ap length same.2)
+names_counted list other at names (inr first) = ap (λ d. d.names) first.is_at
+
+-- if the names of a comparison were put into a buffer, it has them
+pub writes_names : {p : Profile} {first second : List ℕ} {at : RawDifference} {names given : List ℕ}
+    {buffer buffer_after : List ℕ} {needed returned : ℕ} → AreCompared p first second at names → given ≡ names
+    → PutsIfRoom given buffer buffer_after needed returned
+    → WritesBytes (AreCompared p first second at) buffer buffer_after 0 at.names returned
+writes_names {at} {names} {buffer} {buffer_after} {needed} {returned} compared same given_puts =
+    let puts = subst (λ text. PutsIfRoom text buffer buffer_after needed returned) same given_puts in
+    let counted = names_counted compared.list compared.other at names compared.compared in
+    record {
+      done = λ is. record { text = names; means = compared; puts = puts.put is; reported = counted };
+      short = λ is. record { text = names; means = compared; short = puts.short is; reported = counted };
+      unwritten = λ not. elim puts.known [
+        | inl is ↦ absurd (not is)
+        | inr is ↦ puts.unwritten is
+      ];
+      unreported = λ not fits. elim puts.known [
+        | inl is ↦ absurd (not is)
+        | inr is ↦ absurd (fits is)
+      ];
+    }

@@ -1,9 +1,0 @@
-use Rattle.std.proofs.Common.{rules}
-use Rattle.aclck_c.proofs.Endings.{writes_of_file}
-use Rattle.aclck_c.proofs.FileFailures.{good_names, refused_names}
-use Rattle.aclck_c.proofs.posix.texts.aclck_chmod.Goals as goal
-
-pub returns : goal.returns
-returns c = writes_of_file
-    (λ _ h. good_names c.args.names.now h.read.table h.read.named) (refused_names _ _) (search rules)
-    (rw c.in-Some.ensures.value at c.with_mode.ensures.ok) c.with_mode.ensures.err c.answer.ensures

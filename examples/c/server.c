@@ -1,0 +1,374 @@
+/* The access back end of a file server: eight threads, a cache of lists, and a cache of group sets.
+ *
+ *     server SOCKET [u:NAME=ID|g:NAME=ID..]     serves each client of a Unix socket, until standard input ends
+ *     server - [u:NAME=ID|g:NAME=ID..]          serves standard input
+ *
+ * The server knows users and groups by their ids. In the lists, a user or a group has the name that the words of the
+ * command line give its id. Each other id has its decimal number as its name, as in servers without a mapping of names.
+ *
+ * A request is a line, and its reply is a line. OBJECT is a number below 1024. LIST is a file with the bytes of a list.
+ * RIGHTS are names of rights with bars between them. Each change of an object gets a number:
+ *
+ *     make OBJECT file|directory UID GID LIST   change NUMBER
+ *     list OBJECT LIST                          change NUMBER
+ *     chown OBJECT UID GID                      change NUMBER
+ *     access OBJECT UID GID[,GID..] RIGHTS      those of the rights that are granted, and the last change of the object
+ *
+ * Both caches are right without any event that removes something, because what they keep is made of its key alone: what
+ * is kept of a list depends on the bytes of the list, and the names of a group set on its ids. The owner, the owning
+ * group, the user and the groups come from the object and from the request, each time.
+ */
+#include "cache.h"
+#include <signal.h>
+#include <stdio.h>
+#include <stdlib.h>
+#include <string.h>
+#include <sys/socket.h>
+#include <sys/un.h>
+#include <unistd.h>
+
+enum {
+    THREADS = 8,
+    OBJECTS = 1024,
+    LIST = 65536,
+    DIGITS = 11,
+    OWNER_RIGHTS = ACLCK_READ_ACL | ACLCK_WRITE_ACL | ACLCK_READ_ATTRIBUTES | ACLCK_WRITE_ATTRIBUTES
+};
+
+/* ---- Names of ids */
+
+static aclck_names names;
+
+/* Returns the name of an id. If the table has none, it is the number, which is written to `digits`. */
+static aclck_bytes name_of(uint32_t id, uint32_t is_group, char digits[DIGITS]) {
+    for (size_t i = 0; i < names.len; i++)
+        if (names.at[i].id == id && names.at[i].is_group == is_group)
+            return names.at[i].name;
+    snprintf(digits, DIGITS, "%u", (unsigned)id);
+    return aclck_string(digits);
+}
+
+/* Makes the names of a group set, whose key has the ids, and behind them room for their digits. */
+static enum aclck_status name_groups(entry *e, aclck_fault *fault) {
+    size_t count = e->len / sizeof(uint32_t);
+    unsigned char *longer = realloc(e->key, e->len + count * DIGITS + 1);
+    uint32_t id;
+    (void)fault;
+    if (longer)
+        e->key = longer;
+    e->groups = malloc((count + 1) * sizeof *e->groups);
+    if (!longer || !e->groups)
+        return ACLCK_MEMORY;
+    e->count = count;
+    for (size_t i = 0; i < count; i++) {
+        memcpy(&id, e->key + i * sizeof id, sizeof id);
+        e->groups[i] = name_of(id, 1, (char *)e->key + e->len + i * DIGITS);
+    }
+    return ACLCK_DONE;
+}
+
+/* ---- Lists and objects */
+
+static uint32_t word_at(const unsigned char *at) {
+    return (uint32_t)at[0] << 24 | (uint32_t)at[1] << 16 | (uint32_t)at[2] << 8 | at[3];
+}
+
+/* Reads a list once. The mode is not used: the call says whether the bytes are a list. */
+static enum aclck_status read_list(entry *e, aclck_fault *fault) {
+    uint32_t mode;
+    enum aclck_status status = aclck_mode(aclck_bytes_of(e->key, e->len), ACLCK_FULL, &mode, fault);
+    const unsigned char *ace = e->key + 4;
+    if (status)
+        return status;
+    for (uint32_t i = word_at(e->key); i > 0; i--) {
+        uint32_t kind = word_at(ace), flags = word_at(ace + 4), mask = word_at(ace + 8);
+        if (kind == ACLCK_ALLOW && !(flags & ACLCK_INHERIT_ONLY) && mask & ACLCK_EXECUTE)
+            e->executes = 1;
+        ace += 16 + (word_at(ace + 12) + 3) / 4 * 4;
+    }
+    return ACLCK_DONE;
+}
+
+static cache lists = {.lock = PTHREAD_MUTEX_INITIALIZER, .make = read_list};
+static cache group_sets = {.lock = PTHREAD_MUTEX_INITIALIZER, .make = name_groups};
+
+/* An object. The lock is held while any of it is read or written, so that all of it belongs together. */
+typedef struct {
+    entry *list;
+    uint32_t owner, group;
+    int is_directory;
+    uint64_t change;
+} object;
+
+static object objects[OBJECTS];
+static pthread_mutex_t objects_lock = PTHREAD_MUTEX_INITIALIZER;
+
+/* Returns the object as it is now. Its list stays until let_go() is called for it. */
+static object look(size_t number) {
+    object seen;
+    pthread_mutex_lock(&objects_lock);
+    seen = objects[number];
+    if (seen.list)
+        hold_too(&lists, seen.list);
+    pthread_mutex_unlock(&objects_lock);
+    return seen;
+}
+
+/* ---- The decision */
+
+/* Returns what the server adds to the rights of the list, as nfs-ganesha does (docs/others.md): the owner may always read
+   and write the list and the attributes. The superuser may do everything but run a file that nobody may run. */
+static uint32_t rights_of_the_server(const object *o, uint32_t user) {
+    if (user == 0)
+        return o->is_directory || o->list->executes ? ACLCK_ALL_RIGHTS : ACLCK_ALL_RIGHTS & ~ACLCK_EXECUTE;
+    return user == o->owner ? OWNER_RIGHTS : 0;
+}
+
+/* Writes to *granted which of the wanted rights a user has, who is in a set of groups. */
+static enum aclck_status decide(const object *o, uint32_t user, const entry *set, uint32_t wanted, uint32_t *granted,
+                                aclck_fault *fault) {
+    char digits[3][DIGITS];
+    aclck_object owned = {name_of(o->owner, 0, digits[0]), name_of(o->group, 1, digits[1])};
+    aclck_requester requester = {name_of(user, 0, digits[2]), set->groups, set->count};
+    aclck_question question = {wanted, ACLCK_FULL};
+    enum aclck_status status =
+        aclck_granted(aclck_bytes_of(o->list->key, o->list->len), &owned, &requester, &question, granted, fault);
+    if (status)
+        return status;
+    *granted |= wanted & rights_of_the_server(o, user);
+    return ACLCK_DONE;
+}
+
+/* ---- Requests */
+
+/* Reads an id, or the number of an object, which must end at the character `end`. Returns what follows, or NULL. */
+static const char *read_number(const char *word, char end, uint32_t *number) {
+    uint64_t found = 0;
+    const char *at = word;
+    for (; *at >= '0' && *at <= '9' && found < UINT32_MAX; at++)
+        found = found * 10 + (uint64_t)(*at - '0');
+    if (at == word || found >= UINT32_MAX || *at != end)
+        return NULL;
+    *number = (uint32_t)found;
+    return *at ? at + 1 : at;
+}
+
+static int compare_ids(const void *a, const void *b) {
+    uint32_t one = *(const uint32_t *)a, two = *(const uint32_t *)b;
+    return (one > two) - (one < two);
+}
+
+/* Holds the group set of a word GID[,GID..]. The order of the ids does not matter. */
+static entry *read_groups(const char *word) {
+    enum aclck_status status;
+    aclck_fault fault;
+    entry *set = NULL;
+    uint32_t *ids;
+    size_t count = 1;
+    for (const char *at = word; *at; at++)
+        count += *at == ',';
+    ids = malloc(count * sizeof *ids);
+    for (size_t i = 0; ids && word && i < count; i++)
+        word = read_number(word, i + 1 < count ? ',' : '\0', &ids[i]);
+    if (ids && word) {
+        qsort(ids, count, sizeof *ids, compare_ids);
+        set = hold(&group_sets, ids, count * sizeof *ids, &status, &fault);
+    }
+    free(ids);
+    return set;
+}
+
+/* Holds the list in a file. Returns NULL, and writes the reply, if there is none. */
+static entry *open_list(const char *name, FILE *out) {
+    enum aclck_status status = ACLCK_BAD_ARGUMENT;
+    aclck_fault fault;
+    char reason[16];
+    size_t len = 0, named = 0;
+    entry *list = NULL;
+    FILE *file = fopen(name, "rb");
+    unsigned char *bytes = malloc(LIST + 1);
+    if (file && bytes)
+        len = fread(bytes, 1, LIST + 1, file);
+    if (file && bytes && !ferror(file) && len <= LIST)
+        list = hold(&lists, bytes, len, &status, &fault);
+    if (status == ACLCK_REFUSED &&
+        aclck_reason_text(fault.reason, aclck_buffer_of(reason, sizeof reason), &named) == ACLCK_DONE)
+        fprintf(out, "refused: %.*s at byte %llu\n", (int)named, reason, (unsigned long long)fault.offset);
+    else if (!list)
+        fprintf(out, "no list\n");
+    if (file)
+        fclose(file);
+    free(bytes);
+    return list;
+}
+
+/* Changes an object: each part that is given. The reply has the number of the change. */
+static void change(size_t number, const object *given, int has_list, int has_owner, FILE *out) {
+    entry *old = NULL;
+    uint64_t done;
+    object *o = &objects[number];
+    pthread_mutex_lock(&objects_lock);
+    if (has_list) {
+        old = o->list;
+        o->list = given->list;
+    }
+    if (has_owner) {
+        o->owner = given->owner;
+        o->group = given->group;
+    }
+    if (has_list && has_owner)
+        o->is_directory = given->is_directory;
+    done = ++o->change;
+    pthread_mutex_unlock(&objects_lock);
+    if (old)
+        let_go(&lists, old);
+    fprintf(out, "change %llu\n", (unsigned long long)done);
+}
+
+static void answer_access(const object *o, const char *user, const char *groups, const char *rights, FILE *out) {
+    uint32_t id, wanted, granted;
+    aclck_fault fault;
+    char text[256];
+    size_t len;
+    entry *set = read_groups(groups);
+    if (!set || !read_number(user, '\0', &id) || aclck_read_mask(aclck_string(rights), &wanted))
+        fprintf(out, "no request\n");
+    else if (decide(o, id, set, wanted, &granted, &fault) ||
+             aclck_mask_text(granted, aclck_buffer_of(text, sizeof text), &len))
+        fprintf(out, "no answer\n");
+    else
+        fprintf(out, "%.*s at change %llu\n", (int)len, text, (unsigned long long)o->change);
+    if (set)
+        let_go(&group_sets, set);
+}
+
+static int read_kind(const char *word, int *is_directory) {
+    *is_directory = strcmp(word, "directory") == 0;
+    return *is_directory || strcmp(word, "file") == 0;
+}
+
+static void answer(char *line, FILE *out) {
+    char *words[6] = {NULL}, *rest, *word = strtok_r(line, " \n", &rest);
+    size_t count = 0;
+    uint32_t number;
+    object o = {0};
+    for (; word && count < 6; word = strtok_r(NULL, " \n", &rest))
+        words[count++] = word;
+    if (word || count < 3 || !read_number(words[1], '\0', &number) || number >= OBJECTS) {
+        fprintf(out, "no request\n");
+    } else if (count == 6 && strcmp(words[0], "make") == 0 && read_kind(words[2], &o.is_directory) &&
+               read_number(words[3], '\0', &o.owner) && read_number(words[4], '\0', &o.group)) {
+        if ((o.list = open_list(words[5], out)) != NULL)
+            change(number, &o, 1, 1, out);
+    } else if (count == 3 && strcmp(words[0], "list") == 0) {
+        if ((o.list = open_list(words[2], out)) != NULL)
+            change(number, &o, 1, 0, out);
+    } else if (count == 4 && strcmp(words[0], "chown") == 0 && read_number(words[2], '\0', &o.owner) &&
+               read_number(words[3], '\0', &o.group)) {
+        change(number, &o, 0, 1, out);
+    } else if (count == 5 && strcmp(words[0], "access") == 0 && (o = look(number)).list) {
+        answer_access(&o, words[2], words[3], words[4], out);
+        let_go(&lists, o.list);
+    } else {
+        fprintf(out, "no request\n");
+    }
+}
+
+static void serve(FILE *in, FILE *out) {
+    char *line = NULL;
+    size_t size = 0;
+    while (getline(&line, &size, in) > 0) {
+        answer(line, out);
+        if (fflush(out))
+            break;
+    }
+    free(line);
+}
+
+/* ---- The program */
+
+static void *serve_clients(void *at) {
+    for (;;) {
+        int client = accept(*(int *)at, NULL, NULL), copy = client < 0 ? -1 : dup(client);
+        FILE *in = client < 0 ? NULL : fdopen(client, "r"), *out = copy < 0 ? NULL : fdopen(copy, "w");
+        if (in && out)
+            serve(in, out);
+        if (in)
+            fclose(in);
+        if (out)
+            fclose(out);
+    }
+    return NULL;
+}
+
+/* Serves the clients of a socket, until standard input ends. */
+static int listen_at(const char *path) {
+    static int listener;
+    struct sockaddr_un address = {.sun_family = AF_UNIX};
+    pthread_t thread;
+    if (strlen(path) >= sizeof address.sun_path) {
+        fprintf(stderr, "%s: the path is too long\n", path);
+        return 3;
+    }
+    strcpy(address.sun_path, path);
+    listener = socket(AF_UNIX, SOCK_STREAM, 0);
+    if (listener < 0 || bind(listener, (struct sockaddr *)&address, sizeof address) || listen(listener, THREADS)) {
+        perror(path);
+        return 4;
+    }
+    for (int i = 0; i < THREADS; i++)
+        if (pthread_create(&thread, NULL, serve_clients, &listener))
+            return 4;
+    printf("ready\n");
+    fflush(stdout);
+    while (getchar() != EOF)
+        continue;
+    return 0;
+}
+
+/* Reads the words u:NAME=ID and g:NAME=ID. No name may be a number or stand twice, so that no two ids have one name. */
+static int read_names(char **words, size_t count) {
+    aclck_name *table = malloc((count + 1) * sizeof *table);
+    names.at = table;
+    for (; table && names.len < count; names.len++) {
+        char *word = words[names.len], *end = strrchr(word, '=');
+        aclck_name *name = &table[names.len];
+        uint32_t unused;
+        if ((word[0] != 'u' && word[0] != 'g') || word[1] != ':' || !end || !read_number(end + 1, '\0', &name->id))
+            return 0;
+        *end = '\0';
+        if (end == word + 2 || read_number(word + 2, '\0', &unused))
+            return 0;
+        for (size_t i = 0; i < names.len; i++)
+            if (strcmp(words[i], word) == 0)
+                return 0;
+        name->name = aclck_string(word + 2);
+        name->is_group = word[0] == 'g';
+    }
+    return table != NULL;
+}
+
+static void print_cache(const char *what, cache *c) {
+    pthread_mutex_lock(&c->lock);
+    printf("%s: %zu kept, %llu found, %llu made\n", what, c->count, (unsigned long long)c->hits,
+           (unsigned long long)c->misses);
+    pthread_mutex_unlock(&c->lock);
+}
+
+int main(int argc, char **argv) {
+    int status = 0;
+    signal(SIGPIPE, SIG_IGN); /* a client may close the connection before it reads the reply */
+    if (argc < 2 || !read_names(argv + 2, (size_t)argc - 2)) {
+        fprintf(stderr, "usage: server SOCKET|- [u:NAME=ID|g:NAME=ID..]\n");
+        return 3;
+    }
+    if (strcmp(argv[1], "-") == 0)
+        serve(stdin, stdout);
+    else
+        status = listen_at(argv[1]);
+    if (status)
+        return status;
+    print_cache("lists", &lists);
+    print_cache("group sets", &group_sets);
+    return fflush(stdout) ? 4 : 0;
+}

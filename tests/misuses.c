@@ -1,0 +1,82 @@
+/* Misuses of aclck.h, which tests/library compiles one by one behind these lines: a compiler must warn of each, or refuse
+   it. */
+#include "aclck.h"
+
+void use(int what);
+void f(aclck_bytes acl, aclck_object object, aclck_requester who, aclck_question question, aclck_buffer out);
+
+void f(aclck_bytes acl, aclck_object object, aclck_requester who, aclck_question question, aclck_buffer out) {
+    aclck_fault fault;
+    aclck_decided decided;
+    aclck_decision decision;
+    uint32_t granted = 0;
+    size_t needed;
+    if (aclck_check(acl, &object, &who, &question, &granted, &fault) == ACLCK_DONE && granted)
+        use(1);
+    use(aclck_decide(acl, &object, &who, &question, &decided, &fault));
+    use(aclck_deciding(acl, &object, &who, &question, &decision, &fault));
+    use(aclck_show(acl, ACLCK_FULL, out, &needed, &fault));
+
+/* misuse: a right as an option */
+    use(aclck_mode(acl, ACLCK_READ_DATA, &granted, &fault));
+/* misuse: an option as a right */
+    question.mask = ACLCK_NARROW;
+/* misuse: a right and an option exchanged in a question */
+    const aclck_question exchanged = {ACLCK_NARROW, ACLCK_READ_DATA};
+    use(aclck_check(acl, &object, &who, &exchanged, &granted, &fault));
+/* misuse: a permission of POSIX as a right */
+    question.mask = ACLCK_PERM_READ;
+/* misuse: a flag of an ACE as a right */
+    question.mask = ACLCK_INHERIT_ONLY;
+/* misuse: the status is not looked at */
+    aclck_check(acl, &object, &who, &question, &granted, &fault);
+/* misuse: the status of a text is not looked at */
+    aclck_show(acl, ACLCK_FULL, out, &needed, &fault);
+/* misuse: a status that means yes */
+    use(aclck_check(acl, &object, &who, &question, &granted, &fault) == ACLCK_YES);
+/* misuse: no place for the answer */
+    if (aclck_check(acl, &object, &who, &question, &fault))
+        use(1);
+/* misuse: a status is forgotten in a switch */
+    switch (aclck_show(acl, ACLCK_FULL, out, &needed, &fault)) {
+    case ACLCK_DONE:
+    case ACLCK_REFUSED:
+    case ACLCK_BAD_ARGUMENT:
+    case ACLCK_MEMORY:
+        break;
+    }
+/* misuse: no object */
+    use(aclck_check(acl, NULL, &who, &question, &granted, &fault));
+/* misuse: no fault */
+    use(aclck_check(acl, &object, &who, &question, &granted, NULL));
+/* misuse: the object and the requester exchanged */
+    use(aclck_check(acl, &who, &object, &question, &granted, &fault));
+/* misuse: the fault and the answer exchanged */
+    use(aclck_decide(acl, &object, &who, &question, &fault, &decided));
+/* misuse: the answer of another call */
+    use(aclck_decide(acl, &object, &who, &question, &decision, &fault));
+/* misuse: the question and the requester exchanged */
+    use(aclck_check(acl, &object, &question, &who, &granted, &fault));
+/* misuse: an answer of another size */
+    use(aclck_check(acl, &object, &who, &question, &needed, &fault));
+/* misuse: a length of another size */
+    int length;
+    use(aclck_show(acl, ACLCK_FULL, out, &length, &fault));
+/* misuse: a string in place of bytes */
+    use(aclck_mode("abc", ACLCK_FULL, &granted, &fault));
+/* misuse: a buffer that may not be written */
+    static const char text[9] = "";
+    use(aclck_show(acl, ACLCK_FULL, aclck_buffer_of(text, 9), &needed, &fault));
+/* misuse: bytes in place of a buffer */
+    use(aclck_show(acl, ACLCK_FULL, acl, &needed, &fault));
+/* misuse: a requester by value */
+    use(aclck_check(acl, &object, who, &question, &granted, &fault));
+/* misuse: one requester in place of many */
+    const aclck_masks rights = {&granted, 1};
+    use(aclck_check_many(acl, &object, &who, &question, rights, &fault));
+/* misuse: the fault as a truth */
+    use(aclck_check(acl, &object, &who, &question, &granted, &fault));
+    if (fault)
+        use(1);
+/* misuse: a call of an earlier version */
+    use(aclck_check_nfs(acl.at, acl.len, "a", 1, "s", 1, "b", 1, who.groups, 0, 1, 0, &fault));
