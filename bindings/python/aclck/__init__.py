@@ -2,13 +2,13 @@
 
 NFSv4 lists are `NfsAcl` (RFC 8881, section 6.2.1), POSIX lists are `PosixAcl` (acl(5); POSIX.1e draft 17, section 23).
 Names of users and groups are `str` or `bytes`. In a `str`, bytes that are not UTF-8 are represented as by
-`surrogateescape`. All calls may run in any number of threads at once. They use no live file, except the two calls
-`from_file`, which read attributes of one file.
+`surrogateescape`. All calls may run in any number of threads at once. They use no live file, except the calls
+`from_file`, which read attributes of one file, and `to_file`, which write them.
 """
 
 from ._library import VERSION
 from .faults import Refused
-from .nfs import ALLOW, DENY, Ace, AceFlag, AceKind, Decision, Difference, NfsAcl, Requesters, TableRow
+from .nfs import ALLOW, DENY, Ace, AceFlag, AceKind, Decided, Decision, Difference, NfsAcl, Requesters, TableRow
 from .posix import Entry, PosixAcl
 from .rights import (
     ADD_FILE,
@@ -48,6 +48,7 @@ __all__ = [
     "DELETE",
     "DELETE_CHILD",
     "DENY",
+    "Decided",
     "Decision",
     "Difference",
     "EXECUTE",

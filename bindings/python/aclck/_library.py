@@ -1,4 +1,4 @@
-"""The calls of libaclck.so.0, with ctypes. No other module uses ctypes. include/aclck.h says what each call does.
+"""The calls of libaclck.so.1, with ctypes. No other module uses ctypes. include/aclck.h says what each call does.
 
 If the environment variable ACLCK_LIBRARY is set, it is the path of the library. Otherwise the library is searched next
 to this module, where `make install-library` installs it, then where `make library` leaves it, and then where the loader
@@ -17,98 +17,165 @@ from .faults import refused
 Name = Union[str, bytes]
 """The name of a user or a group."""
 
+File = Union[int, str, bytes, "os.PathLike[str]"]
+"""A file: its path, or the number of an open descriptor."""
+
 T = TypeVar("T")
 
-YES, NO, REFUSED, BAD_ARGUMENT, MEMORY, SHORT = range(6)
-NARROW, DIRECTORY, SHOWN, FORM_SHORT = 1, 2, 4, 8
+DONE, REFUSED, BAD_ARGUMENT, MEMORY, SHORT = 0, 2, 3, 4, 5
+UNDECIDED = 2
+NARROW, DIRECTORY, SHOWN, FORM_SHORT = 0x01000000, 0x02000000, 0x04000000, 0x08000000
 
 
 _ABOVE = os.path.dirname(os.path.dirname(os.path.dirname(os.path.dirname(os.path.abspath(__file__)))))
-_PLACES = (os.path.join(_ABOVE, "libaclck.so.0"), os.path.join(_ABOVE, "library", "out", "libaclck.so.0"))
+_PLACES = (os.path.join(_ABOVE, "libaclck.so.1"), os.path.join(_ABOVE, "library", "out", "libaclck.so.1"))
 
 
 def _load() -> ctypes.CDLL:
     named = os.environ.get("ACLCK_LIBRARY")
     beside = [place for place in _PLACES if os.path.exists(place)]
     failure = ""
-    for place in [named] if named else [*beside, "libaclck.so.0", "/usr/local/lib/libaclck.so.0"]:
+    for place in [named] if named else [*beside, "libaclck.so.1", "/usr/local/lib/libaclck.so.1"]:
         try:
             return ctypes.CDLL(place)
         except OSError as error:
             failure = failure or str(error)
-    raise ImportError("aclck needs the library libaclck.so.0, which `make library install-library` of aclck installs "
+    raise ImportError("aclck needs the library libaclck.so.1, which `make library install-library` of aclck installs "
                       f"({failure})")
+
+
+Word = ctypes.c_uint32
+_size = ctypes.c_size_t
 
 
 class Bytes(ctypes.Structure):
     """A pointer to bytes, and their number."""
 
-    _fields_ = [("at", ctypes.c_char_p), ("len", ctypes.c_size_t)]
+    _fields_ = [("at", ctypes.c_char_p), ("len", _size)]
+
+
+class Buffer(ctypes.Structure):
+    """Room for bytes."""
+
+    _fields_ = [("at", ctypes.c_void_p), ("cap", _size)]
+
+
+class Object(ctypes.Structure):
+    """The owner and the owning group of an object."""
+
+    _fields_ = [("owner", Bytes), ("group", Bytes)]
 
 
 class Requester(ctypes.Structure):
     """A user and the user's groups."""
 
-    _fields_ = [("user", Bytes), ("groups", ctypes.POINTER(Bytes)), ("ngroups", ctypes.c_size_t)]
+    _fields_ = [("user", Bytes), ("groups", ctypes.POINTER(Bytes)), ("ngroups", _size)]
+
+
+class Requesters(ctypes.Structure):
+    """Some requesters."""
+
+    _fields_ = [("at", ctypes.POINTER(Requester)), ("len", _size)]
+
+
+class Question(ctypes.Structure):
+    """The rights that are asked, and the options."""
+
+    _fields_ = [("mask", Word), ("options", Word)]
+
+
+class Masks(ctypes.Structure):
+    """Room for masks of rights."""
+
+    _fields_ = [("at", ctypes.POINTER(Word)), ("len", _size)]
 
 
 class NamedId(ctypes.Structure):
     """A name that a POSIX text may use for an id."""
 
-    _fields_ = [("name", Bytes), ("id", ctypes.c_uint32), ("is_group", ctypes.c_uint32)]
+    _fields_ = [("name", Bytes), ("id", Word), ("is_group", Word)]
+
+
+class Names(ctypes.Structure):
+    """A table of such names."""
+
+    _fields_ = [("at", ctypes.POINTER(NamedId)), ("len", _size)]
+
+
+class PosixText(ctypes.Structure):
+    """The text of POSIX ACLs, and the names that it may use."""
+
+    _fields_ = [("text", Bytes), ("names", Names)]
+
+
+class PosixQuestion(ctypes.Structure):
+    """What is asked of a POSIX ACL."""
+
+    _fields_ = [("owner", Word), ("group", Word), ("user", Word), ("want", Word),
+                ("groups", ctypes.POINTER(Word)), ("ngroups", _size)]
+
+
+class Creation(ctypes.Structure):
+    """How a new object is created."""
+
+    _fields_ = [("mode", Word), ("umask", Word), ("options", Word)]
 
 
 class Fault(ctypes.Structure):
     """Why and where something is refused."""
 
     _fields_ = [("offset", ctypes.c_uint64), ("line", ctypes.c_uint64), ("column", ctypes.c_uint64),
-                ("reason", ctypes.c_uint32), ("list", ctypes.c_uint32), ("part", ctypes.c_uint32),
-                ("tag", ctypes.c_uint32)]
+                ("reason", Word), ("list", Word), ("part", Word), ("tag", Word)]
+
+
+class Decided(ctypes.Structure):
+    """The rights that are allowed, and those that are denied."""
+
+    _fields_ = [("allowed", Word), ("denied", Word)]
 
 
 class Decision(ctypes.Structure):
     """The ACE that decides a right."""
 
-    _fields_ = [("place", ctypes.c_uint64), ("kind", ctypes.c_uint32)]
+    _fields_ = [("place", ctypes.c_uint64), ("kind", Word)]
 
 
 class Difference(ctypes.Structure):
-    """The right on which two lists differ."""
+    """Whether two lists grant the same, and if not, the right on which they differ."""
 
-    _fields_ = [("right", ctypes.c_uint32), ("first_grants", ctypes.c_uint32)]
+    _fields_ = [("names", ctypes.c_uint64), ("same", Word), ("right", Word), ("first_grants", Word)]
 
 
 lib = _load()
-_word, _size, _text = ctypes.c_uint32, ctypes.c_size_t, ctypes.c_char_p
-_fault, _words = ctypes.POINTER(Fault), ctypes.POINTER(ctypes.c_uint32)
-_in = [_text, _size]
-_names = [ctypes.POINTER(NamedId), _size]
-_out = [ctypes.c_void_p, _size, ctypes.POINTER(_size)]
-_requester = _in * 4 + [ctypes.POINTER(Bytes), _size, _word, _word]
+_fault, _words = ctypes.POINTER(Fault), ctypes.POINTER(Word)
+_out = [Buffer, ctypes.POINTER(_size)]
+_asked = [Bytes, ctypes.POINTER(Object), ctypes.POINTER(Requester), ctypes.POINTER(Question)]
+_posix = ctypes.POINTER(PosixText)
 _TYPES: "dict[str, list[Any]]" = {
-    "check_nfs": [*_requester, _fault],
-    "granted": [*_requester, _words, _fault],
-    "deciding": [*_requester, ctypes.POINTER(Decision), _fault],
-    "check_many": [*_in, *_in, *_in, ctypes.POINTER(Requester), _size, _word, _word, _words, _size, _fault],
-    "mode": [*_in, _word, _words, _fault],
-    "child": [*_in, _word, *_out, _fault],
-    "show": [*_in, _word, *_out, _fault],
-    "encode": [*_in, _word, *_out, _fault],
-    "normalize": [*_in, _word, *_out, _fault],
-    "normalize_inherit": [*_in, _word, *_out, _fault],
-    "table": [*_in, _word, _word, *_out, _fault],
-    "needed": [*_in, _word, _words, _size, ctypes.POINTER(_size), _fault],
-    "same": [*_in, *_in, _word, _fault],
-    "compare": [*_in, *_in, _word, ctypes.POINTER(Difference), *_out, _fault],
-    "read_mask": [*_in, _words],
-    "mask_text": [_word, *_out],
-    "reason_text": [_word, *_out],
-    "check_posix": [*_in, *_names, _word, _word, _word, _words, _size, _word, _fault],
-    "show_posix": [*_in, *_names, _word, *_out, _fault],
-    "calc_mask": [*_in, *_names, *_out, _fault],
-    "chmod": [*_in, *_names, _word, *_out, _fault],
-    "create": [*_in, *_names, _word, _word, _word, *_out, _fault],
-    "bridge": [*_in, *_names, *_out, _fault],
+    "decide": [*_asked, ctypes.POINTER(Decided), _fault],
+    "check": [*_asked, _words, _fault],
+    "granted": [*_asked, _words, _fault],
+    "deciding": [*_asked, ctypes.POINTER(Decision), _fault],
+    "check_many": [Bytes, ctypes.POINTER(Object), Requesters, ctypes.POINTER(Question), Masks, _fault],
+    "mode": [Bytes, Word, _words, _fault],
+    "child": [Bytes, Word, *_out, _fault],
+    "show": [Bytes, Word, *_out, _fault],
+    "encode": [Bytes, Word, *_out, _fault],
+    "normalize": [Bytes, Word, *_out, _fault],
+    "normalize_inherit": [Bytes, Word, *_out, _fault],
+    "table": [Bytes, ctypes.POINTER(Question), *_out, _fault],
+    "needed": [Bytes, Word, Masks, ctypes.POINTER(_size), _fault],
+    "same": [Bytes, Bytes, Word, _words, _fault],
+    "compare": [Bytes, Bytes, Word, ctypes.POINTER(Difference), Buffer, _fault],
+    "read_mask": [Bytes, _words],
+    "mask_text": [Word, *_out],
+    "reason_text": [Word, *_out],
+    "posix_check": [_posix, ctypes.POINTER(PosixQuestion), _words, _fault],
+    "posix_show": [_posix, Word, *_out, _fault],
+    "posix_calc_mask": [_posix, *_out, _fault],
+    "posix_chmod": [_posix, Word, *_out, _fault],
+    "posix_create": [_posix, ctypes.POINTER(Creation), *_out, _fault],
+    "posix_bridge": [_posix, *_out, _fault],
     "version": [],
 }
 
@@ -119,8 +186,8 @@ def _declare() -> "dict[str, Any]":
         try:
             call = getattr(lib, "aclck_" + name)
         except AttributeError:
-            raise ImportError(f"the installed libaclck.so.0 is too old: it has no aclck_{name}") from None
-        call.argtypes, call.restype = types, _word
+            raise ImportError(f"the installed libaclck.so.1 is too old: it has no aclck_{name}") from None
+        call.argtypes, call.restype = types, Word
         found[name] = call
     return found
 
@@ -152,10 +219,20 @@ def several(groups: Iterable[T]) -> List[T]:
     return list(groups)
 
 
-def slices(groups: Iterable[Name]) -> Tuple[Any, int]:
-    """Returns an array of the names of groups for C, and its length. Raises TypeError as `several` and `encoded` do."""
-    held = [encoded(name) for name in several(groups)]
-    return (Bytes * len(held))(*[Bytes(name, len(name)) for name in held]), len(held)
+def in_c(held: bytes) -> Bytes:
+    """Returns some bytes for C."""
+    return Bytes(held, len(held))
+
+
+def requester(user: Name, groups: Iterable[Name]) -> Requester:
+    """Returns a user and the user's groups for C. Raises TypeError as `several` and `encoded` do."""
+    names = [in_c(encoded(name)) for name in several(groups)]
+    return Requester(in_c(encoded(user)), (Bytes * len(names))(*names), len(names))
+
+
+def owned(owner: Name, group: Name) -> Object:
+    """Returns an object of this owner and owning group for C."""
+    return Object(in_c(encoded(owner)), in_c(encoded(group)))
 
 
 def word(number: int) -> int:
@@ -168,33 +245,33 @@ def word(number: int) -> int:
     return number
 
 
-def reason_name(reason: int) -> str:
-    """Returns the name of a reason, as the program prints it."""
-    out, needed = ctypes.create_string_buffer(64), ctypes.c_size_t()
-    if calls["reason_text"](reason, out, 64, ctypes.byref(needed)):
-        return f"reason {reason}"
+def short_text(name: str, number: int) -> str:
+    """Makes a call that writes a short text about a number, and returns the text. Returns an empty text if the number
+    means nothing."""
+    out, needed = ctypes.create_string_buffer(256), _size()
+    if calls[name](number, Buffer(ctypes.addressof(out), 256), ctypes.byref(needed)):
+        return ""
     return out.raw[:needed.value].decode()
 
 
-def judged(status: int, fault: Fault) -> int:
-    """Returns the status if it is YES or NO, and otherwise raises the exception for it."""
-    if status <= NO:
-        return status
+def judge(status: int, fault: Fault) -> None:
+    """Raises the exception for a status, if the call failed."""
     if status == REFUSED:
-        raise refused(reason_name(fault.reason), fault.offset, fault.line, fault.column, fault.list, fault.part,
-                      fault.tag)
+        reason = short_text("reason_text", fault.reason) or f"reason {fault.reason}"
+        raise refused(reason, fault.offset, fault.line, fault.column, fault.list, fault.part, fault.tag)
     if status == BAD_ARGUMENT:
         raise ValueError("a name is empty, or a number is outside its range")
-    raise MemoryError
+    if status != DONE:
+        raise MemoryError
 
 
-def text_of(name: str, args: Sequence[Any], room: int) -> Tuple[int, bytes]:
-    """Makes a call that writes a text, and returns its status and the text. The first buffer has `room` bytes."""
-    call, needed, fault = calls[name], ctypes.c_size_t(), Fault()
+def bytes_of(name: str, args: Sequence[Any], room: int) -> bytes:
+    """Makes a call that writes bytes, and returns them. The first buffer has `room` bytes."""
+    call, needed, fault = calls[name], _size(), Fault()
     while True:
         out = ctypes.create_string_buffer(room or 1)
-        status = call(*args, out, room, ctypes.byref(needed), ctypes.byref(fault))
+        status = call(*args, Buffer(ctypes.addressof(out), room), ctypes.byref(needed), ctypes.byref(fault))
         if status != SHORT:
-            judged(status, fault)
-            return status, out.raw[:needed.value]
+            judge(status, fault)
+            return out.raw[:needed.value]
         room = needed.value

@@ -15,6 +15,7 @@ class Refused(ValueError):
         reason: the name of the reason, such as `Truncated` (docs/formats.md has all).
         offset: for bytes, the place of the refused field in bytes, from 0. For a POSIX list that is not valid, the
             place of the entry in its part, from 0. Otherwise None.
+        ace: for a list that is made of ACEs, the place of the ACE, from 0. Otherwise None.
         line, column: for a text, the place, both from 1; the column is in bytes. Otherwise None.
         part: for a POSIX list that is not valid, `access` or `default`. Otherwise None.
         tag: if an entry is missing, its tag, such as `MASK`. Otherwise None.
@@ -23,7 +24,7 @@ class Refused(ValueError):
 
     def __init__(self, reason: str, *, offset: Optional[int] = None, line: Optional[int] = None,
                  column: Optional[int] = None, part: Optional[str] = None, tag: Optional[str] = None,
-                 second: bool = False) -> None:
+                 second: bool = False, ace: Optional[int] = None) -> None:
         self.reason = reason
         self.offset = offset
         self.line = line
@@ -31,6 +32,7 @@ class Refused(ValueError):
         self.part = part
         self.tag = tag
         self.second = second
+        self.ace = ace
         super().__init__(self._line())
 
     def _line(self) -> str:
@@ -38,6 +40,8 @@ class Refused(ValueError):
             return f"Invalid {self.part}: {self.reason} " + (self.tag or f"at entry {self.offset}")
         if self.line is not None:
             return f"{self.reason} at line {self.line} column {self.column}"
+        if self.ace is not None:
+            return f"{self.reason} at ACE {self.ace}"
         if self.offset is not None:
             return f"{self.reason} at byte {self.offset}"
         return self.reason

@@ -4,13 +4,18 @@ from __future__ import annotations
 
 import ctypes
 import enum
+import itertools
 import os
 import struct
-from typing import Iterable, Iterator, List, NamedTuple, Optional, Sequence, Tuple, Union
+from typing import Iterable, Iterator, List, NamedTuple, Optional, Sequence, Tuple, TypeVar
 
 from . import _library as c
-from ._library import Name
+from ._library import File, Name
+from .faults import Refused
 from .rights import ALL
+
+
+T = TypeVar("T", c.Word, c.Decided, c.Decision)
 
 
 class AceKind(str, enum.Enum):
@@ -64,6 +69,15 @@ class Ace(NamedTuple):
         return bool(self.flags & AceFlag.IDENTIFIER_GROUP)
 
 
+class Decided(NamedTuple):
+    """Of the rights that are asked: those that an ALLOW decides, those that a DENY decides, and those that no ACE
+    decides, which are not granted either."""
+
+    allowed: int
+    denied: int
+    undecided: int
+
+
 class Decision(NamedTuple):
     """The ACE that decides a right: its place in the list, from 0, and its kind."""
 
@@ -97,16 +111,9 @@ class Requesters:
     def __init__(self, people: Iterable[Tuple[Name, Sequence[Name]]]) -> None:
         """Takes pairs of a user and the names of the groups of that user. Raises TypeError if the groups are one
         name."""
-        self._held: List[object] = []
-        rows = [self._requester(user, groups) for user, groups in people]
+        rows = [c.requester(user, groups) for user, groups in people]
         self.count = len(rows)
         self.array = (c.Requester * len(rows))(*rows)
-
-    def _requester(self, user: Name, groups: Sequence[Name]) -> c.Requester:
-        array, count = c.slices(groups)
-        name = c.encoded(user)
-        self._held += (array, name)
-        return c.Requester(c.Bytes(name, len(name)), ctypes.cast(array, ctypes.POINTER(c.Bytes)), count)
 
 
 class NfsAcl:
@@ -116,7 +123,7 @@ class NfsAcl:
     Two lists that grant everybody the same can have different bytes. Use `means_the_same` or `normal` to compare them.
     """
 
-    __slots__ = ("_bytes", "_options")
+    __slots__ = ("_bytes", "_options", "_list")
 
     def __init__(self, data: bytes, *, narrow: bool = False) -> None:
         """Takes the bytes of a list; with `narrow`, only those of the narrow profile (docs/formats.md).
@@ -125,24 +132,39 @@ class NfsAcl:
         """
         self._bytes = memoryview(data).tobytes()  # bytes() would take a number, and make as many zeros
         self._options = c.NARROW if narrow else 0
+        self._list = c.in_c(self._bytes)
         self._mode()
 
     @classmethod
-    def from_file(cls, path: Union[str, bytes, "os.PathLike[str]"], attribute: str = "system.nfs4_acl") -> NfsAcl:
+    def from_file(cls, file: File, attribute: str = "system.nfs4_acl") -> NfsAcl:
         """Reads the list of a file on an NFSv4 mount. Raises OSError if the file has no list, and Refused."""
-        return cls(os.getxattr(path, attribute))
+        return cls(os.getxattr(file, attribute))
+
+    @classmethod
+    def from_aces(cls, aces: Iterable[Ace], *, narrow: bool = False) -> NfsAcl:
+        """Makes a list of ACEs, in their order. Raises Refused, with the place of the ACE from 0, ValueError if a
+        number is outside 32 bits or a kind is none, and TypeError if a who is neither `str` nor `bytes`."""
+        pieces = [_spelled(Ace(*ace)) for ace in aces]
+        try:
+            return cls(struct.pack(">I", len(pieces)) + b"".join(pieces), narrow=narrow)
+        except Refused as refused:
+            raise Refused(refused.reason, ace=_place(pieces, refused.offset)) from None
+
+    def to_file(self, file: File, attribute: str = "system.nfs4_acl") -> None:
+        """Gives a file on an NFSv4 mount this list. It follows links: give an open descriptor where somebody else may
+        exchange the file. Raises OSError."""
+        os.setxattr(file, attribute, self._bytes)
 
     @classmethod
     def from_text(cls, text: Name, *, narrow: bool = False) -> NfsAcl:
         """Makes a list from its text, one line per ACE (docs/formats.md). Raises Refused, with line and column."""
         given = c.encoded(text)
-        _, data = c.text_of("encode", (given, len(given), c.NARROW if narrow else 0), 2 * len(given) + 4)
+        data = c.bytes_of("encode", (c.in_c(given), c.NARROW if narrow else 0), 2 * len(given) + 4)
         return cls(data, narrow=narrow)
 
     def _mode(self) -> int:
         found, fault = ctypes.c_uint32(), c.Fault()
-        c.judged(c.calls["mode"](self._bytes, len(self._bytes), self._options, ctypes.byref(found),
-                                 ctypes.byref(fault)), fault)
+        c.judge(c.calls["mode"](self._list, self._options, ctypes.byref(found), ctypes.byref(fault)), fault)
         return found.value
 
     def _like(self, data: bytes) -> NfsAcl:
@@ -158,7 +180,7 @@ class NfsAcl:
 
     def __str__(self) -> str:
         """Returns the text of the list, one line per ACE."""
-        return c.decoded(self._text("show", 8 * len(self._bytes)))
+        return c.decoded(self._made("show", 8 * len(self._bytes)))
 
     def __repr__(self) -> str:
         return f"NfsAcl.from_text({str(self)!r})"
@@ -184,14 +206,18 @@ class NfsAcl:
             yield Ace(_KINDS[kind], _FLAGS[flags], mask, c.decoded(self._bytes[at:at + length]))
             at += length + -length % 4
 
-    def _text(self, call: str, room: int, *words: int) -> bytes:
-        return c.text_of(call, (self._bytes, len(self._bytes), *words, self._options), room)[1]
+    def _made(self, call: str, room: int) -> bytes:
+        return c.bytes_of(call, (self._list, self._options), room)
 
-    def _asked(self, user: Name, groups: Iterable[Name], owner: Name, group: Name, mask: int) -> Tuple[object, ...]:
-        who = [c.encoded(owner), c.encoded(group), c.encoded(user)]
-        array, count = c.slices(groups)
-        return (self._bytes, len(self._bytes), who[0], len(who[0]), who[1], len(who[1]), who[2], len(who[2]), array,
-                count, c.word(mask), self._options)
+    def _ask(self, call: str, who: c.Requester, where: c.Object, mask: int, answer: T) -> T:
+        """Asks about rights, and returns the answer, which the call writes."""
+        fault = c.Fault()
+        c.judge(c.calls[call](self._list, where, who, self._question(mask), ctypes.byref(answer), ctypes.byref(fault)),
+                fault)
+        return answer
+
+    def _question(self, mask: int) -> c.Question:
+        return c.Question(c.word(mask), self._options)
 
     def grants(self, *, user: Name, groups: Iterable[Name] = (), owner: Name, group: Name, mask: int) -> bool:
         """Returns whether the user, who is in these groups and no others, is granted all rights of the mask on an
@@ -200,28 +226,28 @@ class NfsAcl:
         Raises ValueError if a name is empty or the mask has a bit that is not a right, and TypeError if `groups` is one
         name.
         """
-        fault = c.Fault()
-        asked = self._asked(user, groups, owner, group, mask)
-        return c.judged(c.calls["check_nfs"](*asked, ctypes.byref(fault)), fault) == c.YES
+        return self._ask("check", c.requester(user, groups), c.owned(owner, group), mask, c.Word()).value == 1
 
     def granted(self, *, user: Name, groups: Iterable[Name] = (), owner: Name, group: Name, mask: int = ALL) -> int:
         """Returns the rights of the mask that the user is granted. Reads the list once. Raises ValueError and TypeError
         as `grants` does."""
-        found, fault = ctypes.c_uint32(), c.Fault()
-        asked = self._asked(user, groups, owner, group, mask)
-        c.judged(c.calls["granted"](*asked, ctypes.byref(found), ctypes.byref(fault)), fault)
-        return found.value
+        return self._ask("granted", c.requester(user, groups), c.owned(owner, group), mask, c.Word()).value
+
+    def decide(self, *, user: Name, groups: Iterable[Name] = (), owner: Name, group: Name, mask: int = ALL) -> Decided:
+        """Returns which rights of the mask are allowed, denied, and undecided. Raises ValueError and TypeError as
+        `grants` does."""
+        found = self._ask("decide", c.requester(user, groups), c.owned(owner, group), mask, c.Decided())
+        return Decided(found.allowed, found.denied, mask & ~(found.allowed | found.denied))
 
     def granted_many(self, requesters: Requesters, *, owner: Name, group: Name, mask: int = ALL) -> List[int]:
         """Returns for each of the requesters the rights of the mask that are granted. Reads the list once. Raises
         ValueError as `grants` does, and TypeError if the requesters are not `Requesters`."""
         if not isinstance(requesters, Requesters):
             raise TypeError("granted_many takes Requesters")
-        owned, grouped, fault = c.encoded(owner), c.encoded(group), c.Fault()
-        found = (ctypes.c_uint32 * requesters.count)()
-        c.judged(c.calls["check_many"](self._bytes, len(self._bytes), owned, len(owned), grouped, len(grouped),
-                                       requesters.array, requesters.count, c.word(mask), self._options, found,
-                                       requesters.count, ctypes.byref(fault)), fault)
+        found, fault = (c.Word * requesters.count)(), c.Fault()
+        c.judge(c.calls["check_many"](self._list, c.owned(owner, group),
+                                      c.Requesters(requesters.array, requesters.count), self._question(mask),
+                                      c.Masks(found, len(found)), ctypes.byref(fault)), fault)
         return list(found)
 
     def deciding(self, *, user: Name, groups: Iterable[Name] = (), owner: Name, group: Name,
@@ -232,21 +258,19 @@ class NfsAcl:
         Raises ValueError if `right` is not exactly one right, or a name is empty, and TypeError if `groups` is one
         name.
         """
-        found, fault = c.Decision(), c.Fault()
-        asked = self._asked(user, groups, owner, group, right)
-        status = c.calls["deciding"](*asked, ctypes.byref(found), ctypes.byref(fault))
-        return Decision(found.place, _KINDS[found.kind]) if c.judged(status, fault) == c.YES else None
+        found = self._ask("deciding", c.requester(user, groups), c.owned(owner, group), right, c.Decision())
+        return None if found.kind == c.UNDECIDED else Decision(found.place, _KINDS[found.kind])
 
     def normal(self) -> NfsAcl:
         """Returns the one normal list that grants the same (docs/lists.md, "The normal form")."""
-        return self._like(self._text("normalize", len(self._bytes)))
+        return self._like(self._made("normalize", len(self._bytes)))
 
     def inherited(self) -> Tuple[NfsAcl, ...]:
         """Returns five normal forms: of this list, which is the list of a directory, of a new file and a new directory
         in it, and of a new file and a new directory in the latter. They are equal for two lists if and only if the
         lists grant the same, and so do the lists of everything that is ever made below the directories (docs/lists.md,
         "Paths of creations")."""
-        data = self._text("normalize_inherit", 5 * len(self._bytes))
+        data = self._made("normalize_inherit", 5 * len(self._bytes))
         parts, at = [], 0
         while at < len(data):
             end = at + list_length(data[at:])
@@ -257,39 +281,58 @@ class NfsAcl:
     def child(self, *, directory: bool) -> NfsAcl:
         """Returns the list that a new file or directory gets in a directory with this list (section 6.2.1.4.1)."""
         options = self._options | (c.DIRECTORY if directory else 0)
-        return self._like(c.text_of("child", (self._bytes, len(self._bytes), options), len(self._bytes))[1])
+        return self._like(c.bytes_of("child", (self._list, options), len(self._bytes)))
 
     def table(self, right: int) -> List[TableRow]:
         """Returns the ACEs of the normal form that have one right. Raises ValueError if it is not exactly one right."""
-        lines = c.decoded(self._text("table", 64 * (len(self) + 1), c.word(right))).split("\n")[:-1]
-        rows = [line.split(" ", 3) for line in lines]
+        text = c.bytes_of("table", (self._list, self._question(right)), 64 * (len(self) + 1))
+        rows = [line.split(" ", 3) for line in c.decoded(text).split("\n")[:-1]]
         return [TableRow(int(source), AceKind(kind), flag == "GROUP", who) for source, kind, flag, who in rows]
 
     def needed(self) -> List[int]:
         """Returns for each ACE, in order, the rights that are needed: the list cut to these masks grants the same, and
         no right can be taken out of it (docs/lists.md, "Needed rights")."""
-        masks, count, fault = (ctypes.c_uint32 * len(self))(), ctypes.c_size_t(), c.Fault()
-        c.judged(c.calls["needed"](self._bytes, len(self._bytes), self._options, masks, len(masks), ctypes.byref(count),
-                                   ctypes.byref(fault)), fault)
+        masks, count, fault = (c.Word * len(self))(), ctypes.c_size_t(), c.Fault()
+        c.judge(c.calls["needed"](self._list, self._options, c.Masks(masks, len(masks)), ctypes.byref(count),
+                                  ctypes.byref(fault)), fault)
         return list(masks)
 
     def means_the_same(self, other: NfsAcl) -> bool:
         """Returns whether both lists grant everybody the same, for every owner and group of the object."""
-        fault = c.Fault()
-        return c.judged(c.calls["same"](self._bytes, len(self._bytes), other._bytes, len(other._bytes),
-                                        self._options & other._options, ctypes.byref(fault)), fault) == c.YES
+        same, fault = c.Word(), c.Fault()
+        c.judge(c.calls["same"](self._list, other._list, self._options & other._options, ctypes.byref(same),
+                                ctypes.byref(fault)), fault)
+        return same.value == 1
 
     def compare(self, other: NfsAcl) -> Optional[Difference]:
         """Returns None if both lists grant everybody the same, and otherwise a requester whom they treat differently
         (docs/lists.md, "Comparison")."""
-        at = c.Difference()
-        args = (self._bytes, len(self._bytes), other._bytes, len(other._bytes), self._options & other._options,
-                ctypes.byref(at))
-        status, text = c.text_of("compare", args, 512)
-        if status == c.YES:
+        at, fault, room = c.Difference(), c.Fault(), 512
+        while True:
+            out = ctypes.create_string_buffer(room)
+            status = c.calls["compare"](self._list, other._list, self._options & other._options, ctypes.byref(at),
+                                        c.Buffer(ctypes.addressof(out), room), ctypes.byref(fault))
+            if status != c.SHORT:
+                break
+            room = at.names
+        c.judge(status, fault)
+        if at.same:
             return None
-        owner, group, user, *groups = [c.decoded(name) for name in text.split(b"\0")[:-1]]
+        owner, group, user, *groups = [c.decoded(name) for name in out.raw[:at.names].split(b"\0")[:-1]]
         return Difference(owner, group, user, tuple(groups), at.right, bool(at.first_grants))
+
+
+def _spelled(ace: Ace) -> bytes:
+    """Returns the bytes of an ACE (RFC 8881, section 6.2.1; RFC 4506, section 4.11)."""
+    who = c.encoded(ace.who)
+    words = (_KINDS.index(AceKind(ace.kind)), c.word(ace.flags), c.word(ace.mask), len(who))
+    return struct.pack(">IIII", *words) + who + bytes(-len(who) % 4)
+
+
+def _place(pieces: Sequence[bytes], offset: Optional[int]) -> int:
+    """Returns the place of the ACE in which an offset of their list is, or the number of ACEs if it is in none."""
+    ends = itertools.accumulate((len(piece) for piece in pieces), initial=4)
+    return sum(end <= (offset or 0) for end in list(ends)[1:])
 
 
 def list_length(data: bytes) -> int:

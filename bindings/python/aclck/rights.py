@@ -5,7 +5,7 @@ from __future__ import annotations
 import ctypes
 from typing import Dict
 
-from ._library import BAD_ARGUMENT, Name, calls, decoded, encoded, word
+from ._library import Name, Word, calls, decoded, encoded, in_c, short_text, word
 
 RIGHTS: Dict[str, int] = {
     "READ_DATA": 0x1, "WRITE_DATA": 0x2, "APPEND_DATA": 0x4, "READ_NAMED_ATTRS": 0x8, "WRITE_NAMED_ATTRS": 0x10,
@@ -39,8 +39,8 @@ def read_mask(text: Name) -> int:
 
     Raises ValueError if the text does not name a mask.
     """
-    bits, given = ctypes.c_uint32(), encoded(text)
-    if calls["read_mask"](given, len(given), ctypes.byref(bits)):
+    bits, given = Word(), encoded(text)
+    if calls["read_mask"](in_c(given), ctypes.byref(bits)):
         raise ValueError(f"no names of rights with | between them: {decoded(given)!r}")
     return bits.value
 
@@ -50,7 +50,7 @@ def mask_text(mask: int) -> str:
 
     Raises ValueError if a bit is not a right.
     """
-    out, needed = ctypes.create_string_buffer(256), ctypes.c_size_t()
-    if calls["mask_text"](word(mask), out, 256, ctypes.byref(needed)) == BAD_ARGUMENT:
+    text = short_text("mask_text", word(mask))
+    if not text:
         raise ValueError(f"a bit is no right: {mask:#x}")
-    return out.raw[:needed.value].decode()
+    return text
