@@ -74,7 +74,7 @@ install-tree:
 	for name in aclck aclck-tree; do \
 	  install -D -m 644 completions/_$$name '$(SHARE)/zsh/site-functions/'_$$name && \
 	  install -D -m 644 completions/$$name.fish '$(SHARE)/fish/vendor_completions.d/'$$name.fish || exit 1; done
-	for file in bindings/python/*/*.py bindings/python/*/py.typed; do \
+	for file in bindings/python/aclck*/*.py bindings/python/aclck*/py.typed; do \
 	  install -D -m 644 "$$file" '$(MODULES)/'"$${file#bindings/python/}" || exit 1; done
 
 ## uninstall-tree     removes what install-tree installs

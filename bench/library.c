@@ -92,8 +92,12 @@ static void time_large(u32 count)
         memcpy(at + 16, name, 6);
     }
     size_t len = (size_t)(at - large);
-    TIME("check_nfs, a large list, by the ACE", 20, count,
-         aclck_check_nfs(large, len, "a", 1, "s", 1, "bob", 3, &bob, 0, 1, 0, &fault));
+    aclck_object object = {{"a", 1}, {"s", 1}};
+    aclck_requester requester = {{"bob", 3}, &bob, 0};
+    aclck_question question = {ACLCK_READ_DATA, ACLCK_FULL};
+    u32 word;
+    TIME("check, a large list, by the ACE", 20, count,
+         aclck_check(aclck_bytes_of(large, len), &object, &requester, &question, &word, &fault) + word);
     TIME("  by hand", 20, count, by_hand(large, len, bob, bob, bob, &bob, 0, 1));
     free(large);
 }
@@ -103,40 +107,47 @@ int main(int argc, char **argv)
     static aclck_requester who[MANY];
     static u32 granted[MANY];
     static char names[MANY][8];
-    aclck_bytes groups[2] = {{"editors", 7}, {"staff", 5}}, owner = {"alice", 5}, group = {"staff", 5}, user = {"bob", 3};
+    aclck_bytes groups[2] = {{"editors", 7}, {"staff", 5}}, acl;
+    aclck_object object = {{"alice", 5}, {"staff", 5}};
+    aclck_requester requester = {{"bob", 3}, groups, 2};
+    aclck_requesters many = {who, MANY};
+    aclck_question some = {ACLCK_READ_DATA | ACLCK_EXECUTE, ACLCK_FULL}, one = {ACLCK_READ_DATA, ACLCK_FULL},
+                   all = {ACLCK_ALL_RIGHTS, ACLCK_FULL};
+    aclck_buffer out = {bytes, sizeof bytes};
     aclck_fault fault;
     aclck_decision decision;
+    aclck_decided decided;
     aclck_difference difference;
     u32 word;
-    size_t n, m, len;
+    size_t n, len;
     FILE *file = argc < 2 ? NULL : fopen(argv[1], "rb");
     if (!file)
         return 2;
     len = fread(list, 1, sizeof list, file);
     fclose(file);
+    acl = aclck_bytes_of(list, len);
     for (int k = 0; k < MANY; k++) {
         snprintf(names[k], sizeof names[k], "u%05d", k);
         who[k].user = aclck_string(k % 2 ? "bob" : names[k]);
         who[k].groups = groups;
         who[k].ngroups = 2;
     }
-    TIME("check_nfs", 300000, 1,
-         aclck_check_nfs(list, len, "alice", 5, "staff", 5, "bob", 3, groups, 2, 0x21, 0, &fault));
-    TIME("  by hand", 300000, 1, by_hand(list, len, owner, group, user, groups, 2, 0x21));
-    TIME("granted, all sixteen rights", 300000, 1,
-         aclck_granted(list, len, "alice", 5, "staff", 5, "bob", 3, groups, 2, 0x1f07ff, 0, &word, &fault));
-    TIME("deciding", 300000, 1,
-         aclck_deciding(list, len, "alice", 5, "staff", 5, "bob", 3, groups, 2, 1, 0, &decision, &fault));
+    TIME("check", 300000, 1, aclck_check(acl, &object, &requester, &some, &word, &fault) + word);
+    TIME("  by hand", 300000, 1, by_hand(list, len, object.owner, object.group, requester.user, groups, 2, 0x21));
+    TIME("granted, all sixteen rights", 300000, 1, aclck_granted(acl, &object, &requester, &all, &word, &fault));
+    TIME("decide, all sixteen rights", 300000, 1, aclck_decide(acl, &object, &requester, &all, &decided, &fault));
+    TIME("deciding", 300000, 1, aclck_deciding(acl, &object, &requester, &one, &decision, &fault));
     TIME("check_many, 1,000 requesters, by the requester", 300, MANY,
-         aclck_check_many(list, len, "alice", 5, "staff", 5, who, MANY, 0x1f07ff, 0, granted, MANY, &fault));
-    TIME("mode", 300000, 1, aclck_mode(list, len, 0, &word, &fault));
-    TIME("child", 100000, 1, aclck_child(list, len, 2, bytes, sizeof bytes, &n, &fault));
-    TIME("show", 100000, 1, aclck_show(list, len, 0, bytes, sizeof bytes, &n, &fault));
-    TIME("same, with its own bytes", 100000, 1, aclck_same(list, len, list, len, 0, &fault));
-    TIME("normalize", 50000, 1, aclck_normalize(list, len, 0, bytes, sizeof bytes, &n, &fault));
-    TIME("same, with its normal form", 20000, 1, aclck_same(list, len, bytes, n, 0, &fault));
+         aclck_check_many(acl, &object, many, &all, (aclck_masks){granted, MANY}, &fault));
+    TIME("mode", 300000, 1, aclck_mode(acl, ACLCK_FULL, &word, &fault));
+    TIME("child", 100000, 1, aclck_child(acl, ACLCK_DIRECTORY, out, &n, &fault));
+    TIME("show", 100000, 1, aclck_show(acl, ACLCK_FULL, out, &n, &fault));
+    TIME("same, with its own bytes", 100000, 1, aclck_same(acl, acl, ACLCK_FULL, &word, &fault));
+    TIME("normalize", 50000, 1, aclck_normalize(acl, ACLCK_FULL, out, &n, &fault));
+    TIME("same, with its normal form", 20000, 1,
+         aclck_same(acl, aclck_bytes_of(bytes, n), ACLCK_FULL, &word, &fault));
     TIME("compare, with the empty list", 20000, 1,
-         aclck_compare(list, len, "\0\0\0\0", 4, 0, &difference, bytes, sizeof bytes, &m, &fault));
+         aclck_compare(acl, aclck_bytes_of("\0\0\0", 4), ACLCK_FULL, &difference, out, &fault));
     if (argc > 2)
         time_large((u32)atoi(argv[2]));
     return 0;

@@ -7,7 +7,7 @@ import sys
 
 ROOT = os.path.dirname(os.path.dirname(os.path.abspath(__file__)))
 PYTHON = os.path.join(ROOT, "bindings/python")
-LIBRARY = os.environ.setdefault("ACLCK_LIBRARY", os.path.join(ROOT, "library/out/libaclck.so.0"))
+LIBRARY = os.environ.setdefault("ACLCK_LIBRARY", os.path.join(ROOT, "library/out/libaclck.so.1"))
 if not os.path.exists(LIBRARY):
     sys.exit(f"{os.path.basename(sys.argv[0])}: {LIBRARY} is not built: make library")
 sys.path.insert(0, PYTHON)

@@ -16,7 +16,7 @@ from unittest import mock
 
 ROOT = os.path.dirname(os.path.dirname(os.path.abspath(__file__)))
 TOOL = os.path.join(ROOT, "bin/aclck-tree")
-LIBRARY = os.environ.setdefault("ACLCK_LIBRARY", os.path.join(ROOT, "library/out/libaclck.so.0"))
+LIBRARY = os.environ.setdefault("ACLCK_LIBRARY", os.path.join(ROOT, "library/out/libaclck.so.1"))
 if not os.path.exists(LIBRARY):
     sys.exit(f"tree: {LIBRARY} is not built: make library")
 sys.path.insert(0, os.path.join(ROOT, "bindings/python"))
