@@ -3,6 +3,7 @@ pub mod Tag
 pub mod Entries
 pub mod Valid
 pub mod RawEntries
+pub mod View
 pub mod Attribute
 pub mod Equal
 pub mod Mode

@@ -14,8 +14,10 @@ ghost use Rattle.acl_posix.specs.Create.{of_mode};
 ghost use Rattle.acl_posix.specs.Equal.{same_entry};
 ghost use Rattle.std.specs.Cmp.Lexicographic.{pointwise};
 
-use crate::deciding::Decision;
+use crate::check::AccessCheck;
+use crate::deciding::{Deciding, Decision};
 use crate::entry::Entry;
+use crate::entry_set::EntrySet;
 use crate::fault::AclFault;
 use crate::id::Id;
 use crate::sorted::SortedEntries;
@@ -225,7 +227,7 @@ impl PosixAcl {
             (record { user = user.value; groups = ids groups.now })
             want.bits }
     {
-        self.entries.deciding(owner, group, user, groups, want)
+        self.entries.decision(owner, group, user, groups, want)
     }
 
     /// Returns the file mode bits: USER_OBJ, then MASK or, if there is no MASK, GROUP_OBJ, then OTHER. It takes no
@@ -233,12 +235,7 @@ impl PosixAcl {
     pub fn mode(&self) -> Mode
         ensures { result.bits ≡ mode_of self.now }
     {
-        let entries = &self.entries;
-        Mode::from_parts(
-            entries.perm_at(Tag::UserObj),
-            entries.perm_at(entries.group_class()),
-            entries.perm_at(Tag::Other),
-        )
+        self.entries.mode_bits()
     }
 
     /// Sets the file mode bits: USER_OBJ, MASK or, if there is no MASK, GROUP_OBJ, and OTHER. It changes no other

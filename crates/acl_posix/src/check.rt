@@ -1,29 +1,32 @@
 //! The access check (acl(5), "ACCESS CHECK ALGORITHM").
-ghost use Rattle.std.specs.Prelude.{◌≡◌};
-ghost use Rattle.acl_posix.specs.Tag.{tag_of};
-ghost use Rattle.acl_posix.specs.Check.{any_contains, any_matches, class_contains, entry_contains, grants, ids};
+ghost use Rattle.std.specs.Prelude.{◌≡◌, map};
+ghost use Rattle.acl_posix.specs.Tag.{group as group_tag, tag_of};
+ghost use Rattle.acl_posix.specs.Check.{any_contains, any_matches, class_contains, entry_contains, grants};
 ghost use Rattle.acl_posix.specs.internal.GroupSearch.{group_contains};
 
+use crate::entry_set::EntrySet;
+use crate::group_number::GroupNumber;
 use crate::id::Id;
 use crate::sorted::SortedEntries;
 use crate::tag::Tag;
 use acl_perm::Perm;
 
-impl SortedEntries {
+/// The access check of a set of entries.
+pub(crate) trait AccessCheck: EntrySet {
     /// Returns whether a user who is in these groups is granted all of the request on an object with this owner and
     /// group.
     #[tactic(auto, unfolding(crate::specs::Check::grants))]
-    pub(crate) fn grants(
+    fn grants<G: GroupNumber>(
         &self,
         owner: Id,
         group: Id,
         user: Id,
-        groups: &[Id],
+        groups: &[G],
         request: Perm,
     ) -> bool
-        ensures { result ≡ grants self.now
+        ensures { result ≡ grants (Self.entries self.now)
             (record { user = owner.value; group = group.value })
-            (record { user = user.value; groups = ids groups.now })
+            (record { user = user.value; groups = map G.number groups.now })
             request.bits }
     {
         if user.value == owner.value {
@@ -40,17 +43,17 @@ impl SortedEntries {
     /// Returns whether some entry matches by a group of the requester: whether some such entry contains the empty
     /// request.
     #[tactic(auto, using(crate::proofs::sorted::Groups::contains_empty))]
-    pub(crate) fn any_matches(&self, owning_group: Id, groups: &[Id]) -> bool
-        ensures { result ≡ any_matches self.now owning_group.value (ids groups.now) }
+    fn any_matches<G: GroupNumber>(&self, owning_group: Id, groups: &[G]) -> bool
+        ensures { result ≡ any_matches (Self.entries self.now) owning_group.value (map G.number groups.now) }
     {
         self.any_contains(owning_group, groups, Perm::NONE)
     }
 
     /// Returns whether the entries that match by a group of the requester grant the request: with a MASK, if MASK and
     /// one of them contain it; without a MASK, if the entry of the owning group contains it.
-    fn class_contains(&self, owning_group: Id, groups: &[Id], request: Perm) -> bool
+    fn class_contains<G: GroupNumber>(&self, owning_group: Id, groups: &[G], request: Perm) -> bool
         ensures { result
-            ≡ class_contains self.now owning_group.value (ids groups.now) request.bits }
+            ≡ class_contains (Self.entries self.now) owning_group.value (map G.number groups.now) request.bits }
     {
         match self.get(Tag::Mask) {
             Some(mask) => mask.contains(request)
@@ -60,25 +63,33 @@ impl SortedEntries {
     }
 
     /// Returns whether one matching entry contains all that is requested. It searches for each group of the requester.
-    fn any_contains(&self, owning_group: Id, groups: &[Id], request: Perm) -> bool
-        ensures { result ≡ any_contains self.now owning_group.value (ids groups.now) request.bits }
+    fn any_contains<G: GroupNumber>(&self, owning_group: Id, groups: &[G], request: Perm) -> bool
+        ensures { result ≡ any_contains (Self.entries self.now) owning_group.value (map G.number groups.now) request.bits }
     {
-        groups
-            .iter()
-            .any(|group| self.group_contains(owning_group, *group, request))
+        groups.iter().any(|group| self.group_contains(owning_group, group.number(), request))
     }
 
     /// Returns whether an entry that matches by this group contains all that is requested.
-    fn group_contains(&self, owning_group: Id, group: Id, request: Perm) -> bool
-        ensures { result ≡ group_contains self.now owning_group.value request.bits group.value }
+    fn group_contains(&self, owning_group: Id, group: u32, request: Perm) -> bool
+        ensures { result ≡ group_contains (Self.entries self.now) owning_group.value request.bits group }
     {
-        (group.value == owning_group.value && self.entry_contains(Tag::GroupObj, request))
-            || self.entry_contains(Tag::Group(group), request)
+        (group == owning_group.value && self.entry_contains(Tag::GroupObj, request))
+            || self.group_entry_contains(group, request)
+    }
+
+    /// Returns whether the entry of the group contains all that is requested. Without such an entry it returns `false`.
+    fn group_entry_contains(&self, group: u32, request: Perm) -> bool
+        ensures { result ≡ entry_contains (Self.entries self.now) (group_tag group) request.bits }
+    {
+        match self.get_group(group) {
+            Some(perm) => perm.contains(request),
+            None => false,
+        }
     }
 
     /// Returns whether the entry of the tag contains all that is requested. Without such an entry it returns `false`.
-    pub(crate) fn entry_contains(&self, tag: Tag, request: Perm) -> bool
-        ensures { result ≡ entry_contains self.now (tag_of tag) request.bits }
+    fn entry_contains(&self, tag: Tag, request: Perm) -> bool
+        ensures { result ≡ entry_contains (Self.entries self.now) (tag_of tag) request.bits }
     {
         match self.get(tag) {
             Some(perm) => perm.contains(request),
@@ -86,3 +97,5 @@ impl SortedEntries {
         }
     }
 }
+
+impl AccessCheck for SortedEntries {}

@@ -1,10 +1,11 @@
 //! Which entry decides a request.
-ghost use Rattle.std.specs.Prelude.{◌≡◌, ◌&&◌, find, option_copied, option_map};
-ghost use Rattle.acl_posix.specs.Check.{any_matches, contains, grants, ids, is_member, tag_matches};
+ghost use Rattle.std.specs.Prelude.{◌≡◌, ◌&&◌, map, option_map};
+ghost use Rattle.acl_posix.specs.Check.{grants, is_member, tag_matches};
 ghost use Rattle.acl_posix.specs.Deciding.{decider, decider_contains, first_match, is_masked_off};
 ghost use Rattle.acl_posix.specs.Tag.{tag_of};
 
-use crate::entry::Entry;
+use crate::check::AccessCheck;
+use crate::group_number::GroupNumber;
 use crate::id::Id;
 use crate::sorted::SortedEntries;
 use crate::tag::Tag;
@@ -21,27 +22,28 @@ pub struct Decision {
     pub masked: bool,
 }
 
-impl SortedEntries {
+/// Which entry of a set decides a request.
+pub(crate) trait Deciding: AccessCheck {
     /// Returns how a request is decided.
-    pub(crate) fn deciding(
+    fn decision<G: GroupNumber>(
         &self,
         owner: Id,
         group: Id,
         user: Id,
-        groups: &[Id],
+        groups: &[G],
         want: Perm,
     ) -> Decision
-        ensures granted { result.granted ≡ grants self.now
+        ensures granted { result.granted ≡ grants (Self.entries self.now)
             (record { user = owner.value; group = group.value })
-            (record { user = user.value; groups = ids groups.now })
+            (record { user = user.value; groups = map G.number groups.now })
             want.bits }
-        ensures entry { option_map tag_of result.entry ≡ decider self.now
+        ensures entry { option_map tag_of result.entry ≡ decider (Self.entries self.now)
             (record { user = owner.value; group = group.value })
-            (record { user = user.value; groups = ids groups.now })
+            (record { user = user.value; groups = map G.number groups.now })
             want.bits }
-        ensures masked { result.masked ≡ is_masked_off self.now
+        ensures masked { result.masked ≡ is_masked_off (Self.entries self.now)
             (record { user = owner.value; group = group.value })
-            (record { user = user.value; groups = ids groups.now })
+            (record { user = user.value; groups = map G.number groups.now })
             want.bits }
     {
         let granted = self.grants(owner, group, user, groups, want);
@@ -55,10 +57,17 @@ impl SortedEntries {
     }
 
     #[tactic(auto, unfolding(crate::specs::Deciding::decider))]
-    fn decider(&self, owner: Id, group: Id, user: Id, groups: &[Id], want: Perm) -> Option<Tag>
-        ensures { option_map tag_of result ≡ decider self.now
+    fn decider<G: GroupNumber>(
+        &self,
+        owner: Id,
+        group: Id,
+        user: Id,
+        groups: &[G],
+        want: Perm,
+    ) -> Option<Tag>
+        ensures { option_map tag_of result ≡ decider (Self.entries self.now)
             (record { user = owner.value; group = group.value })
-            (record { user = user.value; groups = ids groups.now })
+            (record { user = user.value; groups = map G.number groups.now })
             want.bits }
     {
         if user.value == owner.value {
@@ -73,7 +82,7 @@ impl SortedEntries {
     }
 
     fn decider_contains(&self, entry: Option<Tag>, want: Perm) -> bool
-        ensures { result ≡ decider_contains self.now (option_map tag_of entry) want.bits }
+        ensures { result ≡ decider_contains (Self.entries self.now) (option_map tag_of entry) want.bits }
     {
         match entry {
             Some(tag) => self.entry_contains(tag, want),
@@ -82,34 +91,24 @@ impl SortedEntries {
     }
 
     /// Returns the tag of the first entry that matches by a group of the requester and has all that is requested.
-    fn first_match(&self, owning_group: Id, groups: &[Id], want: Perm) -> Option<Tag>
+    fn first_match<G: GroupNumber>(&self, owning_group: Id, groups: &[G], want: Perm) -> Option<Tag>
         ensures { option_map tag_of result ≡ option_map (λ entry. entry.0)
-            (first_match self.now owning_group.value (ids groups.now) want.bits) }
+            (first_match (Self.entries self.now) owning_group.value (map G.number groups.now) want.bits) }
     {
-        match first_in(self.as_slice(), owning_group, groups, want).copied() {
-            Some(entry) => Some(entry.tag),
-            None => None,
+        for place in 0..self.count() {
+            let entry = self.entry_at(place);
+            if tag_matches(owning_group, groups, entry.tag) && entry.perm.contains(want) {
+                return Some(entry.tag);
+            }
         }
+        None
     }
 }
 
-fn first_in<'a>(
-    entries: &'a [Entry],
-    owning_group: Id,
-    groups: &[Id],
-    want: Perm,
-) -> Option<&'a Entry>
-    ensures { option_copied result ≡ find
-        (λ entry. tag_matches owning_group.value (ids groups.now) (tag_of entry.tag)
-        && contains entry.perm.bits want.bits)
-        entries.now }
-{
-    entries.iter().find(|entry| tag_matches(owning_group, groups, entry.tag)
-        && entry.perm.contains(want))
-}
+impl Deciding for SortedEntries {}
 
-fn tag_matches(owning_group: Id, groups: &[Id], tag: Tag) -> bool
-    ensures { result ≡ tag_matches owning_group.value (ids groups.now) (tag_of tag) }
+fn tag_matches<G: GroupNumber>(owning_group: Id, groups: &[G], tag: Tag) -> bool
+    ensures { result ≡ tag_matches owning_group.value (map G.number groups.now) (tag_of tag) }
 {
     match tag {
         Tag::GroupObj => is_member(owning_group, groups),
@@ -118,8 +117,8 @@ fn tag_matches(owning_group: Id, groups: &[Id], tag: Tag) -> bool
     }
 }
 
-fn is_member(id: Id, groups: &[Id]) -> bool
-    ensures { result ≡ is_member id.value (ids groups.now) }
+fn is_member<G: GroupNumber>(id: Id, groups: &[G]) -> bool
+    ensures { result ≡ is_member id.value (map G.number groups.now) }
 {
-    groups.iter().any(|one| one.value == id.value)
+    groups.iter().any(|one| one.number() == id.value)
 }

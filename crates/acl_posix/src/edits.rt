@@ -8,6 +8,7 @@ ghost use Rattle.acl_posix.specs.Mode.{chmoded};
 ghost use Rattle.acl_posix.specs.Mask.{class_union, with_mask};
 
 use crate::entry::Entry;
+use crate::entry_set::EntrySet;
 use crate::sorted::SortedEntries;
 use crate::tag::Tag;
 use acl_perm::{Mode, Perm};

@@ -11,12 +11,14 @@ mod deciding;
 mod digits;
 mod edits;
 mod entry;
+mod entry_set;
 mod entry_writer;
 mod fault;
 mod field;
 mod file;
 mod file_text;
 mod form;
+mod group_number;
 mod id;
 pub mod laws;
 mod look_up;
@@ -34,6 +36,8 @@ mod sorting;
 mod tag;
 mod text_fault;
 mod validity;
+mod view;
+mod view_fault;
 mod writer;
 mod written_line;
 
@@ -50,6 +54,8 @@ pub use parser::parse;
 pub use raw_entry::{EntriesFault, EntryFault, RawEntry};
 pub use tag::Tag;
 pub use text_fault::{Cause, Part, TextFault};
+pub use view::EntriesView;
+pub use view_fault::ViewFault;
 
 #[cfg(test)]
 mod speed;

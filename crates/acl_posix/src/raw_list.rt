@@ -3,6 +3,7 @@ ghost use Rattle.std.specs.Prelude.{◌≡◌, IfErr, IfOk, OnOk};
 ghost use Rattle.acl_posix.specs.declared.fault.AclFault.TheVariants.{Memory};
 ghost use Rattle.acl_posix.specs.declared.raw_entry.EntriesFault.TheVariants.{Acl};
 ghost use Rattle.acl_posix.specs.Entries.{as_set, pairs};
+ghost use Rattle.acl_posix.specs.MissingMask.{IsFaultOfRawWithMask, IsValidWithMask, with_missing_mask};
 ghost use Rattle.acl_posix.specs.RawEntries.{AreEntries, IsFaultOfRaw, IsValidRaw, raw_pairs};
 
 use crate::acl::PosixAcl;
@@ -33,6 +34,19 @@ impl PosixAcl {
         let entries = read_entries(alloc.clone()?, raws)?;
         Ok(PosixAcl::from_entries(alloc, entries)?)
     }
+
+    /// Makes the ACL of raw entries as `from_raw` does, and first adds MASK as `from_entries_with_mask` does. Fails as
+    /// `from_raw` does, but never with `Miss` of MASK.
+    pub fn from_raw_with_mask(alloc: Global, raws: &[RawEntry]) -> Result<PosixAcl, EntriesFault>
+        ensures valid { OnOk result (IsValidWithMask raws.now) }
+        ensures entries { IfOk result
+            (λ acl. acl ≡ as_set (with_missing_mask (raw_pairs raws.now))) }
+        ensures fault { IfErr result (IsFaultOfRawWithMask raws.now) }
+        ensures accepts { IsValidWithMask raws.now → IfErr result (λ fault. fault ≡ Acl Memory) }
+    {
+        let entries = read_entries(alloc.clone()?, raws)?;
+        Ok(PosixAcl::from_entries_with_mask(alloc, entries)?)
+    }
 }
 
 /// Returns the entries of the numbers, in their order, or the first entry with wrong numbers.
@@ -40,6 +54,7 @@ pub(crate) fn read_entries(alloc: Global, raws: &[RawEntry]) -> Result<Vec<Entry
     ensures entries { IfOk result (λ entries. pairs entries.items ≡ raw_pairs raws.now) }
     ensures valid { OnOk result (AreEntries raws.now) }
     ensures fault { IfErr result (IsFaultOfRaw raws.now) }
+    ensures numbers { IfErr result (IsFaultOfRawWithMask raws.now) }
     ensures accepts { AreEntries raws.now → IfErr result (λ fault. fault ≡ Acl Memory) }
 {
     let mut entries = Vec::with_capacity(alloc, raws.len())?;

@@ -13,6 +13,7 @@ mod lists;
 mod names;
 mod samples;
 mod scarce;
+mod views;
 mod writing;
 
 use harness::Memory;

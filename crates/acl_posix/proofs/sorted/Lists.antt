@@ -97,7 +97,7 @@ pub unequal : (a b : Tag) (o : Ordering) → tag_cmp a b ≡ o → is_eq o ≡ f
 unequal a b o h differ = (eq_by_cmp_equiv tags_total).symm b a ∙ ap is_eq h ∙ differ
 
 -- a tag that differs from the tag at each place of a list is not found in it
-find_nowhere : (ps : List (Tag × ℕ)) (l : Tag)
+pub find_nowhere : (ps : List (Tag × ℕ)) (l : Tag)
     → ((j : ℕ) → j < length (tags ps) → eq_by_cmp tag_cmp l (get_or (tags ps) j l) ≡ false)
     → fin.find tag_cmp l ps ≡ None
 find_nowhere [] l h = refl

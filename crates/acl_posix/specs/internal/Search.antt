@@ -1,8 +1,10 @@
 -- The result of a search: the place of a tag in a list in canonical order, or the place where it would be inserted
 -- (this library's own).
 use Rattle.std.specs.Prelude.{ℕ, ◌≡◌, ◌<◌, ◌≤◌, List, length, get_or, Result, MatchResult}
+use Rattle.std.specs.Ordering.{nat_cmp, ordering_then}
+use Rattle.std.specs.declared.cmp.Ordering.{Ordering}
 use Rattle.std.specs.declared.cmp.Ordering.TheVariants.{Less, Greater}
-use Rattle.acl_posix.specs.Tag.{Tag, tag_cmp}
+use Rattle.acl_posix.specs.Tag.{Tag, qualifier, rank, tag_cmp}
 
 -- the tag is at a place
 pub record IsTagAt (tags : List Tag) (tag : Tag) (place : ℕ) : Type 0 where
@@ -18,3 +20,8 @@ pub record IsGap (tags : List Tag) (tag : Tag) (place : ℕ) : Type 0 where
 -- the place of a tag, or else the place where it would go
 abbrev pub IsPlaceOf : List Tag → Tag → Result ℕ ℕ → Type 0
 IsPlaceOf tags tag answer = MatchResult answer (IsTagAt tags tag) (IsGap tags tag)
+
+-- how a tag compares, in canonical order, with the tag of this rank and this qualifier
+abbrev pub order_of : Tag → ℕ → ℕ → Ordering
+order_of tag of_rank of_qualifier =
+    ordering_then (nat_cmp (rank tag) of_rank) (nat_cmp (qualifier tag) of_qualifier)

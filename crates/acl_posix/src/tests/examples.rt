@@ -28,6 +28,30 @@ fn a_text_without_default_entries_is_read_as_an_access_acl(rt: HostRuntime) -> R
 }
 
 #[test]
+fn a_view_of_entries_has_their_mode(rt: HostRuntime) -> Result<(), Fail> {
+    let raws = [
+        RawEntry {
+            tag: 1,
+            id: 0,
+            perm: 6,
+        },
+        RawEntry {
+            tag: 3,
+            id: 0,
+            perm: 4,
+        },
+        RawEntry {
+            tag: 6,
+            id: 0,
+            perm: 0,
+        },
+    ];
+    let acl = EntriesView::new(&raws).ok().ok_or("a valid list")?;
+    assert!(rt; acl.mode().bits == 0o640);
+    Ok(())
+}
+
+#[test]
 fn a_member_of_the_owning_group_may_read_and_another_user_may_not(
     rt: HostRuntime,
 ) -> Result<(), Fail> {

@@ -1,0 +1,2 @@
+-- raw entries in canonical order
+pub mod Views
