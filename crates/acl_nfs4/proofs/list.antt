@@ -3,3 +3,4 @@ pub mod Push
 pub mod Weights
 pub mod Ordered
 pub mod FromAces
+pub mod Renamings

@@ -11,3 +11,5 @@ pub mod FromSource
 pub mod PulledAce
 pub mod PulledList
 pub mod Parts
+pub mod AnyLists
+pub mod AcesAt

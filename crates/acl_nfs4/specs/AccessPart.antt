@@ -1,17 +1,18 @@
 -- The part of a list that access reads (RFC 8881, section 6.2.1): AUDIT and ALARM ACEs grant and deny nothing, so they
 -- are left out and counted. An ACE may have any special identifier (section 6.2.1.5). One that is none of `OWNER@`,
 -- `GROUP@` and `EVERYONE@` is unknown: it is kept as the name of a group.
-use Rattle.std.specs.Prelude.{◌≡◌, ℕ, ◌+◌, ◌<◌, ◌≤◌, IsFalse, IsTrue, bit_or, count_ones, Bool, not, nat_lt, if◌then◌else◌, List, map, filter, ◌++◌, length, replicate, sum_by}
+use Rattle.std.specs.Prelude.{◌≡◌, ◌==◌, ℕ, ◌<◌, ◌≤◌, IsFalse, IsTrue, bit_or, count_ones, Bool, not, nat_lt, if◌then◌else◌, List, map, filter, ◌++◌, length, replicate, sum_by}
 use Rattle.std.specs.List.{flat_map, list_all, AllByRecursion}
 use Rattle.std.specs.Str.{is_utf8}
 use Rattle.acl_perm.specs.Bits.{identifier_group_alone}
 use Rattle.acl_perm.specs.Profile.{Profile}
+use Rattle.acl_perm.specs.declared.kind.Kind.{Kind}
+use Rattle.acl_perm.specs.declared.kind.Kind.TheVariants.{Allow, Deny}
 use Rattle.acl_nfs4.specs.Ace.{Ace}
 use Rattle.acl_nfs4.specs.Limits.{most_aces, most_weight}
 use Rattle.acl_nfs4.specs.Spelling.{pad_len, word}
 use Rattle.acl_nfs4.specs.Who.{is_no_who_len, is_plain, is_unknown_special}
 use Rattle.acl_nfs4.specs.Within.{IsWithin}
-use Rattle.acl_nfs4.specs.internal.Reading.{kind_from}
 
 -- an ACE of any type: the number of its type, which is 0 (ALLOW), 1 (DENY), 2 (AUDIT) or 3 (ALARM), its flags, its mask
 -- and its who
@@ -34,9 +35,18 @@ is_for_access a = nat_lt a.type_number 2
 abbrev pub flags_kept : ℕ → List ℕ → ℕ
 flags_kept flags who = if is_unknown_special who then bit_or flags identifier_group_alone else flags
 
+-- the kind of a type, which is that of an ALLOW or a DENY
+abbrev pub kind_of_type : ℕ → Kind
+kind_of_type number = if number == 0 then Allow else Deny
+
 -- the ACE that is kept of an ALLOW or a DENY
 abbrev pub kept_ace : AnyAce → Ace
-kept_ace a = record { kind = kind_from a.type_number; flags = flags_kept a.flags a.who; mask = a.mask; who = a.who }
+kept_ace a = record {
+  kind = kind_of_type a.type_number;
+  flags = flags_kept a.flags a.who;
+  mask = a.mask;
+  who = a.who;
+}
 
 -- the part of a list that access reads
 abbrev pub access_part : List AnyAce → Part
@@ -73,3 +83,7 @@ pub record AnyXdr (p : Profile) (list : List AnyAce) (bytes : List ℕ) : Type 0
   pub weight : sum_by (λ a. count_ones a.mask) list ≤ most_weight
   pub each : AllByRecursion (IsAnyAce p) list
   pub spelled : bytes ≡ word (length list) ++ flat_map any_piece list
+
+-- the bytes spell a list, and the part is what access reads of that list
+abbrev pub IsPartOf : Profile → List ℕ → Part → Type 0
+IsPartOf p bytes part = (list : List AnyAce) × AnyXdr p list bytes × (part ≡ access_part list)

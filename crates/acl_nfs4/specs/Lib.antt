@@ -4,6 +4,7 @@ pub mod Who
 pub mod Within
 pub mod Spelling
 pub mod Front
+pub mod AceAt
 pub mod Fields
 pub mod Fault
 pub mod BitNames
@@ -17,6 +18,7 @@ pub mod Push
 pub mod AccessPart
 pub mod PartFault
 pub mod Build
+pub mod Renamed
 pub mod Laws
 pub mod Stream
 pub mod internal

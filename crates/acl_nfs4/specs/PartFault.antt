@@ -55,7 +55,16 @@ part_in p bytes = do
   part ← part_from p count.0 0 (record { kept = []; left_out = 0 }) count.1
   at_end part
 
--- the result is what the bytes say, unless memory runs out
-abbrev pub PartReadAs : Result Part Fault → Result Part Fault → Type 0
-PartReadAs (Ok part) said = said ≡ Ok part
-PartReadAs (Err fault) said = (fault ≡ no_memory) ⊎ (said ≡ Err fault)
+-- the bytes spell no list of any ACEs, and this is the first fault from the left
+abbrev pub IsFaultOfPart : Profile → List ℕ → Fault → Type 0
+IsFaultOfPart p bytes fault = part_in p bytes ≡ Err fault
+
+-- this part, unless memory runs out
+abbrev pub IsPartOrMemory : Result Part Fault → Part → Type 0
+IsPartOrMemory (Ok found) part = found ≡ part
+IsPartOrMemory (Err fault) part = fault ≡ no_memory
+
+-- this fault, unless memory runs out
+abbrev pub FaultsOrMemory : Result Part Fault → Fault → Type 0
+FaultsOrMemory (Ok found) fault = ⊥
+FaultsOrMemory (Err found) fault = (found ≡ fault) ⊎ (found ≡ no_memory)

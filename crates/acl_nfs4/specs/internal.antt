@@ -1,4 +1,5 @@
--- What only the code and its proofs need (this library's own): no clause of a public call cites it.
+-- What only the code and its proofs need (this library's own): no clause of a public call cites it. One definition that
+-- such a clause cites is made of it: the fault of a list of any ACEs (`PartFault`) is found field by field, by `Reading`.
 
 -- the result of reading a list's bytes from left to right, and its fault
 pub mod Reading
@@ -22,3 +23,7 @@ pub mod FedAlike
 pub mod SameSpelling
 -- the part of a list that access reads, while it is read
 pub mod PartReading
+-- one ACE at an offset
+pub mod AceFrom
+-- the names that are noted while names are exchanged
+pub mod NameMap

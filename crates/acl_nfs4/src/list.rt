@@ -4,3 +4,4 @@ pub(crate) mod aces;
 pub(crate) mod acl;
 pub(crate) mod build;
 pub(crate) mod push_fault;
+pub(crate) mod renaming;

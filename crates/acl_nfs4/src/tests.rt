@@ -1,5 +1,6 @@
 //! Tests by subject. The head of each file says where its expected values come from, or what property it checks.
 
+mod ace_at;
 mod agreement;
 mod devices;
 mod examples;
@@ -11,6 +12,7 @@ mod parse;
 mod part;
 mod push;
 mod readers;
+mod renaming;
 mod rows;
 mod tables;
 mod text;

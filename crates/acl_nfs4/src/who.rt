@@ -3,6 +3,7 @@ ghost use Rattle.std.specs.Prelude.{◌≡◌, ◌≤◌, IsTrue, None, length, 
 ghost use Rattle.std.specs.Str.{is_utf8};
 ghost use Rattle.std.specs.List.{list_all};
 ghost use Rattle.acl_nfs4.specs.internal.Reading.{Judges, text_fault};
+ghost use Rattle.acl_nfs4.specs.Renamed.{is_account};
 ghost use Rattle.acl_nfs4.specs.Who.{ends_in_at, is_plain, is_special, is_unknown_special, is_no_who_len, who_fault};
 
 use crate::limits::LONGEST_WHO;
@@ -34,6 +35,13 @@ pub(crate) fn judge(who: &[u8]) -> Result<(), WhoFault>
         return Err(WhoFault::Length);
     }
     judge_text(who)
+}
+
+/// Returns whether bytes are valid as a who and no special identifier, so that they are the name of a user or a group.
+pub(crate) fn is_account(name: &[u8]) -> bool
+    ensures { result ≡ is_account name.now }
+{
+    judge(name).is_ok() && !is_special_who(name)
 }
 
 /// Returns whether no who has this many bytes.

@@ -1,6 +1,7 @@
 //! Lists as XDR: read in memory, read from a source, and written.
 
 pub(crate) mod access_part;
+pub(crate) mod ace_at;
 pub(crate) mod cursor;
 pub(crate) mod decoder;
 pub(crate) mod encode;

@@ -91,7 +91,7 @@ judged_ok n p (Ok y) x e = let h : (y, moved n p) ≡ x = ok_is _ _ e in (ap (λ
 judged_ok n p (Err d) x e = absurd cc
 
 -- a field that was read has all its bytes, which spell its value, and reading took them
-field_takes : {A : Type 0} (n : ℕ) (value : List ℕ → Result A Reason) (p : Place) (x : A × Place) → IsBytes p.rest
+pub field_takes : {A : Type 0} (n : ℕ) (value : List ℕ → Result A Reason) (p : Place) (x : A × Place) → IsBytes p.rest
     → field n value p ≡ Ok x
     → (value (take n p.rest) ≡ Ok x.0) × (length (take n p.rest) ≡ n) × Takes p (take n p.rest) x.1
 field_takes n value p x fits e =
@@ -118,7 +118,7 @@ field_again n value at text rest x len e =
 -- ---- words
 
 -- a word that was read is taken, and its number is accepted
-word_takes : {A : Type 0} (value : ℕ → Result A Reason) (p : Place) (x : A × Place) → IsBytes p.rest
+pub word_takes : {A : Type 0} (value : ℕ → Result A Reason) (p : Place) (x : A × Place) → IsBytes p.rest
     → word_field value p ≡ Ok x → (n : ℕ) × (value n ≡ Ok x.0) × Takes p (word n) x.1 × (n < 2 ^ 32)
 word_takes value p x fits e =
     let t = field_takes 4 (λ bytes. value (number bytes)) p x fits e in
@@ -204,7 +204,7 @@ pub who_bounds : (who : List ℕ) → IsWho who → (1 ≤ length who) × (lengt
 who_bounds who is = grind (arith, nat_tests)
 
 -- bytes that are accepted as a who are that who, and have no fault
-taken_is : (fault : Option WhoFault) (bytes who : List ℕ) → unless (option_map who_reason fault) bytes ≡ Ok who
+pub taken_is : (fault : Option WhoFault) (bytes who : List ℕ) → unless (option_map who_reason fault) bytes ≡ Ok who
     → (bytes ≡ who) × (fault ≡ None)
 taken_is None bytes who e = (ok_is bytes who e, refl)
 taken_is (Some f) bytes who e = absurd cc

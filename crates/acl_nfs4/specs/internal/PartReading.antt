@@ -14,3 +14,8 @@ any_ace a = record { type_number = a.type_number; flags = a.flags.bits; mask = a
 abbrev pub GivesPart : Place → Result Part Fault → Result (Part × Place) Fault → Type 0
 GivesPart at (Ok part) read = read ≡ Ok (part, at)
 GivesPart at (Err fault) read = (fault ≡ no_memory) ⊎ (read ≡ Err fault)
+
+-- the result is what the bytes say, unless memory runs out
+abbrev pub PartReadAs : Result Part Fault → Result Part Fault → Type 0
+PartReadAs (Ok part) said = said ≡ Ok part
+PartReadAs (Err fault) said = (fault ≡ no_memory) ⊎ (said ≡ Err fault)

@@ -22,6 +22,16 @@ fn read_mask_returns_the_rights_that_a_field_names(rt: HostRuntime) -> Result<()
     Ok(())
 }
 
+#[test]
+fn ace_at_reads_one_ace_after_the_other(rt: HostRuntime) -> Result<(), Fail> {
+    let bytes = b"\0\0\0\x01\0\0\0\0\0\0\0\0\0\0\0\x01\0\0\0\x06OWNER@\0\0";
+    if let Some(first) = ace_at(bytes, 0, Profile::FULL)? {
+        assert!(rt; first.ace.who == b"OWNER@".as_slice() && first.end == 28);
+        assert!(rt; ace_at(bytes, first.end, Profile::FULL)?.is_none());
+    }
+    Ok(())
+}
+
 mod ample {
     use super::*;
 

@@ -1,14 +1,16 @@
 //! The part of a list that access reads: AUDIT and ALARM ACEs are left out, and a special identifier may be unknown.
-ghost use Rattle.std.specs.Prelude.{[], false, ◌≡◌, ◌+◌, ◌<◌, ◌≤◌, IfOk, OnOk, All, count_ones, length, map};
+ghost use Rattle.std.specs.Prelude.{[], false, ◌≡◌, ◌+◌, ◌<◌, ◌≤◌, ◌⊎◌, IfErr, IfOk, List, OnOk, All, count_ones, length, map};
 ghost use Rattle.acl_perm.specs.Profile.{full, profile_of};
 ghost use Rattle.acl_nfs4.specs.Ace.{ace};
-ghost use Rattle.acl_nfs4.specs.AccessPart.{flags_kept, kept_ace};
+ghost use Rattle.acl_nfs4.specs.AccessPart.{AnyAce, AnyXdr, IsPartOf, access_part, flags_kept, kept_ace};
 ghost use Rattle.acl_nfs4.specs.Fields.{count_of};
 ghost use Rattle.acl_nfs4.specs.Limits.{most_aces, most_weight};
-ghost use Rattle.acl_nfs4.specs.PartFault.{PartReadAs, any_ace_at, any_who_of, part_from, part_in, type_of, with_ace};
+ghost use Rattle.acl_nfs4.specs.PartFault.{FaultsOrMemory, IsFaultOfPart, IsPartOrMemory, any_ace_at, any_who_of, part_from, part_in, type_of, with_ace};
+ghost use Rattle.acl_nfs4.specs.Stream.{no_memory};
 ghost use Rattle.acl_nfs4.specs.Who.{is_no_who_len};
+ghost use Rattle.acl_nfs4.specs.declared.xdr.fault.Fault.{Fault};
 ghost use Rattle.acl_nfs4.specs.internal.Cursor.{place};
-ghost use Rattle.acl_nfs4.specs.internal.PartReading.{GivesPart, any_ace};
+ghost use Rattle.acl_nfs4.specs.internal.PartReading.{GivesPart, PartReadAs, any_ace};
 ghost use Rattle.acl_nfs4.specs.internal.Reading.{Gives, field, word_field};
 
 use crate::ace::AceRef;
@@ -56,34 +58,33 @@ impl<'a> AccessPart<'a> {
     /// }
     /// ```
     pub fn parse_whole(alloc: Global, bytes: &'a [u8]) -> Result<AccessPart<'a>, Fault>
-        ensures exact { PartReadAs result (part_in full bytes.now) }
+        ensures found { IfOk result (IsPartOf full bytes.now) }
+        // If the bytes spell a list of any ACEs, its part is returned.
+        ensures only { (list : List AnyAce) → AnyXdr full list bytes.now
+            → IsPartOrMemory result (access_part list) }
+        ensures fault { IfErr result (λ f. (f ≡ no_memory) ⊎ IsFaultOfPart full bytes.now f) }
+        // Bytes with a fault are refused with that fault.
+        ensures refused { (f : Fault) → IsFaultOfPart full bytes.now f → FaultsOrMemory result f }
     {
         AccessPart::parse_whole_with(alloc, bytes, Profile::FULL)
     }
 
     /// Returns what access reads of the list that all of the bytes spell, as `parse_whole` does, if the profile has the
     /// flags and masks of all ACEs, also of those that are left out.
-    #[tactic(auto, unfolding(crate::specs::PartFault::part_in))]
     pub fn parse_whole_with(
         alloc: Global,
         bytes: &'a [u8],
         profile: Profile,
     ) -> Result<AccessPart<'a>, Fault>
-        ensures exact { PartReadAs result (part_in (profile_of profile) bytes.now) }
+        ensures found { IfOk result (IsPartOf (profile_of profile) bytes.now) }
+        ensures only { (list : List AnyAce) → AnyXdr (profile_of profile) list bytes.now
+            → IsPartOrMemory result (access_part list) }
+        ensures fault { IfErr result (λ f. (f ≡ no_memory)
+            ⊎ IsFaultOfPart (profile_of profile) bytes.now f) }
+        ensures refused { (f : Fault) → IsFaultOfPart (profile_of profile) bytes.now f
+            → FaultsOrMemory result f }
     {
-        let mut cursor = Cursor {
-            len: bytes.len(),
-            rest: bytes,
-        };
-        let count = count(&mut cursor)?;
-        let part = part_of(alloc, &mut cursor, count, profile)?;
-        if !cursor.rest.is_empty() {
-            return Err(Fault {
-                offset: offset_of(&cursor),
-                reason: Reason::TrailingBytes,
-            });
-        }
-        Ok(part)
+        whole_part(alloc, bytes, profile)
     }
 
     /// Returns the ACEs that are kept, in order. No who is empty.
@@ -152,6 +153,26 @@ fn flags_kept(flags: Flags, who: &[u8]) -> Flags
     } else {
         flags
     }
+}
+
+// Returns the part of the list that all of the bytes spell.
+#[tactic(auto, unfolding(crate::specs::PartFault::part_in))]
+fn whole_part(alloc: Global, bytes: &[u8], profile: Profile) -> Result<AccessPart<'_>, Fault>
+    ensures { PartReadAs result (part_in (profile_of profile) bytes.now) }
+{
+    let mut cursor = Cursor {
+        len: bytes.len(),
+        rest: bytes,
+    };
+    let count = count(&mut cursor)?;
+    let part = part_of(alloc, &mut cursor, count, profile)?;
+    if !cursor.rest.is_empty() {
+        return Err(Fault {
+            offset: offset_of(&cursor),
+            reason: Reason::TrailingBytes,
+        });
+    }
+    Ok(part)
 }
 
 // Reads the part of this many ACEs.
