@@ -4,17 +4,16 @@ use Rattle.std.specs.Prelude.{bit_and, bit_or, count_ones, Option, None, Some, I
 use Rattle.std.specs.List.{AllByRecursion}
 use Rattle.std.specs.Int.{bit_at}
 use Rattle.std.proofs.lemmas.Bool.{eqb-true}
-use Rattle.std.proofs.lemmas.List.{append-nil}
 use Rattle.std.proofs.lemmas.Nat.{and_comm}
 use Rattle.std.proofs.lemmas.Nat.Bits.{and_pow}
 use Rattle.std.proofs.lemmas.Option.{same_Some}
 use Rattle.acl_perm.proofs.Sets.{has_bit-and, has_bit-or, same_set}
 use Rattle.acl_perm.specs.Bits.{has_bit, inherit_only}
-use Rattle.acl_perm.specs.Profile.{Profile, full}
+use Rattle.acl_perm.specs.Profile.{Profile}
 use Rattle.acl_nfs4.specs.Ace.{Ace}
 use Rattle.acl_nfs4.specs.Spelling.{Fits, IsAccepted, IsAce, weight}
 use Rattle.acl_nfs4.specs.Within.{IsWithin}
-use Rattle.acl_nfs4.proofs.Exports.{front_accepted, weight-cons}
+use Rattle.acl_nfs4.proofs.Exports.{weight-cons}
 use Rattle.acl_eval.specs.declared.inherit.ChildKind.{ChildKind}
 use Rattle.acl_eval.specs.declared.inherit.ChildKind.TheVariants.{File, Directory}
 use Rattle.acl_eval.specs.Inheritance.{child_flags, children, ends, goes_on, waiting_flags, with_flags, file_inherit, directory_inherit, no_propagate_inherit, kept_at_the_end, kept_on_the_way, inherit_only_alone}
@@ -164,18 +163,6 @@ one_more kind done a f left rest whole next has so_far =
     append_assoc done (with_flags a f ∷ []) (children kind rest)
     ∙ ap (λ (list : List Ace). done ++ list) (sym (child_has kind a rest f has))
     ∙ ap (λ (list : List Ace). done ++ children kind list) (sym next) ∙ so_far
-
--- after the last ACE, the ACEs so far are the whole child
-pub all_done : (kind : ChildKind) (done left whole : List Ace) → left ≡ [] → done ++ children kind left ≡ whole
-    → done ≡ whole
-all_done kind done left whole none so_far =
-    sym (append-nil done) ∙ ap (λ (list : List Ace). done ++ children kind list) (sym none) ∙ so_far
-
--- the ACEs so far and one more are accepted, because an accepted list begins with them
-pub one_more_accepted : (kind : ChildKind) (done : List Ace) (a : Ace) (rest whole : List Ace)
-    → (done ++ a ∷ []) ++ children kind rest ≡ whole → IsAccepted full whole → IsAccepted full (done ++ a ∷ [])
-one_more_accepted kind done a rest whole is ok =
-    front_accepted full (done ++ a ∷ []) (children kind rest) (subst (IsAccepted full) (sym is) ok)
 
 -- ---- the table, row by row
 

@@ -4,7 +4,7 @@ use Rattle.std.proofs.lemmas.Bool.{cases_eq}
 use Rattle.std.proofs.lemmas.List.{get_or-set_other, get_or-set_same}
 use Rattle.std.proofs.lemmas.Slice.Eq.{bytes_eq-Decides}
 use Rattle.std.proofs.lemmas.List.Folds.{list_any_more}
-use Rattle.std.specs.Prelude.{◌||◌, fold, map, take}
+use Rattle.std.specs.Prelude.{◌||◌, fold, map, nat_lt, take}
 use Rattle.std.specs.Borrow.{Bor}
 use Rattle.std.specs.List.{list_any}
 use Rattle.std.specs.Str.{bytes_eq}
@@ -19,7 +19,12 @@ fold_below key (b ∷ name) h = fold_below ((31 * key + b) % 256) name (omega ar
 
 -- a key is a byte
 pub key_below : (name : List ℕ) → name_key name < 256
-key_below name = fold_below 0 name (omega arith)
+unfolding name_key
+key_below name = by (nat_lt (length name) 8) refl
+  where
+    by : (short : Bool) → nat_lt (length name) 8 ≡ short → name_key name < 256
+    by true e = rw e (fold_below 0 name (omega arith))
+    by false e = rw e (omega arith)
 
 -- a key that was marked stays marked, if one more is
 kept : (marked : List Bool) (k i : ℕ) → k < length marked → get_or marked i false ≡ true

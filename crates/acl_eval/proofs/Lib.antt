@@ -20,6 +20,10 @@ pub mod ValidChecks
 pub mod Runs
 pub mod Images
 pub mod BridgeNames
+pub mod IdGroups
+pub mod IdDigits
+pub mod IdBytes
+pub mod IdNames
 pub mod EntryRuns
 pub mod Agree
 pub mod BridgeLaws

@@ -1,5 +1,5 @@
 -- What the bytes of a prepared list decide, ACE by ACE.
-use Rattle.std.proofs.Common.{◌≡◌, ℕ, cond, arith, Bool, true, false, List, [], ◌∷◌, ◌++◌, refl, sym, ap, ◌∙◌, length}
+use Rattle.std.proofs.Common.{◌≡◌, ℕ, cond, arith, Bool, true, false, List, [], ◌∷◌, ◌++◌, ◌+◌, ◌<◌, refl, sym, ap, ◌∙◌, length, length-append}
 use Rattle.std.proofs.lemmas.Bool.{eqb-true, false≢true}
 use Rattle.std.proofs.Math.Bool.{and-false}
 use Rattle.std.specs.Prelude.{◌&&◌, ◌||◌, ◌==◌, not, filter, if◌then◌else◌}
@@ -13,11 +13,9 @@ use Rattle.acl_nfs4.specs.Who.{principal_of}
 use Rattle.acl_eval.specs.Column.{takes_part}
 use Rattle.acl_eval.specs.Deciding.{decides}
 use Rattle.acl_eval.specs.Grant.{grants_bit, is_allow}
-use Rattle.acl_eval.specs.Prepared.{prepared_ace}
 use Rattle.acl_eval.specs.internal.GrantingBody.{granted_in, is_undecided, left_in}
-use Rattle.acl_eval.specs.internal.PreparedBody.{AreParts, DecidesAs, IsPart, IsReadAs}
+use Rattle.acl_eval.specs.internal.PreparedBody.{AreParts, DecidesAs, IsPart}
 use Rattle.acl_eval.specs.declared.granting.GrantedSoFar.{GrantedSoFar}
-use Rattle.acl_eval.specs.declared.prepared_ace.PreparedAce.{PreparedAce}
 use Rattle.acl_eval.proofs.Columns.{bit_at_first}
 
 -- ---- ACEs that take no part
@@ -91,36 +89,6 @@ decided_list list s t mask so_far same d = record {
 no_bytes : (bytes : List ℕ) → bytes ≡ [] → (length bytes == 0) ≡ false → ⊥
 no_bytes bytes e some = false≢true (sym some ∙ ap (λ (b : List ℕ). length b == 0) e)
 
--- bytes that are left begin with those of an ACE
-pub some_first : (rest : List Ace) (bytes : List ℕ) → (length bytes == 0) ≡ false → AreParts rest
-    → bytes ≡ flat_map prepared_ace rest
-    → ((a : Ace) (more : List ℕ) → IsAce full a → bytes ≡ prepared_ace a ++ more → ⊥) → ⊥
-some_first [] bytes some parts e none = no_bytes bytes e some
-some_first (a ∷ rest) bytes some parts e none = none a (flat_map prepared_ace rest) parts.0.valid e
-
--- what is known after the next ACE
-pub one_more : (s : Situation) (granted left : ℕ → Bool) (rest : List Ace) (bytes : List ℕ) (so_far new : GrantedSoFar)
-    (first : PreparedAce) → (length bytes == 0) ≡ false → AreParts rest → bytes ≡ flat_map prepared_ace rest
-    → ((a : Ace) (more : List ℕ) → IsAce full a → bytes ≡ prepared_ace a ++ more
-    → (true ≡ true) × (IsReadAs a first × (first.rest.now ≡ more)))
-    → ((a : Ace) → IsPart a → IsReadAs a first → (list : List Ace) (bit : ℕ)
-    → granted_in s new list bit ≡ granted_in s so_far (a ∷ list) bit)
-    → ((a : Ace) → IsPart a → IsReadAs a first → (list : List Ace) (bit : ℕ)
-    → left_in s new list bit ≡ left_in s so_far (a ∷ list) bit)
-    → ((bit : ℕ) → granted_in s so_far rest bit ≡ granted bit)
-    → ((bit : ℕ) → left_in s so_far rest bit ≡ left bit)
-    → (more : List Ace) × AreParts more × (first.rest.now ≡ flat_map prepared_ace more)
-    × ((bit : ℕ) → granted_in s new more bit ≡ granted bit) × ((bit : ℕ) → left_in s new more bit ≡ left bit)
-one_more s granted left [] bytes so_far new first some parts e read g l old others = absurd (no_bytes bytes e some)
-one_more s granted left (a ∷ rest) bytes so_far new first some parts e read g l old others =
-    let is = read a (flat_map prepared_ace rest) parts.0.valid e in (
-      rest,
-      parts.1,
-      is.1.1,
-      λ bit. g a parts.0 is.1.0 rest bit ∙ old bit,
-      λ bit. l a parts.0 is.1.0 rest bit ∙ others bit,
-    )
-
 -- nothing is granted by no ACE
 granted_alone : (g l : Bool) → g ≡ (g || (l && false))
 granted_alone true l = refl
@@ -132,15 +100,53 @@ left_alone : (l : Bool) → l ≡ (l && true)
 left_alone true = refl
 left_alone false = refl
 
--- at the end, what is known is what the whole list decides
-pub all_read : (s : Situation) (mask : ℕ) (list rest : List Ace) (bytes : List ℕ) (so_far : GrantedSoFar)
-    → (length bytes == 0) ≡ true → bytes ≡ flat_map prepared_ace rest
-    → ((bit : ℕ) → granted_in s so_far rest bit ≡ (has_bit mask bit && grants_bit list s bit))
-    → ((bit : ℕ) → left_in s so_far rest bit ≡ (has_bit mask bit && is_undecided s bit list))
-    → DecidesAs s mask list so_far
-all_read s mask list [] bytes so_far none e g l = record {
-  granted = λ bit. granted_alone (has_bit so_far.granted.bits bit) (has_bit so_far.left.bits bit) ∙ g bit;
-  left = λ bit. left_alone (has_bit so_far.left.bits bit) ∙ l bit;
-}
-all_read s mask list (a ∷ rest) bytes so_far none e g l =
-    absurd (omega (arith, eqb-true (length bytes) 0 none, ap length e))
+-- the bytes of each ACE, and which ACEs have such bytes
+module _ (spelled : Ace → List ℕ) (Part : Ace → Type 0) where
+  -- bytes that are left begin with those of an ACE
+  pub some_first : (rest : List Ace) (bytes : List ℕ) → (length bytes == 0) ≡ false → AllByRecursion Part rest
+      → bytes ≡ flat_map spelled rest → ((a : Ace) (more : List ℕ) → Part a → bytes ≡ spelled a ++ more → ⊥) → ⊥
+  some_first [] bytes some parts e none = no_bytes bytes e some
+  some_first (a ∷ rest) bytes some parts e none = none a (flat_map spelled rest) parts.0 e
+
+  -- what is known after the next ACE
+  pub one_more : (IsRead : Ace → Type 0) (s : Situation) (granted left : ℕ → Bool) (rest : List Ace)
+      (bytes after : List ℕ) (so_far new : GrantedSoFar)
+      → (length bytes == 0) ≡ false → AllByRecursion Part rest → bytes ≡ flat_map spelled rest
+      → ((a : Ace) (more : List ℕ) → Part a → bytes ≡ spelled a ++ more → (true ≡ true) × (IsRead a × (after ≡ more)))
+      → ((a : Ace) → Part a → IsRead a → (list : List Ace) (bit : ℕ)
+      → granted_in s new list bit ≡ granted_in s so_far (a ∷ list) bit)
+      → ((a : Ace) → Part a → IsRead a → (list : List Ace) (bit : ℕ)
+      → left_in s new list bit ≡ left_in s so_far (a ∷ list) bit)
+      → ((bit : ℕ) → granted_in s so_far rest bit ≡ granted bit)
+      → ((bit : ℕ) → left_in s so_far rest bit ≡ left bit)
+      → (more : List Ace) × AllByRecursion Part more × (after ≡ flat_map spelled more)
+      × ((bit : ℕ) → granted_in s new more bit ≡ granted bit) × ((bit : ℕ) → left_in s new more bit ≡ left bit)
+  one_more IsRead s granted left [] bytes after so_far new some parts e read g l old others =
+      absurd (no_bytes bytes e some)
+  one_more IsRead s granted left (a ∷ rest) bytes after so_far new some parts e read g l old others =
+      let is = read a (flat_map spelled rest) parts.0 e in (
+        rest,
+        parts.1,
+        is.1.1,
+        λ bit. g a parts.0 is.1.0 rest bit ∙ old bit,
+        λ bit. l a parts.0 is.1.0 rest bit ∙ others bit,
+      )
+
+  -- at the end, what is known is what the whole list decides, if no ACE has no bytes
+  pub all_read : (s : Situation) (mask : ℕ) (list rest : List Ace) (bytes : List ℕ) (so_far : GrantedSoFar)
+      → ((a : Ace) → 0 < length (spelled a)) → (length bytes == 0) ≡ true → bytes ≡ flat_map spelled rest
+      → ((bit : ℕ) → granted_in s so_far rest bit ≡ (has_bit mask bit && grants_bit list s bit))
+      → ((bit : ℕ) → left_in s so_far rest bit ≡ (has_bit mask bit && is_undecided s bit list))
+      → DecidesAs s mask list so_far
+  all_read s mask list [] bytes so_far sized none e g l = record {
+    granted = λ bit. granted_alone (has_bit so_far.granted.bits bit) (has_bit so_far.left.bits bit) ∙ g bit;
+    left = λ bit. left_alone (has_bit so_far.left.bits bit) ∙ l bit;
+  }
+  all_read s mask list (a ∷ rest) bytes so_far sized none e g l =
+      absurd (omega (
+        arith,
+        eqb-true (length bytes) 0 none,
+        ap length e,
+        sized a,
+        length-append (spelled a) (flat_map spelled rest),
+      ))

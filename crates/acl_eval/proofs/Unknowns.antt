@@ -1,11 +1,11 @@
 -- Unknown names: the answers that one pass finds possible are those that some assignment gives.
-use Rattle.std.proofs.Common.{◌≡◌, ℕ, ◌+◌, ◌<◌, ◌≤◌, arith, length, get_or, take, drop, Bool, true, false, List, [], ◌∷◌, ◌++◌, Option, None, Some, refl, sym, ap, subst, ◌∙◌}
+use Rattle.std.proofs.Common.{◌≡◌, ℕ, ◌+◌, ◌<◌, ◌≤◌, length, get_or, drop, Bool, true, false, List, [], ◌∷◌, ◌++◌, Option, None, Some, refl, sym, ap, subst, ◌∙◌}
 use Rattle.std.specs.Prelude.{◌&&◌, ◌||◌, ◌↔◌, IsTrue, if◌then◌else◌, map, not}
 use Rattle.std.specs.Str.{bytes_eq}
 use Rattle.std.proofs.lemmas.List.Folds.{list_any-append}
 use Rattle.std.proofs.lemmas.Bool.{and_parts, true≢false}
 use Rattle.acl_perm.proofs.Meetings.{bytes_eq_same, itself}
-use Rattle.acl_perm.specs.Bits.{has_bit, IsDifference, IsIntersection}
+use Rattle.acl_perm.specs.Bits.{has_bit, IsDifference, IsIntersection, IsUnion}
 use Rattle.acl_perm.proofs.Sets.{no_bit}
 use Rattle.acl_perm.specs.Situation.{Situation, matches}
 use Rattle.acl_perm.specs.declared.kind.Kind.{Kind}
@@ -17,9 +17,17 @@ use Rattle.acl_nfs4.specs.Ace.{ace}
 use Rattle.acl_nfs4.specs.declared.ace.AceRef.{AceRef}
 use Rattle.acl_eval.specs.Scan.{applies}
 use Rattle.acl_eval.specs.Unknown.{AlwaysAnswers, Assignment, MayAnswer, MayNotGrant, NeverGrants, answer_under, decides_under, matches_under}
-use Rattle.acl_eval.specs.internal.UnknownBody.{had, is_answer, is_possible, may_answer, noting, PassesOver}
+use Rattle.acl_eval.specs.internal.UnknownBody.{HaveNoted, had, is_answer, is_possible, may_answer, noted_rights, noting, PassesOver}
 use Rattle.acl_eval.specs.declared.unknown.Possible.{Possible}
-use Rattle.std.proofs.lemmas.List.{at_drop_more, drop_all, map-append, take_more}
+use Rattle.std.proofs.lemmas.List.{at_drop_more, drop_all}
+use Rattle.std.proofs.lemmas.Map.Text.{btree_map_updates_str}
+use Rattle.std.specs.BTreeMap.{BTreeMap, UpdatesBy, get_by}
+use Rattle.std.specs.Borrow.{Bor}
+use Rattle.std.specs.Cmp.Lexicographic.{slice_cmp}
+use Rattle.std.specs.Option.{option_map_or}
+use Rattle.std.specs.Ordering.{nat_cmp}
+use Rattle.std.specs.Map.{update}
+use Rattle.acl_perm.specs.declared.mask.Mask.{Mask}
 unfoldable use Rattle.acl_eval.specs.internal.UnknownBody.{can_answer}
 
 -- ---- answers
@@ -246,51 +254,72 @@ can_complete (a ∷ list) earlier s bit v p = by (counts bit a) (is_unknown_spec
         ∙ rest (passes_more v earlier a bit (λ is. absurd (true≢false (sym is ∙ ce))) p))
     by true true m true true ce ue me te he rest = absurd (true≢false (sym te ∙ p a.who he))
     by true true m true false ce ue me te he rest =
-        rw (answer_here v a list s bit ce (match_unknown v s a ue ∙ te)) (can_unknown earlier a list s bit (Some a.kind) ce ue
-        ∙ first_decides (had earlier bit a.who) (is_answer (Some a.kind) (Some a.kind))
+        rw (answer_here v a list s bit ce (match_unknown v s a ue ∙ te))
+        (can_unknown earlier a list s bit (Some a.kind) ce ue ∙ first_decides (had earlier bit a.who) (is_answer (Some a.kind) (Some a.kind))
         (can_answer (noting earlier a) list s bit (Some a.kind)) he (answer_itself (Some a.kind)))
     by true true m false h ce ue me te he rest =
-        rw (answer_passes v a list s bit ce (match_unknown v s a ue ∙ te)) (can_unknown earlier a list s bit (answer_under v list s bit)
-        ce ue ∙ or_second (if had earlier bit a.who then false else is_answer (Some a.kind) (answer_under v list s bit))
-        (can_answer (noting earlier a) list s bit (answer_under v list s bit)) (rest (passes_more v earlier a bit (λ is un. te) p)))
+        rw (answer_passes v a list s bit ce (match_unknown v s a ue ∙ te))
+        (can_unknown earlier a list s bit (answer_under v list s bit) ce ue ∙ or_second (if had earlier bit a.who then false else is_answer (Some a.kind) (answer_under v list s bit))
+        (can_answer (noting earlier a) list s bit (answer_under v list s bit))
+        (rest (passes_more v earlier a bit (λ is un. te) p)))
     by true false true t h ce ue me te he rest =
-        rw (answer_here v a list s bit ce (match_known v s a ue ∙ me)) (can_match earlier a list s bit (Some a.kind) ce ue me
-        ∙ answer_itself (Some a.kind))
+        rw (answer_here v a list s bit ce (match_known v s a ue ∙ me))
+        (can_match earlier a list s bit (Some a.kind) ce ue me ∙ answer_itself (Some a.kind))
     by true false false t h ce ue me te he rest =
-        rw (answer_passes v a list s bit ce (match_known v s a ue ∙ me)) (can_pass earlier a list s bit (answer_under v list s bit) ce ue me
-        ∙ rest (passes_more v earlier a bit (λ is un. absurd (true≢false (sym un ∙ ue))) p))
+        rw (answer_passes v a list s bit ce (match_known v s a ue ∙ me))
+        (can_pass earlier a list s bit (answer_under v list s bit) ce ue me ∙ rest (passes_more v earlier a bit (λ is un. absurd (true≢false (sym un ∙ ue))) p))
 
 -- ---- the pass over the rights of a mask
 
--- the names so far, and one more ACE
-pub had_next : (names : List AceRef) (i : ℕ) (item : AceRef) (bit : ℕ) (who : List ℕ) → i < length names
-    → item ≡ get_or names i item → had (map ace (take (i + 1) names)) bit who
-    ≡ (had (map ace (take i names)) bit who || ((bytes_eq item.who.now who && has_bit item.mask.bits bit) || false))
-had_next names i item bit who lt read =
-    ap (λ (xs : List AceRef). had (map ace xs) bit who) (take_more names i item lt)
-    ∙ ap (λ (xs : List Ace). had xs bit who) (map-append ace (take i names) (get_or names i item ∷ []))
-    ∙ had_more (map ace (take i names)) (ace (get_or names i item)) bit who
-    ∙ ap (λ (x : AceRef). had (map ace (take i names)) bit who
-    || ((bytes_eq x.who.now who && has_bit x.mask.bits bit) || false)) (sym read)
+-- both tests hold
+pub both_true : {x y : Bool} → x ≡ true → y ≡ true → (x && y) ≡ true
+both_true e f = rw (e, f) refl
 
--- rights without those that the names so far had, and without those of one more
-pub first_next : (names : List AceRef) (i : ℕ) (item : AceRef) (who : List ℕ) (rights old new : ℕ) → i < length names
-    → item ≡ get_or names i item
-    → ((bit : ℕ) → has_bit old bit ≡ (has_bit rights bit && not (had (map ace (take i names)) bit who)))
-    → ((bit : ℕ) → has_bit new bit
-    ≡ (has_bit old bit && not (bytes_eq item.who.now who && has_bit item.mask.bits bit)))
-    → (bit : ℕ) → has_bit new bit ≡ (has_bit rights bit && not (had (map ace (take (i + 1) names)) bit who))
-first_next names i item who rights old new lt read before step bit =
-    step bit ∙ ap (λ t. t && not (bytes_eq item.who.now who && has_bit item.mask.bits bit)) (before bit)
-    ∙ less (has_bit rights bit) (had (map ace (take i names)) bit who)
-    (bytes_eq item.who.now who && has_bit item.mask.bits bit)
-    ∙ ap (λ t. has_bit rights bit && not t) (sym (had_next names i item bit who lt read))
+-- the first test fails
+pub first_false : {x : Bool} (y : Bool) → x ≡ false → (x && y) ≡ false
+first_false y e = rw e refl
+
+-- the second test fails
+pub second_false : (x : Bool) {y : Bool} → y ≡ false → (x && y) ≡ false
+second_false true e = e
+second_false false e = refl
+
+-- no rights are noted before the first ACE
+pub noted_none : (names : BTreeMap (Bor (List ℕ)) Mask) → names.entries ≡ [] → HaveNoted names []
+noted_none names none bit who = rw none (no_bit bit)
+
+-- the rights of a name after those of one more ACE of an unknown name were added
+pub noted_more : (old new : BTreeMap (Bor (List ℕ)) Mask) (a : Ace) (rights : Mask) (earlier : List Ace)
+    → UpdatesBy (λ x y. slice_cmp nat_cmp x.now y.now) (λ k. slice_cmp nat_cmp a.who k.now) old new (Some rights)
+    → IsUnion (noted_rights old a.who) a.mask rights.bits → (is_unknown_special a.who && takes_part a) ≡ true
+    → HaveNoted old earlier → HaveNoted new (noting earlier a)
+noted_more old new a rights earlier updates union takes noted bit who =
+    ap (λ (found : Option Mask). has_bit (option_map_or (λ m. m.bits) found 0) bit)
+    (btree_map_updates_str a.who old new (Some rights) updates who)
+    ∙ by (bytes_eq a.who who) refl
   where
-    less : (r h n : Bool) → ((r && not h) && not n) ≡ (r && not (h || (n || false)))
-    less true true n = refl
-    less true false true = refl
-    less true false false = refl
-    less false h n = refl
+    by : (n : Bool) → bytes_eq a.who who ≡ n
+        → has_bit (option_map_or (λ (m : Mask). m.bits) (update bytes_eq
+        (λ ds. get_by (λ k. slice_cmp nat_cmp ds k.now) old) a.who (Some rights) who) 0) bit
+        ≡ had (noting earlier a) bit who
+    by true e = rw (takes, had_more earlier a bit who, e, union bit)
+        (rw (sym (bytes_eq_same a.who who e)) (ap (λ t. t || has_bit a.mask bit) (noted bit a.who)
+        ∙ flat (had earlier bit a.who) (has_bit a.mask bit)))
+      where
+        flat : (h m : Bool) → (h || m) ≡ (h || (m || false))
+        flat true m = refl
+        flat false true = refl
+        flat false false = refl
+    by false e = rw (takes, had_more earlier a bit who, e) (noted bit who ∙ flat (had earlier bit who))
+      where
+        flat : (h : Bool) → h ≡ (h || false)
+        flat true = refl
+        flat false = refl
+
+-- no rights are added for another ACE
+pub noted_same : (names : BTreeMap (Bor (List ℕ)) Mask) (a : Ace) (earlier : List Ace)
+    → (is_unknown_special a.who && takes_part a) ≡ false → HaveNoted names earlier → HaveNoted names (noting earlier a)
+noted_same names a earlier lacks noted bit who = rw lacks (noted bit who)
 
 -- an ACE that does not count changes nothing
 pub after_skipped : (self : Possible) (earlier : List Ace) (a : Ace) (list : List Ace) (s : Situation) (bit : ℕ)
@@ -317,7 +346,8 @@ after_lacking self common earlier a list s bit k is zero = after_skipped self ea
 pub after_inherited : (self : Possible) (earlier : List Ace) (a : Ace) (list : List Ace) (s : Situation)
     (bit : ℕ) (k : Option Kind) → takes_part a ≡ false
     → may_answer self (noting earlier a) list s bit k ≡ may_answer self earlier (a ∷ list) s bit k
-after_inherited self earlier a list s bit k lacks = after_skipped self earlier a list s bit k (λ h. by (has_bit a.mask bit) refl)
+after_inherited self earlier a list s bit k lacks =
+    after_skipped self earlier a list s bit k (λ h. by (has_bit a.mask bit) refl)
   where
     by : (t : Bool) → has_bit a.mask bit ≡ t → counts bit a ≡ false
     by true e = rw (e, lacks) refl
@@ -423,15 +453,6 @@ can_if list s bit k v e = subst (λ (x : Option Kind). can_answer [] list s bit 
 never_if : (list : List Ace) (s : Situation) (bit : ℕ) (k : Option Kind) → can_answer [] list s bit k ≡ false
     → (v : Assignment) → answer_under v list s bit ≡ k → ⊥
 never_if list s bit k lacks v e = true≢false (sym (can_if list s bit k v e) ∙ lacks)
-
--- an answer that no assignment gives is not possible
-cannot_if : (list : List Ace) (s : Situation) (bit : ℕ) (k : Option Kind)
-    → ((v : Assignment) → answer_under v list s bit ≡ k → ⊥) → can_answer [] list s bit k ≡ false
-cannot_if list s bit k never = by (can_answer [] list s bit k) refl
-  where
-    by : (t : Bool) → can_answer [] list s bit k ≡ t → can_answer [] list s bit k ≡ false
-    by true e = let (v, p, is) = can_sound list [] s bit k e in absurd (never v is)
-    by false e = e
 
 -- what is possible for the rights of a mask
 pub record Found (mask allow deny left : Bool) (list : List Ace) (s : Situation) (bit : ℕ) : Type 0 where
@@ -648,9 +669,6 @@ whole_is mask allow deny left list s bit f =
         (sym (is_none_or (answer_under (λ who. false) list s bit) (never_if list s bit (Some Allow) ae (λ who. false))
         (never_if list s bit (Some Deny) de (λ who. false)) (never_if list s bit None ne (λ who. false)))))
 
--- what one ACE changes
-pub ruleset one_more = (after_lacking, after_inherited, after_unknown, after_match, after_other)
-
 -- the rest of a list begins with the next ACE
 pub rest_is : (aces : List AceRef) (i : ℕ) (item : AceRef) → i < length aces → item ≡ get_or aces i item
     → map ace (drop i aces) ≡ ace item ∷ map ace (drop (i + 1) aces)
@@ -658,29 +676,22 @@ rest_is aces i item lt read =
     at_drop_more (map ace) aces i item lt ∙ ap (λ (x : AceRef). ace x ∷ map ace (drop (i + 1) aces)) (sym read)
 
 -- what may be answered after one more ACE
-pub possible_next : (aces : List AceRef) (i : ℕ) (item : AceRef) (old new : Possible) (seen earlier later : List Ace)
+pub possible_next : (aces : List AceRef) (i : ℕ) (item : AceRef) (old new : Possible) (earlier : List Ace)
     (s : Situation) (bit : ℕ) (k : Option Kind) (whole : Bool) → i < length aces → item ≡ get_or aces i item
-    → seen ≡ earlier
-    → ((list : List Ace) (b : ℕ) (x : Option Kind) → may_answer new (noting seen (ace item)) list s b x
-    ≡ may_answer old seen (ace item ∷ list) s b x)
-    → later ≡ noting earlier (ace item)
+    → may_answer new (noting earlier (ace item)) (map ace (drop (i + 1) aces)) s bit k
+    ≡ may_answer old earlier (ace item ∷ map ace (drop (i + 1) aces)) s bit k
     → may_answer old earlier (map ace (drop i aces)) s bit k ≡ whole
-    → may_answer new later (map ace (drop (i + 1) aces)) s bit k ≡ whole
-possible_next aces i item old new seen earlier later s bit k whole lt read same step kept before =
-    ap (λ (names : List Ace). may_answer new names (map ace (drop (i + 1) aces)) s bit k) kept
-    ∙ ap (λ (names : List Ace). may_answer new (noting names (ace item)) (map ace (drop (i + 1) aces)) s bit k) (sym same)
-    ∙ step (map ace (drop (i + 1) aces)) bit k
-    ∙ ap (λ (names : List Ace). may_answer old names (ace item ∷ map ace (drop (i + 1) aces)) s bit k) same
-    ∙ ap (λ (list : List Ace). may_answer old earlier list s bit k) (sym (rest_is aces i item lt read))
-    ∙ before
+    → may_answer new (noting earlier (ace item)) (map ace (drop (i + 1) aces)) s bit k ≡ whole
+possible_next aces i item old new earlier s bit k whole lt read step before =
+    step ∙ ap (λ (list : List Ace). may_answer old earlier list s bit k) (sym (rest_is aces i item lt read)) ∙ before
 
 -- before the first ACE
-pub possible_first : (first : Possible) (mask : ℕ) (list earlier : List Ace) (s : Situation) (bit : ℕ) (k : Option Kind)
-    → first.allow.bits ≡ 0 → first.deny.bits ≡ 0 → first.left.bits ≡ mask → earlier ≡ []
-    → may_answer first earlier list s bit k ≡ (has_bit mask bit && can_answer [] list s bit k)
-possible_first first mask list earlier s bit None a d l e = rw (l, e) refl
-possible_first first mask list earlier s bit (Some Allow) a d l e = rw (a, l, e, no_bit bit) refl
-possible_first first mask list earlier s bit (Some Deny) a d l e = rw (d, l, e, no_bit bit) refl
+pub possible_first : (first : Possible) (mask : ℕ) (list : List Ace) (s : Situation) (bit : ℕ) (k : Option Kind)
+    → first.allow.bits ≡ 0 → first.deny.bits ≡ 0 → first.left.bits ≡ mask
+    → may_answer first [] list s bit k ≡ (has_bit mask bit && can_answer [] list s bit k)
+possible_first first mask list s bit None a d l = rw l refl
+possible_first first mask list s bit (Some Allow) a d l = rw (a, l, no_bit bit) refl
+possible_first first mask list s bit (Some Deny) a d l = rw (d, l, no_bit bit) refl
 
 -- after the last ACE the earlier ones do not count
 pub possible_end : (aces : List AceRef) (i : ℕ) (possible : Possible) (earlier : List Ace) (s : Situation) (bit : ℕ)

@@ -4,6 +4,8 @@ pub mod Grant
 pub mod Scan
 pub mod Deciding
 pub mod Prepared
+pub mod Ids
+pub mod PreparedIds
 pub mod Unknown
 pub mod Laws
 pub mod Inheritance

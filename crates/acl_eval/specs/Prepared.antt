@@ -1,8 +1,8 @@
 -- The bytes of a prepared list (this library's own): a start, and then the bytes of each ACE that takes part in what
 -- the list grants, in order. Those of an ACE are a number of eight bytes, the least byte first, and the name, if it
 -- names a user or a group.
-use Rattle.std.specs.Prelude.{◌≡◌, ℕ, ◌+◌, ◌*◌, ◌%◌, ◌^◌, List, ◌++◌, codes, filter, fold, length}
-use Rattle.std.specs.Int.{to_le_bytes, w64}
+use Rattle.std.specs.Prelude.{◌≡◌, ℕ, ◌+◌, ◌-◌, ◌*◌, ◌/◌, ◌%◌, ◌^◌, if◌then◌else◌, List, ◌++◌, codes, drop, filter, fold, length, nat_lt, take}
+use Rattle.std.specs.Int.{from_le_bytes, to_le_bytes, w64}
 use Rattle.std.specs.List.{flat_map}
 use Rattle.acl_perm.specs.Kind.{kind_number}
 use Rattle.acl_perm.specs.Order.{principal_name, principal_rank}
@@ -19,9 +19,19 @@ use Rattle.acl_eval.specs.declared.preparing.Prepared.{Prepared}
 abbrev pub prepared_start : List ℕ
 prepared_start = codes "aclprep1"
 
+-- the key of a name of less than eight bytes
+abbrev pub short_key : List ℕ → ℕ
+short_key name = fold (λ key byte. (31 * key + byte) % 256) 0 name
+
+-- the key of a longer name, by its first and its last eight bytes: the highest byte of a sum of products
+abbrev pub ends_key : List ℕ → List ℕ → ℕ
+ends_key first last = (from_le_bytes w64 first * 0x9e3779b97f4a7c15 + from_le_bytes w64 last * 0xc2b2ae3d27d4eb4f)
+    % 2 ^ 64 / 2 ^ 56
+
 -- the key of a name: a byte that two different names seldom share
-abbrev pub name_key : List ℕ → ℕ
-name_key name = fold (λ key byte. (31 * key + byte) % 256) 0 name
+unfoldable pub name_key : List ℕ → ℕ
+name_key name = if nat_lt (length name) 8 then short_key name
+    else ends_key (take 8 name) (drop (length name - 8) name)
 
 -- the kind, and which of the five principals an ACE names, as one number
 abbrev pub sort_number : Principal → Kind → ℕ

@@ -1,11 +1,11 @@
 -- What a list answers where it names unknown special identifiers (RFC 8881, section 6.2.1.5): nobody knows whether such
 -- a name matches the requester, so what holds must hold for every assignment of matches to the names.
-use Rattle.std.specs.Prelude.{◌≡◌, ◌≢◌, ℕ, Bool, ◌&&◌, if◌then◌else◌, IsTrue, List, Option, None, Some, option_map}
+use Rattle.std.specs.Prelude.{◌≡◌, ◌≢◌, ℕ, Bool, ◌&&◌, if◌then◌else◌, IsTrue, List, Option, Some, option_map}
 use Rattle.std.specs.List.{find}
 use Rattle.acl_perm.specs.Bits.{has_bit}
 use Rattle.acl_perm.specs.Situation.{Situation, matches}
 use Rattle.acl_perm.specs.declared.kind.Kind.{Kind}
-use Rattle.acl_perm.specs.declared.kind.Kind.TheVariants.{Deny, Allow}
+use Rattle.acl_perm.specs.declared.kind.Kind.TheVariants.{Allow}
 use Rattle.acl_nfs4.specs.Ace.{Ace}
 use Rattle.acl_nfs4.specs.Who.{is_unknown_special, principal_of}
 use Rattle.acl_eval.specs.Column.{takes_part}

@@ -17,6 +17,8 @@ pub mod Settled
 pub mod BridgeBody
 -- a prepared list while it is read
 pub mod PreparedBody
+-- a prepared list of ids while it is made and read
+pub mod IdsBody
 -- the keys of the groups of a requester
 pub mod Keys
 -- the answers that are possible where names are unknown

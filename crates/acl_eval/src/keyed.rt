@@ -27,26 +27,31 @@ pub(crate) struct Keyed<'a> {
     requester: Requester<'a>,
     is_owner: bool,
     user_key: u8,
-    group_keys: [bool; KEYS],
+    group_keys: &'a [bool; KEYS],
     ghost owns: { is_owner ≡ matches (situation object requester) owner },
     ghost named: { user_key ≡ name_key (user_of requester) },
-    ghost members: { AreKeysOf group_keys (groups_of requester) },
+    ghost members: { AreKeysOf group_keys.now (groups_of requester) },
 }
 
 impl<'a> Keyed<'a> {
     ghost use Rattle.acl_eval.specs.internal.Asked.{keyed_situation};
 
-    /// Computes the facts for a list of at most this many ACEs.
-    pub(crate) fn new(object: Object<'a>, requester: Requester<'a>, aces: usize) -> Self
+    /// Computes the facts. `group_keys` are the keys of the requester's groups, which `keys_of` returns. They are borrowed,
+    /// because a copy of them takes longer than a short list.
+    pub(crate) fn new(
+        object: Object<'a>,
+        requester: Requester<'a>,
+        group_keys: &'a [bool; KEYS],
+    ) -> Self
+        requires { AreKeysOf group_keys.now (groups_of requester) }
         ensures { keyed_situation result ≡ situation object.entry requester.entry }
     {
-        let requester = requester.for_look_ups(aces);
         Keyed {
             object,
             requester,
             is_owner: requester.is_named(object.owner()),
             user_key: name_key(requester.user()),
-            group_keys: keys_of(requester.groups()),
+            group_keys,
         }
     }
 
@@ -88,8 +93,8 @@ impl<'a> Keyed<'a> {
     }
 }
 
-// Marks the key of each name, or all keys if there are many names.
-fn keys_of(names: &[&[u8]]) -> [bool; KEYS]
+/// Marks the key of each name, or all keys if there are many names.
+pub(crate) fn keys_of(names: &[&[u8]]) -> [bool; KEYS]
     ensures { AreKeysOf result (map (λ g. g.now) names.now) }
 {
     if names.len() > MANY {

@@ -9,7 +9,7 @@ ghost use Rattle.acl_perm.specs.declared.kind.Kind.TheVariants.{Allow, Deny};
 ghost use Rattle.acl_nfs4.specs.Ace.{Ace, ace};
 ghost use Rattle.acl_nfs4.specs.Spelling.{IsAce};
 ghost use Rattle.acl_nfs4.specs.Who.{IsWho, principal_of};
-ghost use Rattle.acl_eval.specs.Prepared.{ace_number, name_key, prepared_ace, sort_number};
+ghost use Rattle.acl_eval.specs.Prepared.{ace_number, ends_key, name_key, prepared_ace, short_key, sort_number};
 ghost use Rattle.acl_eval.specs.internal.PreparedBody.{IsReadAs};
 
 use acl_nfs4::AceRef;
@@ -22,6 +22,14 @@ const SORT: u64 = 1 << 32;
 const KEY: u64 = 1 << 40;
 
 const LENGTH: u64 = 1 << 48;
+
+// Odd numbers with bits in all places, by which the key of a name multiplies its first and its last eight bytes.
+const FIRST: u64 = 0x9e37_79b9_7f4a_7c15;
+
+const LAST: u64 = 0xc2b2_ae3d_27d4_eb4f;
+
+// What the highest byte of a number is multiplied by.
+const HIGHEST: u64 = 1 << 56;
 
 /// An ACE that was read from a prepared list, and the bytes after it.
 #[derive(Clone, Copy)]
@@ -56,9 +64,32 @@ fn number_of(rank: u8, kind: Kind, mask: Mask, name: &[u8]) -> u64
     mask.bits() as u64 + SORT * sort + KEY * name_key(name) as u64 + LENGTH * name.len() as u64
 }
 
-/// Returns the key of a name: a byte that two different names seldom share.
+/// Returns the key of a name: a byte that two different names seldom share. It is computed from both ends of the name, so
+/// that it takes the same time for long names.
+#[inline(always)]
+#[tactic(auto, unfolding(crate::specs::Prepared::name_key))]
 pub(crate) fn name_key(name: &[u8]) -> u8
     ensures { result ≡ name_key name.now }
+{
+    match (name.first_chunk::<8>(), name.last_chunk::<8>()) {
+        (Some(first), Some(last)) => ends_key(first, last),
+        _ => short_key(name),
+    }
+}
+
+// Returns the key of a name with these first and last eight bytes.
+#[inline(always)]
+fn ends_key(first: &[u8; 8], last: &[u8; 8]) -> u8
+    ensures { result ≡ ends_key first.now last.now }
+{
+    let first = u64::from_le_bytes(*first).wrapping_mul(FIRST);
+    let last = u64::from_le_bytes(*last).wrapping_mul(LAST);
+    (first.wrapping_add(last) / HIGHEST) as u8
+}
+
+// Returns the key of a name of less than eight bytes.
+fn short_key(name: &[u8]) -> u8
+    ensures { result ≡ short_key name.now }
 {
     let mut key: u8 = 0;
     for byte in name {

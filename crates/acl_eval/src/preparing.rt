@@ -11,7 +11,7 @@ ghost use Rattle.acl_eval.specs.internal.PreparedBody.{AreParts, DecidesAs, IsPa
 ghost use Rattle.acl_eval.specs.internal.Asked.{keyed_situation};
 
 use crate::granting::{DecidedRights, GrantedSoFar};
-use crate::keyed::Keyed;
+use crate::keyed::{Keyed, keys_of};
 use crate::prepared_ace::{PreparedAce, first_prepared, push_prepared};
 use crate::situation::{Object, Requester};
 use acl_nfs4::AclView;
@@ -82,7 +82,9 @@ impl<'a> Prepared<'a> {
             → IfSome result (λ rights. AreDecidedBy Deny list (situation object.now requester.now) mask.bits
             rights.denied.bits) }
     {
-        let keyed = Keyed::new(*object, *requester, self.aces.len() / SHORTEST);
+        let requester = requester.for_look_ups(self.aces.len() / SHORTEST);
+        let group_keys = keys_of(requester.groups());
+        let keyed = Keyed::new(*object, requester, &group_keys);
         let so_far = decided_to(self.aces, &keyed, mask)?;
         Some(so_far.decided(mask))
     }

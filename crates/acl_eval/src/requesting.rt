@@ -1,20 +1,20 @@
 //! Whether a request is granted where a list names special identifiers that nobody knows.
 ghost use Rattle.std.specs.Prelude.{◌≡◌, ◌≤◌, ◌&&◌, IfOk, All, length, map};
-ghost use Rattle.std.specs.List.{list_any};
-ghost use Rattle.std.specs.Str.{bytes_eq};
-ghost use Rattle.acl_perm.specs.Situation.{is_one_of};
+ghost use Rattle.acl_perm.specs.Bits.{has_bit};
 ghost use Rattle.acl_nfs4.specs.Ace.{ace};
 ghost use Rattle.acl_eval.specs.Situation.{situation};
-ghost use Rattle.acl_eval.specs.Unknown.{IsRequestAnswer};
+ghost use Rattle.acl_eval.specs.Unknown.{GrantsUnder, IsRequestAnswer};
 ghost use Rattle.acl_eval.specs.internal.Asked.{asked_situation};
-ghost use Rattle.acl_eval.specs.internal.RequestBody.{IsAgainst, IsDecided, MayBeGranted, PassSays, applies_but};
+ghost use Rattle.acl_eval.specs.internal.RequestBody.{AllowsFrom, ArePassed, HasPassed, MayBeGranted, Says, SaysAce, applies_but, is_out};
 
 use crate::situation::{Object, Requester};
 use crate::standing::Standing;
 use crate::unknown::decided_with_unknown;
 use acl_nfs4::{AccessPart, AceRef};
+use acl_perm::internal::Bit;
 use acl_perm::{Kind, Mask};
 use std::alloc::{AllocError, Global};
+use std::collections::BTreeSet;
 
 /// Whether a list grants a request, whatever its unknown names match.
 #[derive(Clone, Copy, Debug, PartialEq, Eq)]
@@ -29,8 +29,10 @@ pub enum RequestAnswer {
 
 /// Returns whether the list grants the whole request, as `grants` does, for every assignment of matches to the special
 /// identifiers that nobody knows, for none, or for some. This is more than `decided_with_unknown` says of each right:
-/// two rights may each be granted and never both, since a name matches for both or for none. It reads the list once
-/// more than there are unknown names at most. Fails if memory runs out for these names.
+/// two rights may each be granted and never both, since a name matches for both or for none. After
+/// `decided_with_unknown`, it reads the list about once for each right of the mask. So the time is proportional to the
+/// number of ACEs, times the number of rights, times the logarithm of the number of unknown names. Fails if memory runs
+/// out for these names.
 pub fn request_answer(
     alloc: Global,
     part: &AccessPart<'_>,
@@ -54,7 +56,7 @@ pub fn request_answer(
     }
 }
 
-// What one pass over a list says of a request.
+// What an ACE that decides a right says of a request, or what all ACEs that decide its rights say.
 #[derive(Clone, Copy)]
 enum Step<'a> {
     Granted,
@@ -63,7 +65,8 @@ enum Step<'a> {
 }
 
 // Returns whether some assignment grants the request. At first all names match. A name whose DENY decides a right of
-// the request matches in no assignment that grants it, so it is taken out, until no name is.
+// the request matches in no assignment that grants it, so it is taken out, until no name is. A name that is out stays
+// out, so the ACE that decides a right only moves down the list. Each right keeps the place of this ACE.
 fn may_be_granted(
     alloc: Global,
     aces: &[AceRef<'_>],
@@ -73,80 +76,101 @@ fn may_be_granted(
     requires { All (λ a. 1 ≤ length a.who.now) aces.now }
     ensures { IfOk result (MayBeGranted (map ace aces.now) (asked_situation standing.now) mask.bits) }
 {
-    let mut out = Vec::new(alloc);
+    let mut out = BTreeSet::new(alloc);
+    let mut places = [0; Bit::COUNT];
     loop {
-        match judge(aces, standing, mask, &out) {
+        match judge(aces, standing, mask, &out, &mut places) {
             Step::Granted => return Ok(true),
             Step::Denied => return Ok(false),
-            Step::Against(who) => out.push(who)?,
-        }
-    }
-}
-
-// PassSays the request where all unknown names match but those that are out.
-fn judge<'a>(aces: &[AceRef<'a>], standing: &Standing<'_>, mask: Mask, out: &[&'a [u8]]) -> Step<'a>
-    requires { All (λ a. 1 ≤ length a.who.now) aces.now }
-    ensures { PassSays (map ace aces.now) (asked_situation standing.now) mask.bits
-        (map (λ w. w.now) out.now) result }
-{
-    let mut left = mask;
-    for item in aces {
-        let decided = decided_rights(item, standing, out, left);
-        if decided.bits() != 0 {
-            match item.kind {
-                Kind::Allow => left = left.difference(decided),
-                Kind::Deny => return against(item),
+            Step::Against(who) => {
+                out.insert(who)?;
             }
         }
     }
-    if left.bits() == 0 {
-        Step::Granted
-    } else {
-        Step::Denied
+}
+
+// Judges the request where all unknown names match but those that are out. Moves the places of its rights down, up to
+// the first right that is not allowed.
+fn judge<'a>(
+    aces: &[AceRef<'a>],
+    standing: &Standing<'_>,
+    mask: Mask,
+    out: &BTreeSet<&'a [u8]>,
+    places: &mut [usize; Bit::COUNT],
+) -> Step<'a>
+    requires named { All (λ a. 1 ≤ length a.who.now) aces.now }
+    requires passed { ArePassed aces.now (asked_situation standing.now) mask.bits (is_out out.now) places.old }
+    ensures passed { ArePassed aces.now (asked_situation standing.now) mask.bits (is_out out.now) places.new }
+    ensures says { Says aces.now (is_out out.now)
+        (λ v. GrantsUnder v (map ace aces.now) (asked_situation standing.now) mask.bits) result }
+{
+    for bit in 0..Bit::COUNT {
+        let right = Bit { bit };
+        if right.is_in(mask) {
+            let mut place = places[bit];
+            let step = descend(aces, standing, right, out, &mut place);
+            places[bit] = place;
+            match step {
+                Step::Granted => {}
+                _ => return step,
+            }
+        }
+    }
+    Step::Granted
+}
+
+// Moves the place down to the ACE that decides the right where all unknown names match but those that are out. Returns
+// what this ACE says.
+fn descend<'a>(
+    aces: &[AceRef<'a>],
+    standing: &Standing<'_>,
+    right: Bit,
+    out: &BTreeSet<&'a [u8]>,
+    place: &mut usize,
+) -> Step<'a>
+    requires { All (λ a. 1 ≤ length a.who.now) aces.now }
+    ensures passed { HasPassed aces.now (asked_situation standing.now) right.bit (is_out out.now) place.old place.new }
+    ensures says { Says aces.now (is_out out.now)
+        (AllowsFrom aces.now (asked_situation standing.now) right.bit place.new) result }
+{
+    while let Some(item) = aces.get(*place) {
+        if decides(item, standing, right, out) {
+            return step_of(item);
+        }
+        *place += 1;
+    }
+    Step::Denied
+}
+
+// Returns what an ACE says that decides a right. If it is a DENY, only an unknown name may fail to match.
+fn step_of<'a>(item: &AceRef<'a>) -> Step<'a>
+    requires { 1 ≤ length item.now.who.now }
+    ensures { SaysAce (ace item.now) result }
+{
+    match item.kind {
+        Kind::Allow => Step::Granted,
+        Kind::Deny if item.is_unknown() => Step::Against(item.who),
+        Kind::Deny => Step::Denied,
     }
 }
 
-// Returns what a DENY of this ACE says: only an unknown name may fail to match.
-fn against<'a>(item: &AceRef<'a>) -> Step<'a>
+// Returns whether the ACE decides the right where all unknown names match but those that are out.
+fn decides(item: &AceRef<'_>, standing: &Standing<'_>, right: Bit, out: &BTreeSet<&[u8]>) -> bool
     requires { 1 ≤ length item.now.who.now }
-    ensures { IsAgainst (ace item.now) result }
+    ensures { result ≡ (has_bit item.now.mask.bits right.bit
+        && applies_but (is_out out.now) (asked_situation standing.now) (ace item.now)) }
 {
-    if item.is_unknown() {
-        Step::Against(item.who)
-    } else {
-        Step::Denied
-    }
-}
-
-// Returns those of the rights that the ACE decides where all unknown names match but those that are out.
-fn decided_rights(item: &AceRef<'_>, standing: &Standing<'_>, out: &[&[u8]], left: Mask) -> Mask
-    requires { 1 ≤ length item.now.who.now }
-    ensures { IsDecided (ace item.now) (asked_situation standing.now)
-        (map (λ w. w.now) out.now) left.bits result.bits }
-{
-    let common = left.intersection(item.mask);
-    if common.bits() == 0 || applies_but(item, standing, out) {
-        common
-    } else {
-        Mask::NONE
-    }
+    right.is_in(item.mask) && applies_but(item, standing, out)
 }
 
 // Returns whether the ACE applies where all unknown names match but those that are out.
-#[tactic(auto, using(crate::proofs::Members::any_now))]
-fn applies_but(item: &AceRef<'_>, standing: &Standing<'_>, out: &[&[u8]]) -> bool
+fn applies_but(item: &AceRef<'_>, standing: &Standing<'_>, out: &BTreeSet<&[u8]>) -> bool
     requires { 1 ≤ length item.now.who.now }
-    ensures { result ≡ applies_but (map (λ w. w.now) out.now) (asked_situation standing.now) (ace item.now) }
+    ensures { result ≡ applies_but (is_out out.now) (asked_situation standing.now) (ace item.now) }
 {
     if item.is_unknown() {
-        item.takes_part() && !is_among(item.who, out)
+        item.takes_part() && !out.contains(item.who)
     } else {
         standing.applies(item)
     }
-}
-
-fn is_among(who: &[u8], names: &[&[u8]]) -> bool
-    ensures { result ≡ list_any (λ w. bytes_eq who.now w.now) names.now }
-{
-    names.iter().any(|name| who == *name)
 }

@@ -7,6 +7,7 @@ mod deciding;
 mod examples;
 mod granting;
 mod harness;
+mod ids;
 mod lists;
 mod mode_changes;
 mod modes;

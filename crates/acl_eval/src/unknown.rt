@@ -1,6 +1,5 @@
 //! What a list answers where it names special identifiers that nobody knows.
 ghost use Rattle.std.specs.Prelude.{◌≡◌, ◌≤◌, ◌↔◌, ◌∷◌, [], ◌&&◌, ◌||◌, ℕ, IfOk, OnOk, IsTrue, All, List, None, Option, Some, length, map, not};
-ghost use Rattle.std.specs.Str.{bytes_eq};
 ghost use Rattle.acl_perm.specs.Bits.{IsDifference, has_bit};
 ghost use Rattle.acl_perm.specs.declared.kind.Kind.{Kind as KindValue};
 ghost use Rattle.acl_perm.specs.declared.kind.Kind.TheVariants.{Allow, Deny};
@@ -8,13 +7,14 @@ ghost use Rattle.acl_nfs4.specs.Ace.{Ace, ace};
 ghost use Rattle.acl_eval.specs.Situation.{situation};
 ghost use Rattle.acl_eval.specs.Unknown.{AlwaysAnswers, MayAnswer, MayNotGrant, NeverGrants};
 ghost use Rattle.acl_eval.specs.internal.Asked.{asked_situation};
-ghost use Rattle.acl_eval.specs.internal.UnknownBody.{can_answer, had, is_answer, is_possible, may_answer, noting};
+ghost use Rattle.acl_eval.specs.internal.UnknownBody.{HaveNoted, can_answer, is_answer, is_possible, may_answer, noted_rights, noting};
 
 use crate::situation::{Object, Requester};
 use crate::standing::Standing;
 use acl_nfs4::{AccessPart, AceRef};
 use acl_perm::{Kind, Mask};
 use std::alloc::{AllocError, Global};
+use std::collections::BTreeMap;
 
 /// The rights of a mask, sorted by what a list answers for them, whatever its unknown names match. Each right of the
 /// mask is in one of the four sets.
@@ -33,8 +33,9 @@ pub struct DecidedWithUnknown {
 /// Decides the rights of `mask` as `granted` does, for a list with special identifiers that nobody knows, such as
 /// `INTERACTIVE@`: the answer for each right holds for every assignment of matches to these names, and `unknown` has
 /// the rights that some assignment grants and another does not. That two rights are unknown does not say that they may
-/// be granted together, which `request_answer` says. It reads the list once. The time is linear in the ACEs, and for
-/// each ACE of an unknown name also in the number of earlier ones. Fails if memory runs out for these.
+/// be granted together, which `request_answer` says. It reads the list once, and keeps the rights of each unknown name
+/// by the name. So the time is proportional to the number of ACEs, times the logarithm of the number of unknown names.
+/// Fails if memory runs out for these names.
 pub fn decided_with_unknown(
     alloc: Global,
     part: &AccessPart<'_>,
@@ -85,7 +86,7 @@ fn possible_answers(
         && can_answer [] (map ace aces.now) (asked_situation standing.now) bit answer)) }
 {
     let mut possible = Possible::new(mask);
-    let mut names = Vec::new(alloc);
+    let mut names = BTreeMap::new(alloc);
     for item in aces {
         possible = possible.after(&names, item, standing);
         note(&mut names, item)?;
@@ -93,16 +94,24 @@ fn possible_answers(
     Ok(possible)
 }
 
-// Keeps the ACE, if it has an unknown name and takes part.
-fn note<'a>(names: &mut Vec<AceRef<'a>>, item: &AceRef<'a>) -> Result<(), AllocError>
+// Adds the rights of the ACE to those of its name, if the name is unknown and the ACE takes part.
+fn note<'a>(names: &mut BTreeMap<&'a [u8], Mask>, item: &AceRef<'a>) -> Result<(), AllocError>
     requires { 1 ≤ length item.now.who.now }
-    ensures { OnOk result (map ace names.new.items
-        ≡ noting (map ace names.old.items) (ace item.now)) }
+    ensures { OnOk result ((earlier : List Ace) → HaveNoted names.old earlier
+        → HaveNoted names.new (noting earlier (ace item.now))) }
 {
     if item.is_unknown() && item.takes_part() {
-        names.push(*item)?;
+        let rights = rights_of(names, item.who).union(item.mask);
+        names.insert(item.who, rights)?;
     }
     Ok(())
+}
+
+// Returns the rights that earlier ACEs of the name have.
+fn rights_of(names: &BTreeMap<&[u8], Mask>, who: &[u8]) -> Mask
+    ensures { result.bits ≡ noted_rights names.now who.now }
+{
+    names.get(who).copied().unwrap_or(Mask::NONE)
 }
 
 /// The answers that are possible for the rights of a mask: rights that an ALLOW of those so far may decide, rights that
@@ -127,15 +136,17 @@ impl Possible {
         }
     }
 
-    // The answers that are possible after one more ACE, given the earlier ACEs of unknown names.
-    #[tactic(auto, using(crate::proofs::Unknowns::one_more))]
-    fn after(self, names: &[AceRef<'_>], item: &AceRef<'_>, standing: &Standing<'_>) -> Possible
+    // The answers that are possible after one more ACE, given the rights of unknown names in the earlier ACEs.
+    fn after(
+        self,
+        names: &BTreeMap<&[u8], Mask>,
+        item: &AceRef<'_>,
+        standing: &Standing<'_>,
+    ) -> Possible
         requires { 1 ≤ length item.now.who.now }
-        ensures { (list : List Ace) (bit : ℕ) (answer : Option KindValue)
-            → may_answer result (noting (map ace names.now) (ace item.now)) list
-            (asked_situation standing.now) bit answer
-            ≡ may_answer self (map ace names.now) (ace item.now ∷ list)
-            (asked_situation standing.now) bit answer }
+        ensures { (earlier list : List Ace) (bit : ℕ) (answer : Option KindValue) → HaveNoted names.now earlier
+            → may_answer result (noting earlier (ace item.now)) list (asked_situation standing.now) bit answer
+            ≡ may_answer self earlier (ace item.now ∷ list) (asked_situation standing.now) bit answer }
     {
         let common = self.left.intersection(item.mask);
         if common.bits() == 0 || !item.takes_part() {
@@ -204,25 +215,8 @@ impl Possible {
 }
 
 // Returns those of the rights that no earlier ACE of the name has.
-fn first_rights(names: &[AceRef<'_>], who: &[u8], rights: Mask) -> Mask
-    ensures { (bit : ℕ) → has_bit result.bits bit
-        ≡ (has_bit rights.bits bit && not (had (map ace names.now) bit who.now)) }
+fn first_rights(names: &BTreeMap<&[u8], Mask>, who: &[u8], rights: Mask) -> Mask
+    ensures { IsDifference rights.bits (noted_rights names.now who.now) result.bits }
 {
-    let mut first = rights;
-    for earlier in names {
-        first = without_those_of(first, earlier, who);
-    }
-    first
-}
-
-// Returns the rights without those of an ACE, if the ACE has this who.
-fn without_those_of(rights: Mask, earlier: &AceRef<'_>, who: &[u8]) -> Mask
-    ensures { (bit : ℕ) → has_bit result.bits bit ≡ (has_bit rights.bits bit
-        && not (bytes_eq earlier.now.who.now who.now && has_bit earlier.now.mask.bits bit)) }
-{
-    if earlier.who == who {
-        rights.difference(earlier.mask)
-    } else {
-        rights
-    }
+    rights.difference(rights_of(names, who))
 }

@@ -2,7 +2,13 @@
 use Rattle.std.specs.Prelude.{◌≡◌, ℕ, Bool, true, false, ◌&&◌, ◌||◌, if◌then◌else◌, List, [], ◌∷◌, ◌++◌, Option, None, Some}
 use Rattle.std.specs.List.{list_any}
 use Rattle.std.specs.Str.{bytes_eq}
+use Rattle.std.specs.BTreeMap.{BTreeMap, get_by}
+use Rattle.std.specs.Borrow.{Bor}
+use Rattle.std.specs.Cmp.Lexicographic.{slice_cmp}
+use Rattle.std.specs.Option.{option_map_or}
+use Rattle.std.specs.Ordering.{nat_cmp}
 use Rattle.acl_perm.specs.Bits.{has_bit}
+use Rattle.acl_perm.specs.declared.mask.Mask.{Mask}
 use Rattle.acl_perm.specs.Situation.{Situation, matches}
 use Rattle.acl_perm.specs.declared.kind.Kind.{Kind}
 use Rattle.acl_perm.specs.declared.kind.Kind.TheVariants.{Deny, Allow}
@@ -29,6 +35,14 @@ had earlier bit who = list_any (λ a. bytes_eq a.who who && has_bit a.mask bit) 
 -- the ACEs of unknown names that take part, so far
 abbrev pub noting : List Ace → Ace → List Ace
 noting earlier a = if is_unknown_special a.who && takes_part a then earlier ++ a ∷ [] else earlier
+
+-- the rights that a map of names has for a name
+abbrev pub noted_rights : BTreeMap (Bor (List ℕ)) Mask → List ℕ → ℕ
+noted_rights names who = option_map_or (λ mask. mask.bits) (get_by (λ k. slice_cmp nat_cmp who k.now) names) 0
+
+-- the map has for each name the rights that the earlier ACEs of the name have
+abbrev pub HaveNoted : BTreeMap (Bor (List ℕ)) Mask → List Ace → Type 0
+HaveNoted names earlier = (bit : ℕ) (who : List ℕ) → has_bit (noted_rights names who) bit ≡ had earlier bit who
 
 -- whether the answer is possible for the bit: the first ACE of an unknown name that has the bit may decide or not, a
 -- later one cannot, and any other ACE that matches decides

@@ -1,13 +1,15 @@
 //! The tables of this crate in ample memory, where a check may not answer that memory ran out, as it may in the file of
 //! its subject. The module `ample` of such a file has the other tests that need ample memory.
 
-use super::{bridging, creation, granting, mode_changes, modes, naming};
+use super::{bridging, creation, granting, ids, mode_changes, modes, naming};
 use acl_nfs4::PushFault;
 
 #[test]
 fn every_row_holds_with_enough_memory(rt: HostRuntime) -> Result<(), PushFault> {
     let alloc = rt.alloc();
     granting::check_prepared(&rt, alloc);
+    ids::check_ids(&rt, alloc)?;
+    ids::check_unknown(&rt, alloc)?;
     bridging::check_lists(&rt, alloc)?;
     creation::check_creations(&rt, alloc)?;
     mode_changes::check_mode_changes(&rt, alloc)?;

@@ -3,7 +3,7 @@
 use crate::*;
 use acl_nfs4::parse_text;
 use acl_perm::{Mask, Mode, Right};
-use acl_posix::{Names, parse};
+use acl_posix::{Id, Names, parse};
 use std::test::Fail;
 
 // The examples of `grants`, `granted`, `decided` and `deciding_ace`.
@@ -38,6 +38,32 @@ fn a_prepared_list_decides_as_the_list(rt: HostRuntime) -> Result<(), Fail> {
         .ok_or("not prepared")?;
     assert!(rt; rights.allowed == Mask::READ_DATA && rights.denied == Mask::WRITE_DATA);
     Ok(())
+}
+
+#[test]
+fn a_list_of_ids_decides_by_ids(rt: HostRuntime) -> Result<(), Fail> {
+    let alloc = rt.alloc();
+    let list = parse_text(
+        alloc,
+        b"DENY GROUP WRITE_DATA staff\nALLOW - READ_DATA|WRITE_DATA 1000",
+    )?;
+    let mut names = Names::new(alloc);
+    names.add_group(b"staff", Id { value: 50 })?;
+    let bytes = prepare_ids(alloc, &list.view(), &names)?;
+    let prepared = PreparedIds::read(&bytes).ok_or("not prepared")?;
+    let object = IdObject { owner: 0, group: 0 };
+    let bob = IdRequester::new(1000, &[50]).ok_or("the groups do not rise")?;
+    let rights = prepared
+        .decided(object, &bob, Mask::ALL)
+        .ok_or("not prepared")?;
+    assert!(rt; rights.allowed == Mask::READ_DATA && rights.denied == Mask::WRITE_DATA);
+    Ok(())
+}
+
+#[test]
+fn the_groups_of_a_requester_rise(rt: HostRuntime) {
+    assert!(rt; IdRequester::new(1000, &[27, 100]).is_some());
+    assert!(rt; IdRequester::new(1000, &[27, 27]).is_none());
 }
 
 #[test]

@@ -2,14 +2,15 @@ use Rattle.std.specs.Prelude.{map}
 use Rattle.acl_nfs4.specs.Ace.{ace}
 use Rattle.acl_eval.specs.Situation.{situation}
 use Rattle.acl_eval.specs.Unknown.{Assignment, GrantsUnder}
-use Rattle.acl_eval.specs.internal.RequestBody.{LeavesOut, open_names}
+use Rattle.acl_eval.specs.internal.RequestBody.{ArePassed, LeavesOut, is_out, open_names}
 use Rattle.acl_eval.proofs.requesting.may_be_granted.Given as goal
 
--- each assignment that grants the request leaves out the names that are out
+-- each assignment that grants the request leaves out the names that are out, and decides no right before its place
 abbrev pub invariant-loop-out : goal.invariant-loop-out
-invariant-loop-out l = (v : Assignment)
-    → GrantsUnder v (map ace l.aces) (situation l.standing.object l.standing.requester) l.mask.bits
-    → LeavesOut v (map (λ w. w.now) l.out.items)
+invariant-loop-out l =
+    ((v : Assignment) → GrantsUnder v (map ace l.aces) (situation l.standing.object l.standing.requester) l.mask.bits
+    → LeavesOut v (is_out l.out))
+    × ArePassed l.aces (situation l.standing.object l.standing.requester) l.mask.bits (is_out l.out) l.places
 
 abbrev pub decreases-loop-out : goal.decreases-loop-out
-decreases-loop-out l = open_names (map (λ w. w.now) l.out.items) (map ace l.aces)
+decreases-loop-out l = open_names (is_out l.out) (map ace l.aces)

@@ -12,7 +12,8 @@ returns-then-branch c =
     let decided = c.in_ok-decided.decided in record {
       exact = (
         may_of_part (map ace c.aces-aces.result.now) c.args.part.now.kept _ s c.args.mask.bits
-            c.in_ok-may_be_granted.field-0 c.aces-aces.ensures.same c.new-standing.ensures c.if-branch.true c.in_ok-may_be_granted.ensures,
+            c.in_ok-may_be_granted.field-0 c.aces-aces.ensures.same c.new-standing.ensures c.if-branch.true
+            c.in_ok-may_be_granted.ensures,
         not_always c.args.part.now.kept s c.args.mask.bits c.difference.result.bits decided.allowed.bits
             decided.denied.bits decided.undecided.bits decided.unknown.bits c.difference.ensures.meaning
             (subst IsMask c.bits.ensures.value c.bits.ensures.within)

@@ -1,10 +1,5 @@
-use Rattle.std.proofs.Common.{◌≡◌, ℕ, Option, subst, ap, ◌∙◌, sym}
-use Rattle.std.specs.Prelude.{◌&&◌, map}
-use Rattle.acl_perm.specs.Bits.{has_bit}
-use Rattle.acl_perm.specs.declared.kind.Kind.{Kind}
-use Rattle.acl_nfs4.specs.Ace.{Ace, ace}
-use Rattle.acl_perm.specs.Situation.{Situation}
-use Rattle.acl_eval.specs.Situation.{situation}
+use Rattle.std.specs.Prelude.{map}
+use Rattle.acl_nfs4.specs.Ace.{ace}
 use Rattle.acl_eval.proofs.Unknowns.{allowed_is, denied_is, found_in_part, undecided_is, unknown_is, whole_is}
 use Rattle.acl_eval.proofs.unknown.decided_with_unknown.Goals as goal
 

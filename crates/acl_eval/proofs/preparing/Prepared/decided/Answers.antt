@@ -1,4 +1,4 @@
-use Rattle.std.proofs.Common.{◌∙◌, ap}
+use Rattle.std.proofs.Common.{◌∙◌, ap, refl}
 use Rattle.std.specs.Prelude.{filter}
 use Rattle.std.proofs.lemmas.Bool.{false≢true}
 use Rattle.acl_perm.specs.Bits.{has_bit}
@@ -16,7 +16,8 @@ returns-in_err-so_far-clause-answer c = λ list from.
 pub returns-clause-allowed : goal.returns-clause-allowed
 returns-clause-allowed c = λ list from.
     let s = situation c.args.object.now c.args.requester.now in
-    let d = decided_list list _ s c.args.mask.bits c.in_ok-so_far.so_far c.new-keyed.ensures
+    let d = decided_list list _ s c.args.mask.bits c.in_ok-so_far.so_far
+    (c.new-keyed.ensures ∙ rw (c.for_look_ups-requester.ensures.user, c.for_look_ups-requester.ensures.groups) refl)
     (c.in_ok-so_far.ensures (filter takes_part list) (all_parts list from.accepted.each) from.aces).1 in
     allows_decide list s c.args.mask.bits c.decided.result.allowed.bits
     (λ bit. ap (λ (m : Mask). has_bit m.bits bit) c.decided.ensures.allowed ∙ d.granted bit)
@@ -24,7 +25,8 @@ returns-clause-allowed c = λ list from.
 pub returns-clause-denied : goal.returns-clause-denied
 returns-clause-denied c = λ list from.
     let s = situation c.args.object.now c.args.requester.now in
-    let d = decided_list list _ s c.args.mask.bits c.in_ok-so_far.so_far c.new-keyed.ensures
+    let d = decided_list list _ s c.args.mask.bits c.in_ok-so_far.so_far
+    (c.new-keyed.ensures ∙ rw (c.for_look_ups-requester.ensures.user, c.for_look_ups-requester.ensures.groups) refl)
     (c.in_ok-so_far.ensures (filter takes_part list) (all_parts list from.accepted.each) from.aces).1 in
     denies_decide list s c.args.mask.bits c.in_ok-so_far.so_far.granted.bits c.in_ok-so_far.so_far.left.bits
     c.decided.result.denied.bits d.granted d.left c.decided.ensures.denied

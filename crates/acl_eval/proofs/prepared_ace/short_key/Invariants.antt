@@ -1,5 +1,5 @@
 use Rattle.std.specs.Prelude.{◌≡◌, ◌+◌, ◌*◌, ◌%◌, fold, take}
-use Rattle.acl_eval.proofs.prepared_ace.name_key.Given as goal
+use Rattle.acl_eval.proofs.prepared_ace.short_key.Given as goal
 
 -- the key of the bytes so far
 abbrev pub invariant-loop-byte : goal.invariant-loop-byte

@@ -1,0 +1,105 @@
+//! An ACE in the bytes of a prepared list of ids: a number of eight bytes.
+ghost use Rattle.std.specs.Prelude.{◌≡◌, ◌++◌, ◌<◌, ◌+◌, ◌*◌, ◌^◌, ◌%◌, ◌==◌, if◌then◌else◌, IfSome, IsSome, List, ℕ, OnOk, length, option_map};
+ghost use Rattle.acl_perm.specs.Kind.{kind_number};
+ghost use Rattle.acl_nfs4.specs.Ace.{Ace, ace};
+ghost use Rattle.acl_nfs4.specs.Who.{principal_of};
+ghost use Rattle.acl_perm.specs.declared.kind.Kind.TheVariants.{Allow, Deny};
+ghost use Rattle.acl_eval.specs.Ids.{HasId, with_id};
+ghost use Rattle.acl_eval.specs.PreparedIds.{id_ace, id_ace_number};
+ghost use Rattle.acl_eval.specs.internal.IdsBody.{IsIdPart, IsIdReadAs, id_or_zero};
+
+use crate::id_names::principal_id;
+use acl_nfs4::AceRef;
+use acl_perm::{Kind, Mask};
+use acl_posix::{Id, Names};
+use std::alloc::AllocError;
+
+// What the sort and the id are multiplied by in the number of an ACE.
+const SORT: u64 = 1 << 28;
+
+const ID: u64 = 1 << 32;
+
+/// An ACE that was read from a prepared list of ids, and the bytes after it. The rank says whom the ACE names, and the
+/// id is that of a user or of a group.
+#[derive(Clone, Copy)]
+pub(crate) struct IdAce<'a> {
+    pub mask: Mask,
+    pub kind: Kind,
+    pub rank: u32,
+    pub id: u32,
+    pub rest: &'a [u8],
+}
+
+/// Adds the bytes of an ACE at the end, with the id of its name. If memory runs out, it may have added some of them.
+pub(crate) fn push_id_ace(
+    bytes: &mut Vec<u8>,
+    names: &Names,
+    item: &AceRef<'_>,
+) -> Result<(), AllocError>
+    requires { HasId names.now (principal_of (ace item.now)) }
+    ensures { OnOk result (bytes.new.items ≡ bytes.old.items ++ id_ace (with_id names.now (ace item.now))) }
+{
+    let number = number_of_ace(names, item);
+    bytes.extend_from_slice(&number.to_le_bytes())
+}
+
+// Returns the number of an ACE, with the id of its name.
+fn number_of_ace(names: &Names, item: &AceRef<'_>) -> u64
+    requires { HasId names.now (principal_of (ace item.now)) }
+    ensures { result ≡ id_ace_number (principal_of (with_id names.now (ace item.now))) item.now.kind
+        item.now.mask.bits }
+{
+    let whom = item.principal();
+    let id = id_or_zero(principal_id(names, whom));
+    number_of(item.mask, item.kind, whom.rank(), id)
+}
+
+fn id_or_zero(id: Option<Id>) -> u32
+    ensures { result ≡ id_or_zero (option_map (λ i. i.value) id) }
+{
+    match id {
+        Some(id) => id.value,
+        None => 0,
+    }
+}
+
+// Returns the number of an ACE of a principal with this rank and this id.
+fn number_of(mask: Mask, kind: Kind, rank: u8, id: u32) -> u64
+    requires { rank < 5 }
+    ensures { result ≡ mask.bits + 2 ^ 28 * (kind_number kind + 2 * rank) + 2 ^ 32 * id }
+{
+    let sort = kind.number() as u64 + 2 * rank as u64;
+    mask.bits() as u64 + SORT * sort + ID * id as u64
+}
+
+/// Returns the ACE that the bytes begin with, or `None` if they begin with none.
+#[inline(always)]
+pub(crate) fn first_id_ace(bytes: &[u8]) -> Option<IdAce<'_>>
+    ensures shorter { IfSome result (λ first. length first.rest.now < length bytes.now) }
+    ensures first { (a : Ace) (more : List ℕ) → IsIdPart a → bytes.now ≡ id_ace a ++ more
+        → IsSome result × IfSome result (λ first. IsIdReadAs a first × (first.rest.now ≡ more)) }
+{
+    let (number, rest) = bytes.split_first_chunk::<8>()?;
+    let number = u64::from_le_bytes(*number);
+    let mask = Mask::new((number % SORT) as u32)?;
+    let sort = number / SORT % 16;
+    Some(IdAce {
+        mask,
+        kind: kind_of(sort),
+        rank: (sort / 2) as u32,
+        id: (number / ID) as u32,
+        rest,
+    })
+}
+
+// Returns the kind of an ACE of this sort.
+#[inline(always)]
+fn kind_of(sort: u64) -> Kind
+    ensures { result ≡ (if sort % 2 == 0 then Allow else Deny) }
+{
+    if sort % 2 == 0 {
+        Kind::Allow
+    } else {
+        Kind::Deny
+    }
+}
