@@ -39,6 +39,7 @@
 #if __has_attribute(access)
 #define ACLCK_READS(n) __attribute__((access(read_only, n)))
 #define ACLCK_WRITES(n) __attribute__((access(write_only, n)))
+#define ACLCK_CHANGES(n) __attribute__((access(read_write, n)))
 #endif
 #endif
 #ifndef ACLCK_MUST_USE
@@ -50,6 +51,7 @@
 #ifndef ACLCK_READS
 #define ACLCK_READS(n)
 #define ACLCK_WRITES(n)
+#define ACLCK_CHANGES(n)
 #endif
 #define ACLCK_CALL ACLCK_MUST_USE ACLCK_NO_NULL
 
@@ -71,13 +73,17 @@ enum aclck_status {
 
 /* Options. Their numbers are outside ACLCK_ALL_RIGHTS. */
 enum aclck_option {
-    ACLCK_FULL = 0,                /* every right and every flag of RFC 8881 */
-    ACLCK_NARROW = 0x01000000,     /* only the rights and flags of the narrow profile (docs/formats.md) */
-    ACLCK_FILE = 0,                /* the new object is a file */
-    ACLCK_DIRECTORY = 0x02000000,  /* the new object is a directory */
-    ACLCK_CANONICAL = 0,           /* the canonical text: one line per entry, with ids */
-    ACLCK_FORM_SHOWN = 0x04000000, /* the text with comments on entries that the mask limits */
-    ACLCK_FORM_SHORT = 0x08000000  /* the short text: entries between commas */
+    ACLCK_FULL = 0,                     /* every right and every flag of RFC 8881 */
+    ACLCK_NARROW = 0x01000000,          /* only the rights and flags of the narrow profile (docs/formats.md) */
+    ACLCK_FILE = 0,                     /* the new object is a file */
+    ACLCK_DIRECTORY = 0x02000000,       /* the new object is a directory */
+    ACLCK_CANONICAL = 0,                /* the canonical text: one line per entry, with ids */
+    ACLCK_FORM_SHOWN = 0x04000000,      /* the text with comments on entries that the mask limits */
+    ACLCK_FORM_SHORT = 0x08000000,      /* the short text: entries between commas */
+    ACLCK_GROUPS_IN_ORDER = 0x10000000, /* the groups of each requester rise, none twice: a call may use that */
+    ACLCK_MARK_INHERITED = 0x20000000,  /* each ACE of the new object gets the flag INHERITED */
+    ACLCK_ADD_MASK = 0x40000000,        /* a list with USER or GROUP entries and no MASK gets the MASK of setfacl */
+    ACLCK_MAY_MERGE = 0x00800000        /* two names of a list may become one */
 };
 
 /* Why something is refused. The numbers never change; later versions may add some. */
@@ -108,13 +114,17 @@ enum aclck_reason {
     ACLCK_MULTI = 25,
     ACLCK_DUPLICATE = 26,
     ACLCK_MISS = 27,
-    ACLCK_LIMITS = 28
+    ACLCK_LIMITS = 28,
+    ACLCK_SIZE = 29,
+    ACLCK_VERSION_2 = 30,
+    ACLCK_ORDER = 31,
+    ACLCK_MERGED = 32
 };
 
 /* Parts of a POSIX ACL, in aclck_fault. */
 enum aclck_part { ACLCK_PART_ACCESS = 0, ACLCK_PART_DEFAULT = 1 };
 
-/* Tags of POSIX entries, in aclck_fault. */
+/* Tags of POSIX entries. */
 enum aclck_tag {
     ACLCK_TAG_USER_OBJ = 1,
     ACLCK_TAG_USER = 2,
@@ -128,7 +138,7 @@ enum aclck_tag {
 enum aclck_kind {
     ACLCK_ALLOW = 0,
     ACLCK_DENY = 1,
-    ACLCK_UNDECIDED = 2 /* no ACE: only in aclck_decision */
+    ACLCK_UNDECIDED = 2 /* no ACE: only in aclck_decision, and at the end of a list in aclck_ace */
 };
 
 /* Rights of a mask (RFC 8881, section 6.2.1.3.1). */
@@ -165,6 +175,13 @@ enum aclck_flag {
     ACLCK_FAILED_ACCESS = 0x20,
     ACLCK_IDENTIFIER_GROUP = 0x40,
     ACLCK_INHERITED = 0x80
+};
+
+/* What is certain of a request, where a list has names that nobody knows. */
+enum aclck_request_answer {
+    ACLCK_NEVER = 0,   /* it is not granted in any case */
+    ACLCK_DEPENDS = 1, /* it depends on these names */
+    ACLCK_ALWAYS = 2   /* it is granted in any case */
 };
 
 /* Permissions of a POSIX entry (acl(5)). */
@@ -213,15 +230,57 @@ typedef struct aclck_masks {
     size_t len;
 } aclck_masks;
 
-/* A name that a POSIX text may use for an id: of a group where `is_group` is 1, of a user where it is 0. */
+/* An ACE: its kind (enum aclck_kind), the sums of its flags (enum aclck_flag) and of its rights (enum aclck_right), and
+   its who: a name, or OWNER@, GROUP@ or EVERYONE@. */
+typedef struct aclck_ace {
+    uint32_t kind;
+    uint32_t flags;
+    uint32_t mask;
+    aclck_bytes who;
+} aclck_ace;
+
+/* The ACEs of a list, in order. */
+typedef struct aclck_aces {
+    const aclck_ace *at;
+    size_t len;
+} aclck_aces;
+
+/* A name that is exchanged: of a group where `is_group` is 1, of a user where it is 0. */
+typedef struct aclck_renaming {
+    aclck_bytes from;
+    aclck_bytes to;
+    uint32_t is_group;
+} aclck_renaming;
+
+/* A table of names to exchange. It is refused with ACLCK_BAD_ARGUMENT if a name is empty, ends with `@`, or is no who
+   of a list, if a `from` occurs twice for users or twice for groups, or if an `is_group` is above 1. */
+typedef struct aclck_renamings {
+    const aclck_renaming *at;
+    size_t len;
+} aclck_renamings;
+
+/* A user and the groups of that user, as ids. The ids of the groups rise, and none occurs twice. */
+typedef struct aclck_id_requester {
+    uint32_t user;
+    const uint32_t *groups;
+    size_t ngroups;
+} aclck_id_requester;
+
+/* An object: the ids of its owner and of its owning group. */
+typedef struct aclck_id_object {
+    uint32_t owner;
+    uint32_t group;
+} aclck_id_object;
+
+/* A name of an id: of a group where `is_group` is 1, of a user where it is 0. */
 typedef struct aclck_name {
     aclck_bytes name;
     uint32_t id;
     uint32_t is_group;
 } aclck_name;
 
-/* A table of names. It is refused with ACLCK_BAD_ARGUMENT if a name is empty, has digits alone, or occurs twice for
-   users or twice for groups, if an id is 4294967295, or if an `is_group` is above 1. */
+/* A table of names and their ids. It is refused with ACLCK_BAD_ARGUMENT if a name is empty, has digits alone, or occurs
+   twice for users or twice for groups, if an id is 4294967295, or if an `is_group` is above 1. */
 typedef struct aclck_names {
     const aclck_name *at;
     size_t len;
@@ -244,6 +303,26 @@ typedef struct aclck_posix_question {
     size_t ngroups;
 } aclck_posix_question;
 
+/* An entry of a POSIX ACL: its tag (enum aclck_tag), the id of a USER or GROUP entry, and the sum of its permissions
+   (enum aclck_permission). The id of every other entry means nothing, and calls write 4294967295 there. */
+typedef struct aclck_entry {
+    uint32_t tag;
+    uint32_t id;
+    uint32_t perm;
+} aclck_entry;
+
+/* The entries of a POSIX ACL. */
+typedef struct aclck_entries {
+    const aclck_entry *at;
+    size_t len;
+} aclck_entries;
+
+/* Room for entries. */
+typedef struct aclck_entry_buffer {
+    aclck_entry *at;
+    size_t cap;
+} aclck_entry_buffer;
+
 /* How a new object is created: its mode, the umask of its creator, and ACLCK_FILE or ACLCK_DIRECTORY. */
 typedef struct aclck_creation {
     uint32_t mode;
@@ -257,7 +336,11 @@ typedef struct aclck_creation {
    - A text (reasons 2 to 24 of a call that takes a text): `line` and `column`, each from 1.
    - A POSIX ACL that is not valid (reasons 25 to 27): `part` says which. At 25 and 26 `offset` is the place of an entry
      in that part, from 0. At 27 `tag` is the entry that is missing.
-   - ACLCK_LIMITS (28): the list of the whole ACL would be too long or too heavy. No place. */
+   - ACLCK_LIMITS (28): the list of the whole ACL would be too long or too heavy. No place.
+   - An array of ACEs, and a name that has no id or would become another one (22 and 32): `offset` is the place of the
+     ACE, from 0. So it is for every reason of aclck_build().
+   - Entries and attributes of POSIX ACLs: at 19, 21, 23 and 31 `offset` is the place of an entry, from 0. At 29 and 30
+     the whole attribute is refused. No place. */
 typedef struct aclck_fault {
     uint64_t offset;
     uint64_t line;
@@ -275,12 +358,41 @@ typedef struct aclck_decided {
     uint32_t denied;
 } aclck_decided;
 
+/* Room for such answers. */
+typedef struct aclck_decided_list {
+    aclck_decided *at;
+    size_t len;
+} aclck_decided_list;
+
+/* What is certain, whoever the names are that nobody knows. Of the rights that are asked: those that are granted, those
+   that are not granted and that a DENY decides or may decide, and those that depend on these names. No ACE decides the
+   rest. `request` is the answer for all rights together (enum aclck_request_answer). `left_out` is the number of AUDIT
+   and ALARM ACEs, which grant and deny nothing. */
+typedef struct aclck_possible {
+    uint32_t allowed;
+    uint32_t denied;
+    uint32_t unknown;
+    uint32_t request;
+    uint32_t left_out;
+} aclck_possible;
+
 /* The ACE that decides a right: its place in the list, from 0, and its kind (enum aclck_kind). If no ACE decides the
    right, which denies it, the kind is ACLCK_UNDECIDED and the place is 0. */
 typedef struct aclck_decision {
     uint64_t place;
     uint32_t kind;
 } aclck_decision;
+
+/* How a request is decided by POSIX entries. `granted` is 1 if all that is asked is granted, and otherwise 0. `place`
+   and `tag` are the place of the entry that decides, from 0, and its tag. If entries of groups match and none of them
+   has all that is asked, no entry alone decides, and both are 0. `masked` is 1 if that entry has all that is asked and
+   the MASK does not, and otherwise 0. */
+typedef struct aclck_posix_decision {
+    uint64_t place;
+    uint32_t granted;
+    uint32_t tag;
+    uint32_t masked;
+} aclck_posix_decision;
 
 /* Whether two lists grant everybody the same. If not, where they differ: one right, 1 if the first list grants it and
    the second does not, and 0 otherwise, and how many bytes the names are for whom they differ. */
@@ -327,14 +439,105 @@ enum aclck_status aclck_check_many(aclck_bytes acl, const aclck_object *object, 
 ACLCK_CALL ACLCK_WRITES(3) ACLCK_WRITES(4)
 enum aclck_status aclck_mode(aclck_bytes acl, enum aclck_option options, uint32_t *mode, aclck_fault *fault);
 
+/* ---- NFSv4 lists: prepared lists. aclck_prepare() reads a list once, and makes bytes of it from which the other calls
+   answer as aclck_decide() answers from the list. Prepared bytes may be copied, stored, mapped, and read by any number
+   of threads. A later version may have another form of them; it then refuses the older form with ACLCK_BAD_ARGUMENT.
+   Other bytes are refused with ACLCK_BAD_ARGUMENT, or get an answer that means nothing, and no byte outside of them is
+   read. So guard stored bytes as the list itself. */
+
+/* Writes the prepared bytes of the list to the front of `out`, and their number to *needed. Options: ACLCK_NARROW.
+   ACLCK_DONE (`out`, *needed), ACLCK_REFUSED (*fault), ACLCK_BAD_ARGUMENT, ACLCK_MEMORY, ACLCK_SHORT (*needed). */
+ACLCK_CALL ACLCK_WRITES(4) ACLCK_WRITES(5)
+enum aclck_status aclck_prepare(aclck_bytes acl, enum aclck_option options, aclck_buffer out, size_t *needed,
+                                aclck_fault *fault);
+
+/* Writes to *decided which of the rights that are asked the prepared list allows the requester on the object, and which
+   it denies. If it fails, both are 0. Options: ACLCK_GROUPS_IN_ORDER, by which the caller says that the groups of the
+   requester rise in the order of their bytes. ACLCK_DONE, ACLCK_BAD_ARGUMENT: also where the bytes are no prepared
+   bytes. No memory. */
+ACLCK_CALL ACLCK_READS(2) ACLCK_READS(3) ACLCK_READS(4) ACLCK_WRITES(5)
+enum aclck_status aclck_decide_prepared(aclck_bytes prepared, const aclck_object *object,
+                                        const aclck_requester *requester, const aclck_question *question,
+                                        aclck_decided *decided);
+
+/* Writes to decided.at[i] what aclck_decide_prepared() writes for requesters.at[i], for every i. If it fails, all of
+   them are 0. Options: ACLCK_GROUPS_IN_ORDER. ACLCK_DONE, ACLCK_BAD_ARGUMENT: also where the bytes are no prepared
+   bytes, or `decided` has another length than `requesters`. No memory. */
+ACLCK_CALL ACLCK_READS(2) ACLCK_READS(4)
+enum aclck_status aclck_decide_prepared_many(aclck_bytes prepared, const aclck_object *object,
+                                             aclck_requesters requesters, const aclck_question *question,
+                                             aclck_decided_list decided);
+
+/* Writes the prepared bytes of the list with an id in place of each name, for aclck_decide_ids() alone. The id of a
+   user or of a group is that of the name in `names`. A name that is not there is an id if it is the decimal number of
+   one, without zeros in front and at most 4294967294. Any other name is refused with ACLCK_UNKNOWN_NAME, and the fault
+   has the place of its ACE. Everything else is as for aclck_prepare(). */
+ACLCK_CALL ACLCK_READS(2) ACLCK_WRITES(5) ACLCK_WRITES(6)
+enum aclck_status aclck_prepare_ids(aclck_bytes acl, const aclck_names *names, enum aclck_option options,
+                                    aclck_buffer out, size_t *needed, aclck_fault *fault);
+
+/* Writes to *decided which of the rights that are asked the prepared list allows the requester on the object, and which
+   it denies: all that names are compared for is done by ids. If it fails, both are 0. No options. ACLCK_DONE,
+   ACLCK_BAD_ARGUMENT: also where the ids of the groups do not rise, or the bytes are no prepared bytes with ids. No
+   memory. */
+ACLCK_CALL ACLCK_READS(2) ACLCK_READS(3) ACLCK_READS(4) ACLCK_WRITES(5)
+enum aclck_status aclck_decide_ids(aclck_bytes prepared, const aclck_id_object *object,
+                                   const aclck_id_requester *requester, const aclck_question *question,
+                                   aclck_decided *decided);
+
+/* ---- NFSv4 lists: names that nobody knows */
+
+/* Writes to *possible what is certain about a list of another server. It is read as other calls read it, but AUDIT and
+   ALARM ACEs are left out, and special names such as INTERACTIVE@ are kept: each of them may match the requester or
+   not. If it fails, all of *possible is 0. Options: ACLCK_NARROW. ACLCK_DONE, ACLCK_REFUSED (*fault),
+   ACLCK_BAD_ARGUMENT, ACLCK_MEMORY. */
+ACLCK_CALL ACLCK_READS(2) ACLCK_READS(3) ACLCK_READS(4) ACLCK_WRITES(5) ACLCK_WRITES(6)
+enum aclck_status aclck_decide_unknown(aclck_bytes acl, const aclck_object *object, const aclck_requester *requester,
+                                       const aclck_question *question, aclck_possible *possible, aclck_fault *fault);
+
+/* ---- NFSv4 lists: ACE by ACE */
+
+/* Writes to *ace the ACE at *offset, and moves *offset to the next one. Begin with the offset 0: there the whole list
+   is judged. When no ACE is left, `ace->kind` is ACLCK_UNDECIDED, its other numbers are 0, and *offset stays. `ace->who`
+   points into `acl`. An offset that no call wrote gives some ACE of these bytes, ACLCK_REFUSED or ACLCK_BAD_ARGUMENT,
+   and no byte outside is read. Options: ACLCK_NARROW. ACLCK_DONE (*ace, *offset), ACLCK_REFUSED (*fault),
+   ACLCK_BAD_ARGUMENT: also where *offset is above acl.len. No memory. */
+ACLCK_CALL ACLCK_CHANGES(3) ACLCK_WRITES(4) ACLCK_WRITES(5)
+enum aclck_status aclck_next(aclck_bytes acl, enum aclck_option options, size_t *offset, aclck_ace *ace,
+                             aclck_fault *fault);
+
+/* Writes the bytes of the list of these ACEs to the front of `out`, and their number to *needed. The fault has the
+   reason and, as its offset, the place of the ACE, from 0. Options: ACLCK_NARROW. ACLCK_DONE (`out`, *needed),
+   ACLCK_REFUSED (*fault), ACLCK_BAD_ARGUMENT, ACLCK_MEMORY, ACLCK_SHORT (*needed). */
+ACLCK_CALL ACLCK_WRITES(4) ACLCK_WRITES(5)
+enum aclck_status aclck_build(aclck_aces aces, enum aclck_option options, aclck_buffer out, size_t *needed,
+                              aclck_fault *fault);
+
 /* ---- NFSv4 lists: texts and bytes. Each call writes its result to the front of `out`, and the number of its bytes to
    *needed. ACLCK_DONE (`out`, *needed), ACLCK_REFUSED (*fault), ACLCK_BAD_ARGUMENT, ACLCK_MEMORY, ACLCK_SHORT
    (*needed). */
 
-/* The list that a new object gets in a directory with this list. Options: ACLCK_NARROW, ACLCK_DIRECTORY. */
+/* The list that a new object gets in a directory with this list (RFC 8881, section 6.4.3). With ACLCK_MARK_INHERITED
+   each of its ACEs has the flag INHERITED, which the narrow profile does not have: the call takes ACLCK_DIRECTORY, and
+   one of ACLCK_NARROW and ACLCK_MARK_INHERITED. */
 ACLCK_CALL ACLCK_WRITES(4) ACLCK_WRITES(5)
 enum aclck_status aclck_child(aclck_bytes acl, enum aclck_option options, aclck_buffer out, size_t *needed,
                               aclck_fault *fault);
+
+/* The list after the mode of its object is set (RFC 8881, section 6.4.1.1): the list has this mode, a name is granted
+   at most what the group is, other rights are granted as before, and new objects inherit what they inherited before.
+   ACLCK_BAD_ARGUMENT also where `mode` is above 0777. ACLCK_REFUSED also with ACLCK_LIMITS. Options: ACLCK_NARROW. */
+ACLCK_CALL ACLCK_WRITES(5) ACLCK_WRITES(6)
+enum aclck_status aclck_chmod(aclck_bytes acl, uint32_t mode, enum aclck_option options, aclck_buffer out,
+                              size_t *needed, aclck_fault *fault);
+
+/* The list with names exchanged by a table: a name of a user that the table has for users, and a name of a group that
+   it has for groups. All other names stay, and so does everything else. Unless the options have ACLCK_MAY_MERGE, the
+   list is refused with ACLCK_MERGED if two different names of users, or of groups, become one: the fault has the place
+   of the first ACE whose new name an earlier ACE got from another name. Options: ACLCK_NARROW, ACLCK_MAY_MERGE. */
+ACLCK_CALL ACLCK_READS(2) ACLCK_WRITES(5) ACLCK_WRITES(6)
+enum aclck_status aclck_renamed(aclck_bytes acl, const aclck_renamings *table, enum aclck_option options,
+                                aclck_buffer out, size_t *needed, aclck_fault *fault);
 
 /* The text of the list, one line per ACE (docs/formats.md). Options: ACLCK_NARROW. */
 ACLCK_CALL ACLCK_WRITES(4) ACLCK_WRITES(5)
@@ -392,6 +595,14 @@ ACLCK_CALL ACLCK_WRITES(4) ACLCK_WRITES(6)
 enum aclck_status aclck_compare(aclck_bytes first, aclck_bytes second, enum aclck_option options,
                                 aclck_difference *difference, aclck_buffer out, aclck_fault *fault);
 
+/* Writes to *difference whether the second list grants everybody whatever the first grants: `same` is then 1. If not,
+   `right` is a right that the first list grants somebody and the second does not, `first_grants` is 1, and `out` has
+   the names, as aclck_compare() writes them. Everything else is as for aclck_compare(). Two lists grant everybody the
+   same if and only if neither grants more than the other. */
+ACLCK_CALL ACLCK_WRITES(4) ACLCK_WRITES(6)
+enum aclck_status aclck_excess(aclck_bytes first, aclck_bytes second, enum aclck_option options,
+                               aclck_difference *difference, aclck_buffer out, aclck_fault *fault);
+
 /* ---- Names. No memory. */
 
 /* Writes to *mask which rights a text names: names with `|` between them, or `-` for none. ACLCK_DONE (*mask),
@@ -448,6 +659,72 @@ enum aclck_status aclck_posix_create(const aclck_posix_text *text, const aclck_c
 ACLCK_CALL ACLCK_READS(1) ACLCK_WRITES(3) ACLCK_WRITES(4)
 enum aclck_status aclck_posix_bridge(const aclck_posix_text *text, aclck_buffer out, size_t *needed,
                                      aclck_fault *fault);
+
+/* ---- POSIX ACLs: entries, and the extended attributes of Linux. At ACLCK_REFUSED the reason is ACLCK_TAG, ACLCK_ID or
+   ACLCK_PERMISSION if an entry is none, and otherwise ACLCK_ORDER, ACLCK_MULTI, ACLCK_DUPLICATE or ACLCK_MISS. */
+
+/* These three calls, which a server makes for each request, take entries in canonical order: USER_OBJ, USER by rising
+   id, GROUP_OBJ, GROUP by rising id, MASK, OTHER. ACLCK_REFUSED with ACLCK_ORDER where an entry is not in its place. The
+   question is that of aclck_posix_check(). If they fail, their answer is 0. ACLCK_DONE, ACLCK_REFUSED (*fault),
+   ACLCK_BAD_ARGUMENT. No memory. */
+
+/* Writes to *granted 1 if the entries grant what is asked (acl(5), "ACCESS CHECK ALGORITHM"), and otherwise 0. */
+ACLCK_CALL ACLCK_READS(2) ACLCK_WRITES(3) ACLCK_WRITES(4)
+enum aclck_status aclck_entries_check(aclck_entries entries, const aclck_posix_question *question, uint32_t *granted,
+                                      aclck_fault *fault);
+
+/* Writes to *decision which entry decides. */
+ACLCK_CALL ACLCK_READS(2) ACLCK_WRITES(3) ACLCK_WRITES(4)
+enum aclck_status aclck_entries_deciding(aclck_entries entries, const aclck_posix_question *question,
+                                         aclck_posix_decision *decision, aclck_fault *fault);
+
+/* Writes the mode of the entries to *mode. */
+ACLCK_CALL ACLCK_WRITES(2) ACLCK_WRITES(3)
+enum aclck_status aclck_entries_mode(aclck_entries entries, uint32_t *mode, aclck_fault *fault);
+
+/* The other calls take entries in any order. They write their result to the front of `out`, entries in canonical order,
+   and the number of its entries or bytes to *needed. ACLCK_DONE (`out`, *needed), ACLCK_REFUSED (*fault),
+   ACLCK_BAD_ARGUMENT, ACLCK_MEMORY, ACLCK_SHORT (*needed). */
+
+/* The entries, if they are a valid ACL. With ACLCK_ADD_MASK, entries with a USER or a GROUP and without a MASK get the
+   MASK that setfacl(1) adds: the permissions of all USER, GROUP_OBJ and GROUP entries. Options: ACLCK_ADD_MASK. */
+ACLCK_CALL ACLCK_WRITES(4) ACLCK_WRITES(5)
+enum aclck_status aclck_entries_sorted(aclck_entries entries, enum aclck_option options, aclck_entry_buffer out,
+                                       size_t *needed, aclck_fault *fault);
+
+/* The entries after the mode is set. ACLCK_BAD_ARGUMENT where `mode` is above 0777. */
+ACLCK_CALL ACLCK_WRITES(4) ACLCK_WRITES(5)
+enum aclck_status aclck_entries_chmod(aclck_entries entries, uint32_t mode, aclck_entry_buffer out, size_t *needed,
+                                      aclck_fault *fault);
+
+/* The entries after the mask is calculated. */
+ACLCK_CALL ACLCK_WRITES(3) ACLCK_WRITES(4)
+enum aclck_status aclck_entries_calc_mask(aclck_entries entries, aclck_entry_buffer out, size_t *needed,
+                                          aclck_fault *fault);
+
+/* The access ACL of a new object in a directory with this default ACL. A new directory also gets the default ACL
+   itself. ACLCK_BAD_ARGUMENT where the mode or the umask is above 0777, or the options of `creation` are not ACLCK_FILE
+   or ACLCK_DIRECTORY. */
+ACLCK_CALL ACLCK_READS(2) ACLCK_WRITES(4) ACLCK_WRITES(5)
+enum aclck_status aclck_entries_create(aclck_entries dflt, const aclck_creation *creation, aclck_entry_buffer out,
+                                       size_t *needed, aclck_fault *fault);
+
+/* The bytes of the NFSv4 list that grants the same single permissions as the entries. ACLCK_REFUSED also with
+   ACLCK_LIMITS. */
+ACLCK_CALL ACLCK_WRITES(3) ACLCK_WRITES(4)
+enum aclck_status aclck_entries_bridge(aclck_entries entries, aclck_buffer out, size_t *needed, aclck_fault *fault);
+
+/* The entries of the extended attribute system.posix_acl_access or system.posix_acl_default, in version 2. No entries
+   (*needed is 0) mean that the file has no such ACL. ACLCK_REFUSED also with ACLCK_SIZE or ACLCK_VERSION_2, and with
+   ACLCK_ORDER where the tags are not in canonical order, as the kernel requires. */
+ACLCK_CALL ACLCK_WRITES(3) ACLCK_WRITES(4)
+enum aclck_status aclck_entries_from_attribute(aclck_bytes attribute, aclck_entry_buffer out, size_t *needed,
+                                               aclck_fault *fault);
+
+/* The bytes of the extended attribute with these entries. */
+ACLCK_CALL ACLCK_WRITES(3) ACLCK_WRITES(4)
+enum aclck_status aclck_entries_to_attribute(aclck_entries entries, aclck_buffer out, size_t *needed,
+                                             aclck_fault *fault);
 
 /* ---- The library */
 

@@ -328,11 +328,194 @@ static int agree_on_needed(const testcase *c) {
     return ok;
 }
 
+/* The lines of a canonical text, which is that of the access ACL or of the default ACL, as entries. */
+typedef struct {
+    aclck_entry *at;
+    size_t len;
+} entry_list;
+
+static entry_list entries_in(const char *text, size_t len, int is_default) {
+    static const struct {
+        const char *word;
+        uint32_t plain, named;
+    } tags[] = {{"user:", ACLCK_TAG_USER_OBJ, ACLCK_TAG_USER}, {"group:", ACLCK_TAG_GROUP_OBJ, ACLCK_TAG_GROUP},
+                {"mask:", ACLCK_TAG_MASK, 0}, {"other:", ACLCK_TAG_OTHER, 0}};
+    static const char front[] = "default:";
+    entry_list found = {malloc((len / 8 + 1) * sizeof *found.at), 0};
+    for (const char *at = text, *end; at < text + len; at = end + 1) {
+        int has_front = strncmp(at, front, sizeof front - 1) == 0;
+        end = strchr(at, '\n');
+        at += has_front ? sizeof front - 1 : 0;
+        for (size_t i = 0; has_front == is_default && i < sizeof tags / sizeof *tags; i++)
+            if (strncmp(at, tags[i].word, strlen(tags[i].word)) == 0) {
+                const char *id = at + strlen(tags[i].word);
+                aclck_entry *e = &found.at[found.len++];
+                e->tag = *id == ':' ? tags[i].plain : tags[i].named;
+                e->id = *id == ':' ? 0xffffffff : (uint32_t)strtoul(id, NULL, 10);
+                e->perm = (end[-3] == 'r') * 4u + (end[-2] == 'w') * 2u + (end[-1] == 'x');
+            }
+    }
+    return found;
+}
+
+static int are_equal_entries(const entry_list *a, const aclck_entry *at, size_t len) {
+    return a->len == len && memcmp(a->at, at, len * sizeof *at) == 0;
+}
+
+/* The calls over entries, which are given in no order, write what the text of the result has. */
+static int agree_on_written_entries(const testcase *c, const entry_list *access, const entry_list *dflt) {
+    const uint32_t *n = c->numbers;
+    const aclck_creation creation = {n[0], n[1], (enum aclck_option)n[2]};
+    const size_t most = access->len + dflt->len + 1;
+    aclck_entry *mixed = malloc(most * sizeof *mixed), *room = malloc(most * sizeof *room);
+    aclck_entries entries = {mixed, access->len};
+    const aclck_entry_buffer out = {room, most};
+    const aclck_bytes result = c->out;
+    entry_list wanted = {NULL, 0};
+    aclck_fault fault;
+    size_t needed = 0;
+    enum aclck_status status = ACLCK_DONE;
+    for (size_t i = 0; i < access->len; i++)
+        mixed[i] = access->at[access->len - 1 - i];
+    if (IS("posix_create")) {
+        entries.at = dflt->at;
+        entries.len = dflt->len;
+        status = dflt->len > 0 ? aclck_entries_create(entries, &creation, out, &needed, &fault) : ACLCK_DONE;
+    } else if (IS("posix_chmod")) {
+        status = aclck_entries_chmod(entries, n[0], out, &needed, &fault);
+    } else if (IS("posix_calc_mask")) {
+        status = aclck_entries_calc_mask(entries, out, &needed, &fault);
+    } else {
+        status = aclck_entries_sorted(entries, ACLCK_FULL, out, &needed, &fault);
+        wanted.at = malloc(most * sizeof *wanted.at);
+        memcpy(wanted.at, access->at, access->len * sizeof *wanted.at);
+        wanted.len = access->len;
+    }
+    if (!wanted.at)
+        wanted = entries_in(result.at, result.len, 0);
+    int ok = EXPECT(c, status == ACLCK_DONE);
+    if (!IS("posix_create") || dflt->len > 0)
+        ok &= EXPECT(c, are_equal_entries(&wanted, room, needed));
+    free(wanted.at);
+    free(mixed);
+    free(room);
+    return ok;
+}
+
+/* An ACL has the bytes of an attribute, which have its entries; its mode; and, where asked, its NFSv4 list. */
+static int agree_on_entries_read(const testcase *c, const entry_list *access) {
+    const aclck_entries entries = {access->at, access->len};
+    const size_t size = 4 + 8 * access->len;
+    unsigned char *bytes = malloc(size + c->out.len);
+    aclck_entry *room = malloc(access->len * sizeof *room);
+    const aclck_entry_buffer out = {room, access->len};
+    aclck_fault fault;
+    uint32_t mode = 77, group_class = 0, wanted = 0;
+    size_t needed = 0;
+    int ok = 1;
+    for (size_t i = 0; i < access->len; i++) {
+        wanted |= access->at[i].tag == ACLCK_TAG_USER_OBJ ? access->at[i].perm << 6 : 0;
+        wanted |= access->at[i].tag == ACLCK_TAG_OTHER ? access->at[i].perm : 0;
+        if (access->at[i].tag == ACLCK_TAG_GROUP_OBJ || access->at[i].tag == ACLCK_TAG_MASK)
+            group_class = access->at[i].perm; /* the mask comes after the group */
+    }
+    ok &= EXPECT(c, aclck_entries_mode(entries, &mode, &fault) == ACLCK_DONE && mode == (wanted | group_class << 3));
+    ok &= EXPECT(c, aclck_entries_to_attribute(entries, aclck_buffer_of(bytes, size), &needed, &fault) == ACLCK_DONE);
+    ok &= EXPECT(c, needed == size && aclck_entries_from_attribute(aclck_bytes_of(bytes, size), out, &needed, &fault) ==
+                                          ACLCK_DONE);
+    ok &= EXPECT(c, are_equal_entries(access, room, needed));
+    if (IS("posix_bridge")) {
+        ok &= EXPECT(c, aclck_entries_bridge(entries, aclck_buffer_of(bytes, size + c->out.len), &needed, &fault) ==
+                            ACLCK_DONE);
+        ok &= EXPECT(c, needed == c->out.len && memcmp(bytes, c->out.at, c->out.len) == 0);
+    }
+    free(bytes);
+    free(room);
+    return ok;
+}
+
+/* Entries get the answers that the text with these entries gets. */
+static int agree_on_entries(const testcase *c) {
+    const aclck_posix_text text = with_names(c->blobs[0], c->names, c->nnames);
+    const aclck_posix_question question = {c->numbers[0], c->numbers[1], c->numbers[2], c->numbers[3], c->ids, c->nids};
+    aclck_fault fault;
+    size_t needed = 0;
+    if (c->status != ACLCK_DONE)
+        return 1;
+    if (aclck_posix_show(&text, ACLCK_CANONICAL, aclck_buffer_of(NULL, 0), &needed, &fault) != ACLCK_SHORT)
+        return EXPECT(c, 0);
+    char *shown = malloc(needed + 1);
+    shown[needed] = 0;
+    int ok = EXPECT(c, aclck_posix_show(&text, ACLCK_CANONICAL, aclck_buffer_of(shown, needed), &needed, &fault) ==
+                           ACLCK_DONE);
+    entry_list access = entries_in(shown, needed, 0), dflt = entries_in(shown, needed, 1);
+    if (IS("posix_check")) {
+        const aclck_entries entries = {access.at, access.len};
+        aclck_posix_decision decision = {77, 77, 77, 77};
+        uint32_t granted = 77;
+        ok &= EXPECT(c, aclck_entries_check(entries, &question, &granted, &fault) == ACLCK_DONE && granted == c->value);
+        ok &= EXPECT(c, aclck_entries_deciding(entries, &question, &decision, &fault) == ACLCK_DONE);
+        ok &= EXPECT(c, decision.granted == c->value && decision.tag <= ACLCK_TAG_OTHER);
+        if (decision.tag)
+            ok &= EXPECT(c, decision.place < access.len && access.at[decision.place].tag == decision.tag);
+    } else {
+        ok &= agree_on_written_entries(c, &access, &dflt);
+    }
+    ok &= agree_on_entries_read(c, &access);
+    free(access.at);
+    free(dflt.at);
+    free(shown);
+    return ok;
+}
+
+/* If one list exceeds another, the requester of the answer is granted the right by the one and not by the other. */
+static int is_excess_right(const testcase *c, aclck_bytes first, aclck_bytes second, int *exceeds) {
+    const aclck_difference was = {77, 77, 77, 77};
+    aclck_difference found = was, again = was;
+    aclck_fault fault;
+    aclck_bytes names[MOST + 3];
+    uint32_t granted[2] = {77, 77};
+    size_t count = 0;
+    enum aclck_status status = aclck_excess(first, second, c->numbers[0], &found, aclck_buffer_of(NULL, 0), &fault);
+    char *text = malloc(found.names + 1);
+    int ok = EXPECT(c, status == (found.names > 0 ? ACLCK_SHORT : ACLCK_DONE));
+    ok &= EXPECT(c, aclck_excess(first, second, c->numbers[0], &again, aclck_buffer_of(text, found.names), &fault) ==
+                        ACLCK_DONE);
+    ok &= EXPECT(c, is_difference(&again, found.names, found.same, found.right, found.first_grants));
+    ok &= EXPECT(c, found.same ? is_difference(&found, 0, 1, 0, 0) : found.first_grants == 1);
+    *exceeds = !found.same;
+    for (char *at = text; at < text + found.names && count < MOST + 3; at += names[count++].len + 1)
+        names[count] = aclck_string(at);
+    if (!found.same && EXPECT(c, count >= 3)) {
+        const aclck_object object = {names[0], names[1]};
+        const aclck_requester who = aclck_requester_of(names[2], names + 3, count - 3);
+        const aclck_question question = asks(found.right, c->numbers[0]);
+        ok &= EXPECT(c, aclck_check(first, &object, &who, &question, &granted[0], &fault) == ACLCK_DONE);
+        ok &= EXPECT(c, aclck_check(second, &object, &who, &question, &granted[1], &fault) == ACLCK_DONE);
+        ok &= EXPECT(c, granted[0] == 1 && granted[1] == 0);
+    }
+    free(text);
+    return ok;
+}
+
+/* Two lists are the same if and only if neither exceeds the other. */
+static int agree_on_excess(const testcase *c) {
+    int one = 1, other = 1;
+    if (c->status != ACLCK_DONE)
+        return 1;
+    int ok = is_excess_right(c, c->blobs[0], c->blobs[1], &one) & is_excess_right(c, c->blobs[1], c->blobs[0], &other);
+    return ok & EXPECT(c, c->value == (!one && !other));
+}
+
 static int agree(const testcase *c) {
+    if (IS("compare"))
+        return agree_on_excess(c);
     if (IS("check"))
         return agree_on_requests(c);
     if (IS("normalize"))
         return agree_on_needed(c);
+    if (strncmp(c->call, "posix_", 6) == 0)
+        return agree_on_entries(c);
     return 1;
 }
 
@@ -368,12 +551,12 @@ static int are_reasons_right(void) {
     static const char *const names[] = {"Truncated", "TooManyAces", "AuditOrAlarm", "AceType", "FlagBits", "MaskBits",
         "TooHeavy", "WhoLength", "WhoUtf8", "WhoControl", "SpecialWho", "Padding", "TrailingBytes", "Read", "Memory",
         "Fields", "Flag", "Mask", "Tag", "Qualifier", "Id", "UnknownName", "Permission", "EmptyEntry", "Multi",
-        "Duplicate", "Miss", "Limits"};
+        "Duplicate", "Miss", "Limits", "Size", "Version", "Order", "Merged"};
     testcase none, *c = &none;
     int ok = 1;
     memset(c, 0, sizeof *c);
     strcpy(c->call, "reason_text");
-    for (uint32_t reason = 1; reason <= ACLCK_LIMITS; reason++) {
+    for (uint32_t reason = 1; reason <= ACLCK_MERGED; reason++) {
         char room[16];
         size_t len = strlen(names[reason - 1]), needed = 0;
         memset(room, CANARY, sizeof room);
@@ -469,12 +652,14 @@ static int is_option_judged(const testcase *c, uint32_t options) {
     CLOSED(aclck_same(LIST, LIST, options, &o.r.value, &o.r.fault), o.r.value, o.r.value == 0);
     CLOSED(aclck_compare(LIST, LIST, options, &o.r.difference, aclck_buffer_of(o.room, sizeof o.room), &o.r.fault),
            o.r.difference, is_difference(&o.r.difference, 0, 0, 0, 0));
+    CLOSED(aclck_excess(LIST, LIST, options, &o.r.difference, aclck_buffer_of(o.room, sizeof o.room), &o.r.fault),
+           o.r.difference, is_difference(&o.r.difference, 0, 0, 0, 0));
     BAD(aclck_show(LIST, options, OUT));
     BAD(aclck_encode(aclck_string(""), options, OUT));
     BAD(aclck_normalize(LIST, options, OUT));
     BAD(aclck_normalize_inherit(LIST, options, OUT));
     BAD(aclck_table(LIST, &question, OUT));
-    if (options & ~(uint32_t)(ACLCK_NARROW | ACLCK_DIRECTORY))
+    if (options & ~(uint32_t)(ACLCK_NARROW | ACLCK_DIRECTORY) && options != ACLCK_MARK_INHERITED)
         BAD(aclck_child(LIST, options, OUT));
     if (options != ACLCK_DIRECTORY)
         BAD(aclck_posix_create(&text, &creation, OUT));
@@ -574,7 +759,7 @@ static int are_arguments_judged(void) {
     BAD(aclck_table(LIST, &retention, OUT));
     BAD(aclck_table(LIST, &hold, OUT));
     BAD(aclck_reason_text(0, aclck_buffer_of(o.room, sizeof o.room), &o.r.needed));
-    BAD(aclck_reason_text(29, aclck_buffer_of(o.room, sizeof o.room), &o.r.needed));
+    BAD(aclck_reason_text(33, aclck_buffer_of(o.room, sizeof o.room), &o.r.needed));
     return ok & are_posix_arguments_judged(c);
 }
 
@@ -668,6 +853,7 @@ static int are_limits_kept(void) {
     REFUSED(aclck_same(LIST, heavy, 0, &r.value, &r.fault), ACLCK_TOO_HEAVY, mask_at, 0, 0, 1);
     REFUSED(aclck_compare(LIST, full, 0, &r.difference, room, &r.fault), ACLCK_TOO_MANY_ACES, 0, 0, 0, 1);
     REFUSED(aclck_compare(heavy, full, 0, &r.difference, room, &r.fault), ACLCK_TOO_HEAVY, mask_at, 0, 0, 0);
+    REFUSED(aclck_excess(LIST, heavy, 0, &r.difference, room, &r.fault), ACLCK_TOO_HEAVY, mask_at, 0, 0, 1);
     REFUSED(aclck_encode(too_many, 0, TO), ACLCK_TOO_MANY_ACES, 0, MOST_ACES + 1, 1, 0);
     REFUSED(aclck_encode(too_heavy, 0, TO), ACLCK_TOO_HEAVY, 0, MOST_ACES, 9, 0);
     REFUSED(aclck_posix_bridge(&text, TO), ACLCK_LIMITS, 0, 0, 0, 0);
@@ -889,6 +1075,26 @@ static int run_threads(void) {
 #ifdef FUZZ
 int LLVMFuzzerTestOneInput(const uint8_t *data, size_t size);
 
+/* Asks bytes as prepared bytes, as an attribute, and as a list from an offset. */
+static void ask_foreign_bytes(const uint8_t *data, size_t size) {
+    static const uint32_t ids[] = {1, 7, 1000};
+    const aclck_id_object owned = {7, 7};
+    const aclck_id_requester by_id = {7, ids, 3};
+    const aclck_question all = asks(ACLCK_ALL_RIGHTS, 0);
+    aclck_bytes bytes = {data, size};
+    aclck_decided decided;
+    aclck_entry entries[64];
+    const aclck_entry_buffer room = {entries, 64};
+    aclck_fault fault;
+    aclck_ace ace;
+    size_t needed = 0, offset = data[0];
+    if (aclck_decide_prepared(bytes, &THEM, &IN_STAFF, &all, &decided) > ACLCK_BAD_ARGUMENT ||
+        aclck_decide_ids(bytes, &owned, &by_id, &all, &decided) > ACLCK_BAD_ARGUMENT ||
+        aclck_entries_from_attribute(bytes, room, &needed, &fault) > ACLCK_SHORT || needed > size / 8 ||
+        aclck_next(bytes, ACLCK_FULL, &offset, &ace, &fault) > ACLCK_BAD_ARGUMENT)
+        abort();
+}
+
 /* The first byte selects the call, and the second byte is its number or its options. The rest is its input, or its two
    inputs. */
 int LLVMFuzzerTestOneInput(const uint8_t *data, size_t size) {
@@ -930,6 +1136,7 @@ int LLVMFuzzerTestOneInput(const uint8_t *data, size_t size) {
         abort();
     if (status == ACLCK_REFUSED && (r.fault.reason < 1 || r.fault.reason > ACLCK_LIMITS))
         abort();
+    ask_foreign_bytes(data, size);
     return 0;
 }
 #else

@@ -4,7 +4,8 @@
  *     library_costs CALL INPUT GROUPS [shuffled]
  *
  * The requester has GROUPS groups, named h00000 and so on, in this order or in no order. INPUT is a file: a list, two
- * lists of equal length for `same` and `compare`, or a text. It is linked with --wrap for malloc and realloc.
+ * lists of equal length for `same` and `compare`, a text, or an attribute for the calls over entries. What a call is
+ * given is prepared or read before it is counted. The program is linked with --wrap for malloc and realloc.
  */
 #include "aclck.h"
 #include <pthread.h>
@@ -38,6 +39,7 @@ static char names[MOST_GROUPS][8];
 static aclck_bytes groups[MOST_GROUPS];
 static aclck_requester who[REQUESTERS];
 static uint32_t ids[MOST_GROUPS], granted[REQUESTERS];
+static aclck_decided decided_of_all[REQUESTERS];
 
 static void name_groups(size_t count, int is_shuffled) {
     for (size_t i = 0; i < count; i++) {
@@ -57,6 +59,116 @@ static void name_groups(size_t count, int is_shuffled) {
 #define ROOM_FOR_ALL aclck_buffer_of(out, sizeof out)
 #define OUT ROOM_FOR_ALL, &needed, &fault
 #define IS(name) (strcmp(call, name) == 0)
+
+/* ---- calls that are given what another call made */
+
+static unsigned char made[ROOM];
+static aclck_entry entries[ROOM / 16], changed[ROOM / 16];
+static aclck_ace aces[ROOM / 32];
+
+static void count_from_here(void) {
+    requests = bytes = 0;
+}
+
+/* Gives each name that is no number an id. */
+static enum aclck_status prepare_ids(size_t len, aclck_buffer out, size_t *needed, aclck_fault *fault) {
+    static const aclck_name rows[] = {{{"mallory", 7}, 7, 0}, {{"editors", 7}, 1000004, 1}};
+    const aclck_names table = {rows, 2};
+    return aclck_prepare_ids(LIST, &table, ACLCK_FULL, out, needed, fault);
+}
+
+static uint32_t invoke_prepared(const char *call, size_t len, size_t count) {
+    const aclck_object object = {aclck_string("o"), aclck_string("g")};
+    const aclck_id_object id_object = {1000001, 1000002};
+    const aclck_id_requester id_who = {1000003, ids, count};
+    const aclck_question all = {ACLCK_ALL_RIGHTS, ACLCK_FULL};
+    const aclck_requesters everybody = {who, REQUESTERS};
+    const aclck_decided_list room = {decided_of_all, REQUESTERS};
+    aclck_bytes prepared = {made, 0};
+    aclck_decided decided;
+    aclck_fault fault;
+    size_t needed;
+    int by_ids = IS("decide_ids");
+    if (IS("prepare"))
+        return aclck_prepare(LIST, ACLCK_FULL, OUT);
+    if (IS("prepare_ids"))
+        return prepare_ids(len, OUT);
+    if (by_ids ? prepare_ids(len, aclck_buffer_of(made, sizeof made), &prepared.len, &fault)
+               : aclck_prepare(LIST, ACLCK_FULL, aclck_buffer_of(made, sizeof made), &prepared.len, &fault))
+        return 99;
+    count_from_here();
+    if (IS("decide_prepared"))
+        return aclck_decide_prepared(prepared, &object, who, &all, &decided);
+    if (IS("decide_prepared_many"))
+        return aclck_decide_prepared_many(prepared, &object, everybody, &all, room);
+    return aclck_decide_ids(prepared, &id_object, &id_who, &all, &decided);
+}
+
+/* Reads the ACEs of a list. All calls of aclck_next() are counted for `next`. */
+static uint32_t read_aces(size_t len, size_t *count) {
+    aclck_fault fault;
+    size_t offset = 0;
+    for (*count = 0;; ++*count) {
+        enum aclck_status status = aclck_next(LIST, ACLCK_FULL, &offset, &aces[*count], &fault);
+        if (status || aces[*count].kind == ACLCK_UNDECIDED)
+            return status;
+    }
+}
+
+static uint32_t invoke_list(const char *call, size_t len) {
+    static const aclck_renaming rows[] = {{{"mallory", 7}, {"m", 1}, 0}, {{"editors", 7}, {"writers", 7}, 1}};
+    const aclck_renamings table = {rows, 2};
+    const aclck_object object = {aclck_string("o"), aclck_string("g")};
+    const aclck_question all = {ACLCK_ALL_RIGHTS, ACLCK_FULL};
+    aclck_possible possible;
+    aclck_fault fault;
+    size_t needed, count;
+    if (IS("chmod"))
+        return aclck_chmod(LIST, 0640, ACLCK_FULL, OUT);
+    if (IS("renamed"))
+        return aclck_renamed(LIST, &table, ACLCK_FULL, OUT);
+    if (IS("decide_unknown"))
+        return aclck_decide_unknown(LIST, &object, who, &all, &possible, &fault);
+    if (read_aces(len, &count) || IS("next"))
+        return count == 0;
+    count_from_here();
+    return aclck_build((aclck_aces){aces, count}, ACLCK_FULL, OUT);
+}
+
+static uint32_t invoke_entries(const char *call, size_t len, size_t count) {
+    const aclck_posix_question question = {1, 1, 1000000, ACLCK_PERM_READ, ids, count};
+    const aclck_creation creation = {0777, 022, ACLCK_DIRECTORY};
+    const aclck_entry_buffer all = {entries, sizeof entries / sizeof *entries};
+    const aclck_entry_buffer room = {changed, sizeof changed / sizeof *changed};
+    aclck_entries given = {entries, 0};
+    aclck_posix_decision decision;
+    aclck_fault fault;
+    uint32_t word;
+    size_t needed;
+    enum aclck_status status = aclck_entries_from_attribute(LIST, all, &given.len, &fault);
+    if (status || IS("entries_from_attribute"))
+        return status;
+    count_from_here();
+    if (IS("entries_check"))
+        return aclck_entries_check(given, &question, &word, &fault);
+    if (IS("entries_deciding"))
+        return aclck_entries_deciding(given, &question, &decision, &fault);
+    if (IS("entries_mode"))
+        return aclck_entries_mode(given, &word, &fault);
+    if (IS("entries_sorted"))
+        return aclck_entries_sorted(given, ACLCK_ADD_MASK, room, &needed, &fault);
+    if (IS("entries_chmod"))
+        return aclck_entries_chmod(given, 0640, room, &needed, &fault);
+    if (IS("entries_calc_mask"))
+        return aclck_entries_calc_mask(given, room, &needed, &fault);
+    if (IS("entries_create"))
+        return aclck_entries_create(given, &creation, room, &needed, &fault);
+    if (IS("entries_bridge"))
+        return aclck_entries_bridge(given, OUT);
+    if (IS("entries_to_attribute"))
+        return aclck_entries_to_attribute(given, OUT);
+    return 99;
+}
 
 static uint32_t invoke_posix(const char *call, size_t len, size_t count) {
     aclck_posix_text text = {LIST, {&(aclck_name){{"", 0}, 0, 0}, 0}};
@@ -119,7 +231,15 @@ static uint32_t invoke(const char *call, size_t len, size_t count) {
         return aclck_same(HALVES, ACLCK_FULL, &word, &fault);
     if (IS("compare"))
         return aclck_compare(HALVES, ACLCK_FULL, &difference, ROOM_FOR_ALL, &fault);
-    return invoke_posix(call, len, count);
+    if (strncmp(call, "posix_", 6) == 0)
+        return invoke_posix(call, len, count);
+    if (strncmp(call, "entries_", 8) == 0)
+        return invoke_entries(call, len, count);
+    if (strncmp(call, "prepare", 7) == 0 || strncmp(call, "decide_prepared", 15) == 0 || IS("decide_ids"))
+        return invoke_prepared(call, len, count);
+    if (IS("excess"))
+        return aclck_excess(HALVES, ACLCK_FULL, &difference, ROOM_FOR_ALL, &fault);
+    return invoke_list(call, len);
 }
 
 typedef struct {

@@ -1,21 +1,41 @@
-/* Misuses of aclck.h, which tests/library compiles one by one behind these lines: a compiler must warn of each, or refuse
-   it. */
+/* Misuses of aclck.h, which tests/library compiles one by one behind these lines: a compiler must warn of each, or
+   refuse it. */
 #include "aclck.h"
 
 void use(int what);
 void f(aclck_bytes acl, aclck_object object, aclck_requester who, aclck_question question, aclck_buffer out);
 
+static aclck_id_object id_object;
+static aclck_id_requester id_who;
+static aclck_bytes prepared;
+
 void f(aclck_bytes acl, aclck_object object, aclck_requester who, aclck_question question, aclck_buffer out) {
     aclck_fault fault;
     aclck_decided decided;
     aclck_decision decision;
+    aclck_ace ace;
+    aclck_entry room_for_one;
+    const aclck_entry_buffer room = {&room_for_one, 1};
+    const aclck_entries entries = {&room_for_one, 1};
+    const aclck_posix_question read = {1, 2, 3, ACLCK_PERM_READ, id_who.groups, id_who.ngroups};
+    const aclck_name row = {who.user, 7, 0};
+    const aclck_names names = {&row, 1};
+    const aclck_requesters everybody = {&who, 1};
     uint32_t granted = 0;
-    size_t needed;
+    size_t needed, offset = 0;
     if (aclck_check(acl, &object, &who, &question, &granted, &fault) == ACLCK_DONE && granted)
         use(1);
     use(aclck_decide(acl, &object, &who, &question, &decided, &fault));
     use(aclck_deciding(acl, &object, &who, &question, &decision, &fault));
     use(aclck_show(acl, ACLCK_FULL, out, &needed, &fault));
+    use(aclck_prepare_ids(acl, &names, ACLCK_FULL, out, &needed, &fault));
+    use(aclck_decide_ids(prepared, &id_object, &id_who, &question, &decided));
+    use(aclck_next(acl, ACLCK_FULL, &offset, &ace, &fault));
+    use(aclck_entries_check(entries, &read, &granted, &fault));
+    use(aclck_entries_sorted(entries, ACLCK_ADD_MASK, room, &needed, &fault));
+    use(everybody.len > 1);
+    /* Prepared bytes are bytes, so that a program may keep and map them: no compiler can tell them from a list. */
+    use(aclck_mode(prepared, ACLCK_FULL, &granted, &fault));
 
 /* misuse: a right as an option */
     use(aclck_mode(acl, ACLCK_READ_DATA, &granted, &fault));
@@ -80,3 +100,38 @@ void f(aclck_bytes acl, aclck_object object, aclck_requester who, aclck_question
         use(1);
 /* misuse: a call of an earlier version */
     use(aclck_check_nfs(acl.at, acl.len, "a", 1, "s", 1, "b", 1, who.groups, 0, 1, 0, &fault));
+/* misuse: an option that promises an order as a right */
+    question.mask = ACLCK_GROUPS_IN_ORDER;
+/* misuse: a flag of an ACE as an option */
+    use(aclck_child(acl, ACLCK_INHERITED, out, &needed, &fault));
+/* misuse: entries and room for entries exchanged */
+    use(aclck_entries_sorted(room, ACLCK_ADD_MASK, entries, &needed, &fault));
+/* misuse: room for bytes in place of room for entries */
+    use(aclck_entries_from_attribute(acl, out, &needed, &fault));
+/* misuse: room for entries in place of room for bytes */
+    use(aclck_entries_to_attribute(entries, room, &needed, &fault));
+/* misuse: an attribute in place of entries */
+    use(aclck_entries_check(acl, &read, &granted, &fault));
+/* misuse: a question about rights of POSIX entries */
+    use(aclck_entries_check(entries, &question, &granted, &fault));
+/* misuse: a requester by names where ids are compared */
+    use(aclck_decide_ids(prepared, &id_object, &who, &question, &decided));
+/* misuse: an object by ids where names are compared */
+    use(aclck_decide_prepared(prepared, &id_object, &who, &question, &decided));
+/* misuse: the object and the requester of ids exchanged */
+    use(aclck_decide_ids(prepared, &id_who, &id_object, &question, &decided));
+/* misuse: a table of names by value */
+    use(aclck_prepare_ids(acl, names, ACLCK_FULL, out, &needed, &fault));
+/* misuse: a table of names to exchange that has ids */
+    use(aclck_renamed(acl, &names, ACLCK_FULL, out, &needed, &fault));
+/* misuse: masks in place of decisions */
+    const aclck_masks masks = {&granted, 1};
+    use(aclck_decide_prepared_many(prepared, &object, everybody, &question, masks));
+/* misuse: an offset by value */
+    use(aclck_next(acl, ACLCK_FULL, 0, &ace, &fault));
+/* misuse: one ACE in place of a list */
+    use(aclck_build(ace, ACLCK_FULL, out, &needed, &fault));
+/* misuse: the status of the next ACE is not looked at */
+    aclck_next(acl, ACLCK_FULL, &offset, &ace, &fault);
+/* misuse: what is certain in place of what is decided */
+    use(aclck_decide_unknown(acl, &object, &who, &question, &decided, &fault));

@@ -4,7 +4,7 @@
 
 static void drop(entry *e) {
     if (e) {
-        free(e->groups);
+        free(e->made);
         free(e->key);
         free(e);
     }

@@ -17,10 +17,10 @@ enum {
 typedef struct entry {
     struct entry *next; /* in the same bucket */
     uint64_t hash, used;
-    size_t holders, len, count;
-    int executes;        /* of a list: whether an ALLOW has EXECUTE */
-    aclck_bytes *groups; /* of a group set: `count` names */
-    unsigned char *key;  /* `len` bytes; of a list, its bytes */
+    size_t holders, len, made_len;
+    int executes;        /* whether an ALLOW of the list has EXECUTE */
+    unsigned char *key;  /* `len` bytes: those of the list */
+    unsigned char *made; /* `made_len` bytes: the prepared bytes of the list */
 } entry;
 
 typedef struct {

@@ -1,10 +1,10 @@
-/* The access back end of a file server: eight threads, a cache of lists, and a cache of group sets.
+/* The access back end of a file server: eight threads, and a cache of prepared lists.
  *
  *     server SOCKET [u:NAME=ID|g:NAME=ID..]     serves each client of a Unix socket, until standard input ends
  *     server - [u:NAME=ID|g:NAME=ID..]          serves standard input
  *
- * The server knows users and groups by their ids. In the lists, a user or a group has the name that the words of the
- * command line give its id. Each other id has its decimal number as its name, as in servers without a mapping of names.
+ * The server knows users and groups by their ids. The words of the command line say which ids the names in the lists
+ * have. A name that is a decimal number is that id. A list with any other name is refused.
  *
  * A request is a line, and its reply is a line. OBJECT is a number below 1024. LIST is a file with the bytes of a list.
  * RIGHTS are names of rights with bars between them. Each change of an object gets a number:
@@ -14,9 +14,9 @@
  *     chown OBJECT UID GID                      change NUMBER
  *     access OBJECT UID GID[,GID..] RIGHTS      those of the rights that are granted, and the last change of the object
  *
- * Both caches are right without any event that removes something, because what they keep is made of its key alone: what
- * is kept of a list depends on the bytes of the list, and the names of a group set on its ids. The owner, the owning
- * group, the user and the groups come from the object and from the request, each time.
+ * The cache is right without any event that removes something, because what it keeps of a list depends on the bytes of
+ * the list alone, which are the key. The owner, the owning group, the user and the groups come from the object and from
+ * the request, each time.
  */
 #include "cache.h"
 #include <signal.h>
@@ -31,66 +31,43 @@ enum {
     THREADS = 8,
     OBJECTS = 1024,
     LIST = 65536,
-    DIGITS = 11,
     OWNER_RIGHTS = ACLCK_READ_ACL | ACLCK_WRITE_ACL | ACLCK_READ_ATTRIBUTES | ACLCK_WRITE_ATTRIBUTES
 };
 
-/* ---- Names of ids */
+/* ---- Lists and objects */
 
 static aclck_names names;
 
-/* Returns the name of an id. If the table has none, it is the number, which is written to `digits`. */
-static aclck_bytes name_of(uint32_t id, uint32_t is_group, char digits[DIGITS]) {
-    for (size_t i = 0; i < names.len; i++)
-        if (names.at[i].id == id && names.at[i].is_group == is_group)
-            return names.at[i].name;
-    snprintf(digits, DIGITS, "%u", (unsigned)id);
-    return aclck_string(digits);
-}
-
-/* Makes the names of a group set, whose key has the ids, and behind them room for their digits. */
-static enum aclck_status name_groups(entry *e, aclck_fault *fault) {
-    size_t count = e->len / sizeof(uint32_t);
-    unsigned char *longer = realloc(e->key, e->len + count * DIGITS + 1);
-    uint32_t id;
-    (void)fault;
-    if (longer)
-        e->key = longer;
-    e->groups = malloc((count + 1) * sizeof *e->groups);
-    if (!longer || !e->groups)
-        return ACLCK_MEMORY;
-    e->count = count;
-    for (size_t i = 0; i < count; i++) {
-        memcpy(&id, e->key + i * sizeof id, sizeof id);
-        e->groups[i] = name_of(id, 1, (char *)e->key + e->len + i * DIGITS);
+/* Prepares a list for questions by ids. The bytes rarely need more room than those of the list. */
+static enum aclck_status prepare(entry *e, aclck_fault *fault) {
+    aclck_bytes list = aclck_bytes_of(e->key, e->len);
+    size_t room = e->len + 16;
+    enum aclck_status status = ACLCK_SHORT;
+    while (status == ACLCK_SHORT) {
+        unsigned char *more = realloc(e->made, room);
+        if (!more)
+            return ACLCK_MEMORY;
+        e->made = more;
+        status = aclck_prepare_ids(list, &names, ACLCK_FULL, aclck_buffer_of(e->made, room), &e->made_len, fault);
+        room = e->made_len;
     }
-    return ACLCK_DONE;
+    return status;
 }
 
-/* ---- Lists and objects */
-
-static uint32_t word_at(const unsigned char *at) {
-    return (uint32_t)at[0] << 24 | (uint32_t)at[1] << 16 | (uint32_t)at[2] << 8 | at[3];
-}
-
-/* Reads a list once. The mode is not used: the call says whether the bytes are a list. */
+/* Reads a list once: prepares it, and looks for an ALLOW of EXECUTE. */
 static enum aclck_status read_list(entry *e, aclck_fault *fault) {
-    uint32_t mode;
-    enum aclck_status status = aclck_mode(aclck_bytes_of(e->key, e->len), ACLCK_FULL, &mode, fault);
-    const unsigned char *ace = e->key + 4;
-    if (status)
-        return status;
-    for (uint32_t i = word_at(e->key); i > 0; i--) {
-        uint32_t kind = word_at(ace), flags = word_at(ace + 4), mask = word_at(ace + 8);
-        if (kind == ACLCK_ALLOW && !(flags & ACLCK_INHERIT_ONLY) && mask & ACLCK_EXECUTE)
+    aclck_ace ace = {.kind = ACLCK_DENY};
+    size_t offset = 0;
+    enum aclck_status status = prepare(e, fault);
+    while (status == ACLCK_DONE && ace.kind != ACLCK_UNDECIDED) {
+        status = aclck_next(aclck_bytes_of(e->key, e->len), ACLCK_FULL, &offset, &ace, fault);
+        if (ace.kind == ACLCK_ALLOW && !(ace.flags & ACLCK_INHERIT_ONLY) && ace.mask & ACLCK_EXECUTE)
             e->executes = 1;
-        ace += 16 + (word_at(ace + 12) + 3) / 4 * 4;
     }
-    return ACLCK_DONE;
+    return status;
 }
 
 static cache lists = {.lock = PTHREAD_MUTEX_INITIALIZER, .make = read_list};
-static cache group_sets = {.lock = PTHREAD_MUTEX_INITIALIZER, .make = name_groups};
 
 /* An object. The lock is held while any of it is read or written, so that all of it belongs together. */
 typedef struct {
@@ -116,26 +93,24 @@ static object look(size_t number) {
 
 /* ---- The decision */
 
-/* Returns what the server adds to the rights of the list, as nfs-ganesha does (docs/others.md): the owner may always read
-   and write the list and the attributes. The superuser may do everything but run a file that nobody may run. */
+/* Returns what the server adds to the rights of the list, as nfs-ganesha does (docs/others.md): the owner may always
+   read and write the list and the attributes. The superuser may do everything but run a file that nobody may run. */
 static uint32_t rights_of_the_server(const object *o, uint32_t user) {
     if (user == 0)
         return o->is_directory || o->list->executes ? ACLCK_ALL_RIGHTS : ACLCK_ALL_RIGHTS & ~ACLCK_EXECUTE;
     return user == o->owner ? OWNER_RIGHTS : 0;
 }
 
-/* Writes to *granted which of the wanted rights a user has, who is in a set of groups. */
-static enum aclck_status decide(const object *o, uint32_t user, const entry *set, uint32_t wanted, uint32_t *granted,
-                                aclck_fault *fault) {
-    char digits[3][DIGITS];
-    aclck_object owned = {name_of(o->owner, 0, digits[0]), name_of(o->group, 1, digits[1])};
-    aclck_requester requester = {name_of(user, 0, digits[2]), set->groups, set->count};
-    aclck_question question = {wanted, ACLCK_FULL};
-    enum aclck_status status =
-        aclck_granted(aclck_bytes_of(o->list->key, o->list->len), &owned, &requester, &question, granted, fault);
+/* Writes to *granted which of the wanted rights a user has. */
+static enum aclck_status decide(const object *o, const aclck_id_requester *who, uint32_t wanted, uint32_t *granted) {
+    aclck_bytes prepared = {o->list->made, o->list->made_len};
+    aclck_id_object owned = {.owner = o->owner, .group = o->group};
+    aclck_question question = {.mask = wanted, .options = ACLCK_FULL};
+    aclck_decided decided;
+    enum aclck_status status = aclck_decide_ids(prepared, &owned, who, &question, &decided);
     if (status)
         return status;
-    *granted |= wanted & rights_of_the_server(o, user);
+    *granted = decided.allowed | (wanted & rights_of_the_server(o, who->user));
     return ACLCK_DONE;
 }
 
@@ -158,24 +133,26 @@ static int compare_ids(const void *a, const void *b) {
     return (one > two) - (one < two);
 }
 
-/* Holds the group set of a word GID[,GID..]. The order of the ids does not matter. */
-static entry *read_groups(const char *word) {
-    enum aclck_status status;
-    aclck_fault fault;
-    entry *set = NULL;
+/* Reads a word GID[,GID..], in which the order of the ids does not matter. They rise in what it returns, each once, as
+   aclck_decide_ids() requires. Returns NULL if the word has no ids. */
+static uint32_t *read_groups(const char *word, size_t *ngroups) {
     uint32_t *ids;
-    size_t count = 1;
+    size_t count = 1, kept = 0;
     for (const char *at = word; *at; at++)
         count += *at == ',';
     ids = malloc(count * sizeof *ids);
     for (size_t i = 0; ids && word && i < count; i++)
         word = read_number(word, i + 1 < count ? ',' : '\0', &ids[i]);
-    if (ids && word) {
-        qsort(ids, count, sizeof *ids, compare_ids);
-        set = hold(&group_sets, ids, count * sizeof *ids, &status, &fault);
+    if (!ids || !word) {
+        free(ids);
+        return NULL;
     }
-    free(ids);
-    return set;
+    qsort(ids, count, sizeof *ids, compare_ids);
+    for (size_t i = 0; i < count; i++)
+        if (kept == 0 || ids[i] > ids[kept - 1])
+            ids[kept++] = ids[i];
+    *ngroups = kept;
+    return ids;
 }
 
 /* Holds the list in a file. Returns NULL, and writes the reply, if there is none. */
@@ -193,7 +170,8 @@ static entry *open_list(const char *name, FILE *out) {
         list = hold(&lists, bytes, len, &status, &fault);
     if (status == ACLCK_REFUSED &&
         aclck_reason_text(fault.reason, aclck_buffer_of(reason, sizeof reason), &named) == ACLCK_DONE)
-        fprintf(out, "refused: %.*s at byte %llu\n", (int)named, reason, (unsigned long long)fault.offset);
+        fprintf(out, "refused: %.*s at %s %llu\n", (int)named, reason,
+                fault.reason == ACLCK_UNKNOWN_NAME ? "ACE" : "byte", (unsigned long long)fault.offset);
     else if (!list)
         fprintf(out, "no list\n");
     if (file)
@@ -226,20 +204,20 @@ static void change(size_t number, const object *given, int has_list, int has_own
 }
 
 static void answer_access(const object *o, const char *user, const char *groups, const char *rights, FILE *out) {
-    uint32_t id, wanted, granted;
-    aclck_fault fault;
+    uint32_t wanted, granted;
+    aclck_id_requester who = {0};
     char text[256];
     size_t len;
-    entry *set = read_groups(groups);
-    if (!set || !read_number(user, '\0', &id) || aclck_read_mask(aclck_string(rights), &wanted))
+    uint32_t *ids = read_groups(groups, &who.ngroups);
+    who.groups = ids;
+    if (!ids || !read_number(user, '\0', &who.user) || aclck_read_mask(aclck_string(rights), &wanted))
         fprintf(out, "no request\n");
-    else if (decide(o, id, set, wanted, &granted, &fault) ||
+    else if (decide(o, &who, wanted, &granted) ||
              aclck_mask_text(granted, aclck_buffer_of(text, sizeof text), &len))
         fprintf(out, "no answer\n");
     else
         fprintf(out, "%.*s at change %llu\n", (int)len, text, (unsigned long long)o->change);
-    if (set)
-        let_go(&group_sets, set);
+    free(ids);
 }
 
 static int read_kind(const char *word, int *is_directory) {
@@ -326,7 +304,7 @@ static int listen_at(const char *path) {
     return 0;
 }
 
-/* Reads the words u:NAME=ID and g:NAME=ID. No name may be a number or stand twice, so that no two ids have one name. */
+/* Reads the words u:NAME=ID and g:NAME=ID. No name may be a number or stand twice, so that no name has two ids. */
 static int read_names(char **words, size_t count) {
     aclck_name *table = malloc((count + 1) * sizeof *table);
     names.at = table;
@@ -369,6 +347,5 @@ int main(int argc, char **argv) {
     if (status)
         return status;
     print_cache("lists", &lists);
-    print_cache("group sets", &group_sets);
     return fflush(stdout) ? 4 : 0;
 }

@@ -3,7 +3,7 @@ use Rattle.std.proofs.Common.{◌≡◌, ◌<◌, ℕ, List, Result, Ok, Err, ar
 use Rattle.std.specs.Prelude.{⊤, ◌≢◌, ◌++◌, IfErr, IfOk}
 use Rattle.std.specs.Global.{Vec}
 use Rattle.acl_perm.specs.Profile.{Profile}
-use Rattle.aclck_c.specs.Call.{JudgesInput, ReportsFault, WritesOfFile, WritesOfList}
+use Rattle.aclck_c.specs.Call.{JudgesInput, ReportsFault, WritesOfEntries, WritesOfFile, WritesOfList}
 use Rattle.aclck_c.specs.Lists.{AreList, IsRefusedList}
 use Rattle.aclck_c.specs.Names.{AreGoodNames}
 use Rattle.aclck_c.specs.Out.{WritesBytes}
@@ -26,7 +26,7 @@ fails_without_bytes failure.Memory fault after returned h =
     (λ is. omega (arith, is, h.0), λ is. omega (arith, is, h.0))
 
 -- a call that made bytes returns 0 or 5
-puts_no_other : (bytes : Vec ℕ) {buffer buffer_after : List ℕ} {needed needed_after : ℕ} {fault fault_after : Refusal}
+puts_no_other : {A : Type 0} (bytes : Vec A) {buffer buffer_after : List A} {needed needed_after : ℕ} {fault fault_after : Refusal}
     {returned : ℕ} → EndsCall (Ok bytes) buffer buffer_after needed needed_after fault fault_after returned
     → (number : ℕ) → 0 < number → number < 5 → returned ≡ number → ⊥
 puts_no_other bytes ends number above below is = elim ends.put.known [
@@ -35,7 +35,7 @@ puts_no_other bytes ends number above below is = elim ends.put.known [
 ]
 
 -- the bytes that a call made are in the buffer
-pub writes_bytes : (Means : List ℕ → Type 0) (made : Result (Vec ℕ) Failure) {buffer buffer_after : List ℕ}
+pub writes_bytes : {A : Type 0} (Means : List A → Type 0) (made : Result (Vec A) Failure) {buffer buffer_after : List A}
     {needed needed_after : ℕ} {fault fault_after : Refusal} {returned : ℕ}
     → IfOk made (λ bytes. Means bytes.items)
     → EndsCall made buffer buffer_after needed needed_after fault fault_after returned
@@ -69,8 +69,8 @@ in_words Means Says (Ok bytes) follows h = follows bytes.items h
 in_words Means Says (Err f) follows h = tt
 
 -- the fault of the caller is that of the failure
-pub reports_fault : (AreGood Known : Type 0) (IsRefused : Refusal → Type 0) (made : Result (Vec ℕ) Failure)
-    {buffer buffer_after : List ℕ} {needed needed_after : ℕ} {fault fault_after : Refusal} {returned : ℕ}
+pub reports_fault : {A : Type 0} (AreGood Known : Type 0) (IsRefused : Refusal → Type 0) (made : Result (Vec A) Failure)
+    {buffer buffer_after : List A} {needed needed_after : ℕ} {fault fault_after : Refusal} {returned : ℕ}
     → IfErr made (IsFailure AreGood IsRefused Known)
     → EndsCall made buffer buffer_after needed needed_after fault fault_after returned
     → ReportsFault IsRefused fault fault_after returned
@@ -84,8 +84,8 @@ reports_fault AreGood Known IsRefused (Err failure.Memory) says ends =
     record { refused = λ is. absurd (omega (arith, is, ends.reported.0)); kept = λ _. ends.reported.1 }
 
 -- what is known if memory ran out
-knows_at_memory : (AreGood Known : Type 0) (IsRefused : Refusal → Type 0) (made : Result (Vec ℕ) Failure)
-    {buffer buffer_after : List ℕ} {needed needed_after : ℕ} {fault fault_after : Refusal} {returned : ℕ}
+knows_at_memory : {A : Type 0} (AreGood Known : Type 0) (IsRefused : Refusal → Type 0) (made : Result (Vec A) Failure)
+    {buffer buffer_after : List A} {needed needed_after : ℕ} {fault fault_after : Refusal} {returned : ℕ}
     → IfErr made (IsFailure AreGood IsRefused Known)
     → EndsCall made buffer buffer_after needed needed_after fault fault_after returned
     → returned ≡ status.memory → Known
@@ -98,8 +98,8 @@ knows_at_memory AreGood Known IsRefused (Err (failure.Refused shown)) says ends 
 knows_at_memory AreGood Known IsRefused (Err failure.Memory) says ends is = says
 
 -- what is known if an argument is bad
-pub bad_argument : (AreGood Known : Type 0) (IsRefused : Refusal → Type 0) (made : Result (Vec ℕ) Failure)
-    {buffer buffer_after : List ℕ} {needed needed_after : ℕ} {fault fault_after : Refusal} {returned : ℕ}
+pub bad_argument : {A : Type 0} (AreGood Known : Type 0) (IsRefused : Refusal → Type 0) (made : Result (Vec A) Failure)
+    {buffer buffer_after : List A} {needed needed_after : ℕ} {fault fault_after : Refusal} {returned : ℕ}
     → IfErr made (IsFailure AreGood IsRefused Known)
     → EndsCall made buffer buffer_after needed needed_after fault fault_after returned
     → returned ≡ status.bad_argument → AreGood → ⊥
@@ -111,7 +111,7 @@ bad_argument AreGood Known IsRefused (Err (failure.Refused shown)) says ends is 
 bad_argument AreGood Known IsRefused (Err failure.Memory) says ends is = absurd (omega (arith, is, ends.reported.0))
 
 -- no other status is returned
-pub is_known_status : (made : Result (Vec ℕ) Failure) {buffer buffer_after : List ℕ} {needed needed_after : ℕ}
+pub is_known_status : {A : Type 0} (made : Result (Vec A) Failure) {buffer buffer_after : List A} {needed needed_after : ℕ}
     {fault fault_after : Refusal} {returned : ℕ}
     → EndsCall made buffer buffer_after needed needed_after fault fault_after returned
     → status.IsOneOf (status.done_or_short ++ status.failures) returned
@@ -124,8 +124,8 @@ is_known_status (Err failure.BadArgument) ends = inr (inr (inr (inl ends.reporte
 is_known_status (Err failure.Memory) ends = inr (inr (inr (inr (inl ends.reported.0))))
 
 -- what a call says about its input, with arguments that are good
-pub judges_input : (AreGood Known : Type 0) (IsRefused : Refusal → Type 0) (made : Result (Vec ℕ) Failure)
-    {buffer buffer_after : List ℕ} {needed needed_after : ℕ} {fault fault_after : Refusal} {returned : ℕ}
+pub judges_input : {A : Type 0} (AreGood Known : Type 0) (IsRefused : Refusal → Type 0) (made : Result (Vec A) Failure)
+    {buffer buffer_after : List A} {needed needed_after : ℕ} {fault fault_after : Refusal} {returned : ℕ}
     → AreGood → IfErr made (IsFailure ⊤ IsRefused Known)
     → EndsCall made buffer buffer_after needed needed_after fault fault_after returned
     → JudgesInput IsRefused Known AreGood status.done_or_short fault fault_after returned
@@ -150,6 +150,18 @@ writes_of_list {p} {list} {AreGood} Means {made} same good means says ends =
           (subst (λ (r : Profile). IfOk made (λ bytes. Means r bytes.items)) same means) ends;
       input = judges_input AreGood (AreList p list) (IsRefusedList p list 0) made good says_p ends;
     }
+
+-- a call that made items of POSIX entries, with arguments that are good
+pub writes_of_entries : {A : Type 0} {AreGood : Type 0} {IsRefused : Refusal → Type 0} {Means : List A → Type 0}
+    {made : Result (Vec A) Failure} {buffer buffer_after : List A} {needed needed_after : ℕ}
+    {fault fault_after : Refusal} {returned : ℕ}
+    → AreGood → IfOk made (λ items. Means items.items) → IfErr made (IsFailure ⊤ IsRefused ⊤)
+    → EndsCall made buffer buffer_after needed needed_after fault fault_after returned
+    → WritesOfEntries AreGood IsRefused Means buffer buffer_after needed needed_after fault fault_after returned
+writes_of_entries {AreGood} {IsRefused} {Means} {made} good means says ends = record {
+  items = writes_bytes Means made means ends;
+  input = judges_input AreGood ⊤ IsRefused made good says ends;
+}
 
 -- the names are good, unless an argument is bad or memory ran out
 names_are_good : (given : RawPosixText) (IsRefused : Refusal → Type 0) (Means : List ℕ → Type 0)

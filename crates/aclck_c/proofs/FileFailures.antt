@@ -1,5 +1,5 @@
 -- Faults of names and of texts are failures of a call over both.
-use Rattle.std.proofs.Common.{ℕ, List, Option, None, Some, Err, inl, inr, refl, rules, subst, sym}
+use Rattle.std.proofs.Common.{List, Option, None, Some, Err, inl, inr, refl, rules, subst, sym}
 use Rattle.std.specs.Prelude.{◌≡◌, IsSome}
 use Rattle.std.proofs.lemmas.Bool.{false≢true}
 use Rattle.acl_posix.specs.Names.{Table, empty_table}
@@ -15,7 +15,7 @@ use Rattle.aclck_c.specs.declared.refusal.Refusal.{Refusal}
 use Rattle.aclck_c.specs.internal.Failures.{IsFileFailure, ReadsTable, of_posix_text, of_refusal}
 
 -- no table is made where there is none
-no_table : (given : List RawName) → names_added empty_table given ≡ None → AreGoodNames given → ⊥
+pub no_table : (given : List RawName) → names_added empty_table given ≡ None → AreGoodNames given → ⊥
 no_table given none good = false≢true (subst (λ (t : Option Table). IsSome t) none good)
 
 -- what is refused of the names

@@ -1,11 +1,19 @@
 -- failures of the bridge
 pub mod Bridges
+-- a list of an array of ACEs
+pub mod Builds
+-- failures of a change of the mode
+pub mod Changes
 -- the names of a comparison
 pub mod Comparisons
 -- what a call promises, by what it made
 pub mod Endings
+-- failures of entries and of attributes
+pub mod EntriesFailures
 -- failures of names and of texts
 pub mod FileFailures
+-- failures of lists that are prepared for ids
+pub mod IdFailures
 -- answers for many requesters
 pub mod ManyRequesters
 -- the bytes of normal forms
@@ -14,3 +22,5 @@ pub mod Normalized
 pub mod Pairs
 -- masks of one right
 pub mod Rights
+-- names that are exchanged
+pub mod Renaming

@@ -1,7 +1,9 @@
 -- What calls from C promise (this library's own): what each status says about the answer, the arguments and the input.
-use Rattle.std.specs.Prelude.{◌≡◌, ◌≢◌, ◌++◌, ℕ, List}
+use Rattle.std.specs.Prelude.{◌≡◌, ◌≢◌, ◌++◌, ℕ, List, ⊤}
 use Rattle.acl_perm.specs.Profile.{Profile}
 use Rattle.aclck_c.specs.Compare.{IsRefusedPair}
+use Rattle.acl_posix.specs.declared.raw_entry.RawEntry.{RawEntry}
+use Rattle.aclck_c.specs.Entries.{AreRefusedInOrder}
 use Rattle.aclck_c.specs.Lists.{AreList, IsRefusedList}
 use Rattle.aclck_c.specs.Names.{AreGoodNames}
 use Rattle.aclck_c.specs.Out.{WritesBytes}
@@ -76,3 +78,18 @@ pub record WritesOfFile (given : RawPosixText) (AreGood : Type 0) (IsRefused : R
 abbrev pub WritesOfText : RawPosixText → Type 0 → (List ℕ → Type 0) → List ℕ → List ℕ → ℕ → ℕ
     → Refusal → Refusal → ℕ → Type 0
 WritesOfText given AreGood = WritesOfFile given AreGood (IsRefusedPosix given)
+
+-- a call that looks at POSIX entries, which must be in canonical order, takes no memory
+abbrev pub LooksAtEntries : List RawEntry → Type 0 → Refusal → Refusal → ℕ → Type 0
+LooksAtEntries raws AreGood = JudgesInput (AreRefusedInOrder raws) ⊥ AreGood status.only_done
+
+-- a call over POSIX entries; if memory runs out, nothing is said about them
+abbrev pub ReadsEntries : (Refusal → Type 0) → Type 0 → Refusal → Refusal → ℕ → Type 0
+ReadsEntries IsRefused AreGood = JudgesInput IsRefused ⊤ AreGood status.done_or_short
+
+-- what a call promises that makes bytes or entries of POSIX entries
+pub record WritesOfEntries {A : Type 0} (AreGood : Type 0) (IsRefused : Refusal → Type 0) (Means : List A → Type 0)
+    (buffer buffer_after : List A) (needed needed_after : ℕ) (fault fault_after : Refusal) (returned : ℕ)
+    : Type 0 where
+  pub items : WritesBytes Means buffer buffer_after needed needed_after returned
+  pub input : ReadsEntries IsRefused AreGood fault fault_after returned

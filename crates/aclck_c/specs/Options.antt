@@ -1,6 +1,6 @@
 -- What the bits of `options` and modes mean in calls from C (this library's own). No option is a right: see
 -- `all_rights`.
-use Rattle.std.specs.Prelude.{◌≡◌, ◌==◌, ◌+◌, ◌≤◌, ℕ, Bool, None, Option, Some, bit_and, if◌then◌else◌}
+use Rattle.std.specs.Prelude.{◌≡◌, ◌==◌, ◌+◌, ◌≤◌, ℕ, Bool, IsFalse, None, Option, Some, bit_and, if◌then◌else◌}
 use Rattle.acl_perm.specs.Bits.{all_mode_bits}
 use Rattle.acl_perm.specs.Profile.{Profile, full, narrow}
 use Rattle.acl_posix.specs.declared.form.Form.{Form}
@@ -22,9 +22,25 @@ directory_option = 0x02000000
 abbrev pub shown_option : ℕ
 shown_option = 0x04000000
 
+-- a list of entries with USER or GROUP entries and no MASK gets the MASK that setfacl adds
+abbrev pub add_mask_option : ℕ
+add_mask_option = 0x40000000
+
 -- the text has commas between the entries
 abbrev pub short_option : ℕ
 short_option = 0x08000000
+
+-- the groups of each requester are in rising order of their bytes
+abbrev pub groups_in_order_option : ℕ
+groups_in_order_option = 0x10000000
+
+-- what is inherited gets the flag INHERITED
+abbrev pub mark_option : ℕ
+mark_option = 0x20000000
+
+-- two names may become one
+abbrev pub may_merge_option : ℕ
+may_merge_option = 0x00800000
 
 -- ---- what they mean
 
@@ -55,9 +71,19 @@ form_from options =
 abbrev pub IsProfileOption : ℕ → Type 0
 IsProfileOption options = AreAllowed narrow_option options
 
--- the options are those of a call that creates an object in a directory with a list
-abbrev pub IsCreationOption : ℕ → Type 0
-IsCreationOption options = AreAllowed (narrow_option + directory_option) options
+-- the options are those of a call that reads no profile, and whose requesters may have their groups in order
+abbrev pub IsOrderOption : ℕ → Type 0
+IsOrderOption options = AreAllowed groups_in_order_option options
+
+-- the options are those of a call that may add a MASK
+abbrev pub IsMaskOption : ℕ → Type 0
+IsMaskOption options = AreAllowed add_mask_option options
+
+-- The options are those of a call that creates an object in a directory with a list. The narrow profile does not have
+-- the flag INHERITED, so it does not go with the option that sets this flag.
+pub record IsCreationOption (options : ℕ) : Type 0 where
+  pub known : AreAllowed (narrow_option + directory_option + mark_option) options
+  pub markable : IsFalse (has_option (narrow_option + mark_option) options)
 
 -- the number is a mode: it has no other bit than the nine file mode bits
 abbrev pub IsMode : ℕ → Type 0

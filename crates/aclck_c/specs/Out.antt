@@ -8,22 +8,23 @@ pub record Puts {A : Type 0} (text buffer buffer_after : List A) : Type 0 where
   pub put : buffer_after ≡ text ++ drop (length text) buffer
 
 -- the buffer begins with a text that satisfies this, and the length of the text is reported
-pub record HandsOut (Means : List ℕ → Type 0) (buffer buffer_after : List ℕ) (needed_after : ℕ) : Type 0 where
-  pub text : List ℕ
+pub record HandsOut {A : Type 0} (Means : List A → Type 0) (buffer buffer_after : List A) (needed_after : ℕ)
+    : Type 0 where
+  pub text : List A
   pub means : Means text
   pub puts : Puts text buffer buffer_after
   pub reported : needed_after ≡ length text
 
 -- a text that satisfies this is longer than the buffer, and its length is reported
-pub record IsShortFor (Means : List ℕ → Type 0) (buffer : List ℕ) (needed_after : ℕ) : Type 0 where
-  pub text : List ℕ
+pub record IsShortFor {A : Type 0} (Means : List A → Type 0) (buffer : List A) (needed_after : ℕ) : Type 0 where
+  pub text : List A
   pub means : Means text
   pub short : length buffer < length text
   pub reported : needed_after ≡ length text
 
 -- the effect of a call that writes bytes of this meaning on the buffer and on the reported length
-pub record WritesBytes (Means : List ℕ → Type 0) (buffer buffer_after : List ℕ) (needed needed_after returned : ℕ)
-    : Type 0 where
+pub record WritesBytes {A : Type 0} (Means : List A → Type 0) (buffer buffer_after : List A)
+    (needed needed_after returned : ℕ) : Type 0 where
   -- the bytes are at the front of the buffer
   pub done : returned ≡ status.done → HandsOut Means buffer buffer_after needed_after
   -- the bytes are longer than the buffer

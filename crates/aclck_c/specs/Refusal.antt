@@ -63,6 +63,18 @@ in_part number which place tag_number = record {
   tag = tag_number;
 }
 
+-- the name of the ACE at this place of a list would become one with another
+abbrev pub merged : ℕ → Refusal
+merged place = record {
+  offset = place;
+  line = 0;
+  column = 0;
+  reason = reason_called (codes "Merged");
+  list = 0;
+  part = 0;
+  tag = 0;
+}
+
 -- the list of a POSIX ACL is above a limit
 abbrev pub past_limits : Refusal
 past_limits = record {

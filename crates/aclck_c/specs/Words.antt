@@ -21,7 +21,8 @@ reasons = (1, codes "Truncated") ∷ (2, codes "TooManyAces") ∷ (3, codes "Aud
     ∷ (13, codes "TrailingBytes") ∷ (14, codes "Read") ∷ (15, codes "Memory") ∷ (16, codes "Fields")
     ∷ (17, codes "Flag") ∷ (18, codes "Mask") ∷ (19, codes "Tag") ∷ (20, codes "Qualifier") ∷ (21, codes "Id")
     ∷ (22, codes "UnknownName") ∷ (23, codes "Permission") ∷ (24, codes "EmptyEntry") ∷ (25, codes "Multi")
-    ∷ (26, codes "Duplicate") ∷ (27, codes "Miss") ∷ (28, codes "Limits") ∷ []
+    ∷ (26, codes "Duplicate") ∷ (27, codes "Miss") ∷ (28, codes "Limits") ∷ (29, codes "Size")
+    ∷ (30, codes "Version") ∷ (31, codes "Order") ∷ (32, codes "Merged") ∷ []
 
 -- the name of a number in a table of names
 abbrev pub name_in : List (ℕ × List ℕ) → ℕ → Option (List ℕ)

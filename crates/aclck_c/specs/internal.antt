@@ -1,10 +1,16 @@
 -- What only the code and its proofs need (this library's own): no clause of an export cites it.
 
+-- an ACE of an array
+pub mod Building
 -- the ACE that decides a right
 pub mod Deciding
 -- how calls end
 pub mod Endings
 -- why calls fail
 pub mod Failures
+-- why a list is not prepared for ids
+pub mod IdFailures
 -- the first difference of two lists
 pub mod Reports
+-- names that are exchanged
+pub mod Renaming

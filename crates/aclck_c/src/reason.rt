@@ -61,6 +61,14 @@ pub(crate) const MISS: u32 = 27;
 
 pub(crate) const LIMITS: u32 = 28;
 
+pub(crate) const SIZE: u32 = 29;
+
+pub(crate) const VERSION: u32 = 30;
+
+pub(crate) const ORDER: u32 = 31;
+
+pub(crate) const MERGED: u32 = 32;
+
 /// Returns the number of a reason for which a list is refused.
 pub(crate) fn reason_number(reason: Reason) -> u32
     ensures { result ≡ reason_number reason }
@@ -117,6 +125,10 @@ pub(crate) fn reason_name(number: u32) -> Option<&'static [u8]>
         DUPLICATE => Some(b"Duplicate"),
         MISS => Some(b"Miss"),
         LIMITS => Some(b"Limits"),
+        SIZE => Some(b"Size"),
+        VERSION => Some(b"Version"),
+        ORDER => Some(b"Order"),
+        MERGED => Some(b"Merged"),
         _ => None,
     }
 }

@@ -1,8 +1,8 @@
 //! Why and where something is refused, as C sees it.
 ghost use Rattle.std.specs.Prelude.{◌≡◌};
-ghost use Rattle.aclck_c.specs.Refusal.{at_place, in_list, in_part, past_limits};
+ghost use Rattle.aclck_c.specs.Refusal.{at_place, in_list, in_part, merged, past_limits};
 
-use crate::reason::{LIMITS, reason_number};
+use crate::reason::{LIMITS, MERGED, reason_number};
 use acl_nfs4::Reason;
 
 /// `struct aclck_fault`: a reason by its number, and its place. Fields that the reason does not use are 0.
@@ -70,6 +70,21 @@ impl Refusal {
             list: 0,
             part,
             tag,
+        }
+    }
+
+    /// Makes the refusal of a list in which the name of the ACE at this place would become one with another.
+    pub(crate) fn merged(place: usize) -> Refusal
+        ensures { result ≡ merged place }
+    {
+        Refusal {
+            offset: place as u64,
+            line: 0,
+            column: 0,
+            reason: MERGED,
+            list: 0,
+            part: 0,
+            tag: 0,
         }
     }
 

@@ -2,10 +2,13 @@
 //! 4506, sections 4.2, 4.10 and 4.13. The normal form is this library's own: the list of these tests is in normal form.
 //! The numbers of statuses and reasons are those of `aclck.h`.
 mod ample;
+mod prepared;
 
 use crate::options::NARROW;
 use crate::status::{BAD_ARGUMENT, DONE, MEMORY, REFUSED};
-use crate::{RawObject, RawQuestion, RawRequester, Refusal, aclck_check, aclck_normalize};
+use crate::{
+    RawAce, RawObject, RawQuestion, RawRequester, Refusal, aclck_check, aclck_next, aclck_normalize,
+};
 use std::alloc::Global;
 use std::test::Fail;
 
@@ -88,6 +91,36 @@ fn a_list_that_is_cut_short_is_refused_at_its_end_and_grants_nothing(
     assert_eq!(rt; answer, (REFUSED, 0));
     assert_eq!(rt; fault.offset, 23);
     assert_eq!(rt; fault.reason, 1);
+    Ok(())
+}
+
+#[test]
+fn the_aces_of_a_list_follow_one_another(rt: HostRuntime) -> Result<(), Fail> {
+    // An offset, the status there, and then the offset and the kind of the ACE.
+    let rows = [
+        (0, DONE, 24, 0),
+        (4, DONE, 24, 0),
+        (24, DONE, 24, 2),
+        (25, BAD_ARGUMENT, 25, 7),
+        (20, REFUSED, 20, 7),
+    ];
+    let mut fault = no_fault();
+    for (from, status, to, kind) in rows {
+        let mut offset = from;
+        let mut ace = RawAce {
+            kind: 7,
+            flags: 7,
+            mask: 7,
+            who: b"",
+        };
+        assert_eq!(rt;
+            aclck_next(LIST, 0, &mut offset, &mut ace, &mut fault),
+            status
+        );
+        assert_eq!(rt; (offset, ace.kind), (to, kind));
+        assert!(rt; kind != 0 || (ace.mask == 1 && ace.who == b"bob".as_slice()));
+    }
+    assert_eq!(rt; (fault.offset, fault.reason), (20, 4));
     Ok(())
 }
 

@@ -1,21 +1,33 @@
 -- Why calls fail (this library's own; only the code needs it).
-use Rattle.std.specs.Prelude.{◌≡◌, ⊤, ℕ, List, None, Option, Some, Result, Ok, Err}
+use Rattle.std.specs.Prelude.{◌≡◌, ⊤, ℕ, Bool, true, List, None, Option, Some, Result, Ok, Err}
 use Rattle.acl_perm.specs.Profile.{Profile}
 use Rattle.acl_nfs4.specs.declared.xdr.fault.Fault.{Fault}
+use Rattle.acl_nfs4.specs.declared.xdr.fault.Reason.{Reason}
+use Rattle.acl_nfs4.specs.declared.xdr.fault.Reason.TheVariants as reason
 use Rattle.acl_eval.specs.declared.bridging.BridgeFault.{BridgeFault}
 use Rattle.acl_eval.specs.declared.bridging.BridgeFault.TheVariants as bridge
+use Rattle.acl_eval.specs.declared.mode_change.ChmodFault.{ChmodFault}
+use Rattle.acl_eval.specs.declared.mode_change.ChmodFault.TheVariants as chmod
 use Rattle.acl_posix.specs.Names.{Table}
 use Rattle.acl_posix.specs.declared.names.NameFault.{NameFault}
 use Rattle.acl_posix.specs.declared.names.NameFault.TheVariants as names
 use Rattle.acl_posix.specs.declared.text_fault.TextFault.{TextFault}
+use Rattle.acl_posix.specs.declared.attribute_fault.AttributeFault.{AttributeFault}
+use Rattle.acl_posix.specs.declared.raw_entry.EntriesFault.{EntriesFault}
+use Rattle.acl_posix.specs.declared.raw_entry.RawEntry.{RawEntry}
+use Rattle.acl_posix.specs.declared.view_fault.ViewFault.{ViewFault}
+use Rattle.aclck_c.specs.Build.{IsRefusedBuild}
 use Rattle.aclck_c.specs.Compare.{IsRefusedPair}
 use Rattle.aclck_c.specs.Encode.{IsRefusedText}
-use Rattle.aclck_c.specs.Lists.{AreList, IsRefusedList}
+use Rattle.aclck_c.specs.Entries.{AreRefused, AreRefusedBridge, AreRefusedFor, AreRefusedInOrder, IsRefusedAttribute, attribute_refusal, entries_refusal, view_refusal}
+use Rattle.aclck_c.specs.Lists.{AreList, IsRefusedChmod, IsRefusedList}
 use Rattle.aclck_c.specs.Names.{AreGoodNames}
 use Rattle.aclck_c.specs.Posix.{IsRefusedBridge, IsRefusedPosix, posix_refusal}
 use Rattle.aclck_c.specs.Refusal.{in_list, past_limits}
+use Rattle.aclck_c.specs.Unknown.{IsRefusedPart}
 use Rattle.aclck_c.specs.declared.failure.Failure.{Failure}
 use Rattle.aclck_c.specs.declared.failure.Failure.TheVariants as failure
+use Rattle.aclck_c.specs.declared.nfs4.ace.RawAce.{RawAce}
 use Rattle.aclck_c.specs.declared.posix.file.RawPosixText.{RawPosixText}
 use Rattle.aclck_c.specs.declared.refusal.Refusal.{Refusal}
 
@@ -48,6 +60,11 @@ abbrev pub of_bridge : BridgeFault → Failure
 of_bridge bridge.Limits = failure.Refused past_limits
 of_bridge bridge.Memory = failure.Memory
 
+-- the failure of a list that has no list with a mode
+abbrev pub of_chmod : ChmodFault → Failure
+of_chmod chmod.Limits = failure.Refused past_limits
+of_chmod chmod.Memory = failure.Memory
+
 -- what a failure says: that an argument is bad, that the input is refused so, or what is known if memory runs out
 abbrev pub IsFailure : (AreGood : Type 0) → (Refusal → Type 0) → Type 0 → Failure → Type 0
 IsFailure AreGood IsRefused Known failure.BadArgument = AreGood → ⊥
@@ -57,6 +74,23 @@ IsFailure AreGood IsRefused Known failure.Memory = Known
 -- the bytes of a list have the fault, or memory ran out
 abbrev pub IsListFailure : Profile → List ℕ → ℕ → Failure → Type 0
 IsListFailure p bytes which = IsFailure ⊤ (IsRefusedList p bytes which) (AreList p bytes)
+
+-- the bytes of a list have the fault, the list is above a limit after its mode is set, or memory ran out
+abbrev pub IsChmodFailure : Profile → ℕ → List ℕ → Failure → Type 0
+IsChmodFailure p mode bytes = IsFailure ⊤ (IsRefusedChmod p mode bytes) (AreList p bytes)
+
+-- an ACE of an array is refused, or memory ran out
+abbrev pub IsBuildFailure : Profile → List RawAce → Failure → Type 0
+IsBuildFailure p aces = IsFailure ⊤ (IsRefusedBuild p aces) ⊤
+
+-- the failure of the reader of a part, by the reason and the place of its fault
+abbrev pub of_part_fault : Reason → ℕ → Failure
+of_part_fault reason.Memory offset = failure.Memory
+of_part_fault why offset = failure.Refused (in_list offset why 0)
+
+-- the bytes spell no list of any ACEs, and have the fault, or memory ran out
+abbrev pub IsPartFailure : Profile → List ℕ → Failure → Type 0
+IsPartFailure p bytes = IsFailure ⊤ (IsRefusedPart p bytes) ⊤
 
 -- the bytes of a list have the fault; a call that looks at the bytes alone takes no memory
 abbrev pub IsViewFailure : Profile → List ℕ → Failure → Type 0
@@ -91,3 +125,39 @@ AddsFileName expected after (Ok done) = expected ≡ Some after
 AddsFileName expected after (Err failure.BadArgument) = expected ≡ None
 AddsFileName expected after (Err (failure.Refused shown)) = ⊥
 AddsFileName expected after (Err failure.Memory) = ⊤
+
+-- the failure of entries
+abbrev pub of_raw_entries : EntriesFault → Failure
+of_raw_entries fault = of_refusal (entries_refusal fault)
+
+-- the failure of an attribute
+abbrev pub of_attribute : AttributeFault → Failure
+of_attribute fault = of_refusal (attribute_refusal fault)
+
+-- the entries have the fault, or memory ran out
+abbrev pub AreFailure : List RawEntry → Failure → Type 0
+AreFailure raws = IsFailure ⊤ (AreRefused raws) ⊤
+
+-- the same of the entries with the MASK that they lack
+abbrev pub AreMaskedFailure : List RawEntry → Failure → Type 0
+AreMaskedFailure raws = IsFailure ⊤ (AreRefusedFor true raws) ⊤
+
+-- the same of the entries, with the MASK that they lack if one is added
+abbrev pub AreFailureFor : Bool → List RawEntry → Failure → Type 0
+AreFailureFor adds raws = IsFailure ⊤ (AreRefusedFor adds raws) ⊤
+
+-- the entries have the fault, their list is above a limit, or memory ran out
+abbrev pub AreBridgeFailure : List RawEntry → Failure → Type 0
+AreBridgeFailure raws = IsFailure ⊤ (AreRefusedBridge raws) ⊤
+
+-- the attribute has the fault, or memory ran out
+abbrev pub IsAttributeFailure : List ℕ → Failure → Type 0
+IsAttributeFailure bytes = IsFailure ⊤ (IsRefusedAttribute bytes) ⊤
+
+-- the failure of entries that must be in canonical order
+abbrev pub of_view : ViewFault → Failure
+of_view fault = failure.Refused (view_refusal fault)
+
+-- the entries, which must be in canonical order, have the fault; the call takes no memory
+abbrev pub AreViewFailure : List RawEntry → Failure → Type 0
+AreViewFailure raws = IsFailure ⊤ (AreRefusedInOrder raws) ⊥

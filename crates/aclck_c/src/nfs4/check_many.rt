@@ -72,8 +72,8 @@ fn asked<'a>(object: &RawObject<'a>, question: &RawQuestion) -> Option<Many<'a>>
     })
 }
 
-// Returns whether no name of the requesters is empty.
-fn are_good(requesters: &[RawRequester<'_>]) -> bool
+/// Returns whether no name of the requesters is empty.
+pub(crate) fn are_good(requesters: &[RawRequester<'_>]) -> bool
     ensures { IsTrue result ↔ All IsGoodRequester requesters.now }
 {
     requesters.iter().all(|who| is_good(who))

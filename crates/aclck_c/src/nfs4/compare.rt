@@ -29,14 +29,16 @@ pub struct RawDifference {
     pub first_grants: u32,
 }
 
-const NO_DIFFERENCE: RawDifference = RawDifference {
+/// What is written if there is no difference.
+pub(crate) const NO_DIFFERENCE: RawDifference = RawDifference {
     names: 0,
     same: 1,
     right: 0,
     first_grants: 0,
 };
 
-const NOT_COMPARED: RawDifference = RawDifference {
+/// What is written if a call fails.
+pub(crate) const NOT_COMPARED: RawDifference = RawDifference {
     names: 0,
     same: 0,
     right: 0,
@@ -78,11 +80,11 @@ pub extern "C" fn aclck_compare(
     }
 }
 
-// How two lists compare, with the names as one text: a zero byte ends each name.
+/// How two lists compare, with the names as one text: a zero byte ends each name.
 #[derive(Drop)]
-struct Named {
-    at: RawDifference,
-    names: Vec<u8>,
+pub(crate) struct Named {
+    pub at: RawDifference,
+    pub names: Vec<u8>,
 }
 
 // Compares two lists.
@@ -109,7 +111,8 @@ fn comparison_of(alloc: Global, list: &Acl, other: &Acl) -> Result<Named, AllocE
     }
 }
 
-fn report_of(alloc: Global, found: &Difference) -> Result<Named, AllocError>
+/// Returns a difference as C sees it, with its names.
+pub(crate) fn report_of(alloc: Global, found: &Difference) -> Result<Named, AllocError>
     ensures { IfOk result (IsReportOf (situation_of found.now)
         found.now.bit.bits found.now.first_grants) }
 {

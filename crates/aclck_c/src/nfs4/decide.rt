@@ -17,6 +17,12 @@ pub struct RawDecided {
     pub denied: u32,
 }
 
+/// What is written if no ACE decides a right, or if the call fails.
+pub(crate) const NOTHING_DECIDED: RawDecided = RawDecided {
+    allowed: 0,
+    denied: 0,
+};
+
 /// Answers which of the rights that are asked the list that the bytes spell allows the requester on the object, and
 /// which it denies (RFC 8881, section 6.2.1). No ACE decides the rest, and nothing is decided if the call fails.
 /// Returns 0 if it is answered; 2 if the bytes are refused, with the reason in `fault`; 3 if a name is empty, or a
@@ -35,10 +41,7 @@ pub extern "C" fn aclck_decide(
     ensures input { LooksAtList (profile_from question.now.options) acl.now
         (AreGood object.now requester.now question.now) fault.old fault.new result }
 {
-    *decided = RawDecided {
-        allowed: 0,
-        denied: 0,
-    };
+    *decided = NOTHING_DECIDED;
     let Some(request) = asked(object, requester, question) else {
         return BAD_ARGUMENT;
     };

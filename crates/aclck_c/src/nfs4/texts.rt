@@ -7,11 +7,11 @@ ghost use Rattle.acl_nfs4.specs.AceText.{ace_text};
 ghost use Rattle.acl_nfs4.specs.BitNames.{first_name};
 ghost use Rattle.acl_nfs4.specs.Programs.{MakesText};
 ghost use Rattle.acl_nfs4.specs.Rights.{rights};
-ghost use Rattle.acl_eval.specs.Programs.{child_bytes};
+ghost use Rattle.acl_nfs4.specs.Spelling.{spelling};
 ghost use Rattle.acl_normal.specs.FiveForms.{five_spellings};
 ghost use Rattle.acl_normal.specs.NormalForm.{Normalizes};
 ghost use Rattle.acl_normal.specs.Programs.{NormalizesAtPaths, Tabulates};
-ghost use Rattle.aclck_c.specs.Lists.{MakesChild};
+ghost use Rattle.aclck_c.specs.Lists.{MakesChild, created_bytes};
 ghost use Rattle.aclck_c.specs.Table.{IsGoodTable, IsRightOf, is_right_of};
 ghost use Rattle.aclck_c.specs.Common.{IfErr, IfOk, IfSome, IsSome, profile_of, WritesOfList, profile_from, IsListFailure, IsCreationOption, IsProfileOption};
 
@@ -22,14 +22,15 @@ use crate::options::{ChildOptions, child_options_from, profile_from};
 use crate::out::answer;
 use crate::refusal::Refusal;
 use crate::status::BAD_ARGUMENT;
-use acl_eval::child;
-use acl_nfs4::bit_name;
+use acl_eval::{child_of_view, inherited_child};
+use acl_nfs4::{Acl, AclView, bit_name};
 use acl_normal::{FiveForms, normalize, normalize_inherit, table_text};
 use acl_perm::{Counted, Mask, Profile};
 use std::alloc::{AllocError, Global};
 
 /// Writes the bytes of the list that a new object gets in a directory with the list (RFC 8881, section 6.2.1.4.1). The
-/// new object is a directory if `options` have DIRECTORY, and otherwise a file.
+/// new object is a directory if `options` have DIRECTORY, and otherwise a file. If they have MARK_INHERITED, each ACE
+/// has INHERITED (section 6.4.3.2). It also returns 3 if they have MARK_INHERITED and NARROW.
 #[unsafe(no_mangle)]
 pub extern "C" fn aclck_child(
     alloc: Global,
@@ -51,12 +52,24 @@ pub extern "C" fn aclck_child(
 
 fn child_of(alloc: Global, acl: &[u8], creation: ChildOptions) -> Result<Vec<u8>, Failure>
     ensures ok { IfOk result (λ text.
-        MakesText (profile_of creation.profile) (child_bytes creation.kind) acl.now text.items) }
+        MakesText (profile_of creation.profile)
+        (created_bytes creation.kind creation.is_marked) acl.now text.items) }
     ensures err { IfErr result (IsListFailure (profile_of creation.profile) acl.now 0) }
 {
-    let parent = list_of(alloc, acl, creation.profile)?;
-    let list = child(alloc, &parent, creation.kind)?;
+    let parent = AclView::parse_whole_with(acl, creation.profile)?;
+    let list = created(alloc, &parent, creation)?;
     Ok(list.to_bytes(alloc)?)
+}
+
+fn created(alloc: Global, parent: &AclView<'_>, creation: ChildOptions) -> Result<Acl, AllocError>
+    ensures { IfOk result (λ list.
+        spelling list ≡ created_bytes creation.kind creation.is_marked parent.now) }
+{
+    if creation.is_marked {
+        inherited_child(alloc, parent, creation.kind)
+    } else {
+        child_of_view(alloc, parent, creation.kind)
+    }
 }
 
 /// Writes the text of the list, one line per ACE.

@@ -65,17 +65,17 @@ pub extern "C" fn aclck_posix_check(
     }
 }
 
-// The numbers of a request, once they are judged.
+/// The numbers of a request, once they are judged.
 #[derive(Clone, Copy)]
-struct PosixRequest {
-    owner: Id,
-    group: Id,
-    user: Id,
-    want: Perm,
+pub(crate) struct PosixRequest {
+    pub owner: Id,
+    pub group: Id,
+    pub user: Id,
+    pub want: Perm,
 }
 
-// Returns `None` if a number is not an id, or `want` is not a set of permissions.
-fn asked(question: &RawPosixQuestion<'_>) -> Option<PosixRequest>
+/// Returns the request of a question, or `None` if a number is not an id, or `want` is not a set of permissions.
+pub(crate) fn asked(question: &RawPosixQuestion<'_>) -> Option<PosixRequest>
     ensures good { IsSome result ↔ AreNumbers question.now }
     ensures owner { IfSome result (λ r. r.owner.value ≡ question.now.owner) }
     ensures group { IfSome result (λ r. r.group.value ≡ question.now.group) }
@@ -93,7 +93,8 @@ fn asked(question: &RawPosixQuestion<'_>) -> Option<PosixRequest>
     })
 }
 
-fn are_ids(numbers: &[u32]) -> bool
+/// Returns whether all numbers are ids.
+pub(crate) fn are_ids(numbers: &[u32]) -> bool
     ensures { IsTrue result ↔ All IsId numbers.now }
 {
     numbers.iter().all(|number| Id::new(*number).is_some())

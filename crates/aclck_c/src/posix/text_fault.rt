@@ -57,8 +57,8 @@ fn part_number(part: Part) -> u32
     }
 }
 
-// The numbers are those of `enum aclck_tag`.
-fn tag_number(tag: Tag) -> u32
+/// Returns the number of a tag in `enum aclck_tag`.
+pub(crate) fn tag_number(tag: Tag) -> u32
     ensures { result ≡ tag_number tag }
 {
     match tag {

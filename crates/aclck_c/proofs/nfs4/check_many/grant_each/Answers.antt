@@ -15,7 +15,7 @@ loop-place-preserved c =
       rights = right_up_to
           (λ who granted. AreGranted c.args.view.now
           (asked_by (owner_of request.object) (owning_group_of request.object) who) request.mask.bits granted)
-          c.args.requesters.now c.loop-place.rights c.loop-place.place c.granted_to.result _ c.granted_to.ensures
+          c.args.requesters.now c.loop-place.rights c.loop-place.place c.granted_to.result 0 _ c.granted_to.ensures
           (omega (arith, count, c.loop-place-test.true)) c.loop-place.invariant.rights;
     }
 

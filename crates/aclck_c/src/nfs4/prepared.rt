@@ -1,0 +1,128 @@
+//! A list that is read once and then asked often, by its prepared bytes.
+ghost use Rattle.std.specs.Prelude.{◌≡◌, ◌↔◌, List};
+ghost use Rattle.acl_nfs4.specs.Ace.{Ace};
+ghost use Rattle.acl_eval.specs.Prepared.{IsPrepared};
+ghost use Rattle.acl_eval.specs.Situation.{owner_of, owning_group_of};
+ghost use Rattle.aclck_c.specs.Prepared.{AnswersPrepared, AreDecidedIn, AreGoodForPrepared, IsPreparedCall, Prepares};
+ghost use Rattle.aclck_c.specs.Requests.{nothing_decided};
+ghost use Rattle.aclck_c.specs.Common.{IfErr, IfOk, IfSome, IsSome, profile_of, situation, WritesOfList, profile_from, asked, IsListFailure, IsProfileOption};
+
+use crate::failure::Failure;
+use crate::nfs4::decide::{NOTHING_DECIDED, RawDecided};
+use crate::nfs4::request::{RawObject, RawQuestion, RawRequester};
+use crate::options::{is_order_option, profile_from};
+use crate::out::answer;
+use crate::refusal::Refusal;
+use crate::status::{BAD_ARGUMENT, DONE};
+use acl_eval::{Object, Prepared, Requester, prepare};
+use acl_nfs4::AclView;
+use acl_perm::{Mask, Profile};
+use std::alloc::Global;
+
+/// Writes the prepared bytes of the list that the bytes spell (this library's own, over RFC 8881, section 6.2.1). They
+/// hold no address, so they may be kept in a file, mapped, and read by many threads. Returns 0 if they are at the front
+/// of `out`; 2 if the bytes are refused, with the reason in `fault`; 3 if an option has no meaning; 4 if memory ran
+/// out; 5 if `out` is too short. At 0 and 5 `needed` is the number of the prepared bytes.
+#[unsafe(no_mangle)]
+pub extern "C" fn aclck_prepare(
+    alloc: Global,
+    acl: &[u8],
+    options: u32,
+    out: &mut [u8],
+    needed: &mut usize,
+    fault: &mut Refusal,
+) -> u32
+    ensures { WritesOfList (profile_from options) acl.now (IsProfileOption options)
+        (Prepares (profile_from options) acl.now)
+        out.old out.new needed.old needed.new fault.old fault.new result }
+{
+    let Some(profile) = profile_from(options) else {
+        return BAD_ARGUMENT;
+    };
+    answer(prepared_bytes(alloc, acl, profile), out, needed, fault)
+}
+
+fn prepared_bytes(alloc: Global, acl: &[u8], profile: Profile) -> Result<Vec<u8>, Failure>
+    ensures ok { IfOk result (λ bytes. Prepares (profile_of profile) acl.now bytes.items) }
+    ensures err { IfErr result (IsListFailure (profile_of profile) acl.now 0) }
+{
+    let view = AclView::parse_whole_with(acl, profile)?;
+    Ok(prepare(alloc, &view)?)
+}
+
+/// Answers as `aclck_decide` does for the list whose prepared bytes these are: which of the rights that are asked it
+/// allows the requester on the object, and which it denies. It stops when all of them are decided. Returns 0 if it is
+/// answered; 3 if a name is empty, or a number or an option has no meaning. Bytes that `aclck_prepare` did not write
+/// get 3, or an answer that means nothing. Nothing is decided if the call fails. It takes no memory.
+#[unsafe(no_mangle)]
+pub extern "C" fn aclck_decide_prepared(
+    prepared: &[u8],
+    object: &RawObject<'_>,
+    requester: &RawRequester<'_>,
+    question: &RawQuestion,
+    decided: &mut RawDecided,
+) -> u32
+    ensures { AnswersPrepared prepared.now (AreGoodForPrepared object.now requester.now question.now)
+        (AreDecidedIn (asked object.now requester.now) question.now.mask) nothing_decided decided.new result }
+{
+    *decided = NOTHING_DECIDED;
+    let Some(call) = call_of(object, question) else {
+        return BAD_ARGUMENT;
+    };
+    let Some(requester) = Requester::new(requester.user, requester.groups) else {
+        return BAD_ARGUMENT;
+    };
+    match decided_by(prepared, &call, &requester) {
+        Some(found) => {
+            *decided = found;
+            DONE
+        }
+        None => BAD_ARGUMENT,
+    }
+}
+
+/// What is the same for all requesters: the object, and the rights that are requested.
+#[derive(Clone, Copy)]
+pub(crate) struct PreparedCall<'a> {
+    pub object: Object<'a>,
+    pub mask: Mask,
+}
+
+/// Returns what is asked of prepared bytes, or `None` if a name is empty, a bit of the mask is not a right, or an option
+/// has no meaning.
+pub(crate) fn call_of<'a>(
+    object: &RawObject<'a>,
+    question: &RawQuestion,
+) -> Option<PreparedCall<'a>>
+    ensures good { IsSome result ↔ IsPreparedCall object.now question.now }
+    ensures owner { IfSome result (λ call. owner_of call.object ≡ object.now.owner.now) }
+    ensures group { IfSome result (λ call. owning_group_of call.object ≡ object.now.group.now) }
+    ensures mask { IfSome result (λ call. call.mask.bits ≡ question.now.mask) }
+{
+    if !is_order_option(question.options) {
+        return None;
+    }
+    Some(PreparedCall {
+        object: Object::new(object.owner, object.group)?,
+        mask: Mask::new(question.mask)?,
+    })
+}
+
+/// Returns which of the rights the list whose prepared bytes these are allows the requester, and which it denies. For
+/// other bytes it returns `None`, or an answer that means nothing.
+pub(crate) fn decided_by(
+    prepared: &[u8],
+    call: &PreparedCall<'_>,
+    requester: &Requester<'_>,
+) -> Option<RawDecided>
+    ensures some { (list : List Ace) → IsPrepared list prepared.now → IsSome result }
+    ensures rights { (list : List Ace) → IsPrepared list prepared.now
+        → IfSome result (AreDecidedIn (situation call.now.object requester.now) call.now.mask.bits list) }
+{
+    let list = Prepared::read(prepared)?;
+    let found = list.decided(&call.object, requester, call.mask)?;
+    Some(RawDecided {
+        allowed: found.allowed.bits(),
+        denied: found.denied.bits(),
+    })
+}

@@ -1,0 +1,93 @@
+//! Calls that make bytes of a list. The lists are written by hand by RFC 8881, sections 6.2.1.4.1, 6.4.1.1 and 6.4.3.2,
+//! and RFC 4506.
+use crate::options::{DIRECTORY, MARK_INHERITED, NARROW};
+use crate::status::{BAD_ARGUMENT, DONE, REFUSED, SHORT};
+use crate::tests::prepared::PREPARED;
+use crate::tests::{LIST, no_fault};
+use crate::{aclck_child, aclck_chmod, aclck_prepare};
+use std::test::Fail;
+
+#[test]
+fn a_list_is_prepared(rt: HostRuntime) -> Result<(), Fail> {
+    let mut fault = no_fault();
+    let mut needed = 0;
+    let mut out = [0u8; 19];
+    let status = aclck_prepare(rt.alloc(), LIST, NARROW, &mut out, &mut needed, &mut fault);
+    assert_eq!(rt; status, DONE);
+    assert_eq!(rt; out, *PREPARED);
+    let mut short = [0u8; 18];
+    let status = aclck_prepare(rt.alloc(), LIST, 0, &mut short, &mut needed, &mut fault);
+    assert_eq!(rt; status, SHORT);
+    assert_eq!(rt; needed, 19);
+    let cut = &LIST[..23];
+    let status = aclck_prepare(rt.alloc(), cut, 0, &mut out, &mut needed, &mut fault);
+    assert_eq!(rt; status, REFUSED);
+    assert_eq!(rt; fault.offset, 23);
+    Ok(())
+}
+
+// ALLOW FILE|DIRECTORY READ_DATA bob.
+const PASSED_ON: &[u8; 24] = b"\0\0\0\x01\0\0\0\0\0\0\0\x03\0\0\0\x01\0\0\0\x03bob\0";
+
+#[test]
+fn what_is_inherited_is_marked_if_the_options_say_so(rt: HostRuntime) -> Result<(), Fail> {
+    let rows = [
+        (0, DONE, 0),
+        (MARK_INHERITED, DONE, 0x80),
+        (DIRECTORY, DONE, 3),
+        (DIRECTORY | MARK_INHERITED, DONE, 0x83),
+        (NARROW | DIRECTORY, DONE, 3),
+        (NARROW | MARK_INHERITED, BAD_ARGUMENT, 7),
+    ];
+    for (options, expected, flags) in rows {
+        let mut fault = no_fault();
+        let mut needed = 0;
+        let mut out = [7u8; 24];
+        let status = aclck_child(
+            rt.alloc(),
+            PASSED_ON,
+            options,
+            &mut out,
+            &mut needed,
+            &mut fault,
+        );
+        assert_eq!(rt; status, expected);
+        assert_eq!(rt; out[11], flags);
+    }
+    Ok(())
+}
+
+// The list of bob with the mode 0600: ALLOW READ_DATA|WRITE_DATA|APPEND_DATA OWNER@, DENY EXECUTE OWNER@, and DENY of
+// all four GROUP@. Nothing is left for bob.
+const PRIVATE: &[u8; 76] = b"\0\0\0\x03\
+\0\0\0\0\0\0\0\0\0\0\0\x07\0\0\0\x06OWNER@\0\0\
+\0\0\0\x01\0\0\0\0\0\0\0\x20\0\0\0\x06OWNER@\0\0\
+\0\0\0\x01\0\0\0\0\0\0\0\x27\0\0\0\x06GROUP@\0\0";
+
+#[test]
+fn a_list_gets_a_mode(rt: HostRuntime) -> Result<(), Fail> {
+    let rows = [
+        (0o600, 0, DONE),
+        (0o600, NARROW, DONE),
+        (0o1000, 0, BAD_ARGUMENT),
+        (0o600, DIRECTORY, BAD_ARGUMENT),
+    ];
+    for (mode, options, expected) in rows {
+        let mut fault = no_fault();
+        let mut needed = 0;
+        let mut out = [7u8; 76];
+        let status = aclck_chmod(
+            rt.alloc(),
+            LIST,
+            mode,
+            options,
+            &mut out,
+            &mut needed,
+            &mut fault,
+        );
+        assert_eq!(rt; status, expected);
+        assert_eq!(rt; needed, if expected == DONE { 76 } else { 0 });
+        assert_eq!(rt; out == *PRIVATE, expected == DONE);
+    }
+    Ok(())
+}

@@ -1,0 +1,424 @@
+/* Tests the calls of libaclck over POSIX entries and over the extended attributes of Linux, with rows that were worked
+ * by hand from acl(5). tests/library.c compares the same calls with those over texts.
+ *
+ *     library_entries [FILE]
+ *
+ * With -DREFUSE each request for memory of the calls fails in turn. The kernel is given 4,000 attributes for FILE, and
+ * must accept and refuse what aclck_entries_from_attribute() does; it also accepts an id twice.
+ */
+#include "library_calls.h"
+#include <sys/xattr.h>
+
+enum { MOST = 16 };
+
+typedef struct {
+    aclck_entry at[MOST];
+    size_t len;
+} list;
+
+#define U(perm) {ACLCK_TAG_USER_OBJ, NONE, perm}
+#define USER(id, perm) {ACLCK_TAG_USER, id, perm}
+#define G(perm) {ACLCK_TAG_GROUP_OBJ, NONE, perm}
+#define GROUP(id, perm) {ACLCK_TAG_GROUP, id, perm}
+#define M(perm) {ACLCK_TAG_MASK, NONE, perm}
+#define O(perm) {ACLCK_TAG_OTHER, NONE, perm}
+#define NONE 4294967295u
+
+/* ---- the calls */
+
+typedef struct {
+    aclck_entries entries;
+    aclck_bytes attribute;
+    uint32_t number;
+    aclck_creation creation;
+} given;
+
+#define WRITER(name, call)                                                                                             \
+    static enum aclck_status name(const void *with, void *room, size_t cap, size_t *needed, aclck_fault *fault) {      \
+        const given *g = with;                                                                                         \
+        const aclck_entry_buffer out = {room, cap};                                                                    \
+        return call;                                                                                                   \
+    }
+#define BYTES aclck_buffer_of(out.at, out.cap)
+WRITER(sort, aclck_entries_sorted(g->entries, (enum aclck_option)g->number, out, needed, fault))
+WRITER(set_mode, aclck_entries_chmod(g->entries, g->number, out, needed, fault))
+WRITER(calculate, aclck_entries_calc_mask(g->entries, out, needed, fault))
+WRITER(create, aclck_entries_create(g->entries, &g->creation, out, needed, fault))
+WRITER(bridge, aclck_entries_bridge(g->entries, BYTES, needed, fault))
+WRITER(read_attribute, aclck_entries_from_attribute(g->attribute, out, needed, fault))
+WRITER(write_attribute, aclck_entries_to_attribute(g->entries, BYTES, needed, fault))
+
+static given with_entries(const list *l, uint32_t number) {
+    given g;
+    memset(&g, 0, sizeof g);
+    g.entries.at = l->at;
+    g.entries.len = l->len;
+    g.number = number;
+    g.attribute = aclck_string("");
+    return g;
+}
+
+static void gives_entries(writer *write, const given *g, const list *wanted) {
+    writes(write, g, sizeof(aclck_entry), wanted->at, wanted->len);
+}
+
+static aclck_fault fault_at(uint64_t offset, uint32_t reason, uint32_t tag) {
+    const aclck_fault fault = {offset, 0, 0, reason, 0, 0, tag};
+    return fault;
+}
+
+/* ---- questions */
+
+/* Of a long ACL with a mask that leaves read alone: the owner and others are not limited by it. */
+static void are_questions_answered(void) {
+    static const list acl = {{U(7), USER(1002, 6), G(5), GROUP(30, 3), GROUP(40, 6), M(4), O(1)}, 7};
+    static const struct {
+        uint32_t user, want, groups[2];
+        size_t ngroups;
+        uint32_t granted, place, tag, masked;
+    } rows[] = {
+        {1001, 7, {0}, 0, 1, 0, ACLCK_TAG_USER_OBJ, 0},   {1002, 4, {0}, 0, 1, 1, ACLCK_TAG_USER, 0},
+        {1002, 2, {0}, 0, 0, 1, ACLCK_TAG_USER, 1},       {1002, 1, {40}, 1, 0, 1, ACLCK_TAG_USER, 0},
+        {1003, 4, {20}, 1, 1, 2, ACLCK_TAG_GROUP_OBJ, 0}, {1003, 4, {30}, 1, 0, 0, 0, 0},
+        {1003, 2, {40, 30}, 2, 0, 3, ACLCK_TAG_GROUP, 1}, {1003, 4, {30, 40}, 2, 1, 4, ACLCK_TAG_GROUP, 0},
+        {1003, 1, {0}, 0, 1, 6, ACLCK_TAG_OTHER, 0},      {1003, 2, {99}, 1, 0, 6, ACLCK_TAG_OTHER, 0},
+        {1003, 0, {30}, 1, 1, 3, ACLCK_TAG_GROUP, 0},     {1003, 7, {20, 30}, 2, 0, 0, 0, 0},
+    };
+    for (size_t i = 0; i < sizeof rows / sizeof *rows; i++) {
+        const aclck_posix_question question = {1001, 20, rows[i].user, rows[i].want, rows[i].groups, rows[i].ngroups};
+        const aclck_entries entries = {acl.at, acl.len};
+        aclck_posix_decision found;
+        aclck_fault fault;
+        uint32_t granted = 77;
+        long before = requests;
+        memset(&found, 0xee, sizeof found);
+        EXPECT(aclck_entries_check(entries, &question, &granted, &fault) == ACLCK_DONE && granted == rows[i].granted);
+        EXPECT(aclck_entries_deciding(entries, &question, &found, &fault) == ACLCK_DONE);
+        EXPECT(found.granted == rows[i].granted && found.place == rows[i].place && found.tag == rows[i].tag);
+        EXPECT(found.masked == rows[i].masked && requests == before);
+    }
+}
+
+static int is_nothing(const aclck_posix_decision *found) {
+    return !found->granted && !found->place && !found->tag && !found->masked;
+}
+
+/* Both questions end with this status, and are answered so that nothing is granted. */
+static void are_closed(aclck_entries entries, const aclck_posix_question *question, enum aclck_status status,
+                       aclck_fault wanted) {
+    aclck_fault fault = no_fault();
+    aclck_posix_decision found;
+    uint32_t granted = 77;
+    memset(&found, 0xee, sizeof found);
+    EXPECT(aclck_entries_check(entries, question, &granted, &fault) == status && granted == 0);
+    EXPECT(memcmp(&fault, &wanted, sizeof fault) == 0);
+    EXPECT(aclck_entries_deciding(entries, question, &found, &fault) == status && is_nothing(&found));
+    EXPECT(memcmp(&fault, &wanted, sizeof fault) == 0);
+}
+
+static void are_bad_questions_refused(void) {
+    static const list acl = {{U(7), G(5), O(1)}, 3};
+    static const uint32_t ids[] = {7, NONE};
+    const aclck_entries entries = {acl.at, acl.len};
+    for (int i = 0; i < 4; i++) { /* the owner, the group, the user or one of the groups is no id */
+        const aclck_posix_question no_id = {ids[i == 0], ids[i == 1], ids[i == 2], 4, ids, i == 3 ? 2 : 1};
+        are_closed(entries, &no_id, ACLCK_BAD_ARGUMENT, no_fault());
+    }
+    const aclck_posix_question more = {7, 7, 7, 8, ids, 1};
+    are_closed(entries, &more, ACLCK_BAD_ARGUMENT, no_fault());
+}
+
+/* ---- entries that are no valid ACL, and their order */
+
+static void are_faults_reported(void) {
+    static const struct {
+        list acl;
+        uint32_t reason, place, tag;
+    } rows[] = {
+        {{{U(7), {0, NONE, 5}, O(1)}, 3}, ACLCK_TAG, 1, 0},
+        {{{U(7), {7, NONE, 8}, O(1)}, 3}, ACLCK_TAG, 1, 0},
+        {{{U(7), USER(NONE, 8), G(5), O(1)}, 4}, ACLCK_ID, 1, 0},
+        {{{U(7), G(5), GROUP(NONE, 1), O(1)}, 4}, ACLCK_ID, 2, 0},
+        {{{U(7), G(5), O(8)}, 3}, ACLCK_PERMISSION, 2, 0},
+        {{{U(7), G(5)}, 2}, ACLCK_MISS, 0, ACLCK_TAG_OTHER},
+        {{{G(5), O(1)}, 2}, ACLCK_MISS, 0, ACLCK_TAG_USER_OBJ},
+        {{{U(5), O(1)}, 2}, ACLCK_MISS, 0, ACLCK_TAG_GROUP_OBJ},
+        {{{U(7), USER(7, 1), G(5), O(1)}, 4}, ACLCK_MISS, 0, ACLCK_TAG_MASK},
+        {{{{0, 0, 0}}, 0}, ACLCK_MISS, 0, ACLCK_TAG_USER_OBJ},
+    };
+    static const aclck_posix_question question = {1, 2, 3, 4, &question.user, 0};
+    for (size_t i = 0; i < sizeof rows / sizeof *rows; i++) {
+        const given g = with_entries(&rows[i].acl, 0);
+        const aclck_fault fault = fault_at(rows[i].place, rows[i].reason, rows[i].tag);
+        uint32_t mode = 77;
+        aclck_fault found = no_fault();
+        refuses(sort, &g, sizeof(aclck_entry), fault);
+        refuses(set_mode, &g, sizeof(aclck_entry), fault);
+        refuses(calculate, &g, sizeof(aclck_entry), fault);
+        refuses(create, &g, sizeof(aclck_entry), fault);
+        refuses(bridge, &g, 1, fault);
+        refuses(write_attribute, &g, 1, fault);
+        EXPECT(aclck_entries_mode(g.entries, &mode, &found) == ACLCK_REFUSED && mode == 0);
+        EXPECT(memcmp(&found, &fault, sizeof fault) == 0);
+        are_closed(g.entries, &question, ACLCK_REFUSED, fault);
+    }
+}
+
+/* Entries that occur twice, at the place of the second of them. */
+static void are_repeats_reported(void) {
+    static const struct {
+        list acl;
+        uint32_t reason, place;
+    } rows[] = {
+        {{{O(1), U(7), G(5), O(2)}, 4}, ACLCK_MULTI, 3},
+        {{{U(7), USER(9, 1), USER(7, 1), USER(9, 2), G(5), M(7), O(1)}, 7}, ACLCK_DUPLICATE, 3},
+        {{{GROUP(9, 1), U(7), USER(9, 1), G(5), M(7), O(1), GROUP(9, 1)}, 7}, ACLCK_DUPLICATE, 6},
+    };
+    for (size_t i = 0; i < sizeof rows / sizeof *rows; i++) {
+        const given g = with_entries(&rows[i].acl, 0);
+        refuses(sort, &g, sizeof(aclck_entry), fault_at(rows[i].place, rows[i].reason, 0));
+        refuses(calculate, &g, sizeof(aclck_entry), fault_at(rows[i].place, rows[i].reason, 0));
+    }
+}
+
+/* Any two entries that are exchanged: the questions refuse them, and aclck_entries_sorted() puts them in order. */
+static void is_order_judged(void) {
+    static const list acl = {{U(7), USER(5, 6), USER(9, 6), G(5), GROUP(5, 3), GROUP(9, 6), M(4), O(1)}, 8};
+    static const aclck_posix_question question = {1, 2, 3, 4, &question.user, 0};
+    for (size_t i = 0; i < acl.len; i++)
+        for (size_t k = i + 1; k < acl.len; k++) {
+            list mixed = acl;
+            mixed.at[i] = acl.at[k];
+            mixed.at[k] = acl.at[i];
+            const given g = with_entries(&mixed, 0);
+            are_closed(g.entries, &question, ACLCK_REFUSED, fault_at(i + 1, ACLCK_ORDER, 0));
+            gives_entries(sort, &g, &acl);
+        }
+}
+
+/* ---- entries that are changed */
+
+static void are_entries_changed(void) {
+    static const list full = {{U(7), USER(1002, 6), G(5), GROUP(30, 3), GROUP(40, 6), M(4), O(1)}, 7};
+    static const list mixed = {{O(1), GROUP(40, 6), USER(1002, 6), M(4), U(7), GROUP(30, 3), G(5)}, 7};
+    static const list full_0620 = {{U(6), USER(1002, 6), G(5), GROUP(30, 3), GROUP(40, 6), M(2), O(0)}, 7};
+    static const list full_calculated = {{U(7), USER(1002, 6), G(5), GROUP(30, 3), GROUP(40, 6), M(7), O(1)}, 7};
+    static const list small = {{U(6), G(4), O(0)}, 3}, small_0751 = {{U(7), G(5), O(1)}, 3};
+    static const list small_calculated = {{U(6), G(4), M(4), O(0)}, 4};
+    static const list no_mask = {{U(7), USER(1002, 2), G(1), O(0)}, 4};
+    static const list with_mask = {{U(7), USER(1002, 2), G(1), M(3), O(0)}, 5};
+    static const list wide = {{U(7), USER(1002, 7), G(5), M(5), O(5)}, 5};
+    static const list wide_0640 = {{U(6), USER(1002, 7), G(5), M(4), O(0)}, 5};
+    static const list small_0666 = {{U(6), G(4), O(0)}, 3};
+    static const struct {
+        writer *write;
+        const list *acl;
+        uint32_t number;
+        const list *wanted;
+    } rows[] = {
+        {sort, &full, 0, &full},
+        {sort, &mixed, 0, &full},
+        {sort, &mixed, ACLCK_ADD_MASK, &full},
+        {sort, &small, ACLCK_ADD_MASK, &small},
+        {sort, &no_mask, ACLCK_ADD_MASK, &with_mask},
+        {set_mode, &mixed, 0620, &full_0620},
+        {set_mode, &small, 0751, &small_0751},
+        {calculate, &mixed, 0, &full_calculated},
+        {calculate, &small, 0, &small_calculated},
+        {create, &wide, 0640, &wide_0640},
+        {create, &small, 0666, &small_0666},
+    };
+    for (size_t i = 0; i < sizeof rows / sizeof *rows; i++) {
+        given g = with_entries(rows[i].acl, rows[i].number);
+        g.creation.mode = rows[i].number;
+        g.creation.umask = 077;
+        gives_entries(rows[i].write, &g, rows[i].wanted);
+    }
+}
+
+static void are_modes_read(void) {
+    static const list full = {{U(7), USER(1002, 6), G(5), M(4), O(1)}, 5}, small = {{U(6), G(4), O(0)}, 3};
+    const aclck_entries a = {full.at, full.len}, b = {small.at, small.len};
+    aclck_fault fault;
+    uint32_t mode = 77;
+    EXPECT(aclck_entries_mode(b, &mode, &fault) == ACLCK_DONE && mode == 0640);
+    EXPECT(aclck_entries_mode(a, &mode, &fault) == ACLCK_DONE && mode == 0741);
+}
+
+static void are_bad_numbers_refused(void) {
+    static const list acl = {{U(6), G(4), O(0)}, 3};
+    given g = with_entries(&acl, 01000);
+    is_bad(set_mode, &g, sizeof(aclck_entry));
+    for (int i = 0; i < 2; i++) {
+        const aclck_creation creation = {i ? 01000 : 0, i ? 0 : 01000, ACLCK_FILE};
+        g.creation = creation;
+        is_bad(create, &g, sizeof(aclck_entry));
+    }
+    for (int bit = 0; bit < 32; bit++) {
+        const uint32_t option = (uint32_t)1 << bit;
+        const aclck_creation creation = {0777, 022, (enum aclck_option)option};
+        g = with_entries(&acl, option);
+        g.creation = creation;
+        if (option != ACLCK_ADD_MASK)
+            is_bad(sort, &g, sizeof(aclck_entry));
+        if (option != ACLCK_DIRECTORY)
+            is_bad(create, &g, sizeof(aclck_entry));
+    }
+}
+
+/* An ACL of 40,000 users has no NFSv4 list. */
+static void is_limit_kept(void) {
+    enum { USERS = 40000 };
+    aclck_entry *all = malloc((USERS + 4) * sizeof *all);
+    const aclck_entry u = U(7), grp = G(0), m = M(7), o = O(0);
+    const aclck_fault wanted = fault_at(0, ACLCK_LIMITS, 0);
+    given g;
+    memset(&g, 0, sizeof g);
+    all[0] = u;
+    for (uint32_t i = 0; i < USERS; i++) {
+        const aclck_entry one = USER(i, 6);
+        all[i + 1] = one;
+    }
+    all[USERS + 1] = grp;
+    all[USERS + 2] = m;
+    all[USERS + 3] = o;
+    g.entries.at = all;
+    g.entries.len = USERS + 4;
+    written w = call(bridge, &g, 1, 64);
+    EXPECT(w.status == ACLCK_REFUSED && memcmp(&w.fault, &wanted, sizeof wanted) == 0 && is_kept(&w, 0, 64));
+    free(w.room);
+    free(all);
+}
+
+/* ---- attributes */
+
+#define HEAD "\2\0\0\0"
+#define A_USER_OBJ(perm) "\x01\0" perm "\0\xff\xff\xff\xff"
+#define A_USER(id, perm) "\x02\0" perm "\0" id "\0\0\0"
+#define A_GROUP_OBJ(perm) "\x04\0" perm "\0\xff\xff\xff\xff"
+#define A_GROUP(id, perm) "\x08\0" perm "\0" id "\0\0\0"
+#define A_MASK(perm) "\x10\0" perm "\0\xff\xff\xff\xff"
+#define A_OTHER(perm) "\x20\0" perm "\0\xff\xff\xff\xff"
+#define ATTRIBUTE(text) {text, sizeof(text) - 1}
+
+static void are_attributes_read(void) {
+    static const struct {
+        aclck_bytes attribute;
+        list acl;
+    } rows[] = {
+        {ATTRIBUTE(HEAD), {{{0, 0, 0}}, 0}},
+        {ATTRIBUTE(HEAD A_USER_OBJ("\6") A_GROUP_OBJ("\4") A_OTHER("\0")), {{U(6), G(4), O(0)}, 3}},
+        {ATTRIBUTE(HEAD A_USER_OBJ("\7") A_USER("\7", "\6") A_USER("\x09", "\5") A_GROUP_OBJ("\5")
+                       A_GROUP("\5", "\1") A_MASK("\4") A_OTHER("\1")),
+         {{U(7), USER(7, 6), USER(9, 5), G(5), GROUP(5, 1), M(4), O(1)}, 7}},
+    };
+    for (size_t i = 0; i < sizeof rows / sizeof *rows; i++) {
+        given g = with_entries(&rows[i].acl, 0);
+        g.attribute = rows[i].attribute;
+        gives_entries(read_attribute, &g, &rows[i].acl);
+        if (rows[i].acl.len > 0)
+            writes(write_attribute, &g, 1, rows[i].attribute.at, rows[i].attribute.len);
+    }
+}
+
+static void are_attributes_refused(void) {
+    static const struct {
+        aclck_bytes attribute;
+        uint32_t reason, place, tag;
+    } rows[] = {
+        {ATTRIBUTE(""), ACLCK_SIZE, 0, 0},
+        {ATTRIBUTE("\2\0\0"), ACLCK_SIZE, 0, 0},
+        {ATTRIBUTE(HEAD "\1"), ACLCK_SIZE, 0, 0},
+        {ATTRIBUTE(HEAD A_USER_OBJ("\6") A_GROUP_OBJ("\4") A_OTHER("\0") "\0\0\0\0"), ACLCK_SIZE, 0, 0},
+        {ATTRIBUTE("\1\0\0\0" A_USER_OBJ("\6") A_GROUP_OBJ("\4") A_OTHER("\0")), ACLCK_VERSION_2, 0, 0},
+        {ATTRIBUTE("\0\0\0\2" A_USER_OBJ("\6") A_GROUP_OBJ("\4") A_OTHER("\0")), ACLCK_VERSION_2, 0, 0},
+        {ATTRIBUTE(HEAD A_USER_OBJ("\6") "\x03\0\4\0\0\0\0\0" A_OTHER("\0")), ACLCK_TAG, 1, 0},
+        {ATTRIBUTE(HEAD A_USER_OBJ("\6") "\x04\1\4\0\0\0\0\0" A_OTHER("\0")), ACLCK_TAG, 1, 0},
+        {ATTRIBUTE(HEAD A_USER_OBJ("\6") A_GROUP_OBJ("\4") A_OTHER("\x08")), ACLCK_PERMISSION, 2, 0},
+        {ATTRIBUTE(HEAD A_USER_OBJ("\6") A_GROUP_OBJ("\4") "\x20\0\0\1\0\0\0\0"), ACLCK_PERMISSION, 2, 0},
+        {ATTRIBUTE(HEAD A_USER_OBJ("\6") "\x02\0\4\0\xff\xff\xff\xff" A_GROUP_OBJ("\4") A_MASK("\4") A_OTHER("\0")),
+         ACLCK_ID, 1, 0},
+        {ATTRIBUTE(HEAD A_GROUP_OBJ("\4") A_USER_OBJ("\6") A_OTHER("\0")), ACLCK_ORDER, 1, 0},
+        {ATTRIBUTE(HEAD A_USER_OBJ("\6") A_GROUP_OBJ("\4")), ACLCK_MISS, 0, ACLCK_TAG_OTHER},
+        {ATTRIBUTE(HEAD A_USER_OBJ("\6") A_USER("\7", "\4") A_GROUP_OBJ("\4") A_OTHER("\0")), ACLCK_MISS, 0,
+         ACLCK_TAG_MASK},
+        {ATTRIBUTE(HEAD A_USER_OBJ("\6") A_GROUP_OBJ("\4") A_OTHER("\0") A_OTHER("\0")), ACLCK_MULTI, 3, 0},
+        {ATTRIBUTE(HEAD A_USER_OBJ("\6") A_USER("\7", "\4") A_USER("\7", "\4") A_GROUP_OBJ("\4") A_MASK("\4")
+                       A_OTHER("\0")),
+         ACLCK_DUPLICATE, 2, 0},
+    };
+    for (size_t i = 0; i < sizeof rows / sizeof *rows; i++) {
+        given g;
+        memset(&g, 0, sizeof g);
+        g.attribute = rows[i].attribute;
+        refuses(read_attribute, &g, sizeof(aclck_entry), fault_at(rows[i].place, rows[i].reason, rows[i].tag));
+    }
+}
+
+/* Writes an attribute in which some bytes are others, and returns its length. */
+static size_t choose_attribute(unsigned char *bytes) {
+    static const aclck_bytes good = ATTRIBUTE(HEAD A_USER_OBJ("\7") A_USER("\7", "\6") A_USER("\x09", "\5")
+                                                  A_GROUP_OBJ("\5") A_GROUP("\5", "\1") A_MASK("\4") A_OTHER("\1"));
+    size_t len = good.len;
+    memcpy(bytes, good.at, len);
+    for (uint32_t k = dice(3); k > 0; k--) {
+        size_t one = 4 + 8 * dice(7), other = 4 + 8 * dice(7);
+        unsigned char entry[8];
+        switch (dice(4)) {
+        case 0:
+            bytes[dice((uint32_t)len)] = (unsigned char)(1 << dice(9));
+            break;
+        case 1:
+            memcpy(entry, bytes + one, 8);
+            memcpy(bytes + one, bytes + other, 8);
+            memcpy(bytes + other, entry, 8);
+            break;
+        case 2:
+            memcpy(bytes + one, bytes + other, 8);
+            break;
+        default:
+            len -= dice(10);
+        }
+        if (len < good.len)
+            break;
+    }
+    return len;
+}
+
+/* The kernel accepts what the call accepts, and an id twice. */
+static void is_kernel_of_the_same_mind(const char *path) {
+    static const aclck_bytes probe = ATTRIBUTE(HEAD A_USER_OBJ("\7") A_GROUP_OBJ("\5") A_OTHER("\1"));
+    int accepted = 0, count = 4000;
+    if (setxattr(path, "system.posix_acl_access", probe.at, probe.len, 0)) {
+        printf("library_entries: skipped: the file system of %s keeps no ACLs\n", path);
+        return;
+    }
+    for (int i = 0; i < count; i++) {
+        unsigned char bytes[128];
+        size_t len = choose_attribute(bytes), needed = 0;
+        aclck_entry room[MOST];
+        const aclck_entry_buffer out = {room, MOST};
+        guarded g = guard(bytes, len, 1);
+        aclck_fault fault = no_fault();
+        enum aclck_status status = aclck_entries_from_attribute(aclck_bytes_of(g.at, len), out, &needed, &fault);
+        int is_set = setxattr(path, "system.posix_acl_access", bytes, len, 0) == 0;
+        let_go(g);
+        EXPECT(is_set ? status == ACLCK_DONE || fault.reason == ACLCK_DUPLICATE : status == ACLCK_REFUSED);
+        accepted += is_set;
+    }
+    printf("library_entries: the kernel accepts %d of %d attributes, and so does the call\n", accepted, count);
+}
+
+int main(int argc, char **argv) {
+    static const test tests[] = {
+        TEST(are_questions_answered), TEST(are_bad_questions_refused), TEST(are_faults_reported),
+        TEST(are_repeats_reported), TEST(is_order_judged), TEST(are_entries_changed), TEST(are_modes_read),
+        TEST(are_bad_numbers_refused), TEST(is_limit_kept), TEST(are_attributes_read), TEST(are_attributes_refused)};
+    for (size_t i = 0; i < sizeof tests / sizeof *tests; i++) {
+        about = tests[i].name;
+        tests[i].run();
+    }
+    if (argc > 1)
+        is_kernel_of_the_same_mind(argv[1]);
+    return failures > 0;
+}
