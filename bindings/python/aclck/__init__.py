@@ -7,9 +7,15 @@ Names of users and groups are `str` or `bytes`. In a `str`, bytes that are not U
 """
 
 from ._library import VERSION
+from .aces import ALLOW, DENY, Ace, AceFlag, AceKind
 from .faults import Refused
-from .nfs import ALLOW, DENY, Ace, AceFlag, AceKind, Decided, Decision, Difference, NfsAcl, Requesters, TableRow
-from .posix import Entry, PosixAcl
+from .nfs import Decision, Difference, NfsAcl, TableRow
+from .posix import Entry, PosixAcl, PosixDecision
+from .prepared import (
+    Prepared,
+    PreparedIds,
+)
+from .questions import Decided, Requesters
 from .rights import (
     ADD_FILE,
     ADD_SUBDIRECTORY,
@@ -35,6 +41,7 @@ from .rights import (
     mask_text,
     read_mask,
 )
+from .unknown import Possible, Request
 
 __all__ = [
     "ADD_FILE",
@@ -55,13 +62,18 @@ __all__ = [
     "Entry",
     "LIST_DIRECTORY",
     "NfsAcl",
+    "PosixDecision",
     "PosixAcl",
+    "Possible",
+    "Prepared",
+    "PreparedIds",
     "READ_ACL",
     "READ_ATTRIBUTES",
     "READ_DATA",
     "READ_NAMED_ATTRS",
     "RIGHTS",
     "Refused",
+    "Request",
     "Requesters",
     "SYNCHRONIZE",
     "TableRow",

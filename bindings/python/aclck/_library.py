@@ -10,7 +10,7 @@ from __future__ import annotations
 import ctypes
 import operator
 import os
-from typing import Any, Iterable, List, Sequence, Tuple, TypeVar, Union
+from typing import Any, Callable, Iterable, List, Sequence, Tuple, TypeVar, Union
 
 from .faults import refused
 
@@ -25,6 +25,7 @@ T = TypeVar("T")
 DONE, REFUSED, BAD_ARGUMENT, MEMORY, SHORT = 0, 2, 3, 4, 5
 UNDECIDED = 2
 NARROW, DIRECTORY, SHOWN, FORM_SHORT = 0x01000000, 0x02000000, 0x04000000, 0x08000000
+GROUPS_IN_ORDER, MARK_INHERITED, ADD_MASK, MAY_MERGE = 0x10000000, 0x20000000, 0x40000000, 0x00800000
 
 
 _ABOVE = os.path.dirname(os.path.dirname(os.path.dirname(os.path.dirname(os.path.abspath(__file__)))))
@@ -78,6 +79,18 @@ class Requesters(ctypes.Structure):
     _fields_ = [("at", ctypes.POINTER(Requester)), ("len", _size)]
 
 
+class IdRequester(ctypes.Structure):
+    """The id of a user, and the ids of the user's groups."""
+
+    _fields_ = [("user", Word), ("groups", ctypes.POINTER(Word)), ("ngroups", _size)]
+
+
+class IdObject(ctypes.Structure):
+    """The ids of the owner and of the owning group of an object."""
+
+    _fields_ = [("owner", Word), ("group", Word)]
+
+
 class Question(ctypes.Structure):
     """The rights that are asked, and the options."""
 
@@ -90,8 +103,20 @@ class Masks(ctypes.Structure):
     _fields_ = [("at", ctypes.POINTER(Word)), ("len", _size)]
 
 
+class Ace(ctypes.Structure):
+    """One ACE."""
+
+    _fields_ = [("kind", Word), ("flags", Word), ("mask", Word), ("who", Bytes)]
+
+
+class Aces(ctypes.Structure):
+    """Some ACEs."""
+
+    _fields_ = [("at", ctypes.POINTER(Ace)), ("len", _size)]
+
+
 class NamedId(ctypes.Structure):
-    """A name that a POSIX text may use for an id."""
+    """A name that stands for an id."""
 
     _fields_ = [("name", Bytes), ("id", Word), ("is_group", Word)]
 
@@ -100,6 +125,18 @@ class Names(ctypes.Structure):
     """A table of such names."""
 
     _fields_ = [("at", ctypes.POINTER(NamedId)), ("len", _size)]
+
+
+class Renaming(ctypes.Structure):
+    """A name, and the name in its place."""
+
+    _fields_ = [("from", Bytes), ("to", Bytes), ("is_group", Word)]
+
+
+class Renamings(ctypes.Structure):
+    """A table of such pairs."""
+
+    _fields_ = [("at", ctypes.POINTER(Renaming)), ("len", _size)]
 
 
 class PosixText(ctypes.Structure):
@@ -115,10 +152,34 @@ class PosixQuestion(ctypes.Structure):
                 ("groups", ctypes.POINTER(Word)), ("ngroups", _size)]
 
 
+class Entry(ctypes.Structure):
+    """An entry of a POSIX ACL."""
+
+    _fields_ = [("tag", Word), ("id", Word), ("perm", Word)]
+
+
+class Entries(ctypes.Structure):
+    """Some entries."""
+
+    _fields_ = [("at", ctypes.POINTER(Entry)), ("len", _size)]
+
+
+class EntryBuffer(ctypes.Structure):
+    """Room for entries."""
+
+    _fields_ = [("at", ctypes.POINTER(Entry)), ("cap", _size)]
+
+
 class Creation(ctypes.Structure):
     """How a new object is created."""
 
     _fields_ = [("mode", Word), ("umask", Word), ("options", Word)]
+
+
+class PosixDecision(ctypes.Structure):
+    """The entry that decides a request."""
+
+    _fields_ = [("place", ctypes.c_uint64), ("granted", Word), ("tag", Word), ("masked", Word)]
 
 
 class Fault(ctypes.Structure):
@@ -134,10 +195,22 @@ class Decided(ctypes.Structure):
     _fields_ = [("allowed", Word), ("denied", Word)]
 
 
+class DecidedList(ctypes.Structure):
+    """Room for answers."""
+
+    _fields_ = [("at", ctypes.POINTER(Decided)), ("len", _size)]
+
+
 class Decision(ctypes.Structure):
     """The ACE that decides a right."""
 
     _fields_ = [("place", ctypes.c_uint64), ("kind", Word)]
+
+
+class Possible(ctypes.Structure):
+    """What a list with unknown names answers."""
+
+    _fields_ = [("allowed", Word), ("denied", Word), ("unknown", Word), ("request", Word), ("left_out", Word)]
 
 
 class Difference(ctypes.Structure):
@@ -151,22 +224,36 @@ _fault, _words = ctypes.POINTER(Fault), ctypes.POINTER(Word)
 _out = [Buffer, ctypes.POINTER(_size)]
 _asked = [Bytes, ctypes.POINTER(Object), ctypes.POINTER(Requester), ctypes.POINTER(Question)]
 _posix = ctypes.POINTER(PosixText)
+_entries = [EntryBuffer, ctypes.POINTER(_size), _fault]
+_posix_asked = [Entries, ctypes.POINTER(PosixQuestion)]
 _TYPES: "dict[str, list[Any]]" = {
     "decide": [*_asked, ctypes.POINTER(Decided), _fault],
     "check": [*_asked, _words, _fault],
+    "decide_unknown": [*_asked, ctypes.POINTER(Possible), _fault],
     "granted": [*_asked, _words, _fault],
     "deciding": [*_asked, ctypes.POINTER(Decision), _fault],
+    "prepare_ids": [Bytes, ctypes.POINTER(Names), Word, *_out, _fault],
+    "decide_ids": [Bytes, ctypes.POINTER(IdObject), ctypes.POINTER(IdRequester), ctypes.POINTER(Question),
+                   ctypes.POINTER(Decided)],
     "check_many": [Bytes, ctypes.POINTER(Object), Requesters, ctypes.POINTER(Question), Masks, _fault],
+    "prepare": [Bytes, Word, *_out, _fault],
+    "decide_prepared": [*_asked, ctypes.POINTER(Decided)],
+    "decide_prepared_many": [Bytes, ctypes.POINTER(Object), Requesters, ctypes.POINTER(Question), DecidedList],
     "mode": [Bytes, Word, _words, _fault],
     "child": [Bytes, Word, *_out, _fault],
+    "chmod": [Bytes, Word, Word, *_out, _fault],
     "show": [Bytes, Word, *_out, _fault],
+    "build": [Aces, Word, *_out, _fault],
+    "next": [Bytes, Word, ctypes.POINTER(_size), ctypes.POINTER(Ace), _fault],
     "encode": [Bytes, Word, *_out, _fault],
+    "renamed": [Bytes, ctypes.POINTER(Renamings), Word, *_out, _fault],
     "normalize": [Bytes, Word, *_out, _fault],
     "normalize_inherit": [Bytes, Word, *_out, _fault],
     "table": [Bytes, ctypes.POINTER(Question), *_out, _fault],
     "needed": [Bytes, Word, Masks, ctypes.POINTER(_size), _fault],
     "same": [Bytes, Bytes, Word, _words, _fault],
     "compare": [Bytes, Bytes, Word, ctypes.POINTER(Difference), Buffer, _fault],
+    "excess": [Bytes, Bytes, Word, ctypes.POINTER(Difference), Buffer, _fault],
     "read_mask": [Bytes, _words],
     "mask_text": [Word, *_out],
     "reason_text": [Word, *_out],
@@ -176,6 +263,16 @@ _TYPES: "dict[str, list[Any]]" = {
     "posix_chmod": [_posix, Word, *_out, _fault],
     "posix_create": [_posix, ctypes.POINTER(Creation), *_out, _fault],
     "posix_bridge": [_posix, *_out, _fault],
+    "entries_check": [*_posix_asked, _words, _fault],
+    "entries_deciding": [*_posix_asked, ctypes.POINTER(PosixDecision), _fault],
+    "entries_mode": [Entries, _words, _fault],
+    "entries_sorted": [Entries, Word, *_entries],
+    "entries_chmod": [Entries, Word, *_entries],
+    "entries_calc_mask": [Entries, *_entries],
+    "entries_create": [Entries, ctypes.POINTER(Creation), *_entries],
+    "entries_bridge": [Entries, *_out, _fault],
+    "entries_from_attribute": [Bytes, *_entries],
+    "entries_to_attribute": [Entries, *_out, _fault],
     "version": [],
 }
 
@@ -225,9 +322,15 @@ def in_c(held: bytes) -> Bytes:
 
 
 def requester(user: Name, groups: Iterable[Name]) -> Requester:
-    """Returns a user and the user's groups for C. Raises TypeError as `several` and `encoded` do."""
-    names = [in_c(encoded(name)) for name in several(groups)]
+    """Returns a user and the user's groups for C, as GROUPS_IN_ORDER says: in rising order, and none twice. Raises
+    TypeError as `several` and `encoded` do."""
+    names = [in_c(name) for name in sorted(set(map(encoded, several(groups))))]
     return Requester(in_c(encoded(user)), (Bytes * len(names))(*names), len(names))
+
+
+def found_in(spelled: Bytes) -> bytes:
+    """Returns the bytes that C found. They may have zeros behind them or not."""
+    return ctypes.string_at(ctypes.c_void_p.from_buffer(spelled).value or 0, spelled.len)
 
 
 def owned(owner: Name, group: Name) -> Object:
@@ -267,11 +370,29 @@ def judge(status: int, fault: Fault) -> None:
 
 def bytes_of(name: str, args: Sequence[Any], room: int) -> bytes:
     """Makes a call that writes bytes, and returns them. The first buffer has `room` bytes."""
+    def written(size: int) -> Tuple[Any, Buffer]:
+        out = ctypes.create_string_buffer(size or 1)
+        return out, Buffer(ctypes.addressof(out), size)
+    out, length = _filled(name, args, room, written)
+    return bytes(out.raw[:length])
+
+
+def entries_of(name: str, args: Sequence[Any], room: int) -> List[Entry]:
+    """Makes a call that writes entries, and returns them. The first buffer has room for `room` entries."""
+    def written(size: int) -> Tuple[Any, EntryBuffer]:
+        out = (Entry * size)()
+        return out, EntryBuffer(out, size)
+    out, length = _filled(name, args, room, written)
+    return list(out[:length])
+
+
+def _filled(name: str, args: Sequence[Any], room: int, written: Callable[[int], Tuple[Any, Any]]) -> Tuple[Any, int]:
+    """Makes a call with a buffer that is long enough. Returns the buffer, and how much of it was written."""
     call, needed, fault = calls[name], _size(), Fault()
     while True:
-        out = ctypes.create_string_buffer(room or 1)
-        status = call(*args, Buffer(ctypes.addressof(out), room), ctypes.byref(needed), ctypes.byref(fault))
+        out, buffer = written(room)
+        status = call(*args, buffer, ctypes.byref(needed), ctypes.byref(fault))
         if status != SHORT:
             judge(status, fault)
-            return out.raw[:needed.value]
+            return out, needed.value
         room = needed.value

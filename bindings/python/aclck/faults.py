@@ -15,7 +15,8 @@ class Refused(ValueError):
         reason: the name of the reason, such as `Truncated` (docs/formats.md has all).
         offset: for bytes, the place of the refused field in bytes, from 0. For a POSIX list that is not valid, the
             place of the entry in its part, from 0. Otherwise None.
-        ace: for a list that is made of ACEs, the place of the ACE, from 0. Otherwise None.
+        ace: for a list that is made of ACEs, and for one whose names are exchanged, the place of the ACE, from 0.
+            Otherwise None.
         line, column: for a text, the place, both from 1; the column is in bytes. Otherwise None.
         part: for a POSIX list that is not valid, `access` or `default`. Otherwise None.
         tag: if an entry is missing, its tag, such as `MASK`. Otherwise None.
@@ -37,7 +38,8 @@ class Refused(ValueError):
 
     def _line(self) -> str:
         if self.part is not None:
-            return f"Invalid {self.part}: {self.reason} " + (self.tag or f"at entry {self.offset}")
+            where = self.tag or ("" if self.offset is None else f"at entry {self.offset}")
+            return f"Invalid {self.part}: {self.reason} {where}".rstrip()
         if self.line is not None:
             return f"{self.reason} at line {self.line} column {self.column}"
         if self.ace is not None:
@@ -57,4 +59,13 @@ def refused(name: str, offset: int, line: int, column: int, second: int, part: i
         return Refused(name, part=_PARTS[part], offset=offset)
     if name == "Limits":
         return Refused(name)
+    if name in ("UnknownName", "Merged"):
+        return Refused(name, ace=offset)
     return Refused(name, offset=offset, second=bool(second))
+
+
+def of_part(refused: Refused, default: bool) -> Refused:
+    """Makes the exception for entries or an attribute of one part, whose place is that of an entry. An attribute of a
+    wrong size or version has no place."""
+    has_place = refused.tag is None and refused.reason not in ("Size", "Version")
+    return Refused(refused.reason, part=_PARTS[default], offset=refused.offset if has_place else None, tag=refused.tag)

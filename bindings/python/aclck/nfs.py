@@ -3,79 +3,20 @@
 from __future__ import annotations
 
 import ctypes
-import enum
-import itertools
 import os
-import struct
-from typing import Iterable, Iterator, List, NamedTuple, Optional, Sequence, Tuple, TypeVar
+from typing import Iterable, Iterator, List, Mapping, NamedTuple, Optional, Tuple, TypeVar
 
 from . import _library as c
+from . import aces as ace_values
 from ._library import File, Name
+from .aces import Ace, AceKind
 from .faults import Refused
+from .prepared import Prepared, PreparedIds, names_in_c
+from .questions import Decided, Requesters, decided
 from .rights import ALL
-
+from .unknown import Possible, possible
 
 T = TypeVar("T", c.Word, c.Decided, c.Decision)
-
-
-class AceKind(str, enum.Enum):
-    """The kind of an ACE (section 6.2.1.1). It is equal to its word."""
-
-    ALLOW = "ALLOW"
-    DENY = "DENY"
-
-    def __str__(self) -> str:
-        return self.value
-
-
-ALLOW, DENY = AceKind.ALLOW, AceKind.DENY
-_KINDS = (ALLOW, DENY)
-
-
-class AceFlag(enum.IntFlag):
-    """The flags of an ACE (section 6.2.1.4). A set of flags is equal to its number, and is written as its number."""
-
-    FILE_INHERIT = 0x01
-    DIRECTORY_INHERIT = 0x02
-    NO_PROPAGATE_INHERIT = 0x04
-    INHERIT_ONLY = 0x08
-    SUCCESSFUL_ACCESS = 0x10
-    FAILED_ACCESS = 0x20
-    IDENTIFIER_GROUP = 0x40
-    INHERITED = 0x80
-
-    def __str__(self) -> str:
-        return str(self.value)
-
-    def __format__(self, spec: str) -> str:
-        return format(self.value, spec)
-
-
-_FLAGS = tuple(map(AceFlag, range(0x100)))
-"""All sets of flags, made once because lists are long. The library refuses lists with other flags."""
-
-
-class Ace(NamedTuple):
-    """One ACE: its kind, its flags, its mask as a number (section 6.2.1.3), and its who."""
-
-    kind: AceKind
-    flags: AceFlag
-    mask: int
-    who: str
-
-    @property
-    def is_group(self) -> bool:
-        """Whether the who is the name of a group."""
-        return bool(self.flags & AceFlag.IDENTIFIER_GROUP)
-
-
-class Decided(NamedTuple):
-    """Of the rights that are asked: those that an ALLOW decides, those that a DENY decides, and those that no ACE
-    decides, which are not granted either."""
-
-    allowed: int
-    denied: int
-    undecided: int
 
 
 class Decision(NamedTuple):
@@ -103,17 +44,6 @@ class TableRow(NamedTuple):
     kind: AceKind
     is_group: bool
     who: str
-
-
-class Requesters:
-    """Users with their groups, prepared for `NfsAcl.granted_many`, which can then be called for many lists."""
-
-    def __init__(self, people: Iterable[Tuple[Name, Sequence[Name]]]) -> None:
-        """Takes pairs of a user and the names of the groups of that user. Raises TypeError if the groups are one
-        name."""
-        rows = [c.requester(user, groups) for user, groups in people]
-        self.count = len(rows)
-        self.array = (c.Requester * len(rows))(*rows)
 
 
 class NfsAcl:
@@ -144,11 +74,7 @@ class NfsAcl:
     def from_aces(cls, aces: Iterable[Ace], *, narrow: bool = False) -> NfsAcl:
         """Makes a list of ACEs, in their order. Raises Refused, with the place of the ACE from 0, ValueError if a
         number is outside 32 bits or a kind is none, and TypeError if a who is neither `str` nor `bytes`."""
-        pieces = [_spelled(Ace(*ace)) for ace in aces]
-        try:
-            return cls(struct.pack(">I", len(pieces)) + b"".join(pieces), narrow=narrow)
-        except Refused as refused:
-            raise Refused(refused.reason, ace=_place(pieces, refused.offset)) from None
+        return cls(ace_values.built(aces, c.NARROW if narrow else 0), narrow=narrow)
 
     def to_file(self, file: File, attribute: str = "system.nfs4_acl") -> None:
         """Gives a file on an NFSv4 mount this list. It follows links: give an open descriptor where somebody else may
@@ -199,12 +125,7 @@ class NfsAcl:
 
     def __iter__(self) -> Iterator[Ace]:
         """Yields the ACEs in their order."""
-        at = 4
-        for _ in range(len(self)):
-            kind, flags, mask, length = struct.unpack_from(">IIII", self._bytes, at)
-            at += 16
-            yield Ace(_KINDS[kind], _FLAGS[flags], mask, c.decoded(self._bytes[at:at + length]))
-            at += length + -length % 4
+        return ace_values.each(self._list, self._options)
 
     def _made(self, call: str, room: int) -> bytes:
         return c.bytes_of(call, (self._list, self._options), room)
@@ -237,7 +158,35 @@ class NfsAcl:
         """Returns which rights of the mask are allowed, denied, and undecided. Raises ValueError and TypeError as
         `grants` does."""
         found = self._ask("decide", c.requester(user, groups), c.owned(owner, group), mask, c.Decided())
-        return Decided(found.allowed, found.denied, mask & ~(found.allowed | found.denied))
+        return decided(found, mask)
+
+    @staticmethod
+    def decide_unknown(data: bytes, *, user: Name, groups: Iterable[Name] = (), owner: Name, group: Name,
+                       mask: int = ALL, narrow: bool = False) -> Possible:
+        """Returns what a list answers whose special names nobody knows, such as `INTERACTIVE@`: what holds whomever the
+        server takes for these. AUDIT and ALARM ACEs are left out and counted. `NfsAcl` refuses such lists.
+
+        Raises Refused, with the offset, if the bytes are not such a list, and ValueError and TypeError as `grants`
+        does.
+        """
+        question = c.Question(c.word(mask), c.NARROW if narrow else 0)
+        return possible(memoryview(data).tobytes(), c.owned(owner, group), c.requester(user, groups), question)
+
+    def prepare(self) -> Prepared:
+        """Returns the list in a form that answers sooner, because it is read once. The form is bytes, which can be kept
+        in a file or in memory that is shared."""
+        return Prepared(self._made("prepare", 4 * len(self._bytes) + 64))
+
+    def prepare_ids(self, users: Optional[Mapping[str, int]] = None,
+                    groups: Optional[Mapping[str, int]] = None) -> PreparedIds:
+        """Returns the list in a form that is asked with ids: the tables have the ids of the names in the list, and a
+        name of digits that no table has is an id.
+
+        Raises Refused with the reason `UnknownName` and the place of the ACE if a name is neither. Raises ValueError if
+        a name of a table is empty or has only digits, or an id is above 4294967294.
+        """
+        names = names_in_c(users or {}, groups or {})
+        return PreparedIds(c.bytes_of("prepare_ids", (self._list, names, self._options), 4 * len(self._bytes) + 64))
 
     def granted_many(self, requesters: Requesters, *, owner: Name, group: Name, mask: int = ALL) -> List[int]:
         """Returns for each of the requesters the rights of the mask that are granted. Reads the list once. Raises
@@ -259,7 +208,7 @@ class NfsAcl:
         name.
         """
         found = self._ask("deciding", c.requester(user, groups), c.owned(owner, group), right, c.Decision())
-        return None if found.kind == c.UNDECIDED else Decision(found.place, _KINDS[found.kind])
+        return None if found.kind == c.UNDECIDED else Decision(found.place, ace_values.kind_of(found.kind))
 
     def normal(self) -> NfsAcl:
         """Returns the one normal list that grants the same (docs/lists.md, "The normal form")."""
@@ -271,17 +220,39 @@ class NfsAcl:
         lists grant the same, and so do the lists of everything that is ever made below the directories (docs/lists.md,
         "Paths of creations")."""
         data = self._made("normalize_inherit", 5 * len(self._bytes))
-        parts, at = [], 0
-        while at < len(data):
-            end = at + list_length(data[at:])
-            parts.append(self._like(data[at:end]))
-            at = end
+        parts = []
+        while data:
+            length = _length_of_first(data)
+            parts.append(self._like(data[:length]))
+            data = data[length:]
         return tuple(parts)
 
-    def child(self, *, directory: bool) -> NfsAcl:
-        """Returns the list that a new file or directory gets in a directory with this list (section 6.2.1.4.1)."""
+    def child(self, *, directory: bool, mark_inherited: bool = False) -> NfsAcl:
+        """Returns the list that a new file or directory gets in a directory with this list (section 6.2.1.4.1). With
+        `mark_inherited`, the ACEs that it inherits have the flag INHERITED (section 6.4.3). Raises ValueError for
+        `mark_inherited` with the narrow profile, which has no such flag."""
         options = self._options | (c.DIRECTORY if directory else 0)
+        options |= c.MARK_INHERITED if mark_inherited else 0
         return self._like(c.bytes_of("child", (self._list, options), len(self._bytes)))
+
+    def chmod(self, mode: int) -> NfsAcl:
+        """Returns the list after the mode is set to these nine bits (section 6.4.1.1). Raises ValueError if the mode is
+        above 0o777, and Refused with the reason `Limits` if the list would be too long."""
+        return self._like(c.bytes_of("chmod", (self._list, c.word(mode), self._options), len(self._bytes) + 256))
+
+    def renamed(self, users: Optional[Mapping[Name, Name]] = None, groups: Optional[Mapping[Name, Name]] = None, *,
+                may_merge: bool = False) -> NfsAcl:
+        """Returns the list with other names of users and groups: each name that a table has is exchanged for the name
+        that stands there, and all others stay.
+
+        Raises Refused with the reason `Merged` and the place of an ACE if two names would become one, unless
+        `may_merge` is true. Raises ValueError if a name of a table is empty, special, or no name of a list.
+        """
+        rows = [c.Renaming(c.in_c(c.encoded(old)), c.in_c(c.encoded(new)), is_group)
+                for is_group, table in enumerate((users or {}, groups or {})) for old, new in table.items()]
+        table = c.Renamings((c.Renaming * len(rows))(*rows), len(rows))
+        options = self._options | (c.MAY_MERGE if may_merge else 0)
+        return self._like(c.bytes_of("renamed", (self._list, table, options), 2 * len(self._bytes)))
 
     def table(self, right: int) -> List[TableRow]:
         """Returns the ACEs of the normal form that have one right. Raises ValueError if it is not exactly one right."""
@@ -307,11 +278,19 @@ class NfsAcl:
     def compare(self, other: NfsAcl) -> Optional[Difference]:
         """Returns None if both lists grant everybody the same, and otherwise a requester whom they treat differently
         (docs/lists.md, "Comparison")."""
+        return self._difference("compare", other)
+
+    def exceeds(self, other: NfsAcl) -> Optional[Difference]:
+        """Returns None if the other list grants everybody whatever this list grants, and otherwise a requester to whom
+        this list grants a right that the other list does not grant."""
+        return self._difference("excess", other)
+
+    def _difference(self, call: str, other: NfsAcl) -> Optional[Difference]:
         at, fault, room = c.Difference(), c.Fault(), 512
         while True:
             out = ctypes.create_string_buffer(room)
-            status = c.calls["compare"](self._list, other._list, self._options & other._options, ctypes.byref(at),
-                                        c.Buffer(ctypes.addressof(out), room), ctypes.byref(fault))
+            status = c.calls[call](self._list, other._list, self._options & other._options, ctypes.byref(at),
+                                   c.Buffer(ctypes.addressof(out), room), ctypes.byref(fault))
             if status != c.SHORT:
                 break
             room = at.names
@@ -322,23 +301,12 @@ class NfsAcl:
         return Difference(owner, group, user, tuple(groups), at.right, bool(at.first_grants))
 
 
-def _spelled(ace: Ace) -> bytes:
-    """Returns the bytes of an ACE (RFC 8881, section 6.2.1; RFC 4506, section 4.11)."""
-    who = c.encoded(ace.who)
-    words = (_KINDS.index(AceKind(ace.kind)), c.word(ace.flags), c.word(ace.mask), len(who))
-    return struct.pack(">IIII", *words) + who + bytes(-len(who) % 4)
-
-
-def _place(pieces: Sequence[bytes], offset: Optional[int]) -> int:
-    """Returns the place of the ACE in which an offset of their list is, or the number of ACEs if it is in none."""
-    ends = itertools.accumulate((len(piece) for piece in pieces), initial=4)
-    return sum(end <= (offset or 0) for end in list(ends)[1:])
-
-
-def list_length(data: bytes) -> int:
-    """Returns the number of bytes of the list at the front of some bytes."""
-    at = 4
-    for _ in range(int.from_bytes(data[:4], "big")):
-        length = int.from_bytes(data[at + 12:at + 16], "big")
-        at += 16 + length + -length % 4
-    return at
+def _length_of_first(data: bytes) -> int:
+    """Returns the number of bytes of the list at the front of some bytes, behind which other bytes are refused."""
+    try:
+        NfsAcl(data)
+    except Refused as refused:
+        if refused.reason != "TrailingBytes":
+            raise
+        return refused.offset or 0
+    return len(data)

@@ -4,30 +4,28 @@ from __future__ import annotations
 
 import ctypes
 import errno
-import functools
-import operator
 import os
 import re
 import stat
-import struct
-from typing import Iterable, Iterator, List, Mapping, Match, NamedTuple, Optional, Tuple
+from typing import Iterable, Iterator, List, Mapping, Match, NamedTuple, Optional, Sequence, Tuple, TypeVar, Union
 
 from . import _library as c
 from ._library import File, Name
-from .faults import Refused
+from .faults import Refused, of_part
 from .nfs import NfsAcl
 
-_TAGS = {1: "user", 2: "user", 4: "group", 8: "group", 16: "mask", 32: "other"}
-_NAMED = (2, 8)
-_NUMBERS = {(tag, number in _NAMED): number for number, tag in _TAGS.items()}
-"""The number of a tag in an attribute, by its word and by whether the entry has an id."""
+_TAGS = ("", "user", "user", "group", "group", "mask", "other")
+"""The word of each tag of C. A user and a group have a tag without an id and another one with an id."""
+_NAMED = (2, 4)
+_NUMBERS = {(tag, number in _NAMED): number for number, tag in enumerate(_TAGS) if number}
 _ANYBODY = 0xFFFFFFFF
 _ID = re.compile(r"\b(u|user|g|group):(\d+):")
 _NAME = re.compile(r"(?!\d+$)[^\s:,#\\]+")
-_VERSION = b"\2\0\0\0"
 _ACCESS, _DEFAULT = "system.posix_acl_access", "system.posix_acl_default"
 _CANONICAL = 0
 _FORMS = {"canonical": _CANONICAL, "shown": c.SHOWN, "short": c.FORM_SHORT}
+
+T = TypeVar("T", c.Word, c.PosixDecision)
 
 
 class Entry(NamedTuple):
@@ -44,15 +42,25 @@ class Entry(NamedTuple):
         return f"{'default:' if self.default else ''}{self.tag}:{number}:{_letters(self.perm)}"
 
 
+class PosixDecision(NamedTuple):
+    """How a request is decided: whether it is granted, and the entry that decides. The entry is None if entries of
+    groups match, and none of them has all that is asked. `masked` says that the entry has all of it, and the mask has
+    not."""
+
+    granted: bool
+    entry: Optional[Entry]
+    masked: bool
+
+
 class PosixAcl:
     """An access ACL, with the default ACL if it is the list of a directory that has one. Both are valid (acl(5), "VALID
     ACLs").
 
-    The object keeps the canonical text, with ids for names. Equality and hash are those of this text, so two objects
-    are equal if and only if they have the same entries.
+    The object keeps the entries in canonical order, with ids for names. Two objects are equal if and only if they have
+    the same entries.
     """
 
-    __slots__ = ("_text",)
+    __slots__ = ("_access", "_default")
 
     def __init__(self, text: Name, names: Iterable[Tuple[str, int, bool]] = ()) -> None:
         """Takes a text as getfacl(1) prints it; `names` are the names that it may use: name, id, whether it is a group.
@@ -60,7 +68,15 @@ class PosixAcl:
         Raises Refused, with the line and the column or with the part that is not valid. Raises ValueError if a name is
         empty, has only digits, or is given twice.
         """
-        self._text = _made("posix_show", c.encoded(text), _CANONICAL, names=_table(names))
+        shown = _shown(c.encoded(text), _CANONICAL, _table(names))
+        self._access, self._default = map(_in_c, _parted(map(_read, shown.splitlines())))
+
+    @classmethod
+    def _of(cls, access: c.Entries, default: c.Entries) -> PosixAcl:
+        """Makes a list of entries that the library wrote."""
+        made = cls.__new__(cls)
+        made._access, made._default = access, default
+        return made
 
     @classmethod
     def from_text(cls, text: Name, users: Optional[Mapping[str, int]] = None,
@@ -73,19 +89,21 @@ class PosixAcl:
     def from_mode(cls, mode: int) -> PosixAcl:
         """Makes the list of the three entries that a mode means (acl(5), "CORRESPONDENCE .."). Bits above the nine do
         not count."""
-        return cls("\n".join(_mode_lines(c.word(mode))))
+        return cls._of(_mode_entries(c.word(mode)), _held([]))
 
     @classmethod
     def from_attributes(cls, access: Optional[bytes], default: Optional[bytes] = None, mode: int = 0) -> PosixAcl:
         """Makes a list from the bytes of `system.posix_acl_access` and `_default`, each None if the attribute is
-        absent. Without the first, the entries are those of the mode.
+        absent. Without the first, the entries are those of the mode. A default attribute without entries counts as
+        absent.
 
-        Raises Refused if the bytes are not such an attribute, with the offset, or not a valid ACL.
+        Raises Refused with the part: if the bytes are not such an attribute or not a valid ACL, with the place of the
+        entry in that part, from 0, unless the size, the version or a missing entry is the reason.
         """
-        lines = _mode_lines(mode) if access is None else _attribute_lines(access, False)
-        if default is not None:
-            lines += _attribute_lines(default, True)
-        return cls("\n".join(lines))
+        parts = [_held([]) if data is None else _made("entries_from_attribute", c.in_c(data), default=bool(place))
+                 for place, data in enumerate((access, default))]
+        first = _mode_entries(c.word(mode)) if access is None else _made("entries_sorted", parts[0], 0)
+        return cls._of(first, parts[1])
 
     @classmethod
     def from_entries(cls, entries: Iterable[Entry], *, mask: bool = False) -> PosixAcl:
@@ -93,13 +111,13 @@ class PosixAcl:
         mask gets the mask that limits nothing, as setfacl(1) adds it (acl_calc_mask(3)).
 
         Raises Refused with the part and with the place of the entry in that part, from 0: for the reasons Tag, Id and
-        Permission if the entry is none, and if the entries are not a valid ACL.
+        Permission if the entry is none, and if the entries are not a valid ACL. Raises ValueError if a number is
+        outside 32 bits.
         """
-        parts: Tuple[List[Entry], List[Entry]] = ([], [])
-        for entry in entries:
-            parts[bool(entry[0])].append(Entry(*entry))
-        lines = [_line(entry, place) for part in parts for place, entry in enumerate(part)]
-        return cls("\n".join(lines + [str(entry) for part in parts for entry in _missing_mask(part) if mask]))
+        access, default = map(_in_c, _parted(Entry(*entry) for entry in entries))
+        options = c.ADD_MASK if mask else 0
+        return cls._of(_made("entries_sorted", access, options),
+                       _made("entries_sorted", default, options, default=True) if default.len else default)
 
     @classmethod
     def from_file(cls, file: File) -> PosixAcl:
@@ -112,12 +130,9 @@ class PosixAcl:
     def to_attributes(self) -> Tuple[bytes, Optional[bytes]]:
         """Returns the bytes of `system.posix_acl_access` and of `system.posix_acl_default`, which is None if the list
         has no default entries. `from_attributes` reads them back."""
-        parts = [b"", b""]
-        for entry in self:
-            parts[entry.default] += struct.pack("<HHI", _NUMBERS[entry.tag, entry.id is not None], entry.perm,
-                                                _ANYBODY if entry.id is None else entry.id)
-        access, default = (_VERSION + part if part else None for part in parts)
-        return access or _VERSION, default
+        access, default = (c.bytes_of("entries_to_attribute", (part,), 4 + 8 * part.len) if part.len else None
+                           for part in (self._access, self._default))
+        return access or b"", default
 
     def to_file(self, file: File) -> None:
         """Gives a file both lists, and removes the default list of a directory if there are no default entries. If the
@@ -140,7 +155,7 @@ class PosixAcl:
 
     def __str__(self) -> str:
         """Returns the canonical text, one line per entry."""
-        return self._text.decode()
+        return "".join(f"{entry}\n" for entry in self)
 
     def __repr__(self) -> str:
         return f"PosixAcl({str(self)!r})"
@@ -148,27 +163,25 @@ class PosixAcl:
     def __eq__(self, other: object) -> bool:
         if not isinstance(other, PosixAcl):
             return NotImplemented
-        return self._text == other._text
+        return list(self) == list(other)
 
     def __hash__(self) -> int:
-        return hash(self._text)
+        return hash(tuple(self))
 
     def __len__(self) -> int:
         """Returns the number of entries of both parts."""
-        return self._text.count(b"\n")
+        return int(self._access.len + self._default.len)
 
     @property
     def is_extended(self) -> bool:
         """Whether the access ACL has more than the three entries that a mode means."""
-        return sum(not entry.default for entry in self) > 3
+        return bool(self._access.len > 3)
 
     def __iter__(self) -> Iterator[Entry]:
         """Yields the entries in canonical order, the access part first."""
-        for line in str(self).split("\n")[:-1]:
-            fields = line.split(":")
-            tag, number, perm = fields[-3:]
-            bits = sum(bit for letter, bit in zip("rwx", (4, 2, 1)) if letter in perm)
-            yield Entry(len(fields) == 4, tag, int(number) if number else None, bits)
+        for default, part in enumerate((self._access, self._default)):
+            for found in part.at[:part.len]:
+                yield _value(found, bool(default))
 
     def text(self, form: str = "canonical", *, users: Optional[Mapping[int, str]] = None,
              groups: Optional[Mapping[int, str]] = None) -> str:
@@ -179,15 +192,13 @@ class PosixAcl:
         def named(found: Match[str]) -> str:
             name = names[found[1][0]].get(int(found[2]), "")
             return f"{found[1]}:{name if _NAME.fullmatch(name) else found[2]}:"
-        return _ID.sub(named, _made("posix_show", self._text, _FORMS[form]).decode())
+        return _ID.sub(named, _shown(str(self).encode(), _FORMS[form], _table(())).decode())
 
     @property
     def mode(self) -> int:
         """The nine bits of the mode: the entries of the owner, of the mask (or of the group if there is no mask), and
         of others."""
-        found = {(entry.tag, entry.id): entry.perm for entry in self if not entry.default}
-        group = found.get(("mask", None), found[("group", None)])
-        return found[("user", None)] << 6 | group << 3 | found[("other", None)]
+        return self._ask("entries_mode", c.Word()).value
 
     def check(self, *, user: int, groups: Iterable[int] = (), owner: int, group: int, want: int) -> bool:
         """Returns whether the user, who is in these groups and no others, is granted all of `want` (4 r, 2 w, 1 x) on
@@ -195,13 +206,19 @@ class PosixAcl:
 
         Raises ValueError if an id is above 4294967294 or `want` above 7, and TypeError if `groups` is a text.
         """
-        members = [c.word(number) for number in c.several(groups)]
-        question = c.PosixQuestion(c.word(owner), c.word(group), c.word(user), c.word(want),
-                                   (c.Word * len(members))(*members), len(members))
-        granted, fault = c.Word(), c.Fault()
-        c.judge(c.calls["posix_check"](c.PosixText(c.in_c(self._text), _NONE), question, ctypes.byref(granted),
-                                       ctypes.byref(fault)), fault)
-        return granted.value == 1
+        return self._ask("entries_check", c.Word(), _question(user, groups, owner, group, want)).value == 1
+
+    def deciding(self, *, user: int, groups: Iterable[int] = (), owner: int, group: int, want: int) -> PosixDecision:
+        """Returns which entry decides about all of `want` at once. Raises ValueError and TypeError as `check` does."""
+        found = self._ask("entries_deciding", c.PosixDecision(), _question(user, groups, owner, group, want))
+        entry = _value(self._access.at[found.place], False) if found.tag else None
+        return PosixDecision(found.granted == 1, entry, found.masked == 1)
+
+    def _ask(self, call: str, answer: T, *args: object) -> T:
+        """Makes a call on the access ACL, and returns the answer, which the call writes."""
+        fault = c.Fault()
+        c.judge(c.calls[call](self._access, *args, ctypes.byref(answer), ctypes.byref(fault)), fault)
+        return answer
 
     def means_the_same(self, other: PosixAcl) -> bool:
         """Returns whether both access ACLs grant everybody the same, for every request and every owner and group of the
@@ -214,29 +231,29 @@ class PosixAcl:
 
     def chmod(self, mode: int) -> PosixAcl:
         """Returns the list after chmod(2) with these nine bits. Raises ValueError if the mode is above 0o777."""
-        return PosixAcl(_made("posix_chmod", self._text, c.word(mode)))
+        return PosixAcl._of(_made("entries_chmod", self._access, c.word(mode)), self._default)
 
     def calc_mask(self) -> PosixAcl:
         """Returns the list with a calculated mask: the union of the permissions that it limits (acl_calc_mask(3))."""
-        return PosixAcl(_made("posix_calc_mask", self._text))
+        return PosixAcl._of(_made("entries_calc_mask", self._access), self._default)
 
     def create(self, *, mode: int, umask: int, directory: bool = False) -> PosixAcl:
         """Returns the list of a new file or directory in a directory with this list (acl(5), "OBJECT CREATION ..").
 
         Raises ValueError if `mode` or `umask` is above 0o777.
         """
-        creation = c.Creation(c.word(mode), c.word(umask), c.DIRECTORY if directory else 0)
-        return PosixAcl(_made("posix_create", self._text, creation))
+        creation = c.Creation(_nine_bits(mode), _nine_bits(umask), c.DIRECTORY if directory else 0)
+        if not self._default.len:
+            return PosixAcl.from_mode(mode & ~umask)
+        access = _made("entries_create", self._default, creation)
+        return PosixAcl._of(access, self._default if directory else _held([]))
 
     def bridge(self) -> NfsAcl:
         """Returns an NFSv4 list that grants each single permission as the access ACL does, with ids as names.
 
         Raises Refused with the reason `Limits` if that list would be too long.
         """
-        return NfsAcl(_made("posix_bridge", self._text))
-
-
-_NONE = c.Names((c.NamedId * 0)(), 0)
+        return NfsAcl(c.bytes_of("entries_bridge", (self._access,), 64 * (self._access.len + 1)))
 
 
 def _table(names: Iterable[Tuple[str, int, bool]]) -> c.Names:
@@ -244,39 +261,69 @@ def _table(names: Iterable[Tuple[str, int, bool]]) -> c.Names:
     return c.Names((c.NamedId * len(rows))(*rows), len(rows))
 
 
-def _made(call: str, text: bytes, *args: object, names: c.Names = _NONE) -> bytes:
-    """Makes a call on a text that writes a text or a list, and returns it."""
-    return c.bytes_of(call, (c.PosixText(c.in_c(text), names), *args), 2 * len(text) + 64)
+def _shown(text: bytes, form: int, names: c.Names) -> bytes:
+    """Returns a text in a form."""
+    return c.bytes_of("posix_show", (c.PosixText(c.in_c(text), names), form), 2 * len(text) + 64)
 
 
-def _mode_lines(mode: int) -> List[str]:
-    return [f"{tag}::{_letters(mode >> shift)}" for tag, shift in (("user", 6), ("group", 3), ("other", 0))]
+def _made(call: str, part: Union[c.Entries, c.Bytes], *args: object, default: bool = False) -> c.Entries:
+    """Makes a call on a part that writes entries, and returns them. Raises Refused with the part."""
+    try:
+        return _held(c.entries_of(call, (part, *args), part.len + 3))
+    except Refused as refused:
+        raise of_part(refused, default) from None
+
+
+def _question(user: int, groups: Iterable[int], owner: int, group: int, want: int) -> c.PosixQuestion:
+    members = [c.word(number) for number in c.several(groups)]
+    return c.PosixQuestion(c.word(owner), c.word(group), c.word(user), c.word(want), (c.Word * len(members))(*members),
+                           len(members))
+
+
+def _held(entries: Sequence[c.Entry]) -> c.Entries:
+    return c.Entries((c.Entry * len(entries))(*entries), len(entries))
+
+
+def _in_c(part: Iterable[Entry]) -> c.Entries:
+    """Returns the entries of a part for C. The tag 0 is that of no entry."""
+    return _held([c.Entry(_NUMBERS.get((entry.tag, entry.id is not None), 0),
+                          c.word(_ANYBODY if entry.id is None else entry.id), c.word(entry.perm)) for entry in part])
+
+
+def _value(found: c.Entry, default: bool) -> Entry:
+    """Returns an entry that C has."""
+    return Entry(default, _TAGS[found.tag], found.id if found.tag in _NAMED else None, found.perm)
+
+
+def _parted(entries: Iterable[Entry]) -> Tuple[List[Entry], List[Entry]]:
+    """Returns the entries of the access part, and those of the default part."""
+    parts: Tuple[List[Entry], List[Entry]] = ([], [])
+    for entry in entries:
+        parts[bool(entry.default)].append(entry)
+    return parts
+
+
+def _read(line: bytes) -> Entry:
+    """Returns the entry of a line of the canonical text."""
+    fields = line.decode().split(":")
+    tag, number, perm = fields[-3:]
+    return Entry(len(fields) == 4, tag, int(number) if number else None,
+                 sum(bit for letter, bit in zip("rwx", (4, 2, 1)) if letter in perm))
+
+
+def _nine_bits(mode: int) -> int:
+    if c.word(mode) > 0o777:
+        raise ValueError(f"above 0o777: {mode:#o}")
+    return mode
+
+
+def _mode_entries(mode: int) -> c.Entries:
+    return _in_c([Entry(False, tag, None, mode >> shift & 7) for tag, shift in
+                  (("user", 6), ("group", 3), ("other", 0))])
 
 
 def _letters(perm: int) -> str:
     return "".join(letter if perm & bit else "-" for letter, bit in zip("rwx", (4, 2, 1)))
-
-
-def _line(entry: Entry, place: int) -> str:
-    """Returns the line of an entry, which is at a place of its part."""
-    reason = ""
-    if (entry.tag, entry.id is not None) not in _NUMBERS:
-        reason = "Tag"
-    elif entry.id is not None and not 0 <= operator.index(entry.id) < _ANYBODY:
-        reason = "Id"
-    elif not 0 <= operator.index(entry.perm) <= 7:
-        reason = "Permission"
-    if reason:
-        raise Refused(reason, part="default" if entry.default else "access", offset=place)
-    return str(entry)
-
-
-def _missing_mask(part: List[Entry]) -> List[Entry]:
-    """Returns the mask that a part lacks: the union of what a mask limits. Returns nothing if it lacks none."""
-    limited = [entry for entry in part if entry.id is not None or entry.tag == "group"]
-    if all(entry.id is None for entry in limited) or any(entry.tag == "mask" for entry in part):
-        return []
-    return [Entry(part[0].default, "mask", None, functools.reduce(operator.or_, (entry.perm for entry in limited)))]
 
 
 def _attribute(file: File, name: str) -> Optional[bytes]:
@@ -294,22 +341,3 @@ def _remove_attribute(file: File, name: str) -> None:
     except OSError as error:
         if error.errno != errno.ENODATA:
             raise
-
-
-def _attribute_lines(data: bytes, default: bool) -> List[str]:
-    """Returns lines for the entries of an attribute: a version of four bytes, then the tag, the permissions and the id
-    of each entry, least significant byte first (linux/posix_acl_xattr.h)."""
-    if len(data) < 4 or (len(data) - 4) % 8:
-        raise Refused("Truncated", offset=len(data))
-    if data[:4] != _VERSION:
-        raise Refused("Tag", offset=0)
-    lines = []
-    for place, (tag, perm, number) in enumerate(struct.iter_unpack("<HHI", data[4:])):
-        if tag not in _TAGS or perm > 7:
-            raise Refused("Tag" if tag not in _TAGS else "Permission", offset=4 + 8 * place)
-        if tag in _NAMED and number == _ANYBODY:
-            raise Refused("Id", offset=8 + 8 * place)
-        lines.append(str(Entry(default, _TAGS[tag], number if tag in _NAMED else None, perm)))
-    return lines
-
-

@@ -5,17 +5,19 @@ from __future__ import annotations
 import itertools
 from dataclasses import dataclass
 from enum import Enum
-from typing import Dict, FrozenSet, Iterable, Iterator, List, NamedTuple, Optional, Sequence, Set, Tuple, TypeVar, Union
+from typing import Dict, FrozenSet, Iterable, Iterator, List, NamedTuple, Optional, Sequence, Tuple, TypeVar, Union
 
 from aclck import (
     ALL,
-    ALLOW,
     APPEND_DATA,
     EXECUTE,
     READ_DATA,
     WRITE_DATA,
-    Decision,
+    NfsAcl,
     PosixAcl,
+    Possible,
+    Refused,
+    Request,
     Requesters,
     mask_text,
     read_mask,
@@ -37,9 +39,6 @@ class Answer(Enum):
 
 
 GRANTED, DENIED, UNKNOWN = Answer.GRANTED, Answer.DENIED, Answer.UNKNOWN
-
-Cases = Tuple[int, ...]
-"""The rights that a person is granted, in each case of who is a member of the special names of a list."""
 
 
 @dataclass(frozen=True, eq=False)
@@ -126,19 +125,21 @@ class Options:
         return bare if bare and domain and domain == self.domain else name
 
 
-class _Identity(NamedTuple):
+class Identity(NamedTuple):
+    """A user and the groups of the user, as lists of one kind name them."""
+
     user: str
-    groups: Tuple[str, ...]
+    groups: Tuple[str, ...] = ()
 
 
-_UNUSED = _Identity("?", ())
+_UNUSED = Identity("?")
 """Who asks in place of a person whose id is not known. The answer is not used."""
 
 
 class _Forms(NamedTuple):
     """The people in the form of a kind of list, and a bit for each person whose ids are known."""
 
-    identities: List[Optional[_Identity]]
+    identities: List[Optional[Identity]]
     requesters: Requesters
     known: int
 
@@ -195,15 +196,15 @@ class Asker:
         found = self.accounts[tree].id(person, name, is_group)
         return self.accounts[tree].id(person, self.options.account(name), is_group) if found is None else found
 
-    def identity(self, person: Person, face: Face, kind: str) -> Optional[_Identity]:
+    def identity(self, person: Person, face: Face, kind: str) -> Optional[Identity]:
         """Returns the user and the groups of a person in the form of a kind of list, or None if an id is not known."""
         if kind == Kind.NFS4:
-            return _Identity(self.full_name(person.name), tuple(map(self.full_name, person.groups)))
+            return Identity(self.full_name(person.name), tuple(map(self.full_name, person.groups)))
         user, listed = self.id(person, person.name, False, face.tree), person.groups_in(face.tree)
         groups = [self.id(person, group, True, face.tree) for group in listed or ()]
         if user is None or listed is None or None in groups:
             return None
-        return _Identity(str(user), tuple(map(str, groups)))
+        return Identity(str(user), tuple(map(str, groups)))
 
     def _forms_of(self, face: Face, kind: Kind) -> _Forms:
         """Returns the people in the form of a kind of list. Names are those of all trees, and ids those of one."""
@@ -216,29 +217,47 @@ class Asker:
             self._forms[key] = _Forms(identities, Requesters(rows), _bits(one is not None for one in identities))
         return self._forms[key]
 
-    def _granted(self, face: Face, asked: Asked, mask: int) -> Iterator[List[int]]:
-        """Yields in each case of who is a member of the special names which of the rights each person is granted."""
+    def _granted(self, face: Face, asked: Asked, mask: int) -> List[int]:
+        """Returns which of the rights each person is granted by a list without special names."""
         owner, group = self.owner_and_group(face, asked.kind)
-        requesters = self._forms_of(face, asked.kind).requesters
-        for members in cases([group for _, group in asked.specials]):
-            yield asked.case(members).acl.granted_many(requesters, owner=owner, group=group, mask=mask)
+        return asked.acl.granted_many(self._forms_of(face, asked.kind).requesters, owner=owner, group=group, mask=mask)
 
-    def masks(self, face: Face, asked: Asked) -> Iterator[Sequence[Optional[int]]]:
-        """Yields in each case of who is a member of the special names what each person is granted, or None for a person
-        whose id is not known."""
+    def masks(self, face: Face, asked: Asked) -> Sequence[Optional[int]]:
+        """Returns what each person is granted by a list without special names, or None for a person whose id is not
+        known."""
         identities = self._forms_of(face, asked.kind).identities
-        for found in self._granted(face, asked, ALL):
-            if all(identities):
-                yield found
-            else:
-                yield [mask if one else None for mask, one in zip(found, identities)]
+        return [mask if one else None for mask, one in zip(self._granted(face, asked, ALL), identities)]
 
     def granted(self, face: Face, asked: Asked, person: Person) -> int:
         """Returns what a person whose ids are known is granted as a member of no special name."""
         identity = self.identity(person, face, asked.kind)
         assert identity
         owner, group = self.owner_and_group(face, asked.kind)
-        return asked.case(()).acl.granted(user=identity.user, groups=identity.groups, owner=owner, group=group)
+        return asked.acl.granted(user=identity.user, groups=asked.others(identity.groups), owner=owner, group=group)
+
+    def possible(self, face: Face, asked: Asked, identity: Identity, mask: int) -> Possible:
+        """Returns what a list with special names grants somebody, whomever the server takes for these names."""
+        owner, group = self.owner_and_group(face, asked.kind)
+        return NfsAcl.decide_unknown(asked.whomever, user=identity.user, groups=identity.groups, owner=owner,
+                                     group=group, mask=mask)
+
+    def _is_any(self, face: Face, asked: Asked, identity: Identity, mask: int) -> Request:
+        """Returns the same about a request for any of some rights: it is granted where a request for all of them is not
+        granted by the list that is turned round."""
+        owner, group = self.owner_and_group(face, asked.kind)
+        try:
+            none = NfsAcl.decide_unknown(asked.turned(mask), user=identity.user, groups=identity.groups, owner=owner,
+                                         group=group, mask=mask).request
+        except Refused:  # a list of the greatest length has no room for another ACE
+            return Request.DEPENDS
+        return {Request.ALWAYS: Request.NEVER, Request.NEVER: Request.ALWAYS}.get(none, none)
+
+    def _whomever(self, face: Face, asked: Asked, want: Want) -> Answers:
+        """Returns whom a list with special names grants what is asked, whomever the server takes for these names."""
+        found = [self._is_any(face, asked, one, want.mask) if want.any
+                 else self.possible(face, asked, one, want.mask).request
+                 for one in self._forms_of(face, asked.kind).identities if one]
+        return self._row(_bits(one is Request.ALWAYS for one in found), _bits(one is Request.NEVER for one in found))
 
     def _row(self, granted: int, denied: int) -> Answers:
         key = granted, denied
@@ -260,14 +279,13 @@ class Asker:
             if want.missing and not (want.any and want.perms):
                 return RefusedList(f"a POSIX list has no {mask_text(want.missing)}")
             mask, known = want.posix_mask, self._forms_of(face, asked.kind).known
-        always, ever = self._everybody, 0
-        for found in self._granted(face, asked, mask):
-            granted = _bits([one != 0 for one in found] if want.any else [one == mask for one in found])
-            always &= granted
-            ever |= granted
+        if asked.specials:
+            return self._whomever(face, asked, want)
+        found = self._granted(face, asked, mask)
+        granted = _bits([one != 0 for one in found] if want.any else [one == mask for one in found])
         if asked.posix and not want.any and want.perms & (want.perms - 1):
-            always = ever = self._at_once(face, asked.posix, ever & known, want.perms)
-        return self._row(always & known, self._everybody & ~ever & known)
+            granted = self._at_once(face, asked.posix, granted & known, want.perms)
+        return self._row(granted & known, ~granted & known)
 
     def _at_once(self, face: Face, acl: PosixAcl, people: int, perms: int) -> int:
         """Returns whom of some people a POSIX list grants several permissions at once, which one entry must have
@@ -290,107 +308,7 @@ class Asker:
         return _bits(granted)
 
 
-def check(acl: PosixAcl, face: Face, identity: _Identity, perms: int) -> bool:
+def check(acl: PosixAcl, face: Face, identity: Identity, perms: int) -> bool:
     """Returns whether a POSIX list grants some permissions to a user and groups, which are ids in digits."""
     return acl.check(user=int(identity.user), groups=map(int, identity.groups), owner=face.uid, group=face.gid,
                      want=perms)
-
-
-def cases(groups: Sequence[str]) -> List[Tuple[str, ...]]:
-    """Returns all sets of some groups."""
-    return [chosen for size in range(len(groups) + 1) for chosen in itertools.combinations(groups, size)]
-
-
-class Why(NamedTuple):
-    """What decides about one right: the answer, and the ACE or entry, or the reason why there is none."""
-
-    right: str
-    answer: Answer
-    place: Optional[int]
-    text: str
-
-
-def why_nfs(asker: Asker, face: Face, asked: Asked, person: Person) -> List[Why]:
-    """Returns for each right the ACE that decides it (RFC 8881, section 6.2.1)."""
-    identity = asker.identity(person, face, Kind.NFS4)
-    assert identity
-    owner, group = asker.owner_and_group(face, Kind.NFS4)
-    lines = asked.lines()
-    found: Dict[int, Set[Optional[Decision]]] = {1 << bit: set() for bit in range(21) if ALL >> bit & 1}
-    for members in cases([group for _, group in asked.specials]):
-        case = asked.case(members)
-        for right, decisions in found.items():
-            one = case.acl.deciding(user=identity.user, groups=identity.groups, owner=owner, group=group, right=right)
-            decisions.add(one and one._replace(place=case.places[one.place]))
-    rows = []
-    for right, decisions in found.items():
-        answers = {GRANTED if one and one.kind == ALLOW else DENIED for one in decisions}
-        answer = answers.pop() if len(answers) == 1 else UNKNOWN
-        if len(decisions) > 1:
-            names = ", ".join(name for name, _ in asked.specials)
-            rows.append(Why(mask_text(right), answer, None, f"depends on who is {names}"))
-            continue
-        one = decisions.pop()
-        rows.append(Why(mask_text(right), answer, asked.places[one.place] if one else None,
-                        lines[one.place] if one else "no ACE has it for this user"))
-    return rows
-
-
-def why_posix(asker: Asker, face: Face, asked: Asked, person: Person) -> List[Why]:
-    """Returns for each permission the entry that decides it, by the four cases of acl(5), "ACCESS CHECK ALGORITHM"."""
-    identity = asker.identity(person, face, Kind.POSIX)
-    assert asked.posix
-    if identity is None:
-        return [Why(letter, UNKNOWN, None, "no id is known for the user or a group") for letter in "rwx"]
-    user, groups = int(identity.user), set(map(int, identity.groups))
-    entries = {(entry.tag, entry.id): entry.perm for entry in asked.posix if not entry.default}
-    mask = entries.get(("mask", None), 7)
-    rows = []
-    for letter, bit in zip("rwx", (4, 2, 1)):
-        tag, number, masked = _entry_for(entries, user, groups, face, bit)
-        text = f"{tag}:{'' if number is None else number}:{_letters(entries[tag, number])}"
-        limited = f", mask::{_letters(mask)}" if masked and mask != 7 else ""
-        granted = check(asked.posix, face, identity, bit)
-        rows.append(Why(letter, GRANTED if granted else DENIED, None, text + limited))
-    return rows
-
-
-def why_request(asker: Asker, face: Face, person: Person, want: Want) -> Iterator[Why]:
-    """Yields what else decides about a request for several rights on an object with a POSIX list: rights that do not
-    exist in such lists, and that no entry grants all of the permissions although each is granted by itself."""
-    asked, identity = asker.ready(face.list), asker.identity(person, face, Kind.POSIX)
-    if isinstance(asked, RefusedList) or not asked.posix:
-        return
-    for right in (1 << bit for bit in range(21)):
-        if want.missing & right:
-            yield Why(mask_text(right), Answer.REFUSED, None, "a POSIX list has no such right")
-    if want.perms and identity and not check(asked.posix, face, identity, want.perms):
-        if all(check(asked.posix, face, identity, bit) for bit in POSIX_MASKS if want.perms & bit):
-            letters = _letters(want.perms).replace("-", "")
-            yield Why(letters, DENIED, None, "no entry grants all of these permissions")
-
-
-def _entry_for(entries: Dict[Tuple[str, Optional[int]], int], user: int, groups: "set[int]", face: Face,
-               bit: int) -> Tuple[str, Optional[int], bool]:
-    """Returns the tag and the id of the entry that decides, and whether the mask limits it."""
-    if user == face.uid:
-        return "user", None, False
-    if ("user", user) in entries:
-        return "user", user, True
-    matching: List[Optional[int]] = [None] if face.gid in groups else []
-    matching += sorted(number for tag, number in entries if tag == "group" and number is not None and number in groups)
-    if matching:
-        return "group", next((one for one in matching if entries["group", one] & bit), matching[0]), True
-    return "other", None, False
-
-
-def _letters(perm: int) -> str:
-    return "".join(letter if perm & bit else "-" for letter, bit in zip("rwx", (4, 2, 1)))
-
-
-def why(asker: Asker, face: Face, person: Person) -> Union[RefusedList, List[Why]]:
-    """Returns what decides about each right for a person."""
-    asked = asker.ready(face.list)
-    if isinstance(asked, RefusedList):
-        return asked
-    return (why_posix if asked.posix else why_nfs)(asker, face, asked, person)

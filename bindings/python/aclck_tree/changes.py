@@ -13,7 +13,7 @@ from .ask import Asker
 from .compare import heir_forms, named, own_form
 from .counterparts import has_other_owner, renamed_ids, translate
 from .joined import State
-from .lists import MOST_SPECIALS, Kind, RefusedList
+from .lists import Kind, RefusedList
 from .requesters import Affected, Effect, PairedPeople, Whom, crowds, differences, mentioned
 from .sides import Question, Side, heirs, place_of
 from .snapshot import Face
@@ -206,10 +206,9 @@ class Compared:
         found = list(self._people_of(question).differences(question))
         known = {one for row, _ in found for one in row.users()}
         rows = [row for row in mentioned(question) if not known.intersection(row.users())]
-        most = max(1, MOST_ASKED >> min(len(question.specials()), MOST_SPECIALS))
-        if len(rows) > most:
-            notes.append(f"{len(rows) - most:,} more names of the list were not asked about")
-            rows = [*rows[:most - 1], rows[-1]]
+        if len(rows) > MOST_ASKED:
+            notes.append(f"{len(rows) - MOST_ASKED:,} more names of the list were not asked about")
+            rows = [*rows[:MOST_ASKED - 1], rows[-1]]
         return _grouped(question.on, itertools.chain(found, differences(question, rows, *crowds(rows))))
 
     def _of_heirs(self, question: Question, notes: List[str]) -> List[Change]:

@@ -2,15 +2,13 @@
 
 from __future__ import annotations
 
-import bisect
 import enum
-import itertools
 import struct
 from typing import Dict, Iterable, Iterator, List, NamedTuple, Optional, Sequence, Tuple, Union
 
-from aclck import ALL, NfsAcl, Requesters
+from aclck import ALL, Ace, AceFlag, NfsAcl, Requesters
 
-from .ask import Cases
+from .ask import Identity
 from .lists import Asked, pieces
 
 AT_ONCE = 1024
@@ -21,12 +19,23 @@ MOST_KEPT = 50_000
 
 _SPECIAL = (b"OWNER@", b"GROUP@", b"EVERYONE@")
 
+_RIGHTS = [1 << bit for bit in range(21) if ALL >> bit & 1]
 
-class Identity(NamedTuple):
-    """A user and the groups of the user, as lists of one kind name them."""
 
-    user: str
-    groups: Tuple[str, ...] = ()
+class Granted(NamedTuple):
+    """The rights that somebody is granted whomever the server takes for the special names of a list, and those that are
+    granted in some case."""
+
+    sure: int
+    maybe: int
+
+    @property
+    def unknown(self) -> int:
+        """The rights that depend on the special names."""
+        return self.maybe & ~self.sure
+
+
+NOTHING = Granted(0, 0)
 
 
 class Missing(enum.Enum):
@@ -76,53 +85,71 @@ class Crowd:
 
     def __init__(self, people: Sequence[Asking]) -> None:
         self._people = people
-        self._missing = [at for at, person in enumerate(people) if isinstance(person, Missing)]
-        self._kept: Dict[Tuple[int, Tuple[Tuple[str, ...], ...]], Requesters] = {}
+        self._kept: Dict[int, Requesters] = {}
         self._rows = 0
 
     def __len__(self) -> int:
         return len(self._people)
 
-    def granted(self, view: View, names: Sequence[str]) -> Iterator[List[Optional[Cases]]]:
-        """Yields what people are granted as members of each set of some special names, or None if an id is not known.
-        Somebody who is not there is granted nothing. The people come in parts, which the number of names decides."""
-        known = dict(view.asked.specials)
-        # A list that lacks a special name grants its members nothing for that.
-        members = tuple(tuple(known[name] for name in chosen if name in known) for chosen in _subsets(names))
-        width, acl = len(members), view.asked.acl
-        narrowed = _Narrowed(acl) if len(acl) > AT_ONCE else None
-        step = max(1, AT_ONCE // width)
-        for start in range(0, len(self._people), step):
-            part = self._people[start:start + step]
-            requesters = self._prepared(start, part, members)
-            if narrowed:
-                acl = narrowed.of(_rows(part, members))
-            found = acl.granted_many(requesters, owner=view.owner, group=view.group, mask=ALL)
-            rows: List[Optional[Cases]] = list(zip(*[iter(found)] * width))
-            for at in self._missing[bisect.bisect(self._missing, start - 1):]:
-                if at >= start + step:
-                    break
-                rows[at - start] = (0,) * width if self._people[at] is Missing.PERSON else None
-            yield rows
+    def granted(self, view: View) -> Iterator[List[Optional[Granted]]]:
+        """Yields what people are granted, or None if an id is not known. Somebody who is not there is granted nothing.
+        The people come in parts of the same size for each view."""
+        narrowed = _Narrowed(view.asked.acl) if len(view.asked.acl) > AT_ONCE and not view.asked.specials else None
+        for start in range(0, len(self._people), AT_ONCE):
+            part = self._people[start:start + AT_ONCE]
+            if view.asked.specials:
+                yield [_possible(view, person) if isinstance(person, Identity) else _absent(person) for person in part]
+                continue
+            acl = narrowed.of(_rows(part)) if narrowed else view.asked.acl
+            found = acl.granted_many(self._prepared(start, part), owner=view.owner, group=view.group, mask=ALL)
+            yield [Granted(mask, mask) if isinstance(person, Identity) else _absent(person)
+                   for person, mask in zip(part, found)]
 
-    def _prepared(self, start: int, part: Sequence[Asking], members: Tuple[Tuple[str, ...], ...]) -> Requesters:
-        key = (start, members)
-        if key not in self._kept:
+    def _prepared(self, start: int, part: Sequence[Asking]) -> Requesters:
+        if start not in self._kept:
             if self._rows > MOST_KEPT:
                 self._kept.clear()
                 self._rows = 0
-            self._kept[key] = Requesters(_rows(part, members))
-            self._rows += self._kept[key].count
-        return self._kept[key]
+            self._kept[start] = Requesters(_rows(part))
+            self._rows += self._kept[start].count
+        return self._kept[start]
 
 
-def _subsets(names: Sequence[str]) -> List[Tuple[str, ...]]:
-    return [chosen for size in range(len(names) + 1) for chosen in itertools.combinations(names, size)]
-
-
-def _rows(part: Sequence[Asking], members: Sequence[Tuple[str, ...]]) -> Iterator[Tuple[str, List[str]]]:
-    """Yields a requester for each person and each set of groups. Who has no identity asks as `?`, without use."""
+def _rows(part: Sequence[Asking]) -> Iterator[Identity]:
+    """Yields a requester for each person. Who has no identity asks as `?`, without use."""
     for person in part:
-        user, groups = person if isinstance(person, Identity) else Identity("?")
-        for chosen in members:
-            yield user, [*groups, *chosen]
+        yield person if isinstance(person, Identity) else Identity("?")
+
+
+def _absent(person: Missing) -> Optional[Granted]:
+    return NOTHING if person is Missing.PERSON else None
+
+
+def _possible(view: View, person: Identity) -> Granted:
+    found = NfsAcl.decide_unknown(view.asked.whomever, user=person.user, groups=person.groups, owner=view.owner,
+                                  group=view.group)
+    return Granted(found.allowed, found.allowed | found.unknown)
+
+
+def alike(old: View, new: View, one: Identity, other: Identity, rights: int) -> int:
+    """Returns those of some rights that two lists grant somebody in the same cases of who is a member of their special
+    names. Each side has its own names for the same person."""
+    def are_alike(mask: int) -> bool:
+        return _left(old, one, mask).means_the_same(_left(new, other, mask))
+    if are_alike(rights):
+        return rights
+    return sum(right for right in _RIGHTS if rights & right and are_alike(right))
+
+
+def _left(view: View, person: Identity, rights: int) -> NfsAcl:
+    """Returns what is left of a list if only some rights and one person count: the ACEs of special names, as groups,
+    and those that match the person, for everyone (RFC 8881, section 6.2.1)."""
+    names = {group: f"{name}?" for name, group in view.asked.specials}
+    keys = {(None, "EVERYONE@"), (False, person.user), *((True, group) for group in (*person.groups, *names))}
+    keys.update((None, who) for who, is_meant in (("OWNER@", person.user == view.owner),
+                                                  ("GROUP@", view.group in person.groups)) if is_meant)
+    found = sorted(one for key in keys for one in view.asked.by_who.get(key, ()))
+    return NfsAcl.from_aces(
+        Ace(ace.kind, AceFlag.IDENTIFIER_GROUP if ace.who in names else AceFlag(0), ace.mask & rights,
+            names.get(ace.who, "EVERYONE@"))
+        for _, ace in found)

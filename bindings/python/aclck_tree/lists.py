@@ -7,17 +7,18 @@ list its bridge is asked: an NFSv4 list that grants each single permission alike
 
 from __future__ import annotations
 
+import functools
 import struct
 from dataclasses import dataclass
 from enum import Enum, IntEnum
-from typing import Collection, Dict, List, NamedTuple, Optional, Sequence, Tuple, Union
+from typing import Dict, List, NamedTuple, Optional, Sequence, Tuple, Union
 
-from aclck import APPEND_DATA, EXECUTE, READ_DATA, WRITE_DATA, AceFlag, NfsAcl, PosixAcl, Refused
+from aclck import ALLOW, APPEND_DATA, DENY, EXECUTE, READ_DATA, WRITE_DATA, Ace, AceFlag, NfsAcl, PosixAcl, Refused
 
 from .snapshot import ListForm, StoredList
 
-MOST_SPECIALS = 6
-"""How many special names a list may have and still be asked: each doubles the cases."""
+MOST_BYTES = 1000
+"""How many bytes the special names may have that are asked about: a group that replaces one has a longer name."""
 
 POSIX_MASKS = {4: READ_DATA, 2: WRITE_DATA | APPEND_DATA, 1: EXECUTE}
 """The rights of the bridge by permissions."""
@@ -56,13 +57,6 @@ _ACE = struct.Struct(">IIII")
 _GROUP = int(AceFlag.IDENTIFIER_GROUP)  # `&` of two numbers is quicker
 
 
-class Case(NamedTuple):
-    """A list in one case of who is a member of its special names, and the places of its ACEs in `Asked.acl`."""
-
-    acl: NfsAcl
-    places: Sequence[int]
-
-
 @dataclass(frozen=True)
 class Asked:
     """A list that can be asked.
@@ -82,29 +76,42 @@ class Asked:
         """`POSIX` for a POSIX list or a mode, and otherwise `NFS4`."""
         return Kind.POSIX if self.posix else Kind.NFS4
 
-    def case(self, members: Collection[str]) -> Case:
-        """Returns the list that asks a user who is a member of some of the special names, given by their groups, and
-        of no others: the ACEs of these names are for everyone, and those of the other special names are left out.
+    def others(self, groups: Sequence[str]) -> Tuple[str, ...]:
+        """Returns those of some groups that replace no special name. The list has no ACE about the rest of them."""
+        stand_ins = {group for _, group in self.specials}
+        return tuple(group for group in groups if group not in stand_ins)
 
-        So the people are the same in all cases, and the number of questions kept at once does not grow with them.
-        """
-        if not self.specials:
-            return Case(self.acl, range(len(self.acl)))
-        data = bytes(self.acl)
-        groups = {encoded(group) for _, group in self.specials}
-        chosen = {encoded(group) for group in members}
-        parts: List[bytes] = []
-        places: List[int] = []
-        for place, piece in enumerate(pieces(data)):
-            if piece.who in groups - chosen:
-                continue
-            parts.append(_for_everyone(piece) if piece.who in chosen else data[piece.start:piece.end])
-            places.append(place)
-        return Case(NfsAcl(struct.pack(">I", len(parts)) + b"".join(parts)), places)
+    def fewest_and_most(self, groups: Sequence[str]) -> Tuple[Tuple[str, ...], Tuple[str, ...]]:
+        """Returns the groups of a member of no special name, and those of a member of all special names."""
+        others = self.others(groups)
+        return others, (*others, *(group for _, group in self.specials))
 
-    def name(self, who: str) -> str:
-        """Returns the special name that a group replaces, and every other name as it is."""
-        return next((name for name, group in self.specials if group == who), who)
+    @functools.cached_property
+    def whomever(self) -> bytes:
+        """The bytes of the list with its special names, for `NfsAcl.decide_unknown`."""
+        return self._bytes(pieces(bytes(self.acl)))
+
+    def turned(self, mask: int) -> bytes:
+        """Returns the bytes of a list that allows all of some rights where this one grants none of them: DENY and ALLOW
+        are exchanged, and what no ACE decides is allowed."""
+        found = [piece._replace(kind=piece.kind ^ 1) for piece in pieces(bytes(self.acl)) if piece.mask & mask]
+        return self._bytes([*found, Piece(0, 0, AceType.ALLOW, 0, mask, _EVERYONE)])
+
+    def _bytes(self, found: Sequence[Piece]) -> bytes:
+        names = {encoded(group): encoded(name) for name, group in self.specials}
+        return struct.pack(">I", len(found)) + b"".join(
+            _packed(piece.kind, piece.flags, piece.mask, names.get(piece.who, piece.who)) for piece in found)
+
+    @functools.cached_property
+    def by_who(self) -> Dict[Tuple[Optional[bool], str], List[Tuple[int, Ace]]]:
+        """The ACEs that take part, with their places, by their who and by whether it is a group, or None for the names
+        `OWNER@`, `GROUP@` and `EVERYONE@`."""
+        found: Dict[Tuple[Optional[bool], str], List[Tuple[int, Ace]]] = {}
+        for place, ace in enumerate(self.acl):
+            if not ace.flags & AceFlag.INHERIT_ONLY:
+                is_group = None if encoded(ace.who) in _KNOWN else ace.is_group
+                found.setdefault((is_group, ace.who), []).append((place, ace))
+        return found
 
     def lines(self) -> List[str]:
         """Returns the text of each ACE, with the special names as they were found."""
@@ -160,9 +167,8 @@ def pieces(data: bytes) -> List[Piece]:
     return found
 
 
-def _is_special(data: bytes, piece: Piece) -> bool:
-    return (piece.who.endswith(b"@") and piece.who not in _KNOWN and len(piece.who) < 1000 and
-            not any(data[piece.start + 16 + len(piece.who):piece.end]))
+def _is_special(piece: Piece) -> bool:
+    return piece.who.endswith(b"@") and piece.who not in _KNOWN
 
 
 def decoded(who: bytes) -> str:
@@ -175,74 +181,40 @@ def _packed(kind: int, flags: int, mask: int, who: bytes) -> bytes:
     return _ACE.pack(kind, flags, mask, len(who)) + who + bytes(-len(who) % 4)
 
 
-def _for_everyone(piece: Piece) -> bytes:
-    return _packed(piece.kind, piece.flags & ~AceFlag.IDENTIFIER_GROUP, piece.mask, _EVERYONE)
-
-
-def _stand_in(who: bytes, taken: Dict[bytes, bytes], names: "set[bytes]") -> bytes:
-    if who not in taken:
-        name = who + b"?"
-        while name in names:
-            name += b"?"
-        taken[who] = name
-    return taken[who]
-
-
-class _Rewritten(NamedTuple):
-    data: bytes
-    starts: List[Tuple[int, int]]  # where a part begins, in this list and in the list as it was found
-    places: Sequence[int]
-    specials: Dict[bytes, bytes]
-    left_out: int
-
-
-def _rewrite(data: bytes) -> _Rewritten:
-    """Leaves out AUDIT and ALARM ACEs, and replaces special names by groups. The rest stays as it is."""
-    found = pieces(data)
-    if not any(piece.kind in _DECIDES_NOTHING or _is_special(data, piece) for piece in found):
-        return _Rewritten(data, [(0, 0)], range(len(found)), {}, 0)
+def _stand_ins(found: Sequence[Piece]) -> Dict[bytes, bytes]:
+    """Returns a group for each special name. No ACE names it."""
     names = {piece.who for piece in found}
-    parts: List[bytes] = []
-    starts, length = [(0, 0)], 4
-    places: List[int] = []
-    specials: Dict[bytes, bytes] = {}
-    for place, piece in enumerate(found):
-        if piece.kind in _DECIDES_NOTHING:
-            continue
-        part = data[piece.start:piece.end]
-        if _is_special(data, piece):
-            who = _stand_in(piece.who, specials, names)
-            part = _packed(piece.kind, piece.flags | AceFlag.IDENTIFIER_GROUP, piece.mask, who)
-        starts.append((length, piece.start))
-        length += len(part)
-        parts.append(part)
-        places.append(place)
-    end = found[-1].end if found else 4
-    starts.append((length, end))
-    left_out = len(found) - len(places)
-    count = struct.pack(">I", int.from_bytes(data[:4], "big") - left_out)
-    return _Rewritten(count + b"".join(parts) + data[end:], starts, tuple(places), specials, left_out)
+    groups: Dict[bytes, bytes] = {}
+    for who in dict.fromkeys(piece.who for piece in found if _is_special(piece)):
+        groups[who] = who + b"?"
+        while groups[who] in names:
+            groups[who] += b"?"
+    return groups
 
 
-def _found_at(rewritten: _Rewritten, offset: int) -> int:
-    """Returns a place in the list as it was found."""
-    here, there = max(start for start in rewritten.starts if start[0] <= offset)
-    return there + offset - here
+def _without_specials(piece: Piece, groups: Dict[bytes, bytes]) -> Ace:
+    """Returns the ACE of a piece, with a group in place of a special name."""
+    flags = AceFlag(piece.flags) | (AceFlag.IDENTIFIER_GROUP if piece.who in groups else 0)
+    kind = ALLOW if piece.kind == AceType.ALLOW else DENY
+    return Ace(kind, flags, piece.mask, decoded(groups.get(piece.who, piece.who)))
 
 
 def _ready_nfs(data: bytes) -> Ready:
-    if len(data) < 4:
-        return RefusedList("Truncated at byte 0")
-    rewritten = _rewrite(data)
-    if len(rewritten.specials) > MOST_SPECIALS:
-        offset = next(piece.start + 16 for piece in pieces(data) if _is_special(data, piece))
-        return RefusedList(f"SpecialWho at byte {offset}")
     try:
-        acl = NfsAcl(rewritten.data)
+        left_out = NfsAcl.decide_unknown(data, user="?", owner="?", group="?", mask=0).left_out
     except Refused as refused:
-        return RefusedList(f"{refused.reason} at byte {_found_at(rewritten, refused.offset or 0)}")
-    specials = tuple((decoded(name), decoded(group)) for name, group in rewritten.specials.items())
-    return Asked(acl, None, specials, rewritten.places, rewritten.left_out)
+        return RefusedList(str(refused))
+    found = pieces(data)
+    too_long = next((piece for piece in found if _is_special(piece) and len(piece.who) > MOST_BYTES), None)
+    if too_long:
+        return RefusedList(f"SpecialWho at byte {too_long.start + 16}")
+    places = tuple(place for place, piece in enumerate(found) if piece.kind not in _DECIDES_NOTHING)
+    groups = _stand_ins([found[place] for place in places])
+    if not groups and not left_out:
+        return Asked(NfsAcl(data), places=places)
+    acl = NfsAcl.from_aces(_without_specials(found[place], groups) for place in places)
+    specials = tuple((decoded(name), decoded(group)) for name, group in groups.items())
+    return Asked(acl, None, specials, places, left_out)
 
 
 def as_linux(acl: PosixAcl) -> PosixAcl:

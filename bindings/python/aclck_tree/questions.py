@@ -11,9 +11,7 @@ from typing import Dict, Iterable, Iterator, NamedTuple, Optional, Tuple, Union
 
 from aclck import mask_text
 
-from .ask import DENIED, GRANTED, UNKNOWN, Answer, Answers, Asker, Options, Want, Why, chosen, ones, want_of
-from .ask import why as why_of
-from .ask import why_request
+from .ask import DENIED, GRANTED, UNKNOWN, Answer, Answers, Asker, Options, Want, chosen, ones, want_of
 from .commands import (
     Counted,
     Paths,
@@ -32,6 +30,8 @@ from .errors import NO, REFUSED, YES, tell
 from .lists import Asked, Kind, RefusedList
 from .people import Person
 from .reach import reached
+from .reasons import Why, why_request
+from .reasons import why as why_of
 from .snapshot import Tree
 from .text import Output, Row, plural, quoted, quoted_path, table
 

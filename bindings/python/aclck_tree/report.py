@@ -4,14 +4,13 @@ from __future__ import annotations
 
 import argparse
 import contextlib
-import functools
 import itertools
 import os
 import sys
 from dataclasses import dataclass, field, replace
 from typing import Dict, Iterator, List, NamedTuple, Optional, TextIO, Tuple
 
-from .ask import DENIED, GRANTED, UNKNOWN, Answers, Asker
+from .ask import DENIED, GRANTED, UNKNOWN, Answers, Asker, Want
 from .commands import Paths, asker_of, opened, people_of
 from .errors import NO, REFUSED, YES, tell
 from .files import replaced
@@ -20,7 +19,7 @@ from .lists import Asked, Kind, RefusedList
 from .page import page
 from .people import HIGHEST_ID, Person, stranger_of
 from .reach import reached
-from .rows import NAMED, Cells, Level, Rows, level_of, name_of
+from .rows import NAMED, Cells, Level, Rows, level_by, level_of, name_of, questions_of
 from .snapshot import Face, Snapshot
 from .text import Form, Output, quoted
 
@@ -172,14 +171,25 @@ class Report:
         return self._levels[key]
 
     def _levels_of(self, face: Face, asked: Asked, is_folder: bool) -> bytes:
-        """Returns the levels of the people: unknown where the cases of special names differ in it, and for a person
+        """Returns the levels of the people: unknown where they depend on the members of special names, and for a person
         whose id is not known."""
-        found: List[bytes] = []
-        for masks in self.asker.masks(face, asked):
-            levels = {mask: Level.UNKNOWN if mask is None else level_of(mask, asked.kind, is_folder)
-                      for mask in set(masks)}
-            found.append(bytes(map(levels.__getitem__, masks)))
-        return functools.reduce(_agreed, found)
+        if asked.specials:
+            return self._levels_whomever(face, asked, is_folder)
+        masks = self.asker.masks(face, asked)
+        levels = {mask: Level.UNKNOWN if mask is None else level_of(mask, asked.kind, is_folder)
+                  for mask in set(masks)}
+        return bytes(map(levels.__getitem__, masks))
+
+    def _levels_whomever(self, face: Face, asked: Asked, is_folder: bool) -> bytes:
+        """Returns the same for a list with special names, by the three questions that make a level."""
+        wanted = (Want("", mask, 0, 0, any_of) for mask, any_of in questions_of(asked.kind, is_folder))
+        found = [answers for answers in (self.asker.answers(face, want) for want in wanted)
+                 if isinstance(answers, Answers)]
+        levels = []
+        for place in range(len(self.asker.people)):
+            known = [answers.of(place) for answers in found]
+            levels.append(Level.UNKNOWN if UNKNOWN in known else level_by(*(one is GRANTED for one in known)))
+        return bytes(levels)
 
     def _owners(self, face: Face, asked: Asked) -> Tuple[int, ...]:
         """Returns which of the people are the owner of a face."""
@@ -216,11 +226,6 @@ class Report:
         if self.found["refused"] or not self.snapshot.is_complete() or not self.folders + self.files:
             return REFUSED
         return NO if any(self.found.values()) else YES
-
-
-def _agreed(some: bytes, others: bytes) -> bytes:
-    """Returns the levels that are the same in both, and otherwise unknown ones."""
-    return some if some == others else bytes(one if one == other else Level.UNKNOWN for one, other in zip(some, others))
 
 
 def _past(levels: bytes, above: Optional[Answers]) -> bytes:

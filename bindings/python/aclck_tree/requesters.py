@@ -3,14 +3,14 @@
 from __future__ import annotations
 
 import itertools
-from typing import Dict, Iterable, Iterator, List, NamedTuple, Optional, Sequence, Tuple
+from typing import Dict, Iterator, List, NamedTuple, Optional, Sequence, Tuple
 
 from aclck import ALL
 
-from .ask import Cases
+from .ask import Identity
 from .counterparts import is_same_owner, who_at
-from .crowd import Asking, Crowd, Identity, Missing
-from .lists import MOST_SPECIALS, POSIX_MASKS, Kind
+from .crowd import AT_ONCE, NOTHING, Asking, Crowd, Granted, Missing, alike
+from .lists import POSIX_MASKS, Kind
 from .sides import Place, Question, Side
 from .text import quoted
 
@@ -55,71 +55,60 @@ Effect = Tuple[int, int, int]
 Affected = Tuple[Requester, Effect]
 """A requester for whom something differs."""
 
-_Part = List[Optional[Cases]]
+_Part = List[Optional[Granted]]
+
+_ID_NOT_KNOWN = Granted(0, sum(POSIX_MASKS.values()))
+"""What somebody may be granted whose id is not known, which only matters for POSIX lists."""
 
 
-def _difference(before: Optional[Cases], after: Optional[Cases], aligned: bool) -> Effect:
-    """Compares what is granted on both sides. If the cases of both sides are not the same cases one by one, a right is
-    known only if it is granted in all cases of a side or in none."""
-    if aligned and before is not None and after is not None:
-        gained, lost, unclear = ALL, ALL, 0
-        for old, new in zip(before, after):
-            gained, lost, unclear = gained & new & ~old, lost & old & ~new, unclear | (old ^ new)
-    else:
-        old_sure, old_maybe = _states(before)
-        new_sure, new_maybe = _states(after)
-        gained, lost = new_sure & ~old_maybe, old_sure & ~new_maybe
-        unclear = (old_sure ^ new_sure) | (old_maybe & ~old_sure) | (new_maybe & ~new_sure)
-    return gained, lost, unclear & ~gained & ~lost
+def _difference(old: Granted, new: Granted) -> Effect:
+    """Compares what is granted on both sides. A right is known only if it is granted in all cases of a side or in
+    none."""
+    gained, lost = new.sure & ~old.maybe, old.sure & ~new.maybe
+    return gained, lost, ((old.sure ^ new.sure) | old.unknown | new.unknown) & ~gained & ~lost
 
 
-def _states(masks: Optional[Cases]) -> Tuple[int, int]:
-    """Returns the rights that are granted in every case, and those that are granted in some case. If the id of a person
-    is not known, which only matters for POSIX lists, each right of such a list may be granted."""
-    if masks is None:
-        return 0, sum(POSIX_MASKS.values())
-    sure, maybe = ALL, 0
-    for mask in masks:
-        sure &= mask
-        maybe |= mask
-    return sure, maybe
-
-
-def _cases_at(place: Optional[Place], crowd: Crowd) -> Iterator[Optional[Cases]]:
-    """Yields what each of a crowd is granted in each case. On an object that is not there nothing is granted."""
+def _granted_at(place: Optional[Place], crowd: Crowd) -> Iterator[_Part]:
+    """Yields what each of a crowd is granted, in parts. On an object that is not there nothing is granted."""
     if not place:
-        return iter([(0,)] * len(crowd))
-    found = [itertools.chain.from_iterable(crowd.granted(view, [name for name, _ in view.asked.specials]))
-             for view in place.views]
-    return (None if None in cases else tuple(itertools.chain.from_iterable(one for one in cases if one))
-            for cases in zip(*found))
+        return ([NOTHING] * min(AT_ONCE, len(crowd) - start) for start in range(0, len(crowd), AT_ONCE))
+    return (found[0] if len(found) == 1 else [_in_each(ones) for ones in zip(*found)]
+            for found in zip(*(crowd.granted(view) for view in place.views)))
+
+
+def _in_each(found: Sequence[Optional[Granted]]) -> Optional[Granted]:
+    """Returns what somebody is granted by a list that is one of several."""
+    sure, maybe = ALL, 0
+    for one in found:
+        if one is None:
+            return None
+        sure, maybe = sure & one.sure, maybe | one.maybe
+    return Granted(sure, maybe)
 
 
 def differences(question: Question, rows: Sequence[Requester], old: Crowd, new: Crowd) -> Iterator[Affected]:
-    """Yields those of the rows for whom something differs."""
-    names = question.specials()
-    if (question.old and question.new and len(question.old.views) == len(question.new.views) == 1
-            and len(names) <= MOST_SPECIALS):
-        parts = zip(old.granted(question.old.views[0], names), new.granted(question.new.views[0], names))
-        yield from _aligned_differences(rows, parts)
-        return
-    for row, before, after in zip(rows, _cases_at(question.old, old), _cases_at(question.new, new)):
-        found = _difference(before, after, False)
-        if any(found):
-            yield row, found
-
-
-def _aligned_differences(rows: Sequence[Requester], parts: Iterable[Tuple[_Part, _Part]]) -> Iterator[Affected]:
-    """Yields those of the rows for whom something differs, if the cases of both sides are the same one by one. Usually
-    whole parts of the rows are equal."""
+    """Yields those of the rows for whom something differs. Usually whole parts of the rows are equal."""
+    is_sure = all(len(place.views) == 1 and not place.views[0].asked.specials for place in question.places())
     start = 0
-    for old, new in parts:
-        if old != new or None in old:
-            for row, before, after in zip(rows[start:start + len(old)], old, new):
-                found = _difference(before, after, True) if before is None or before != after else (0, 0, 0)
+    for before, after in zip(_granted_at(question.old, old), _granted_at(question.new, new)):
+        if not is_sure or before != after or None in before:
+            for row, one, other in zip(rows[start:start + len(before)], before, after):
+                found = _effect(question, row, one or _ID_NOT_KNOWN, other or _ID_NOT_KNOWN)
                 if any(found):
                     yield row, found
-        start += len(old)
+        start += len(before)
+
+
+def _effect(question: Question, row: Requester, one: Granted, other: Granted) -> Effect:
+    """Returns what differs for a row. Of rights that depend on special names on both sides, it is asked whether they do
+    so alike."""
+    gained, lost, unclear = _difference(one, other)
+    on_both = one.unknown & other.unknown
+    if on_both and question.old and question.new and isinstance(row.old, Identity) and isinstance(row.new, Identity):
+        views = question.old.views, question.new.views
+        if len(views[0]) == len(views[1]) == 1:
+            unclear &= ~alike(views[0][0], views[1][0], row.old, row.new, on_both)
+    return gained, lost, unclear
 
 
 def crowds(rows: Sequence[Requester]) -> Tuple[Crowd, Crowd]:

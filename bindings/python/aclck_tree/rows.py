@@ -37,14 +37,32 @@ class Level(IntEnum):
     REFUSED = 6
 
 
+_CHANGES = WRITE_DATA | APPEND_DATA
+
+
+def _whole(kind: Kind, is_folder: bool) -> int:
+    """Returns all rights. A file can be granted all without EXECUTE and DELETE_CHILD."""
+    return _WHOLE[kind] if is_folder else _WHOLE[kind] & ~(EXECUTE | DELETE_CHILD)
+
+
 def level_of(mask: int, kind: Kind, is_folder: bool) -> Level:
-    """Returns the level of some granted rights. A file can be granted all without EXECUTE and DELETE_CHILD."""
-    whole = _WHOLE[kind] if is_folder else _WHOLE[kind] & ~(EXECUTE | DELETE_CHILD)
-    if mask & whole == whole:
+    """Returns the level of some granted rights."""
+    whole = _whole(kind, is_folder)
+    return level_by(mask & whole == whole, bool(mask & _CHANGES), bool(mask & READ_DATA))
+
+
+def questions_of(kind: Kind, is_folder: bool) -> Tuple[Tuple[int, bool], ...]:
+    """Returns the questions whose answers `level_by` takes: rights, and whether it is enough if any is granted."""
+    return (_whole(kind, is_folder), False), (_CHANGES, True), (READ_DATA, False)
+
+
+def level_by(has_all: bool, may_change: bool, may_read: bool) -> Level:
+    """Returns the level of somebody with these answers."""
+    if has_all:
         return Level.ALL
-    if mask & (WRITE_DATA | APPEND_DATA):
-        return Level.WRITE if mask & READ_DATA else Level.WRITE_ONLY
-    return Level.READ if mask & READ_DATA else Level.NONE
+    if may_change:
+        return Level.WRITE if may_read else Level.WRITE_ONLY
+    return Level.READ if may_read else Level.NONE
 
 
 def shortened(text: str, most: int = LONGEST_NAME) -> str:

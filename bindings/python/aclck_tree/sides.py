@@ -7,8 +7,8 @@ from typing import Callable, Dict, Iterator, List, NamedTuple, Optional, Sequenc
 
 from aclck import Refused
 
-from .ask import Asker
-from .crowd import Asking, Identity, Missing, View
+from .ask import Asker, Identity
+from .crowd import Asking, Missing, View
 from .lists import Asked, Kind
 from .people import Accounts, Person, stranger_of
 from .snapshot import Face

@@ -170,7 +170,7 @@ class ACL:
             self._list()
         except aclck.Refused as fault:
             place = len(self._entries) if fault.offset is None else fault.offset
-            return (_ERRORS[fault.reason], place) if fault.part else (ACL_ENTRY_ERROR, (place - 4) // 8)
+            return _ERRORS.get(fault.reason, ACL_ENTRY_ERROR), place
         return False
 
     def equiv_mode(self) -> int:
@@ -179,9 +179,9 @@ class ACL:
 
     def calc_mask(self) -> None:
         """Sets the mask to the union of the permissions that it limits. Adds a mask if there is none."""
-        others = [row for row in self._rows() if row[0] != ACL_MASK]
+        rows = [*(row for row in self._rows() if row[0] != ACL_MASK), [ACL_MASK, 0, _NO_ID]]
         with _refused_as_einval():
-            made = aclck.PosixAcl.from_attributes(_attribute([*others, [ACL_MASK, 0, _NO_ID]])).calc_mask()
+            made = aclck.PosixAcl.from_attributes(_attribute(sorted(rows, key=lambda row: row[0]))).calc_mask()
         for entry in [entry for entry in self if entry._row[0] == ACL_MASK] or [Entry(self)]:
             [entry._row] = [list(row) for row in _rows(made) if row[0] == ACL_MASK]
 

@@ -4,25 +4,40 @@
 //! `aclck.h` says what the calls do. Rights have a type of their own, and options are enums, so the compiler refuses an
 //! option in place of a right.
 
+mod aces;
 mod answers;
+mod entries;
 mod nfs4;
 mod posix;
+mod prepared;
 mod raw;
+mod renaming;
 mod rights;
 #[cfg(test)]
 mod tests;
+mod unknown;
 
 use std::fmt;
 
+pub use aces::{aces, build, Ace};
 pub use nfs4::{
-    check, check_many, child, compare, decide, deciding, encode, granted, mode, needed, normalize, normalize_inherit,
-    same, show, table,
+    check, check_many, child, child_marked, chmod, compare, decide, deciding, encode, excess, granted, mode, needed,
+    normalize, normalize_inherit, same, show, table,
+};
+pub use entries::{
+    entries_bridge, entries_calc_mask, entries_check, entries_chmod, entries_create, entries_deciding,
+    entries_from_attribute, entries_mode, entries_sorted, entries_to_attribute, Entry, MissingMask, PosixDecision, Tag,
 };
 pub use posix::{
     posix_bridge, posix_calc_mask, posix_check, posix_chmod, posix_create, posix_show, Name, PosixQuestion, PosixText,
 };
+pub use prepared::{
+    decide_ids, decide_prepared, decide_prepared_many, prepare, prepare_ids, IdObject, IdRequester,
+};
 pub use raw::Fault;
+pub use renaming::{renamed, Merging, Renaming};
 pub use rights::Rights;
+pub use unknown::{decide_unknown, Possible, Request};
 
 /// The rights and flags that a list may have.
 #[derive(Clone, Copy, Debug, Default, PartialEq, Eq)]
@@ -71,11 +86,23 @@ pub struct Decided {
     pub denied: Rights,
 }
 
+impl Decided {
+    fn of(found: raw::Decided) -> Decided {
+        Decided { allowed: Rights::of(found.allowed), denied: Rights::of(found.denied) }
+    }
+}
+
 /// The kind of an ACE, which RFC 8881 calls its type (section 6.2.1.1).
 #[derive(Clone, Copy, Debug, PartialEq, Eq)]
 pub enum AceKind {
     Allow,
     Deny,
+}
+
+impl AceKind {
+    fn of(kind: u32) -> AceKind {
+        if kind == 0 { AceKind::Allow } else { AceKind::Deny }
+    }
 }
 
 /// The ACE that decides a right: its place in the list, from 0, and its kind.

@@ -7,6 +7,7 @@ use crate::{AceKind, Decided, Decision, Difference, Error, Kind, Object, Profile
 /// The number of each option in `aclck.h`.
 const NARROW: u32 = 0x0100_0000;
 pub(crate) const DIRECTORY: u32 = 0x0200_0000;
+const MARK_INHERITED: u32 = 0x2000_0000;
 
 /// Returns which of the rights the list allows the requester on the object, and which it denies.
 pub fn decide(
@@ -17,7 +18,7 @@ pub fn decide(
         let asked = (&owned(object), &asking(requester, &groups), &question(rights, profile));
         raw::aclck_decide(Bytes::of(acl), asked.0, asked.1, asked.2, found, fault)
     })?;
-    Ok(Decided { allowed: Rights::of(found.allowed), denied: Rights::of(found.denied) })
+    Ok(Decided::of(found))
 }
 
 /// Returns whether the list grants the requester all of the rights on the object.
@@ -53,16 +54,15 @@ pub fn deciding(
         let asked = (&owned(object), &asking(requester, &groups), &question(right, profile));
         raw::aclck_deciding(Bytes::of(acl), asked.0, asked.1, asked.2, found, fault)
     })?;
-    let kind = if found.kind == 0 { AceKind::Allow } else { AceKind::Deny };
-    Ok((found.kind != raw::UNDECIDED).then_some(Decision { place: found.place, kind }))
+    Ok((found.kind != raw::UNDECIDED).then_some(Decision { place: found.place, kind: AceKind::of(found.kind) }))
 }
 
 /// Returns those of the rights that the list grants each requester on the object. Reads the list once.
 pub fn check_many(
-    acl: &[u8], object: Object, requesters: &[Requester], rights: Rights, profile: Profile,
+    acl: &[u8], object: Object, people: &[Requester], rights: Rights, profile: Profile,
 ) -> Result<Vec<Rights>, Error> {
-    let groups: Vec<Vec<Bytes>> = requesters.iter().map(|one| slices(one.groups)).collect();
-    let asking: Vec<raw::Requester> = requesters.iter().zip(&groups).map(|(one, names)| asking(*one, names)).collect();
+    let groups: Vec<Vec<Bytes>> = people.iter().map(|one| slices(one.groups)).collect();
+    let asking = requesters(people, &groups);
     let many = raw::Requesters { at: asking.as_ptr(), len: asking.len() };
     let (mut found, mut fault) = (vec![0; asking.len()], Fault::default());
     let status = unsafe {
@@ -81,6 +81,20 @@ pub fn mode(acl: &[u8], profile: Profile) -> Result<u32, Error> {
 pub fn child(acl: &[u8], kind: Kind, profile: Profile) -> Result<Vec<u8>, Error> {
     let options = options(profile) | if kind == Kind::Directory { DIRECTORY } else { 0 };
     made(acl.len(), |out, needed, fault| unsafe { raw::aclck_child(Bytes::of(acl), options, out, needed, fault) })
+}
+
+/// Returns the same list with the flag INHERITED on each of its ACEs (section 6.4.3).
+pub fn child_marked(acl: &[u8], kind: Kind, profile: Profile) -> Result<Vec<u8>, Error> {
+    let options = options(profile) | MARK_INHERITED | if kind == Kind::Directory { DIRECTORY } else { 0 };
+    made(acl.len(), |out, needed, fault| unsafe { raw::aclck_child(Bytes::of(acl), options, out, needed, fault) })
+}
+
+/// Returns the list after the mode of its object is set to these nine bits (section 6.4.1.1).
+pub fn chmod(acl: &[u8], mode: u32, profile: Profile) -> Result<Vec<u8>, Error> {
+    let options = options(profile);
+    made(acl.len() + 256, |out, needed, fault| unsafe {
+        raw::aclck_chmod(Bytes::of(acl), mode, options, out, needed, fault)
+    })
 }
 
 /// Returns the text of the list.
@@ -138,10 +152,21 @@ pub fn same(first: &[u8], second: &[u8], profile: Profile) -> Result<bool, Error
 
 /// Returns the first difference of two lists, or `None` if they grant everybody the same.
 pub fn compare(first: &[u8], second: &[u8], profile: Profile) -> Result<Option<Difference>, Error> {
+    differing(first, second, profile, raw::aclck_compare)
+}
+
+/// Returns the first difference in which the first list grants a right and the second does not, or `None` if the second
+/// list grants everybody whatever the first grants.
+pub fn excess(first: &[u8], second: &[u8], profile: Profile) -> Result<Option<Difference>, Error> {
+    differing(first, second, profile, raw::aclck_excess)
+}
+
+type Comparing = unsafe extern "C" fn(Bytes, Bytes, u32, *mut raw::Difference, Buffer<u8>, *mut raw::Fault) -> u32;
+
+fn differing(first: &[u8], second: &[u8], profile: Profile, call: Comparing) -> Result<Option<Difference>, Error> {
     let mut at = raw::Difference::default();
     let names = made(256, |out, needed, fault| unsafe {
-        let options = options(profile);
-        let status = raw::aclck_compare(Bytes::of(first), Bytes::of(second), options, &mut at, out, fault);
+        let status = call(Bytes::of(first), Bytes::of(second), options(profile), &mut at, out, fault);
         *needed = at.names as usize;
         status
     })?;
@@ -156,25 +181,29 @@ pub fn compare(first: &[u8], second: &[u8], profile: Profile) -> Result<Option<D
     Ok(Some(Difference { right: Rights::of(at.right), first_grants: at.first_grants == 1, owner, group, user, groups }))
 }
 
-fn options(profile: Profile) -> u32 {
+pub(crate) fn options(profile: Profile) -> u32 {
     match profile {
         Profile::Full => 0,
         Profile::Narrow => NARROW,
     }
 }
 
-fn question(rights: Rights, profile: Profile) -> raw::Question {
+pub(crate) fn question(rights: Rights, profile: Profile) -> raw::Question {
     raw::Question { mask: rights.bits(), options: options(profile) }
 }
 
-fn owned(object: Object) -> raw::Object {
+pub(crate) fn owned(object: Object) -> raw::Object {
     raw::Object { owner: Bytes::of(object.owner), group: Bytes::of(object.group) }
 }
 
-fn asking(requester: Requester, groups: &[Bytes]) -> raw::Requester {
+pub(crate) fn asking(requester: Requester, groups: &[Bytes]) -> raw::Requester {
     raw::Requester { user: Bytes::of(requester.user), groups: groups.as_ptr(), ngroups: groups.len() }
 }
 
-fn slices(names: &[&[u8]]) -> Vec<Bytes> {
+pub(crate) fn requesters(people: &[Requester], groups: &[Vec<Bytes>]) -> Vec<raw::Requester> {
+    people.iter().zip(groups).map(|(one, names)| asking(*one, names)).collect()
+}
+
+pub(crate) fn slices(names: &[&[u8]]) -> Vec<Bytes> {
     names.iter().map(|name| Bytes::of(name)).collect()
 }

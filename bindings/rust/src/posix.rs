@@ -9,7 +9,7 @@ use crate::{Error, Form, Kind};
 const FORM_SHOWN: u32 = 0x0400_0000;
 const FORM_SHORT: u32 = 0x0800_0000;
 
-/// A name that a POSIX text may use for an id.
+/// A name that stands for an id.
 #[derive(Clone, Copy, Debug)]
 pub struct Name<'a> {
     pub name: &'a [u8],
@@ -37,8 +37,7 @@ pub struct PosixQuestion<'a> {
 
 /// Returns whether the access ACL of the text grants what is asked.
 pub fn posix_check(text: PosixText, question: PosixQuestion) -> Result<bool, Error> {
-    let PosixQuestion { owner, group, user, groups, want } = question;
-    let asked = raw::PosixQuestion { owner, group, user, want, groups: groups.as_ptr(), ngroups: groups.len() };
+    let asked = asked(question);
     let names = raw_names(text.names);
     let granted: u32 = answered(|granted, fault| unsafe {
         raw::aclck_posix_check(&raw_text(text, &names), &asked, granted, fault)
@@ -92,6 +91,11 @@ fn raw_text(text: PosixText, names: &[raw::Name]) -> raw::PosixText {
     raw::PosixText { text: Bytes::of(text.text), names: names.as_ptr(), nnames: names.len() }
 }
 
-fn raw_names(names: &[Name]) -> Vec<raw::Name> {
+pub(crate) fn asked(question: PosixQuestion) -> raw::PosixQuestion {
+    let PosixQuestion { owner, group, user, groups, want } = question;
+    raw::PosixQuestion { owner, group, user, want, groups: groups.as_ptr(), ngroups: groups.len() }
+}
+
+pub(crate) fn raw_names(names: &[Name]) -> Vec<raw::Name> {
     names.iter().map(|n| raw::Name { name: Bytes::of(n.name), id: n.id, is_group: n.is_group.into() }).collect()
 }

@@ -18,9 +18,21 @@ impl Bytes {
     pub fn of(bytes: &[u8]) -> Bytes {
         Bytes { at: bytes.as_ptr(), len: bytes.len() }
     }
+
+    /// Returns these bytes, which are a part of `whole`.
+    pub fn within<'a>(&self, whole: &'a [u8]) -> &'a [u8] {
+        let start = (self.at as usize).wrapping_sub(whole.as_ptr() as usize);
+        whole.get(start..start.wrapping_add(self.len)).unwrap_or_default()
+    }
 }
 
-/// `aclck_buffer`, and `aclck_masks` for numbers.
+impl Default for Bytes {
+    fn default() -> Bytes {
+        Bytes::of(&[])
+    }
+}
+
+/// `aclck_buffer`, `aclck_masks`, `aclck_decided_list` and `aclck_entry_buffer`.
 #[repr(C)]
 pub struct Buffer<T> {
     at: *mut T,
@@ -55,6 +67,21 @@ pub struct Requesters {
     pub len: usize,
 }
 
+/// `aclck_id_object`.
+#[repr(C)]
+pub struct IdObject {
+    pub owner: u32,
+    pub group: u32,
+}
+
+/// `aclck_id_requester`.
+#[repr(C)]
+pub struct IdRequester {
+    pub user: u32,
+    pub groups: *const u32,
+    pub ngroups: usize,
+}
+
 /// `aclck_question`.
 #[repr(C)]
 pub struct Question {
@@ -62,11 +89,29 @@ pub struct Question {
     pub options: u32,
 }
 
+/// `aclck_ace`.
+#[repr(C)]
+#[derive(Default)]
+pub struct Ace {
+    pub kind: u32,
+    pub flags: u32,
+    pub mask: u32,
+    pub who: Bytes,
+}
+
 /// `aclck_name`.
 #[repr(C)]
 pub struct Name {
     pub name: Bytes,
     pub id: u32,
+    pub is_group: u32,
+}
+
+/// `aclck_renaming`.
+#[repr(C)]
+pub struct Renaming {
+    pub from: Bytes,
+    pub to: Bytes,
     pub is_group: u32,
 }
 
@@ -89,12 +134,31 @@ pub struct PosixQuestion {
     pub ngroups: usize,
 }
 
+/// `aclck_entry`.
+#[repr(C)]
+#[derive(Clone, Copy, Default)]
+pub struct Entry {
+    pub tag: u32,
+    pub id: u32,
+    pub perm: u32,
+}
+
 /// `aclck_creation`.
 #[repr(C)]
 pub struct Creation {
     pub mode: u32,
     pub umask: u32,
     pub options: u32,
+}
+
+/// `aclck_posix_decision`.
+#[repr(C)]
+#[derive(Default)]
+pub struct PosixDecision {
+    pub place: u64,
+    pub granted: u32,
+    pub tag: u32,
+    pub masked: u32,
 }
 
 /// `aclck_fault`: why and where something is refused.
@@ -110,12 +174,36 @@ pub struct Fault {
     pub tag: u32,
 }
 
+/// `aclck_names`, `aclck_aces`, `aclck_renamings` and `aclck_entries`.
+#[repr(C)]
+pub struct Array<T> {
+    at: *const T,
+    len: usize,
+}
+
+impl<T> Array<T> {
+    pub fn of(values: &[T]) -> Array<T> {
+        Array { at: values.as_ptr(), len: values.len() }
+    }
+}
+
 /// `aclck_decided`.
 #[repr(C)]
-#[derive(Default)]
+#[derive(Clone, Copy, Default)]
 pub struct Decided {
     pub allowed: u32,
     pub denied: u32,
+}
+
+/// `aclck_possible`.
+#[repr(C)]
+#[derive(Default)]
+pub struct Possible {
+    pub allowed: u32,
+    pub denied: u32,
+    pub unknown: u32,
+    pub request: u32,
+    pub left_out: u32,
 }
 
 /// `aclck_decision`.
@@ -145,6 +233,10 @@ extern "C" {
         acl: Bytes, object: *const Object, requester: *const Requester, question: *const Question, granted: *mut u32,
         fault: *mut Fault,
     ) -> u32;
+    pub fn aclck_decide_unknown(
+        acl: Bytes, object: *const Object, requester: *const Requester, question: *const Question,
+        possible: *mut Possible, fault: *mut Fault,
+    ) -> u32;
     pub fn aclck_granted(
         acl: Bytes, object: *const Object, requester: *const Requester, question: *const Question, rights: *mut u32,
         fault: *mut Fault,
@@ -153,14 +245,41 @@ extern "C" {
         acl: Bytes, object: *const Object, requester: *const Requester, question: *const Question,
         decision: *mut Decision, fault: *mut Fault,
     ) -> u32;
+    pub fn aclck_prepare_ids(
+        acl: Bytes, names: *const Array<Name>, options: u32, out: Buffer<u8>, needed: *mut usize, fault: *mut Fault,
+    ) -> u32;
+    pub fn aclck_decide_ids(
+        prepared: Bytes, object: *const IdObject, requester: *const IdRequester, question: *const Question,
+        decided: *mut Decided,
+    ) -> u32;
     pub fn aclck_check_many(
         acl: Bytes, object: *const Object, requesters: Requesters, question: *const Question, rights: Buffer<u32>,
         fault: *mut Fault,
     ) -> u32;
+    pub fn aclck_prepare(acl: Bytes, options: u32, out: Buffer<u8>, needed: *mut usize, fault: *mut Fault) -> u32;
+    pub fn aclck_decide_prepared(
+        prepared: Bytes, object: *const Object, requester: *const Requester, question: *const Question,
+        decided: *mut Decided,
+    ) -> u32;
+    pub fn aclck_decide_prepared_many(
+        prepared: Bytes, object: *const Object, requesters: Requesters, question: *const Question,
+        decided: Buffer<Decided>,
+    ) -> u32;
     pub fn aclck_mode(acl: Bytes, options: u32, mode: *mut u32, fault: *mut Fault) -> u32;
     pub fn aclck_child(acl: Bytes, options: u32, out: Buffer<u8>, needed: *mut usize, fault: *mut Fault) -> u32;
+    pub fn aclck_chmod(
+        acl: Bytes, mode: u32, options: u32, out: Buffer<u8>, needed: *mut usize, fault: *mut Fault,
+    ) -> u32;
     pub fn aclck_show(acl: Bytes, options: u32, out: Buffer<u8>, needed: *mut usize, fault: *mut Fault) -> u32;
+    pub fn aclck_build(
+        aces: Array<Ace>, options: u32, out: Buffer<u8>, needed: *mut usize, fault: *mut Fault,
+    ) -> u32;
+    pub fn aclck_next(acl: Bytes, options: u32, offset: *mut usize, ace: *mut Ace, fault: *mut Fault) -> u32;
     pub fn aclck_encode(text: Bytes, options: u32, out: Buffer<u8>, needed: *mut usize, fault: *mut Fault) -> u32;
+    pub fn aclck_renamed(
+        acl: Bytes, table: *const Array<Renaming>, options: u32, out: Buffer<u8>, needed: *mut usize,
+        fault: *mut Fault,
+    ) -> u32;
     pub fn aclck_normalize(acl: Bytes, options: u32, out: Buffer<u8>, needed: *mut usize, fault: *mut Fault) -> u32;
     pub fn aclck_normalize_inherit(
         acl: Bytes, options: u32, out: Buffer<u8>, needed: *mut usize, fault: *mut Fault,
@@ -171,6 +290,9 @@ extern "C" {
     pub fn aclck_needed(acl: Bytes, options: u32, masks: Buffer<u32>, needed: *mut usize, fault: *mut Fault) -> u32;
     pub fn aclck_same(first: Bytes, second: Bytes, options: u32, same: *mut u32, fault: *mut Fault) -> u32;
     pub fn aclck_compare(
+        first: Bytes, second: Bytes, options: u32, difference: *mut Difference, out: Buffer<u8>, fault: *mut Fault,
+    ) -> u32;
+    pub fn aclck_excess(
         first: Bytes, second: Bytes, options: u32, difference: *mut Difference, out: Buffer<u8>, fault: *mut Fault,
     ) -> u32;
     pub fn aclck_read_mask(text: Bytes, mask: *mut u32) -> u32;
@@ -193,6 +315,34 @@ extern "C" {
     ) -> u32;
     pub fn aclck_posix_bridge(
         text: *const PosixText, out: Buffer<u8>, needed: *mut usize, fault: *mut Fault,
+    ) -> u32;
+    pub fn aclck_entries_check(
+        entries: Array<Entry>, question: *const PosixQuestion, granted: *mut u32, fault: *mut Fault,
+    ) -> u32;
+    pub fn aclck_entries_deciding(
+        entries: Array<Entry>, question: *const PosixQuestion, decision: *mut PosixDecision, fault: *mut Fault,
+    ) -> u32;
+    pub fn aclck_entries_mode(entries: Array<Entry>, mode: *mut u32, fault: *mut Fault) -> u32;
+    pub fn aclck_entries_sorted(
+        entries: Array<Entry>, options: u32, out: Buffer<Entry>, needed: *mut usize, fault: *mut Fault,
+    ) -> u32;
+    pub fn aclck_entries_chmod(
+        entries: Array<Entry>, mode: u32, out: Buffer<Entry>, needed: *mut usize, fault: *mut Fault,
+    ) -> u32;
+    pub fn aclck_entries_calc_mask(
+        entries: Array<Entry>, out: Buffer<Entry>, needed: *mut usize, fault: *mut Fault,
+    ) -> u32;
+    pub fn aclck_entries_create(
+        default: Array<Entry>, creation: *const Creation, out: Buffer<Entry>, needed: *mut usize, fault: *mut Fault,
+    ) -> u32;
+    pub fn aclck_entries_bridge(
+        entries: Array<Entry>, out: Buffer<u8>, needed: *mut usize, fault: *mut Fault,
+    ) -> u32;
+    pub fn aclck_entries_from_attribute(
+        attribute: Bytes, out: Buffer<Entry>, needed: *mut usize, fault: *mut Fault,
+    ) -> u32;
+    pub fn aclck_entries_to_attribute(
+        entries: Array<Entry>, out: Buffer<u8>, needed: *mut usize, fault: *mut Fault,
     ) -> u32;
     pub fn aclck_version() -> u32;
 }

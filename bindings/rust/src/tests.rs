@@ -32,6 +32,22 @@ fn a_list_is_asked() {
     assert_eq!(check(DIRECTORY, OBJECT, nobody, rights, Profile::Full), Err(Error::BadArgument));
 }
 
+#[test]
+fn a_list_is_asked_with_ids() {
+    let list = encode(b"DENY - WRITE_DATA bob\nALLOW GROUP READ_DATA|WRITE_DATA 6\n", Profile::Full).unwrap();
+    let names = [Name { name: b"bob", id: 5, is_group: false }];
+    let prepared = prepare_ids(&list, &names, Profile::Full).unwrap();
+    let (object, both) = (IdObject { owner: 1, group: 2 }, Rights::READ_DATA | Rights::WRITE_DATA);
+    for (user, groups, allowed) in [(5, &[6][..], Rights::READ_DATA), (7, &[6, 8], both), (7, &[5], Rights::NONE)] {
+        let found = decide_ids(&prepared, object, IdRequester { user, groups }, both).unwrap();
+        assert_eq!(found.allowed, allowed, "{user}");
+    }
+    let falling = IdRequester { user: 5, groups: &[6, 5] };
+    assert_eq!(decide_ids(&prepared, object, falling, both), Err(Error::BadArgument));
+    let unknown = prepare_ids(&list, &[], Profile::Full).unwrap_err();
+    assert!(matches!(unknown, Error::Refused(Fault { reason: 22, offset: 0, .. })), "{unknown}");
+}
+
 // RFC 8881, section 6.2.1: the first ACE that has the right and matches decides.
 #[test]
 fn rights_are_allowed_denied_or_undecided() {
@@ -41,6 +57,18 @@ fn rights_are_allowed_denied_or_undecided() {
     assert_eq!(found, Decided { allowed: Rights::READ_DATA, denied: Rights::WRITE_DATA });
     let by = deciding(&list, OBJECT, BOB, Rights::WRITE_DATA, Profile::Full).unwrap();
     assert_eq!(by, Some(Decision { place: 1, kind: AceKind::Deny }));
+}
+
+#[test]
+fn a_prepared_list_answers_as_the_list_does() {
+    let prepared = prepare(DIRECTORY, Profile::Full).unwrap();
+    let mallory = Requester { user: b"mallory", groups: &[b"editors"] };
+    let wanted: Vec<Decided> =
+        [BOB, mallory].map(|one| decide(DIRECTORY, OBJECT, one, Rights::ALL, Profile::Full).unwrap()).into();
+    assert_eq!(decide_prepared(&prepared, OBJECT, BOB, Rights::ALL), Ok(wanted[0]));
+    assert!(wanted[0].allowed.contains(Rights::WRITE_DATA) && wanted[1].denied.contains(Rights::WRITE_DATA));
+    assert_eq!(decide_prepared_many(&prepared, OBJECT, &[BOB, mallory], Rights::ALL), Ok(wanted));
+    assert_eq!(decide_prepared(b"no list", OBJECT, BOB, Rights::ALL), Err(Error::BadArgument));
 }
 
 #[test]
@@ -54,15 +82,56 @@ fn a_text_reads_back() {
 }
 
 #[test]
+fn a_list_is_made_of_aces() {
+    let [first, second] = [(AceKind::Deny, &b"mallory"[..]), (AceKind::Allow, b"OWNER@")]
+        .map(|(kind, who)| Ace { kind, flags: 0, rights: Rights::READ_DATA, who });
+    let text = show(&build(&[first, second], Profile::Full).unwrap(), Profile::Full).unwrap();
+    assert_eq!(text, b"DENY - READ_DATA mallory\nALLOW - READ_DATA OWNER@\n");
+    assert_eq!(build(&[], Profile::Full), Ok(vec![0; 4]));
+    let fault = build(&[first, Ace { who: b"nobody@", ..second }], Profile::Full).unwrap_err();
+    assert!(matches!(fault, Error::Refused(Fault { reason: 11, offset: 1, .. })), "{fault}");
+}
+
+#[test]
 fn a_child_inherits_by_its_kind() {
     let list = encode(b"ALLOW FILE READ_DATA amy\nALLOW DIR WRITE_DATA bob\n", Profile::Full).unwrap();
     for (kind, text) in [(Kind::File, "ALLOW - READ_DATA amy\n"), (Kind::Directory, "ALLOW DIR WRITE_DATA bob\n")] {
         let shown = show(&child(&list, kind, Profile::Full).unwrap(), Profile::Full).unwrap();
         assert!(String::from_utf8_lossy(&shown).contains(text), "{kind:?}");
     }
+    for (kind, text) in [(Kind::File, "ALLOW INHERITED READ_DATA amy\n"), (Kind::Directory, "DIR|INHERITED")] {
+        let shown = show(&child_marked(&list, kind, Profile::Full).unwrap(), Profile::Full).unwrap();
+        assert!(String::from_utf8_lossy(&shown).contains(text), "{kind:?}");
+    }
     assert_eq!(mode(DIRECTORY, Profile::Full), Ok(0o750));
+    assert_eq!(mode(&chmod(DIRECTORY, 0o640, Profile::Full).unwrap(), Profile::Full), Ok(0o640));
+    assert_eq!(chmod(DIRECTORY, 0o1000, Profile::Full), Err(Error::BadArgument));
     assert!(normalize_inherit(DIRECTORY, Profile::Full).unwrap().len() > 20);
     assert!(table(DIRECTORY, Rights::WRITE_DATA, Profile::Full).unwrap().starts_with(b"0 DENY - mallory\n"));
+}
+
+// RFC 8881, section 6.2.1.5: a server may take some users for INTERACTIVE@, and nobody else knows whom.
+#[test]
+fn names_that_nobody_knows_match_or_not() {
+    let list = encode(b"ALLOW - READ_DATA INTERACTIVE?\nALLOW - EXECUTE EVERYONE@\n", Profile::Full).unwrap();
+    let list: Vec<u8> = list.iter().map(|byte| if *byte == b'?' { b'@' } else { *byte }).collect();
+    assert!(check(&list, OBJECT, BOB, Rights::READ_DATA, Profile::Full).is_err());
+    let found = decide_unknown(&list, OBJECT, BOB, read_and_run(), Profile::Full).unwrap();
+    let (allowed, unknown) = (Rights::EXECUTE, Rights::READ_DATA);
+    let wanted = Possible { allowed, denied: Rights::NONE, unknown, request: Request::Depends, left_out: 0 };
+    assert_eq!(found, wanted);
+    for (rights, request) in [(Rights::EXECUTE, Request::Always), (Rights::DELETE, Request::Never)] {
+        assert_eq!(decide_unknown(&list, OBJECT, BOB, rights, Profile::Full).unwrap().request, request);
+    }
+}
+
+#[test]
+fn the_aces_of_a_list_are_read() {
+    let found = aces(DIRECTORY, Profile::Full).unwrap();
+    assert_eq!((found[0].kind, found[0].who), (AceKind::Deny, &b"mallory"[..]));
+    assert_eq!(build(&found, Profile::Full).as_deref(), Ok(DIRECTORY));
+    assert_eq!(aces(&[0; 4], Profile::Full), Ok(vec![]));
+    assert!(aces(&DIRECTORY[..9], Profile::Full).is_err());
 }
 
 #[test]
@@ -74,9 +143,26 @@ fn a_normal_form_grants_the_same() {
     let group = [b'g'; 300];
     let text = [b"ALLOW GROUP READ_DATA ", &group[..], b"\n"].concat();
     let list = encode(&text, Profile::Full).unwrap();
+    assert_eq!(excess(&[0; 4], &list, Profile::Full), Ok(None));
+    assert_eq!(excess(&list, &[0; 4], Profile::Full), compare(&list, &[0; 4], Profile::Full));
     let found = compare(&list, &[0; 4], Profile::Full).unwrap().unwrap();
     assert!(found.first_grants && !found.user.is_empty());
     assert_eq!((found.right, found.groups), (Rights::READ_DATA, vec![group.to_vec()]));
+}
+
+#[test]
+fn names_are_exchanged() {
+    let list = encode(b"ALLOW - READ_DATA amy\nDENY - READ_DATA bob\n", Profile::Full).unwrap();
+    let to_bob = [Renaming { from: b"amy", to: b"bob", is_group: false }];
+    let fault = renamed(&list, &to_bob, Merging::Refused, Profile::Full).unwrap_err();
+    assert!(matches!(fault, Error::Refused(Fault { reason: 32, offset: 1, .. })), "{fault}");
+    let to_eve = [Renaming { from: b"amy", to: b"eve", is_group: false }];
+    let rows = [(to_bob, Merging::Allowed, "ALLOW - READ_DATA bob\nDENY - READ_DATA bob\n"),
+                (to_eve, Merging::Refused, "ALLOW - READ_DATA eve\nDENY - READ_DATA bob\n")];
+    for (table, merging, text) in rows {
+        let made = renamed(&list, &table, merging, Profile::Full).unwrap();
+        assert_eq!(String::from_utf8(show(&made, Profile::Full).unwrap()).unwrap(), text);
+    }
 }
 
 #[test]
@@ -107,6 +193,31 @@ fn posix_texts_are_read_with_names() {
     for (made, part) in rows {
         assert!(String::from_utf8(made.unwrap()).unwrap().contains(part), "{part}");
     }
+}
+
+// acl(5): the mask limits named users and all groups; each new file gets what its mode leaves.
+#[test]
+fn posix_entries_are_asked_and_changed() {
+    let [user, bob] = [Entry { tag: Tag::UserObj, perm: 6 }, Entry { tag: Tag::User(5), perm: 6 }];
+    let [group, other] = [Entry { tag: Tag::GroupObj, perm: 4 }, Entry { tag: Tag::Other, perm: 0 }];
+    let mask = |perm| Entry { tag: Tag::Mask, perm };
+    let fault = entries_sorted(&[bob, user, group, other], MissingMask::Refused).unwrap_err();
+    assert!(matches!(fault, Error::Refused(Fault { reason: 27, tag: 5, .. })), "{fault}");
+    let list = entries_sorted(&[bob, user, group, other], MissingMask::Added).unwrap();
+    assert_eq!(list, [user, bob, group, mask(6), other]);
+    let asked = |user, want| PosixQuestion { owner: 1, group: 2, user, groups: &[3], want };
+    assert_eq!((entries_check(&list, asked(5, 2)), entries_mode(&list)), (Ok(true), Ok(0o660)));
+    let limited = entries_chmod(&list, 0o640).unwrap();
+    assert_eq!(limited, [user, bob, group, mask(4), other]);
+    let by_bob = PosixDecision { granted: false, place: Some(1), masked: true };
+    assert_eq!(entries_check(&limited, asked(5, 2)), Ok(false));
+    assert_eq!(entries_deciding(&limited, asked(5, 2)), Ok(by_bob));
+    assert_eq!(entries_calc_mask(&limited), Ok(list.clone()));
+    assert_eq!(entries_create(&list, 0o640, 0, Kind::File), Ok(limited.clone()));
+    assert_eq!(entries_from_attribute(&entries_to_attribute(&list).unwrap()), Ok(list.clone()));
+    assert_eq!(entries_from_attribute(&[2, 0, 0, 0]), Ok(vec![]));
+    assert!(matches!(entries_from_attribute(&[2, 0, 0]), Err(Error::Refused(Fault { reason: 29, .. }))));
+    assert!(show(&entries_bridge(&list).unwrap(), Profile::Full).unwrap().starts_with(b"ALLOW - READ_DATA"));
 }
 
 #[test]
