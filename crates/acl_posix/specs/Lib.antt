@@ -10,6 +10,7 @@ pub mod Mode
 pub mod Mask
 pub mod Check
 pub mod Deciding
+pub mod Excess
 pub mod MissingMask
 pub mod Create
 pub mod Laws

@@ -14,6 +14,8 @@ pub mod Search
 pub mod Required
 -- what one group is granted
 pub mod GroupSearch
+-- what a set answers by the groups of a requester
+pub mod GroupAnswers
 -- the table of the maps of names, and tables as numbers
 pub mod NameMaps
 -- the digits that some bytes begin with

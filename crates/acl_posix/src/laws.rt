@@ -1,9 +1,11 @@
-//! Laws of the mode, the mask, the attributes and the texts, over sets of entries alone.
+//! Laws of the mode, the mask, what two ACLs grant, the attributes and the texts, over sets of entries alone.
 
-ghost use Rattle.std.specs.Prelude.{◌≡◌, ℕ, IsTrue, List};
+ghost use Rattle.std.specs.Prelude.{◌≡◌, ◌↔◌, ℕ, IsTrue, List};
 ghost use Rattle.acl_posix.specs.declared.fault.AclFault.{AclFault};
 ghost use Rattle.acl_posix.specs.declared.file.PosixFile.{PosixFile};
 ghost use Rattle.acl_posix.specs.declared.text_fault.TextFault.{TextFault};
+ghost use Rattle.acl_posix.specs.Entries.{Entries};
+ghost use Rattle.acl_posix.specs.Excess.{AnswerAlike, GrantsNothingMore};
 ghost use Rattle.acl_posix.specs.Grammar.{Reads};
 ghost use Rattle.acl_posix.specs.Laws.{AttributeReadsBack, MaskLeavesAll, MaskStays, ModeIsSet};
 ghost use Rattle.acl_posix.specs.Names.{Table};
@@ -29,6 +31,17 @@ pub fn mask_leaves_all()
 #[tactic(auto, using(crate::proofs::sorted::ModeAndMask::mask_again))]
 pub fn mask_stays()
     ensures { MaskStays }
+{}
+
+/// An ACL grants nothing more than itself. If it grants nothing more than a second ACL, and the second nothing more than
+/// a third, then it grants nothing more than the third. Neither of two ACLs grants more than the other if and only if
+/// they answer every request alike.
+pub fn nothing_more_is_an_order()
+    ensures itself { (a : Entries) → GrantsNothingMore a a }
+    ensures chain { (a b c : Entries) → GrantsNothingMore a b → GrantsNothingMore b c
+        → GrantsNothingMore a c }
+    ensures both_ways { (a b : Entries)
+        → (GrantsNothingMore a b × GrantsNothingMore b a) ↔ AnswerAlike a b }
 {}
 
 /// The extended attribute that is written for an ACL reads back as that ACL.

@@ -7,6 +7,7 @@ mod changes;
 mod checks;
 mod creation;
 mod examples;
+mod excess;
 mod faults;
 mod harness;
 mod lists;
@@ -25,4 +26,5 @@ fn worked_lists<A: Abort>(rt: &A, memory: Memory) {
     changes::tables(rt, memory);
     checks::requests(rt, memory);
     creation::new_files(rt, memory);
+    excess::differences(rt, memory);
 }

@@ -161,3 +161,14 @@ fn the_entry_that_decides_is_named(rt: HostRuntime) -> Result<(), Fail> {
     assert!(rt; !decision.granted && decision.entry == None);
     Ok(())
 }
+
+#[test]
+fn another_user_may_read_under_one_acl_alone(rt: HostRuntime) -> Result<(), Fail> {
+    let alloc = rt.alloc();
+    let first = PosixAcl::of_mode(alloc, Mode { bits: 0o644 })?;
+    let second = PosixAcl::of_mode(alloc, Mode { bits: 0o640 })?;
+    assert!(rt; second.excess(&first).is_none());
+    let found = first.excess(&second).ok_or("others may read")?;
+    assert!(rt; found.request == Perm::READ && found.groups == FewGroups::None);
+    Ok(())
+}

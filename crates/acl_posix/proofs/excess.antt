@@ -1,0 +1,2 @@
+-- what one set grants more than another
+pub mod Exceeding

@@ -1,0 +1,2 @@
+-- what a set answers to several groups, by its answers to each of them
+pub mod Answering
