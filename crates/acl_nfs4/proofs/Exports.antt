@@ -12,4 +12,5 @@ pub use Rattle.acl_nfs4.proofs.xdr.Resume.{one_spelling as one}
 pub use Rattle.acl_nfs4.proofs.xdr.Fields.{IsBytes-drop, bytes_append, who_bounds}
 pub use Rattle.acl_nfs4.proofs.xdr.Lengths.{spelling_short}
 pub use Rattle.acl_nfs4.proofs.xdr.Lists.{front_accepted, weight-cons}
+pub use Rattle.acl_nfs4.proofs.xdr.StandIns.{name_inserted, none_passes}
 pub use Rattle.acl_nfs4.proofs.xdr.OneFault.{never_truncated, value_or_fault}

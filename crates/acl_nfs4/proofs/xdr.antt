@@ -13,3 +13,4 @@ pub mod PulledList
 pub mod Parts
 pub mod AnyLists
 pub mod AcesAt
+pub mod StandIns

@@ -19,6 +19,7 @@ pub mod AccessPart
 pub mod PartFault
 pub mod Build
 pub mod Renamed
+pub mod UnknownGroups
 pub mod Laws
 pub mod Stream
 pub mod internal

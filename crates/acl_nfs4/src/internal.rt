@@ -2,4 +2,4 @@
 
 pub use crate::limits::is_too_heavy;
 pub use crate::text::shown::rights_text;
-pub use crate::who::{EVERYONE_NAME, GROUP_NAME, OWNER_NAME};
+pub use crate::who::{EVERYONE_NAME, GROUP_NAME, OWNER_NAME, is_account};

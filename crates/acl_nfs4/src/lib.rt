@@ -37,4 +37,5 @@ pub use xdr::access_part::AccessPart;
 pub use xdr::ace_at::{AceAt, ace_at};
 pub use xdr::decoder::{decode, decode_with};
 pub use xdr::fault::{Fault, Reason};
+pub use xdr::unknown_groups::GroupsFault;
 pub use xdr::view::AclView;

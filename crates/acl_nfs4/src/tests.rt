@@ -16,3 +16,4 @@ mod renaming;
 mod rows;
 mod tables;
 mod text;
+mod unknown_groups;

@@ -1,7 +1,9 @@
 //! Which bytes are valid as a who, wherever an ACE comes from.
-ghost use Rattle.std.specs.Prelude.{◌≡◌, ◌≤◌, IsTrue, None, length, take, false};
+ghost use Rattle.std.specs.Prelude.{◌≡◌, ◌≤◌, ◌++◌, IsTrue, None, length, take, false, true};
 ghost use Rattle.std.specs.Str.{is_utf8};
 ghost use Rattle.std.specs.List.{list_all};
+ghost use Rattle.acl_nfs4.specs.AccessPart.{IsAnyWho};
+ghost use Rattle.acl_nfs4.specs.internal.PartReading.{is_good_suffix};
 ghost use Rattle.acl_nfs4.specs.internal.Reading.{Judges, text_fault};
 ghost use Rattle.acl_nfs4.specs.Renamed.{is_account};
 ghost use Rattle.acl_nfs4.specs.Who.{ends_in_at, is_plain, is_special, is_unknown_special, is_no_who_len, who_fault};
@@ -38,10 +40,27 @@ pub(crate) fn judge(who: &[u8]) -> Result<(), WhoFault>
 }
 
 /// Returns whether bytes are valid as a who and no special identifier, so that they are the name of a user or a group.
-pub(crate) fn is_account(name: &[u8]) -> bool
+pub fn is_account(name: &[u8]) -> bool
     ensures { result ≡ is_account name.now }
 {
     judge(name).is_ok() && !is_special_who(name)
+}
+
+/// Returns whether an unknown special identifier followed by this suffix is the name of a user or a group.
+#[tactic(auto, using(crate::proofs::xdr::StandIns::account_after))]
+pub(crate) fn is_account_after(name: &[u8], suffix: &[u8]) -> bool
+    requires any { IsAnyWho name.now }
+    requires unknown { is_unknown_special name.now ≡ true }
+    ensures { result ≡ is_account (name.now ++ suffix.now) }
+{
+    suffix.len() <= LONGEST_WHO - name.len() && is_text_suffix(suffix)
+}
+
+// Returns whether bytes may follow a name: they have no fault of their encoding, and the last of them is not `@`.
+fn is_text_suffix(suffix: &[u8]) -> bool
+    ensures { result ≡ is_good_suffix suffix.now }
+{
+    !suffix.is_empty() && judge_any_text(suffix).is_ok() && !has_at(suffix)
 }
 
 /// Returns whether no who has this many bytes.

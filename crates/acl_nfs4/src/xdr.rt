@@ -9,4 +9,5 @@ pub(crate) mod fault;
 pub(crate) mod judges;
 mod pulling;
 pub(crate) mod reading;
+pub(crate) mod unknown_groups;
 pub(crate) mod view;

@@ -36,7 +36,7 @@ same_self true = refl
 same_self false = refl
 
 -- a name is equal to itself
-name_self : (name : List ℕ) → bytes_eq name name ≡ true
+pub name_self : (name : List ℕ) → bytes_eq name name ≡ true
 name_self name = (bytes_eq-Decides name name).1 refl
 
 -- ---- the names of a table
@@ -413,7 +413,7 @@ new_is_account (r ∷ table) g q w each e = by (is_row_of g q r) refl (new_is_ac
     by false is others = others (sym (ap (λ (t : Bool). cond t (Some r.to) (new_name table g q)) is) ∙ e)
 
 -- the name of a user or of a group is valid as a who
-account_is_who : (w : List ℕ) → is_account w ≡ true → IsWho w
+pub account_is_who : (w : List ℕ) → is_account w ≡ true → IsWho w
 account_is_who w e = by (who_fault w) refl (and_true (is_none (who_fault w)) _ e).0
   where
     by : {F : Type 0} (o : Option F) → o ≡ o → is_none o ≡ true → o ≡ None

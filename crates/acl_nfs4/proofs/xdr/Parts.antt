@@ -1,8 +1,9 @@
 -- How the reader of a part goes on: one more ACE, and the end.
-use Rattle.acl_nfs4.proofs.Common.{arith, Bool, count_ones, Err, false, true, Fault, Ok, Place, Profile, refl, suc, zero, ℕ, ◌+◌, ◌-◌, ◌<◌, ◌≡◌, ◌≤◌}
-use Rattle.acl_nfs4.specs.AccessPart.{AnyAce, Part, is_for_access}
+use Rattle.acl_nfs4.proofs.Common.{[], length, length-append, weight, ◌∷◌, arith, Bool, count_ones, Err, false, true, Fault, Ok, Place, Profile, refl, suc, zero, ℕ, ◌+◌, ◌-◌, ◌<◌, ◌≡◌, ◌≤◌}
+use Rattle.acl_nfs4.specs.AccessPart.{AnyAce, Part, is_for_access, kept_ace}
 unfoldable use Rattle.acl_nfs4.specs.PartFault.{any_ace_at, part_from}
 use Rattle.acl_nfs4.specs.PartFault.{with_ace}
+use Rattle.acl_nfs4.proofs.xdr.Faults.{weight-push}
 
 -- an ACE that is read is added to the part
 pub part_more : (p : Profile) (left weight : ℕ) (part : Part) (at : Place) (x : AnyAce × Place) → 0 < left
@@ -26,11 +27,22 @@ pub part_done : (p : Profile) (left weight : ℕ) (part : Part) (at : Place) →
 unfolding part_from
 part_done p left weight part at e = rw e refl
 
--- no more ACEs are left out than were read
-pub part_few : (part : Part) (a : AnyAce) (left most : ℕ) → 0 < left → part.left_out + left ≤ most
-    → (with_ace part a).left_out + (left - 1) ≤ most
+-- no more ACEs are in a part than were read
+pub part_few : (part : Part) (a : AnyAce) (left most : ℕ) → 0 < left
+    → length part.kept + part.left_out + left ≤ most
+    → length (with_ace part a).kept + (with_ace part a).left_out + (left - 1) ≤ most
 part_few part a left most lt few = by (is_for_access a) refl
   where
-    by : (t : Bool) → is_for_access a ≡ t → (with_ace part a).left_out + (left - 1) ≤ most
-    by true e = rw e (omega (arith, lt, few))
+    by : (t : Bool) → is_for_access a ≡ t
+        → length (with_ace part a).kept + (with_ace part a).left_out + (left - 1) ≤ most
+    by true e = rw e (omega (arith, lt, few, length-append part.kept (kept_ace a ∷ [])))
     by false e = rw e (omega (arith, lt, few))
+
+-- what is kept is no heavier than what was read
+pub part_heavy : (part : Part) (a : AnyAce) (n : ℕ) → weight part.kept ≤ n
+    → weight (with_ace part a).kept ≤ n + count_ones a.mask
+part_heavy part a n heavy = by (is_for_access a) refl
+  where
+    by : (t : Bool) → is_for_access a ≡ t → weight (with_ace part a).kept ≤ n + count_ones a.mask
+    by true e = rw e (omega (arith, heavy, weight-push part.kept (kept_ace a)))
+    by false e = rw e (omega (arith, heavy))

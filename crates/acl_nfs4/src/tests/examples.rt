@@ -59,6 +59,16 @@ mod ample {
     }
 
     #[test]
+    fn with_groups_puts_a_group_for_an_unknown_name(rt: HostRuntime) -> Result<(), Fail> {
+        let alloc = rt.alloc();
+        let bytes = b"\0\0\0\x01\0\0\0\0\0\0\0\0\0\0\0\x01\0\0\0\x04NOW@";
+        let part = AccessPart::parse_whole(alloc, bytes)?;
+        let list = part.with_groups(alloc, b"?")?;
+        assert!(rt; list == parse_text(alloc, b"ALLOW GROUP READ_DATA NOW@?")?);
+        Ok(())
+    }
+
+    #[test]
     fn push_adds_an_ace_to_a_list(rt: HostRuntime) -> Result<(), Fail> {
         let alloc = rt.alloc();
         let mut list = Acl::new(alloc);

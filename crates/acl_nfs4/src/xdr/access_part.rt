@@ -2,10 +2,11 @@
 ghost use Rattle.std.specs.Prelude.{[], false, ◌≡◌, ◌+◌, ◌<◌, ◌≤◌, ◌⊎◌, IfErr, IfOk, List, OnOk, All, count_ones, length, map};
 ghost use Rattle.acl_perm.specs.Profile.{full, profile_of};
 ghost use Rattle.acl_nfs4.specs.Ace.{ace};
-ghost use Rattle.acl_nfs4.specs.AccessPart.{AnyAce, AnyXdr, IsPartOf, access_part, flags_kept, kept_ace};
+ghost use Rattle.acl_nfs4.specs.AccessPart.{AnyAce, AnyXdr, IsAnyWho, IsPartOf, access_part, flags_kept, kept_ace};
 ghost use Rattle.acl_nfs4.specs.Fields.{count_of};
 ghost use Rattle.acl_nfs4.specs.Limits.{most_aces, most_weight};
 ghost use Rattle.acl_nfs4.specs.PartFault.{FaultsOrMemory, IsFaultOfPart, IsPartOrMemory, any_ace_at, any_who_of, part_from, part_in, type_of, with_ace};
+ghost use Rattle.acl_nfs4.specs.Spelling.{weight as part_weight};
 ghost use Rattle.acl_nfs4.specs.Stream.{no_memory};
 ghost use Rattle.acl_nfs4.specs.Who.{is_no_who_len};
 ghost use Rattle.acl_nfs4.specs.declared.xdr.fault.Fault.{Fault};
@@ -28,20 +29,21 @@ use std::marker::Model;
 /// ACEs have IDENTIFIER_GROUP set, because such a name means a set of requesters, as the name of a group does.
 #[derive(Debug, Drop)]
 pub struct AccessPart<'a> {
-    aces: Vec<AceRef<'a>>,
+    pub(crate) aces: Vec<AceRef<'a>>,
     left_out: u32,
 }
 
 impl<'a> Model for AccessPart<'a> {
-    ghost use Rattle.std.specs.Prelude.{◌≤◌, All, length, map};
+    ghost use Rattle.std.specs.Prelude.{◌≤◌, ◌+◌, length, map};
     ghost use Rattle.acl_nfs4.specs.Ace.{ace};
     ghost use Rattle.acl_nfs4.specs.AccessPart.{Part};
+    ghost use Rattle.acl_nfs4.specs.internal.PartReading.{CanBePart};
 
     ghost Value = { Part };
 
     ghost view = { λ s. record { kept = map ace s.aces.items; left_out = s.left_out } };
 
-    ghost invariant = { λ s. All (λ a. 1 ≤ length a.who.now) s.aces.items };
+    ghost invariant = { λ s. CanBePart s.aces.items };
 }
 
 impl<'a> AccessPart<'a> {
@@ -104,8 +106,9 @@ impl<'a> AccessPart<'a> {
 
     // Adds one more ACE of the list, or counts it.
     fn add(&mut self, item: AnyAceRef<'a>) -> Result<(), AllocError>
-        requires few { self.old.left_out < most_aces }
-        requires named { 1 ≤ length item.who.now }
+        requires few { length self.old.kept + self.old.left_out < most_aces }
+        requires light { part_weight self.old.kept + count_ones item.mask.bits ≤ most_weight }
+        requires named { IsAnyWho item.who.now }
         ensures { OnOk result (self.new ≡ with_ace self.old (any_ace item.entry)) }
     {
         if item.type_number > 1 {
@@ -128,7 +131,7 @@ struct AnyAceRef<'a> {
 
 // Returns the ACE that is kept of an ALLOW or a DENY.
 fn kept(item: AnyAceRef<'_>) -> AceRef<'_>
-    requires { 1 ≤ length item.who.now }
+    requires { IsAnyWho item.who.now }
     ensures { ace result ≡ kept_ace (any_ace item.entry) }
 {
     AceRef {
@@ -144,7 +147,7 @@ fn kept(item: AnyAceRef<'_>) -> AceRef<'_>
 }
 
 // Returns the flags with IDENTIFIER_GROUP, if the who is an unknown special identifier.
-fn flags_kept(flags: Flags, who: &[u8]) -> Flags
+pub(crate) fn flags_kept(flags: Flags, who: &[u8]) -> Flags
     requires { 1 ≤ length who.now }
     ensures { result.bits ≡ flags_kept flags.bits who.now }
 {
@@ -222,7 +225,7 @@ fn any_ace<'a>(
     ensures exact { Gives (λ x. (any_ace x, place cursor.new)) result
         (any_ace_at (profile_of profile) weight (place cursor.old)) }
     ensures light { IfOk result (λ x. weight + count_ones x.mask.bits ≤ most_weight) }
-    ensures named { IfOk result (λ x. 1 ≤ length x.who.now) }
+    ensures named { IfOk result (λ x. IsAnyWho x.who.now) }
 {
     let type_number = any_type(cursor)?;
     let flags = flags(cursor, profile)?;
@@ -261,7 +264,7 @@ fn any_who<'a>(cursor: &mut Cursor<'a>, len: usize) -> Result<&'a [u8], Fault>
     requires { is_no_who_len len ≡ false }
     ensures exact { Gives (λ x. (x.now, place cursor.new)) result
         (field len any_who_of (place cursor.old)) }
-    ensures named { IfOk result (λ x. 1 ≤ length x.now) }
+    ensures named { IfOk result (λ x. IsAnyWho x.now) }
 {
     let offset = offset_of(cursor);
     placed(offset, any_who_of(bytes(cursor, len)?))
