@@ -32,7 +32,7 @@ either_kept true e s p q = p
 either_kept false e s p q = q
 
 -- each bit of a number within a set is a bit of the set
-bit_within : (set n k : ℕ) → IsWithin set n → (has_bit n k && has_bit set k) ≡ has_bit n k
+pub bit_within : (set n k : ℕ) → IsWithin set n → (has_bit n k && has_bit set k) ≡ has_bit n k
 bit_within set n k is = sym (has_bit-and n set k) ∙ ap (λ (m : ℕ). has_bit m k) is
 
 -- a part of a number within a set is within the set

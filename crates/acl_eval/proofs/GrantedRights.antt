@@ -1,13 +1,16 @@
 -- What is granted of a mask, and to requesters whose groups have the same names.
 use Rattle.std.proofs.Common.{◌≡◌, ℕ, Bool, List, refl, sym, ap, ◌∙◌}
-use Rattle.std.specs.Prelude.{◌↔◌, ◌&&◌}
+use Rattle.std.specs.Prelude.{◌↔◌, ◌&&◌, option_map}
+use Rattle.std.specs.List.{find}
 use Rattle.std.specs.Str.{bytes_eq}
 use Rattle.std.proofs.lemmas.Bool.{and_parts}
 use Rattle.acl_perm.specs.Bits.{has_bit, IsSubset}
 use Rattle.acl_perm.specs.Principal.{Principal, owner, user, group, group_named, everyone}
 use Rattle.acl_perm.specs.Situation.{Situation, is_one_of, matches}
 use Rattle.acl_nfs4.specs.Ace.{Ace}
-use Rattle.acl_eval.specs.Column.{column, verdict}
+use Rattle.acl_nfs4.specs.Who.{principal_of}
+use Rattle.acl_eval.specs.Column.{column, takes_part, verdict}
+use Rattle.acl_eval.specs.Deciding.{deciding_kind}
 use Rattle.acl_eval.specs.Grant.{Grant, grants_bit, is_allow}
 use Rattle.acl_eval.specs.Laws.{HaveSameNames}
 
@@ -29,6 +32,14 @@ same_matches s t same group =
     same.groups t.owning_group ∙ ap (λ (a : List ℕ). is_one_of a s.groups) same.owning_group
 same_matches s t same (group_named name) = same.groups name
 same_matches s t same everyone = refl
+
+-- for requesters whose groups have the same names, an ACE of the same kind decides
+pub kinds_by_names : (list : List Ace) (s t : Situation) (bit : ℕ) → HaveSameNames s t
+    → deciding_kind list t bit ≡ deciding_kind list s bit
+kinds_by_names list s t bit same =
+    let tests : matches t ≡ matches s = λ i p. same_matches s t same p i in
+    ap (λ (test : Principal → Bool). option_map (λ a. a.kind)
+    (find (λ a. has_bit a.mask bit && (takes_part a && test (principal_of a))) list)) tests
 
 -- requesters whose groups have the same names are granted the same requests
 pub grants_by_names : (list : List Ace) (s t : Situation) (request : ℕ) → HaveSameNames s t

@@ -1,5 +1,6 @@
 pub mod Bits
 pub mod Members
+pub mod GroupSearches
 pub mod Keys
 pub mod PreparedBytes
 pub mod Columns
@@ -33,3 +34,5 @@ pub mod BridgeWeight
 pub mod ListChmod
 pub mod ChmodGrants
 pub mod ChmodChildren
+pub mod ResolvedLists
+pub mod Memberships

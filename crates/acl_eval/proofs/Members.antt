@@ -14,7 +14,8 @@ use Rattle.std.specs.Ordering.{is_eq, is_le, is_lt, is_some_and, nat_cmp, orderi
 use Rattle.std.specs.Str.{bytes_eq}
 use Rattle.std.specs.declared.cmp.Ordering.{Ordering}
 use Rattle.std.specs.declared.cmp.Ordering.TheVariants.{Less, Equal, Greater}
-use Rattle.acl_eval.specs.internal.GroupOrder.{AreInOrder, AreSameGroups}
+use Rattle.acl_eval.specs.GroupSearch.{AreSameGroups}
+use Rattle.acl_eval.specs.internal.GroupOrder.{AreInOrder}
 
 -- a test of the values behind references
 pub any_now : (p : List ℕ → Bool) (xs : List (Bor (List ℕ)))
@@ -39,7 +40,7 @@ all_named names = (
 )
 
 -- two names are equal if and only if neither comes first
-eq_as_cmp : (name group : List ℕ) (o : Ordering) → slice_cmp nat_cmp group name ≡ o → bytes_eq name group ≡ is_eq o
+pub eq_as_cmp : (name group : List ℕ) (o : Ordering) → slice_cmp nat_cmp group name ≡ o → bytes_eq name group ≡ is_eq o
 eq_as_cmp name group o e = nat_list_eq_equiv.symm name group ∙ texts_ties group name ∙ ap is_eq e
 
 -- a name that does not come after another is not above it

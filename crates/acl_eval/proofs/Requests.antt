@@ -4,21 +4,17 @@ use Rattle.std.specs.Prelude.{◌&&◌, ◌||◌, ◌↔◌, IsTrue, map, not}
 use Rattle.std.specs.BTreeSet.{BTreeSet, insert_key}
 use Rattle.std.specs.Borrow.{Bor}
 use Rattle.std.specs.Cmp.Lexicographic.{slice_cmp}
-use Rattle.std.specs.List.{list_any}
-use Rattle.std.specs.Ordering.{is_eq, nat_cmp}
+use Rattle.std.specs.Ordering.{nat_cmp}
 use Rattle.std.specs.Str.{bytes_eq}
-use Rattle.std.specs.declared.cmp.Ordering.{Ordering}
-use Rattle.std.specs.declared.cmp.Ordering.TheVariants.{Less, Equal, Greater}
 use Rattle.std.proofs.lemmas.Bool.{cases_eq, cases_lt, true≢false}
 use Rattle.std.proofs.lemmas.List.{drop_all, get_or-set_other, get_or-set_same, map-append, take-append-drop}
-use Rattle.std.proofs.lemmas.Map.Lookups.{exact_bytes}
-use Rattle.std.proofs.lemmas.Map.Text.{is_eq-slice_cmp}
 use Rattle.acl_perm.proofs.Meetings.{bytes_eq_same, itself}
 use Rattle.acl_perm.proofs.Sets.{IsMask-lt, bits_from_mask, right_below, some_bit}
 use Rattle.acl_perm.specs.Bits.{has_bit, IsDifference, IsMask}
 use Rattle.acl_perm.specs.Situation.{Situation}
 use Rattle.acl_perm.specs.declared.kind.Kind.{Kind}
 use Rattle.acl_perm.specs.declared.kind.Kind.TheVariants.{Deny, Allow}
+use Rattle.acl_nfs4.proofs.Exports.{name_inserted}
 use Rattle.acl_nfs4.specs.Ace.{Ace, ace}
 use Rattle.acl_nfs4.specs.Who.{is_unknown_special}
 use Rattle.acl_nfs4.specs.declared.ace.AceRef.{AceRef}
@@ -81,52 +77,11 @@ unchanged v out s a rest bit leaves lacks = by (has_bit a.mask bit) refl
 
 -- ---- one more name
 
--- the keys of a set with one more key, as a test of names
-any_inserted : (who : List ℕ) (keys : List (Bor (List ℕ))) (key : Bor (List ℕ))
-    → list_any (λ k. is_eq (slice_cmp nat_cmp who k.now)) (insert_key (λ x y. slice_cmp nat_cmp x.now y.now) keys key)
-    ≡ (list_any (λ k. is_eq (slice_cmp nat_cmp who k.now)) keys || is_eq (slice_cmp nat_cmp who key.now))
-any_inserted who [] key = by (is_eq (slice_cmp nat_cmp who key.now))
-  where
-    by : (t : Bool) → (t || false) ≡ (false || t)
-    by true = refl
-    by false = refl
-any_inserted who (x ∷ keys) key = by (slice_cmp nat_cmp key.now x.now) refl (any_inserted who keys key)
-  where
-    test : Bor (List ℕ) → Bool
-    test k = is_eq (slice_cmp nat_cmp who k.now)
-
-    swap : (t r : Bool) → (t || r) ≡ (r || t)
-    swap true true = refl
-    swap true false = refl
-    swap false true = refl
-    swap false false = refl
-
-    absorb : (t r : Bool) → (t || r) ≡ ((t || r) || t)
-    absorb true r = refl
-    absorb false true = refl
-    absorb false false = refl
-
-    assoc : (t r x : Bool) → (t || (r || x)) ≡ ((t || r) || x)
-    assoc true r x = refl
-    assoc false r x = refl
-
-    by : (o : Ordering) → slice_cmp nat_cmp key.now x.now ≡ o
-        → list_any test (insert_key (λ x y. slice_cmp nat_cmp x.now y.now) keys key) ≡ (list_any test keys || test key)
-        → list_any test (insert_key (λ x y. slice_cmp nat_cmp x.now y.now) (x ∷ keys) key)
-        ≡ (list_any test (x ∷ keys) || test key)
-    by Less e rest = rw e (swap (test key) (list_any test (x ∷ keys)))
-    by Equal e rest = rw e (absorb (test x) (list_any test keys)
-        ∙ ap (λ (n : List ℕ). (test x || list_any test keys) || is_eq (slice_cmp nat_cmp who n))
-        (sym (exact_bytes key.now x.now e)))
-    by Greater e rest = rw e (ap (λ t. test x || t) rest ∙ assoc (test x) (list_any test keys) (test key))
-
 -- one more name is out after it was inserted
 pub out_more : (old new : BTreeSet (Bor (List ℕ))) (name : Bor (List ℕ))
     → new.keys ≡ insert_key (λ x y. slice_cmp nat_cmp x.now y.now) old.keys name
     → IsOneMore (is_out old) name.now (is_out new)
-out_more old new name is who =
-    ap (list_any (λ k. is_eq (slice_cmp nat_cmp who k.now))) is ∙ any_inserted who old.keys name
-    ∙ ap (λ t. is_out old who || t) (is_eq-slice_cmp who name.now)
+out_more old new name is = name_inserted old new name is
 
 -- an assignment that leaves more names out leaves fewer out
 leaves_fewer : (v : Assignment) (out more : List ℕ → Bool) (name : List ℕ) → IsOneMore out name more

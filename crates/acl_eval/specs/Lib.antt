@@ -1,3 +1,4 @@
+pub mod GroupSearch
 pub mod Situation
 pub mod Column
 pub mod Grant
@@ -7,6 +8,7 @@ pub mod Prepared
 pub mod Ids
 pub mod PreparedIds
 pub mod Unknown
+pub mod Memberships
 pub mod Laws
 pub mod Inheritance
 pub mod InheritanceLaws
@@ -15,6 +17,7 @@ pub mod ListMode
 pub mod Unnamed
 pub mod Bridge
 pub mod ListChmod
+pub mod Resolved
 pub mod BridgeLaws
 pub mod BridgeNames
 pub mod Programs

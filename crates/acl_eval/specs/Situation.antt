@@ -2,6 +2,8 @@
 -- section 6.2.1.5).
 use Rattle.std.specs.Prelude.{ℕ, ◌<◌, List, All, length, map}
 use Rattle.acl_perm.specs.Situation.{Situation}
+use Rattle.acl_eval.specs.GroupSearch.{groups_that_count}
+use Rattle.acl_eval.specs.declared.groups.Groups.{Groups}
 use Rattle.acl_eval.specs.declared.situation.Object.{Object}
 use Rattle.acl_eval.specs.declared.situation.Requester.{Requester}
 
@@ -17,9 +19,18 @@ owning_group_of object = object.group.now
 abbrev pub user_of : Requester → List ℕ
 user_of requester = requester.user.now
 
+-- the names of groups that count
+abbrev pub groups_among : Groups → List (List ℕ)
+groups_among groups = groups_that_count groups.order (map (λ g. g.now) groups.names.now)
+
 -- the names of the requester's groups
 abbrev pub groups_of : Requester → List (List ℕ)
-groups_of requester = map (λ g. g.now) requester.groups.names.now
+groups_of requester = groups_among requester.groups
+
+-- the names that were given for the requester's groups: they are the groups, unless the caller said that they are in
+-- order
+abbrev pub given_groups_of : Requester → List (List ℕ)
+given_groups_of requester = map (λ g. g.now) requester.groups.names.now
 
 -- the situation of an object with this owner and this owning group, and of a user in these groups
 abbrev pub named_situation : List ℕ → List ℕ → List ℕ → List (List ℕ) → Situation

@@ -1,7 +1,7 @@
 //! Whether a list grants a request.
-ghost use Rattle.std.specs.Prelude.{◌≡◌, ◌↔◌, IfOk, IsTrue, map};
-ghost use Rattle.acl_eval.specs.Situation.{groups_of, situation};
-ghost use Rattle.acl_eval.specs.internal.GroupOrder.{AreSameGroups};
+ghost use Rattle.std.specs.Prelude.{◌≡◌, ◌↔◌, IfOk, IsTrue};
+ghost use Rattle.acl_eval.specs.Situation.{groups_among, groups_of, situation};
+ghost use Rattle.acl_eval.specs.GroupSearch.{AreSameGroups};
 ghost use Rattle.acl_eval.specs.Grant.{Grant};
 ghost use Rattle.acl_eval.specs.Scan.{scan};
 ghost use Rattle.acl_eval.specs.internal.Asked.{asked_situation};
@@ -82,7 +82,7 @@ fn is_granted_in(
     groups: Groups<'_>,
     mask: Mask,
 ) -> bool
-    requires { AreSameGroups (map (λ g. g.now) groups.names.now) (groups_of requester.now) }
+    requires { AreSameGroups (groups_among groups) (groups_of requester.now) }
     ensures { IsTrue result ↔ Grant aces.entry (situation object.now requester.now) mask.bits }
 {
     scan(

@@ -1,11 +1,14 @@
 //! The groups of a requester, and the look-up of one among many.
-ghost use Rattle.std.specs.Prelude.{◌≡◌, IfOk, true};
+ghost use Rattle.std.specs.Prelude.{◌≡◌, IfOk, map, true};
 ghost use Rattle.std.specs.List.{list_any};
 ghost use Rattle.std.specs.List.Sorted.{IsPermutation};
 ghost use Rattle.std.specs.Str.{bytes_eq};
+ghost use Rattle.acl_eval.specs.GroupSearch.{found_groups};
 ghost use Rattle.acl_eval.specs.internal.GroupOrder.{AreInOrder};
+ghost use Rattle.acl_eval.specs.declared.groups.Order.TheVariants.{Known};
 
 use std::alloc::{AllocError, Global};
+use std::cmp::Ordering;
 
 // Up to this number of names, a look-up one by one is faster than a binary search.
 const FEW: usize = 16;
@@ -14,58 +17,84 @@ const FEW: usize = 16;
 // than this has so many look-ups, even if it ends early or is mostly about users.
 const MANY_LOOK_UPS: usize = 64;
 
-/// The names of groups, and whether they are many and known to be in the order of their bytes.
+/// What is known about the order of names.
+#[derive(Clone, Copy, Debug)]
+pub(crate) enum Order {
+    /// Nothing: a name is looked up one by one.
+    Unknown,
+    /// The names are in the order of their bytes.
+    Known,
+    /// The caller said that they are. Whether they are or not, those count that a binary search finds.
+    Said,
+}
+
+/// The names of groups, and what is known about their order.
 #[derive(Clone, Copy, Debug)]
 pub(crate) struct Groups<'a> {
     names: &'a [&'a [u8]],
-    in_order: bool,
-    ghost order: { in_order ≡ true → AreInOrder names.now },
+    order: Order,
+    ghost known: { order ≡ Known → AreInOrder names.now },
 }
 
 impl<'a> Groups<'a> {
+    ghost use Rattle.acl_eval.specs.Situation.{groups_among};
+
     /// Makes the groups of these names. It does not find out whether they are in order.
     pub(crate) fn new(names: &'a [&'a [u8]]) -> Self
-        ensures { result.names.now ≡ names.entry.now }
+        ensures names { result.names.now ≡ names.entry.now }
+        ensures groups { groups_among result ≡ map (λ g. g.now) names.entry.now }
     {
         Groups {
             names,
-            in_order: false,
+            order: Order::Unknown,
         }
     }
 
     /// Makes the groups of these names, for any number of look-ups. If there are many names, it finds out whether they
     /// are in order.
     pub(crate) fn judged(names: &'a [&'a [u8]]) -> Self
-        ensures { result.names.now ≡ names.entry.now }
+        ensures names { result.names.now ≡ names.entry.now }
+        ensures groups { groups_among result ≡ map (λ g. g.now) names.entry.now }
     {
-        Groups {
-            names,
-            in_order: names.len() > FEW && are_in_order(names),
+        if names.len() > FEW && are_in_order(names) {
+            Groups::in_order(names)
+        } else {
+            Groups::new(names)
         }
     }
 
-    /// Returns the same groups, for this many look-ups. If there are many look-ups and many names, it finds out whether
-    /// the names are in order, since each look-up then takes less time.
-    pub(crate) fn for_look_ups(self, look_ups: usize) -> Self
-        ensures { result.names.now ≡ self.entry.names.now }
+    /// Makes the groups of these names, of which the caller says that they are in order.
+    pub(crate) fn said(names: &'a [&'a [u8]]) -> Self
+        ensures names { result.names.now ≡ names.entry.now }
+        ensures groups { groups_among result ≡ found_groups (map (λ g. g.now) names.entry.now) }
     {
-        if self.in_order || look_ups <= MANY_LOOK_UPS || self.names.len() <= FEW {
-            return self;
-        }
         Groups {
-            names: self.names,
-            in_order: are_in_order(self.names),
+            names,
+            order: Order::Said,
         }
     }
 
     /// Makes the groups of these names, which are in order.
     pub(crate) fn in_order(names: &'a [&'a [u8]]) -> Self
         requires { AreInOrder names.now }
-        ensures { result.names.now ≡ names.entry.now }
+        ensures names { result.names.now ≡ names.entry.now }
+        ensures groups { groups_among result ≡ map (λ g. g.now) names.entry.now }
     {
         Groups {
             names,
-            in_order: true,
+            order: Order::Known,
+        }
+    }
+
+    /// Returns the same groups, for this many look-ups. If there are many look-ups and many names, it finds out whether
+    /// the names are in order, since each look-up then takes less time.
+    pub(crate) fn for_look_ups(self, look_ups: usize) -> Self
+        ensures names { result.names.now ≡ self.entry.names.now }
+        ensures groups { groups_among result ≡ groups_among self.entry }
+    {
+        match self.order {
+            Order::Unknown if look_ups > MANY_LOOK_UPS => Groups::judged(self.names),
+            _ => self,
         }
     }
 
@@ -76,20 +105,26 @@ impl<'a> Groups<'a> {
         self.names
     }
 
-    /// Returns whether this many look-ups take longer than sorting the names first.
-    pub(crate) fn are_worth_sorting(&self, look_ups: usize) -> bool {
-        !self.in_order && look_ups > MANY_LOOK_UPS && self.names.len() > FEW
+    /// Returns whether this many look-ups take longer than sorting the names first. Then each name counts.
+    pub(crate) fn are_worth_sorting(&self, look_ups: usize) -> bool
+        ensures { result ≡ true → groups_among self.now ≡ map (λ g. g.now) self.now.names.now }
+    {
+        match self.order {
+            Order::Unknown => look_ups > MANY_LOOK_UPS && self.names.len() > FEW,
+            Order::Known | Order::Said => false,
+        }
     }
 
-    /// Returns whether one of the groups has the name: by binary search if they are many and in order, and otherwise
-    /// one by one.
+    /// Returns whether one of the groups has the name: by binary search if they are in order or are said to be, and
+    /// otherwise one by one.
+    #[tactic(auto, using(crate::proofs::Members::any_now))]
     pub(crate) fn contains(&self, name: &[u8]) -> bool
-        ensures { result ≡ list_any (λ g. bytes_eq name.now g.now) self.now.names.now }
+        ensures { result ≡ list_any (bytes_eq name.now) (groups_among self.now) }
     {
-        if self.in_order {
-            is_found(self.names, name)
-        } else {
-            is_met(self.names, name)
+        match self.order {
+            Order::Unknown => is_met(self.names, name),
+            Order::Known => is_found(self.names, name),
+            Order::Said => is_found_by_halves(self.names, name),
         }
     }
 }
@@ -120,6 +155,24 @@ fn is_found(names: &[&[u8]], name: &[u8]) -> bool
     ensures { result ≡ list_any (λ g. bytes_eq name.now g.now) names.now }
 {
     names.binary_search(&name).is_ok()
+}
+
+// Searches for the name among these names by binary search. In names that are in no order it may miss the name, so each
+// step of the search is a part of the contract: it compares the name with the one in the middle.
+fn is_found_by_halves(names: &[&[u8]], name: &[u8]) -> bool
+    ensures { result ≡ list_any (bytes_eq name.now) (found_groups (map (λ g. g.now) names.now)) }
+{
+    let mut rest = names;
+    while !rest.is_empty() {
+        let half = rest.len() / 2;
+        let behind = half + 1;
+        match name.cmp(rest[half]) {
+            Ordering::Less => rest = &rest[..half],
+            Ordering::Equal => return true,
+            Ordering::Greater => rest = &rest[behind..],
+        }
+    }
+    false
 }
 
 // Searches for the name among these names, which may be in any order, one by one.

@@ -1,5 +1,5 @@
 //! A requester, and an object with its owner and group, by their ids.
-ghost use Rattle.std.specs.Prelude.{◌≡◌, ◌==◌, ◌↔◌, IfSome, IsSome, IsTrue, map};
+ghost use Rattle.std.specs.Prelude.{◌≡◌, ◌==◌, ◌↔◌, if◌then◌else◌, IfSome, IsSome, IsTrue, map};
 ghost use Rattle.std.specs.Fmt.{decimal};
 ghost use Rattle.std.specs.List.{list_any};
 ghost use Rattle.std.specs.Str.{bytes_eq};
@@ -58,12 +58,28 @@ impl<'a> IdRequester<'a> {
         ensures { result ≡ matches (id_situation object self.now) (principal_from rank id) }
     {
         match rank {
-            0 => is_same(self.user, object.owner),
-            1 => is_same(self.user, id),
-            2 => is_among(self.groups, object.group),
-            3 => is_among(self.groups, id),
+            0 | 1 => is_same(self.user, object.owner_or(rank, id)),
+            2 | 3 => is_among(self.groups, object.group_or(rank, id)),
             _ => true,
         }
+    }
+}
+
+impl IdObject {
+    // Returns the owner for the rank of OWNER@, and otherwise the id.
+    #[inline(always)]
+    fn owner_or(self, rank: u32, id: u32) -> u32
+        ensures { result ≡ (if rank == 0 then self.owner else id) }
+    {
+        if rank == 0 { self.owner } else { id }
+    }
+
+    // Returns the owning group for the rank of GROUP@, and otherwise the id.
+    #[inline(always)]
+    fn group_or(self, rank: u32, id: u32) -> u32
+        ensures { result ≡ (if rank == 2 then self.group else id) }
+    {
+        if rank == 2 { self.group } else { id }
     }
 }
 
@@ -103,10 +119,14 @@ fn is_found(ids: &[u32], id: u32) -> bool
     ids.binary_search(&id).is_ok()
 }
 
-// Searches for the id among these ids, one by one.
+// Searches for the id among these ids. It compares all of them, so that several are compared at once.
 #[inline(always)]
 fn is_met(ids: &[u32], id: u32) -> bool
     ensures { result ≡ list_any (λ g. id == g) ids.now }
 {
-    ids.iter().any(|other| id == *other)
+    let mut met = false;
+    for other in ids {
+        met |= id == *other;
+    }
+    met
 }

@@ -1,5 +1,5 @@
 //! The facts about a requester and an object that are the same for each ACE of a prepared list. They are computed once.
-ghost use Rattle.std.specs.Prelude.{◌≡◌, ◌<◌, ℕ, false, true, map, slice_index_or};
+ghost use Rattle.std.specs.Prelude.{◌≡◌, ◌<◌, ◌==◌, ◌||◌, ℕ, true, map};
 ghost use Rattle.std.specs.List.{list_any};
 ghost use Rattle.std.specs.Str.{bytes_eq};
 ghost use Rattle.acl_perm.specs.Order.{principal_name};
@@ -7,16 +7,16 @@ ghost use Rattle.acl_perm.specs.Principal.{group, group_named, owner, principal,
 ghost use Rattle.acl_perm.specs.Situation.{matches};
 ghost use Rattle.acl_eval.specs.Prepared.{name_key};
 ghost use Rattle.acl_eval.specs.Situation.{groups_of, situation, user_of};
-ghost use Rattle.acl_eval.specs.internal.Keys.{AreKeysOf};
+ghost use Rattle.acl_eval.specs.internal.Keys.{AreKeysOf, is_marked};
 
 use crate::prepared_ace::{PreparedAce, name_key};
 use crate::situation::{Object, Requester};
 use acl_perm::Principal;
 
-// The number of keys.
-const KEYS: usize = 256;
+// The number of words that have one bit per key. To clear four words takes little time compared with a short list.
+const WORDS: usize = 4;
 
-// If a requester is in more groups, all keys are marked: to compute the keys would take longer than to compare names.
+// If a requester is in more groups, all is marked: to compute the keys would take longer than to compare names.
 const MANY: usize = 64;
 
 /// A requester of an object, with the facts that are the same for each ACE: whether the requester is the owner, the key
@@ -27,7 +27,7 @@ pub(crate) struct Keyed<'a> {
     requester: Requester<'a>,
     is_owner: bool,
     user_key: u8,
-    group_keys: &'a [bool; KEYS],
+    group_keys: &'a [u64; WORDS],
     ghost owns: { is_owner ≡ matches (situation object requester) owner },
     ghost named: { user_key ≡ name_key (user_of requester) },
     ghost members: { AreKeysOf group_keys.now (groups_of requester) },
@@ -36,12 +36,12 @@ pub(crate) struct Keyed<'a> {
 impl<'a> Keyed<'a> {
     ghost use Rattle.acl_eval.specs.internal.Asked.{keyed_situation};
 
-    /// Computes the facts. `group_keys` are the keys of the requester's groups, which `keys_of` returns. They are borrowed,
-    /// because a copy of them takes longer than a short list.
+    /// Computes the facts. `group_keys` are the keys of the requester's groups, which `keys_of` returns. They are
+    /// borrowed, so that they are not copied.
     pub(crate) fn new(
         object: Object<'a>,
         requester: Requester<'a>,
-        group_keys: &'a [bool; KEYS],
+        group_keys: &'a [u64; WORDS],
     ) -> Self
         requires { AreKeysOf group_keys.now (groups_of requester) }
         ensures { keyed_situation result ≡ situation object.entry requester.entry }
@@ -82,7 +82,7 @@ impl<'a> Keyed<'a> {
     fn is_in(&self, name: &[u8], key: u8) -> bool
         ensures { key ≡ name_key name.now → result ≡ matches (keyed_situation self.now) (group_named name.now) }
     {
-        self.group_keys[key as usize] && self.requester.is_in(name)
+        is_marked(self.group_keys, key) && self.requester.is_in(name)
     }
 
     fn is_in_owning_group(&self) -> bool
@@ -93,8 +93,8 @@ impl<'a> Keyed<'a> {
     }
 }
 
-/// Marks the key of each name, or all keys if there are many names.
-pub(crate) fn keys_of(names: &[&[u8]]) -> [bool; KEYS]
+/// Marks the key of each name, or every key if there are many names.
+pub(crate) fn keys_of(names: &[&[u8]]) -> [u64; WORDS]
     ensures { AreKeysOf result (map (λ g. g.now) names.now) }
 {
     if names.len() > MANY {
@@ -104,19 +104,35 @@ pub(crate) fn keys_of(names: &[&[u8]]) -> [bool; KEYS]
     }
 }
 
-fn all_marked() -> [bool; KEYS]
-    ensures { (key : ℕ) → key < 256 → slice_index_or result key false ≡ true }
+fn all_marked() -> [u64; WORDS]
+    ensures { (key : ℕ) → key < 256 → is_marked result key ≡ true }
 {
-    [true; KEYS]
+    [u64::MAX; WORDS]
 }
 
 // Marks the key of each name.
-fn marked(names: &[&[u8]]) -> [bool; KEYS]
+fn marked(names: &[&[u8]]) -> [u64; WORDS]
     ensures { AreKeysOf result (map (λ g. g.now) names.now) }
 {
-    let mut keys = [false; KEYS];
+    let mut marks = [0; WORDS];
     for name in names {
-        keys[name_key(name) as usize] = true;
+        mark(&mut marks, name_key(name));
     }
-    keys
+    marks
+}
+
+// Marks one more key.
+#[inline(always)]
+fn mark(marks: &mut [u64; WORDS], key: u8)
+    ensures { (other : ℕ) → is_marked marks.new other ≡ (is_marked marks.old other || other == key) }
+{
+    marks[key as usize / 64] |= 1 << (key % 64);
+}
+
+// Returns whether the key is marked.
+#[inline(always)]
+fn is_marked(marks: &[u64; WORDS], key: u8) -> bool
+    ensures { result ≡ is_marked marks.now key }
+{
+    (marks[key as usize / 64] >> (key % 64)) & 1 == 1
 }

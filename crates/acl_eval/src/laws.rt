@@ -1,8 +1,11 @@
 //! Laws of the evaluation, and of the list of a POSIX ACL.
-ghost use Rattle.std.specs.Prelude.{◌≡◌, ◌↔◌, ◌^◌, ◌≤◌, ℕ, List, IsFalse, IsTrue, None, Some, false, not, true};
-ghost use Rattle.acl_perm.specs.Bits.{has_bit, IsMask, all_mode_bits, inherit_only};
-ghost use Rattle.acl_perm.specs.Situation.{Situation, matches};
+ghost use Rattle.std.specs.Prelude.{◌≡◌, ◌↔◌, ◌++◌, ◌^◌, ◌≤◌, ℕ, List, IsFalse, IsTrue, None, Some, false, not, true};
+ghost use Rattle.acl_perm.specs.Bits.{has_bit, IsMask, IsSubset, all_mode_bits, inherit_only};
+ghost use Rattle.acl_perm.specs.Situation.{IsName, IsSituation, Situation, matches};
 ghost use Rattle.acl_perm.specs.Profile.{Profile};
+ghost use Rattle.acl_nfs4.specs.UnknownGroups.{HasFreeNames, with_groups};
+ghost use Rattle.acl_eval.specs.Memberships.{IsApart, joining};
+ghost use Rattle.acl_eval.specs.Unknown.{Assignment, GrantsUnder, answer_under};
 ghost use Rattle.acl_posix.specs.Check.{ids};
 ghost use Rattle.acl_nfs4.specs.Ace.{Ace};
 ghost use Rattle.acl_nfs4.specs.Spelling.{IsAccepted};
@@ -13,7 +16,7 @@ ghost use Rattle.acl_perm.specs.Mode.{group_part};
 ghost use Rattle.acl_perm.specs.Principal.{owner};
 ghost use Rattle.acl_perm.specs.declared.kind.Kind.{Kind};
 ghost use Rattle.acl_perm.specs.declared.kind.Kind.TheVariants.{Allow};
-ghost use Rattle.acl_eval.specs.Grant.{Grant, SameBits, SameColumns, SameGrants, grants_bit};
+ghost use Rattle.acl_eval.specs.Grant.{Grant, GrantsAtMost, SameBits, SameColumns, SameGrants, grants_bit};
 ghost use Rattle.acl_eval.specs.Inheritance.{child_flags, children, directory_inherit, ends, file_inherit, goes_on, no_propagate_inherit, waiting_flags};
 ghost use Rattle.acl_eval.specs.InheritanceLaws.{IsByFlag};
 ghost use Rattle.acl_eval.specs.Laws.{HaveSameNames, IsEquivalence};
@@ -23,7 +26,9 @@ ghost use Rattle.acl_eval.specs.ListChmod.{chmod_list, is_granted_after, mode_ri
 ghost use Rattle.acl_eval.specs.ListMode.{mode_of_list};
 ghost use Rattle.acl_eval.specs.declared.inherit.ChildKind.{ChildKind};
 ghost use Rattle.acl_eval.specs.declared.inherit.ChildKind.TheVariants.{Directory, File};
+ghost use Rattle.acl_eval.specs.Resolved.{GrantsAtMostFor, SameGrantsFor, first_nameless, resolved_list};
 ghost use Rattle.acl_eval.specs.Scan.{scan};
+ghost use Rattle.acl_eval.specs.Situation.{named_situation};
 ghost use Rattle.acl_eval.specs.Unnamed.{unnamed};
 
 use acl_perm::Perm;
@@ -52,6 +57,28 @@ pub fn scan_is_bit_by_bit()
         → IsTrue (scan list s request) ↔ Grant list s request }
 {}
 
+/// A list in which groups stand for unknown special identifiers answers for a requester whom an assignment gives the
+/// groups of its identifiers as the identifiers do under the assignment. The groups that the requester has otherwise,
+/// and the owning group, have other names.
+pub fn groups_answer_as_assigned()
+    ensures decided { (suffix : List ℕ) (list : List Ace) (v : Assignment) (s : Situation) (bit : ℕ)
+        → HasFreeNames suffix list → IsApart suffix list s
+        → deciding_kind (with_groups suffix list) (joining v suffix list s) bit ≡ answer_under v list s bit }
+    ensures grants { (suffix : List ℕ) (list : List Ace) (v : Assignment) (s : Situation) (request : ℕ)
+        → HasFreeNames suffix list → IsApart suffix list s
+        → Grant (with_groups suffix list) (joining v suffix list s) request ↔ GrantsUnder v list s request }
+{}
+
+/// If two lists in which groups stand for unknown special identifiers grant the same, then the lists of these
+/// identifiers grant the same under every assignment of matches to them.
+pub fn same_grants_under_every_assignment()
+    ensures { (rights : ℕ) (suffix : List ℕ) (list other : List Ace) → HasFreeNames suffix (list ++ other)
+        → SameGrants rights (with_groups suffix list) (with_groups suffix other)
+        → (v : Assignment) (s : Situation) → IsApart suffix (list ++ other) s
+        → IsSituation (joining v suffix (list ++ other) s) → (request : ℕ) → IsSubset request rights
+        → GrantsUnder v list s request ↔ GrantsUnder v other s request }
+{}
+
 /// A request is granted if and only if an ALLOW decides each of its rights.
 pub fn allows_decide_what_is_granted()
     ensures { (list : List Ace) (s : Situation) (request : ℕ) → Grant list s request
@@ -68,10 +95,12 @@ pub fn one_right()
 {}
 
 /// Neither the order of a requester's groups nor a repeated group changes what a list grants: two requesters who differ
-/// only in that are granted the same requests.
+/// only in that are granted the same requests, and an ACE of the same kind decides each right.
 pub fn groups_are_a_set()
-    ensures { (list : List Ace) (s t : Situation) (request : ℕ)
+    ensures requests { (list : List Ace) (s t : Situation) (request : ℕ)
         → HaveSameNames s t → Grant list s request ↔ Grant list t request }
+    ensures kinds { (list : List Ace) (s t : Situation) (bit : ℕ)
+        → HaveSameNames s t → deciding_kind list t bit ≡ deciding_kind list s bit }
 {}
 
 /// The flags of an ACE in a new file: no flag of inheritance, if the ACE has FILE_INHERIT; otherwise the file does not
@@ -183,4 +212,29 @@ pub fn chmod_mode()
 pub fn chmod_inheritance()
     ensures { (kind : ChildKind) (mode : ℕ) (list : List Ace)
         → children kind (chmod_list mode list) ≡ children kind list }
+{}
+
+/// The list for one object, in which its owner and its owning group stand for `OWNER@` and `GROUP@`.
+pub fn resolved_for_the_object()
+    // Whatever object it is asked for, it grants each requester what the list grants for that one object.
+    ensures grants { (owner_name owning_group : List ℕ) (list : List Ace) (s : Situation) (request : ℕ)
+        → first_nameless owner_name owning_group list ≡ None
+        → Grant (resolved_list owner_name owning_group list) s request
+        ↔ Grant list (named_situation owner_name owning_group s.user_name s.groups) request }
+    // So two such lists grant the same if and only if both lists grant the same for the object.
+    ensures same { (owner_name owning_group : List ℕ) (rights : ℕ) (list other : List Ace)
+        → IsName owner_name → IsName owning_group
+        → first_nameless owner_name owning_group list ≡ None
+        → first_nameless owner_name owning_group other ≡ None
+        → SameGrants rights (resolved_list owner_name owning_group list)
+        (resolved_list owner_name owning_group other)
+        ↔ SameGrantsFor owner_name owning_group rights list other }
+    // And the first of two such lists grants at most what the second grants if and only if this is so for the object.
+    ensures at_most { (owner_name owning_group : List ℕ) (rights : ℕ) (list other : List Ace)
+        → IsName owner_name → IsName owning_group
+        → first_nameless owner_name owning_group list ≡ None
+        → first_nameless owner_name owning_group other ≡ None
+        → GrantsAtMost rights (resolved_list owner_name owning_group list)
+        (resolved_list owner_name owning_group other)
+        ↔ GrantsAtMostFor owner_name owning_group rights list other }
 {}

@@ -25,6 +25,7 @@ mod prepared_ace;
 mod prepared_ids;
 mod preparing;
 mod requesting;
+mod resolving;
 mod situation;
 #[cfg(test)]
 mod speed;
@@ -45,5 +46,6 @@ pub use mode_change::{ChmodFault, chmod};
 pub use prepared_ids::{IdsFault, PreparedIds, prepare_ids};
 pub use preparing::{Prepared, prepare};
 pub use requesting::{RequestAnswer, request_answer};
+pub use resolving::{ResolveFault, resolved};
 pub use situation::{Object, Requester};
 pub use unknown::{DecidedWithUnknown, decided_with_unknown};

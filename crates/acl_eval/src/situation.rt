@@ -2,7 +2,8 @@
 ghost use Rattle.std.specs.Prelude.{◌≡◌, ◌<◌, ◌↔◌, IfSome, IsSome, IsTrue, All, length, map};
 ghost use Rattle.std.specs.List.{list_any};
 ghost use Rattle.std.specs.Str.{bytes_eq};
-ghost use Rattle.acl_eval.specs.Situation.{groups_of, owner_of, owning_group_of, user_of};
+ghost use Rattle.acl_eval.specs.GroupSearch.{AreAmong, AreRisingNames, AreSameGroups, found_groups};
+ghost use Rattle.acl_eval.specs.Situation.{given_groups_of, groups_of, owner_of, owning_group_of, user_of};
 
 use crate::groups::Groups;
 
@@ -70,6 +71,8 @@ impl<'a> Requester<'a> {
         ensures user { IfSome result (λ requester. user_of requester ≡ user.now) }
         ensures groups { IfSome result (λ requester.
             groups_of requester ≡ map (λ g. g.now) groups.now) }
+        ensures given { IfSome result (λ requester.
+            given_groups_of requester ≡ map (λ g. g.now) groups.now) }
     {
         if are_named(user, groups) {
             let groups = Groups::new(groups);
@@ -94,6 +97,8 @@ impl<'a> Requester<'a> {
         ensures user { IfSome result (λ requester. user_of requester ≡ user.now) }
         ensures groups { IfSome result (λ requester.
             groups_of requester ≡ map (λ g. g.now) groups.now) }
+        ensures given { IfSome result (λ requester.
+            given_groups_of requester ≡ map (λ g. g.now) groups.now) }
     {
         if are_named(user, groups) {
             let judged = Groups::judged(groups);
@@ -106,10 +111,47 @@ impl<'a> Requester<'a> {
         }
     }
 
+    /// Makes a requester of whose groups the caller says that they are in the order of their bytes. It does not find
+    /// out whether they are. A group is looked up by binary search at once, in short lists too. If they are in no order,
+    /// the search can miss some of them, as if they were not given: a DENY of such a group then denies nothing. It never
+    /// finds a group that was not given.
+    ///
+    /// ```rust
+    /// let requester = Requester::in_order(b"bob", &[b"staff", b"users"]);
+    /// assert!(rt; requester.is_some());
+    /// assert!(rt; Requester::in_order(b"bob", &[b""]).is_none());
+    /// ```
+    pub fn in_order(user: &'a [u8], groups: &'a [&'a [u8]]) -> Option<Self>
+        ensures named { IsSome result
+            ↔ ((0 < length user.now)
+            × All (λ g. 0 < length g) (map (λ g. g.now) groups.now)) }
+        ensures user { IfSome result (λ requester. user_of requester ≡ user.now) }
+        ensures given { IfSome result (λ requester.
+            given_groups_of requester ≡ map (λ g. g.now) groups.now) }
+        // The groups are those that a binary search finds.
+        ensures found { IfSome result (λ requester.
+            groups_of requester ≡ found_groups (map (λ g. g.now) groups.now)) }
+        // If the names are in order, these are all of them.
+        ensures rising { AreRisingNames (map (λ g. g.now) groups.now)
+            → IfSome result (λ requester. AreSameGroups (groups_of requester) (map (λ g. g.now) groups.now)) }
+        // In any order, each group is one of the names.
+        ensures within { IfSome result (λ requester.
+            AreAmong (groups_of requester) (map (λ g. g.now) groups.now)) }
+    {
+        if !are_named(user, groups) {
+            return None;
+        }
+        Some(Requester {
+            user,
+            groups: Groups::said(groups),
+        })
+    }
+
     /// Returns the same requester, for this many look-ups of groups.
     pub(crate) fn for_look_ups(self, look_ups: usize) -> Self
         ensures user { user_of result ≡ user_of self.entry }
         ensures groups { groups_of result ≡ groups_of self.entry }
+        ensures given { given_groups_of result ≡ given_groups_of self.entry }
     {
         Requester {
             user: self.user,
@@ -133,13 +175,12 @@ impl<'a> Requester<'a> {
 
     /// Returns the names of the groups as they were given: none is empty, and one may be there twice.
     pub fn groups(&self) -> &'a [&'a [u8]]
-        ensures { map (λ g. g.now) result.now ≡ groups_of self.now }
+        ensures { map (λ g. g.now) result.now ≡ given_groups_of self.now }
     {
         self.groups.names()
     }
 
     /// Returns whether the user is in the group with this name.
-    #[tactic(auto, using(crate::proofs::Members::any_now))]
     pub(crate) fn is_in(&self, name: &[u8]) -> bool
         ensures { result ≡ list_any (bytes_eq name.now) (groups_of self.now) }
     {

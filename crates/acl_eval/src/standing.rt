@@ -1,12 +1,12 @@
 //! The facts about a requester and an object that are the same for each ACE of a list. They are computed once.
-ghost use Rattle.std.specs.Prelude.{◌≡◌, ◌≤◌, length, map};
+ghost use Rattle.std.specs.Prelude.{◌≡◌, ◌≤◌, length};
 ghost use Rattle.std.specs.List.{list_any};
 ghost use Rattle.std.specs.Str.{bytes_eq};
 ghost use Rattle.acl_perm.specs.Principal.{group, owner, principal};
 ghost use Rattle.acl_perm.specs.Situation.{matches};
 ghost use Rattle.acl_nfs4.specs.Ace.{ace};
-ghost use Rattle.acl_eval.specs.Situation.{groups_of, situation, user_of};
-ghost use Rattle.acl_eval.specs.internal.GroupOrder.{AreSameGroups};
+ghost use Rattle.acl_eval.specs.Situation.{groups_among, groups_of, situation, user_of};
+ghost use Rattle.acl_eval.specs.GroupSearch.{AreSameGroups};
 ghost use Rattle.acl_eval.specs.internal.LastByte.{last_of};
 ghost use Rattle.acl_eval.specs.Scan.{applies};
 
@@ -28,7 +28,7 @@ pub(crate) struct Standing<'a> {
     last: u8,
     ghost owns: { is_owner ≡ matches (situation object requester) owner },
     ghost belongs: { is_in_owning_group ≡ matches (situation object requester) group },
-    ghost named: { AreSameGroups (map (λ g. g.now) groups.names.now) (groups_of requester) },
+    ghost named: { AreSameGroups (groups_among groups) (groups_of requester) },
     ghost ends: { last ≡ last_of (user_of requester) },
 }
 
@@ -48,7 +48,7 @@ impl<'a> Standing<'a> {
         requester: Requester<'a>,
         groups: Groups<'a>,
     ) -> Self
-        requires { AreSameGroups (map (λ g. g.now) groups.names.now) (groups_of requester) }
+        requires { AreSameGroups (groups_among groups) (groups_of requester) }
         ensures { asked_situation result ≡ situation object.entry requester.entry }
     {
         Standing {
@@ -90,7 +90,6 @@ impl<'a> Standing<'a> {
         }
     }
 
-    #[tactic(auto, using(crate::proofs::Members::any_now))]
     fn is_in(&self, name: &[u8]) -> bool
         ensures { result ≡ list_any (bytes_eq name.now) (groups_of self.now.requester) }
     {
@@ -99,9 +98,8 @@ impl<'a> Standing<'a> {
 }
 
 // Returns whether the requester is in the group with this name, by a look-up among `groups`.
-#[tactic(auto, using(crate::proofs::Members::any_now))]
 fn is_among(groups: &Groups<'_>, requester: &Requester<'_>, name: &[u8]) -> bool
-    requires { AreSameGroups (map (λ g. g.now) groups.now.names.now) (groups_of requester.now) }
+    requires { AreSameGroups (groups_among groups.now) (groups_of requester.now) }
     ensures { result ≡ list_any (bytes_eq name.now) (groups_of requester.now) }
 {
     groups.contains(name)

@@ -12,4 +12,5 @@ mod lists;
 mod mode_changes;
 mod modes;
 mod naming;
+mod resolving;
 mod unknown;

@@ -140,4 +140,18 @@ fn no_group_of_a_requester_has_an_empty_name(rt: HostRuntime) {
     assert!(rt; Requester::new(b"bob", &[b""]).is_none());
     let requester = Requester::for_many_lists(b"bob", &[b"staff", b"users"]);
     assert!(rt; requester.is_some());
+    let requester = Requester::in_order(b"bob", &[b"staff", b"users"]);
+    assert!(rt; requester.is_some());
+    assert!(rt; Requester::in_order(b"bob", &[b""]).is_none());
+}
+
+#[test]
+fn the_owner_and_the_owning_group_of_an_object_are_named(rt: HostRuntime) -> Result<(), Fail> {
+    let alloc = rt.alloc();
+    let list = parse_text(alloc, b"ALLOW - READ_DATA OWNER@\nDENY - WRITE_DATA GROUP@")?;
+    let object = Object::new(b"alice", b"staff").ok_or("a name is empty")?;
+    let named = resolved(alloc, &list.view(), &object)?;
+    let text = b"ALLOW - READ_DATA alice\nDENY GROUP WRITE_DATA staff";
+    assert!(rt; named == parse_text(alloc, text)?);
+    Ok(())
 }

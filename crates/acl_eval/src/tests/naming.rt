@@ -4,7 +4,7 @@
 use super::harness::passes;
 use super::lists::{GROUP_NAMED, LONG_NAMES, OWNING_GROUP, Question, THREE};
 use crate::*;
-use acl_nfs4::{AceRef, Acl, PushFault};
+use acl_nfs4::{AceRef, Acl, AclView, PushFault};
 use acl_perm::{Flags, Kind, Mask};
 use std::alloc::Global;
 use std::process::Abort;
@@ -52,6 +52,41 @@ fn a_name_matches_only_the_user_or_the_group_of_this_name(rt: HostRuntime) {
             question.is_granted(1) == Some(granted),
             "{user} of {owner}"
         );
+    }
+}
+
+// Groups of which the caller says that they are in order, and whether a binary search finds the group users. It compares
+// with the name at half of their number, rounded down, and goes on in front of it or behind it.
+static SAID_IN_ORDER: [(&[&[u8]], bool); 12] = [
+    (&[], false),
+    (&[b"users"], true),
+    (&[b"staff"], false),
+    // These are in order.
+    (&[b"staff", b"users"], true),
+    (&[b"admin", b"staff", b"users"], true),
+    (&[b"admin", b"staff", b"staff"], false),
+    (&[b"users", b"users", b"users", b"zoo"], true),
+    // These are in no order.
+    (&[b"zoo", b"users"], true),
+    (&[b"users", b"admin"], false),
+    (&[b"users", b"staff", b"admin"], false),
+    (&[b"users", b"zoo", b"admin", b"users"], true),
+    (&[b"admin", b"users", b"staff", b"zoo", b"guests"], false),
+];
+
+// Returns whether `GROUP_NAMED`, which denies READ_DATA to the group users, grants it to a requester of whose groups the
+// caller says that they are in order.
+fn may_ordered_read(groups: &[&[u8]]) -> Option<bool> {
+    let list = AclView::parse_whole(GROUP_NAMED).ok()?;
+    let object = Object::new(b"bob", b"staff")?;
+    let requester = Requester::in_order(b"alice", groups)?;
+    Some(grants(list.aces(), &object, &requester, Mask::READ_DATA))
+}
+
+#[test]
+fn a_group_that_a_binary_search_misses_does_not_count(rt: HostRuntime) {
+    for (groups, is_found) in SAID_IN_ORDER {
+        assert!(rt; may_ordered_read(groups) == Some(!is_found));
     }
 }
 

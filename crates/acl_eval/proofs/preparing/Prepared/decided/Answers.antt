@@ -1,11 +1,14 @@
 use Rattle.std.proofs.Common.{◌∙◌, ap, refl}
 use Rattle.std.specs.Prelude.{filter}
+use Rattle.std.specs.List.{list_any}
+use Rattle.std.specs.Str.{bytes_eq}
 use Rattle.std.proofs.lemmas.Bool.{false≢true}
 use Rattle.acl_perm.specs.Bits.{has_bit}
 use Rattle.acl_perm.specs.declared.mask.Mask.{Mask}
 use Rattle.acl_eval.specs.Column.{takes_part}
-use Rattle.acl_eval.specs.Situation.{situation}
+use Rattle.acl_eval.specs.Situation.{given_groups_of, situation}
 use Rattle.acl_eval.proofs.Deciders.{allows_decide, denies_decide}
+use Rattle.acl_eval.proofs.GroupSearches.{counted_among}
 use Rattle.acl_eval.proofs.PreparedLists.{all_parts, decided_list}
 use Rattle.acl_eval.proofs.preparing.Prepared.decided.Goals as goal
 
@@ -30,3 +33,9 @@ returns-clause-denied c = λ list from.
     (c.in_ok-so_far.ensures (filter takes_part list) (all_parts list from.accepted.each) from.aces).1 in
     denies_decide list s c.args.mask.bits c.in_ok-so_far.so_far.granted.bits c.in_ok-so_far.so_far.left.bits
     c.decided.result.denied.bits d.granted d.left c.decided.ensures.denied
+
+pub new-keyed-requires : goal.new-keyed-requires
+new-keyed-requires c = λ name h.
+    let requester = c.for_look_ups-requester.result in
+    c.keys_of-group_keys.ensures name (ap (list_any (bytes_eq name)) c.groups.ensures
+    ∙ counted_among requester.groups.order (given_groups_of requester) name h)
