@@ -13,3 +13,5 @@ pub mod Tables
 pub mod Vectors
 -- whos: those that do not end in `@` are names, and principals of one rank are in the order of their whos
 pub mod Whoms
+-- the rows of a table in reverse
+pub mod TurnedRows

@@ -8,6 +8,7 @@ mod comparing;
 pub(crate) mod direction;
 pub(crate) mod evaluation;
 mod exceeding;
+mod implying;
 mod inversions;
 pub(crate) mod members;
 pub(crate) mod mentioned;
@@ -23,6 +24,7 @@ pub(crate) mod small_set;
 use acl_perm::Mask;
 pub use comparing::{compare, compare_views};
 pub use exceeding::{excess, excess_of_views};
+pub use implying::{implies, implies_of_view};
 pub use requester_names::RequesterNames;
 
 /// A requester and an object for which one of two lists grants a right that the other denies. The groups are in the

@@ -7,6 +7,7 @@ mod class;
 mod comparison;
 mod emit;
 mod five_forms;
+mod holder_lines;
 pub mod laws;
 mod merged;
 mod normal_form;
@@ -21,8 +22,12 @@ mod whom;
 
 pub use bit_table::{BorrowedRow, Row, borrowed_rows, table, table_of_view};
 pub use class::Class;
-pub use comparison::{Difference, RequesterNames, compare, compare_views, excess, excess_of_views};
+pub use comparison::{
+    Difference, RequesterNames, compare, compare_views, excess, excess_of_views, implies,
+    implies_of_view,
+};
 pub use five_forms::{FiveForms, normalize_inherit};
+pub use holder_lines::holders;
 pub use merged::MergedRows;
 pub use normal_form::{is_normal, normal_bytes, normal_bytes_with, normalize, normalize_view};
 pub use reduce::{needed, needed_of_view};

@@ -10,6 +10,8 @@ mod excesses;
 mod five_forms;
 mod forms;
 mod harness;
+mod holder_words;
+mod implications;
 mod merged_rows;
 mod names;
 mod needed_rights;

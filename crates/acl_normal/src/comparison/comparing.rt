@@ -1,8 +1,9 @@
 //! The comparison of two lists: the first small situation in which one grants a right that the other denies.
 ghost use Rattle.std.specs.Prelude.{◌↔◌, ◌≡◌, IsNone};
-ghost use Rattle.acl_normal.specs.Common.{all_rights, IfOk, IfSome, IsOk, SameGrants, two_lists};
+ghost use Rattle.acl_normal.specs.Common.{aces_in, all_rights, IfOk, IfSome, IsOk, SameGrants, two_lists};
 ghost use Rattle.acl_normal.specs.Difference.{situation_of};
 ghost use Rattle.acl_normal.specs.SmallSets.{IsFirstDifference, TellsApart};
+ghost use Rattle.acl_normal.specs.internal.Tidy.{HasNames};
 ghost use Rattle.acl_normal.specs.internal.comparison.TwoLists.{IsSearched};
 
 use super::Difference;
@@ -10,7 +11,7 @@ use super::compared::Compared;
 use super::direction::Direction;
 use super::mentioned::mentioned;
 use crate::reduce::collected::collect;
-use acl_nfs4::{Acl, AclView};
+use acl_nfs4::{AceRef, Acl, AclView};
 use std::alloc::{AllocError, Global};
 
 /// Returns the first of the small situations of two lists in which one grants a right and the other does not, or `None`
@@ -77,8 +78,22 @@ pub(crate) fn searched<'a>(
 {
     let list = collect(alloc, first)?;
     let other = collect(alloc, second)?;
-    let mentions = mentioned(alloc, &list, &other)?;
-    let compared = Compared::of(direction, &list, &other, &mentions);
+    searched_among(alloc, direction, &list, &other)
+}
+
+/// Returns the first small situation in which two lists of ACEs differ in a direction.
+pub(crate) fn searched_among<'a>(
+    alloc: Global,
+    direction: Direction,
+    list: &[AceRef<'a>],
+    other: &[AceRef<'a>],
+) -> Result<Option<Difference>, AllocError>
+    requires list { HasNames (aces_in list.now) }
+    requires other { HasNames (aces_in other.now) }
+    ensures { IfOk result (IsSearched (two_lists direction (aces_in list.now) (aces_in other.now))) }
+{
+    let mentions = mentioned(alloc, list, other)?;
+    let compared = Compared::of(direction, list, other, &mentions);
     let found = compared.first_set(alloc)?;
     compared.difference_of(alloc, found)
 }

@@ -1,7 +1,10 @@
 //! Checks that the calls of all tables of this crate succeed with ample memory. The tables with their expected values
 //! are in the files that are named here.
 
-use super::{differences, excesses, five_forms, forms, names, needed_rights, plain_forms, tables};
+use super::{
+    differences, excesses, five_forms, forms, holder_words, implications, names, needed_rights,
+    plain_forms, tables,
+};
 use acl_nfs4::PushFault;
 
 #[test]
@@ -14,6 +17,8 @@ fn every_row_of_the_tables_holds_if_memory_is_ample(rt: HostRuntime) -> Result<(
     five_forms::cut_forms(&rt, alloc)?;
     five_forms::lengths(&rt, alloc)?;
     forms::normal_forms(&rt, alloc)?;
+    holder_words::holder_words(&rt, alloc)?;
+    implications::worked_implications(&rt, alloc)?;
     names::names(&rt, alloc)?;
     needed_rights::needed_rights(&rt, alloc)?;
     tables::tables(&rt, alloc)?;
