@@ -1,0 +1,107 @@
+-- Flags and a list after them are read if and only if the bytes spell them.
+use Rattle.std.proofs.Common.{◌≡◌, ◌∙◌, ◌+◌, ◌<◌, ◌≤◌, ◌^◌, ◌++◌, [], ℕ, List, Result, Ok, Err, length, arith, refl, ap, sym, subst, length-append}
+use Rattle.std.specs.Result.{IsErrAnd}
+use Rattle.acl_perm.specs.Profile.{full}
+use Rattle.acl_nfs4.proofs.Exports.{one, spelling_short}
+use Rattle.acl_nfs4.specs.Ace.{Ace}
+use Rattle.acl_nfs4.specs.Fault.{IsWholeFault}
+use Rattle.acl_nfs4.specs.Fault.IsWholeFault.{behind, of_value}
+use Rattle.acl_nfs4.specs.Spelling.{IsAccepted, Xdr, spelling, word}
+use Rattle.acl_nfs4.specs.internal.Progress.{IsBytes}
+use Rattle.acl_nfs4.specs.declared.xdr.fault.Reason.{Reason}
+use Rattle.acl_forms.specs.Acl41.{IsAcl41, IsAcl41Fault, acl41_bytes}
+use Rattle.acl_forms.specs.Acl41.IsAcl41Fault.{of_flags, of_list}
+use Rattle.acl_forms.specs.AclFlags.{IsAclFlags}
+use Rattle.acl_forms.specs.Words.{WordPlace, acl_flags_of, start, word_at}
+use Rattle.acl_forms.specs.declared.fault.ReadFault.{ReadFault}
+use Rattle.acl_forms.specs.declared.fault.ReadReason.TheVariants as reason
+use Rattle.acl_forms.proofs.WordLemmas.{flags_again, flags_found, ok_is, place_at}
+
+-- the result is the error that the conversion gives
+pub exit_is : {T E : Type 0} {e : E} (r : Result T E) → IsErrAnd r (λ y. y ≡ e) → r ≡ Err e
+exit_is (Ok x) is = absurd is
+exit_is (Err y) is = ap (λ z. Err z) is
+
+-- the place of a fault of a list is within the bytes
+pub fault_within : (bytes : List ℕ) (offset : ℕ) (r : Reason) → IsWholeFault full bytes offset r
+    → offset ≤ length bytes
+fault_within bytes _ _ (of_value offset r f) =
+    omega (arith, f.1.here, ap length f.1.parts, length-append f.1.front f.1.rest)
+fault_within bytes _ _ (behind list text rest x e some) = omega (arith, ap length e, length-append text rest)
+
+-- the bytes of accepted flags and an accepted list are theirs
+pub bytes_of : (flags : ℕ) (list : List Ace) → IsAclFlags flags → IsAccepted full list
+    → IsAcl41 flags list (acl41_bytes flags list)
+bytes_of flags list is ok = record { flags = is; accepted = ok; spelled = refl }
+
+-- the bytes of flags and a list are fewer than 2 ^ 32
+pub bytes_short : (list : List Ace) → IsAccepted full list → length (spelling list) < 2 ^ 31
+bytes_short list ok = spelling_short full list ok
+
+-- if flags were read, and the bytes after them spell a list, all of the bytes spell both
+pub found : (bytes : List ℕ) (flags : ℕ) (after : WordPlace) (list : List Ace) → IsBytes bytes
+    → word_at acl_flags_of (start bytes) ≡ Ok (flags, after) → Xdr full list after.rest → IsAcl41 flags list bytes
+found bytes flags after list fits e x =
+    let f = flags_found bytes flags after fits e in
+    record {
+      flags = f.0;
+      accepted = x.accepted;
+      spelled = f.1 ∙ ap (λ (t : List ℕ). word flags ++ t) x.spelled;
+    }
+
+-- the flags and the place after them, if bytes begin with flags
+same_place : (bytes : List ℕ) (flags : ℕ) (after : WordPlace) (set : ℕ) (text : List ℕ)
+    → word_at acl_flags_of (start bytes) ≡ Ok (flags, after) → IsAclFlags set → bytes ≡ word set ++ text
+    → (flags ≡ set) × (after.rest ≡ text)
+same_place bytes flags after set text e is parts =
+    let h : (flags, after) ≡ (set, place_at 4 text) = ok_is _ _ (sym e ∙ flags_again bytes set text is parts) in
+    (ap (λ z. z.0) h, ap (λ z. z.1.rest) h)
+
+-- if bytes spell flags and a list, these flags are read, and the bytes after them spell the list
+pub only : (bytes : List ℕ) (flags : ℕ) (after : WordPlace) (set : ℕ) (list : List Ace)
+    → word_at acl_flags_of (start bytes) ≡ Ok (flags, after) → IsAcl41 set list bytes
+    → (flags ≡ set) × Xdr full list after.rest
+only bytes flags after set list e is =
+    let same = same_place bytes flags after set (spelling list) e is.flags is.spelled in
+    (same.0, record { accepted = is.accepted; spelled = same.1 })
+
+-- bytes spell at most one pair of flags and a list
+pub one_value : (flags set : ℕ) (list other : List Ace) (bytes : List ℕ) → IsAcl41 flags list bytes
+    → IsAcl41 set other bytes → (flags ≡ set) × (list ≡ other)
+one_value flags set list other bytes h k =
+    let same = same_place bytes flags (place_at 4 (spelling list)) set (spelling other)
+    (flags_again bytes flags (spelling list) h.flags h.spelled) k.flags k.spelled in
+    let lists = one full list other (spelling list) (spelling other) [] [] (record { masks = refl; flags = refl })
+    (record { accepted = h.accepted; spelled = refl }) (record { accepted = k.accepted; spelled = refl })
+    (ap (λ (t : List ℕ). t ++ []) same.1) in
+    (same.0, lists.0)
+
+-- bytes that spell flags and a list are not refused at their flags
+pub not_flags : (bytes : List ℕ) (fault : ReadFault) (set : ℕ) (list : List Ace)
+    → word_at acl_flags_of (start bytes) ≡ Err fault → IsAcl41 set list bytes → ⊥
+not_flags bytes fault set list e is =
+    let again = flags_again bytes set (spelling list) is.flags is.spelled in cc
+
+-- if flags were read, the fault of the bytes is that of the list after them
+pub after_flags : (bytes : List ℕ) (flags : ℕ) (after : WordPlace) (wrong : ReadFault)
+    → word_at acl_flags_of (start bytes) ≡ Ok (flags, after) → IsAcl41Fault bytes wrong
+    → (offset : ℕ) × (r : Reason) × IsWholeFault full after.rest offset r
+    × (wrong ≡ record { offset = 4 + offset; reason = reason.List r })
+after_flags bytes flags after _ e (of_flags wrong bad) = absurd cc
+after_flags bytes flags after _ e (of_list set offset text r is parts whole) =
+    let same = same_place bytes flags after set text e is parts in
+    (offset, r, subst (λ (t : List ℕ). IsWholeFault full t offset r) (sym same.1) whole, refl)
+
+-- if flags were refused, the fault of the bytes is that of the flags
+pub at_flags : (bytes : List ℕ) (fault wrong : ReadFault) → word_at acl_flags_of (start bytes) ≡ Err fault
+    → IsAcl41Fault bytes wrong → fault ≡ wrong
+at_flags bytes fault _ e (of_flags wrong bad) = cc
+at_flags bytes fault _ e (of_list set offset text r is parts whole) =
+    let again = flags_again bytes set text is parts in absurd cc
+
+-- the fault of a list after flags is the fault of all of the bytes
+pub list_fault : (bytes : List ℕ) (flags : ℕ) (after : WordPlace) (offset : ℕ) (r : Reason) → IsBytes bytes
+    → word_at acl_flags_of (start bytes) ≡ Ok (flags, after) → IsWholeFault full after.rest offset r
+    → IsAcl41Fault bytes (record { offset = 4 + offset; reason = reason.List r })
+list_fault bytes flags after offset r fits e whole =
+    let f = flags_found bytes flags after fits e in of_list flags offset after.rest r f.0 f.1 whole

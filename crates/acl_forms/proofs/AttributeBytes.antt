@@ -1,0 +1,332 @@
+-- The bytes of an entry of an attribute: what they mean, and the entry that has the bytes.
+use Rattle.std.proofs.Common.{◌≡◌, ◌∙◌, ◌+◌, ◌*◌, ◌<◌, ◌≤◌, ◌^◌, ◌++◌, ℕ, Bool, true, false, cond, eqb, List, [], ◌∷◌, Option, None, Some, length, drop, refl, ap, sym, subst, arith, length-append}
+use Rattle.std.specs.Prelude.{◌==◌, ◌&&◌, ◌≢◌, nat_lt, option_map, unwrap_or}
+use Rattle.std.specs.Option.{option_or}
+use Rattle.std.specs.List.{flat_map}
+use Rattle.std.proofs.lemmas.Bool.{eqb-true}
+use Rattle.std.proofs.lemmas.Bool.Decides.{nat_tests}
+use Rattle.std.proofs.lemmas.List.Concat.{flat_map-cons}
+use Rattle.byteorder.specs.Endian.{little_bytes, little_number}
+use Rattle.byteorder.specs.Numbers.{little_number-reads_back}
+use Rattle.acl_perm.specs.Bits.{IsPerm}
+use Rattle.acl_posix.specs.Attribute.{coded_number, tag_code}
+unfoldable use Rattle.acl_posix.specs.Attribute.{entry_bytes, stored_raw}
+use Rattle.acl_posix.specs.Entries.{IsEntry}
+use Rattle.acl_posix.specs.Id.{greatest_id}
+use Rattle.acl_posix.specs.RawEntries.{entry_fault, numbered_tag, perm_fault, raw_of, raw_pair, raw_tag, raw_tag_number, undefined_id}
+use Rattle.acl_posix.specs.Tag.{IsTag, Tag, group, group_obj, is_named, mask, other, tag_row, user, user_obj}
+use Rattle.acl_posix.specs.declared.raw_entry.EntryFault.{EntryFault}
+use Rattle.acl_posix.specs.declared.raw_entry.EntryFault.TheVariants as wrong
+use Rattle.acl_posix.specs.declared.raw_entry.RawEntry.{RawEntry}
+use Rattle.acl_nfs4.specs.internal.Progress.{IsBytes}
+use Rattle.acl_nfs4.specs.declared.xdr.fault.Reason.TheVariants.{Truncated}
+use Rattle.acl_forms.specs.Attributes.{id_reason, last_tag, order_reason}
+unfoldable use Rattle.acl_forms.specs.Attributes.{field_fault, next_entry_fault}
+use Rattle.acl_forms.specs.ReadFaults.{read_fault_at}
+use Rattle.acl_forms.specs.declared.fault.ReadFault.{ReadFault}
+use Rattle.acl_forms.specs.declared.fault.ReadReason.{ReadReason}
+use Rattle.acl_forms.specs.declared.fault.ReadReason.TheVariants as reasons
+
+-- ---- the numbers of the bytes of an entry
+
+-- a code means the number of its tag type
+coded : (t : Tag) → coded_number (tag_code t) ≡ raw_tag_number t
+coded user_obj = refl
+coded (user id) = refl
+coded group_obj = refl
+coded (group id) = refl
+coded mask = refl
+coded other = refl
+
+-- a code takes two bytes
+code_below : (t : Tag) → tag_code t < 256 ^ 2
+code_below user_obj = omega arith
+code_below (user id) = omega arith
+code_below group_obj = omega arith
+code_below (group id) = omega arith
+code_below mask = omega arith
+code_below other = omega arith
+
+-- an id takes four bytes
+id_below : (t : Tag) → IsTag t → unwrap_or (tag_row t).qualifier undefined_id < 256 ^ 4
+id_below user_obj h = omega arith
+id_below (user id) h = omega (arith, h)
+id_below group_obj h = omega arith
+id_below (group id) h = omega (arith, h)
+id_below mask h = omega arith
+id_below other h = omega arith
+
+-- bytes that begin with those of an entry mean its numbers
+pub stored : (e : Tag × ℕ) (rest : List ℕ) → IsEntry e → stored_raw (entry_bytes e ++ rest) ≡ raw_of e
+unfolding entry_bytes stored_raw
+stored e rest h =
+    let number : ℕ = unwrap_or (tag_row e.0).qualifier undefined_id in
+    let tag = little_number-reads_back 2 (tag_code e.0) (little_bytes 2 e.1 ++ (little_bytes 4 number ++ rest))
+    (code_below e.0) in
+    let perm = little_number-reads_back 2 e.1 (little_bytes 4 number ++ rest) (omega (arith, h.1)) in
+    let id = little_number-reads_back 4 number rest (id_below e.0 h.0) in
+    λ i. record { tag = (ap coded_number tag ∙ coded e.0) i; id = id i; perm = perm i }
+
+-- the numbers of an entry mean the entry
+pub again : (t : Tag) (n : ℕ) → raw_pair (raw_of (t, n)) ≡ (t, n)
+again user_obj n = refl
+again (user id) n = refl
+again group_obj n = refl
+again (group id) n = refl
+again mask n = refl
+again other n = refl
+
+-- bytes begin with those of at most one entry
+pub one_entry : (x y : Tag × ℕ) (s t : List ℕ) → IsEntry x → IsEntry y → entry_bytes x ++ s ≡ entry_bytes y ++ t
+    → (x ≡ y) × (s ≡ t)
+unfolding entry_bytes
+one_entry x y s t of_x of_y e =
+    let raws : raw_of x ≡ raw_of y = sym (stored x s of_x) ∙ ap stored_raw e ∙ stored y t of_y in
+    let rests : s ≡ t = ap (λ (l : List ℕ). drop 8 l) e in
+    (sym (again x.0 x.1) ∙ ap raw_pair raws ∙ again y.0 y.1, rests)
+
+-- the bytes of an entry are eight
+pub entry_size_is : (e : Tag × ℕ) → length (entry_bytes e) ≡ 8
+unfolding entry_bytes
+entry_size_is e = refl
+
+-- the bytes of entries are eight each
+pub bytes_length : (ps : List (Tag × ℕ)) → length (flat_map entry_bytes ps) ≡ 8 * length ps
+bytes_length [] = refl
+bytes_length (p ∷ ps) =
+    let first = ap (λ (l : List ℕ). length l) (flat_map-cons entry_bytes p ps) in
+    omega (
+      arith,
+      first,
+      length-append (entry_bytes p) (flat_map entry_bytes ps),
+      entry_size_is p,
+      bytes_length ps,
+    )
+
+-- ---- no fault in the bytes of an entry
+
+-- a number is not below another that is not greater
+not_below : (a n : ℕ) → n ≤ a → nat_lt a n ≡ false
+not_below a n le = grind (arith, nat_tests)
+
+-- an id is not the undefined one
+defined : (id : ℕ) → id ≤ greatest_id → eqb id undefined_id ≡ false
+defined id le = grind (arith, nat_tests)
+
+-- nothing is wrong with the numbers of an entry
+right : (at : ℕ) (t : Tag) (n : ℕ) → IsTag t → IsPerm n → field_fault at (raw_of (t, n)) ≡ None
+unfolding field_fault
+right at user_obj n h below = rw (not_below 7 n (omega (arith, below))) refl
+right at (user id) n h below = rw (not_below 7 n (omega (arith, below)), defined id h) refl
+right at group_obj n h below = rw (not_below 7 n (omega (arith, below))) refl
+right at (group id) n h below = rw (not_below 7 n (omega (arith, below)), defined id h) refl
+right at mask n h below = rw (not_below 7 n (omega (arith, below))) refl
+right at other n h below = rw (not_below 7 n (omega (arith, below))) refl
+
+-- whole bytes whose numbers and whose tag are right have no fault
+nothing_wrong : (at : ℕ) (last : Option Tag) (text : List ℕ) (raw : RawEntry) → 8 ≤ length text
+    → stored_raw text ≡ raw → field_fault at raw ≡ None → order_reason last (raw_tag raw) ≡ None
+    → next_entry_fault at last text ≡ None
+unfolding next_entry_fault
+nothing_wrong at last text raw long is field order = rw (not_below (length text) 8 long, is, field, order) refl
+
+-- bytes that begin with those of an entry that may come after the last one have no fault
+pub no_next_fault : (at : ℕ) (last : Option Tag) (e : Tag × ℕ) (rest : List ℕ) → IsEntry e
+    → order_reason last e.0 ≡ None → next_entry_fault at last (entry_bytes e ++ rest) ≡ None
+unfolding entry_bytes
+no_next_fault at last e rest h order =
+    let same : raw_tag (raw_of e) ≡ e.0 = ap (λ (p : Tag × ℕ). p.0) (again e.0 e.1) in
+    nothing_wrong at last (entry_bytes e ++ rest) (raw_of e) (omega arith) (stored e rest h) (right at e.0 e.1 h.0 h.1)
+    (subst (λ (t : Tag). order_reason last t ≡ None) (sym same) order)
+
+-- ---- each fault of the next entry
+
+-- bytes that are too few are cut short
+pub next_short : (at : ℕ) (last : Option Tag) (text : List ℕ) → length text < 8
+    → next_entry_fault at last text ≡ Some (read_fault_at at (reasons.List Truncated))
+unfolding next_entry_fault
+next_short at last text short =
+    let test : nat_lt (length text) 8 ≡ true = grind (arith, nat_tests) in rw test refl
+
+-- no bytes are cut short
+pub nothing_short : (at : ℕ) (last : Option Tag) → next_entry_fault at last [] ≡ Some (read_fault_at at (reasons.List Truncated))
+nothing_short at last = next_short at last [] (omega arith)
+
+-- a fault of the fields is that of the entry
+pub next_field : (at : ℕ) (last : Option Tag) (text : List ℕ) (f : ReadFault) → 8 ≤ length text
+    → field_fault at (stored_raw text) ≡ Some f → next_entry_fault at last text ≡ Some f
+unfolding next_entry_fault
+next_field at last text f long wrong = rw (not_below (length text) 8 long, wrong) refl
+
+-- a fault of the order is that of an entry whose fields are right
+pub next_order : (at : ℕ) (last : Option Tag) (text : List ℕ) (r : ReadReason) → 8 ≤ length text
+    → field_fault at (stored_raw text) ≡ None → order_reason last (raw_tag (stored_raw text)) ≡ Some r
+    → next_entry_fault at last text ≡ Some (read_fault_at at r)
+unfolding next_entry_fault
+next_order at last text r long field wrong = rw (not_below (length text) 8 long, field, wrong) refl
+
+-- ---- the entry that has some bytes
+
+-- two bytes are those of their number
+two_bytes : (a b : ℕ) → a < 256 → b < 256 → little_bytes 2 (a + 256 * (b + 256 * 0)) ≡ a ∷ b ∷ []
+two_bytes a b p q = grind arith
+
+-- four bytes are those of their number
+four_bytes : (a b c d : ℕ) → a < 256 → b < 256 → c < 256 → d < 256
+    → little_bytes 4 (a + 256 * (b + 256 * (c + 256 * (d + 256 * 0)))) ≡ a ∷ b ∷ c ∷ d ∷ []
+four_bytes a b c d p q r s = grind arith
+
+-- what holds of a number and of a row, and of the rows after it, holds of what a table gives
+chosen : (P : ℕ → ℕ → Type 0) (code k n more : ℕ) → P k n → P code more → P code (cond (eqb code k) n more)
+chosen P code k n more at after =
+    elim (eqb code k) as (λ b. eqb code k ≡ b → P code (cond b n more)) [
+      | true ↦ λ e. subst (λ (c : ℕ). P c n) (sym (eqb-true code k e)) at
+      | false ↦ λ e. after
+    ] refl
+
+-- a code that means a tag type is the code of that type
+code_is : (code id : ℕ) → (coded_number code == 0) ≡ false → tag_code (numbered_tag (coded_number code) id) ≡ code
+code_is code id =
+    let P : ℕ → ℕ → Type 0 = λ c n. (n == 0) ≡ false → tag_code (numbered_tag n id) ≡ c in
+    chosen P code 0x01 1 _ (λ h. refl) (chosen P code 0x02 2 _ (λ h. refl) (chosen P code 0x04 3 _ (λ h. refl)
+    (chosen P code 0x08 4 _ (λ h. refl) (chosen P code 0x10 5 _ (λ h. refl) (chosen P code 0x20 6 0 (λ h. refl)
+    (λ h. absurd cc))))))
+
+-- what holds of two values holds of the one that a test chooses
+either : (Q : Tag → Type 0) (b : Bool) (x y : Tag) → Q x → Q y → Q (cond b x y)
+either Q true x y p q = p
+either Q false x y p q = q
+
+-- an id that is not refused where there is none is the undefined one
+undefined_is : (id : ℕ) → cond (eqb id undefined_id) None (Some reasons.Qualifier) ≡ None → undefined_id ≡ id
+undefined_is id =
+    elim (eqb id undefined_id) as (λ b. eqb id undefined_id ≡ b
+    → cond b None (Some reasons.Qualifier) ≡ None → undefined_id ≡ id) [
+      | true ↦ λ e h. sym (eqb-true id undefined_id e)
+      | false ↦ λ e h. absurd cc
+    ] refl
+
+-- an id that is not refused is that of the entry that the numbers mean
+id_is : (raw : RawEntry) → id_reason raw ≡ None → unwrap_or (tag_row (raw_tag raw)).qualifier undefined_id ≡ raw.id
+id_is raw =
+    let id : ℕ = raw.id in
+    let Q : Tag → Type 0 = λ t. cond (is_named t) (cond (eqb id undefined_id) (Some reasons.Id) None)
+    (cond (eqb id undefined_id) None (Some reasons.Qualifier)) ≡ None
+    → unwrap_or (tag_row t).qualifier undefined_id ≡ id in
+    either Q (eqb raw.tag 1) user_obj _ (undefined_is id) (either Q (eqb raw.tag 2) (user id) _ (λ h. refl)
+    (either Q (eqb raw.tag 3) group_obj _ (undefined_is id) (either Q (eqb raw.tag 4) (group id) _ (λ h. refl)
+    (either Q (eqb raw.tag 5) mask other (undefined_is id) (undefined_is id)))))
+
+-- the numbers of an entry are right
+pub record FieldsRight (raw : RawEntry) : Type 0 where
+  pub tag : (raw.tag == 0) ≡ false
+  pub id : id_reason raw ≡ None
+
+-- if no fault comes of a test, the test failed
+none_of : (b : Bool) (f : ReadFault) (o : Option ReadFault) → cond b (Some f) o ≡ None → (b ≡ false) × (o ≡ None)
+none_of true f o e = absurd cc
+none_of false f o e = (refl, e)
+
+-- if no fault comes of a reason, there is none
+none_mapped : (at : ℕ) (o : Option ReadReason) → option_map (read_fault_at at) o ≡ None → o ≡ None
+none_mapped at None e = refl
+none_mapped at (Some r) e = absurd cc
+
+-- fields without a fault are right
+fields_right : (at : ℕ) (raw : RawEntry) → field_fault at raw ≡ None → FieldsRight raw
+unfolding field_fault
+fields_right at raw e =
+    let tag = none_of (raw.tag == 0) (read_fault_at at reasons.Tag) (cond (nat_lt 7 raw.perm)
+    (Some (read_fault_at (at + 2) reasons.Permission)) (option_map (read_fault_at (at + 4)) (id_reason raw))) e in
+    let perm = none_of (nat_lt 7 raw.perm) (read_fault_at (at + 2) reasons.Permission)
+    (option_map (read_fault_at (at + 4)) (id_reason raw)) tag.1 in
+    record { tag = tag.0; id = none_mapped (at + 4) (id_reason raw) perm.1 }
+
+-- of a named entry with an id that is none, the id is refused
+wrong_id : (named : Bool) (id : ℕ) (f : EntryFault) → id < 2 ^ 32
+    → option_or (cond (named && nat_lt greatest_id id) (Some wrong.Id) None) None ≡ Some f
+    → cond named (cond (eqb id undefined_id) (Some reasons.Id) None)
+    (cond (eqb id undefined_id) None (Some reasons.Qualifier)) ≡ Some reasons.Id
+wrong_id true id f fits e = grind (arith, nat_tests)
+wrong_id false id f fits e = absurd cc
+
+-- numbers that are not those of an entry, with a tag and permissions that are right, have an id that is refused
+pub id_refused : (raw : RawEntry) (f : EntryFault) → 0 < raw.tag → raw.tag ≤ 6 → raw.perm ≤ 7 → raw.id < 2 ^ 32
+    → entry_fault raw ≡ Some f → id_reason raw ≡ Some reasons.Id
+id_refused raw f some known perm fits e =
+    let no_0 : eqb raw.tag 0 ≡ false = grind (arith, nat_tests) in
+    let h = rw (no_0, not_below 6 raw.tag known, not_below 7 raw.perm perm) at e in
+    wrong_id (is_named (raw_tag raw)) raw.id f fits h
+
+-- of a named entry without a fault, the id is not refused
+right_id : (named : Bool) (id : ℕ) (o : Option EntryFault) → named ≡ true
+    → option_or (cond (named && nat_lt greatest_id id) (Some wrong.Id) None) o ≡ None
+    → cond named (cond (eqb id undefined_id) (Some reasons.Id) None)
+    (cond (eqb id undefined_id) None (Some reasons.Qualifier)) ≡ None
+right_id true id o is e = grind (arith, nat_tests)
+right_id false id o is e = absurd cc
+
+-- the id of the numbers of a user or of a group is not refused
+pub id_accepted : (raw : RawEntry) → 0 < raw.tag → raw.tag ≤ 6 → entry_fault raw ≡ None
+    → is_named (raw_tag raw) ≡ true → id_reason raw ≡ None
+id_accepted raw some known e named =
+    let no_0 : eqb raw.tag 0 ≡ false = grind (arith, nat_tests) in
+    let h = rw (no_0, not_below 6 raw.tag known) at e in
+    right_id (is_named (raw_tag raw)) raw.id (perm_fault raw) named h
+
+-- the undefined id is not refused in an entry that is of no user and no group
+pub no_id_accepted : (raw : RawEntry) → raw.id ≡ undefined_id → is_named (raw_tag raw) ≡ false → id_reason raw ≡ None
+no_id_accepted raw is named =
+    let test : eqb raw.id undefined_id ≡ true = grind (arith, nat_tests) in rw (named, test) refl
+
+-- an id is refused in an entry that is of no user and no group
+pub id_not_accepted : (raw : RawEntry) → raw.id ≢ undefined_id → is_named (raw_tag raw) ≡ false
+    → id_reason raw ≡ Some reasons.Qualifier
+id_not_accepted raw is named =
+    let test : eqb raw.id undefined_id ≡ false = grind (arith, nat_tests) in rw (named, test) refl
+
+-- three parts of a list, each by itself
+three_parts : (x p y q z r : List ℕ) → x ≡ p → y ≡ q → z ≡ r → x ++ (y ++ z) ≡ p ++ (q ++ r)
+three_parts x p y q z r e f g = λ i. e i ++ (f i ++ g i)
+
+-- whole bytes whose fields are right begin with the bytes of the entry that their numbers mean
+pub whole_entry : (at : ℕ) (text : List ℕ) → 8 ≤ length text → IsBytes text → field_fault at (stored_raw text) ≡ None
+    → text ≡ entry_bytes (raw_pair (stored_raw text)) ++ drop 8 text
+unfolding entry_bytes stored_raw
+whole_entry at [] long fits right = absurd (omega (arith, long))
+whole_entry at (a ∷ []) long fits right = absurd (omega (arith, long))
+whole_entry at (a ∷ b ∷ []) long fits right = absurd (omega (arith, long))
+whole_entry at (a ∷ b ∷ c ∷ []) long fits right = absurd (omega (arith, long))
+whole_entry at (a ∷ b ∷ c ∷ d ∷ []) long fits right = absurd (omega (arith, long))
+whole_entry at (a ∷ b ∷ c ∷ d ∷ e ∷ []) long fits right = absurd (omega (arith, long))
+whole_entry at (a ∷ b ∷ c ∷ d ∷ e ∷ f ∷ []) long fits right = absurd (omega (arith, long))
+whole_entry at (a ∷ b ∷ c ∷ d ∷ e ∷ f ∷ g ∷ []) long fits right = absurd (omega (arith, long))
+whole_entry at (a ∷ b ∷ c ∷ d ∷ e ∷ f ∷ g ∷ h ∷ rest) long fits right =
+    let text : List ℕ = a ∷ b ∷ c ∷ d ∷ e ∷ f ∷ g ∷ h ∷ rest in
+    let raw : RawEntry = stored_raw text in
+    let are = fields_right at raw right in
+    let code : ℕ = a + 256 * (b + 256 * 0) in
+    let id : ℕ = e + 256 * (f + 256 * (g + 256 * (h + 256 * 0))) in
+    let tag : little_bytes 2 (tag_code (raw_tag raw)) ≡ a ∷ b ∷ [] =
+    ap (λ n. little_bytes 2 n) (code_is code id are.tag) ∙ two_bytes a b (fits 0) (fits 1) in
+    let perm : little_bytes 2 raw.perm ≡ c ∷ d ∷ [] = two_bytes c d (fits 2) (fits 3) in
+    let ids : little_bytes 4 (unwrap_or (tag_row (raw_tag raw)).qualifier undefined_id) ≡ e ∷ f ∷ g ∷ h ∷ [] =
+    ap (λ n. little_bytes 4 n) (id_is raw are.id) ∙ four_bytes e f g h (fits 4) (fits 5) (fits 6) (fits 7) in
+    ap (λ (l : List ℕ). l ++ rest) (sym (three_parts _ _ _ _ _ _ tag perm ids))
+
+-- whole bytes whose numbers mean an entry, with fields that are right, begin with the bytes of the entry
+pub entry_is : (at : ℕ) (text : List ℕ) (raw : RawEntry) (e : Tag × ℕ) → 8 ≤ length text → IsBytes text
+    → raw ≡ stored_raw text → e ≡ raw_pair raw → field_fault at raw ≡ None → text ≡ entry_bytes e ++ drop 8 text
+entry_is at text raw e long fits same is right =
+    let field : field_fault at (stored_raw text) ≡ None = subst (λ (r : RawEntry). field_fault at r ≡ None) same right in
+    whole_entry at text long fits field
+    ∙ ap (λ (p : Tag × ℕ). entry_bytes p ++ drop 8 text) (ap raw_pair (sym same) ∙ sym is)
+
+-- a fault of the order is that of the entry that the numbers of the bytes mean
+pub entry_misplaced : (at : ℕ) (last : Option Tag) (text : List ℕ) (raw : RawEntry) (e : Tag × ℕ) (r : ReadReason)
+    → 8 ≤ length text → raw ≡ stored_raw text → e ≡ raw_pair raw → field_fault at raw ≡ None
+    → order_reason last e.0 ≡ Some r → next_entry_fault at last text ≡ Some (read_fault_at at r)
+entry_misplaced at last text raw e r long same is right wrong =
+    let tag : e.0 ≡ raw_tag (stored_raw text) = ap (λ (p : Tag × ℕ). p.0) is ∙ ap raw_tag same in
+    next_order at last text r long (subst (λ (x : RawEntry). field_fault at x ≡ None) same right)
+    (subst (λ (t : Tag). order_reason last t ≡ Some r) tag wrong)

@@ -1,0 +1,140 @@
+-- A word that is read is the word that was written, and what was written is read again.
+use Rattle.std.proofs.Common.{◌≡◌, ◌∙◌, ◌+◌, ◌<◌, ◌≤◌, ◌^◌, ◌++◌, ℕ, List, Bool, true, false, cond, ltb, Result, Ok, Err, length, take, drop, arith, refl, ap, sym, subst, append_assoc, length-append}
+use Rattle.std.proofs.lemmas.Bool.{cases_lt, le-ltb, ltb-false, le-leb}
+use Rattle.std.proofs.Common.{inl, inr}
+use Rattle.std.proofs.lemmas.Bool.Decides.{nat_tests}
+use Rattle.std.proofs.lemmas.List.{get_or-take, get_or_past, length-take, take-append-drop}
+use Rattle.std.proofs.lemmas.Nat.{be_bytes_4, from_be_bytes-to_be_bytes_4}
+use Rattle.acl_perm.specs.internal.Steps.{◌>>=◌}
+use Rattle.acl_nfs4.proofs.Exports.{IsBytes-drop}
+use Rattle.acl_nfs4.specs.Fields.{number}
+use Rattle.acl_nfs4.specs.Spelling.{word}
+use Rattle.acl_nfs4.specs.internal.Progress.{IsBytes}
+use Rattle.acl_nfs4.specs.declared.xdr.fault.Reason.TheVariants.{Truncated}
+use Rattle.acl_forms.specs.AclFlags.{IsAclFlags}
+use Rattle.acl_forms.specs.ReadFaults.{read_fault_at}
+use Rattle.acl_forms.specs.Words.{WordPlace, acl_flags_of, judged_word, start, word_at}
+use Rattle.acl_forms.specs.declared.fault.ReadReason.{ReadReason}
+use Rattle.acl_forms.specs.declared.fault.ReadReason.TheVariants as reason
+
+-- the first bytes of a list of bytes are bytes
+IsBytes-take : (n : ℕ) (bytes : List ℕ) → IsBytes bytes → IsBytes (take n bytes)
+IsBytes-take n bytes h i =
+    elim (cases_lt i n) [
+      | inl lt ↦ rw (get_or-take n bytes i 0 lt) (h i)
+      | inr le ↦ rw (get_or_past (take n bytes) i 0 (omega (arith, length-take n bytes))) (omega arith)
+    ]
+
+-- ---- steps
+
+-- if two steps give a value, what follows from each value of the first follows
+pub bind_then : {A B E C : Type 0} (r : Result A E) (f : A → Result B E) (y : B) → (r >>= f) ≡ Ok y
+    → ((x : A) → r ≡ Ok x → f x ≡ Ok y → C) → C
+bind_then (Ok x) f y e go = go x refl e
+bind_then (Err d) f y e go = absurd cc
+
+-- a step that gives a value continues with that value
+pub bind-ok : {A B E : Type 0} {r : Result A E} (f : A → Result B E) {x : A} → r ≡ Ok x → (r >>= f) ≡ f x
+bind-ok {A = A} {E = E} f e = ap (λ (s : Result A E). s >>= f) e
+
+-- if a test did not refuse, it was false, and the value is that of the other branch
+guard_ok : {A E : Type 0} (b : Bool) (d : E) (r : Result A E) (y : A) → cond b (Err d) r ≡ Ok y
+    → (b ≡ false) × (r ≡ Ok y)
+guard_ok true d r y e = absurd cc
+guard_ok false d r y e = (refl, e)
+
+-- a value, as a result of a given type
+abbrev pub ok : {A E : Type 0} → A → Result A E
+ok x = Ok x
+
+-- equal results have equal values
+pub ok_is : {A E : Type 0} (x y : A) → ok {A = A} {E = E} x ≡ ok y → x ≡ y
+ok_is x y e = cc
+
+-- ---- words
+
+-- a place, by the number of bytes before it and the bytes after it
+abbrev pub place_at : ℕ → List ℕ → WordPlace
+place_at n rest = record { at = n; rest = rest }
+
+-- what reading took from the front
+pub record Takes (p : WordPlace) (text : List ℕ) (q : WordPlace) : Type 0 where
+  pub parts : p.rest ≡ text ++ q.rest
+  pub bytes : IsBytes q.rest
+
+-- what two steps took
+pub Takes-then : {p : WordPlace} {x : List ℕ} {q : WordPlace} {y : List ℕ} {r : WordPlace} → Takes p x q → Takes q y r
+    → Takes p (x ++ y) r
+Takes-then {x = x} {y = y} {r = r} s t = record {
+  parts = s.parts ∙ ap (λ (z : List ℕ). x ++ z) t.parts ∙ sym (append_assoc x y r.rest);
+  bytes = t.bytes;
+}
+
+-- a whole word that gives a value was accepted, and reading continues after it
+judged_ok : {A : Type 0} (p : WordPlace) (r : Result A ReadReason) (x : A × WordPlace) → judged_word p r ≡ Ok x
+    → (r ≡ Ok x.0) × (place_at (p.at + 4) (drop 4 p.rest) ≡ x.1)
+judged_ok p (Ok y) x e =
+    let h : (y, place_at (p.at + 4) (drop 4 p.rest)) ≡ x = ok_is _ _ e in (ap (λ z. Ok z.0) h, ap (λ z. z.1) h)
+judged_ok p (Err d) x e = absurd cc
+
+-- a word that was read is taken, and its number is accepted
+pub record Taken {A : Type 0} (means : ℕ → Result A ReadReason) (p : WordPlace) (x : A × WordPlace) : Type 0 where
+  pub number : ℕ
+  pub accepted : means number ≡ Ok x.0
+  pub takes : Takes p (word number) x.1
+  pub fits : number < 2 ^ 32
+
+-- a word that gave a value was taken
+pub word_takes : {A : Type 0} (means : ℕ → Result A ReadReason) (p : WordPlace) (x : A × WordPlace) → IsBytes p.rest
+    → word_at means p ≡ Ok x → Taken means p x
+word_takes means p x fits e =
+    let g = guard_ok (ltb (length p.rest) 4) (read_fault_at p.at (reason.List Truncated))
+    (judged_word p (means (number (take 4 p.rest)))) x e in
+    let j = judged_ok p (means (number (take 4 p.rest))) x g.1 in
+    let long : 4 ≤ length p.rest = ltb-false _ _ g.0 in
+    let len : length (take 4 p.rest) ≡ 4 = omega (arith, length-take 4 p.rest) in
+    let b = IsBytes-take 4 p.rest fits in
+    let front : word (number (take 4 p.rest)) ≡ take 4 p.rest = be_bytes_4 (take 4 p.rest) _ len b refl in
+    let made : Takes p (take 4 p.rest) (place_at (p.at + 4) (drop 4 p.rest)) =
+    record { parts = sym (take-append-drop 4 p.rest); bytes = IsBytes-drop 4 p.rest fits } in
+    let whole : Takes p (take 4 p.rest) x.1 = subst (λ (q : WordPlace). Takes p (take 4 p.rest) q) j.1 made in
+    record {
+      number = number (take 4 p.rest);
+      accepted = j.0;
+      takes = subst (λ (w : List ℕ). Takes p w x.1) (sym front) whole;
+      fits = omega (arith, b 0, b 1, b 2, b 3);
+    }
+
+-- a word that was written is read again
+pub word_again : {A : Type 0} (means : ℕ → Result A ReadReason) (at n : ℕ) (rest : List ℕ) (x : A) → n < 2 ^ 32
+    → means n ≡ Ok x → word_at means (place_at at (word n ++ rest)) ≡ Ok (x, place_at (at + 4) rest)
+word_again means at n rest x lt e =
+    let long : ltb (length (word n ++ rest)) 4 ≡ false = le-ltb _ _ (omega (arith, length-append (word n) rest)) in
+    let same : means (number (word n)) ≡ Ok x = ap means (from_be_bytes-to_be_bytes_4 n lt) ∙ e in
+    rw long (ap (judged_word (place_at at (word n ++ rest))) same)
+
+-- ---- the word of flags
+
+-- flags that were read are flags of the standard
+flags_are : (n m : ℕ) → acl_flags_of n ≡ Ok m → (n ≡ m) × IsAclFlags m
+flags_are n m e = grind (arith, nat_tests)
+
+-- flags of the standard are accepted
+flags_accepted : (n : ℕ) → IsAclFlags n → acl_flags_of n ≡ Ok n
+flags_accepted n is = rw (le-leb _ _ is) refl
+
+-- flags that were read are flags, and the bytes are their word and the rest
+pub flags_found : (bytes : List ℕ) (flags : ℕ) (after : WordPlace) → IsBytes bytes
+    → word_at acl_flags_of (start bytes) ≡ Ok (flags, after)
+    → IsAclFlags flags × (bytes ≡ word flags ++ after.rest) × IsBytes after.rest
+flags_found bytes flags after fits e =
+    let t = word_takes acl_flags_of (start bytes) (flags, after) fits e in
+    let h = flags_are t.number flags t.accepted in
+    (h.1, t.takes.parts ∙ ap (λ (n : ℕ). word n ++ after.rest) h.0, t.takes.bytes)
+
+-- flags before other bytes are read again
+pub flags_again : (bytes : List ℕ) (flags : ℕ) (text : List ℕ) → IsAclFlags flags → bytes ≡ word flags ++ text
+    → word_at acl_flags_of (start bytes) ≡ Ok (flags, place_at 4 text)
+flags_again bytes flags text is e =
+    ap (λ (b : List ℕ). word_at acl_flags_of (start b)) e
+    ∙ word_again acl_flags_of 0 flags text flags (omega arith) (flags_accepted flags is)

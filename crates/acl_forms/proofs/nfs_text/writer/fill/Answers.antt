@@ -1,0 +1,69 @@
+use Rattle.std.proofs.Common.{ap, arith, length, []}
+use Rattle.acl_nfs4.specs.Ace.{ace}
+use Rattle.acl_forms.specs.Acl41Ids.{id_of_digits}
+use Rattle.acl_forms.specs.Letters.{nfs_flag_letters, nfs_right_letters}
+use Rattle.acl_forms.specs.NfsWritten.{id_after, kind_word, nfs_entry_text, principal_text, special_word}
+use Rattle.acl_forms.specs.ToolsWritten.{letters_of}
+use Rattle.acl_forms.proofs.NfsWrites.{joined}
+use Rattle.acl_forms.proofs.nfs_text.writer.fill.Goals as goal
+
+-- one piece after the other, from the last
+pub returns-clause-text : goal.returns-clause-text
+unfolding nfs_entry_text
+returns-clause-text c =
+    let item = c.args.item in
+    rw (c.push-4.ensures.items, c.add_id.ensures.text, c.add.ensures.items, c.push-3.ensures.items, c.add_letters-2.ensures.text)
+    (rw (c.push-2.ensures.items, c.add_letters.ensures.text, c.push.ensures.items, c.add_principal.ensures.text)
+    (rw (
+      c.kind_word.ensures.value,
+      c.nfs_right_letters.ensures,
+      c.nfs_flag_letters.ensures,
+      c.bits.ensures.value,
+      c.bits-2.ensures,
+    )
+    (joined (principal_text (ace item) (special_word item.who.now)) (letters_of (nfs_right_letters []) item.mask.bits)
+    (letters_of (nfs_flag_letters []) item.flags.bits) (kind_word item.kind)
+    (id_after item.who.now (id_of_digits item.who.now)))))
+
+pub add_id-requires : goal.add_id-requires
+add_id-requires c =
+    let front = c.add_principal.ensures.len in
+    let rights = ap length c.nfs_right_letters.ensures in
+    let flags = ap length c.nfs_flag_letters.ensures in
+    omega (
+      arith,
+      c.requires,
+      front,
+      c.push.ensures.len,
+      c.add_letters.ensures.len,
+      rights,
+      c.push-2.ensures.len,
+      c.add_letters-2.ensures.len,
+      flags,
+      c.push-3.ensures.len,
+      c.add.ensures.len,
+      c.kind_word.ensures.short,
+    )
+
+pub push-requires-4 : goal.push-requires-4
+push-requires-4 c =
+    let front = c.add_principal.ensures.len in
+    let rights = ap length c.nfs_right_letters.ensures in
+    let flags = ap length c.nfs_flag_letters.ensures in (
+      omega arith,
+      omega (
+        arith,
+        c.requires,
+        front,
+        c.push.ensures.len,
+        c.add_letters.ensures.len,
+        rights,
+        c.push-2.ensures.len,
+        c.add_letters-2.ensures.len,
+        flags,
+        c.push-3.ensures.len,
+        c.add.ensures.len,
+        c.kind_word.ensures.short,
+        c.add_id.ensures.len,
+      ),
+    )

@@ -1,0 +1,107 @@
+-- The text of a list that nfs4_getfacl prints, without the line before it (nfs4_acl(5), and the source of nfs4-acl-tools
+-- 0.4.2 for the order of the letters), and the lists that this text cannot hold, with the reason for each.
+use Rattle.std.specs.Prelude.{◌≡◌, ◌==◌, ◌||◌, ◌+◌, ℕ, Bool, false, not, List, [], ◌∷◌, ◌++◌, length, nat_lt, bit_and, filter, map, Option, None, Some, if◌then◌else◌}
+use Rattle.std.specs.List.{flat_map, list_any}
+use Rattle.acl_perm.specs.Ascii.{colon, comma, hash, line_feed}
+use Rattle.acl_perm.specs.declared.kind.Kind.{Kind}
+use Rattle.acl_perm.specs.declared.kind.Kind.TheVariants.{Deny, Allow}
+use Rattle.acl_nfs4.specs.Ace.{Ace}
+use Rattle.acl_forms.specs.Letters.{flag_letters, single_letters}
+use Rattle.acl_forms.specs.ToolsText.{with_group_flag}
+use Rattle.acl_forms.specs.declared.fault.FormFault.{FormFault}
+use Rattle.acl_forms.specs.declared.fault.FormReason.{FormReason}
+use Rattle.acl_forms.specs.declared.fault.FormReason.TheVariants.{Empty, Inherited, NotDirectory, Retention, Separator, TooLong}
+use Rattle.acl_forms.specs.declared.letters.Letter.{Letter}
+use Rattle.acl_forms.specs.declared.object.ObjectKind.{ObjectKind}
+use Rattle.acl_forms.specs.declared.object.ObjectKind.TheVariants.{File, Directory}
+
+-- ---- the text
+
+-- the letters of the rows whose bits a set has, in the order of the table
+abbrev pub letters_of : List Letter → ℕ → List ℕ
+letters_of table set = map (λ row. row.letter) (filter (λ row. bit_and set row.bits == row.bits) table)
+
+-- `A` for ALLOW and `D` for DENY
+abbrev pub kind_letter : Kind → ℕ
+kind_letter Allow = 0x41
+kind_letter Deny = 0x44
+
+-- the flags of an ACE as they are written: IDENTIFIER_GROUP is always set on `GROUP@`
+abbrev pub flags_written : Ace → ℕ
+flags_written a = with_group_flag a.who a.flags
+
+-- the entry of an ACE
+unfoldable pub tools_entry_text : Ace → List ℕ
+tools_entry_text a = (kind_letter a.kind ∷ []) ++ colon ∷ (letters_of flag_letters (flags_written a)
+    ++ colon ∷ (a.who ++ colon ∷ letters_of (single_letters []) a.mask))
+
+-- the line of an ACE
+abbrev pub tools_line : Ace → List ℕ
+tools_line a = tools_entry_text a ++ line_feed ∷ []
+
+-- the lines of the ACEs in order
+abbrev pub tools_text : List Ace → List ℕ
+tools_text list = flat_map tools_line list
+
+-- the ACE that the entry spells
+abbrev pub as_written : Ace → Ace
+as_written a = record { kind = a.kind; flags = flags_written a; mask = a.mask; who = a.who }
+
+-- two ACEs that differ at most in IDENTIFIER_GROUP on `GROUP@`, where the flag has no effect
+pub record IsSameButGroup (a b : Ace) : Type 0 where
+  pub kind : a.kind ≡ b.kind
+  pub mask : a.mask ≡ b.mask
+  pub who : a.who ≡ b.who
+  pub flags : with_group_flag a.who a.flags ≡ with_group_flag b.who b.flags
+
+-- ---- the lists that the text cannot hold
+
+-- a byte that separates fields or entries, or begins a comment
+abbrev pub is_separator : ℕ → Bool
+is_separator b = b == comma || b == colon || b == hash
+
+-- the set has a bit of the other set
+abbrev pub meets : ℕ → ℕ → Bool
+meets set other = not (bit_and set other == 0)
+
+-- an ACE has a flag of inheritance, or DELETE_CHILD, which have no meaning on files
+abbrev pub is_no_file_ace : ObjectKind → Ace → Bool
+is_no_file_ace File a = meets a.flags 0x0f || meets a.mask 0x40
+is_no_file_ace Directory a = false
+
+-- the tool can read this many bytes of a who
+abbrev pub longest_tools_who : ℕ
+longest_tools_who = 385
+
+-- the tool can read a text of this many bytes
+abbrev pub longest_tools_text : ℕ
+longest_tools_text = 65535
+
+-- the first reason for which the form cannot hold an ACE
+abbrev pub tools_ace_fault : ObjectKind → Ace → Option FormReason
+tools_ace_fault object a = if meets a.flags 0x80 then Some Inherited
+    else (if meets a.mask 0x600 then Some Retention
+    else (if list_any is_separator a.who then Some Separator
+    else (if is_no_file_ace object a then Some NotDirectory
+    else (if nat_lt longest_tools_who (length a.who) then Some TooLong else None))))
+
+-- the fault of an ACE at a place, or of the ACEs after it
+abbrev pub fault_or : ℕ → Option FormReason → Option FormFault → Option FormFault
+fault_or place (Some reason) others = Some (record { place = place; reason = reason })
+fault_or place None others = others
+
+-- the fault of a text that is too long up to an ACE, or of the ACEs after it
+abbrev pub unless_long : ℕ → ℕ → Option FormFault → Option FormFault
+unless_long place done others = fault_or place (if nat_lt longest_tools_text done then Some TooLong else None) others
+
+-- the first ACE from a place on that the form cannot hold, after a text of this many bytes
+unfoldable pub tools_fault_from : ObjectKind → ℕ → ℕ → List Ace → Option FormFault
+tools_fault_from object place done [] = None
+tools_fault_from object place done (a ∷ list) = fault_or place (tools_ace_fault object a)
+    (unless_long place (done + length (tools_line a))
+    (tools_fault_from object (place + 1) (done + length (tools_line a)) list))
+
+-- the first ACE that the form cannot hold; it cannot hold the empty list
+abbrev pub tools_fault : ObjectKind → List Ace → Option FormFault
+tools_fault object [] = Some (record { place = 0; reason = Empty })
+tools_fault object (a ∷ list) = tools_fault_from object 0 0 (a ∷ list)

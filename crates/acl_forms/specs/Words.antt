@@ -1,0 +1,47 @@
+-- A value that is read word by word from the left, as XDR has it (RFC 4506, section 4.1), and the answers of a call
+-- that reads a list of a form. The reasons are this library's own.
+use Rattle.std.specs.Prelude.{◌≡◌, ◌⊎◌, ℕ, ◌+◌, List, length, take, drop, Result, Ok, Err, MatchResult, nat_le, nat_lt, if◌then◌else◌}
+use Rattle.acl_nfs4.specs.Ace.{Ace}
+use Rattle.acl_nfs4.specs.Fields.{number}
+use Rattle.acl_nfs4.specs.Spelling.{word_size}
+use Rattle.acl_nfs4.specs.declared.xdr.fault.Reason.TheVariants.{Truncated}
+use Rattle.acl_forms.specs.AclFlags.{all_acl_flags}
+use Rattle.acl_forms.specs.ReadFaults.{no_memory_left, read_fault_at}
+use Rattle.acl_forms.specs.declared.acl_flags.AclFlags.{AclFlags}
+use Rattle.acl_forms.specs.declared.fault.ReadFault.{ReadFault}
+use Rattle.acl_forms.specs.declared.fault.ReadReason.{ReadReason}
+use Rattle.acl_forms.specs.declared.fault.ReadReason.TheVariants as reason
+
+-- how many bytes were read, and those that are left
+pub record WordPlace : Type 0 where
+  pub at : ℕ
+  pub rest : List ℕ
+
+-- the place before the first byte
+abbrev pub start : List ℕ → WordPlace
+start bytes = record { at = 0; rest = bytes }
+
+-- what a whole word means and the place after it, or why the word is refused
+abbrev pub judged_word : {A : Type 0} → WordPlace → Result A ReadReason → Result (A × WordPlace) ReadFault
+judged_word p (Ok x) = Ok (x, record { at = p.at + word_size; rest = drop word_size p.rest })
+judged_word p (Err r) = Err (read_fault_at p.at r)
+
+-- the word at a place: cut short, or what its number means
+abbrev pub word_at : {A : Type 0} → (ℕ → Result A ReadReason) → WordPlace → Result (A × WordPlace) ReadFault
+word_at means p = if nat_lt (length p.rest) word_size then Err (read_fault_at p.at (reason.List Truncated))
+    else judged_word p (means (number (take word_size p.rest)))
+
+-- the flags of the list that a word says, or why they are refused
+abbrev pub acl_flags_of : ℕ → Result ℕ ReadReason
+acl_flags_of n = if nat_le n all_acl_flags then Ok n else Err reason.AclFlagBits
+
+-- ---- the answers of a call that reads flags and a list
+
+-- these flags and this list, unless memory runs out
+abbrev pub ReadsForm : Result (AclFlags × List Ace) ReadFault → ℕ → List Ace → Type 0
+ReadsForm result flags list =
+    MatchResult result (λ read. (read.0.bits ≡ flags) × (read.1 ≡ list)) (λ fault. fault ≡ no_memory_left)
+
+-- this fault, unless memory runs out
+abbrev pub RefusesForm : Result (AclFlags × List Ace) ReadFault → ReadFault → Type 0
+RefusesForm result wrong = MatchResult result (λ _. ⊥) (λ fault. (fault ≡ wrong) ⊎ (fault ≡ no_memory_left))

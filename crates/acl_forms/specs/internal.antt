@@ -1,0 +1,12 @@
+-- What only the code and its proofs need (this library's own): no clause of a public call cites it.
+
+-- the place of a reader
+pub mod Cursor
+-- an ACE whose who is a special identifier or an id
+pub mod IdAces
+-- entries of an attribute while they are read and written
+pub mod AttributeEntries
+-- the fields of an entry of a text of FreeBSD, ZFS and archives
+pub mod NfsReading
+-- how a text of entries is written
+pub mod TextWriting

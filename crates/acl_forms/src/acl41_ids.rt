@@ -1,0 +1,285 @@
+//! Lists whose users and groups are ids, as Samba keeps them.
+ghost use Rattle.std.specs.Prelude.{[], ◌∷◌, ◌++◌, ◌≡◌, ◌+◌, ◌<◌, ◌≤◌, ◌⊎◌, ℕ, IfErr, IfOk, List, OnOk, count_ones, length};
+ghost use Rattle.acl_perm.specs.Profile.{full};
+ghost use Rattle.acl_nfs4.specs.Ace.{Ace};
+ghost use Rattle.acl_nfs4.specs.Fields.{count_of, flags_of, kind_of, mask_of};
+ghost use Rattle.acl_nfs4.specs.Limits.{most_aces, most_weight};
+ghost use Rattle.acl_nfs4.specs.Spelling.{IsAccepted, weight};
+ghost use Rattle.acl_nfs4.specs.internal.Reading.{Gives};
+ghost use Rattle.acl_forms.specs.Acl41Ids.{IsAcl41Ids, IsAcl41IdsFault, acl41_ids_in, id_ace_at, id_aces_from, listed, special_of, special_who, id_who_of};
+ghost use Rattle.acl_forms.specs.ReadFaults.{no_memory_left};
+ghost use Rattle.acl_forms.specs.Words.{ReadsForm, RefusesForm, word_at};
+ghost use Rattle.acl_forms.specs.declared.fault.ReadFault.{ReadFault};
+ghost use Rattle.acl_forms.specs.internal.Cursor.{cursor_place};
+ghost use Rattle.acl_forms.specs.internal.IdAces.{ReadAs, ace_by_id, whom_name};
+
+use crate::acl_flags::AclFlags;
+use crate::cursor::Cursor;
+use crate::fault::{ReadFault, ReadReason};
+use crate::words::{acl_flags, offset_of, placed, start, word};
+use acl_nfs4::internal::{EVERYONE_NAME, GROUP_NAME, OWNER_NAME, is_too_heavy};
+use acl_nfs4::{AceRef, Acl, Flags, Kind, MOST_ACES, Mask, Reason};
+use acl_posix::Id;
+use itoa::Buffer;
+use std::alloc::{AllocError, Global};
+
+/// An ACE whose who is a special identifier or an id.
+#[derive(Clone, Copy)]
+pub(crate) struct IdAce {
+    pub kind: Kind,
+    pub flags: Flags,
+    pub mask: Mask,
+    pub whom: Whom,
+}
+
+/// A special identifier, or the id of a user or a group.
+#[derive(Clone, Copy)]
+pub(crate) enum Whom {
+    Owner,
+    Group,
+    Everyone,
+    Account(Id),
+}
+
+/// Returns the flags and the list that all of the bytes spell: nfsacl41i, the value of Samba's attribute
+/// `security.nfs4acl_xdr`. An id is read as its decimal digits; `AclView::renamed` exchanges them for names. Fails with
+/// the fault of the first word that is refused, at its first byte: AclFlagBits, IflagBits, Id for 4294967295,
+/// SpecialWho for a special identifier other than `OWNER@`, `GROUP@` and `EVERYONE@`, and otherwise as
+/// `AclView::parse_whole` does; and with Memory if memory runs out. Time linear in the bytes, and one growing list.
+///
+/// ```rust
+/// let bytes = b"\0\0\0\0\0\0\0\x01\0\0\0\0\0\0\0\0\0\0\0\0\0\0\0\x01\0\0\x03\xe9";
+/// let (_, list) = read_acl41_ids(alloc, bytes)?;
+/// for ace in list.aces() {
+///     assert!(rt; ace.principal() == Principal::User(b"1001"));
+/// }
+/// ```
+pub fn read_acl41_ids(alloc: Global, bytes: &[u8]) -> Result<(AclFlags, Acl), ReadFault>
+    ensures found { IfOk result (λ read. IsAcl41Ids read.0.bits read.1 bytes.now) }
+    // If the bytes spell flags and a list, these are returned.
+    ensures only { (flags : ℕ) (list : List Ace) → IsAcl41Ids flags list bytes.now
+        → ReadsForm result flags list }
+    ensures fault { IfErr result (λ fault. (fault ≡ no_memory_left) ⊎ IsAcl41IdsFault bytes.now fault) }
+    // Bytes with a fault are refused with that fault.
+    ensures refused { (wrong : ReadFault) → IsAcl41IdsFault bytes.now wrong → RefusesForm result wrong }
+{
+    read_whole(alloc, bytes)
+}
+
+// Returns what the bytes spell, or their first fault.
+#[tactic(auto, unfolding(crate::specs::Acl41Ids::acl41_ids_in))]
+fn read_whole(alloc: Global, bytes: &[u8]) -> Result<(AclFlags, Acl), ReadFault>
+    ensures { ReadAs (λ x. (x.0.bits, x.1)) result (acl41_ids_in bytes.now) }
+{
+    let mut cursor = start(bytes);
+    let flags = acl_flags(&mut cursor)?;
+    let count = count(&mut cursor)?;
+    let list = list_of(alloc, &mut cursor, count)?;
+    if !cursor.rest.is_empty() {
+        return Err(ReadFault {
+            offset: offset_of(&cursor),
+            reason: ReadReason::List(Reason::TrailingBytes),
+        });
+    }
+    Ok((flags, list))
+}
+
+// Reads the list of this many ACEs.
+fn list_of(alloc: Global, cursor: &mut Cursor<'_>, count: u32) -> Result<Acl, ReadFault>
+    requires { count ≤ most_aces }
+    ensures { ReadAs (λ x. (x, cursor_place cursor.new)) result
+        (id_aces_from count [] (cursor_place cursor.old)) }
+{
+    let mut list = Acl::new(alloc);
+    let mut left = count;
+    while left > 0 {
+        let ace = next_ace(cursor, list.weight())?;
+        push(&mut list, ace)?;
+        left -= 1;
+    }
+    Ok(list)
+}
+
+// Adds an ACE to a list that can take it.
+fn push(list: &mut Acl, item: IdAce) -> Result<(), AllocError>
+    requires accepted { IsAccepted full list.old }
+    requires room { length list.old < most_aces }
+    requires light { weight list.old + count_ones item.mask.bits ≤ most_weight }
+    ensures added { OnOk result (list.new ≡ list.old ++ ace_by_id item ∷ []) }
+    ensures good { OnOk result (IsAccepted full (list.old ++ ace_by_id item ∷ [])) }
+{
+    let mut digits = Buffer::new();
+    let IdAce {
+        kind,
+        flags,
+        mask,
+        whom,
+    } = item;
+    let who = name_of(whom, &mut digits);
+    list.push_accepted(AceRef {
+        kind,
+        flags,
+        mask,
+        who,
+    })
+}
+
+// Returns the who. The digits of an id are written into the buffer.
+fn name_of(whom: Whom, digits: &mut Buffer) -> &[u8]
+    ensures { result.now ≡ whom_name whom }
+{
+    match whom {
+        Whom::Owner => OWNER_NAME.as_bytes(),
+        Whom::Group => GROUP_NAME.as_bytes(),
+        Whom::Everyone => EVERYONE_NAME.as_bytes(),
+        Whom::Account(id) => digits.format(id.value()).as_bytes(),
+    }
+}
+
+// ---- the words of an ACE
+
+// Reads the next ACE.
+#[tactic(auto, unfolding(crate::specs::Acl41Ids::id_ace_at))]
+fn next_ace(cursor: &mut Cursor<'_>, weight: u32) -> Result<IdAce, ReadFault>
+    requires { weight ≤ most_weight }
+    ensures exact { Gives (λ x. (ace_by_id x, cursor_place cursor.new)) result
+        (id_ace_at weight (cursor_place cursor.old)) }
+    ensures light { IfOk result (λ x. weight + count_ones x.mask.bits ≤ most_weight) }
+{
+    let kind = kind(cursor)?;
+    let flags = flags(cursor)?;
+    let special = special(cursor)?;
+    let mask = mask(cursor, weight)?;
+    let whom = whom_word(cursor, special)?;
+    Ok(IdAce {
+        kind,
+        flags,
+        mask,
+        whom,
+    })
+}
+
+// Reads the number of ACEs.
+fn count(cursor: &mut Cursor<'_>) -> Result<u32, ReadFault>
+    ensures exact { Gives (λ x. (x, cursor_place cursor.new)) result
+        (word_at (λ n. listed (count_of n)) (cursor_place cursor.old)) }
+    ensures small { IfOk result (λ x. x ≤ most_aces) }
+{
+    let offset = offset_of(cursor);
+    placed(offset, count_of(word(cursor)?))
+}
+
+fn count_of(number: u32) -> Result<u32, ReadReason>
+    ensures exact { Gives (λ x. x) result (listed (count_of number)) }
+    ensures small { IfOk result (λ x. x ≤ most_aces) }
+{
+    if number > MOST_ACES {
+        return Err(ReadReason::List(Reason::TooManyAces));
+    }
+    Ok(number)
+}
+
+fn kind(cursor: &mut Cursor<'_>) -> Result<Kind, ReadFault>
+    ensures { Gives (λ x. (x, cursor_place cursor.new)) result
+        (word_at (λ n. listed (kind_of n)) (cursor_place cursor.old)) }
+{
+    let offset = offset_of(cursor);
+    placed(offset, kind_of(word(cursor)?))
+}
+
+fn kind_of(number: u32) -> Result<Kind, ReadReason>
+    ensures { Gives (λ x. x) result (listed (kind_of number)) }
+{
+    match number {
+        0 => Ok(Kind::Allow),
+        1 => Ok(Kind::Deny),
+        2 | 3 => Err(ReadReason::List(Reason::AuditOrAlarm)),
+        _ => Err(ReadReason::List(Reason::AceType)),
+    }
+}
+
+fn flags(cursor: &mut Cursor<'_>) -> Result<Flags, ReadFault>
+    ensures { Gives (λ x. (x.bits, cursor_place cursor.new)) result
+        (word_at (λ n. listed (flags_of full n)) (cursor_place cursor.old)) }
+{
+    let offset = offset_of(cursor);
+    placed(offset, flags_of(word(cursor)?))
+}
+
+fn flags_of(number: u32) -> Result<Flags, ReadReason>
+    ensures { Gives (λ x. x.bits) result (listed (flags_of full number)) }
+{
+    Flags::new(number).ok_or(ReadReason::List(Reason::FlagBits))
+}
+
+fn special(cursor: &mut Cursor<'_>) -> Result<u32, ReadFault>
+    ensures { Gives (λ x. (x, cursor_place cursor.new)) result (word_at special_of (cursor_place cursor.old)) }
+{
+    let offset = offset_of(cursor);
+    placed(offset, special_of(word(cursor)?))
+}
+
+fn special_of(number: u32) -> Result<u32, ReadReason>
+    ensures { Gives (λ x. x) result (special_of number) }
+{
+    if number > 1 {
+        return Err(ReadReason::IflagBits);
+    }
+    Ok(number)
+}
+
+fn mask(cursor: &mut Cursor<'_>, weight: u32) -> Result<Mask, ReadFault>
+    requires { weight ≤ most_weight }
+    ensures exact { Gives (λ x. (x.bits, cursor_place cursor.new)) result
+        (word_at (λ n. listed (mask_of full weight n)) (cursor_place cursor.old)) }
+    ensures light { IfOk result (λ x. weight + count_ones x.bits ≤ most_weight) }
+{
+    let offset = offset_of(cursor);
+    placed(offset, mask_of(word(cursor)?, weight))
+}
+
+fn mask_of(number: u32, weight: u32) -> Result<Mask, ReadReason>
+    requires { weight ≤ most_weight }
+    ensures exact { Gives (λ x. x.bits) result (listed (mask_of full weight number)) }
+    ensures light { IfOk result (λ x. weight + count_ones x.bits ≤ most_weight) }
+{
+    let Some(mask) = Mask::new(number) else {
+        return Err(ReadReason::List(Reason::MaskBits));
+    };
+    if is_too_heavy(weight + number.count_ones()) {
+        return Err(ReadReason::List(Reason::TooHeavy));
+    }
+    Ok(mask)
+}
+
+fn whom_word(cursor: &mut Cursor<'_>, special: u32) -> Result<Whom, ReadFault>
+    ensures { Gives (λ x. (whom_name x, cursor_place cursor.new)) result
+        (word_at (id_who_of special) (cursor_place cursor.old)) }
+{
+    let offset = offset_of(cursor);
+    placed(offset, whom_of(special, word(cursor)?))
+}
+
+#[tactic(auto, unfolding(crate::specs::Acl41Ids::id_who_of))]
+fn whom_of(special: u32, number: u32) -> Result<Whom, ReadReason>
+    ensures { Gives whom_name result (id_who_of special number) }
+{
+    if special == 1 {
+        return special_whom(number);
+    }
+    match Id::new(number) {
+        Some(id) => Ok(Whom::Account(id)),
+        None => Err(ReadReason::Id),
+    }
+}
+
+fn special_whom(number: u32) -> Result<Whom, ReadReason>
+    ensures { Gives whom_name result (special_who number) }
+{
+    match number {
+        1 => Ok(Whom::Owner),
+        2 => Ok(Whom::Group),
+        3 => Ok(Whom::Everyone),
+        _ => Err(ReadReason::List(Reason::SpecialWho)),
+    }
+}

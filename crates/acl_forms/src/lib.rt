@@ -1,0 +1,42 @@
+//! Lists in the forms in which systems keep and print them.
+#![tactic(auto)]
+
+mod acl41;
+mod acl41_ids;
+mod acl41_ids_writer;
+mod acl_flags;
+pub mod attribute_laws;
+mod attributes;
+mod attributes_writer;
+mod cursor;
+mod fault;
+mod form;
+pub mod form_laws;
+mod form_write;
+pub mod laws;
+mod letters;
+mod nfs_text;
+mod object;
+mod reading;
+mod seen_tags;
+#[cfg(test)]
+mod tests;
+mod text_form;
+mod tools;
+mod who_field;
+mod words;
+mod writing;
+
+pub use acl_flags::AclFlags;
+pub use acl41::{read_acl41, write_acl41};
+pub use acl41_ids::read_acl41_ids;
+pub use acl41_ids_writer::{acl41_ids_fault, write_acl41_ids};
+pub use attributes::{attribute_fault, read_attribute};
+pub use attributes_writer::write_attribute;
+pub use fault::{FormFault, FormReason, ReadFault, ReadReason};
+pub use form::{Form, fits, read, write};
+pub use form_write::FormWriteFault;
+pub use nfs_text::{nfs_text_fault, read_nfs_text, write_nfs_text};
+pub use object::ObjectKind;
+pub use tools::{read_tools, tools_fault, write_tools};
+pub use who_field::WhoField;

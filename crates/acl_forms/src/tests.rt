@@ -1,0 +1,10 @@
+//! The tests of this crate, with values of the standards and of the tools that read and write the forms.
+
+mod acl41;
+mod acl41_ids;
+mod attributes;
+mod examples;
+mod form;
+mod nfs_text;
+mod tools;
+mod whos;

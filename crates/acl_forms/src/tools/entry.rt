@@ -1,0 +1,158 @@
+//! The ACE that an entry of nfs4-acl-tools spells, or what is wrong with it.
+ghost use Rattle.std.specs.Prelude.{◌≡◌, ◌≤◌, IfOk, IfSome, option_map};
+ghost use Rattle.acl_perm.specs.Bits.{IsMask};
+ghost use Rattle.acl_perm.specs.Lines.{span_of, ColumnsFit};
+ghost use Rattle.acl_nfs4.specs.Ace.{ace};
+ghost use Rattle.acl_nfs4.specs.internal.Reading.{Gives};
+ghost use Rattle.acl_forms.specs.Letters.{flag_letters, letters_from, right_letters};
+ghost use Rattle.acl_forms.specs.TextReading.{AddsOne, fields_viewed, EntryFieldsFit};
+ghost use Rattle.acl_forms.specs.ToolsText.{tools_ace, entry_fields_of, kind_read, refused_at, tools_entry, with_group_flag};
+ghost use Rattle.acl_forms.specs.declared.fault.ReadReason.TheVariants as reasons;
+
+use crate::fault::{ReadFault, ReadReason};
+use crate::letters::{FLAG_LETTERS, RIGHT_LETTERS, read_letters};
+use crate::object::ObjectKind;
+use acl_nfs4::internal::GROUP_NAME;
+use acl_nfs4::{AceRef, Acl, Flags, Kind, MOST_ACES, Mask, PushFault, Reason};
+use acl_perm::internal::Piece;
+
+/// The fields of an entry.
+#[derive(Clone, Copy)]
+pub(crate) struct EntryFields<'a> {
+    pub kind: Piece<'a>,
+    pub flags: Piece<'a>,
+    pub who: Piece<'a>,
+    pub rights: Piece<'a>,
+}
+
+/// Adds the ACE that an entry spells.
+pub(crate) fn add_tools_entry(
+    acl: &mut Acl,
+    entry: Piece<'_>,
+    object: ObjectKind,
+) -> Result<(), ReadFault>
+    requires { ColumnsFit entry }
+    ensures { AddsOne (tools_entry object acl.old (span_of entry.entry)) acl.old acl.new result }
+{
+    let Some(fields) = fields_of(entry) else {
+        return Err(ReadFault::new(entry.column, ReadReason::Fields));
+    };
+    if acl.len() >= MOST_ACES as usize {
+        return Err(ReadFault::new(entry.column, ReadReason::List(Reason::TooManyAces)));
+    }
+    let item = ace_of(fields, object)?;
+    match acl.push(item) {
+        Ok(()) => Ok(()),
+        Err(fault) => Err(refused_at(fields.rights.column, fields.who.column, fault)),
+    }
+}
+
+// Returns the ACE of the fields of an entry, which the list may still refuse.
+#[tactic(auto, unfolding(crate::specs::ToolsText::tools_ace))]
+fn ace_of(fields: EntryFields<'_>, object: ObjectKind) -> Result<AceRef<'_>, ReadFault>
+    requires { EntryFieldsFit fields }
+    ensures { Gives ace result (tools_ace object (fields_viewed fields.entry)) }
+{
+    let kind = kind_at(fields.kind)?;
+    let flags = flags_at(fields.flags, object)?;
+    let mask = mask_at(fields.rights, object)?;
+    let who = fields.who.bytes;
+    let flags = Flags {
+        bits: with_group(who, flags) as u8,
+    };
+    Ok(AceRef {
+        kind,
+        flags,
+        mask: Mask { bits: mask },
+        who,
+    })
+}
+
+// Returns the fields of an entry, if there are four.
+#[tactic(auto, unfolding(crate::specs::ToolsText::entry_fields_of))]
+fn fields_of(entry: Piece<'_>) -> Option<EntryFields<'_>>
+    requires { ColumnsFit entry }
+    ensures value { option_map fields_viewed result ≡ entry_fields_of (span_of entry.entry) }
+    ensures fits { IfSome result EntryFieldsFit }
+{
+    let (kind, Some(rest)) = entry.cut(b':') else {
+        return None;
+    };
+    let (flags, Some(rest)) = rest.cut(b':') else {
+        return None;
+    };
+    let (who, Some(rest)) = rest.cut(b':') else {
+        return None;
+    };
+    let (rights, after) = rest.cut(b':');
+    match after {
+        Some(_) => None,
+        None => Some(EntryFields {
+            kind,
+            flags,
+            who,
+            rights,
+        }),
+    }
+}
+
+// Returns the flags for which a field stands.
+fn flags_at(field: Piece<'_>, object: ObjectKind) -> Result<u32, ReadFault>
+    requires { ColumnsFit field }
+    ensures exact { result ≡ letters_from flag_letters object reasons.Flag field.entry.column 0
+        field.entry.bytes.now }
+    ensures small { IfOk result (λ flags. flags ≤ 255) }
+{
+    read_letters(&FLAG_LETTERS, object, ReadReason::Flag, field)
+}
+
+// Returns the rights for which a field stands.
+fn mask_at(field: Piece<'_>, object: ObjectKind) -> Result<u32, ReadFault>
+    requires { ColumnsFit field }
+    ensures exact { result ≡ letters_from right_letters object reasons.Mask field.entry.column 0
+        field.entry.bytes.now }
+    ensures within { IfOk result IsMask }
+{
+    read_letters(&RIGHT_LETTERS, object, ReadReason::Mask, field)
+}
+
+// Returns the kind for which a field stands.
+fn kind_at(field: Piece<'_>) -> Result<Kind, ReadFault>
+    ensures { result ≡ kind_read (span_of field.entry) }
+{
+    let reason = match field.bytes {
+        b"A" => return Ok(Kind::Allow),
+        b"D" => return Ok(Kind::Deny),
+        b"U" | b"L" => Reason::AuditOrAlarm,
+        _ => Reason::AceType,
+    };
+    Err(ReadFault::new(field.column, ReadReason::List(reason)))
+}
+
+// Returns the flags of an ACE with this who.
+pub(crate) fn with_group(who: &[u8], flags: u32) -> u32
+    requires { flags ≤ 255 }
+    ensures value { result ≡ with_group_flag who.now flags }
+    ensures small { result ≤ 255 }
+{
+    if who == GROUP_NAME.as_bytes() {
+        flags | 0x40
+    } else {
+        flags
+    }
+}
+
+/// Returns the fault of an ACE that the list refuses, at the place of its mask or of its who.
+pub(crate) fn refused_at(mask: usize, who: usize, fault: PushFault) -> ReadFault
+    ensures { result ≡ refused_at mask who fault }
+{
+    match fault {
+        PushFault::TooManyAces => ReadFault::new(who, ReadReason::List(Reason::TooManyAces)),
+        PushFault::TooHeavy => ReadFault::new(mask, ReadReason::List(Reason::TooHeavy)),
+        PushFault::WhoLength => ReadFault::new(who, ReadReason::List(Reason::WhoLength)),
+        PushFault::WhoUtf8 => ReadFault::new(who, ReadReason::List(Reason::WhoUtf8)),
+        PushFault::WhoControl => ReadFault::new(who, ReadReason::List(Reason::WhoControl)),
+        PushFault::SpecialWho => ReadFault::new(who, ReadReason::List(Reason::SpecialWho)),
+        PushFault::Memory => ReadFault::new(0, ReadReason::List(Reason::Memory)),
+    }
+}

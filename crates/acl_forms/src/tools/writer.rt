@@ -1,0 +1,164 @@
+//! Writes the text of nfs4-acl-tools, if it can hold the list.
+ghost use Rattle.std.specs.Prelude.{◌≡◌, ◌+◌, ◌≤◌, ◌++◌, ◌==◌, length, map, None};
+ghost use Rattle.std.specs.List.{list_any};
+ghost use Rattle.arrayvec.specs.ArrayVec.{array_vec_len};
+ghost use Rattle.acl_nfs4.specs.Ace.{ace};
+ghost use Rattle.acl_nfs4.specs.Limits.{longest_who, most_aces};
+ghost use Rattle.acl_forms.specs.FormWrites.{WritesIfHeld};
+ghost use Rattle.acl_forms.specs.ToolsWritten.{as_written, is_no_file_ace, is_separator, kind_letter, letters_of, meets, tools_ace_fault, tools_fault, tools_fault_from, tools_line, tools_text};
+ghost use Rattle.acl_forms.specs.internal.TextWriting.{text_line_room};
+
+use crate::fault::{FormFault, FormReason};
+use crate::form_write::FormWriteFault;
+use crate::letters::{FLAG_LETTERS, single_letters};
+use crate::object::ObjectKind;
+use crate::text_form::TextForm;
+use crate::tools::entry::with_group;
+use crate::writing::{Line, add, add_letters, meets, put_lines};
+use acl_nfs4::{AceRef, Aces, AclView, Kind};
+use acl_perm::Sink;
+use arrayvec::ArrayVec;
+
+// The tool can read a who of this many bytes.
+const LONGEST_WHO: usize = 385;
+
+// The tool can read a text of this many bytes.
+const LONGEST_TEXT: usize = 65_535;
+
+/// Returns why the text of nfs4-acl-tools cannot hold a list of this object, or `None` if it can: the first ACE that it
+/// cannot hold, and the first reason in this order. Inherited: the ACE has INHERITED, which the tools dropped before
+/// version 0.4. Retention: it has one of the two rights of retention. Separator: its who has a comma, a colon or a `#`.
+/// NotDirectory: the object is a file, and the ACE has a flag of inheritance or DELETE_CHILD. TooLong: its who has more
+/// than 385 bytes, or the text up to it has more than 65,535. Empty: the list has no ACE. Time linear in the list.
+///
+/// ```rust
+/// let text = b"ALLOW - WRITE_RETENTION bob\n";
+/// let list = parse_text(alloc, text)?;
+/// let fault = tools_fault(&list.view(), ObjectKind::File);
+/// assert!(rt; fault == Some(FormFault { place: 0, reason: FormReason::Retention }));
+/// ```
+pub fn tools_fault(list: &AclView<'_>, object: ObjectKind) -> Option<FormFault>
+    ensures { result ≡ tools_fault object list.now }
+{
+    if list.is_empty() {
+        return Some(FormFault {
+            place: 0,
+            reason: FormReason::Empty,
+        });
+    }
+    first_fault(list.aces(), object)
+}
+
+/// Writes a list as nfs4_getfacl prints it, without the line before it, if `tools_fault` returns `None`: a line for
+/// each ACE, with IDENTIFIER_GROUP always on `GROUP@`. It ends at the first put that fails: then `written` bytes went
+/// out. It takes no memory, and time linear in the text.
+///
+/// ```rust
+/// let list = read_tools(alloc, b"A:fd:alice:wr", ObjectKind::Directory)?;
+/// let mut text = Counted::new(Vec::new(alloc));
+/// write_tools(&list.view(), ObjectKind::Directory, &mut text)?;
+/// assert!(rt; text.into_inner().as_slice() == b"A:fd:alice:rw\n".as_slice());
+/// ```
+pub fn write_tools<S: Sink>(
+    list: &AclView<'_>,
+    object: ObjectKind,
+    sink: &mut S,
+) -> Result<(), FormWriteFault>
+    ensures written { WritesIfHeld S.contents S.failure_count sink.old sink.new
+        (tools_fault object list.now) (tools_text list.now) result }
+{
+    if let Some(fault) = tools_fault(list, object) {
+        return Err(FormWriteFault::Form(fault));
+    }
+    put_lines(sink, list.aces(), TextForm::Tools(object))?;
+    Ok(())
+}
+
+// Returns the first ACE that the form cannot hold.
+fn first_fault(aces: Aces<'_>, object: ObjectKind) -> Option<FormFault>
+    requires { length aces ≤ most_aces }
+    ensures { result ≡ tools_fault_from object 0 0 aces.entry }
+{
+    let mut line = ArrayVec::new();
+    let mut place = 0;
+    let mut done = 0;
+    for ace in aces {
+        if let Some(reason) = ace_fault(ace, object) {
+            return Some(FormFault { place, reason });
+        }
+        fill(&mut line, ace);
+        done += line.len();
+        if done > LONGEST_TEXT {
+            return Some(FormFault {
+                place,
+                reason: FormReason::TooLong,
+            });
+        }
+        place += 1;
+    }
+    None
+}
+
+// Returns the first reason for which the form cannot hold an ACE.
+fn ace_fault(item: AceRef<'_>, object: ObjectKind) -> Option<FormReason>
+    ensures { result ≡ tools_ace_fault object (ace item.entry) }
+{
+    let (flags, mask) = (item.flags.bits() as u32, item.mask.bits());
+    if meets(flags, 0x80) {
+        Some(FormReason::Inherited)
+    } else if meets(mask, 0x600) {
+        Some(FormReason::Retention)
+    } else if has_separator(item.who) {
+        Some(FormReason::Separator)
+    } else if object == ObjectKind::File && (meets(flags, 0x0f) || meets(mask, 0x40)) {
+        Some(FormReason::NotDirectory)
+    } else if item.who.len() > LONGEST_WHO {
+        Some(FormReason::TooLong)
+    } else {
+        None
+    }
+}
+
+/// Returns whether a who has a byte that separates fields or entries, or begins a comment.
+pub(crate) fn has_separator(who: &[u8]) -> bool
+    ensures { result ≡ list_any is_separator who.now }
+{
+    who.iter().any(|b| is_separator(*b))
+}
+
+fn is_separator(b: u8) -> bool
+    ensures { result ≡ is_separator b }
+{
+    b == b',' || b == b':' || b == b'#'
+}
+
+/// Writes the line of an ACE into the buffer.
+#[tactic(auto, unfolding(crate::specs::ToolsWritten::tools_entry_text))]
+pub(crate) fn fill(line: &mut Line, item: AceRef<'_>)
+    requires { length item.who.now ≤ longest_who }
+    ensures text { line.new.items ≡ tools_line (ace item.entry) }
+    ensures short { array_vec_len line.new ≤ text_line_room }
+{
+    line.clear();
+    line.push(kind_letter(item.kind));
+    line.push(b':');
+    add_letters(
+        line,
+        &FLAG_LETTERS,
+        with_group(item.who, item.flags.bits() as u32),
+    );
+    line.push(b':');
+    add(line, item.who);
+    line.push(b':');
+    add_letters(line, single_letters(), item.mask.bits());
+    line.push(b'\n');
+}
+
+fn kind_letter(kind: Kind) -> u8
+    ensures { result ≡ kind_letter kind }
+{
+    match kind {
+        Kind::Allow => b'A',
+        Kind::Deny => b'D',
+    }
+}
