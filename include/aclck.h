@@ -80,7 +80,7 @@ enum aclck_option {
     ACLCK_CANONICAL = 0,                /* the canonical text: one line per entry, with ids */
     ACLCK_FORM_SHOWN = 0x04000000,      /* the text with comments on entries that the mask limits */
     ACLCK_FORM_SHORT = 0x08000000,      /* the short text: entries between commas */
-    ACLCK_GROUPS_IN_ORDER = 0x10000000, /* the groups of each requester rise, none twice: a call may use that */
+    ACLCK_GROUPS_IN_ORDER = 0x10000000, /* the groups of each requester rise; if not, some of them do not count */
     ACLCK_MARK_INHERITED = 0x20000000,  /* each ACE of the new object gets the flag INHERITED */
     ACLCK_ADD_MASK = 0x40000000,        /* a list with USER or GROUP entries and no MASK gets the MASK of setfacl */
     ACLCK_MAY_MERGE = 0x00800000        /* two names of a list may become one */
@@ -118,7 +118,20 @@ enum aclck_reason {
     ACLCK_SIZE = 29,
     ACLCK_VERSION_2 = 30,
     ACLCK_ORDER = 31,
-    ACLCK_MERGED = 32
+    ACLCK_MERGED = 32,
+    ACLCK_ACL_FLAG_BITS = 33,
+    ACLCK_IFLAG_BITS = 34,
+    ACLCK_NOT_DIRECTORY = 35,
+    ACLCK_EMPTY = 36,
+    ACLCK_ID_DIFFERS = 37, /* no form that a call reads yet has it */
+    ACLCK_COMMENT = 38,
+    ACLCK_NUL = 39,
+    ACLCK_TOO_LONG = 40,
+    ACLCK_NO_ID = 41,
+    ACLCK_INHERITED_ACE = 42,
+    ACLCK_RETENTION = 43,
+    ACLCK_SEPARATOR = 44,
+    ACLCK_ACL_FLAGS = 45
 };
 
 /* Parts of a POSIX ACL, in aclck_fault. */
@@ -177,6 +190,17 @@ enum aclck_flag {
     ACLCK_INHERITED = 0x80
 };
 
+/* Flags of a whole list (RFC 8881, section 6.2.2). */
+enum aclck_acl_flag { ACLCK_AUTO_INHERIT = 1, ACLCK_PROTECTED = 2, ACLCK_DEFAULTED = 4 };
+
+/* Forms in which other systems keep or print a list (docs/c.md). */
+enum aclck_form {
+    ACLCK_NFS_TOOLS_FILE = 1,      /* the text of nfs4_getfacl for a file; it has no flags of the list */
+    ACLCK_NFS_TOOLS_DIRECTORY = 2, /* the text of nfs4_getfacl for a directory; it has no flags of the list */
+    ACLCK_NFS_ACL41 = 3,           /* flags and a list: the attribute dacl (RFC 8881, section 6.2.2) */
+    ACLCK_NFS_ACL41_IDS = 4        /* flags and a list with ids: Samba's attribute security.nfs4acl_xdr */
+};
+
 /* What is certain of a request, where a list has names that nobody knows. */
 enum aclck_request_answer {
     ACLCK_NEVER = 0,   /* it is not granted in any case */
@@ -223,6 +247,13 @@ typedef struct aclck_question {
     enum aclck_right mask;
     enum aclck_option options;
 } aclck_question;
+
+/* What is asked of a list: whether everybody to whom it grants a right also gets others. */
+typedef struct aclck_implication {
+    enum aclck_right right;
+    enum aclck_right others;
+    enum aclck_option options;
+} aclck_implication;
 
 /* Room for masks of rights. */
 typedef struct aclck_masks {
@@ -339,6 +370,9 @@ typedef struct aclck_creation {
    - ACLCK_LIMITS (28): the list of the whole ACL would be too long or too heavy. No place.
    - An array of ACEs, and a name that has no id or would become another one (22 and 32): `offset` is the place of the
      ACE, from 0. So it is for every reason of aclck_build().
+   - A value of a form that aclck_read_form() refuses: `offset` is the place of the first byte that is refused, from 0.
+   - A list that aclck_write_form() cannot write in a form (reasons 35, 36 and 40 to 45): `offset` is the place of the
+     ACE, from 0.
    - Entries and attributes of POSIX ACLs: at 19, 21, 23 and 31 `offset` is the place of an entry, from 0. At 29 and 30
      the whole attribute is refused. No place. */
 typedef struct aclck_fault {
@@ -393,6 +427,20 @@ typedef struct aclck_posix_decision {
     uint32_t tag;
     uint32_t masked;
 } aclck_posix_decision;
+
+/* What a first POSIX ACL grants and a second denies. `same` is 1 if there is nothing. Otherwise it is 0, and a user who
+   is in `ngroups` groups, at most two, is granted all of `want` on an object of this owner and group by the first ACL,
+   and denied it by the second. What is not used is 0. */
+typedef struct aclck_posix_difference {
+    uint32_t same;
+    uint32_t owner;
+    uint32_t group;
+    uint32_t user;
+    uint32_t want;
+    uint32_t ngroups;
+    uint32_t first_group;
+    uint32_t second_group;
+} aclck_posix_difference;
 
 /* Whether two lists grant everybody the same. If not, where they differ: one right, 1 if the first list grants it and
    the second does not, and 0 otherwise, and how many bytes the names are for whom they differ. */
@@ -453,8 +501,9 @@ enum aclck_status aclck_prepare(aclck_bytes acl, enum aclck_option options, aclc
 
 /* Writes to *decided which of the rights that are asked the prepared list allows the requester on the object, and which
    it denies. If it fails, both are 0. Options: ACLCK_GROUPS_IN_ORDER, by which the caller says that the groups of the
-   requester rise in the order of their bytes. ACLCK_DONE, ACLCK_BAD_ARGUMENT: also where the bytes are no prepared
-   bytes. No memory. */
+   requester rise in the order of their bytes. They are then looked up by binary search, and the order is not tested: if
+   they do not rise, those that the search misses do not count, and a DENY of them denies nothing. ACLCK_DONE,
+   ACLCK_BAD_ARGUMENT: also where the bytes are no prepared bytes. No memory. */
 ACLCK_CALL ACLCK_READS(2) ACLCK_READS(3) ACLCK_READS(4) ACLCK_WRITES(5)
 enum aclck_status aclck_decide_prepared(aclck_bytes prepared, const aclck_object *object,
                                         const aclck_requester *requester, const aclck_question *question,
@@ -539,6 +588,26 @@ ACLCK_CALL ACLCK_READS(2) ACLCK_WRITES(5) ACLCK_WRITES(6)
 enum aclck_status aclck_renamed(aclck_bytes acl, const aclck_renamings *table, enum aclck_option options,
                                 aclck_buffer out, size_t *needed, aclck_fault *fault);
 
+/* The list for one object: OWNER@ becomes its owner, as the name of a user, GROUP@ its owning group, as the name of a
+   group, and everything else stays. Whatever object the new list is asked for, it grants each requester what `acl`
+   grants for this object. So aclck_compare(), aclck_excess() and aclck_normalize() of new lists are about this object
+   alone. A new object has another owner: take aclck_child() of `acl`. The list is refused with ACLCK_UNKNOWN_NAME if an
+   ACE needs a name that no ACE can have: the fault has the place of the first one. ACLCK_BAD_ARGUMENT also where a name
+   is empty. Options: ACLCK_NARROW. */
+ACLCK_CALL ACLCK_READS(2) ACLCK_WRITES(5) ACLCK_WRITES(6)
+enum aclck_status aclck_resolved(aclck_bytes acl, const aclck_object *object, enum aclck_option options,
+                                 aclck_buffer out, size_t *needed, aclck_fault *fault);
+
+/* The list in which a group stands for each special name that nobody knows, such as AUTHENTICATED@: the name of the
+   group is that name with `*suffix` behind it. AUDIT and ALARM ACEs are left out, and all else stays. A requester of
+   whom you know which special names match is in the groups of these names. So aclck_compare(), aclck_excess() and
+   aclck_normalize() of new lists are about every way to match them. An ACE is counted among those that stay. The list
+   is refused with ACLCK_UNKNOWN_NAME if a name with the suffix is not the name of a group, and with ACLCK_MERGED if an
+   ACE is already for a group of such a name: the fault has the place of the first one. Options: ACLCK_NARROW. */
+ACLCK_CALL ACLCK_READS(2) ACLCK_WRITES(5) ACLCK_WRITES(6)
+enum aclck_status aclck_with_groups(aclck_bytes acl, const aclck_bytes *suffix, enum aclck_option options,
+                                    aclck_buffer out, size_t *needed, aclck_fault *fault);
+
 /* The text of the list, one line per ACE (docs/formats.md). Options: ACLCK_NARROW. */
 ACLCK_CALL ACLCK_WRITES(4) ACLCK_WRITES(5)
 enum aclck_status aclck_show(aclck_bytes acl, enum aclck_option options, aclck_buffer out, size_t *needed,
@@ -567,6 +636,33 @@ enum aclck_status aclck_normalize_inherit(aclck_bytes acl, enum aclck_option opt
 ACLCK_CALL ACLCK_READS(2) ACLCK_WRITES(4) ACLCK_WRITES(5)
 enum aclck_status aclck_table(aclck_bytes acl, const aclck_question *question, aclck_buffer out, size_t *needed,
                               aclck_fault *fault);
+
+/* Who has the one right that is asked, in words: one line per ACE of the normal form that has the right, from the last
+   ACE to the first. A line names a `user`, a `group`, `the owner`, `the owning group` or `everybody`, after `not` if
+   the ACE denies; a later line begins with `and` if its ACE has the kind of that of the line before, and else with
+   `but`. The last line that is about a requester decides. The text is `nobody` if there is no such ACE.
+   ACLCK_BAD_ARGUMENT also where not exactly one right of the profile is asked. Options: ACLCK_NARROW. */
+ACLCK_CALL ACLCK_READS(2) ACLCK_WRITES(4) ACLCK_WRITES(5)
+enum aclck_status aclck_holders(aclck_bytes acl, const aclck_question *question, aclck_buffer out, size_t *needed,
+                                aclck_fault *fault);
+
+/* ---- NFSv4 lists: forms of other systems. In a list, the who of an id is the decimal digits of the id.
+   ACLCK_DONE, ACLCK_REFUSED (*fault), ACLCK_BAD_ARGUMENT: also where `form` is no form, ACLCK_MEMORY, ACLCK_SHORT. */
+
+/* Writes the bytes of the list that all of the value spells in the form to the front of `out`, their number to *needed,
+   and the flags of the list (enum aclck_acl_flag) to *flags: 0 for a text. ACLCK_DONE (`out`, *needed, *flags),
+   ACLCK_SHORT (*needed, *flags). */
+ACLCK_CALL ACLCK_WRITES(4) ACLCK_WRITES(5) ACLCK_WRITES(6)
+enum aclck_status aclck_read_form(aclck_bytes value, enum aclck_form form, aclck_buffer out, size_t *needed,
+                                  uint32_t *flags, aclck_fault *fault);
+
+/* Writes the value of the flags and of the list in the form to the front of `out`, and the number of its bytes to
+   *needed. ACLCK_REFUSED also where the form cannot hold the list or the flags. Where it can, aclck_read_form() reads
+   the value as the same flags and list; only in a text does GROUP@ get the flag IDENTIFIER_GROUP, which has no effect
+   there. ACLCK_BAD_ARGUMENT also where `flags` is above 7. ACLCK_DONE (`out`, *needed), ACLCK_SHORT (*needed). */
+ACLCK_CALL ACLCK_WRITES(5) ACLCK_WRITES(6)
+enum aclck_status aclck_write_form(aclck_bytes acl, enum aclck_form form, uint32_t flags, aclck_buffer out,
+                                   size_t *needed, aclck_fault *fault);
 
 /* ---- NFSv4 lists: which rights are needed */
 
@@ -602,6 +698,15 @@ enum aclck_status aclck_compare(aclck_bytes first, aclck_bytes second, enum aclc
 ACLCK_CALL ACLCK_WRITES(4) ACLCK_WRITES(6)
 enum aclck_status aclck_excess(aclck_bytes first, aclck_bytes second, enum aclck_option options,
                                aclck_difference *difference, aclck_buffer out, aclck_fault *fault);
+
+/* Writes to *difference whether the list grants each of the rights implication->others to everybody to whom it grants
+   implication->right: `same` is then 1. If not, `right` of *difference is the lowest of the others that the list denies a
+   requester to whom it grants the one right, `first_grants` is 0, and `out` has the names, as aclck_compare() writes
+   them. Everything else is as for aclck_compare(). ACLCK_BAD_ARGUMENT also where implication->right is not exactly one
+   right, or implication->others is no mask. Options: ACLCK_NARROW. */
+ACLCK_CALL ACLCK_READS(2) ACLCK_WRITES(3) ACLCK_WRITES(5)
+enum aclck_status aclck_implies(aclck_bytes acl, const aclck_implication *implication, aclck_difference *difference,
+                                aclck_buffer out, aclck_fault *fault);
 
 /* ---- Names. No memory. */
 
@@ -681,6 +786,14 @@ enum aclck_status aclck_entries_deciding(aclck_entries entries, const aclck_posi
 /* Writes the mode of the entries to *mode. */
 ACLCK_CALL ACLCK_WRITES(2) ACLCK_WRITES(3)
 enum aclck_status aclck_entries_mode(aclck_entries entries, uint32_t *mode, aclck_fault *fault);
+
+/* Writes to *difference whether the first entries grant nobody more than the second, and otherwise to whom and what:
+   some requester, and the lowest number of `want` for which there is one. Both must be in canonical order. fault->list
+   is 1 if the second are refused. All of *difference is 0 if the call fails. ACLCK_DONE, ACLCK_REFUSED (*fault). No
+   memory. */
+ACLCK_CALL ACLCK_WRITES(3) ACLCK_WRITES(4)
+enum aclck_status aclck_entries_excess(aclck_entries first, aclck_entries second, aclck_posix_difference *difference,
+                                       aclck_fault *fault);
 
 /* The other calls take entries in any order. They write their result to the front of `out`, entries in canonical order,
    and the number of its entries or bytes to *needed. ACLCK_DONE (`out`, *needed), ACLCK_REFUSED (*fault),

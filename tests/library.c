@@ -76,6 +76,9 @@ typedef struct {
 
 #define IS(name) (strcmp(c->call, name) == 0)
 
+#define IMPLICATION(right, others, options)                                                                            \
+    (&(const aclck_implication){(enum aclck_right)(right), (enum aclck_right)(others), (enum aclck_option)(options)})
+
 static aclck_question asks(uint32_t mask, uint32_t options) {
     aclck_question question;
     question.mask = (enum aclck_right)mask;
@@ -507,7 +510,50 @@ static int agree_on_excess(const testcase *c) {
     return ok & EXPECT(c, c->value == (!one && !other));
 }
 
+/* If a right does not imply all rights, the requester of the answer is granted it and not the right that is missing.
+   The words about a right have one line for each row of its table, or one line if there is none. */
+static int agree_on_one_right(const testcase *c) {
+    const aclck_bytes acl = c->blobs[0];
+    const enum aclck_right all = c->numbers[1] & ACLCK_NARROW ? 0x1f01ff : 0x1f07ff;
+    const aclck_question question = asks(c->numbers[0], c->numbers[1]);
+    const aclck_implication implication = {question.mask, (enum aclck_right)all, question.options};
+    aclck_difference found = {77, 77, 77, 77};
+    aclck_fault fault;
+    aclck_bytes names[MOST + 3];
+    uint32_t granted[2] = {77, 77};
+    size_t rows = 0, words = 0, lines[2] = {0, 0}, count = 0;
+    if (c->status != ACLCK_DONE)
+        return 1;
+    enum aclck_status status = aclck_implies(acl, &implication, &found, aclck_buffer_of(NULL, 0), &fault);
+    int ok = EXPECT(c, status == (found.names ? ACLCK_SHORT : ACLCK_DONE));
+    status = aclck_table(acl, &question, aclck_buffer_of(NULL, 0), &rows, &fault);
+    ok &= EXPECT(c, status == (rows ? ACLCK_SHORT : ACLCK_DONE));
+    ok &= EXPECT(c, aclck_holders(acl, &question, aclck_buffer_of(NULL, 0), &words, &fault) == ACLCK_SHORT);
+    char *text = malloc(found.names + rows + words + 1), *shown = text + found.names;
+    ok &= EXPECT(c, aclck_implies(acl, &implication, &found, aclck_buffer_of(text, found.names), &fault) == ACLCK_DONE);
+    ok &= EXPECT(c, aclck_table(acl, &question, aclck_buffer_of(shown, rows), &rows, &fault) == ACLCK_DONE);
+    ok &= EXPECT(c, aclck_holders(acl, &question, aclck_buffer_of(shown + rows, words), &words, &fault) == ACLCK_DONE);
+    for (size_t i = 0; i < rows + words; i++)
+        lines[i >= rows] += shown[i] == '\n';
+    ok &= EXPECT(c, lines[1] == (lines[0] ? lines[0] : 1));
+    ok &= EXPECT(c, found.first_grants == 0 && found.same == (found.names == 0));
+    for (char *at = text; at < text + found.names && count < MOST + 3; at += names[count++].len + 1)
+        names[count] = aclck_string(at);
+    if (!found.same && EXPECT(c, count >= 3)) {
+        const aclck_object object = {names[0], names[1]};
+        const aclck_requester who = aclck_requester_of(names[2], names + 3, count - 3);
+        const aclck_question missing = asks(found.right, question.options);
+        ok &= EXPECT(c, aclck_check(acl, &object, &who, &question, &granted[0], &fault) == ACLCK_DONE);
+        ok &= EXPECT(c, aclck_check(acl, &object, &who, &missing, &granted[1], &fault) == ACLCK_DONE);
+        ok &= EXPECT(c, granted[0] == 1 && granted[1] == 0);
+    }
+    free(text);
+    return ok;
+}
+
 static int agree(const testcase *c) {
+    if (IS("table"))
+        return agree_on_one_right(c);
     if (IS("compare"))
         return agree_on_excess(c);
     if (IS("check"))
@@ -551,12 +597,14 @@ static int are_reasons_right(void) {
     static const char *const names[] = {"Truncated", "TooManyAces", "AuditOrAlarm", "AceType", "FlagBits", "MaskBits",
         "TooHeavy", "WhoLength", "WhoUtf8", "WhoControl", "SpecialWho", "Padding", "TrailingBytes", "Read", "Memory",
         "Fields", "Flag", "Mask", "Tag", "Qualifier", "Id", "UnknownName", "Permission", "EmptyEntry", "Multi",
-        "Duplicate", "Miss", "Limits", "Size", "Version", "Order", "Merged"};
+        "Duplicate", "Miss", "Limits", "Size", "Version", "Order", "Merged", "AclFlagBits", "IflagBits",
+        "NotDirectory", "Empty", "IdDiffers", "Comment", "Nul", "TooLong", "NoId", "Inherited", "Retention",
+        "Separator", "AclFlags"};
     testcase none, *c = &none;
     int ok = 1;
     memset(c, 0, sizeof *c);
     strcpy(c->call, "reason_text");
-    for (uint32_t reason = 1; reason <= ACLCK_MERGED; reason++) {
+    for (uint32_t reason = 1; reason <= ACLCK_ACL_FLAGS; reason++) {
         char room[16];
         size_t len = strlen(names[reason - 1]), needed = 0;
         memset(room, CANARY, sizeof room);
@@ -654,11 +702,14 @@ static int is_option_judged(const testcase *c, uint32_t options) {
            o.r.difference, is_difference(&o.r.difference, 0, 0, 0, 0));
     CLOSED(aclck_excess(LIST, LIST, options, &o.r.difference, aclck_buffer_of(o.room, sizeof o.room), &o.r.fault),
            o.r.difference, is_difference(&o.r.difference, 0, 0, 0, 0));
+    CLOSED(aclck_implies(LIST, IMPLICATION(1, 2, options), &o.r.difference, aclck_buffer_of(o.room, sizeof o.room), &o.r.fault),
+           o.r.difference, is_difference(&o.r.difference, 0, 0, 0, 0));
     BAD(aclck_show(LIST, options, OUT));
     BAD(aclck_encode(aclck_string(""), options, OUT));
     BAD(aclck_normalize(LIST, options, OUT));
     BAD(aclck_normalize_inherit(LIST, options, OUT));
     BAD(aclck_table(LIST, &question, OUT));
+    BAD(aclck_holders(LIST, &question, OUT));
     if (options & ~(uint32_t)(ACLCK_NARROW | ACLCK_DIRECTORY) && options != ACLCK_MARK_INHERITED)
         BAD(aclck_child(LIST, options, OUT));
     if (options != ACLCK_DIRECTORY)
@@ -747,19 +798,27 @@ static int are_arguments_judged(void) {
         const aclck_question question = asks(no_masks[i], 0);
         ok &= are_questions_closed(c, &THEM, who, question) & is_many_closed(c, &THEM, who, question, 3);
         BAD(aclck_mask_text(no_masks[i], aclck_buffer_of(o.room, sizeof o.room), &o.r.needed));
+        CLOSED(aclck_implies(LIST, IMPLICATION(1, no_masks[i], 0), &o.r.difference,
+                             aclck_buffer_of(o.room, sizeof o.room), &o.r.fault),
+               o.r.difference, is_difference(&o.r.difference, 0, 0, 0, 0));
     }
     for (size_t i = 0; i < sizeof no_rights / sizeof *no_rights; i++) {
         const aclck_question question = asks(no_rights[i], 0);
         CLOSED(aclck_deciding(LIST, &THEM, who, &question, &o.decision, &o.r.fault), o.decision,
                o.decision.place == 0 && o.decision.kind == ACLCK_UNDECIDED);
         BAD(aclck_table(LIST, &question, OUT));
+        BAD(aclck_holders(LIST, &question, OUT));
+        CLOSED(aclck_implies(LIST, IMPLICATION(no_rights[i], 1, 0), &o.r.difference,
+                             aclck_buffer_of(o.room, sizeof o.room), &o.r.fault),
+               o.r.difference, is_difference(&o.r.difference, 0, 0, 0, 0));
     }
     const aclck_question retention = asks(ACLCK_WRITE_RETENTION, ACLCK_NARROW),
                          hold = asks(ACLCK_WRITE_RETENTION_HOLD, ACLCK_NARROW);
     BAD(aclck_table(LIST, &retention, OUT));
     BAD(aclck_table(LIST, &hold, OUT));
+    BAD(aclck_holders(LIST, &hold, OUT));
     BAD(aclck_reason_text(0, aclck_buffer_of(o.room, sizeof o.room), &o.r.needed));
-    BAD(aclck_reason_text(33, aclck_buffer_of(o.room, sizeof o.room), &o.r.needed));
+    BAD(aclck_reason_text(ACLCK_ACL_FLAGS + 1, aclck_buffer_of(o.room, sizeof o.room), &o.r.needed));
     return ok & are_posix_arguments_judged(c);
 }
 
@@ -854,6 +913,7 @@ static int are_limits_kept(void) {
     REFUSED(aclck_compare(LIST, full, 0, &r.difference, room, &r.fault), ACLCK_TOO_MANY_ACES, 0, 0, 0, 1);
     REFUSED(aclck_compare(heavy, full, 0, &r.difference, room, &r.fault), ACLCK_TOO_HEAVY, mask_at, 0, 0, 0);
     REFUSED(aclck_excess(LIST, heavy, 0, &r.difference, room, &r.fault), ACLCK_TOO_HEAVY, mask_at, 0, 0, 1);
+    REFUSED(aclck_implies(heavy, IMPLICATION(1, 2, 0), &r.difference, room, &r.fault), ACLCK_TOO_HEAVY, mask_at, 0, 0, 0);
     REFUSED(aclck_encode(too_many, 0, TO), ACLCK_TOO_MANY_ACES, 0, MOST_ACES + 1, 1, 0);
     REFUSED(aclck_encode(too_heavy, 0, TO), ACLCK_TOO_HEAVY, 0, MOST_ACES, 9, 0);
     REFUSED(aclck_posix_bridge(&text, TO), ACLCK_LIMITS, 0, 0, 0, 0);

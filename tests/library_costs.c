@@ -40,6 +40,7 @@ static aclck_bytes groups[MOST_GROUPS];
 static aclck_requester who[REQUESTERS];
 static uint32_t ids[MOST_GROUPS], granted[REQUESTERS];
 static aclck_decided decided_of_all[REQUESTERS];
+static uint32_t masks[ROOM / 32];
 
 static void name_groups(size_t count, int is_shuffled) {
     for (size_t i = 0; i < count; i++) {
@@ -119,14 +120,24 @@ static uint32_t invoke_list(const char *call, size_t len) {
     static const aclck_renaming rows[] = {{{"mallory", 7}, {"m", 1}, 0}, {{"editors", 7}, {"writers", 7}, 1}};
     const aclck_renamings table = {rows, 2};
     const aclck_object object = {aclck_string("o"), aclck_string("g")};
+    const aclck_bytes suffix = aclck_string("?");
     const aclck_question all = {ACLCK_ALL_RIGHTS, ACLCK_FULL};
     aclck_possible possible;
     aclck_fault fault;
+    uint32_t flags;
     size_t needed, count;
     if (IS("chmod"))
         return aclck_chmod(LIST, 0640, ACLCK_FULL, OUT);
     if (IS("renamed"))
         return aclck_renamed(LIST, &table, ACLCK_FULL, OUT);
+    if (IS("resolved"))
+        return aclck_resolved(LIST, &object, ACLCK_FULL, OUT);
+    if (IS("with_groups"))
+        return aclck_with_groups(LIST, &suffix, ACLCK_FULL, OUT);
+    if (IS("read_form"))
+        return aclck_read_form(LIST, ACLCK_NFS_TOOLS_DIRECTORY, ROOM_FOR_ALL, &needed, &flags, &fault);
+    if (IS("write_form"))
+        return aclck_write_form(LIST, ACLCK_NFS_TOOLS_DIRECTORY, 0, OUT);
     if (IS("decide_unknown"))
         return aclck_decide_unknown(LIST, &object, who, &all, &possible, &fault);
     if (read_aces(len, &count) || IS("next"))
@@ -142,6 +153,7 @@ static uint32_t invoke_entries(const char *call, size_t len, size_t count) {
     const aclck_entry_buffer room = {changed, sizeof changed / sizeof *changed};
     aclck_entries given = {entries, 0};
     aclck_posix_decision decision;
+    aclck_posix_difference difference;
     aclck_fault fault;
     uint32_t word;
     size_t needed;
@@ -153,6 +165,8 @@ static uint32_t invoke_entries(const char *call, size_t len, size_t count) {
         return aclck_entries_check(given, &question, &word, &fault);
     if (IS("entries_deciding"))
         return aclck_entries_deciding(given, &question, &decision, &fault);
+    if (IS("entries_excess"))
+        return aclck_entries_excess(given, given, &difference, &fault);
     if (IS("entries_mode"))
         return aclck_entries_mode(given, &word, &fault);
     if (IS("entries_sorted"))
@@ -227,6 +241,8 @@ static uint32_t invoke(const char *call, size_t len, size_t count) {
         return aclck_normalize_inherit(LIST, ACLCK_FULL, OUT);
     if (IS("table"))
         return aclck_table(LIST, &one, OUT);
+    if (IS("needed"))
+        return aclck_needed(LIST, ACLCK_FULL, (aclck_masks){masks, sizeof masks / sizeof *masks}, &needed, &fault);
     if (IS("same"))
         return aclck_same(HALVES, ACLCK_FULL, &word, &fault);
     if (IS("compare"))

@@ -128,6 +128,61 @@ static void are_bad_questions_refused(void) {
     are_closed(entries, &more, ACLCK_BAD_ARGUMENT, no_fault());
 }
 
+/* Whom one ACL grants more than another, and what; the other way round there is nothing more. */
+static void are_excesses_found(void) {
+    static const struct {
+        list first, second;
+        aclck_posix_difference wanted;
+    } rows[] = {
+        /* the owner; a named user whom the mask limits; a user whom only the second ACL names */
+        {{{U(7), G(5), O(1)}, 3}, {{U(3), G(5), O(1)}, 3}, {0, 0, 0, 0, 4, 0, 0, 0}},
+        {{{U(7), USER(9, 6), G(4), M(6), O(4)}, 5}, {{U(7), USER(9, 6), G(4), M(4), O(4)}, 5},
+         {0, 0, 0, 9, 2, 0, 0, 0}},
+        {{{U(7), G(4), O(4)}, 3}, {{U(7), USER(9, 0), G(4), M(4), O(4)}, 5}, {0, 0, 0, 9, 4, 0, 0, 0}},
+        /* others; the owning group; a named group; two groups, of which the second ACL has one */
+        {{{U(7), G(4), O(4)}, 3}, {{U(7), G(4), O(0)}, 3}, {0, 1, 0, 0, 4, 0, 0, 0}},
+        {{{U(7), G(4), O(4)}, 3}, {{U(7), G(0), O(4)}, 3}, {0, 1, 0, 0, 4, 1, 0, 0}},
+        {{{U(7), G(0), GROUP(30, 2), M(7), O(2)}, 5}, {{U(7), G(0), GROUP(30, 0), M(7), O(2)}, 5},
+         {0, 1, 0, 0, 2, 1, 30, 0}},
+        {{{U(7), G(0), GROUP(30, 2), M(7), O(0)}, 5}, {{U(7), G(0), GROUP(40, 0), M(7), O(2)}, 5},
+         {0, 1, 0, 0, 2, 2, 30, 0}},
+    };
+    for (size_t i = 0; i < sizeof rows / sizeof *rows; i++) {
+        const aclck_entries first = {rows[i].first.at, rows[i].first.len};
+        const aclck_entries second = {rows[i].second.at, rows[i].second.len};
+        const aclck_posix_difference nothing = {1, 0, 0, 0, 0, 0, 0, 0};
+        aclck_posix_difference found;
+        aclck_fault fault;
+        long before = requests;
+        memset(&found, 0xee, sizeof found);
+        EXPECT(aclck_entries_excess(first, second, &found, &fault) == ACLCK_DONE);
+        EXPECT(memcmp(&found, &rows[i].wanted, sizeof found) == 0);
+        EXPECT(aclck_entries_excess(first, first, &found, &fault) == ACLCK_DONE);
+        EXPECT(memcmp(&found, &nothing, sizeof found) == 0 && requests == before);
+    }
+}
+
+/* The fault of the second of two ACLs says so, and that of the first comes first. */
+static void are_two_acls_judged(void) {
+    static const list good = {{U(7), G(5), O(1)}, 3}, bad = {{G(5), U(7), O(1)}, 3};
+    const aclck_entries right = {good.at, good.len}, wrong = {bad.at, bad.len};
+    for (int first = 0; first < 2; first++)
+        for (int second = 0; second < 2; second++) {
+            const aclck_posix_difference nothing = {0, 0, 0, 0, 0, 0, 0, 0};
+            aclck_posix_difference found;
+            aclck_fault fault = no_fault(), wanted = fault_at(1, ACLCK_ORDER, 0);
+            wanted.list = !first;
+            memset(&found, 0xee, sizeof found);
+            const aclck_entries one = first ? wrong : right, other = second ? wrong : right;
+            enum aclck_status status = aclck_entries_excess(one, other, &found, &fault);
+            EXPECT(status == (first || second ? ACLCK_REFUSED : ACLCK_DONE));
+            if (first || second) {
+                EXPECT(memcmp(&found, &nothing, sizeof found) == 0);
+                EXPECT(memcmp(&fault, &wanted, sizeof fault) == 0);
+            }
+        }
+}
+
 /* ---- entries that are no valid ACL, and their order */
 
 static void are_faults_reported(void) {
@@ -411,7 +466,8 @@ static void is_kernel_of_the_same_mind(const char *path) {
 
 int main(int argc, char **argv) {
     static const test tests[] = {
-        TEST(are_questions_answered), TEST(are_bad_questions_refused), TEST(are_faults_reported),
+        TEST(are_questions_answered), TEST(are_bad_questions_refused), TEST(are_excesses_found),
+        TEST(are_two_acls_judged), TEST(are_faults_reported),
         TEST(are_repeats_reported), TEST(is_order_judged), TEST(are_entries_changed), TEST(are_modes_read),
         TEST(are_bad_numbers_refused), TEST(is_limit_kept), TEST(are_attributes_read), TEST(are_attributes_refused)};
     for (size_t i = 0; i < sizeof tests / sizeof *tests; i++) {

@@ -20,7 +20,11 @@ typedef struct {
     uint32_t mode;
     aclck_names names;
     aclck_renamings table;
+    aclck_object object;
+    aclck_bytes suffix;
     aclck_aces aces;
+    enum aclck_form form;
+    uint32_t flags, *flags_read;
 } given;
 
 #define WRITER(name, call)                                                                                             \
@@ -34,6 +38,10 @@ WRITER(prepare_ids, aclck_prepare_ids(g->acl, &g->names, g->options, out, needed
 WRITER(build, aclck_build(g->aces, g->options, out, needed, fault))
 WRITER(set_mode, aclck_chmod(g->acl, g->mode, g->options, out, needed, fault))
 WRITER(exchange, aclck_renamed(g->acl, &g->table, g->options, out, needed, fault))
+WRITER(name_owner, aclck_resolved(g->acl, &g->object, g->options, out, needed, fault))
+WRITER(name_groups, aclck_with_groups(g->acl, &g->suffix, g->options, out, needed, fault))
+WRITER(read_form, aclck_read_form(g->acl, g->form, out, needed, g->flags_read, fault))
+WRITER(write_form, aclck_write_form(g->acl, g->form, g->flags, out, needed, fault))
 WRITER(inherit, aclck_child(g->acl, g->options, out, needed, fault))
 WRITER(encode, aclck_encode(g->acl, g->options, out, needed, fault))
 
@@ -48,6 +56,8 @@ static given list_with(aclck_bytes acl, uint32_t options) {
     g.options = (enum aclck_option)options;
     g.names.at = &no_name;
     g.table.at = &no_renaming;
+    g.object = (aclck_object){aclck_string("bob"), aclck_string("staff")};
+    g.suffix = aclck_string("?");
     g.aces.at = &no_ace;
     return g;
 }
@@ -611,6 +621,16 @@ static unsigned char *put_ace(unsigned char *at, uint32_t kind, uint32_t flags, 
 
 enum { UNKNOWN = 3 };
 
+/* Gives the ACEs of g0, g1 and g2 the names of the groups that stand for the unknown names with the suffix `~`. */
+static void aces_with_suffix(aclck_ace *aces, uint32_t count) {
+    static const char *const names[UNKNOWN] = {"INTERACTIVE@~", "NETWORK@~", "DIALUP@~"};
+    for (uint32_t i = 0; i < count; i++) {
+        const char *who = aces[i].who.at;
+        if (aces[i].who.len == 2 && who[0] == 'g')
+            aces[i].who = aclck_string(names[who[1] - '0']);
+    }
+}
+
 /* What is certain of a list with three unknown names is what is so in each of the eight cases. */
 static void is_every_case_counted(void) {
     static const char *const whos[] = {"INTERACTIVE@", "NETWORK@", "DIALUP@", "EVERYONE@", "bob", "OWNER@"};
@@ -657,6 +677,12 @@ static void is_every_case_counted(void) {
     EXPECT(aclck_decide_unknown(given_bytes, &object, &bob, &question, &found, &fault) == ACLCK_DONE);
     EXPECT(found.allowed == always && found.unknown == (ever & ~always) && found.denied == (ever_denied & ~ever));
     EXPECT(found.left_out == left_out);
+    given by_group = list_with(given_bytes, 0);
+    by_group.suffix = aclck_string("~");
+    aces_with_suffix(aces, kept_aces);
+    const aclck_bytes grouped = without_memory(build, g, 0);
+    writes(name_groups, &by_group, 1, grouped.at, grouped.len);
+    free((void *)grouped.at);
     EXPECT(found.request == (granted == 1 << UNKNOWN ? ACLCK_ALWAYS : granted ? ACLCK_DEPENDS : ACLCK_NEVER));
     free((void *)list.at);
 }
@@ -717,6 +743,22 @@ static void are_names_exchanged_by_hand(void) {
     g.options = ACLCK_FULL;
     const aclck_fault fault = {3, 0, 0, ACLCK_MERGED, 0, 0, 0};
     refuses(exchange, &g, 1, fault);
+}
+
+static void are_owners_named_by_hand(void) {
+    const aclck_bytes list = list_of("DENY GROUP READ_DATA bob\nALLOW FILE|GROUP READ_DATA OWNER@\n"
+                                     "ALLOW - WRITE_DATA GROUP@\nALLOW - READ_DATA EVERYONE@\n");
+    const aclck_bytes after = list_of("DENY GROUP READ_DATA bob\nALLOW FILE READ_DATA bob\n"
+                                      "ALLOW GROUP WRITE_DATA staff\nALLOW - READ_DATA EVERYONE@\n");
+    const aclck_fault owner = {1, 0, 0, ACLCK_UNKNOWN_NAME, 0, 0, 0}, group = {2, 0, 0, ACLCK_UNKNOWN_NAME, 0, 0, 0};
+    given g = list_with(list, 0);
+    writes(name_owner, &g, 1, after.at, after.len);
+    g.object.group = aclck_string("x@");
+    refuses(name_owner, &g, 1, group);
+    g.object.owner = aclck_string("EVERYONE@");
+    refuses(name_owner, &g, 1, owner);
+    g.object.owner = aclck_string("");
+    is_bad(name_owner, &g, 1);
 }
 
 static void are_bad_names_refused(void) {
@@ -837,6 +879,154 @@ static void are_unknown_names_answered_by_hand(void) {
     }
 }
 
+static void are_groups_put_for_names_by_hand(void) {
+    unsigned char bytes[256], *at = put_word(bytes, 4);
+    const aclck_bytes after = list_of("DENY GROUP WRITE_DATA NOW@?\nALLOW GROUP READ_DATA NOW@?\n"
+                                      "ALLOW GROUP READ_DATA NOW@!\n");
+    const aclck_fault misnamed = {0, 0, 0, ACLCK_UNKNOWN_NAME, 0, 0, 0}, taken = {2, 0, 0, ACLCK_MERGED, 0, 0, 0};
+    at = put_ace(at, 2, 0, 1, "NOW@");
+    at = put_ace(at, ACLCK_DENY, 0, 2, "NOW@");
+    at = put_ace(at, ACLCK_ALLOW, ACLCK_IDENTIFIER_GROUP, 1, "NOW@");
+    at = put_ace(at, ACLCK_ALLOW, ACLCK_IDENTIFIER_GROUP, 1, "NOW@!");
+    given g = list_with(aclck_bytes_of(bytes, (size_t)(at - bytes)), 0);
+    writes(name_groups, &g, 1, after.at, after.len);
+    g.suffix = aclck_string("!");
+    refuses(name_groups, &g, 1, taken);
+    g.suffix = aclck_string("@");
+    refuses(name_groups, &g, 1, misnamed);
+    g.suffix = aclck_string("");
+    refuses(name_groups, &g, 1, misnamed);
+    g.acl = aclck_bytes_of(bytes, 7);
+    const aclck_fault cut = {4, 0, 0, ACLCK_TRUNCATED, 0, 0, 0};
+    refuses(name_groups, &g, 1, cut);
+}
+
+/* ---- forms of other systems */
+
+/* The list and the text of it in nfs4_setfacl(1), "EXAMPLES". */
+static const char of_the_manual[] = "A::OWNER@:rwatTnNcCy\nD::OWNER@:x\nA:g:GROUP@:rtncy\nD:g:GROUP@:waxTC\n"
+                                    "A::EVERYONE@:rtncy\nD::EVERYONE@:waxTC\n";
+
+static aclck_bytes list_of_the_manual(void) {
+    return list_of("ALLOW - READ_DATA|WRITE_DATA|APPEND_DATA|READ_NAMED_ATTRS|WRITE_NAMED_ATTRS|READ_ATTRIBUTES|"
+                   "WRITE_ATTRIBUTES|READ_ACL|WRITE_ACL|SYNCHRONIZE OWNER@\n"
+                   "DENY - EXECUTE OWNER@\n"
+                   "ALLOW GROUP READ_DATA|READ_NAMED_ATTRS|READ_ATTRIBUTES|READ_ACL|SYNCHRONIZE GROUP@\n"
+                   "DENY GROUP WRITE_DATA|APPEND_DATA|EXECUTE|WRITE_ATTRIBUTES|WRITE_ACL GROUP@\n"
+                   "ALLOW - READ_DATA|READ_NAMED_ATTRS|READ_ATTRIBUTES|READ_ACL|SYNCHRONIZE EVERYONE@\n"
+                   "DENY - WRITE_DATA|APPEND_DATA|EXECUTE|WRITE_ATTRIBUTES|WRITE_ACL EVERYONE@\n");
+}
+
+/* The value is read as the flags and the list. */
+static void is_read(enum aclck_form form, aclck_bytes value, uint32_t flags, aclck_bytes list) {
+    given g = list_with(value, 0);
+    uint32_t found = 77;
+    g.form = form;
+    g.flags_read = &found;
+    writes(read_form, &g, 1, list.at, list.len);
+    EXPECT(found == flags);
+}
+
+/* The value is read as the flags and the list, and these are written as the value. */
+static void is_read_and_written(enum aclck_form form, aclck_bytes value, uint32_t flags, aclck_bytes list) {
+    given g = list_with(list, 0);
+    is_read(form, value, flags, list);
+    g.form = form;
+    g.flags = flags;
+    writes(write_form, &g, 1, value.at, value.len);
+}
+
+static void is_not_read(enum aclck_form form, aclck_bytes value, uint32_t reason, uint64_t offset) {
+    const aclck_fault fault = {offset, 0, 0, reason, 0, 0, 0};
+    given g = list_with(value, 0);
+    uint32_t found = 77;
+    g.form = form;
+    g.flags_read = &found;
+    refuses(read_form, &g, 1, fault);
+    EXPECT(found == 77);
+}
+
+static void is_not_written(enum aclck_form form, aclck_bytes list, uint32_t flags, uint32_t reason, uint64_t place) {
+    const aclck_fault fault = {place, 0, 0, reason, 0, 0, 0};
+    given g = list_with(list, 0);
+    g.form = form;
+    g.flags = flags;
+    refuses(write_form, &g, 1, fault);
+}
+
+/* RFC 8881, section 6.2.2: the attribute dacl is a word of flags and a list. In Samba's source3/modules/nfs41acl.x an
+   ACE has five words: type, flags, 1 for a special who, mask, and its number (OWNER@ is 1) or the id. */
+static void are_forms_read_and_written_by_hand(void) {
+    const enum aclck_form texts[] = {ACLCK_NFS_TOOLS_FILE, ACLCK_NFS_TOOLS_DIRECTORY};
+    const aclck_bytes list = list_of_the_manual(), two = list_of("DENY - EXECUTE OWNER@\nALLOW GROUP READ_DATA 20\n");
+    const uint32_t words[] = {ACLCK_PROTECTED, 2, ACLCK_DENY, 0, 1, ACLCK_EXECUTE, 1,
+                              ACLCK_ALLOW, ACLCK_IDENTIFIER_GROUP, 0, ACLCK_READ_DATA, 20};
+    unsigned char bytes[512], *at;
+    for (int i = 0; i < 2; i++) {
+        is_read_and_written(texts[i], aclck_string(of_the_manual), 0, list);
+        is_read(texts[i], aclck_string("A::bob:X# the alias of xtcy\n"), 0,
+                list_of("ALLOW - EXECUTE|READ_ATTRIBUTES|READ_ACL|SYNCHRONIZE bob\n"));
+    }
+    is_read_and_written(ACLCK_NFS_TOOLS_DIRECTORY, aclck_string("A:fdg:staff:D\n"), 0,
+                        list_of("ALLOW FILE|DIR|GROUP DELETE_CHILD staff\n"));
+    at = put_word(bytes, ACLCK_AUTO_INHERIT | ACLCK_DEFAULTED);
+    memcpy(at, list.at, list.len);
+    is_read_and_written(ACLCK_NFS_ACL41, aclck_bytes_of(bytes, 4 + list.len), ACLCK_AUTO_INHERIT | ACLCK_DEFAULTED,
+                        list);
+    at = bytes;
+    for (size_t i = 0; i < sizeof words / sizeof *words; i++)
+        at = put_word(at, words[i]);
+    is_read_and_written(ACLCK_NFS_ACL41_IDS, aclck_bytes_of(bytes, (size_t)(at - bytes)), ACLCK_PROTECTED, two);
+}
+
+static void are_other_values_refused(void) {
+    const enum aclck_form xdr[] = {ACLCK_NFS_ACL41, ACLCK_NFS_ACL41_IDS};
+    is_not_read(ACLCK_NFS_TOOLS_FILE, aclck_string("A:f:bob:r"), ACLCK_NOT_DIRECTORY, 2);
+    is_not_read(ACLCK_NFS_TOOLS_FILE, aclck_string(""), ACLCK_EMPTY, 0);
+    is_not_read(ACLCK_NFS_TOOLS_FILE, aclck_string("A::bob:r\nA::eve"), ACLCK_FIELDS, 9);
+    is_not_read(ACLCK_NFS_TOOLS_FILE, aclck_string("A::bob:rq"), ACLCK_MASK, 8);
+    is_not_read(ACLCK_NFS_TOOLS_FILE, aclck_string("A:q:bob:r"), ACLCK_FLAG, 2);
+    is_not_read(ACLCK_NFS_TOOLS_FILE, aclck_string("# a,b"), ACLCK_COMMENT, 3);
+    is_not_read(ACLCK_NFS_TOOLS_DIRECTORY, aclck_bytes_of("A::bob:r\0", 9), ACLCK_NUL, 8);
+    is_not_read(ACLCK_NFS_TOOLS_DIRECTORY, aclck_string("U:S:bob:r"), ACLCK_AUDIT_OR_ALARM, 0);
+    for (int i = 0; i < 2; i++) {
+        is_not_read(xdr[i], aclck_bytes_of("\0\0\0\010\0\0\0\0", 8), ACLCK_ACL_FLAG_BITS, 0);
+        is_not_read(xdr[i], aclck_bytes_of("\0\0\0\1\0\0\0", 7), ACLCK_TRUNCATED, 4);
+        is_not_read(xdr[i], aclck_bytes_of("\0\0\0\1\0\0\0\0\0", 9), ACLCK_TRAILING_BYTES, 8);
+    }
+    is_not_read(ACLCK_NFS_ACL41_IDS, aclck_bytes_of("\0\0\0\0\0\0\0\1\0\0\0\0\0\0\0\0\0\0\0\2", 20),
+                ACLCK_IFLAG_BITS, 16);
+}
+
+static void are_lists_kept_out_of_forms(void) {
+    const enum aclck_form all[] = {ACLCK_NFS_TOOLS_FILE, ACLCK_NFS_TOOLS_DIRECTORY, ACLCK_NFS_ACL41,
+                                   ACLCK_NFS_ACL41_IDS};
+    const aclck_bytes bob = list_of("ALLOW - READ_DATA 7\nALLOW - READ_DATA bob\n");
+    for (int i = 0; i < 4; i++) {
+        uint32_t found = 77;
+        given g = list_with(bob, 0);
+        is_not_written(all[i], aclck_bytes_of("\0\0\0\1\0\0", 6), 0, ACLCK_TRUNCATED, 4);
+        g.form = all[i];
+        g.flags = 8;
+        is_bad(write_form, &g, 1);
+        g.form = (enum aclck_form)(i ? 4 + i : 0);
+        g.flags = 0;
+        g.flags_read = &found;
+        is_bad(write_form, &g, 1);
+        is_bad(read_form, &g, 1);
+        EXPECT(found == 77);
+    }
+    for (int i = 0; i < 2; i++) {
+        is_not_written(all[i], bob, ACLCK_PROTECTED, ACLCK_ACL_FLAGS, 0);
+        is_not_written(all[i], aclck_bytes_of("\0\0\0\0", 4), 0, ACLCK_EMPTY, 0);
+        is_not_written(all[i], list_of("ALLOW INHERITED READ_DATA bob\n"), 0, ACLCK_INHERITED_ACE, 0);
+        is_not_written(all[i], list_of("ALLOW - READ_DATA bob\nDENY - WRITE_RETENTION bob\n"), 0, ACLCK_RETENTION, 1);
+        is_not_written(all[i], list_of("ALLOW - READ_DATA a:b\n"), 0, ACLCK_SEPARATOR, 0);
+    }
+    is_not_written(ACLCK_NFS_TOOLS_FILE, list_of("ALLOW FILE READ_DATA bob\n"), 0, ACLCK_NOT_DIRECTORY, 0);
+    is_not_written(ACLCK_NFS_ACL41_IDS, bob, ACLCK_PROTECTED, ACLCK_NO_ID, 1);
+}
+
 /* ---- arguments without a meaning */
 
 /* The calls that decide are closed by an argument that is bad. */
@@ -937,9 +1127,10 @@ static void are_bad_ids_refused(void) {
 }
 
 static void are_bad_options_refused(void) {
-    static writer *const writers[] = {prepare, prepare_ids, build, set_mode, exchange, inherit};
+    static writer *const writers[] = {prepare, prepare_ids, build, set_mode, exchange, name_owner, name_groups,
+                                     inherit};
     static const uint32_t own[] = {ACLCK_NARROW, ACLCK_NARROW, ACLCK_NARROW, ACLCK_NARROW,
-                                   ACLCK_NARROW | ACLCK_MAY_MERGE,
+                                   ACLCK_NARROW | ACLCK_MAY_MERGE, ACLCK_NARROW, ACLCK_NARROW,
                                    ACLCK_NARROW | ACLCK_DIRECTORY | ACLCK_MARK_INHERITED};
     const aclck_bytes list = list_of("ALLOW - READ_DATA 7\n");
     for (size_t i = 0; i < sizeof writers / sizeof *writers; i++)
@@ -990,18 +1181,23 @@ static void are_many_groups_asked(void) {
     }
 }
 
-/* Groups in another order than the option says: a group that was not given never counts. */
+/* Groups in another order than the option says: those count that a binary search finds, and a group that was not given
+   never counts. The search begins at half of the number of groups, rounded down. So of the first two groups it finds c,
+   and of all four it finds c and the second z. */
 static void are_no_groups_made(void) {
     const aclck_bytes groups[] = {aclck_string("z"), aclck_string("c"), aclck_string("z"), aclck_string("b")};
     const aclck_object object = {aclck_string("a"), aclck_string("s")};
     const aclck_question question = asks(ACLCK_ALL_RIGHTS, ACLCK_GROUPS_IN_ORDER);
-    given g = list_with(list_of("ALLOW GROUP READ_DATA a\nALLOW GROUP WRITE_DATA c\nALLOW GROUP EXECUTE z\n"), 0);
+    static const uint32_t allowed[] = {0, ACLCK_EXECUTE, ACLCK_WRITE_DATA, ACLCK_WRITE_DATA | ACLCK_EXECUTE,
+                                       ACLCK_WRITE_DATA | ACLCK_EXECUTE};
+    given g = list_with(list_of("ALLOW GROUP READ_DATA a\nALLOW GROUP WRITE_DATA c\nALLOW GROUP EXECUTE z\n"
+                                "ALLOW GROUP DELETE b\n"), 0);
     const aclck_bytes prepared = made(prepare, &g);
     for (size_t count = 0; count <= 4; count++) {
         const aclck_requester bob = {aclck_string("bob"), groups, count};
         aclck_decided found;
         EXPECT(aclck_decide_prepared(prepared, &object, &bob, &question, &found) == ACLCK_DONE);
-        EXPECT((found.allowed & ~(uint32_t)(ACLCK_WRITE_DATA | ACLCK_EXECUTE)) == 0 && found.denied == 0);
+        EXPECT(found.allowed == allowed[count] && found.denied == 0);
     }
 }
 
@@ -1119,6 +1315,7 @@ static void test_list(aclck_bytes acl, uint32_t options) {
         refuses(prepare_ids, &g, 1, fault);
         refuses(set_mode, &g, 1, fault);
         refuses(exchange, &g, 1, fault);
+        refuses(name_owner, &g, 1, fault);
         return;
     }
     aclck_ace *aces = room_for_aces(acl);
@@ -1139,7 +1336,9 @@ static void test_list(aclck_bytes acl, uint32_t options) {
 static void run_rows(void) {
     static const test tests[] = {
         TEST(are_modes_set_by_hand), TEST(are_names_exchanged_by_hand), TEST(are_bad_names_refused),
-        TEST(are_wrong_aces_refused), TEST(are_unknown_names_answered_by_hand), TEST(are_bad_questions_refused),
+        TEST(are_owners_named_by_hand), TEST(are_wrong_aces_refused), TEST(are_unknown_names_answered_by_hand),
+        TEST(are_groups_put_for_names_by_hand), TEST(are_forms_read_and_written_by_hand),
+        TEST(are_other_values_refused), TEST(are_lists_kept_out_of_forms), TEST(are_bad_questions_refused),
         TEST(are_lengths_judged), TEST(are_bad_ids_refused), TEST(are_bad_options_refused),
         TEST(are_many_groups_asked), TEST(are_no_groups_made), TEST(are_lists_of_all_sizes_asked)};
     for (size_t i = 0; i < sizeof tests / sizeof *tests; i++) {

@@ -34,6 +34,8 @@ void f(aclck_bytes acl, aclck_object object, aclck_requester who, aclck_question
     use(aclck_entries_check(entries, &read, &granted, &fault));
     use(aclck_entries_sorted(entries, ACLCK_ADD_MASK, room, &needed, &fault));
     use(everybody.len > 1);
+    use(aclck_read_form(prepared, ACLCK_NFS_ACL41, out, &needed, &granted, &fault));
+    use(aclck_write_form(acl, ACLCK_NFS_TOOLS_FILE, ACLCK_PROTECTED, out, &needed, &fault));
     /* Prepared bytes are bytes, so that a program may keep and map them: no compiler can tell them from a list. */
     use(aclck_mode(prepared, ACLCK_FULL, &granted, &fault));
 
@@ -100,6 +102,16 @@ void f(aclck_bytes acl, aclck_object object, aclck_requester who, aclck_question
         use(1);
 /* misuse: a call of an earlier version */
     use(aclck_check_nfs(acl.at, acl.len, "a", 1, "s", 1, "b", 1, who.groups, 0, 1, 0, &fault));
+/* misuse: an option as a form */
+    use(aclck_write_form(acl, ACLCK_FORM_SHORT, 0, out, &needed, &fault));
+/* misuse: a form as an option */
+    use(aclck_show(acl, ACLCK_NFS_TOOLS_FILE, out, &needed, &fault));
+/* misuse: a form and a flag of a list exchanged */
+    use(aclck_write_form(acl, ACLCK_PROTECTED, ACLCK_NFS_ACL41, out, &needed, &fault));
+/* misuse: the flags of a list and the length exchanged */
+    use(aclck_read_form(acl, ACLCK_NFS_ACL41, out, &granted, &needed, &fault));
+/* misuse: no place for the flags of a list */
+    use(aclck_read_form(acl, ACLCK_NFS_ACL41, out, &needed, NULL, &fault));
 /* misuse: an option that promises an order as a right */
     question.mask = ACLCK_GROUPS_IN_ORDER;
 /* misuse: a flag of an ACE as an option */

@@ -1,10 +1,12 @@
--- The names of a comparison or of an excess in a buffer.
+-- The names of a comparison, of an excess or of an implication in a buffer.
 use Rattle.std.proofs.Common.{◌≡◌, ◌∙◌, ℕ, List, ap, inl, inr, length, subst, sym}
 use Rattle.acl_perm.specs.Profile.{Profile}
 use Rattle.acl_nfs4.specs.Ace.{Ace}
 use Rattle.aclck_c.specs.Compare.{AreCompared, ComparesAs}
 use Rattle.aclck_c.specs.Excess.{AreExcess, ExceedsAs}
+use Rattle.aclck_c.specs.Implies.{HasImplication, HasImplicationOf, ImpliesAs}
 use Rattle.aclck_c.specs.Out.{WritesBytes}
+use Rattle.aclck_c.specs.Requests.{IsRight}
 use Rattle.aclck_c.specs.declared.nfs4.compare.RawDifference.{RawDifference}
 use Rattle.aclck_c.specs.internal.Endings.{PutsIfRoom}
 
@@ -19,6 +21,12 @@ excess_counted : (list other : List Ace) (at : RawDifference) (names : List ℕ)
     → at.names ≡ length names
 excess_counted list other at names (inl none) = ap (λ d. d.names) none.1 ∙ sym (ap length none.2)
 excess_counted list other at names (inr first) = ap (λ d. d.names) first.is_at
+
+-- the answer of an implication has the length of the names
+implies_counted : (list : List Ace) (bit others : ℕ) (at : RawDifference) (names : List ℕ)
+    → ImpliesAs list bit others at names → at.names ≡ length names
+implies_counted list bit others at names (inl all) = ap (λ d. d.names) all.1 ∙ sym (ap length all.2)
+implies_counted list bit others at names (inr first) = ap (λ d. d.names) first.is_at
 
 -- if names of a meaning were put into a buffer, it has them
 writes_report : (Means : List ℕ → Type 0) {names given : List ℕ} {buffer buffer_after : List ℕ}
@@ -57,3 +65,13 @@ pub writes_excess : {p : Profile} {first second : List ℕ} {at : RawDifference}
 writes_excess {p} {first} {second} {at} {names} exceeds same puts =
     writes_report (AreExcess p first second at) exceeds
     (excess_counted exceeds.list exceeds.other at names exceeds.exceeds) same puts
+
+-- if the names of an implication were put into a buffer, it has them
+pub writes_implication : {p : Profile} {bytes : List ℕ} {right bit others : ℕ} {at : RawDifference}
+    {names given : List ℕ} {buffer buffer_after : List ℕ} {needed returned : ℕ} → IsRight right bit
+    → HasImplication p bytes bit others at names → given ≡ names
+    → PutsIfRoom given buffer buffer_after needed returned
+    → WritesBytes (HasImplicationOf p bytes right others at) buffer buffer_after 0 at.names returned
+writes_implication {p} {bytes} {right} {bit} {others} {at} {names} is has same puts =
+    writes_report (HasImplicationOf p bytes right others at) (record { bit = bit; is_right = is; has = has })
+    (implies_counted has.list bit others at names has.implies) same puts

@@ -8,7 +8,7 @@ use Rattle.acl_posix.specs.RawEntries.{IsFaultOfRaw}
 use Rattle.acl_posix.specs.declared.attribute_fault.AttributeFault.{AttributeFault}
 use Rattle.acl_posix.specs.declared.raw_entry.EntriesFault.{EntriesFault}
 use Rattle.acl_posix.specs.declared.raw_entry.RawEntry.{RawEntry}
-use Rattle.acl_posix.specs.View.{IsFaultOfView}
+use Rattle.acl_posix.specs.View.{IsCanonical, IsFaultOfView}
 use Rattle.acl_posix.specs.declared.view_fault.ViewFault.{ViewFault}
 use Rattle.acl_eval.specs.Bridge.{IsBridgeFault, bridge_list}
 use Rattle.acl_eval.specs.declared.bridging.BridgeFault.{BridgeFault}
@@ -17,7 +17,7 @@ use Rattle.aclck_c.specs.Entries.{HoldEntries, IsRefusedBy, attribute_refusal, e
 use Rattle.aclck_c.specs.declared.failure.Failure.{Failure}
 use Rattle.aclck_c.specs.declared.failure.Failure.TheVariants as failure
 use Rattle.aclck_c.specs.declared.refusal.Refusal.{Refusal}
-use Rattle.aclck_c.specs.internal.Failures.{AreBridgeFailure, AreFailure, AreMaskedFailure, AreViewFailure, IsAttributeFailure, IsFailure, of_attribute, of_bridge, of_raw_entries, of_refusal, of_view}
+use Rattle.aclck_c.specs.internal.Failures.{AreBridgeFailure, AreFailure, AreMaskedFailure, AreViewFailure, IsAttributeFailure, AreBothFailure, AreSecondFailure, IsFailure, of_attribute, of_bridge, of_raw_entries, of_refusal, of_view}
 
 -- the refusal of a fault, or that memory ran out
 refused_by : {F : Type 0} (Has : F → Type 0) (shown_of : F → Option Refusal) (f : F) (shown : Option Refusal) → Has f
@@ -55,3 +55,15 @@ acl_failure raws failure.Memory h = h
 -- what is refused of entries that must be in canonical order
 pub view_failure : (raws : List RawEntry) (f : ViewFault) → IsFaultOfView raws f → AreViewFailure raws (of_view f)
 view_failure raws f has = record { fault = f; has = has; is = refl }
+
+-- what is refused of the first of two ACLs
+pub first_view_failure : (raws others : List RawEntry) (f : ViewFault) → IsFaultOfView raws f
+    → AreBothFailure raws others (of_view f)
+first_view_failure raws others f has = inl (view_failure raws f has)
+
+-- what is refused of the second of two ACLs
+pub second_view_failure : (raws others : List RawEntry) (f : Failure) → IsCanonical raws → AreSecondFailure others f
+    → AreBothFailure raws others f
+second_view_failure raws others failure.BadArgument valid h = h
+second_view_failure raws others (failure.Refused shown) valid h = inr (valid, h)
+second_view_failure raws others failure.Memory valid h = h

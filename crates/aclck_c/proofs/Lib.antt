@@ -6,20 +6,28 @@ pub mod Builds
 pub mod Changes
 -- the names of a comparison
 pub mod Comparisons
+-- the entry that decides
+pub mod Deciders
 -- what a call promises, by what it made
 pub mod Endings
 -- failures of entries and of attributes
 pub mod EntriesFailures
 -- failures of names and of texts
 pub mod FileFailures
+-- values of forms
+pub mod FormValues
 -- failures of lists that are prepared for ids
 pub mod IdFailures
+-- failures of groups for identifiers that nobody knows
+pub mod GroupsNamed
 -- answers for many requesters
 pub mod ManyRequesters
 -- the bytes of normal forms
 pub mod Normalized
 -- calls over two lists
 pub mod Pairs
+-- failures of lists for one object
+pub mod Resolutions
 -- masks of one right
 pub mod Rights
 -- names that are exchanged

@@ -68,11 +68,9 @@ pub record HaveMode (raws : List RawEntry) (mode : ℕ) : Type 0 where
 abbrev pub no_posix_decision : RawPosixDecision
 no_posix_decision = record { place = 0; granted = 0; tag = 0; masked = 0 }
 
--- the place of the entry of a tag, and the number of the tag; both are 0 if the tag has no entry
+-- the place of the entry of a tag, and the number of the tag
 abbrev pub IsTagPlaced : Entries → Tag → ℕ → ℕ → Type 0
-IsTagPlaced acl tag place number =
-    (IsPlaceAmong (set.entries acl) tag place × (number ≡ raw_tag_number tag))
-    ⊎ ((set.get acl tag ≡ None) × (place ≡ 0) × (number ≡ 0))
+IsTagPlaced acl tag place number = IsPlaceAmong (set.entries acl) tag place × (number ≡ raw_tag_number tag)
 
 -- the same of the entry that decides; both are 0 if no entry alone decides
 abbrev pub IsPlaced : Entries → Option Tag → ℕ → ℕ → Type 0

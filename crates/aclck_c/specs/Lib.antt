@@ -6,8 +6,12 @@ pub mod Compare
 pub mod Create
 pub mod Encode
 pub mod Entries
+pub mod EntriesExcess
 pub mod Excess
+pub mod FormValues
+pub mod Holders
 pub mod Ids
+pub mod Implies
 pub mod Laws
 pub mod Lists
 pub mod Many
@@ -21,9 +25,11 @@ pub mod Prepared
 pub mod Refusal
 pub mod Renaming
 pub mod Requests
+pub mod Resolving
 pub mod Status
 pub mod Table
 pub mod Unknown
+pub mod UnknownGroups
 pub mod Version
 pub mod Words
 pub mod internal

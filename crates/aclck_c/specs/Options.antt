@@ -75,6 +75,10 @@ IsProfileOption options = AreAllowed narrow_option options
 abbrev pub IsOrderOption : ℕ → Type 0
 IsOrderOption options = AreAllowed groups_in_order_option options
 
+-- the caller says that the groups of each requester are in rising order of their bytes
+abbrev pub says_order : ℕ → Bool
+says_order options = has_option groups_in_order_option options
+
 -- the options are those of a call that may add a MASK
 abbrev pub IsMaskOption : ℕ → Type 0
 IsMaskOption options = AreAllowed add_mask_option options

@@ -1,6 +1,6 @@
 -- What calls from C make of a list that is read once and then asked often, by its prepared bytes (this library's own,
 -- over RFC 8881, section 6.2.1).
-use Rattle.std.specs.Prelude.{◌≡◌, ◌≢◌, ◌∷◌, ℕ, All, List, length, replicate, slice_get, slice_index_or, Some}
+use Rattle.std.specs.Prelude.{◌≡◌, ◌≢◌, ◌∷◌, if◌then◌else◌, ℕ, All, Bool, List, length, map, replicate, slice_get, slice_index_or, Some}
 use Rattle.acl_perm.specs.Bits.{IsMask}
 use Rattle.acl_perm.specs.Profile.{Profile}
 use Rattle.acl_perm.specs.Situation.{Situation}
@@ -8,9 +8,11 @@ use Rattle.acl_perm.specs.declared.kind.Kind.TheVariants.{Allow, Deny}
 use Rattle.acl_nfs4.specs.Ace.{Ace}
 use Rattle.acl_nfs4.specs.Spelling.{Xdr}
 use Rattle.acl_eval.specs.Deciding.{AreDecidedBy}
+use Rattle.acl_eval.specs.GroupSearch.{found_groups}
 use Rattle.acl_eval.specs.Prepared.{IsPrepared}
-use Rattle.aclck_c.specs.Options.{IsOrderOption}
-use Rattle.aclck_c.specs.Requests.{IsGoodObject, IsGoodRequester, asked_by, nothing_decided}
+use Rattle.acl_eval.specs.Situation.{named_situation}
+use Rattle.aclck_c.specs.Options.{IsOrderOption, says_order}
+use Rattle.aclck_c.specs.Requests.{IsGoodObject, IsGoodRequester, nothing_decided}
 use Rattle.aclck_c.specs.Status as status
 use Rattle.aclck_c.specs.declared.nfs4.decide.RawDecided.{RawDecided}
 use Rattle.aclck_c.specs.declared.nfs4.request.RawObject.{RawObject}
@@ -49,6 +51,21 @@ pub record AreGoodForPreparedMany (object : RawObject) (requesters : List RawReq
   pub good : All IsGoodRequester requesters
   pub is_place : places ≡ length requesters
 
+-- the groups that count, of those that are given: if the caller says that they are in order, those that a binary search
+-- finds, which are all of them if it is true
+abbrev pub groups_asked : Bool → List (List ℕ) → List (List ℕ)
+groups_asked said groups = if said then found_groups groups else groups
+
+-- the situation in which a requester requests access to an object of this owner and this owning group
+abbrev pub asked_prepared_by : List ℕ → List ℕ → Bool → RawRequester → Situation
+asked_prepared_by owner group said who =
+    named_situation owner group who.user.now (groups_asked said (map (λ g. g.now) who.groups.now))
+
+-- the situation in which a requester requests access to an object
+abbrev pub asked_prepared : RawObject → RawQuestion → RawRequester → Situation
+asked_prepared object question who =
+    asked_prepared_by object.owner.now object.group.now (says_order question.options) who
+
 -- ---- what is answered
 
 -- What a call promises that asks prepared bytes. Bytes that are not those of a list are refused, or get some answer.
@@ -71,15 +88,15 @@ pub record AreDecidedIn (s : Situation) (mask : ℕ) (list : List Ace) (found : 
   pub denied : AreDecidedBy Deny list s mask found.denied
 
 -- at the place of each requester are the rights of the mask that the list decides
-abbrev pub AreEachDecided : List ℕ → List ℕ → List RawRequester → ℕ → List Ace → List RawDecided → Type 0
-AreEachDecided owner group requesters mask list decided = (place : ℕ) (who : RawRequester)
+abbrev pub AreEachDecided : (RawRequester → Situation) → List RawRequester → ℕ → List Ace → List RawDecided → Type 0
+AreEachDecided asks requesters mask list decided = (place : ℕ) (who : RawRequester)
     → slice_get requesters place ≡ Some who
-    → AreDecidedIn (asked_by owner group who) mask list (slice_index_or decided place nothing_decided)
+    → AreDecidedIn (asks who) mask list (slice_index_or decided place nothing_decided)
 
 -- the same, and there is no other place
-pub record HaveDecided (object : RawObject) (requesters : List RawRequester) (mask : ℕ) (list : List Ace)
-    (decided : List RawDecided) : Type 0 where
-  pub rights : AreEachDecided object.owner.now object.group.now requesters mask list decided
+pub record HaveDecided (asks : RawRequester → Situation) (requesters : List RawRequester) (mask : ℕ)
+    (list : List Ace) (decided : List RawDecided) : Type 0 where
+  pub rights : AreEachDecided asks requesters mask list decided
   pub count : length decided ≡ length requesters
 
 -- nothing decided at any place

@@ -63,6 +63,19 @@ in_part number which place tag_number = record {
   tag = tag_number;
 }
 
+-- a value of a form is refused at this byte, or a form cannot hold the ACE at this place: the number of the reason, and
+-- that of the tag that is missing
+abbrev pub in_value : ℕ → ℕ → ℕ → Refusal
+in_value place number tag_number = record {
+  offset = place;
+  line = 0;
+  column = 0;
+  reason = number;
+  list = 0;
+  part = 0;
+  tag = tag_number;
+}
+
 -- the name of the ACE at this place of a list would become one with another
 abbrev pub merged : ℕ → Refusal
 merged place = record {

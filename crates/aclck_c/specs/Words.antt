@@ -22,7 +22,10 @@ reasons = (1, codes "Truncated") ∷ (2, codes "TooManyAces") ∷ (3, codes "Aud
     ∷ (17, codes "Flag") ∷ (18, codes "Mask") ∷ (19, codes "Tag") ∷ (20, codes "Qualifier") ∷ (21, codes "Id")
     ∷ (22, codes "UnknownName") ∷ (23, codes "Permission") ∷ (24, codes "EmptyEntry") ∷ (25, codes "Multi")
     ∷ (26, codes "Duplicate") ∷ (27, codes "Miss") ∷ (28, codes "Limits") ∷ (29, codes "Size")
-    ∷ (30, codes "Version") ∷ (31, codes "Order") ∷ (32, codes "Merged") ∷ []
+    ∷ (30, codes "Version") ∷ (31, codes "Order") ∷ (32, codes "Merged") ∷ (33, codes "AclFlagBits")
+    ∷ (34, codes "IflagBits") ∷ (35, codes "NotDirectory") ∷ (36, codes "Empty") ∷ (37, codes "IdDiffers")
+    ∷ (38, codes "Comment") ∷ (39, codes "Nul") ∷ (40, codes "TooLong") ∷ (41, codes "NoId") ∷ (42, codes "Inherited")
+    ∷ (43, codes "Retention") ∷ (44, codes "Separator") ∷ (45, codes "AclFlags") ∷ []
 
 -- the name of a number in a table of names
 abbrev pub name_in : List (ℕ × List ℕ) → ℕ → Option (List ℕ)

@@ -4,10 +4,14 @@
 pub mod Building
 -- the ACE that decides a right
 pub mod Deciding
+-- tags that have an entry
+pub mod Deciders
 -- how calls end
 pub mod Endings
 -- why calls fail
 pub mod Failures
+-- why a value of a form is not read or made
+pub mod FormFailures
 -- why a list is not prepared for ids
 pub mod IdFailures
 -- the first difference of two lists

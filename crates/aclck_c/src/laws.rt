@@ -1,8 +1,14 @@
 //! What the exports promise about each other.
-ghost use Rattle.aclck_c.specs.Laws.{NormalizedBytesTellApart};
+ghost use Rattle.aclck_c.specs.Laws.{NormalizedBytesTellApart, RisingGroupsDecideAlike};
 
 /// Two inputs for which `aclck_normalize` returned 0 got equal bytes if and only if their lists grant everybody the
 /// same.
 pub fn normalized_bytes_tell_apart()
     ensures { NormalizedBytesTellApart }
+{}
+
+/// If the groups of a requester rise in the order of their bytes, `aclck_decide_prepared` answers as `aclck_decide`
+/// does for the list, whether the options say that they are in order or not.
+pub fn rising_groups_decide_alike()
+    ensures { RisingGroupsDecideAlike }
 {}

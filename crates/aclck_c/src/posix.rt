@@ -4,6 +4,7 @@ pub(crate) mod check;
 pub(crate) mod creation;
 pub(crate) mod entries;
 pub(crate) mod entries_check;
+pub(crate) mod entries_excess;
 pub(crate) mod entries_made;
 pub(crate) mod file;
 pub(crate) mod names;

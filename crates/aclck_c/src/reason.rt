@@ -69,6 +69,32 @@ pub(crate) const ORDER: u32 = 31;
 
 pub(crate) const MERGED: u32 = 32;
 
+pub(crate) const ACL_FLAG_BITS: u32 = 33;
+
+pub(crate) const IFLAG_BITS: u32 = 34;
+
+pub(crate) const NOT_DIRECTORY: u32 = 35;
+
+pub(crate) const EMPTY: u32 = 36;
+
+pub(crate) const ID_DIFFERS: u32 = 37;
+
+pub(crate) const COMMENT: u32 = 38;
+
+pub(crate) const NUL: u32 = 39;
+
+pub(crate) const TOO_LONG: u32 = 40;
+
+pub(crate) const NO_ID: u32 = 41;
+
+pub(crate) const INHERITED: u32 = 42;
+
+pub(crate) const RETENTION: u32 = 43;
+
+pub(crate) const SEPARATOR: u32 = 44;
+
+pub(crate) const ACL_FLAGS: u32 = 45;
+
 /// Returns the number of a reason for which a list is refused.
 pub(crate) fn reason_number(reason: Reason) -> u32
     ensures { result ≡ reason_number reason }
@@ -129,6 +155,19 @@ pub(crate) fn reason_name(number: u32) -> Option<&'static [u8]>
         VERSION => Some(b"Version"),
         ORDER => Some(b"Order"),
         MERGED => Some(b"Merged"),
+        ACL_FLAG_BITS => Some(b"AclFlagBits"),
+        IFLAG_BITS => Some(b"IflagBits"),
+        NOT_DIRECTORY => Some(b"NotDirectory"),
+        EMPTY => Some(b"Empty"),
+        ID_DIFFERS => Some(b"IdDiffers"),
+        COMMENT => Some(b"Comment"),
+        NUL => Some(b"Nul"),
+        TOO_LONG => Some(b"TooLong"),
+        NO_ID => Some(b"NoId"),
+        INHERITED => Some(b"Inherited"),
+        RETENTION => Some(b"Retention"),
+        SEPARATOR => Some(b"Separator"),
+        ACL_FLAGS => Some(b"AclFlags"),
         _ => None,
     }
 }

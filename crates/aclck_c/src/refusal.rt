@@ -1,6 +1,6 @@
 //! Why and where something is refused, as C sees it.
 ghost use Rattle.std.specs.Prelude.{◌≡◌};
-ghost use Rattle.aclck_c.specs.Refusal.{at_place, in_list, in_part, merged, past_limits};
+ghost use Rattle.aclck_c.specs.Refusal.{at_place, in_list, in_part, in_value, merged, past_limits};
 
 use crate::reason::{LIMITS, MERGED, reason_number};
 use acl_nfs4::Reason;
@@ -69,6 +69,22 @@ impl Refusal {
             reason,
             list: 0,
             part,
+            tag,
+        }
+    }
+
+    /// Makes the refusal of a value of a form at this byte, or of a list of which a form cannot hold the ACE at this
+    /// place. `tag` is the number of the tag that is missing, or 0.
+    pub(crate) fn in_value(place: u64, reason: u32, tag: u32) -> Refusal
+        ensures { result ≡ in_value place reason tag }
+    {
+        Refusal {
+            offset: place,
+            line: 0,
+            column: 0,
+            reason,
+            list: 0,
+            part: 0,
             tag,
         }
     }

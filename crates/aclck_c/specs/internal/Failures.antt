@@ -4,10 +4,14 @@ use Rattle.acl_perm.specs.Profile.{Profile}
 use Rattle.acl_nfs4.specs.declared.xdr.fault.Fault.{Fault}
 use Rattle.acl_nfs4.specs.declared.xdr.fault.Reason.{Reason}
 use Rattle.acl_nfs4.specs.declared.xdr.fault.Reason.TheVariants as reason
+use Rattle.acl_nfs4.specs.declared.xdr.unknown_groups.GroupsFault.{GroupsFault}
+use Rattle.acl_nfs4.specs.declared.xdr.unknown_groups.GroupsFault.TheVariants as groups
 use Rattle.acl_eval.specs.declared.bridging.BridgeFault.{BridgeFault}
 use Rattle.acl_eval.specs.declared.bridging.BridgeFault.TheVariants as bridge
 use Rattle.acl_eval.specs.declared.mode_change.ChmodFault.{ChmodFault}
 use Rattle.acl_eval.specs.declared.mode_change.ChmodFault.TheVariants as chmod
+use Rattle.acl_eval.specs.declared.resolving.ResolveFault.{ResolveFault}
+use Rattle.acl_eval.specs.declared.resolving.ResolveFault.TheVariants as resolve
 use Rattle.acl_posix.specs.Names.{Table}
 use Rattle.acl_posix.specs.declared.names.NameFault.{NameFault}
 use Rattle.acl_posix.specs.declared.names.NameFault.TheVariants as names
@@ -20,11 +24,15 @@ use Rattle.aclck_c.specs.Build.{IsRefusedBuild}
 use Rattle.aclck_c.specs.Compare.{IsRefusedPair}
 use Rattle.aclck_c.specs.Encode.{IsRefusedText}
 use Rattle.aclck_c.specs.Entries.{AreRefused, AreRefusedBridge, AreRefusedFor, AreRefusedInOrder, IsRefusedAttribute, attribute_refusal, entries_refusal, view_refusal}
+use Rattle.aclck_c.specs.EntriesExcess.{AreRefusedBoth, AreRefusedSecond}
+use Rattle.aclck_c.specs.Ids.{unknown_at}
 use Rattle.aclck_c.specs.Lists.{AreList, IsRefusedChmod, IsRefusedList}
 use Rattle.aclck_c.specs.Names.{AreGoodNames}
 use Rattle.aclck_c.specs.Posix.{IsRefusedBridge, IsRefusedPosix, posix_refusal}
-use Rattle.aclck_c.specs.Refusal.{in_list, past_limits}
+use Rattle.aclck_c.specs.Refusal.{in_list, merged, past_limits}
+use Rattle.aclck_c.specs.Resolving.{IsRefusedObject}
 use Rattle.aclck_c.specs.Unknown.{IsRefusedPart}
+use Rattle.aclck_c.specs.UnknownGroups.{IsRefusedNaming}
 use Rattle.aclck_c.specs.declared.failure.Failure.{Failure}
 use Rattle.aclck_c.specs.declared.failure.Failure.TheVariants as failure
 use Rattle.aclck_c.specs.declared.nfs4.ace.RawAce.{RawAce}
@@ -65,6 +73,17 @@ abbrev pub of_chmod : ChmodFault → Failure
 of_chmod chmod.Limits = failure.Refused past_limits
 of_chmod chmod.Memory = failure.Memory
 
+-- the failure of a list that has no list for one object
+abbrev pub of_resolve : ResolveFault → Failure
+of_resolve (resolve.Name place) = failure.Refused (unknown_at place)
+of_resolve resolve.Memory = failure.Memory
+
+-- the failure of a list in which an identifier that nobody knows gets no group of its own
+abbrev pub of_groups : GroupsFault → Failure
+of_groups (groups.Name place) = failure.Refused (unknown_at place)
+of_groups (groups.Merged place) = failure.Refused (merged place)
+of_groups groups.Memory = failure.Memory
+
 -- what a failure says: that an argument is bad, that the input is refused so, or what is known if memory runs out
 abbrev pub IsFailure : (AreGood : Type 0) → (Refusal → Type 0) → Type 0 → Failure → Type 0
 IsFailure AreGood IsRefused Known failure.BadArgument = AreGood → ⊥
@@ -79,6 +98,10 @@ IsListFailure p bytes which = IsFailure ⊤ (IsRefusedList p bytes which) (AreLi
 abbrev pub IsChmodFailure : Profile → ℕ → List ℕ → Failure → Type 0
 IsChmodFailure p mode bytes = IsFailure ⊤ (IsRefusedChmod p mode bytes) (AreList p bytes)
 
+-- the bytes of a list have the fault, an ACE needs a name that no ACE can have, or memory ran out
+abbrev pub IsObjectFailure : Profile → List ℕ → List ℕ → List ℕ → Failure → Type 0
+IsObjectFailure p bytes owner group = IsFailure ⊤ (IsRefusedObject p bytes owner group) (AreList p bytes)
+
 -- an ACE of an array is refused, or memory ran out
 abbrev pub IsBuildFailure : Profile → List RawAce → Failure → Type 0
 IsBuildFailure p aces = IsFailure ⊤ (IsRefusedBuild p aces) ⊤
@@ -91,6 +114,10 @@ of_part_fault why offset = failure.Refused (in_list offset why 0)
 -- the bytes spell no list of any ACEs, and have the fault, or memory ran out
 abbrev pub IsPartFailure : Profile → List ℕ → Failure → Type 0
 IsPartFailure p bytes = IsFailure ⊤ (IsRefusedPart p bytes) ⊤
+
+-- the same, or an identifier that nobody knows gets no group of its own
+abbrev pub IsNamingFailure : Profile → List ℕ → List ℕ → Failure → Type 0
+IsNamingFailure p bytes suffix = IsFailure ⊤ (IsRefusedNaming p bytes suffix) ⊤
 
 -- the bytes of a list have the fault; a call that looks at the bytes alone takes no memory
 abbrev pub IsViewFailure : Profile → List ℕ → Failure → Type 0
@@ -161,3 +188,11 @@ of_view fault = failure.Refused (view_refusal fault)
 -- the entries, which must be in canonical order, have the fault; the call takes no memory
 abbrev pub AreViewFailure : List RawEntry → Failure → Type 0
 AreViewFailure raws = IsFailure ⊤ (AreRefusedInOrder raws) ⊥
+
+-- the entries of the second of two ACLs have the fault; the call takes no memory
+abbrev pub AreSecondFailure : List RawEntry → Failure → Type 0
+AreSecondFailure raws = IsFailure ⊤ (AreRefusedSecond raws) ⊥
+
+-- the entries of one of two ACLs have the fault; the call takes no memory
+abbrev pub AreBothFailure : List RawEntry → List RawEntry → Failure → Type 0
+AreBothFailure raws others = IsFailure ⊤ (AreRefusedBoth raws others) ⊥

@@ -70,8 +70,8 @@ fn raw_decision(found: Option<Decision>) -> RawDecision
     }
 }
 
-// Returns the right of the mask, or `None` if the mask is not exactly one right.
-fn right_of(mask: Mask) -> Option<Right>
+/// Returns the right of the mask, or `None` if the mask is not exactly one right.
+pub(crate) fn right_of(mask: Mask) -> Option<Right>
     ensures right { IfSome result (λ right. IsRight mask.bits right.bit) }
     ensures none { IsNone result → IsSomeRight mask.bits → ⊥ }
 {

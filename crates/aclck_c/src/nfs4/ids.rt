@@ -59,8 +59,9 @@ impl From<IdsFault> for Failure {
     }
 }
 
-// Returns the refusal of a list whose ACE with this number has a name without an id.
-fn unknown_at(place: usize) -> Refusal
+/// Returns the refusal of a list whose ACE with this number has a name without an id, or needs a name that no ACE can
+/// have.
+pub(crate) fn unknown_at(place: usize) -> Refusal
     ensures { result ≡ unknown_at place }
 {
     Refusal::in_part(UNKNOWN_NAME, 0, place, 0)

@@ -2,15 +2,16 @@
 ghost use Rattle.std.specs.Prelude.{◌≡◌, ◌↔◌, List};
 ghost use Rattle.acl_nfs4.specs.Ace.{Ace};
 ghost use Rattle.acl_eval.specs.Prepared.{IsPrepared};
-ghost use Rattle.acl_eval.specs.Situation.{owner_of, owning_group_of};
-ghost use Rattle.aclck_c.specs.Prepared.{AnswersPrepared, AreDecidedIn, AreGoodForPrepared, IsPreparedCall, Prepares};
-ghost use Rattle.aclck_c.specs.Requests.{nothing_decided};
-ghost use Rattle.aclck_c.specs.Common.{IfErr, IfOk, IfSome, IsSome, profile_of, situation, WritesOfList, profile_from, asked, IsListFailure, IsProfileOption};
+ghost use Rattle.acl_eval.specs.Situation.{groups_of, owner_of, owning_group_of, user_of};
+ghost use Rattle.aclck_c.specs.Options.{says_order};
+ghost use Rattle.aclck_c.specs.Prepared.{AnswersPrepared, AreDecidedIn, AreGoodForPrepared, IsPreparedCall, Prepares, asked_prepared, groups_asked};
+ghost use Rattle.aclck_c.specs.Requests.{IsGoodRequester, nothing_decided};
+ghost use Rattle.aclck_c.specs.Common.{IfErr, IfOk, IfSome, IsSome, map, profile_of, situation, WritesOfList, profile_from, IsListFailure, IsProfileOption};
 
 use crate::failure::Failure;
 use crate::nfs4::decide::{NOTHING_DECIDED, RawDecided};
 use crate::nfs4::request::{RawObject, RawQuestion, RawRequester};
-use crate::options::{is_order_option, profile_from};
+use crate::options::{GROUPS_IN_ORDER, has_option, is_order_option, profile_from};
 use crate::out::answer;
 use crate::refusal::Refusal;
 use crate::status::{BAD_ARGUMENT, DONE};
@@ -51,9 +52,11 @@ fn prepared_bytes(alloc: Global, acl: &[u8], profile: Profile) -> Result<Vec<u8>
 }
 
 /// Answers as `aclck_decide` does for the list whose prepared bytes these are: which of the rights that are asked it
-/// allows the requester on the object, and which it denies. It stops when all of them are decided. Returns 0 if it is
-/// answered; 3 if a name is empty, or a number or an option has no meaning. Bytes that `aclck_prepare` did not write
-/// get 3, or an answer that means nothing. Nothing is decided if the call fails. It takes no memory.
+/// allows the requester on the object, and which it denies. It stops when all of them are decided. If the caller says
+/// that the groups are in order, each is looked up by binary search, and a group that the search misses does not count.
+/// Returns 0 if it is answered; 3 if a name is empty, or a number or an option has no meaning. Bytes that
+/// `aclck_prepare` did not write get 3, or an answer that means nothing. Nothing is decided if the call fails. It takes
+/// no memory.
 #[unsafe(no_mangle)]
 pub extern "C" fn aclck_decide_prepared(
     prepared: &[u8],
@@ -63,13 +66,14 @@ pub extern "C" fn aclck_decide_prepared(
     decided: &mut RawDecided,
 ) -> u32
     ensures { AnswersPrepared prepared.now (AreGoodForPrepared object.now requester.now question.now)
-        (AreDecidedIn (asked object.now requester.now) question.now.mask) nothing_decided decided.new result }
+        (AreDecidedIn (asked_prepared object.now question.now requester.now) question.now.mask)
+        nothing_decided decided.new result }
 {
     *decided = NOTHING_DECIDED;
     let Some(call) = call_of(object, question) else {
         return BAD_ARGUMENT;
     };
-    let Some(requester) = Requester::new(requester.user, requester.groups) else {
+    let Some(requester) = requester_of(&call, requester) else {
         return BAD_ARGUMENT;
     };
     match decided_by(prepared, &call, &requester) {
@@ -81,11 +85,13 @@ pub extern "C" fn aclck_decide_prepared(
     }
 }
 
-/// What is the same for all requesters: the object, and the rights that are requested.
+/// What is the same for all requesters: the object, the rights that are requested, and whether the caller says that the
+/// groups are in order.
 #[derive(Clone, Copy)]
 pub(crate) struct PreparedCall<'a> {
     pub object: Object<'a>,
     pub mask: Mask,
+    pub is_in_order: bool,
 }
 
 /// Returns what is asked of prepared bytes, or `None` if a name is empty, a bit of the mask is not a right, or an option
@@ -98,6 +104,7 @@ pub(crate) fn call_of<'a>(
     ensures owner { IfSome result (λ call. owner_of call.object ≡ object.now.owner.now) }
     ensures group { IfSome result (λ call. owning_group_of call.object ≡ object.now.group.now) }
     ensures mask { IfSome result (λ call. call.mask.bits ≡ question.now.mask) }
+    ensures order { IfSome result (λ call. call.is_in_order ≡ says_order question.now.options) }
 {
     if !is_order_option(question.options) {
         return None;
@@ -105,7 +112,25 @@ pub(crate) fn call_of<'a>(
     Some(PreparedCall {
         object: Object::new(object.owner, object.group)?,
         mask: Mask::new(question.mask)?,
+        is_in_order: has_option(GROUPS_IN_ORDER, question.options),
     })
+}
+
+/// Makes the requester of a call. Returns `None` if a name is empty.
+pub(crate) fn requester_of<'a>(
+    call: &PreparedCall<'_>,
+    who: &RawRequester<'a>,
+) -> Option<Requester<'a>>
+    ensures good { IsSome result ↔ IsGoodRequester who.now }
+    ensures user { IfSome result (λ requester. user_of requester ≡ who.now.user.now) }
+    ensures groups { IfSome result (λ requester. groups_of requester
+        ≡ groups_asked call.now.is_in_order (map (λ g. g.now) who.now.groups.now)) }
+{
+    if call.is_in_order {
+        Requester::in_order(who.user, who.groups)
+    } else {
+        Requester::new(who.user, who.groups)
+    }
 }
 
 /// Returns which of the rights the list whose prepared bytes these are allows the requester, and which it denies. For

@@ -3,16 +3,15 @@ ghost use Rattle.std.specs.Prelude.{◌≡◌, List, true};
 ghost use Rattle.acl_nfs4.specs.Ace.{Ace};
 ghost use Rattle.acl_eval.specs.Prepared.{IsPrepared};
 ghost use Rattle.acl_eval.specs.Situation.{owner_of, owning_group_of};
-ghost use Rattle.aclck_c.specs.Prepared.{AnswersPrepared, AreDecidedIn, AreEachDecided, AreGoodForPreparedMany, HaveDecided, nothing_decided_for};
-ghost use Rattle.aclck_c.specs.Requests.{IsGoodRequester, asked_by};
+ghost use Rattle.aclck_c.specs.Prepared.{AnswersPrepared, AreDecidedIn, AreEachDecided, AreGoodForPreparedMany, HaveDecided, asked_prepared, asked_prepared_by, nothing_decided_for};
+ghost use Rattle.aclck_c.specs.Requests.{IsGoodRequester};
 ghost use Rattle.aclck_c.specs.Common.{All, IfSome, IsSome, length};
 
 use crate::nfs4::check_many::are_good;
 use crate::nfs4::decide::{NOTHING_DECIDED, RawDecided};
-use crate::nfs4::prepared::{PreparedCall, call_of, decided_by};
+use crate::nfs4::prepared::{PreparedCall, call_of, decided_by, requester_of};
 use crate::nfs4::request::{RawObject, RawQuestion, RawRequester};
 use crate::status::{BAD_ARGUMENT, DONE};
-use acl_eval::Requester;
 
 /// Answers as `aclck_decide_prepared` does, for each of the requesters: the answers are in `decided`, one for each
 /// requester, and nothing is decided for any of them if the call fails. Returns 0 if it is answered; 3 if a name is
@@ -28,8 +27,8 @@ pub extern "C" fn aclck_decide_prepared_many(
 ) -> u32
     ensures { AnswersPrepared prepared.now
         (AreGoodForPreparedMany object.now requesters.now question.now (length decided.old))
-        (HaveDecided object.now requesters.now question.now.mask) (nothing_decided_for decided.old)
-        decided.new result }
+        (HaveDecided (asked_prepared object.now question.now) requesters.now question.now.mask)
+        (nothing_decided_for decided.old) decided.new result }
 {
     decided.fill(NOTHING_DECIDED);
     let Some(call) = call_of(object, question) else {
@@ -57,8 +56,8 @@ fn decide_each(
     ensures count { length decided.new ≡ length decided.old }
     ensures some { (list : List Ace) → IsPrepared list prepared.now → result ≡ true }
     ensures rights { (list : List Ace) → IsPrepared list prepared.now
-        → AreEachDecided (owner_of call.now.object) (owning_group_of call.now.object) requesters.now
-        call.now.mask.bits list decided.new }
+        → AreEachDecided (asked_prepared_by (owner_of call.now.object) (owning_group_of call.now.object)
+        call.now.is_in_order) requesters.now call.now.mask.bits list decided.new }
 {
     for (place, who) in requesters.iter().enumerate() {
         let Some(found) = decided_for(prepared, call, who) else {
@@ -78,9 +77,9 @@ fn decided_for(
     requires { IsGoodRequester who.now }
     ensures some { (list : List Ace) → IsPrepared list prepared.now → IsSome result }
     ensures rights { (list : List Ace) → IsPrepared list prepared.now
-        → IfSome result (AreDecidedIn (asked_by (owner_of call.now.object)
-        (owning_group_of call.now.object) who.now) call.now.mask.bits list) }
+        → IfSome result (AreDecidedIn (asked_prepared_by (owner_of call.now.object)
+        (owning_group_of call.now.object) call.now.is_in_order who.now) call.now.mask.bits list) }
 {
-    let requester = Requester::new(who.user, who.groups)?;
+    let requester = requester_of(call, who)?;
     decided_by(prepared, call, &requester)
 }

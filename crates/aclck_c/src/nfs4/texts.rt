@@ -11,6 +11,7 @@ ghost use Rattle.acl_nfs4.specs.Spelling.{spelling};
 ghost use Rattle.acl_normal.specs.FiveForms.{five_spellings};
 ghost use Rattle.acl_normal.specs.NormalForm.{Normalizes};
 ghost use Rattle.acl_normal.specs.Programs.{NormalizesAtPaths, Tabulates};
+ghost use Rattle.aclck_c.specs.Holders.{NamesHolders};
 ghost use Rattle.aclck_c.specs.Lists.{MakesChild, created_bytes};
 ghost use Rattle.aclck_c.specs.Table.{IsGoodTable, IsRightOf, is_right_of};
 ghost use Rattle.aclck_c.specs.Common.{IfErr, IfOk, IfSome, IsSome, profile_of, WritesOfList, profile_from, IsListFailure, IsCreationOption, IsProfileOption};
@@ -24,7 +25,7 @@ use crate::refusal::Refusal;
 use crate::status::BAD_ARGUMENT;
 use acl_eval::{child_of_view, inherited_child};
 use acl_nfs4::{Acl, AclView, bit_name};
-use acl_normal::{FiveForms, normalize, normalize_inherit, table_text};
+use acl_normal::{FiveForms, holders, normalize, normalize_inherit, table_text};
 use acl_perm::{Counted, Mask, Profile};
 use std::alloc::{AllocError, Global};
 
@@ -229,4 +230,37 @@ fn tabulated(alloc: Global, acl: &[u8], bit: Mask, profile: Profile) -> Result<V
 {
     let list = list_of(alloc, acl, profile)?;
     Ok(table_text(alloc, &list, bit)?)
+}
+
+/// Writes in words who has the one right that is asked: one line for each row of the table of the right, from the last
+/// row to the first (this library's own, over RFC 8881, section 6.2.1). Of the lines that are about a requester, the
+/// last one decides. It also returns 3 if not exactly one right of the profile is asked.
+#[unsafe(no_mangle)]
+pub extern "C" fn aclck_holders(
+    alloc: Global,
+    acl: &[u8],
+    question: &RawQuestion,
+    out: &mut [u8],
+    needed: &mut usize,
+    fault: &mut Refusal,
+) -> u32
+    ensures { WritesOfList (profile_from question.now.options) acl.now (IsGoodTable question.now)
+        (NamesHolders (profile_from question.now.options) question.now.mask acl.now)
+        out.old out.new needed.old needed.new fault.old fault.new result }
+{
+    let Some(profile) = profile_from(question.options) else {
+        return BAD_ARGUMENT;
+    };
+    let Some(bit) = right_of(question.mask, profile) else {
+        return BAD_ARGUMENT;
+    };
+    answer(holders_in(alloc, acl, bit, profile), out, needed, fault)
+}
+
+fn holders_in(alloc: Global, acl: &[u8], bit: Mask, profile: Profile) -> Result<Vec<u8>, Failure>
+    ensures ok { IfOk result (λ text. NamesHolders (profile_of profile) bit.bits acl.now text.items) }
+    ensures err { IfErr result (IsListFailure (profile_of profile) acl.now 0) }
+{
+    let list = list_of(alloc, acl, profile)?;
+    Ok(holders(alloc, &list, bit)?)
 }

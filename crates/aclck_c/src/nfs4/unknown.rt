@@ -79,7 +79,12 @@ fn possible_in(alloc: Global, acl: &[u8], request: &NfsRequest<'_>) -> Result<Ra
     Ok(possible_of(alloc, &part, request)?)
 }
 
-fn part_of<'a>(alloc: Global, acl: &'a [u8], profile: Profile) -> Result<AccessPart<'a>, Failure>
+/// Reads the part of a list that access reads. Fails if the bytes are refused, or memory runs out.
+pub(crate) fn part_of<'a>(
+    alloc: Global,
+    acl: &'a [u8],
+    profile: Profile,
+) -> Result<AccessPart<'a>, Failure>
     ensures ok { IfOk result (IsPartOf (profile_of profile) acl.now) }
     ensures err { IfErr result (IsPartFailure (profile_of profile) acl.now) }
 {

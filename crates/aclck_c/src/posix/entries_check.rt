@@ -5,7 +5,8 @@ ghost use Rattle.acl_posix.specs.Tag.{tag_of};
 ghost use Rattle.aclck_c.specs.Entries.{ChecksEntries, DecideEntries, HaveMode, IsPlaced, IsTagPlaced, no_posix_decision, view_refusal};
 ghost use Rattle.aclck_c.specs.Call.{LooksAtEntries};
 ghost use Rattle.aclck_c.specs.internal.Failures.{AreViewFailure, of_view};
-ghost use Rattle.std.specs.Prelude.{◌≡◌, option_map};
+ghost use Rattle.aclck_c.specs.internal.Deciders.{HasEntry};
+ghost use Rattle.std.specs.Prelude.{◌≡◌, IfSome, option_map};
 ghost use Rattle.aclck_c.specs.Common.{⊤, IfErr, IfOk, GivesAnswer, IsTruthOf};
 
 use crate::failure::Failure;
@@ -158,8 +159,9 @@ struct EntryPlace {
 
 const NO_PLACE: EntryPlace = EntryPlace { place: 0, tag: 0 };
 
-// Returns where the entry that decides is.
+// Returns where the entry that decides is, which is one of the entries.
 fn placed(acl: &EntriesView<'_>, entry: Option<Tag>) -> EntryPlace
+    requires { IfSome (option_map tag_of entry) (HasEntry acl.now) }
     ensures { IsPlaced acl.now (option_map tag_of entry) result.place result.tag }
 {
     match entry {
@@ -169,6 +171,7 @@ fn placed(acl: &EntriesView<'_>, entry: Option<Tag>) -> EntryPlace
 }
 
 fn place_of(acl: &EntriesView<'_>, tag: Tag) -> EntryPlace
+    requires { HasEntry acl.now (tag_of tag) }
     ensures { IsTagPlaced acl.now (tag_of tag) result.place result.tag }
 {
     match acl.place(tag) {
@@ -176,7 +179,7 @@ fn place_of(acl: &EntriesView<'_>, tag: Tag) -> EntryPlace
             place: place as u64,
             tag: raw_tag_number(tag),
         },
-        None => NO_PLACE,
+        None => unreachable!(),
     }
 }
 
@@ -228,8 +231,8 @@ impl From<ViewFault> for Failure {
     }
 }
 
-// Returns the fault of entries that must be in canonical order, by its numbers for C.
-fn view_refusal(fault: ViewFault) -> Refusal
+/// Returns the fault of entries that must be in canonical order, by its numbers for C.
+pub(crate) fn view_refusal(fault: ViewFault) -> Refusal
     ensures { result ≡ view_refusal fault }
 {
     match fault {

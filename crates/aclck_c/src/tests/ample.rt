@@ -2,6 +2,8 @@
 //! text grants is by acl(5), "ACCESS CHECK ALGORITHM", and the numbers of statuses and reasons are those of `aclck.h`.
 mod building;
 mod exceeding;
+mod forms;
+mod implying;
 mod lists;
 
 use super::{LIST, no_fault, normalize_into};

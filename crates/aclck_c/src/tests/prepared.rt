@@ -15,9 +15,18 @@ pub(super) const PREPARED: &[u8; 19] = b"aclprep1\x01\0\0\0\x02\xb5\x03\0bob";
 // The same bytes, whose last ACE ends inside its name.
 const CUT: &[u8; 18] = b"aclprep1\x01\0\0\0\x02\xb5\x03\0bo";
 
+// DENY READ_DATA to the group users, and ALLOW READ_DATA EVERYONE@: 7 for a DENY of a group, and 8 for an ALLOW of
+// everyone, whose name is empty.
+const GROUP_DENIED: &[u8; 29] = b"aclprep1\x01\0\0\0\x07\x08\x05\0users\x01\0\0\0\x08\0\0\0";
+
 const READ: RawQuestion = RawQuestion {
     mask: 1,
     options: 0,
+};
+
+const READ_IN_ORDER: RawQuestion = RawQuestion {
+    mask: 1,
+    options: GROUPS_IN_ORDER,
 };
 
 const UNTOUCHED: RawDecided = RawDecided {
@@ -97,4 +106,39 @@ fn each_requester_has_a_place(rt: HostRuntime) -> Result<(), Fail> {
         assert_eq!(rt; answer, expected);
     }
     Ok(())
+}
+
+// The rights that `GROUP_DENIED` denies bob, who is in these groups: alone, and as the second of two requesters.
+fn denied(groups: &[&[u8]], question: &RawQuestion) -> (u32, u32) {
+    let bob = RawRequester {
+        user: b"bob",
+        groups,
+    };
+    let mut alone = UNTOUCHED;
+    aclck_decide_prepared(GROUP_DENIED, &OBJECT, &bob, question, &mut alone);
+    let mut both = [UNTOUCHED; 2];
+    aclck_decide_prepared_many(
+        GROUP_DENIED,
+        &OBJECT,
+        &[named(b"eve"), bob],
+        question,
+        &mut both,
+    );
+    (alone.denied, both[1].denied)
+}
+
+// Groups, and whether bob is denied READ_DATA: if the caller does not say that they are in order, and if the caller
+// does. A binary search compares with staff first, and then with the name behind it.
+#[test]
+fn a_group_that_a_binary_search_misses_denies_nothing(rt: HostRuntime) {
+    let rows: [(&[&[u8]], u32, u32); 4] = [
+        (&[], 0, 0),
+        (&[b"admin", b"staff", b"users"], 1, 1),
+        (&[b"users", b"staff", b"admin"], 1, 0),
+        (&[b"users", b"staff", b"users"], 1, 1),
+    ];
+    for (groups, unsaid, said) in rows {
+        assert!(rt; denied(groups, &READ) == (unsaid, unsaid));
+        assert!(rt; denied(groups, &READ_IN_ORDER) == (said, said));
+    }
 }

@@ -4,7 +4,10 @@ use crate::options::{DIRECTORY, MARK_INHERITED, NARROW};
 use crate::status::{BAD_ARGUMENT, DONE, REFUSED, SHORT};
 use crate::tests::prepared::PREPARED;
 use crate::tests::{LIST, no_fault};
-use crate::{aclck_child, aclck_chmod, aclck_prepare};
+use crate::{
+    RawObject, RawSuffix, aclck_child, aclck_chmod, aclck_prepare, aclck_resolved,
+    aclck_with_groups,
+};
 use std::test::Fail;
 
 #[test]
@@ -88,6 +91,82 @@ fn a_list_gets_a_mode(rt: HostRuntime) -> Result<(), Fail> {
         assert_eq!(rt; status, expected);
         assert_eq!(rt; needed, if expected == DONE { 76 } else { 0 });
         assert_eq!(rt; out == *PRIVATE, expected == DONE);
+    }
+    Ok(())
+}
+
+// ALLOW READ_DATA OWNER@ and DENY EXECUTE GROUP@, and the same with the owner bob and the owning group staff.
+const UNNAMED: &[u8; 52] = b"\0\0\0\x02\
+\0\0\0\0\0\0\0\0\0\0\0\x01\0\0\0\x06OWNER@\0\0\
+\0\0\0\x01\0\0\0\0\0\0\0\x20\0\0\0\x06GROUP@\0\0";
+
+const NAMED: &[u8; 48] = b"\0\0\0\x02\
+\0\0\0\0\0\0\0\0\0\0\0\x01\0\0\0\x03bob\0\
+\0\0\0\x01\0\0\0\x40\0\0\0\x20\0\0\0\x05staff\0\0\0";
+
+#[test]
+fn the_owner_and_the_owning_group_are_named(rt: HostRuntime) -> Result<(), Fail> {
+    let rows: [(&[u8], &[u8], u32, u32, u64); 5] = [
+        (b"bob", b"staff", 0, DONE, 0),
+        (b"bob", b"staff", DIRECTORY, BAD_ARGUMENT, 0),
+        (b"", b"staff", 0, BAD_ARGUMENT, 0),
+        (b"EVERYONE@", b"staff", 0, REFUSED, 0),
+        (b"bob", b"x@", 0, REFUSED, 1),
+    ];
+    for (owner, group, options, expected, place) in rows {
+        let mut fault = no_fault();
+        let mut needed = 0;
+        let mut out = [7u8; 48];
+        let object = RawObject { owner, group };
+        let status = aclck_resolved(
+            rt.alloc(),
+            UNNAMED,
+            &object,
+            options,
+            &mut out,
+            &mut needed,
+            &mut fault,
+        );
+        assert_eq!(rt; status, expected);
+        assert_eq!(rt; out == *NAMED, expected == DONE);
+        assert_eq!(rt; fault.offset, place);
+    }
+    Ok(())
+}
+
+// ALLOW READ_DATA NOW@ after an ALARM ACE of everybody, and what stays with the suffix `?`.
+const SPECIAL: &[u8; 52] = b"\0\0\0\x02\
+\0\0\0\x03\0\0\0\0\0\0\0\x01\0\0\0\x09EVERYONE@\0\0\0\
+\0\0\0\0\0\0\0\0\0\0\0\x01\0\0\0\x04NOW@";
+
+const GROUPED: &[u8; 28] = b"\0\0\0\x01\0\0\0\0\0\0\0\x40\0\0\0\x01\0\0\0\x05NOW@?\0\0\0";
+
+#[test]
+fn a_group_stands_for_a_special_name(rt: HostRuntime) -> Result<(), Fail> {
+    let rows: [(&[u8], &[u8], u32, u32, u64); 5] = [
+        (SPECIAL, b"?", 0, DONE, 0),
+        (SPECIAL, b"?", DIRECTORY, BAD_ARGUMENT, 0),
+        (SPECIAL, b"@", 0, REFUSED, 0),
+        (&SPECIAL[..51], b"?", 0, REFUSED, 48),
+        (GROUPED, b"", 0, DONE, 0),
+    ];
+    for (acl, suffix, options, expected, place) in rows {
+        let mut fault = no_fault();
+        let mut needed = 0;
+        let mut out = [7u8; 28];
+        let suffix = RawSuffix { bytes: suffix };
+        let status = aclck_with_groups(
+            rt.alloc(),
+            acl,
+            &suffix,
+            options,
+            &mut out,
+            &mut needed,
+            &mut fault,
+        );
+        assert_eq!(rt; status, expected);
+        assert_eq!(rt; out == *GROUPED, expected == DONE);
+        assert_eq!(rt; fault.offset, place);
     }
     Ok(())
 }

@@ -1,0 +1,131 @@
+//! Values of forms. The text is in nfs4_setfacl(1), and the bytes are in the layout of RFC 4506; the flags of a list are
+//! those of RFC 8881, section 6.2.2.
+use crate::status::{BAD_ARGUMENT, DONE, REFUSED, SHORT};
+use crate::tests::{LIST, no_fault};
+use crate::{Refusal, aclck_read_form, aclck_write_form};
+use std::alloc::Global;
+use std::test::Fail;
+
+const FILE: u32 = 1;
+
+const DIRECTORY: u32 = 2;
+
+const ACL41: u32 = 3;
+
+const ACL41_IDS: u32 = 4;
+
+// The list of bob with the flag PROTECTED, as the attribute dacl has it.
+const DACL: &[u8; 28] = b"\0\0\0\x02\0\0\0\x01\0\0\0\0\0\0\0\0\0\0\0\x01\0\0\0\x03bob\0";
+
+// Returns the status of `aclck_read_form` with room for `LIST`, the bytes, their number and the flags.
+fn read(
+    alloc: Global,
+    value: &[u8],
+    form: u32,
+    fault: &mut Refusal,
+) -> (u32, [u8; 24], usize, u32) {
+    let mut out = [7u8; 24];
+    let mut needed = 9;
+    let mut flags = 77;
+    let status = aclck_read_form(alloc, value, form, &mut out, &mut needed, &mut flags, fault);
+    (status, out, needed, flags)
+}
+
+#[test]
+fn a_value_is_read_in_its_form(rt: HostRuntime) -> Result<(), Fail> {
+    let rows: [(u32, &[u8], u32, u32); 7] = [
+        (FILE, b"A::bob:r\n", DONE, 0),
+        (DIRECTORY, b"A::bob:r", DONE, 0),
+        (ACL41, DACL, DONE, 2),
+        (ACL41_IDS, DACL, REFUSED, 77),
+        (FILE, DACL, REFUSED, 77),
+        (0, DACL, BAD_ARGUMENT, 77),
+        (5, DACL, BAD_ARGUMENT, 77),
+    ];
+    for (form, value, expected, bits) in rows {
+        let mut fault = no_fault();
+        let (status, out, needed, flags) = read(rt.alloc(), value, form, &mut fault);
+        assert_eq!(rt; status, expected);
+        assert_eq!(rt; flags, bits);
+        assert_eq!(rt; needed, if expected == DONE { 24 } else { 9 });
+        assert_eq!(rt; out == *LIST, expected == DONE);
+        assert_eq!(rt; fault.reason != no_fault().reason, expected == REFUSED);
+    }
+    Ok(())
+}
+
+#[test]
+fn a_value_is_refused_at_its_byte(rt: HostRuntime) -> Result<(), Fail> {
+    let rows: [(u32, &[u8], u32, u64); 5] = [
+        (FILE, b"A:f:bob:r", 35, 2),
+        (DIRECTORY, b"A:f:bob:r\nD::", 16, 10),
+        (DIRECTORY, b"\n", 36, 1),
+        (ACL41, b"\0\0\0\x08", 33, 0),
+        (ACL41_IDS, &DACL[..7], 1, 4),
+    ];
+    for (form, value, reason, offset) in rows {
+        let mut fault = no_fault();
+        let (status, _, _, _) = read(rt.alloc(), value, form, &mut fault);
+        assert_eq!(rt; status, REFUSED);
+        assert_eq!(rt; fault.reason, reason);
+        assert_eq!(rt; fault.offset, offset);
+        assert_eq!(rt;
+            (fault.line, fault.column, fault.list, fault.tag),
+            (0, 0, 0, 0)
+        );
+    }
+    Ok(())
+}
+
+#[test]
+fn a_short_buffer_for_a_list_has_its_flags(rt: HostRuntime) -> Result<(), Fail> {
+    let mut fault = no_fault();
+    let mut out = [7u8; 23];
+    let mut needed = 0;
+    let mut flags = 77;
+    let status = aclck_read_form(
+        rt.alloc(),
+        DACL,
+        ACL41,
+        &mut out,
+        &mut needed,
+        &mut flags,
+        &mut fault,
+    );
+    assert_eq!(rt; (status, needed, flags), (SHORT, 24, 2));
+    assert_eq!(rt; out, [7u8; 23]);
+    Ok(())
+}
+
+#[test]
+fn a_list_is_written_in_a_form_that_holds_it(rt: HostRuntime) -> Result<(), Fail> {
+    let rows: [(u32, u32, u32, &[u8], u32); 8] = [
+        (FILE, 0, DONE, b"A::bob:r\n", 0),
+        (DIRECTORY, 0, DONE, b"A::bob:r\n", 0),
+        (ACL41, 2, DONE, DACL, 0),
+        (FILE, 2, REFUSED, b"", 45),
+        (ACL41_IDS, 2, REFUSED, b"", 41),
+        (ACL41, 8, BAD_ARGUMENT, b"", 0),
+        (FILE, 8, BAD_ARGUMENT, b"", 0),
+        (5, 0, BAD_ARGUMENT, b"", 0),
+    ];
+    for (form, flags, expected, value, reason) in rows {
+        let mut fault = no_fault();
+        let mut out = [7u8; 28];
+        let mut needed = 0;
+        let status = aclck_write_form(
+            rt.alloc(),
+            LIST,
+            form,
+            flags,
+            &mut out,
+            &mut needed,
+            &mut fault,
+        );
+        assert_eq!(rt; status, expected);
+        assert_eq!(rt; needed, value.len());
+        assert_eq!(rt; out.get(..needed), Some(value));
+        assert_eq!(rt; fault.reason, reason);
+    }
+    Ok(())
+}

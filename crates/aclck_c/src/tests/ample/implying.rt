@@ -1,0 +1,69 @@
+//! What a right of a list implies, and who has a right, by RFC 8881, section 6.2.1.
+use crate::options::DIRECTORY;
+use crate::status::{BAD_ARGUMENT, DONE};
+use crate::tests::{LIST, no_fault};
+use crate::{RawDifference, RawImplication, RawQuestion, aclck_holders, aclck_implies};
+use std::test::Fail;
+
+const UNTOUCHED: RawDifference = RawDifference {
+    names: 7,
+    same: 7,
+    right: 7,
+    first_grants: 7,
+};
+
+#[test]
+fn the_right_to_read_implies_itself_and_not_the_right_to_write(
+    rt: HostRuntime,
+) -> Result<(), Fail> {
+    let rows = [
+        (1, 1, 0, (DONE, 1, 0, 0)),
+        (2, 1, 0, (DONE, 1, 0, 0)),
+        (1, 3, 0, (DONE, 0, 2, 0)),
+        (3, 1, 0, (BAD_ARGUMENT, 0, 0, 0)),
+        (1, 0x800, 0, (BAD_ARGUMENT, 0, 0, 0)),
+        (1, 1, DIRECTORY, (BAD_ARGUMENT, 0, 0, 0)),
+    ];
+    for (right, others, options, expected) in rows {
+        let mut fault = no_fault();
+        let mut found = UNTOUCHED;
+        let mut room = [7u8; 40];
+        let implication = RawImplication {
+            right,
+            others,
+            options,
+        };
+        let status = aclck_implies(
+            rt.alloc(),
+            LIST,
+            &implication,
+            &mut found,
+            &mut room,
+            &mut fault,
+        );
+        let answer = (status, found.same, found.right, found.first_grants);
+        assert_eq!(rt; answer, expected);
+    }
+    Ok(())
+}
+
+#[test]
+fn bob_alone_may_read_and_nobody_may_write(rt: HostRuntime) -> Result<(), Fail> {
+    for (mask, words) in [(1, b"user bob\n".as_slice()), (2, b"nobody\n".as_slice())] {
+        let question = RawQuestion { mask, options: 0 };
+        let mut fault = no_fault();
+        let mut room = [7u8; 20];
+        let mut needed = 0;
+        let status = aclck_holders(
+            rt.alloc(),
+            LIST,
+            &question,
+            &mut room,
+            &mut needed,
+            &mut fault,
+        );
+        assert_eq!(rt; status, DONE);
+        assert!(rt; room.get(..needed).is_some_and(|text| text == words));
+    }
+    Ok(())
+}
