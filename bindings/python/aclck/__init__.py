@@ -9,8 +9,9 @@ Names of users and groups are `str` or `bytes`. In a `str`, bytes that are not U
 from ._library import VERSION
 from .aces import ALLOW, DENY, Ace, AceFlag, AceKind
 from .faults import Refused
+from .forms import ListFlag, ListForm
 from .nfs import Decision, Difference, NfsAcl, TableRow
-from .posix import Entry, PosixAcl, PosixDecision
+from .posix import Entry, PosixAcl, PosixDecision, PosixDifference
 from .prepared import (
     Prepared,
     PreparedIds,
@@ -61,8 +62,11 @@ __all__ = [
     "EXECUTE",
     "Entry",
     "LIST_DIRECTORY",
+    "ListFlag",
+    "ListForm",
     "NfsAcl",
     "PosixDecision",
+    "PosixDifference",
     "PosixAcl",
     "Possible",
     "Prepared",

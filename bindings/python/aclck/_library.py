@@ -1,9 +1,4 @@
-"""The calls of libaclck.so.1, with ctypes. No other module uses ctypes. include/aclck.h says what each call does.
-
-If the environment variable ACLCK_LIBRARY is set, it is the path of the library. Otherwise the library is searched next
-to this module, where `make install-library` installs it, then where `make library` leaves it, and then where the loader
-of the system searches.
-"""
+"""The calls of libaclck.so.1, with ctypes. include/aclck.h says what each call does."""
 
 from __future__ import annotations
 
@@ -12,6 +7,7 @@ import operator
 import os
 from typing import Any, Callable, Iterable, List, Sequence, Tuple, TypeVar, Union
 
+from ._loading import load
 from .faults import refused
 
 Name = Union[str, bytes]
@@ -27,26 +23,8 @@ UNDECIDED = 2
 NARROW, DIRECTORY, SHOWN, FORM_SHORT = 0x01000000, 0x02000000, 0x04000000, 0x08000000
 GROUPS_IN_ORDER, MARK_INHERITED, ADD_MASK, MAY_MERGE = 0x10000000, 0x20000000, 0x40000000, 0x00800000
 
-
-_ABOVE = os.path.dirname(os.path.dirname(os.path.dirname(os.path.dirname(os.path.abspath(__file__)))))
-_PLACES = (os.path.join(_ABOVE, "libaclck.so.1"), os.path.join(_ABOVE, "library", "out", "libaclck.so.1"))
-
-
-def _load() -> ctypes.CDLL:
-    named = os.environ.get("ACLCK_LIBRARY")
-    beside = [place for place in _PLACES if os.path.exists(place)]
-    failure = ""
-    for place in [named] if named else [*beside, "libaclck.so.1", "/usr/local/lib/libaclck.so.1"]:
-        try:
-            return ctypes.CDLL(place)
-        except OSError as error:
-            failure = failure or str(error)
-    raise ImportError("aclck needs the library libaclck.so.1, which `make library install-library` of aclck installs "
-                      f"({failure})")
-
-
 Word = ctypes.c_uint32
-_size = ctypes.c_size_t
+_size, _many = ctypes.c_size_t, ctypes.POINTER(Word)
 
 
 class Bytes(ctypes.Structure):
@@ -95,6 +73,12 @@ class Question(ctypes.Structure):
     """The rights that are asked, and the options."""
 
     _fields_ = [("mask", Word), ("options", Word)]
+
+
+class Implication(ctypes.Structure):
+    """Whether whoever gets a right gets others, and the options."""
+
+    _fields_ = [("right", Word), ("others", Word), ("options", Word)]
 
 
 class Masks(ctypes.Structure):
@@ -148,8 +132,7 @@ class PosixText(ctypes.Structure):
 class PosixQuestion(ctypes.Structure):
     """What is asked of a POSIX ACL."""
 
-    _fields_ = [("owner", Word), ("group", Word), ("user", Word), ("want", Word),
-                ("groups", ctypes.POINTER(Word)), ("ngroups", _size)]
+    _fields_ = [("owner", Word), ("group", Word), ("user", Word), ("want", Word), ("groups", _many), ("ngroups", _size)]
 
 
 class Entry(ctypes.Structure):
@@ -180,6 +163,12 @@ class PosixDecision(ctypes.Structure):
     """The entry that decides a request."""
 
     _fields_ = [("place", ctypes.c_uint64), ("granted", Word), ("tag", Word), ("masked", Word)]
+
+
+class PosixDifference(ctypes.Structure):
+    """What one POSIX ACL grants and another denies."""
+
+    _fields_ = [(name, Word) for name in "same owner group user want ngroups first_group second_group".split()]
 
 
 class Fault(ctypes.Structure):
@@ -219,10 +208,11 @@ class Difference(ctypes.Structure):
     _fields_ = [("names", ctypes.c_uint64), ("same", Word), ("right", Word), ("first_grants", Word)]
 
 
-lib = _load()
+lib = load()
 _fault, _words = ctypes.POINTER(Fault), ctypes.POINTER(Word)
 _out = [Buffer, ctypes.POINTER(_size)]
 _asked = [Bytes, ctypes.POINTER(Object), ctypes.POINTER(Requester), ctypes.POINTER(Question)]
+_asked_by_ids = [ctypes.POINTER(IdObject), ctypes.POINTER(IdRequester), ctypes.POINTER(Question)]
 _posix = ctypes.POINTER(PosixText)
 _entries = [EntryBuffer, ctypes.POINTER(_size), _fault]
 _posix_asked = [Entries, ctypes.POINTER(PosixQuestion)]
@@ -233,8 +223,7 @@ _TYPES: "dict[str, list[Any]]" = {
     "granted": [*_asked, _words, _fault],
     "deciding": [*_asked, ctypes.POINTER(Decision), _fault],
     "prepare_ids": [Bytes, ctypes.POINTER(Names), Word, *_out, _fault],
-    "decide_ids": [Bytes, ctypes.POINTER(IdObject), ctypes.POINTER(IdRequester), ctypes.POINTER(Question),
-                   ctypes.POINTER(Decided)],
+    "decide_ids": [Bytes, *_asked_by_ids, ctypes.POINTER(Decided)],
     "check_many": [Bytes, ctypes.POINTER(Object), Requesters, ctypes.POINTER(Question), Masks, _fault],
     "prepare": [Bytes, Word, *_out, _fault],
     "decide_prepared": [*_asked, ctypes.POINTER(Decided)],
@@ -247,13 +236,19 @@ _TYPES: "dict[str, list[Any]]" = {
     "next": [Bytes, Word, ctypes.POINTER(_size), ctypes.POINTER(Ace), _fault],
     "encode": [Bytes, Word, *_out, _fault],
     "renamed": [Bytes, ctypes.POINTER(Renamings), Word, *_out, _fault],
+    "resolved": [Bytes, ctypes.POINTER(Object), Word, *_out, _fault],
+    "with_groups": [Bytes, ctypes.POINTER(Bytes), Word, *_out, _fault],
+    "read_form": [Bytes, Word, *_out, _words, _fault],
+    "write_form": [Bytes, Word, Word, *_out, _fault],
     "normalize": [Bytes, Word, *_out, _fault],
     "normalize_inherit": [Bytes, Word, *_out, _fault],
     "table": [Bytes, ctypes.POINTER(Question), *_out, _fault],
+    "holders": [Bytes, ctypes.POINTER(Question), *_out, _fault],
     "needed": [Bytes, Word, Masks, ctypes.POINTER(_size), _fault],
     "same": [Bytes, Bytes, Word, _words, _fault],
     "compare": [Bytes, Bytes, Word, ctypes.POINTER(Difference), Buffer, _fault],
     "excess": [Bytes, Bytes, Word, ctypes.POINTER(Difference), Buffer, _fault],
+    "implies": [Bytes, ctypes.POINTER(Implication), ctypes.POINTER(Difference), Buffer, _fault],
     "read_mask": [Bytes, _words],
     "mask_text": [Word, *_out],
     "reason_text": [Word, *_out],
@@ -266,6 +261,7 @@ _TYPES: "dict[str, list[Any]]" = {
     "entries_check": [*_posix_asked, _words, _fault],
     "entries_deciding": [*_posix_asked, ctypes.POINTER(PosixDecision), _fault],
     "entries_mode": [Entries, _words, _fault],
+    "entries_excess": [Entries, Entries, ctypes.POINTER(PosixDifference), _fault],
     "entries_sorted": [Entries, Word, *_entries],
     "entries_chmod": [Entries, Word, *_entries],
     "entries_calc_mask": [Entries, *_entries],
@@ -339,10 +335,8 @@ def owned(owner: Name, group: Name) -> Object:
 
 
 def word(number: int) -> int:
-    """Returns a number that C gets in 32 bits. ctypes itself would cut a larger number in silence.
-
-    Raises ValueError if the number is outside 32 bits, and TypeError if it is not an `int`.
-    """
+    """Returns a number that C gets in 32 bits. ctypes itself would cut a larger number in silence. Raises ValueError if
+    the number is outside 32 bits, and TypeError if it is not an `int`."""
     if not 0 <= operator.index(number) <= 0xFFFFFFFF:
         raise ValueError(f"outside 32 bits: {number:#x}")
     return number
@@ -368,12 +362,13 @@ def judge(status: int, fault: Fault) -> None:
         raise MemoryError
 
 
-def bytes_of(name: str, args: Sequence[Any], room: int) -> bytes:
-    """Makes a call that writes bytes, and returns them. The first buffer has `room` bytes."""
+def bytes_of(name: str, args: Sequence[Any], room: int, *answers: Any) -> bytes:
+    """Makes a call that writes bytes, and returns them. The first buffer has `room` bytes. The call writes each of the
+    answers too."""
     def written(size: int) -> Tuple[Any, Buffer]:
         out = ctypes.create_string_buffer(size or 1)
         return out, Buffer(ctypes.addressof(out), size)
-    out, length = _filled(name, args, room, written)
+    out, length = _filled(name, args, room, written, answers)
     return bytes(out.raw[:length])
 
 
@@ -386,12 +381,13 @@ def entries_of(name: str, args: Sequence[Any], room: int) -> List[Entry]:
     return list(out[:length])
 
 
-def _filled(name: str, args: Sequence[Any], room: int, written: Callable[[int], Tuple[Any, Any]]) -> Tuple[Any, int]:
+def _filled(name: str, args: Sequence[Any], room: int, written: Callable[[int], Tuple[Any, Any]],
+            answers: Sequence[Any] = ()) -> Tuple[Any, int]:
     """Makes a call with a buffer that is long enough. Returns the buffer, and how much of it was written."""
     call, needed, fault = calls[name], _size(), Fault()
     while True:
         out, buffer = written(room)
-        status = call(*args, buffer, ctypes.byref(needed), ctypes.byref(fault))
+        status = call(*args, buffer, ctypes.byref(needed), *answers, ctypes.byref(fault))
         if status != SHORT:
             judge(status, fault)
             return out, needed.value

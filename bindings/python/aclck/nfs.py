@@ -4,13 +4,15 @@ from __future__ import annotations
 
 import ctypes
 import os
-from typing import Iterable, Iterator, List, Mapping, NamedTuple, Optional, Tuple, TypeVar
+from typing import Any, Iterable, Iterator, List, Mapping, NamedTuple, Optional, Tuple, TypeVar
 
 from . import _library as c
 from . import aces as ace_values
+from . import forms
 from ._library import File, Name
 from .aces import Ace, AceKind
 from .faults import Refused
+from .forms import ListFlag, ListForm
 from .prepared import Prepared, PreparedIds, names_in_c
 from .questions import Decided, Requesters, decided
 from .rights import ALL
@@ -87,6 +89,26 @@ class NfsAcl:
         given = c.encoded(text)
         data = c.bytes_of("encode", (c.in_c(given), c.NARROW if narrow else 0), 2 * len(given) + 4)
         return cls(data, narrow=narrow)
+
+    @classmethod
+    def from_form(cls, value: Name, form: ListForm) -> Tuple[NfsAcl, ListFlag]:
+        """Reads the value in which another system keeps or prints a list, and returns the list and the flags of the
+        whole list, which a text does not have. A who that is an id has its decimal digits; `renamed` exchanges them.
+
+        Raises Refused, with the offset in the value, if the value spells no list in the form, and TypeError if the form
+        is not a `ListForm`.
+        """
+        data, flags = forms.read(c.encoded(value), form)
+        return cls(data), flags
+
+    def to_form(self, form: ListForm, flags: int = ListFlag(0)) -> bytes:
+        """Returns the value of the list and of flags of the whole list in the form of another system.
+
+        Raises Refused, with the place of the ACE from 0, if the form cannot hold the list or the flags: nothing is left
+        out in silence. Raises ValueError if the flags are not those of `ListFlag`, and TypeError if the form is not a
+        `ListForm`.
+        """
+        return forms.written(self._list, form, flags)
 
     def _mode(self) -> int:
         found, fault = ctypes.c_uint32(), c.Fault()
@@ -172,6 +194,20 @@ class NfsAcl:
         question = c.Question(c.word(mask), c.NARROW if narrow else 0)
         return possible(memoryview(data).tobytes(), c.owned(owner, group), c.requester(user, groups), question)
 
+    @classmethod
+    def with_groups(cls, data: bytes, suffix: Name, *, narrow: bool = False) -> NfsAcl:
+        """Reads a list whose special names nobody knows, such as `INTERACTIVE@`: a group stands for each of them, whose
+        name is that name with the suffix behind it. AUDIT and ALARM ACEs are left out. A requester of whom it is known
+        which of the special names match has the groups of these names.
+
+        Raises Refused, with the offset, if the bytes are not such a list; and with the place of the ACE among those
+        that stay, with the reason `UnknownName` if a special name with the suffix is not the name of a group, and with
+        the reason `Merged` if an ACE is already for a group of such a name.
+        """
+        held = memoryview(data).tobytes()
+        args = (c.in_c(held), c.in_c(c.encoded(suffix)), c.NARROW if narrow else 0)
+        return cls(c.bytes_of("with_groups", args, 2 * len(held)), narrow=narrow)
+
     def prepare(self) -> Prepared:
         """Returns the list in a form that answers sooner, because it is read once. The form is bytes, which can be kept
         in a file or in memory that is shared."""
@@ -254,11 +290,30 @@ class NfsAcl:
         options = self._options | (c.MAY_MERGE if may_merge else 0)
         return self._like(c.bytes_of("renamed", (self._list, table, options), 2 * len(self._bytes)))
 
+    def resolved(self, *, owner: Name, group: Name) -> NfsAcl:
+        """Returns the list for one object: its owner, as a user, stands for `OWNER@`, its owning group, as a group, for
+        `GROUP@`, and all else stays. Whatever object the new list is asked for, it grants each requester what this list
+        grants for that one object. So `compare`, `exceeds` and `normalize` of new lists are about that object alone.
+        New objects have another owner: take `child` of this list.
+
+        Raises Refused with the reason `UnknownName` and the place of the ACE if an ACE needs a name that no ACE can
+        have, and ValueError if a name is empty.
+        """
+        names = len(self) * (len(c.encoded(owner)) + len(c.encoded(group)))
+        args = (self._list, c.owned(owner, group), self._options)
+        return self._like(c.bytes_of("resolved", args, len(self._bytes) + names))
+
     def table(self, right: int) -> List[TableRow]:
         """Returns the ACEs of the normal form that have one right. Raises ValueError if it is not exactly one right."""
         text = c.bytes_of("table", (self._list, self._question(right)), 64 * (len(self) + 1))
         rows = [line.split(" ", 3) for line in c.decoded(text).split("\n")[:-1]]
         return [TableRow(int(source), AceKind(kind), flag == "GROUP", who) for source, kind, flag, who in rows]
+
+    def holders(self, right: int) -> str:
+        """Returns who has one right, in words: one line for each row of the table, from the last row to the first. Of
+        the lines that are about a requester, the last one decides (docs/lists.md, "Who has a right"). Raises ValueError
+        if it is not exactly one right."""
+        return c.decoded(c.bytes_of("holders", (self._list, self._question(right)), 64 * (len(self) + 1)))
 
     def needed(self) -> List[int]:
         """Returns for each ACE, in order, the rights that are needed: the list cut to these masks grants the same, and
@@ -285,12 +340,22 @@ class NfsAcl:
         this list grants a right that the other list does not grant."""
         return self._difference("excess", other)
 
+    def implies(self, right: int, others: int) -> Optional[Difference]:
+        """Returns None if everybody to whom this list grants a right also gets each of some others, and otherwise a
+        requester who gets the right, with the lowest of the others that the list denies (docs/lists.md, "What one right
+        implies"). Raises ValueError if `right` is not exactly one right, or `others` is no mask."""
+        asked = c.Implication(c.word(right), c.word(others), self._options)
+        return self._found("implies", ctypes.byref(asked))
+
     def _difference(self, call: str, other: NfsAcl) -> Optional[Difference]:
+        return self._found(call, other._list, self._options & other._options)
+
+    def _found(self, call: str, *rest: Any) -> Optional[Difference]:
         at, fault, room = c.Difference(), c.Fault(), 512
         while True:
             out = ctypes.create_string_buffer(room)
-            status = c.calls[call](self._list, other._list, self._options & other._options, ctypes.byref(at),
-                                   c.Buffer(ctypes.addressof(out), room), ctypes.byref(fault))
+            status = c.calls[call](self._list, *rest, ctypes.byref(at), c.Buffer(ctypes.addressof(out), room),
+                                   ctypes.byref(fault))
             if status != c.SHORT:
                 break
             room = at.names

@@ -25,7 +25,7 @@ _ACCESS, _DEFAULT = "system.posix_acl_access", "system.posix_acl_default"
 _CANONICAL = 0
 _FORMS = {"canonical": _CANONICAL, "shown": c.SHOWN, "short": c.FORM_SHORT}
 
-T = TypeVar("T", c.Word, c.PosixDecision)
+T = TypeVar("T", c.Word, c.PosixDecision, c.PosixDifference)
 
 
 class Entry(NamedTuple):
@@ -50,6 +50,17 @@ class PosixDecision(NamedTuple):
     granted: bool
     entry: Optional[Entry]
     masked: bool
+
+
+class PosixDifference(NamedTuple):
+    """A request that one list grants and another denies: the owner and the group of the object, the user, the groups of
+    the user, at most two, and the permissions, a sum of 4 (r), 2 (w) and 1 (x)."""
+
+    owner: int
+    group: int
+    user: int
+    groups: Tuple[int, ...]
+    want: int
 
 
 class PosixAcl:
@@ -220,14 +231,24 @@ class PosixAcl:
         c.judge(c.calls[call](self._access, *args, ctypes.byref(answer), ctypes.byref(fault)), fault)
         return answer
 
+    def exceeds(self, other: PosixAcl) -> Optional[PosixDifference]:
+        """Returns None if the other access ACL grants everybody whatever this one grants, for every request and every
+        owner and group of the object, and otherwise a request that this one grants and the other denies: some
+        requester, and the lowest number for which there is one. The default entries do not count."""
+        found = self._ask("entries_excess", c.PosixDifference(), other._access)
+        if found.same:
+            return None
+        groups = (found.first_group, found.second_group)[:found.ngroups]
+        return PosixDifference(found.owner, found.group, found.user, groups, found.want)
+
+    def at_most(self, other: PosixAcl) -> bool:
+        """Returns whether the other access ACL grants everybody whatever this one grants."""
+        return self.exceeds(other) is None
+
     def means_the_same(self, other: PosixAcl) -> bool:
         """Returns whether both access ACLs grant everybody the same, for every request and every owner and group of the
-        object. Their bridges decide this: if two ACLs grant each single permission alike, they also grant each request
-        for several permissions alike. The default entries do not count.
-
-        Raises Refused with the reason `Limits` if a bridge would be too long.
-        """
-        return self.bridge().means_the_same(other.bridge())
+        object: neither exceeds the other. The default entries do not count."""
+        return self.at_most(other) and other.at_most(self)
 
     def chmod(self, mode: int) -> PosixAcl:
         """Returns the list after chmod(2) with these nine bits. Raises ValueError if the mode is above 0o777."""

@@ -47,6 +47,17 @@ pub struct PosixDecision {
     pub masked: bool,
 }
 
+/// A request that one list of entries grants and another denies: the owner and the group of an object, a user, the
+/// groups of that user, at most two, and the permissions that the user wants.
+#[derive(Clone, Debug, PartialEq, Eq)]
+pub struct PosixDifference {
+    pub owner: u32,
+    pub group: u32,
+    pub user: u32,
+    pub groups: Vec<u32>,
+    pub want: u32,
+}
+
 /// Returns whether the entries, which are in canonical order, grant what is asked.
 pub fn entries_check(entries: &[Entry], question: PosixQuestion) -> Result<bool, Error> {
     let entries = raw_entries(entries);
@@ -64,6 +75,18 @@ pub fn entries_deciding(entries: &[Entry], question: PosixQuestion) -> Result<Po
     })?;
     let place = (found.tag != 0).then_some(found.place);
     Ok(PosixDecision { granted: found.granted == 1, place, masked: found.masked == 1 })
+}
+
+/// Returns a request that the first entries grant and the second deny, or `None` if the second entries grant whatever
+/// the first grant. Both are in canonical order.
+pub fn entries_excess(first: &[Entry], second: &[Entry]) -> Result<Option<PosixDifference>, Error> {
+    let (first, second) = (raw_entries(first), raw_entries(second));
+    let found: raw::PosixDifference = answered(|found, fault| unsafe {
+        raw::aclck_entries_excess(Array::of(&first), Array::of(&second), found, fault)
+    })?;
+    let groups = [found.first_group, found.second_group].into_iter().take(found.ngroups as usize).collect();
+    let raw::PosixDifference { owner, group, user, want, .. } = found;
+    Ok((found.same == 0).then_some(PosixDifference { owner, group, user, groups, want }))
 }
 
 /// Returns the mode of the entries.

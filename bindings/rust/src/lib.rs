@@ -7,6 +7,7 @@
 mod aces;
 mod answers;
 mod entries;
+mod forms;
 mod nfs4;
 mod posix;
 mod prepared;
@@ -21,13 +22,15 @@ use std::fmt;
 
 pub use aces::{aces, build, Ace};
 pub use nfs4::{
-    check, check_many, child, child_marked, chmod, compare, decide, deciding, encode, excess, granted, mode, needed,
-    normalize, normalize_inherit, same, show, table,
+    check, check_many, child, child_marked, chmod, compare, decide, deciding, encode, excess, granted, holders, implies,
+    mode, needed, normalize, normalize_inherit, resolved, same, show, table, with_groups,
 };
 pub use entries::{
-    entries_bridge, entries_calc_mask, entries_check, entries_chmod, entries_create, entries_deciding,
-    entries_from_attribute, entries_mode, entries_sorted, entries_to_attribute, Entry, MissingMask, PosixDecision, Tag,
+    entries_bridge, entries_calc_mask, entries_check, entries_chmod, entries_create, entries_deciding, entries_excess,
+    entries_from_attribute, entries_mode, entries_sorted, entries_to_attribute, Entry, MissingMask, PosixDecision,
+    PosixDifference, Tag,
 };
+pub use forms::{read_form, write_form, ListFlags, ListForm};
 pub use posix::{
     posix_bridge, posix_calc_mask, posix_check, posix_chmod, posix_create, posix_show, Name, PosixQuestion, PosixText,
 };

@@ -97,6 +97,25 @@ pub fn chmod(acl: &[u8], mode: u32, profile: Profile) -> Result<Vec<u8>, Error> 
     })
 }
 
+/// Returns the list for one object, in which its owner, as a user, stands for `OWNER@`, and its owning group, as a group,
+/// for `GROUP@`. If an ACE needs a name that no ACE can have, `offset` of the fault is the place of the ACE, from 0.
+pub fn resolved(acl: &[u8], object: &Object, profile: Profile) -> Result<Vec<u8>, Error> {
+    let object = raw::Object { owner: Bytes::of(object.owner), group: Bytes::of(object.group) };
+    made(2 * acl.len(), |out, needed, fault| unsafe {
+        raw::aclck_resolved(Bytes::of(acl), &object, options(profile), out, needed, fault)
+    })
+}
+
+/// Returns the list without AUDIT and ALARM ACEs in which a group stands for each special name that nobody knows: its
+/// name is the special name followed by the suffix. If such a name cannot be that of a group, or an ACE is already for
+/// a group of that name, `offset` of the fault is the place of the ACE, from 0, among those that stay.
+pub fn with_groups(acl: &[u8], suffix: &[u8], profile: Profile) -> Result<Vec<u8>, Error> {
+    let suffix = Bytes::of(suffix);
+    made(2 * acl.len(), |out, needed, fault| unsafe {
+        raw::aclck_with_groups(Bytes::of(acl), &suffix, options(profile), out, needed, fault)
+    })
+}
+
 /// Returns the text of the list.
 pub fn show(acl: &[u8], profile: Profile) -> Result<Vec<u8>, Error> {
     let options = options(profile);
@@ -131,6 +150,13 @@ pub fn table(acl: &[u8], right: Rights, profile: Profile) -> Result<Vec<u8>, Err
     made(acl.len(), |out, needed, fault| unsafe { raw::aclck_table(Bytes::of(acl), &asked, out, needed, fault) })
 }
 
+/// Returns who has one right, in words: one line per ACE of the normal form that has the right, from the last ACE to
+/// the first. Of the lines that are about a requester, the last one decides.
+pub fn holders(acl: &[u8], right: Rights, profile: Profile) -> Result<Vec<u8>, Error> {
+    let asked = question(right, profile);
+    made(acl.len(), |out, needed, fault| unsafe { raw::aclck_holders(Bytes::of(acl), &asked, out, needed, fault) })
+}
+
 /// Returns for each ACE, in order, the rights that are needed: the list cut to them grants everybody the same, and no
 /// right can be taken out of it.
 pub fn needed(acl: &[u8], profile: Profile) -> Result<Vec<Rights>, Error> {
@@ -161,12 +187,27 @@ pub fn excess(first: &[u8], second: &[u8], profile: Profile) -> Result<Option<Di
     differing(first, second, profile, raw::aclck_excess)
 }
 
+/// Returns `None` if everybody to whom the list grants the one right also gets each of the others, and otherwise a
+/// requester who gets the right, with the lowest of the others that the list denies.
+pub fn implies(acl: &[u8], right: Rights, others: Rights, profile: Profile) -> Result<Option<Difference>, Error> {
+    let asked = raw::Implication { right: right.bits(), others: others.bits(), options: options(profile) };
+    found(|at, out, fault| unsafe { raw::aclck_implies(Bytes::of(acl), &asked, at, out, fault) })
+}
+
 type Comparing = unsafe extern "C" fn(Bytes, Bytes, u32, *mut raw::Difference, Buffer<u8>, *mut raw::Fault) -> u32;
 
 fn differing(first: &[u8], second: &[u8], profile: Profile, call: Comparing) -> Result<Option<Difference>, Error> {
+    found(|at, out, fault| unsafe {
+        call(Bytes::of(first), Bytes::of(second), options(profile), at, out, fault)
+    })
+}
+
+fn found(
+    mut call: impl FnMut(*mut raw::Difference, Buffer<u8>, *mut raw::Fault) -> u32,
+) -> Result<Option<Difference>, Error> {
     let mut at = raw::Difference::default();
-    let names = made(256, |out, needed, fault| unsafe {
-        let status = call(Bytes::of(first), Bytes::of(second), options(profile), &mut at, out, fault);
+    let names = made(256, |out, needed, fault| {
+        let status = call(&mut at, out, fault);
         *needed = at.names as usize;
         status
     })?;

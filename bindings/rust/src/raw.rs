@@ -89,6 +89,14 @@ pub struct Question {
     pub options: u32,
 }
 
+/// `aclck_implication`.
+#[repr(C)]
+pub struct Implication {
+    pub right: u32,
+    pub others: u32,
+    pub options: u32,
+}
+
 /// `aclck_ace`.
 #[repr(C)]
 #[derive(Default)]
@@ -159,6 +167,20 @@ pub struct PosixDecision {
     pub granted: u32,
     pub tag: u32,
     pub masked: u32,
+}
+
+/// `aclck_posix_difference`.
+#[repr(C)]
+#[derive(Default)]
+pub struct PosixDifference {
+    pub same: u32,
+    pub owner: u32,
+    pub group: u32,
+    pub user: u32,
+    pub want: u32,
+    pub ngroups: u32,
+    pub first_group: u32,
+    pub second_group: u32,
 }
 
 /// `aclck_fault`: why and where something is refused.
@@ -280,11 +302,26 @@ extern "C" {
         acl: Bytes, table: *const Array<Renaming>, options: u32, out: Buffer<u8>, needed: *mut usize,
         fault: *mut Fault,
     ) -> u32;
+    pub fn aclck_resolved(
+        acl: Bytes, object: *const Object, options: u32, out: Buffer<u8>, needed: *mut usize, fault: *mut Fault,
+    ) -> u32;
+    pub fn aclck_with_groups(
+        acl: Bytes, suffix: *const Bytes, options: u32, out: Buffer<u8>, needed: *mut usize, fault: *mut Fault,
+    ) -> u32;
+    pub fn aclck_read_form(
+        value: Bytes, form: u32, out: Buffer<u8>, needed: *mut usize, flags: *mut u32, fault: *mut Fault,
+    ) -> u32;
+    pub fn aclck_write_form(
+        acl: Bytes, form: u32, flags: u32, out: Buffer<u8>, needed: *mut usize, fault: *mut Fault,
+    ) -> u32;
     pub fn aclck_normalize(acl: Bytes, options: u32, out: Buffer<u8>, needed: *mut usize, fault: *mut Fault) -> u32;
     pub fn aclck_normalize_inherit(
         acl: Bytes, options: u32, out: Buffer<u8>, needed: *mut usize, fault: *mut Fault,
     ) -> u32;
     pub fn aclck_table(
+        acl: Bytes, question: *const Question, out: Buffer<u8>, needed: *mut usize, fault: *mut Fault,
+    ) -> u32;
+    pub fn aclck_holders(
         acl: Bytes, question: *const Question, out: Buffer<u8>, needed: *mut usize, fault: *mut Fault,
     ) -> u32;
     pub fn aclck_needed(acl: Bytes, options: u32, masks: Buffer<u32>, needed: *mut usize, fault: *mut Fault) -> u32;
@@ -294,6 +331,9 @@ extern "C" {
     ) -> u32;
     pub fn aclck_excess(
         first: Bytes, second: Bytes, options: u32, difference: *mut Difference, out: Buffer<u8>, fault: *mut Fault,
+    ) -> u32;
+    pub fn aclck_implies(
+        acl: Bytes, implication: *const Implication, difference: *mut Difference, out: Buffer<u8>, fault: *mut Fault,
     ) -> u32;
     pub fn aclck_read_mask(text: Bytes, mask: *mut u32) -> u32;
     pub fn aclck_mask_text(mask: u32, out: Buffer<u8>, needed: *mut usize) -> u32;
@@ -321,6 +361,9 @@ extern "C" {
     ) -> u32;
     pub fn aclck_entries_deciding(
         entries: Array<Entry>, question: *const PosixQuestion, decision: *mut PosixDecision, fault: *mut Fault,
+    ) -> u32;
+    pub fn aclck_entries_excess(
+        first: Array<Entry>, second: Array<Entry>, difference: *mut PosixDifference, fault: *mut Fault,
     ) -> u32;
     pub fn aclck_entries_mode(entries: Array<Entry>, mode: *mut u32, fault: *mut Fault) -> u32;
     pub fn aclck_entries_sorted(

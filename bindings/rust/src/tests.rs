@@ -108,6 +108,7 @@ fn a_child_inherits_by_its_kind() {
     assert_eq!(chmod(DIRECTORY, 0o1000, Profile::Full), Err(Error::BadArgument));
     assert!(normalize_inherit(DIRECTORY, Profile::Full).unwrap().len() > 20);
     assert!(table(DIRECTORY, Rights::WRITE_DATA, Profile::Full).unwrap().starts_with(b"0 DENY - mallory\n"));
+    assert!(holders(DIRECTORY, Rights::WRITE_DATA, Profile::Full).unwrap().ends_with(b"not user mallory\n"));
 }
 
 // RFC 8881, section 6.2.1.5: a server may take some users for INTERACTIVE@, and nobody else knows whom.
@@ -145,6 +146,10 @@ fn a_normal_form_grants_the_same() {
     let list = encode(&text, Profile::Full).unwrap();
     assert_eq!(excess(&[0; 4], &list, Profile::Full), Ok(None));
     assert_eq!(excess(&list, &[0; 4], Profile::Full), compare(&list, &[0; 4], Profile::Full));
+    assert_eq!(implies(&list, Rights::WRITE_DATA, Rights::READ_DATA, Profile::Full), Ok(None));
+    let missing = implies(&list, Rights::READ_DATA, Rights::WRITE_DATA, Profile::Full).unwrap().unwrap();
+    assert_eq!((missing.right, missing.first_grants), (Rights::WRITE_DATA, false));
+    assert!(implies(&list, Rights::of(3), Rights::READ_DATA, Profile::Full).is_err());
     let found = compare(&list, &[0; 4], Profile::Full).unwrap().unwrap();
     assert!(found.first_grants && !found.user.is_empty());
     assert_eq!((found.right, found.groups), (Rights::READ_DATA, vec![group.to_vec()]));
@@ -163,6 +168,51 @@ fn names_are_exchanged() {
         let made = renamed(&list, &table, merging, Profile::Full).unwrap();
         assert_eq!(String::from_utf8(show(&made, Profile::Full).unwrap()).unwrap(), text);
     }
+}
+
+#[test]
+fn the_owner_and_the_owning_group_are_named() {
+    let list = encode(b"ALLOW - READ_DATA OWNER@\nDENY - EXECUTE GROUP@\n", Profile::Full).unwrap();
+    let made = resolved(&list, &Object { owner: b"amy", group: b"staff" }, Profile::Full).unwrap();
+    let text = String::from_utf8(show(&made, Profile::Full).unwrap()).unwrap();
+    assert_eq!(text, "ALLOW - READ_DATA amy\nDENY GROUP EXECUTE staff\n");
+    let fault = resolved(&list, &Object { owner: b"amy", group: b"GROUP@" }, Profile::Full).unwrap_err();
+    assert!(matches!(fault, Error::Refused(Fault { reason: 22, offset: 1, .. })), "{fault}");
+    assert_eq!(resolved(&list, &Object { owner: b"", group: b"staff" }, Profile::Full), Err(Error::BadArgument));
+}
+
+#[test]
+fn a_group_stands_for_a_special_name() {
+    // ALLOW READ_DATA NOW@, which no text spells.
+    let list = b"\0\0\0\x01\0\0\0\0\0\0\0\0\0\0\0\x01\0\0\0\x04NOW@";
+    let made = with_groups(list, b"?", Profile::Full).unwrap();
+    assert_eq!(String::from_utf8(show(&made, Profile::Full).unwrap()).unwrap(), "ALLOW GROUP READ_DATA NOW@?\n");
+    let fault = with_groups(list, b"@", Profile::Full).unwrap_err();
+    assert!(matches!(fault, Error::Refused(Fault { reason: 22, offset: 0, .. })), "{fault}");
+}
+
+#[test]
+fn a_list_has_a_value_in_each_form() {
+    // The attribute dacl begins with the flags; in Samba's nfs41acl.x an ACE has type, flags, no special who, mask, id.
+    let list = encode(b"ALLOW GROUP READ_DATA 20\n", Profile::Full).unwrap();
+    let dacl = [&[0, 0, 0, 6], &list[..]].concat();
+    let ids = b"\0\0\0\x06\0\0\0\x01\0\0\0\0\0\0\0\x40\0\0\0\0\0\0\0\x01\0\0\0\x14";
+    let both = ListFlags::PROTECTED | ListFlags::DEFAULTED;
+    let rows: [(ListForm, ListFlags, &[u8]); 4] = [
+        (ListForm::NfsToolsFile, ListFlags::NONE, b"A:g:20:r\n"),
+        (ListForm::NfsToolsDirectory, ListFlags::NONE, b"A:g:20:r\n"),
+        (ListForm::NfsAcl41, both, &dacl),
+        (ListForm::NfsAcl41Ids, both, ids),
+    ];
+    for (form, flags, value) in rows {
+        assert_eq!(read_form(value, form), Ok((list.clone(), flags)));
+        assert_eq!(write_form(&list, form, flags).as_deref(), Ok(value));
+    }
+    assert!(both.contains(ListFlags::PROTECTED) && !both.contains(ListFlags::AUTO_INHERIT));
+    let fault = write_form(&list, ListForm::NfsToolsFile, both).unwrap_err();
+    assert!(matches!(fault, Error::Refused(Fault { reason: 45, offset: 0, .. })), "{fault}");
+    let fault = read_form(b"A:g:20:r\nA:f:20:r\n", ListForm::NfsToolsFile).unwrap_err();
+    assert!(matches!(fault, Error::Refused(Fault { reason: 35, offset: 11, .. })), "{fault}");
 }
 
 #[test]
@@ -212,6 +262,8 @@ fn posix_entries_are_asked_and_changed() {
     let by_bob = PosixDecision { granted: false, place: Some(1), masked: true };
     assert_eq!(entries_check(&limited, asked(5, 2)), Ok(false));
     assert_eq!(entries_deciding(&limited, asked(5, 2)), Ok(by_bob));
+    let writes = PosixDifference { owner: 0, group: 0, user: 5, groups: vec![], want: 2 };
+    assert_eq!((entries_excess(&list, &limited), entries_excess(&limited, &list)), (Ok(Some(writes)), Ok(None)));
     assert_eq!(entries_calc_mask(&limited), Ok(list.clone()));
     assert_eq!(entries_create(&list, 0o640, 0, Kind::File), Ok(limited.clone()));
     assert_eq!(entries_from_attribute(&entries_to_attribute(&list).unwrap()), Ok(list.clone()));
