@@ -71,3 +71,7 @@ let mask (profile : Xdr.profile) text =
   in
   if text = "none" then 0
   else List.fold_left (fun set name -> set lor right name) 0 (String.split_on_char '|' text)
+
+let mask_text mask =
+  let names = List.filter (fun (_, bit) -> mask land (1 lsl bit) <> 0) right_names in
+  if names = [] then "-" else String.concat "|" (List.map fst names)

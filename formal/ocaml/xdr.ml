@@ -87,22 +87,23 @@ let is_utf8 text =
 let is_control c = Char.code c < 0x20 || Char.code c = 0x7f
 let is_special who = List.mem who [ "OWNER@"; "GROUP@"; "EVERYONE@" ]
 
-let read_who reader =
+let read_who is_any reader =
   let length, at = word reader in
   refuse_if (length = 0 || length > 1024) "WhoLength" at;
   let who, at = take reader length in
   refuse_if (not (is_utf8 who)) "WhoUtf8" at;
   refuse_if (String.exists is_control who) "WhoControl" at;
-  refuse_if (who.[length - 1] = '@' && not (is_special who)) "SpecialWho" at;
+  refuse_if ((not is_any) && who.[length - 1] = '@' && not (is_special who)) "SpecialWho" at;
   let padding, at = take reader (-length land 3) in
   refuse_if (String.exists (fun c -> c <> '\000') padding) "Padding" at;
   who
 
-(* The next ACE, where the masks before it have so many bits, and how many they have with its
-   own. *)
-let read_ace profile reader weight =
+(* The next ACE, where the masks before it have so many bits, and how many they have with its own.
+   With is_any, an ACE may have each type and each special who, and if it is an AUDIT or an ALARM,
+   there is none. *)
+let read_ace is_any profile reader weight =
   let kind, at = word reader in
-  refuse_if (kind = 2 || kind = 3) "AuditOrAlarm" at;
+  refuse_if ((not is_any) && (kind = 2 || kind = 3)) "AuditOrAlarm" at;
   refuse_if (kind > 3) "AceType" at;
   let flags, at = word reader in
   refuse_if (flags land lnot profile.flags <> 0) "FlagBits" at;
@@ -110,20 +111,31 @@ let read_ace profile reader weight =
   refuse_if (mask land lnot profile.rights <> 0) "MaskBits" at;
   let weight = weight + ones mask in
   refuse_if (weight > most) "TooHeavy" at;
-  let who = read_who reader in
-  let kind = if kind = 0 then Acl.Allow else Acl.Deny in
-  ({ Acl.kind0 = kind; flags = number flags; mask = number mask; who = name who }, weight)
+  let who = read_who is_any reader in
+  let ace kind = { Acl.kind0 = kind; flags = number flags; mask = number mask; who = name who } in
+  let read =
+    match kind with 0 -> Some (ace Acl.Allow) | 1 -> Some (ace Acl.Deny) | _ -> None
+  in
+  (read, weight)
 
-let read_list profile reader =
+let read_aces is_any profile reader =
   let count, at = word reader in
   refuse_if (count > most) "TooManyAces" at;
   let rec from aces weight left =
     if left = 0 then List.rev aces
     else
-      let ace, weight = read_ace profile reader weight in
+      let ace, weight = read_ace is_any profile reader weight in
       from (ace :: aces) weight (left - 1)
   in
   from [] 0 count
+
+let read_list profile reader = List.filter_map Fun.id (read_aces false profile reader)
+
+(* What access reads of a list: the ALLOW and DENY ACEs, and the number of the others. *)
+let read_access_part profile reader =
+  let aces = read_aces true profile reader in
+  let part = List.filter_map Fun.id aces in
+  (part, List.length aces - List.length part)
 
 let read_end reader =
   refuse_if (reader.place < String.length reader.input) "TrailingBytes" reader.place
