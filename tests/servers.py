@@ -1,0 +1,92 @@
+"""A server of PostgreSQL for tests/postgres, tests/tree_load and bench/database, in a folder of its own and as a user
+without privileges.
+"""
+import os
+import pwd
+import shutil
+import signal
+import subprocess
+import tempfile
+import time
+
+ROOT = os.path.dirname(os.path.dirname(os.path.abspath(__file__)))
+MADE = os.path.dirname(os.path.abspath(os.environ.get("ACLCK_LIBRARY", f"{ROOT}/library/out/libaclck.so.1")))
+
+
+class Missing(Exception):
+    """What a machine lacks."""
+
+
+class Server:
+    """A server in a folder, with the extension. It can run under another program: `under` has the words of this, in which
+    {folder} stands for the folder."""
+
+    def __init__(self, under=(), **settings):
+        self.under, self.settings = under, settings
+        if not shutil.which("pg_config"):
+            raise Missing("pg_config is not installed")
+        try:
+            found = {word: self.output("pg_config", f"--{word}") for word in ("bindir", "includedir-server", "pgxs")}
+        except subprocess.CalledProcessError:
+            raise Missing("what pg_config tells of is not installed") from None
+        self.programs, self.pgxs = found["bindir"], os.path.dirname(found["pgxs"])
+        for place in (f"{self.programs}/postgres", f"{found['includedir-server']}/postgres.h"):
+            if not os.path.exists(place):
+                raise Missing(f"{place} is not installed")
+        if "extension_destdir" not in self.output(f"{self.programs}/postgres", "--describe-config"):
+            raise Missing("this PostgreSQL loads no extension from a folder")
+        if not all(map(shutil.which, ("psql", "make", "cc"))):
+            raise Missing("psql, make or cc is not installed")
+        self.folder = tempfile.mkdtemp(prefix="aclck-")
+        self.user = {}
+        if os.getuid() == 0:
+            account = pwd.getpwnam("nobody")
+            self.user = {"user": account.pw_uid, "group": account.pw_gid, "extra_groups": []}
+            os.chown(self.folder, account.pw_uid, account.pw_gid)
+        self.child = None
+        others = {name: value for name, value in os.environ.items() if not name.startswith("PG")}
+        self.environment = {**others, "PGHOST": self.folder, "PGUSER": "tester", "PGDATABASE": "postgres",
+                            "PGOPTIONS": "", "LC_ALL": "C.UTF-8"}
+
+    @staticmethod
+    def output(*words):
+        return subprocess.run(words, check=True, stdout=subprocess.PIPE, text=True).stdout.strip()
+
+    def build(self):
+        """Builds the extension, and installs it below the folder."""
+        built = os.path.join(self.folder, "built")
+        os.mkdir(built)
+        for target in (["all"], ["install", f"DESTDIR={self.folder}/destination"]):
+            done = subprocess.run(["make", "-s", "-C", built, "-f", os.path.join(ROOT, "postgres/Makefile"),
+                                   f"LIBACLCK={MADE}/libaclck.a", *target], stdout=subprocess.PIPE,
+                                  stderr=subprocess.STDOUT, text=True, env=self.environment)
+            if done.returncode or "warning:" in done.stdout:
+                raise RuntimeError(f"the extension does not build: {done.stdout}")
+
+    def start(self):
+        """Builds the extension, and starts the server."""
+        self.build()
+        data = os.path.join(self.folder, "data")
+        subprocess.run([f"{self.programs}/initdb", "-D", data, "-U", "tester", "-A", "trust", "-E", "UTF8", "--locale",
+                        "C.UTF-8", "--no-sync"], check=True, stdout=subprocess.PIPE, cwd=self.folder, **self.user)
+        settings = {"listen_addresses": "", "unix_socket_directories": self.folder, "fsync": "off",
+                    "extension_destdir": f"{self.folder}/destination", "max_parallel_workers_per_gather": "0",
+                    "shared_buffers": "16MB", "log_min_messages": "panic", "autovacuum": "off", **self.settings}
+        words = [f"--{name}={value}" for name, value in settings.items()]
+        under = [word.format(folder=self.folder) for word in self.under]
+        self.child = subprocess.Popen([*under, f"{self.programs}/postgres", "-D", data, *words], cwd=self.folder,
+                                      stdout=subprocess.DEVNULL, stderr=subprocess.DEVNULL, **self.user)
+        for _ in range(1200):
+            if subprocess.run([f"{self.programs}/pg_isready", "-q"], env=self.environment).returncode == 0:
+                return
+            if self.child.poll() is not None:
+                break
+            time.sleep(0.05)
+        raise RuntimeError(f"the server does not start: {self.child.poll()}")
+
+    def stop(self):
+        """Stops the server, and removes the folder."""
+        if self.child:
+            self.child.send_signal(signal.SIGINT)  # which ends what is asked too
+            self.child.wait(60)
+        shutil.rmtree(self.folder, ignore_errors=True)
