@@ -1,0 +1,198 @@
+"""The command line of `aclck-form`."""
+
+from __future__ import annotations
+
+import argparse
+import contextlib
+import os
+import re
+import sys
+from typing import TYPE_CHECKING, List, NoReturn, Optional
+
+from aclck import ListFlag, Refused
+from aclck_tree import VERSION
+from aclck_tree.errors import DEVICE, REFUSED, YES, DeviceError, TreeError, UsageError
+from aclck_tree.text import quoted_line
+
+from .accounts import System, Table, exchanged
+from .values import IDS, NFS, POSIX, TOOLS, WITH_FLAGS, read_nfs, read_posix, written_nfs, written_posix
+
+if TYPE_CHECKING:
+    from _typeshed import SupportsWrite
+
+LONGEST = 1 << 27
+"""How many bytes are read at most. Each value that the program writes is shorter: a list has at most 65,536 ACEs."""
+
+_EPILOG = """forms of NFSv4 lists:
+  xdr            the attribute system.nfs4_acl
+  text           the text of aclck show-nfs
+  nfs4-tools     the text of nfs4_getfacl and nfs4_setfacl
+  nfs41          the attribute system.nfs4_dacl, with flags of the list
+  nfs41-ids      the attribute security.nfs4acl_xdr, with flags and with ids
+forms of POSIX lists:
+  posix          the text of getfacl -n
+  posix-access   the attribute system.posix_acl_access
+  posix-default  the attribute system.posix_acl_default
+
+example: nfs4_getfacl plan.odt | aclck-form --file nfs4-tools xdr > plan.xdr
+
+exit status: 0 done, 2 the value is refused or TO cannot hold it, 3 the
+command line is wrong, 4 a read or a write failed or memory ran out"""
+
+
+class _Parser(argparse.ArgumentParser):
+    def error(self, message: str) -> NoReturn:
+        raise UsageError(message)
+
+    def _print_message(self, message: str, file: Optional[SupportsWrite[str]] = None) -> None:
+        _write(message.encode())  # that of argparse says nothing of a failure
+
+
+def _flags(text: str) -> ListFlag:
+    names = set() if text == "none" else set(text.split("|"))
+    if not names <= set(ListFlag.__members__):
+        raise argparse.ArgumentTypeError(f"{text!r} is not none or some of {'|'.join(ListFlag.__members__)}")
+    return ListFlag(sum(ListFlag[name] for name in names))
+
+
+def _mode(text: str) -> int:
+    if not re.fullmatch("0?[0-7]{1,3}", text):
+        raise argparse.ArgumentTypeError(f"{text!r} is not a mode")
+    return int(text, 8)
+
+
+def parser_of() -> argparse.ArgumentParser:
+    """Returns the parser of the command line."""
+    parser = _Parser(prog="aclck-form", epilog=_EPILOG, allow_abbrev=False,
+                     formatter_class=argparse.RawDescriptionHelpFormatter,
+                     description="Reads an access control list in the form FROM, and writes it in the form TO.")
+    parser.add_argument("--version", action="version", version=f"aclck-form {VERSION}")
+    parser.add_argument("source", metavar="FROM", choices=(*NFS, *POSIX), help="the form of standard input")
+    parser.add_argument("target", metavar="TO", choices=(*NFS, *POSIX), help="the form of standard output")
+    kinds = parser.add_mutually_exclusive_group()
+    for kind in ("file", "directory"):
+        kinds.add_argument(f"--{kind}", dest="kind", action="store_const", const=kind,
+                           help=f"with nfs4-tools: it is the list of a {kind}")
+    parser.add_argument("--bridge", action="store_true", help="make an NFSv4 list that grants r, w and x each as the "
+                        "POSIX list does")
+    parser.add_argument("--mode", metavar="OCT", type=_mode, help="with FROM posix-default: the mode of the directory")
+    names = parser.add_mutually_exclusive_group()
+    names.add_argument("--names", metavar="FILE", help="exchange names and ids: lines u:NAME=ID and g:NAME=ID")
+    names.add_argument("--system", action="store_true", help="exchange names and ids, as this system has them")
+    parser.add_argument("--domain", metavar="DOMAIN", help="what follows @ in the names of the list")
+    parser.add_argument("--flags", metavar="FLAGS", type=_flags, help="the flags that the written list has: none, or "
+                        "names with | between")
+    parser.add_argument("--drop", choices=("flags", "access", "default"), help="leave out the flags of the list, the "
+                        "access entries or the default entries, which TO cannot hold")
+    return parser
+
+
+def _judge(args: argparse.Namespace) -> None:
+    """Raises UsageError if options do not go with the forms."""
+    args.crosses, args.to_ids = args.source in POSIX and args.target in NFS, args.target == IDS
+    args.exchanges = args.names is not None or args.system
+    for is_wrong, line in (
+            (args.source in NFS and args.target in POSIX, "no POSIX form holds an NFSv4 list"),
+            (args.crosses != args.bridge, "--bridge goes from a POSIX form to an NFSv4 form, and nothing else does"),
+            ((TOOLS in (args.source, args.target)) != bool(args.kind), "--file or --directory goes with nfs4-tools"),
+            ((args.source == "posix-default") != (args.mode is not None), "--mode goes with FROM posix-default"),
+            (args.flags is not None and args.target not in WITH_FLAGS, "--flags goes with TO nfs41 or nfs41-ids"),
+            (args.exchanges and args.to_ids == (args.crosses or args.source == IDS),
+             "--names and --system go from a form with names to one with ids, or back"),
+            (args.domain is not None and not (args.domain and args.exchanges),
+             "--domain is not empty, and goes with --names or --system")):
+        if is_wrong:
+            raise UsageError(line)
+
+
+def _converted(args: argparse.Namespace, data: bytes) -> bytes:
+    """Returns the value in the form TO. Raises Refused and TreeError."""
+    if args.source in POSIX:
+        posix = read_posix(args.source, data, args.mode)
+        if args.target not in ("posix", "posix-default") and any(entry.default for entry in posix):
+            _drop(args, "default", "the default entries")
+        if args.target == "posix-default":
+            _drop(args, "access", "the access entries")
+        if args.target in POSIX:
+            return written_posix(args.target, posix)
+        acl, flags = posix.bridge(), ListFlag(0)
+    else:
+        acl, flags = read_nfs(args.source, data, args.kind)
+    if args.exchanges:
+        suffix = b"" if args.domain is None else b"@" + os.fsencode(args.domain)
+        acl = exchanged(acl, System() if args.system else Table(_names(args.names)), args.to_ids, suffix)
+    return written_nfs(args.target, acl, _placed(args, flags), args.kind)
+
+
+def _placed(args: argparse.Namespace, flags: ListFlag) -> ListFlag:
+    """Returns the flags of the list that TO gets, and reports those that go."""
+    kept = args.flags if args.flags is not None else flags if args.target in WITH_FLAGS else ListFlag(0)
+    lost = "|".join(name for name, flag in ListFlag.__members__.items() if flag & flags & ~kept)
+    if lost and args.flags is None:
+        _drop(args, "flags", lost)
+    elif lost:
+        _tell(f"dropped {lost}")
+    return ListFlag(kept)
+
+
+def _drop(args: argparse.Namespace, part: str, what: str) -> None:
+    """Reports a part of the list that TO cannot hold. Raises TreeError unless the command line drops it."""
+    if args.drop != part:
+        raise TreeError(f"{args.target} cannot hold {what}, and --drop {part} is not given")
+    _tell(f"dropped {what}")
+
+
+def _read(handle: int) -> bytes:
+    data = bytearray()
+    while part := os.read(handle, 1 << 20):
+        data += part
+        if len(data) > LONGEST:
+            raise TreeError(f"more than {LONGEST} bytes")
+    return bytes(data)
+
+
+def _names(path: str) -> bytes:
+    with open(path, "rb", buffering=0) as file:
+        return _read(file.fileno())
+
+
+def _write(data: bytes) -> None:
+    try:
+        while data:
+            data = data[os.write(1, data):]
+    except OSError:
+        raise DeviceError("write failed") from None
+
+
+def _tell(line: str) -> None:
+    with contextlib.suppress(OSError):
+        os.write(2, f"aclck-form: {quoted_line(line)}\n".encode())
+
+
+def main(words: Optional[List[str]] = None) -> int:
+    """Runs the program and returns its exit status. No error has a status that is an answer of aclck(1)."""
+    try:
+        args = parser_of().parse_args(words)
+        _judge(args)
+        _write(_converted(args, _read(0)))
+        return YES
+    except SystemExit:  # after --help or --version
+        return YES
+    except KeyboardInterrupt:
+        return 130
+    except Refused as refused:
+        line, status = str(refused), REFUSED
+    except TreeError as error:
+        line, status = str(error), error.status
+    except OSError as error:
+        line, status = f"{error.filename}: {error.strerror}" if error.filename else "read failed", DEVICE
+    except MemoryError:
+        line, status = "out of memory", DEVICE
+    except Exception as error:  # a fault of this program; Python would exit with 1, which means `denied`
+        line, status = f"internal error: {type(error).__name__}: {error}", DEVICE
+    _tell(line)
+    return status
+
+
+if __name__ == "__main__":
+    sys.exit(main())

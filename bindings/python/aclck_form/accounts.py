@@ -1,0 +1,92 @@
+"""Names exchanged for ids, and ids for names."""
+
+from __future__ import annotations
+
+import contextlib
+import grp
+import os
+import pwd
+import re
+from typing import Dict, Optional, Tuple, Union
+
+from aclck import ALLOW, Ace, AceFlag, NfsAcl, Refused
+from aclck_tree.errors import TreeError
+
+_ID = re.compile(rb"[0-9]+")
+_NO_ACCOUNT = re.compile(rb"[0-9]+|.*@", re.DOTALL)  # an id, or a special name
+_ROW = re.compile(rb"([ug]):(.+)=([0-9]{1,10})")
+_LARGEST = 4294967294
+
+Name = Union[str, bytes]
+
+
+class System:
+    """The accounts of this system."""
+
+    def number_of(self, is_group: bool, name: bytes) -> Optional[int]:
+        """Returns the id of a name, or None."""
+        with contextlib.suppress(KeyError):
+            spelled = os.fsdecode(name)
+            return grp.getgrnam(spelled).gr_gid if is_group else pwd.getpwnam(spelled).pw_uid
+        return None
+
+    def name_of(self, is_group: bool, number: int) -> Optional[bytes]:
+        """Returns the name of an id, or None."""
+        with contextlib.suppress(KeyError):
+            return os.fsencode(grp.getgrgid(number).gr_name if is_group else pwd.getpwuid(number).pw_name)
+        return None
+
+
+class Table(System):
+    """The names and the ids of a file: a line `u:NAME=ID` for a user, and `g:NAME=ID` for a group."""
+
+    def __init__(self, data: bytes) -> None:
+        """Raises TreeError if a line is none of these, or has a name or an id that an earlier line has."""
+        self._numbers: Dict[Tuple[bool, bytes], int] = {}
+        self._names: Dict[Tuple[bool, int], bytes] = {}
+        for place, line in enumerate(data.split(b"\n"), 1):
+            row = _ROW.fullmatch(line)
+            if row and int(row[3]) <= _LARGEST:
+                name, number = (row[1] == b"g", row[2]), (row[1] == b"g", int(row[3]))
+                if name in self._numbers or number in self._names:
+                    raise TreeError(f"line {place} of the names has a name or an id that an earlier line has")
+                self._numbers[name], self._names[number] = number[1], name[1]
+            elif line and not line.startswith(b"#"):
+                raise TreeError(f"line {place} of the names is neither u:NAME=ID nor g:NAME=ID")
+
+    def number_of(self, is_group: bool, name: bytes) -> Optional[int]:
+        return self._numbers.get((is_group, name))
+
+    def name_of(self, is_group: bool, number: int) -> Optional[bytes]:
+        return self._names.get((is_group, number))
+
+
+def exchanged(acl: NfsAcl, accounts: System, to_ids: bool, suffix: bytes) -> NfsAcl:
+    """Returns the list with ids in place of the names that end with the suffix, or with such names in place of ids.
+    What the accounts do not have stays, and so does a name of digits alone, which is an id.
+
+    Raises Refused with the place of the ACE if two names would become one, or a new name is none that a list can have,
+    and TreeError if a name and an id are not each other's only one.
+    """
+    tables: Tuple[Dict[Name, Name], ...] = ({}, {})
+    for place, ace in enumerate(acl):
+        who, table = ace.who.encode("utf-8", "surrogateescape"), tables[ace.is_group]
+        if who in table or bool(_ID.fullmatch(who)) == to_ids or to_ids and not who.endswith(suffix):
+            continue
+        name = who[:len(who) - len(suffix)] if to_ids else accounts.name_of(ace.is_group, int(who))
+        number = None if name is None else accounts.number_of(ace.is_group, name)
+        if name is None or number is None or _NO_ACCOUNT.fullmatch(name + suffix):
+            continue
+        if accounts.name_of(ace.is_group, number) != name or not to_ids and number != int(who):
+            raise TreeError(f"the id {number} has two names at ACE {place}")
+        table[who] = b"%d" % number if to_ids else _judged(name + suffix, place)
+    return acl.renamed(*tables)
+
+
+def _judged(name: bytes, place: int) -> bytes:
+    """Returns a name for the ACE at this place. Raises Refused if no list can have the name."""
+    try:
+        NfsAcl.from_aces([Ace(ALLOW, AceFlag(0), 0, name.decode("utf-8", "surrogateescape"))])
+    except Refused as refused:
+        raise Refused(refused.reason, ace=place) from None
+    return name

@@ -1,0 +1,21 @@
+# Completion of aclck-form for bash: forms, options, and files.
+
+_aclck_form() {
+    local current=$2 previous=$3 IFS=$' \t\n'
+    local forms='xdr text nfs4-tools nfs41 nfs41-ids posix posix-access posix-default'
+    local options='--file --directory --bridge --mode --names --system --domain --flags --drop --help --version'
+    COMPREPLY=()
+    case $previous in
+        --names | '<' | '>' | '>>')
+            compopt -o filenames 2> /dev/null
+            mapfile -t COMPREPLY < <(compgen -f -- "$current")
+            return ;;
+        --drop) forms='flags access default' ;;
+        --flags) forms='none AUTO_INHERIT PROTECTED DEFAULTED' ;;
+        --mode | --domain) return ;;
+    esac
+    [[ $current != -* ]] || forms=$options
+    mapfile -t COMPREPLY < <(compgen -W "$forms" -- "$current")
+}
+
+complete -F _aclck_form aclck-form
