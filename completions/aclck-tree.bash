@@ -1,7 +1,7 @@
 # Completion of aclck-tree for bash: commands, options, the names of rights, and files.
 
 declare -gA _aclck_tree_options=(
-    [scan]='-o --one-file-system --threads --attribute --host --quiet'
+    [scan]='-o --one-file-system --threads --attribute --host --quiet --from --lines --shard --key'
     [merge]='-o'
     [info]='--csv --raw --json'
     [who]='--may --any --path --reach --people --passwd --group --getent --each --domain --linux --csv --raw --json'
@@ -9,7 +9,9 @@ declare -gA _aclck_tree_options=(
     [why]='--user --groups --may --domain --linux --csv --raw --json'
     [same]='--inherit --path --each --csv --raw --json'
     [diff]='--people --passwd --group --getent --pair --each --domain --csv --raw --json'
-    [report]='-o --path --reach --people --passwd --group --getent --domain --linux --csv --raw --json'
+    [policy]='--people --passwd --group --getent --each --domain --linux --csv --raw --json'
+    [load]='--dsn --people --passwd --group --getent --domain'
+    [report]='-o --path --reach --policy --people --passwd --group --getent --domain --linux --csv --raw --json'
 )
 
 _aclck_tree_rights='READ_DATA LIST_DIRECTORY WRITE_DATA ADD_FILE APPEND_DATA ADD_SUBDIRECTORY READ_NAMED_ATTRS
@@ -39,7 +41,7 @@ _aclck_tree() {
         --may) _aclck_tree_mask "$current"; return ;;
         --user) mapfile -t COMPREPLY < <(compgen -u -- "$current"); return ;;
         --groups) mapfile -t COMPREPLY < <(compgen -g -- "$current"); return ;;
-        --threads | --attribute | --host | --domain | --path | --pair) return ;;
+        --threads | --attribute | --host | --shard | --domain | --path | --pair | --dsn) return ;;
     esac
     if [[ $current == -* ]]; then
         mapfile -t COMPREPLY < <(compgen -W "${_aclck_tree_options[$word]} --help" -- "$current")

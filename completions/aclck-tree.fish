@@ -1,6 +1,6 @@
 # Completion of aclck-tree for fish.
 
-set -l words scan merge info who may why same diff report
+set -l words scan merge info who may why same diff policy report load
 set -l rights READ_DATA LIST_DIRECTORY WRITE_DATA ADD_FILE APPEND_DATA ADD_SUBDIRECTORY READ_NAMED_ATTRS \
     WRITE_NAMED_ATTRS EXECUTE DELETE_CHILD READ_ATTRIBUTES WRITE_ATTRIBUTES WRITE_RETENTION WRITE_RETENTION_HOLD \
     DELETE READ_ACL WRITE_ACL WRITE_OWNER SYNCHRONIZE
@@ -16,11 +16,17 @@ complete -c aclck-tree -n "not __fish_seen_subcommand_from $words" -a may -d 'On
 complete -c aclck-tree -n "not __fish_seen_subcommand_from $words" -a why -d 'Which ACE or entry decides'
 complete -c aclck-tree -n "not __fish_seen_subcommand_from $words" -a same -d 'Which objects grant the same'
 complete -c aclck-tree -n "not __fish_seen_subcommand_from $words" -a diff -d 'What changed, and for whom'
+complete -c aclck-tree -n "not __fish_seen_subcommand_from $words" -a policy -d 'Whether a tree keeps a policy'
 complete -c aclck-tree -n "not __fish_seen_subcommand_from $words" -a report -d 'Make a page of HTML'
+complete -c aclck-tree -n "not __fish_seen_subcommand_from $words" -a load -d 'Put snapshots into a database'
 
 complete -c aclck-tree -n '__fish_seen_subcommand_from scan merge report' -s o -r -d 'The file to make'
 complete -c aclck-tree -n '__fish_seen_subcommand_from scan' -l one-file-system -d 'Do not go into others'
 complete -c aclck-tree -n '__fish_seen_subcommand_from scan' -l quiet -d 'Report failures alone'
+complete -c aclck-tree -n '__fish_seen_subcommand_from scan' -l from -r -d 'Read only the paths of a list'
+complete -c aclck-tree -n '__fish_seen_subcommand_from scan' -l lines -d 'A line feed ends each path'
+complete -c aclck-tree -n '__fish_seen_subcommand_from scan' -l shard -x -d 'Read only this shard, I/N'
+complete -c aclck-tree -n '__fish_seen_subcommand_from scan' -l key -r -d 'The same for all shards'
 complete -c aclck-tree -n '__fish_seen_subcommand_from scan' -l threads -x -d 'Reads at once'
 complete -c aclck-tree -n '__fish_seen_subcommand_from scan' -l attribute -x -d 'Where NFSv4 lists are'
 complete -c aclck-tree -n '__fish_seen_subcommand_from scan' -l host -x -d 'The name of this host'
@@ -28,22 +34,29 @@ complete -c aclck-tree -n '__fish_seen_subcommand_from who may why' -l may -x -a
 complete -c aclck-tree -n '__fish_seen_subcommand_from who may' -l any -d 'Any of the rights'
 complete -c aclck-tree -n '__fish_seen_subcommand_from who may same report' -l path -x -d 'Only these objects'
 complete -c aclck-tree -n '__fish_seen_subcommand_from who may report' -l reach -d 'Directories above count too'
+complete -c aclck-tree -n '__fish_seen_subcommand_from report' -l policy -r -d 'Rules that come first'
 complete -c aclck-tree -n '__fish_seen_subcommand_from may why' -l user -x -a '(__fish_complete_users)' -d 'Who asks'
 complete -c aclck-tree -n '__fish_seen_subcommand_from may why' -l groups -x -a '(__fish_complete_groups)' \
     -d 'The groups of the user'
 complete -c aclck-tree -n '__fish_seen_subcommand_from may' -l all -d 'Also where it is denied'
-complete -c aclck-tree -n '__fish_seen_subcommand_from who diff report' -l people -r -d 'Who is asked about'
-complete -c aclck-tree -n '__fish_seen_subcommand_from who diff report' -l passwd -r -d 'People of a passwd file'
-complete -c aclck-tree -n '__fish_seen_subcommand_from who diff report' -l group -r -d 'Groups of a group file'
-complete -c aclck-tree -n '__fish_seen_subcommand_from who diff report' -l getent -d 'The accounts of this system'
-complete -c aclck-tree -n '__fish_seen_subcommand_from who may why diff report' -l domain -x \
+complete -c aclck-tree -n '__fish_seen_subcommand_from who diff policy report load' -l people -r -d 'Who is asked about'
+complete -c aclck-tree -n '__fish_seen_subcommand_from who diff policy report load' -l passwd -r \
+    -d 'People of a passwd file'
+complete -c aclck-tree -n '__fish_seen_subcommand_from who diff policy report load' -l group -r \
+    -d 'Groups of a group file'
+complete -c aclck-tree -n '__fish_seen_subcommand_from who diff policy report load' -l getent \
+    -d 'The accounts of this system'
+complete -c aclck-tree -n '__fish_seen_subcommand_from who may why diff policy report load' -l domain -x \
     -d 'What follows @ in names'
-complete -c aclck-tree -n '__fish_seen_subcommand_from who may why report' -l linux -d 'Ask POSIX lists as Linux does'
-complete -c aclck-tree -n '__fish_seen_subcommand_from who same diff' -l each -d 'One line per object'
+complete -c aclck-tree -n '__fish_seen_subcommand_from who may why policy report' -l linux \
+    -d 'Ask POSIX lists as Linux does'
+complete -c aclck-tree -n '__fish_seen_subcommand_from who same diff policy' -l each -d 'One line per object'
+complete -c aclck-tree -n '__fish_seen_subcommand_from load' -l dsn -x -d 'The database'
 complete -c aclck-tree -n '__fish_seen_subcommand_from diff' -l pair -x -d 'OLD=NEW are one tree'
 complete -c aclck-tree -n '__fish_seen_subcommand_from same' -l inherit -d 'What is made below counts too'
-complete -c aclck-tree -n '__fish_seen_subcommand_from who may why same diff report info' -l csv -d 'Write CSV'
-complete -c aclck-tree -n '__fish_seen_subcommand_from who may why same diff report info' -l raw \
+complete -c aclck-tree -n '__fish_seen_subcommand_from who may why same diff policy report info' -l csv \
+    -d 'Write CSV'
+complete -c aclck-tree -n '__fish_seen_subcommand_from who may why same diff policy report info' -l raw \
     -d 'With --csv, guard no cell'
-complete -c aclck-tree -n '__fish_seen_subcommand_from who may why same diff report info' -l json \
+complete -c aclck-tree -n '__fish_seen_subcommand_from who may why same diff policy report info' -l json \
     -d 'Write one JSON object per line'

@@ -30,8 +30,10 @@ EXAMPLES = {
     "why": "aclck-tree why monday /srv/shared/plan.odt --user bob --groups staff,editors",
     "same": "aclck-tree same monday --inherit",
     "diff": "aclck-tree diff monday tuesday --people people --domain example.com",
+    "policy": "aclck-tree policy monday policy.toml --people people --domain example.com",
     "report": "aclck-tree report monday --people people -o monday.html",
     "info": "aclck-tree info monday",
+    "load": "aclck-tree load monday --domain example.com --dsn 'host=db dbname=audit'",
 }
 """An example for each word."""
 
@@ -114,8 +116,14 @@ def _add_scan(words: "argparse._SubParsersAction[_Parser]") -> None:
                       "(system.nfs4_acl)")
     scan.add_argument("--host", metavar="NAME", help="the name of this host in the snapshot")
     scan.add_argument("--quiet", action="store_true", help="report failures alone")
+    scan.add_argument("--from", dest="list", metavar="FILE", help="read only the paths of this list, or of standard "
+                      "input for -, which are paths below the tree; a zero byte ends each, as in find -print0")
+    scan.add_argument("--lines", action="store_true", help="with --from: a line feed ends each path")
+    scan.add_argument("--shard", metavar="I/N", help="read only shard I of N, which merge joins")
+    scan.add_argument("--key", metavar="FILE", help="with --shard: bytes that nobody else knows, the same for all "
+                      "shards")
     merge = _add_word(words, "merge", "join snapshots",
-                      "Joins the snapshots of several hosts.")
+                      "Joins the snapshots of several hosts, and those of all shards of a tree.")
     merge.add_argument("snapshot", nargs="+", metavar="SNAPSHOT")
     merge.add_argument("-o", dest="output", metavar="SNAPSHOT", required=True, help="the file to make")
 
@@ -159,6 +167,13 @@ def _add_comparisons(words: "argparse._SubParsersAction[_Parser]") -> None:
                       help="these are one tree at two places; may be given several times")
     _add_people(diff)
     _add_domain(diff, linux=False)
+    policy = _add_word(words, "policy", "whether a tree keeps a policy, and what breaks it",
+                       "Writes which objects break a rule of a policy, with the ACE or entry that does, and for whom.")
+    policy.add_argument("snapshot", metavar="SNAPSHOT")
+    policy.add_argument("policy", metavar="POLICY", help="the rules, in TOML")
+    policy.add_argument("--each", action="store_true", help="write one line per object and rule")
+    _add_people(policy)
+    _add_domain(policy)
     report = _add_word(words, "report", "make a page of HTML",
                        "Makes one page with totals, a table of who has which access, and findings.")
     report.add_argument("snapshot", metavar="SNAPSHOT")
@@ -167,11 +182,18 @@ def _add_comparisons(words: "argparse._SubParsersAction[_Parser]") -> None:
     _add_domain(report)
     _add_path(report)
     _add_reach(report)
+    report.add_argument("--policy", metavar="POLICY", help="the rules of this file come first in the findings")
     info = _add_word(words, "info", "what a snapshot has",
                      "Writes which trees a snapshot has, and each step of its scan that failed.")
     info.add_argument("snapshot", metavar="SNAPSHOT")
-    for parser in (same, diff, report, info):
+    for parser in (same, diff, policy, report, info):
         _add_form(parser)
+    load = _add_word(words, "load", "put snapshots into a database",
+                     "Puts snapshots into tables of PostgreSQL, all of them or none. It needs psql.")
+    load.add_argument("snapshot", nargs="+", metavar="SNAPSHOT")
+    load.add_argument("--dsn", metavar="DSN", help="the database, as psql takes it; else the variables of psql name it")
+    _add_people(load)
+    _add_domain(load, linux=False)
 
 
 def parser_of() -> argparse.ArgumentParser:
@@ -199,12 +221,13 @@ def _run(args: argparse.Namespace) -> int:
         from .making import merge
         return merge(args)
     try:
-        from . import commands, diffing, questions, report
+        from . import checking, commands, diffing, loading, questions, report
     except ImportError as error:
         raise DeviceError(str(error)) from None
     found: Dict[str, Callable[[argparse.Namespace], int]] = {
         "who": questions.who, "may": questions.may, "why": questions.why, "same": commands.same,
-        "diff": diffing.diff, "info": commands.info, "report": report.report}
+        "diff": diffing.diff, "policy": checking.policy, "info": commands.info, "report": report.report,
+        "load": loading.load}
     return found[args.word](args)
 
 

@@ -8,7 +8,6 @@ from enum import Enum
 from typing import Dict, FrozenSet, Iterable, Iterator, List, NamedTuple, Optional, Sequence, Tuple, TypeVar, Union
 
 from aclck import (
-    ALL,
     APPEND_DATA,
     EXECUTE,
     READ_DATA,
@@ -132,6 +131,9 @@ class Identity(NamedTuple):
     groups: Tuple[str, ...] = ()
 
 
+NOBODY = Person("")
+"""A person who gives no ids."""
+
 _UNUSED = Identity("?")
 """Who asks in place of a person whose id is not known. The answer is not used."""
 
@@ -196,6 +198,10 @@ class Asker:
         found = self.accounts[tree].id(person, name, is_group)
         return self.accounts[tree].id(person, self.options.account(name), is_group) if found is None else found
 
+    def id_of(self, name: str, is_group: bool, tree: int) -> Optional[int]:
+        """Returns the id that a name has in a tree, or None if it is not known."""
+        return self.id(NOBODY, name, is_group, tree)
+
     def identity(self, person: Person, face: Face, kind: str) -> Optional[Identity]:
         """Returns the user and the groups of a person in the form of a kind of list, or None if an id is not known."""
         if kind == Kind.NFS4:
@@ -225,8 +231,14 @@ class Asker:
     def masks(self, face: Face, asked: Asked) -> Sequence[Optional[int]]:
         """Returns what each person is granted by a list without special names, or None for a person whose id is not
         known."""
-        identities = self._forms_of(face, asked.kind).identities
-        return [mask if one else None for mask, one in zip(self._granted(face, asked, ALL), identities)]
+        return self.granted_by(asked.acl, face, asked.kind, *self.owner_and_group(face, asked.kind))
+
+    def granted_by(self, acl: NfsAcl, face: Face, kind: Kind, owner: str, group: str) -> Sequence[Optional[int]]:
+        """Returns what each person is granted by a list in the names of a face and a kind of list, on an object of an
+        owner and a group, or None for a person whose id is not known."""
+        forms = self._forms_of(face, kind)
+        found = acl.granted_many(forms.requesters, owner=owner, group=group)
+        return [mask if one else None for mask, one in zip(found, forms.identities)]
 
     def granted(self, face: Face, asked: Asked, person: Person) -> int:
         """Returns what a person whose ids are known is granted as a member of no special name."""

@@ -5,13 +5,14 @@ from __future__ import annotations
 import enum
 import itertools
 from dataclasses import dataclass
-from typing import Dict, Iterable, List, NamedTuple, Optional, Sequence, Tuple
+from typing import Dict, Iterable, Iterator, List, NamedTuple, Optional, Sequence, Tuple
 
 from aclck import Difference
 
 from .ask import Asker
-from .compare import heir_forms, named, own_form
+from .compare import grant_the_same, heir_forms, named, own_form
 from .counterparts import has_other_owner, renamed_ids, translate
+from .directions import Direction, directed
 from .joined import State
 from .lists import Kind, RefusedList
 from .requesters import Affected, Effect, PairedPeople, Whom, crowds, differences, mentioned
@@ -58,6 +59,7 @@ class ObjectChange:
     note: str = ""
     changes: Tuple[Change, ...] = ()
     is_refused: bool = False
+    direction: str = ""
 
 
 def _grouped(on: str, found: Iterable[Affected]) -> List[Change]:
@@ -76,6 +78,17 @@ class Compared:
         self._known: Dict[Tuple[Optional[State], Optional[State]], ObjectChange] = {}
         self._people: Dict[Tuple[Tuple[int, str], ...], PairedPeople] = {}
         self._unmoved: Dict[Tuple[int, int], bool] = {}
+
+    def alike(self, pairs: Sequence[Tuple[int, int]]) -> Iterator[Tuple[int, int]]:
+        """Yields the old and the new faces with which an object has not changed, if it has the same special bits. Each
+        old face comes once. `pairs` are the trees that are one tree at two times."""
+        earlier = {new: old for old, new in pairs}
+        faces = {(earlier.get(face.tree), face.uid, face.gid, self._new.asker.stored(face.list)): face
+                 for face in self._new.faces.values()}
+        for old in self._old.faces.values():
+            new = faces.get((old.tree, old.uid, old.gid, self._old.asker.stored(old.list)))
+            if new and self._are_unmoved(old, new):
+                yield old.face, new.face
 
     def change(self, old: Optional[State], new: Optional[State]) -> ObjectChange:
         """Returns what happened to objects in these states. None is the state of an object that is not there."""
@@ -171,10 +184,11 @@ class Compared:
         if old.kind != new.kind:
             notes.insert(0, f"a list of kind {old.kind}, then {new.kind}")
             changes = self._changes(question, notes) + (self._of_heirs(question, notes) if is_directory else [])
-            return ObjectChange(ChangeKind.MEANING, "; ".join(notes), tuple(changes))
+            return ObjectChange(ChangeKind.MEANING, "; ".join(notes), tuple(changes), False, Direction.OTHER.value)
         translated, names = translate(question)
-        is_own = own_form(before) != own_form(translated)
+        is_own = not grant_the_same(before, translated)
         of_heirs = is_directory and heir_forms(before) != heir_forms(translated)
+        direction = ""
         if is_own or has_other_owner(question):
             changes = self._changes(question, notes)
             kind = ChangeKind.MEANING
@@ -182,6 +196,12 @@ class Compared:
             words = named(found, before, translated, name=names) if found else ""
             if found and words not in {one for change in changes for whom in change.whom for one in whom.alone()}:
                 changes.append(_compared("", found, words))
+            way = directed(question, translated)
+            direction = way.direction.value
+            for is_more, witness in way.witnesses.items():
+                if not any(change.gained if is_more else change.lost for change in changes):
+                    whom = f"compare: {named(witness, before, translated, name=names)}"
+                    changes.append(Change("", (Whom(whom),), *_sides(is_more, witness.right), 0))
             if is_own and not found:
                 notes.append("a group and a special name changed places")
             if of_heirs:
@@ -192,7 +212,7 @@ class Compared:
                     ChangeKind.PEOPLE if changes or are_renamed else least)
         if of_heirs:
             changes += self._of_heirs(question, notes) or _compared_heirs(question, notes)
-        return ObjectChange(kind, "; ".join(notes), tuple(changes))
+        return ObjectChange(kind, "; ".join(notes), tuple(changes), False, direction)
 
     def _people_of(self, question: Question) -> PairedPeople:
         key = tuple((place.face.tree, place.kind) if place else (0, "") for place in (question.old, question.new))
@@ -217,8 +237,12 @@ class Compared:
 
 
 def _compared(on: str, found: Difference, words: str) -> Change:
-    gained, lost = (0, found.right) if found.first_grants else (found.right, 0)
-    return Change(on, (Whom(f"compare: {words}"),), gained, lost, 0)
+    return Change(on, (Whom(f"compare: {words}"),), *_sides(not found.first_grants, found.right), 0)
+
+
+def _sides(is_more: bool, right: int) -> Tuple[int, int]:
+    """Returns a right as one that is gained or one that is lost."""
+    return (right, 0) if is_more else (0, right)
 
 
 def _compared_heirs(question: Question, notes: List[str]) -> List[Change]:

@@ -8,7 +8,7 @@ import fnmatch
 import glob as globs
 import os
 import re
-from dataclasses import replace
+from dataclasses import dataclass, field, replace
 from typing import AnyStr, Dict, Iterable, Iterator, List, NamedTuple, Optional, Pattern, Set, Tuple, TypeVar
 
 from . import mentions
@@ -21,11 +21,28 @@ from .snapshot import Snapshot, Tree
 from .text import Output, Row, plural, quoted, quoted_path, table
 
 
+@dataclass
+class Together:
+    """What a command finds out about snapshots that are asked together with others (`partition.py`). A shard then
+    stands for its tree. Whether nothing was asked, and whether a rule matches nothing, depends on all of them."""
+
+    is_on: bool = False
+    is_empty: bool = False
+    unmatched: List[str] = field(default_factory=list)
+    snapshots: List[Snapshot] = field(default_factory=list)
+
+
+TOGETHER = Together()
+
+
 def opened(place: str) -> Snapshot:
     """Opens a snapshot, and reports on standard error what it lacks."""
     snapshot = Snapshot(place)
+    TOGETHER.snapshots += [snapshot] if TOGETHER.is_on else []
     if not snapshot.is_whole():
         tell(f"{quoted(place)} is partial: its scan was ended early")
+    for words in sorted({one.words() for one in snapshot.portions.values() if one.is_list or not TOGETHER.is_on}):
+        tell(f"{quoted(place)} has {words}")
     errors = sum(1 for _ in snapshot.errors())
     if errors:
         tell(f"{quoted(place)} lacks what failed in {plural(errors, 'step')}: aclck-tree info lists them")
@@ -33,7 +50,12 @@ def opened(place: str) -> Snapshot:
 
 
 def status_of(status: int, *snapshots: Snapshot) -> int:
-    """Returns an exit status, which is 2 if a snapshot lacks something."""
+    """Returns an exit status, which is 2 if a snapshot lacks something: also if it has only a shard of a tree. Of two
+    snapshots, none may have only the paths of a list: nobody knows what is absent."""
+    if not TOGETHER.is_on and any(one.has_shards() for one in snapshots):
+        return REFUSED
+    if len(snapshots) > 1 and any(portion.is_list for one in snapshots for portion in one.portions.values()):
+        return REFUSED
     return status if all(one.is_complete() for one in snapshots) else REFUSED
 
 
@@ -53,7 +75,7 @@ def asker_of(args: argparse.Namespace, snapshot: Snapshot, people: List[Person])
     whose ids are not known."""
     asker = Asker(snapshot, people, Options(args.domain or "", getattr(args, "linux", False)))
     is_typed = bool(getattr(args, "people", None) or getattr(args, "user", None))
-    for line in mentions.lines(asker, not is_typed):
+    for line in mentions.lines(asker, not is_typed) if not TOGETHER.is_on else ():
         tell(f"{quoted(snapshot.place)}: {line}")
     for host, names in _without_ids(asker).items():
         if len({tree.host for tree in snapshot.trees.values()}) > 1:
@@ -142,19 +164,13 @@ def _whole(root: bytes, path: bytes) -> bytes:
     return path if root == b"." else root.rstrip(b"/") + b"/" + path
 
 
-def selected(snapshot: Snapshot, glob: Optional[str]) -> Iterator[Tuple[int, bytes, str, int]]:
-    """Yields the tree, the path below its root, the kind and the face of each object whose whole path matches a
-    pattern, in the order of trees and paths."""
+def selected(snapshot: Snapshot, glob: Optional[str]) -> Iterator[Tuple[int, bytes, bool, int]]:
+    """Yields of each object whose whole path matches a pattern the tree, the path below its root, whether it is a
+    directory, and the face, in the order of trees and paths."""
     paths = None if glob is None else Paths(snapshot, glob)
-    for tree, path, kind, _, face in snapshot.objects():
+    for tree, path, is_directory, _, face in snapshot.objects():
         if paths is None or paths.has(tree, path):
-            yield tree, path, kind, face
-
-
-def matching(snapshot: Snapshot, glob: Optional[str]) -> Iterator[Tuple[bytes, str, int]]:
-    """Yields the whole path, the kind and the face of each object whose whole path matches a pattern."""
-    for tree, path, kind, face in selected(snapshot, glob):
-        yield snapshot.trees[tree].full(path), kind, face
+            yield tree, path, is_directory, face
 
 
 class Tally:
@@ -171,6 +187,9 @@ class Tally:
     def status(self) -> int:
         """Returns 2 if something was refused or is not known or nothing was asked, 1 if something is denied, and
         otherwise 0."""
+        if not self.counts and TOGETHER.is_on:
+            TOGETHER.is_empty = True
+            return YES
         if not self.counts or self.counts.get(Answer.REFUSED.value) or self.counts.get(UNKNOWN.value):
             return REFUSED
         return NO if self.counts.get(DENIED.value) else YES
@@ -220,7 +239,7 @@ def same(args: argparse.Namespace) -> int:
     snapshot = opened(args.snapshot)
     asker = Asker(snapshot, [], Options())
     if args.inherit:
-        keys = (((face, kind == "d"), tree, path) for tree, path, kind, face in selected(snapshot, args.path))
+        keys = (((face, is_directory), tree, path) for tree, path, is_directory, face in selected(snapshot, args.path))
         by_face = count_by(snapshot, keys)
     else:
         by_face = {(face, False): one for face, one in counted(snapshot, args.path).items()}
@@ -233,10 +252,10 @@ def same(args: argparse.Namespace) -> int:
     out = Output(args.form, ["class", "kind", "path", "refused"],
                  lambda row: f"{row['class']} {quoted(row['path'])}{_refused(row)}")
     if args.form != "text" or args.each:
-        for full, kind, face in matching(snapshot, args.path):
-            place = places[asker.faces[face].list, kind == "d" and args.inherit]
-            out.put({"class": place + 1, "kind": classes[place].kind, "path": os.fsdecode(full),
-                     "refused": classes[place].refused})
+        for tree, path, is_directory, face in selected(snapshot, args.path):
+            place = places[asker.faces[face].list, is_directory and args.inherit]
+            out.put({"class": place + 1, "kind": classes[place].kind,
+                     "path": os.fsdecode(snapshot.trees[tree].full(path)), "refused": classes[place].refused})
     else:
         lines = [("CLASS", "OBJECTS", "LISTS", "KIND", "FIRST OF THEM")]
         lines += [(str(place + 1), f"{one.objects:,}", f"{len(one.lists):,}", one.kind,
@@ -257,7 +276,8 @@ def info(args: argparse.Namespace) -> int:
     out = Output(args.form, ["tree", "path", "step", "message"],
                  lambda row: f"failed to {quoted(row['step'])} {quoted(row['path'])}: {row['message']}")
     for tree in snapshot.trees.values():
-        state = "whole" if tree.whole else "partial"
+        portion = snapshot.portions.get(tree.tree)
+        state = ("whole" if tree.whole else "partial") + (f", {portion.words()}" if portion else "")
         ended = quoted(tree.ended) if tree.ended else "no end"
         out.note(f"{quoted(tree.host)}:{quoted_path(tree.place)}, scanned as {quoted_path(tree.root)} from "
                  f"{quoted(tree.began)} to {ended} by aclck-tree {quoted(tree.version)}: {state}, "
@@ -269,4 +289,4 @@ def info(args: argparse.Namespace) -> int:
     for number, path, step, message in snapshot.errors():
         whole = snapshot.trees[number].full(path)
         out.put({"tree": number, "path": os.fsdecode(whole), "step": step, "message": message})
-    return status_of(YES, snapshot)
+    return YES if snapshot.is_complete() else REFUSED

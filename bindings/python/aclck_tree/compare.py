@@ -3,7 +3,7 @@
 from __future__ import annotations
 
 from dataclasses import dataclass, field
-from typing import Callable, Dict, List, Mapping, Optional, Tuple
+from typing import AbstractSet, Callable, Dict, List, Mapping, Optional, Tuple
 
 from aclck import Difference, NfsAcl, PosixAcl
 
@@ -12,9 +12,8 @@ from .lists import Asked, RefusedList
 from .text import quoted
 
 Meaning = Tuple[str, bytes]
-"""What a list grants, whoever owns the object: equal for two lists of one kind if and only if they grant the same. The
-form of a POSIX list is that of its bridge. If two lists grant each single permission alike, they also grant each
-request for several permissions alike (docs/trees.md, "Objects that grant the same")."""
+"""What a list grants, whoever owns the object: equal for two lists of one kind if they grant the same. For NFSv4 lists
+it is equal only then. The form of a POSIX list is that of its bridge, which is about single permissions."""
 
 
 def meaning(asked: Asked, is_directory: bool = False) -> Meaning:
@@ -25,6 +24,14 @@ def meaning(asked: Asked, is_directory: bool = False) -> Meaning:
 def own_form(asked: Asked) -> bytes:
     """Returns what the list itself grants: its normal form."""
     return _marked(asked, asked.acl.normal())
+
+
+def grant_the_same(first: Asked, second: Asked) -> bool:
+    """Returns whether two lists of one kind grant everybody the same. Of POSIX lists every request is compared, also for
+    several permissions at once."""
+    if first.posix and second.posix:
+        return first.posix.means_the_same(second.posix)
+    return own_form(first) == own_form(second)
 
 
 def heir_forms(asked: Asked) -> Tuple[bytes, ...]:
@@ -74,6 +81,7 @@ def same(asker: Asker, counts: Mapping[Tuple[int, bool], Tuple[int, bytes]],
     whether what will be made below counts too.
     """
     classes: Dict[Tuple[str, bytes, bool], SameClass] = {}
+    firsts: Dict[Tuple[str, bytes, bool], Asked] = {}
     places: Dict[Tuple[int, bool], SameClass] = {}
     for (number, is_directory), (objects, first) in counts.items():
         asked = asker.ready(number)
@@ -81,6 +89,8 @@ def same(asker: Asker, counts: Mapping[Tuple[int, bool], Tuple[int, bytes]],
             key, kind, refused = ("refused", b"%d" % number, False), "refused", asked.reason
         else:
             key, kind, refused = (*meaning(asked, is_directory), is_directory), asked.kind, None
+            while asked.posix and not grant_the_same(firsts.setdefault(key, asked), asked):
+                key = (key[0], key[1] + b"+", is_directory)
         one = classes.setdefault(key, SameClass(kind, refused, first))
         one.first = min(one.first, first)
         one.objects += objects
@@ -98,13 +108,20 @@ def named(difference: Difference, *lists: Asked, name: Optional[Callable[[bool, 
     Names that no list mentions, which `compare` makes of one letter, are left out.
     """
     special = {group: known for asked in lists for known, group in asked.specials}
-    mentioned = {ace.who for asked in lists for ace in asked.acl}
+    return named_of(difference, special, {ace.who for asked in lists for ace in asked.acl}, name=name)
 
+
+def named_of(difference: Difference, special: Mapping[str, str], *mentioned: AbstractSet[str],
+             name: Optional[Callable[[bool, str], str]] = None) -> str:
+    """Returns the same, given the special names by the groups that replace them, and the names that lists mention."""
     def shown(is_group: bool, who: str) -> str:
         return quoted(special.get(who) or (name(is_group, who) if name else who))
 
-    words = [shown(False, difference.user) if difference.user in mentioned else "anybody else"]
-    words += [f"in {shown(True, group)}" for group in difference.groups if group in mentioned]
+    def is_mentioned(who: str) -> bool:
+        return any(who in names for names in mentioned)
+
+    words = [shown(False, difference.user) if is_mentioned(difference.user) else "anybody else"]
+    words += [f"in {shown(True, group)}" for group in difference.groups if is_mentioned(group)]
     if difference.user == difference.owner:
         words.append("who owns it")
     if difference.group in difference.groups:

@@ -22,6 +22,8 @@ _WORDS = {
     ChangeKind.SAME: "as before"}
 """What the last line says of each kind, in its order."""
 
+_COLUMNS = ["change", "path", "whom", "gained", "lost", "unclear", "note", "on", "direction"]
+
 
 class _Diff:
     """Writes changes: with `each` each object by itself, and otherwise each class of objects in one place."""
@@ -29,7 +31,7 @@ class _Diff:
     def __init__(self, args: argparse.Namespace) -> None:
         self._is_text = args.form == "text"
         self.each = args.each or not self._is_text
-        self._out = Output(args.form, ["change", "path", "whom", "gained", "lost", "unclear", "note", "on"], _text)
+        self._out = Output(args.form, _COLUMNS, _text)
         self._classes: Dict[ObjectChange, Counted] = {}
         self._tally = Tally()
         self._has_refused = False
@@ -55,13 +57,15 @@ class _Diff:
         self._classes.clear()
 
     def _put(self, change: ObjectChange, path: bytes, others: int = 0) -> None:
-        self._out.put(self._row(change.kind, path, change.note, others=others))
+        self._out.put({**self._row(change.kind, path, change.note, others=others),
+                       "direction": change.direction or None})
         for one in change.changes:
             for whom in [one.whom] if self._is_text else [(name,) for name in one.whom]:
                 self._out.put(self._row(change.kind, path, one.note, one._replace(whom=whom)))
 
     def _row(self, kind: ChangeKind, path: bytes, note: str, change: Optional[Change] = None, others: int = 0) -> Row:
-        row: Row = {"change": kind.value, "path": os.fsdecode(path), "note": note, "whom": None, "on": None}
+        row: Row = {"change": kind.value, "path": os.fsdecode(path), "note": note, "whom": None, "on": None,
+                    "direction": None}
         if change:
             row["on"] = change.on or None
             row["whom"] = change.whom if self._is_text else str(change.whom[0])
@@ -94,9 +98,11 @@ def diff(args: argparse.Namespace) -> int:
         for tree in _unpaired(snapshot, [pair[side] for pair in pairs]):
             note = f"host {quoted(tree.host)}; this tree of the {word} snapshot has no pair"
             out.add(ObjectChange(ChangeKind.UNPAIRED, note), tree.place)
-    for one in old.join(new, pairs).changes(out.each):
+    joined = old.join(new, pairs, compared.alike(pairs))
+    for one in joined.changes(out.each):
         snapshot = new if one.new else old
         out.add(compared.change(one.old, one.new), snapshot.trees[one.tree].full(one.path), one.objects)
+    out.add(ObjectChange(ChangeKind.SAME), b"", joined.unchanged)
     out.end()
     return status_of(out.status(), old, new)
 
@@ -109,8 +115,8 @@ def _text(row: Row) -> str:
     if row["whom"] is None:
         noun = "other tree" if row["change"] == ChangeKind.UNPAIRED.value else "other object"
         others = f" and {plural(row['others'], noun)}" if row["others"] else ""
-        note = f" ({row['note']})" if row["note"] else ""
-        return f"{row['change']}: {quoted(row['path'])}{others}{note}"
+        notes = "; ".join(filter(None, (row["direction"], row["note"])))
+        return f"{row['change']}: {quoted(row['path'])}{others}{f' ({notes})' if notes else ''}"
     is_one = len(row["whom"]) == 1
     words = (("gained", "gain"), ("lost", "lose"), ("unclear", "may gain or lose"))
     parts = [f"{verb}{'s' if is_one and key != 'unclear' else ''} {row[key]}" for key, verb in words if row[key]]

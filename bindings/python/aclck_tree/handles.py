@@ -10,7 +10,7 @@ import os
 import struct
 import threading
 from collections import OrderedDict
-from typing import Iterator, List, NamedTuple, Optional
+from typing import FrozenSet, Iterator, List, NamedTuple, Optional
 
 KEPT = 128
 """How many handles stay open that no thread uses."""
@@ -22,6 +22,7 @@ OBJECT = os.O_PATH | os.O_NOFOLLOW
 """The flags for a handle of any object. A link has a handle of its own."""
 
 _ENTRY = struct.Struct("=QqHB")  # getdents64(2): inode, where the next entry is, length, type; the name follows
+_MAY_BE_DIRECTORY = (0, 4)  # DT_UNKNOWN and DT_DIR
 _LIBC = ctypes.CDLL(None, use_errno=True)
 _LIBC.getdents64.argtypes = (ctypes.c_int, ctypes.c_void_p, ctypes.c_size_t)
 _LIBC.getdents64.restype = ctypes.c_ssize_t
@@ -37,6 +38,11 @@ class Directory:
         self.name = name
         self.identity = status.st_dev, status.st_ino
 
+    def judge(self, status: os.stat_result) -> None:
+        """Raises OSError if the directory that has the name now is not the one that was read."""
+        if (status.st_dev, status.st_ino) != self.identity:
+            raise OSError(errno.ESTALE, "another directory has this name now")
+
     def path(self) -> bytes:
         """Returns the path below the root, which is empty for the root itself."""
         names: List[bytes] = []
@@ -47,12 +53,16 @@ class Directory:
         return b"/".join(reversed(names))
 
 
-class _Held:
-    __slots__ = ("handle", "users")
+class Held:
+    """A directory that is open, its device, and the path where the tree enters the file system of the directory."""
 
-    def __init__(self, handle: int) -> None:
+    __slots__ = ("handle", "users", "device", "mount")
+
+    def __init__(self, handle: int, device: int, mount: bytes) -> None:
         self.handle = handle
         self.users = 1
+        self.device = device
+        self.mount = mount
 
 
 class Handles:
@@ -62,17 +72,18 @@ class Handles:
     def __init__(self, root: Directory, handle: int) -> None:
         """Takes over a handle of the root."""
         self._lock = threading.Lock()
-        self._held: OrderedDict[Directory, _Held] = OrderedDict({root: _Held(handle)})  # the root is always in use
+        held = Held(handle, root.identity[0], b"")
+        self._held: OrderedDict[Directory, Held] = OrderedDict({root: held})  # the root is always in use
 
     @contextlib.contextmanager
-    def held(self, directory: Directory) -> Iterator[int]:
+    def held(self, directory: Directory) -> Iterator[Held]:
         """Opens a directory from the nearest directory above it that is open.
 
         Raises OSError if a directory on this way cannot be opened, or is not the one that was read.
         """
         held = self._open(directory)
         try:
-            yield held.handle
+            yield held
         finally:
             self._release(held)
 
@@ -82,7 +93,7 @@ class Handles:
             while self._held:
                 os.close(self._held.popitem()[1].handle)
 
-    def _open(self, directory: Directory) -> _Held:
+    def _open(self, directory: Directory) -> Held:
         missing: List[Directory] = []
         held = self._take(directory)
         while held is None:
@@ -92,13 +103,13 @@ class Handles:
             held = self._take(directory)
         for below in reversed(missing):
             try:
-                handle = _enter(below, held.handle)
+                entered = _enter(below, held)
             finally:
                 self._release(held)
-            held = self._keep(below, handle)
+            held = self._keep(below, entered)
         return held
 
-    def _take(self, directory: Directory) -> Optional[_Held]:
+    def _take(self, directory: Directory) -> Optional[Held]:
         with self._lock:
             held = self._held.get(directory)
             if held is not None:
@@ -106,36 +117,35 @@ class Handles:
                 self._held.move_to_end(directory)
             return held
 
-    def _release(self, held: _Held) -> None:
+    def _release(self, held: Held) -> None:
         with self._lock:
             held.users -= 1
 
-    def _keep(self, directory: Directory, handle: int) -> _Held:
+    def _keep(self, directory: Directory, entered: Held) -> Held:
         """Keeps a new handle, or closes it if another thread has opened the directory in the meantime."""
         with self._lock:
             held = self._held.get(directory)
             if held is not None:
-                os.close(handle)
+                os.close(entered.handle)
                 held.users += 1
                 return held
             if len(self._held) > KEPT:
                 unused = next((one for one, known in self._held.items() if not known.users), None)
                 if unused is not None:
                     os.close(self._held.pop(unused).handle)
-            held = self._held[directory] = _Held(handle)
-            return held
+            self._held[directory] = entered
+            return entered
 
 
-def _enter(directory: Directory, above: int) -> int:
-    handle = os.open(directory.name, OBJECT | os.O_DIRECTORY, dir_fd=above)
+def _enter(directory: Directory, above: Held) -> Held:
+    handle = os.open(directory.name, OBJECT | os.O_DIRECTORY, dir_fd=above.handle)
     try:
         status = os.fstat(handle)
-        if (status.st_dev, status.st_ino) != directory.identity:
-            raise OSError(errno.ESTALE, "another directory has this name now")
+        directory.judge(status)
     except OSError:
         os.close(handle)
         raise
-    return handle
+    return Held(handle, status.st_dev, above.mount if status.st_dev == above.device else directory.path())
 
 
 def open_root(root: bytes) -> int:
@@ -156,10 +166,12 @@ def open_list(directory: int) -> int:
 
 
 class Names(NamedTuple):
-    """Some names of a directory, and where in the directory the next name is."""
+    """Some names of a directory, where in the directory the next name is, and which of the names are not those of
+    directories, as far as the file system says so."""
 
     names: List[bytes]
     after: int
+    others: FrozenSet[bytes]
 
 
 def read_names(handle: int) -> Optional[Names]:
@@ -171,11 +183,14 @@ def read_names(handle: int) -> Optional[Names]:
         raise OSError(number, os.strerror(number))
     data = buffer.raw[:size]
     names: List[bytes] = []
+    others: List[bytes] = []
     at = after = 0
     while at < size:
-        _, after, length, _ = _ENTRY.unpack_from(data, at)
+        _, after, length, kind = _ENTRY.unpack_from(data, at)
         name = data[at + _ENTRY.size:at + length].partition(b"\0")[0]
         if name not in (b".", b".."):
             names.append(name)
+            if kind not in _MAY_BE_DIRECTORY:
+                others.append(name)
         at += length
-    return Names(names, after) if size else None
+    return Names(names, after, frozenset(others)) if size else None

@@ -7,13 +7,15 @@ list its bridge is asked: an NFSv4 list that grants each single permission alike
 
 from __future__ import annotations
 
+import contextlib
 import functools
+import itertools
 import struct
 from dataclasses import dataclass
 from enum import Enum, IntEnum
 from typing import Dict, List, NamedTuple, Optional, Sequence, Tuple, Union
 
-from aclck import ALLOW, APPEND_DATA, DENY, EXECUTE, READ_DATA, WRITE_DATA, Ace, AceFlag, NfsAcl, PosixAcl, Refused
+from aclck import APPEND_DATA, EXECUTE, READ_DATA, WRITE_DATA, Ace, AceFlag, NfsAcl, PosixAcl, Refused
 
 from .snapshot import ListForm, StoredList
 
@@ -181,25 +183,18 @@ def _packed(kind: int, flags: int, mask: int, who: bytes) -> bytes:
     return _ACE.pack(kind, flags, mask, len(who)) + who + bytes(-len(who) % 4)
 
 
-def _stand_ins(found: Sequence[Piece]) -> Dict[bytes, bytes]:
-    """Returns a group for each special name. No ACE names it."""
-    names = {piece.who for piece in found}
-    groups: Dict[bytes, bytes] = {}
-    for who in dict.fromkeys(piece.who for piece in found if _is_special(piece)):
-        groups[who] = who + b"?"
-        while groups[who] in names:
-            groups[who] += b"?"
-    return groups
-
-
-def _without_specials(piece: Piece, groups: Dict[bytes, bytes]) -> Ace:
-    """Returns the ACE of a piece, with a group in place of a special name."""
-    flags = AceFlag(piece.flags) | (AceFlag.IDENTIFIER_GROUP if piece.who in groups else 0)
-    kind = ALLOW if piece.kind == AceType.ALLOW else DENY
-    return Ace(kind, flags, piece.mask, decoded(groups.get(piece.who, piece.who)))
+def _suffix(found: Sequence[Piece]) -> bytes:
+    """Returns what makes the name of a group of each special name: no ACE has a name that ends so."""
+    ends = {piece.who.rpartition(b"?")[2] for piece in found if b"?" in piece.who}
+    if b"" not in ends:
+        return b"?"
+    return next(b"?%d" % number for number in itertools.count(2) if b"%d" % number not in ends)
 
 
 def _ready_nfs(data: bytes) -> Ready:
+    with contextlib.suppress(Refused):  # most lists are asked as they are
+        acl = NfsAcl(data)
+        return Asked(acl, places=range(len(acl)))
     try:
         left_out = NfsAcl.decide_unknown(data, user="?", owner="?", group="?", mask=0).left_out
     except Refused as refused:
@@ -209,12 +204,10 @@ def _ready_nfs(data: bytes) -> Ready:
     if too_long:
         return RefusedList(f"SpecialWho at byte {too_long.start + 16}")
     places = tuple(place for place, piece in enumerate(found) if piece.kind not in _DECIDES_NOTHING)
-    groups = _stand_ins([found[place] for place in places])
-    if not groups and not left_out:
-        return Asked(NfsAcl(data), places=places)
-    acl = NfsAcl.from_aces(_without_specials(found[place], groups) for place in places)
-    specials = tuple((decoded(name), decoded(group)) for name, group in groups.items())
-    return Asked(acl, None, specials, places, left_out)
+    names = dict.fromkeys(found[place].who for place in places if _is_special(found[place]))
+    suffix = _suffix(found)
+    acl = NfsAcl.with_groups(data, suffix)
+    return Asked(acl, None, tuple((decoded(name), decoded(name + suffix)) for name in names), places, left_out)
 
 
 def as_linux(acl: PosixAcl) -> PosixAcl:

@@ -3,13 +3,19 @@
 from __future__ import annotations
 
 import argparse
+import contextlib
+import functools
 import os
+import stat
 import sys
-from typing import Optional
+from typing import Callable, Optional
 
+from .combining import gathered, join
 from .errors import REFUSED, YES, TreeError, UsageError, tell
 from .files import refuse_what_is_no_file
-from .scan import Options, scan_trees
+from .listed import ListedScan, entries, opened_list
+from .portions import LONGEST_KEY, MOST_SHARDS, read_shard
+from .scan import Options, Scan, scan_trees
 from .snapshot import Snapshot
 from .text import plural, quoted
 from .writer import Writer, new_snapshot
@@ -35,11 +41,19 @@ def scan(args: argparse.Namespace) -> int:
     options = Options(args.threads, args.one_file_system, args.attribute, quiet=args.quiet)
     if args.host:
         options.host = args.host
+    _cut(args, options)
     roots = [os.fsencode(tree) for tree in args.tree]
     place = args.output
     total = _known_total(place)
-    with new_snapshot(place) as writer:
-        writer.whole, errors = scan_trees(roots, options, writer, total)
+    with contextlib.ExitStack() as stack:
+        make: Callable[..., Scan] = Scan
+        if args.list is not None:
+            found = entries(stack.enter_context(opened_list(args.list)), b"\n" if args.lines else b"\0")
+            make = functools.partial(ListedScan, found=found)
+        writer = stack.enter_context(new_snapshot(place))
+        writer.whole, errors = scan_trees(roots, options, writer, total, make)
+        if args.list is not None and writer.whole and not writer.objects + errors:
+            raise TreeError("the list has no path of an object, and nothing is written")
     failed = f", {plural(errors, 'step')} failed (aclck-tree info lists them)" if errors else ""
     state = "" if writer.whole else ", ended early: partial"
     if failed or state or not args.quiet:
@@ -47,15 +61,49 @@ def scan(args: argparse.Namespace) -> int:
     return REFUSED if errors or not writer.whole else YES
 
 
+def _cut(args: argparse.Namespace, options: Options) -> None:
+    """Reads the options that say what portion of a tree is read."""
+    if args.list is not None and (args.shard is not None or len(args.tree) > 1):
+        raise UsageError("--from takes one tree, and no --shard")
+    if args.lines and args.list is None:
+        raise UsageError("--lines goes with --from")
+    if args.key is not None and args.shard is None:
+        raise UsageError("--key goes with --shard")
+    if args.shard is not None:
+        found = read_shard(args.shard)
+        if not found:
+            raise UsageError(f"--shard takes I/N, with I from 1 to N, and N at most {MOST_SHARDS:,}")
+        options.shard, options.shards = found
+    if args.key is not None:
+        options.key = _key(args.key)
+
+
+def _key(place: str) -> bytes:
+    """Reads a key. Raises TreeError if the file is none."""
+    try:
+        handle = os.open(place, os.O_RDONLY | os.O_NONBLOCK | os.O_NOCTTY)
+        with open(handle, "rb") as file:
+            data = file.read(LONGEST_KEY + 1) if stat.S_ISREG(os.fstat(handle).st_mode) else b""
+    except (OSError, ValueError) as error:
+        raise TreeError(f"{quoted(place)}: {getattr(error, 'strerror', None) or error}") from None
+    if not 1 <= len(data) <= LONGEST_KEY:
+        raise TreeError(f"{quoted(place)}: a key is a file of 1 to {LONGEST_KEY} bytes")
+    return data
+
+
 def _made(writer: Writer) -> str:
     return f"{quoted(writer.place)}: {plural(writer.objects, 'object')}, {plural(writer.lists, 'distinct list')}"
 
 
 def merge(args: argparse.Namespace) -> int:
-    """Joins snapshots."""
+    """Joins snapshots, and portions of one tree."""
     snapshots = [Snapshot(place) for place in args.snapshot]
+    cut = gathered([snapshot for snapshot in snapshots if snapshot.portions])
     with new_snapshot(args.output) as writer:
         for snapshot in snapshots:
-            merge_into(writer, snapshot)
+            if not snapshot.portions:
+                merge_into(writer, snapshot)
+        for sources in cut:
+            join(writer, sources)
     sys.stderr.write(f"{_made(writer)}\n")
     return YES if all(snapshot.is_complete() for snapshot in snapshots) else REFUSED

@@ -6,10 +6,11 @@ A name that is written wrongly gets an answer all the same: that of a user whom 
 from __future__ import annotations
 
 from dataclasses import dataclass, field
-from typing import AbstractSet, Dict, Iterator, List, NamedTuple, Sequence, Set, Tuple
+from typing import AbstractSet, Dict, Iterable, Iterator, List, NamedTuple, Optional, Sequence, Set, Tuple
 
 from .ask import Asker
 from .lists import Asked, Kind, Ready, decoded, encoded, pieces
+from .people import Person
 from .text import quoted
 
 SHOWN = 5
@@ -44,17 +45,23 @@ class _Wanted:
             self.left -= self.forms[form]
 
 
-def _wanted(asker: Asker, trees: Set[int]) -> _Wanted:
-    """Returns the names of the people, in the forms of NFSv4 lists and of the POSIX lists of some trees."""
-    wanted = _Wanted()
+def _names(asker: Asker) -> Iterator[Tuple[Person, Name]]:
+    """Yields the names of the people and of their groups, with the person who gives the id."""
     for person in asker.people:
         for name in [(False, person.name), *((True, group) for group in person.groups)]:
-            is_group, word = name
-            wanted.add((0, is_group, encoded(asker.full_name(word))), name)
-            for tree in trees:
-                number = asker.id(person, word, is_group, tree)
-                if number is not None:
-                    wanted.add((tree, is_group, b"%d" % number), name)
+            yield person, name
+
+
+def _wanted(asker: Asker, names: Iterable[Tuple[Person, Name]], trees: Set[int]) -> _Wanted:
+    """Returns some names in the forms of NFSv4 lists and of the POSIX lists of some trees."""
+    wanted = _Wanted()
+    for person, name in names:
+        is_group, word = name
+        wanted.add((0, is_group, encoded(asker.full_name(word))), name)
+        for tree in trees:
+            number = asker.id(person, word, is_group, tree)
+            if number is not None:
+                wanted.add((tree, is_group, b"%d" % number), name)
     return wanted
 
 
@@ -79,11 +86,12 @@ def _domain(name: str) -> str:
     return name.partition("@")[2]
 
 
-def unmentioned(asker: Asker) -> Unmentioned:
-    """Returns which of the names that are asked about the snapshot of an `Asker` does not mention."""
+def unmentioned(asker: Asker, names: Optional[Iterable[Tuple[Person, Name]]] = None) -> Unmentioned:
+    """Returns which of the names that are asked about the snapshot of an `Asker` does not mention: those of the people,
+    or those that are given, each with a person who may give its id."""
     lists = {face.list: asker.kind(face.list) for face in asker.faces.values()}
     trees = {face.tree for face in asker.faces.values() if lists[face.list] is Kind.POSIX}
-    wanted = _wanted(asker, trees)
+    wanted = _wanted(asker, _names(asker) if names is None else names, trees)
     wanted.mention(set(_owners(asker)))
     in_lists: Set[bytes] = set()
     for number, kind in lists.items():
@@ -102,7 +110,11 @@ def unmentioned(asker: Asker) -> Unmentioned:
 def lines(asker: Asker, only_domains: bool) -> Iterator[str]:
     """Yields the lines that say which names are not mentioned. With `only_domains`, the people are all accounts of a
     system, of which most are never mentioned: then only names with a domain that no list has are said."""
-    found = unmentioned(asker)
+    return lines_of(asker, unmentioned(asker), only_domains)
+
+
+def lines_of(asker: Asker, found: Unmentioned, only_domains: bool) -> Iterator[str]:
+    """Yields the same lines about names that were found."""
     if found.names and not only_domains:
         yield f"no list, owner or group names {words_of(found.names)}{_domains(asker, found, found.names)}"
     other = found.foreign if only_domains else found.foreign - found.names

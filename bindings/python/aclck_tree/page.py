@@ -13,7 +13,7 @@ from .lists import Asked
 from .page_script import SCRIPT
 from .page_style import STYLE
 from .people import Person
-from .rows import Level, Row, Shown, columns_of, shortened, shown
+from .rows import Level, Name, Row, Shown, columns_of, shortened, shown
 from .text import plural, quoted, quoted_line, quoted_path
 
 if TYPE_CHECKING:
@@ -99,8 +99,11 @@ def _summary(report: Report) -> Iterator[str]:
            "It does not ask whether somebody gets past the folders above an object. ")
     yield "What a server grants beyond a list, as to root, is not counted.</p>\n"
     for tree in report.snapshot.trees.values():
+        where = f"{quoted(tree.host)}:{quoted_path(tree.place)}"
+        portion = report.snapshot.portions.get(tree.tree)
+        if portion:
+            yield f"<p class=warning>Of {escaped(where)}, the scan has {portion.words()}.</p>\n"
         if not tree.whole:
-            where = f"{quoted(tree.host)}:{quoted_path(tree.place)}"
             yield f"<p class=warning>The scan of {escaped(where)} was ended early: objects are missing.</p>\n"
     failed = sum(1 for _ in report.snapshot.errors())
     if failed:
@@ -112,13 +115,13 @@ def _findings(report: Report) -> Iterator[str]:
     for finding in report.findings:
         places = list(report.found[finding.key].values())
         if places:
-            yield from _finding(finding, sorted(places, key=lambda one: -one.folders - one.files))
+            yield from _finding(report, finding, sorted(places, key=lambda one: -one.folders - one.files))
     absent = [finding.title for finding in report.findings if not report.found[finding.key]]
     if absent:
         yield f"<p>Not found: {', '.join(absent)}.</p>\n"
 
 
-def _finding(finding: Finding, places: List[Places]) -> Iterator[str]:
+def _finding(report: Report, finding: Finding, places: List[Places]) -> Iterator[str]:
     objects = _objects(sum(one.folders for one in places), sum(one.files for one in places))
     sentence = finding.sentence.format(objects)
     yield f"<details class=found id={finding.key}><summary><strong>{sentence}</strong></summary>\n"
@@ -127,7 +130,7 @@ def _finding(finding: Finding, places: List[Places]) -> Iterator[str]:
     named = max(3, 100 // len(places))
     for one in places[:MOST_WORDS]:
         yield (f"<tr><td class=k>{one.folders + one.files:,}<td>{escaped(shortened(one.words, 400))}"
-               f"<td>{_names(one.names[:named], one.folders + one.files)}\n")
+               f"<td>{_names(report, one.names[:named], one.folders + one.files)}\n")
     yield "</tbody></table>\n"
     if len(places) > MOST_WORDS:
         rest = sum(one.folders + one.files for one in places[MOST_WORDS:])
@@ -135,8 +138,9 @@ def _finding(finding: Finding, places: List[Places]) -> Iterator[str]:
     yield "</details>\n"
 
 
-def _names(names: List[str], count: int) -> str:
-    """Returns the first names of some objects, and how many others there are."""
+def _names(report: Report, objects: List[Name], count: int) -> str:
+    """Returns the names of the first of some objects, and how many others there are."""
+    names = [report.name(*one) for one in objects]
     if count == 1:
         return _code(names[0])
     items = "".join(f"<li>{_code(name)}" for name in names)
@@ -194,7 +198,7 @@ def _table(report: Report, rows: List[Shown], columns: List[List[int]], heads: L
             yield _rest(last, last.depth >= deepest_open)
         if one.depth:
             cells = "".join(_cell(one.row, person) for person in firsts)
-            yield f"{_row(one, most, one.depth > deepest_open)}{cells}\n"
+            yield f"{_row(report, one, most, one.depth > deepest_open)}{cells}\n"
         waiting.append(one)
     while waiting:
         last = waiting.pop()
@@ -203,7 +207,7 @@ def _table(report: Report, rows: List[Shown], columns: List[List[int]], heads: L
     yield from _people(report, columns)
 
 
-def _row(one: Shown, most: int, is_hidden: bool) -> str:
+def _row(report: Report, one: Shown, most: int, is_hidden: bool) -> str:
     row, depth = one.row, one.depth
     names = row.names[:most]
     below = ", with what is below" if row.objects > row.begins else ""
@@ -211,7 +215,7 @@ def _row(one: Shown, most: int, is_hidden: bool) -> str:
     more = " data-more=1" if row.begins > len(names) else ""
     deep = " class=deep" if depth > 5 else ""
     hidden = " hidden" if is_hidden else ""
-    return (f"<tr data-d={depth}{deep}{more}{hidden}><th scope=row>{_names(names, row.begins)}{words}"
+    return (f"<tr data-d={depth}{deep}{more}{hidden}><th scope=row>{_names(report, names, row.begins)}{words}"
             f"<td class=k>{row.objects:,}")
 
 

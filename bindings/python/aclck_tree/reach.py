@@ -22,11 +22,11 @@ def reached(asker: Asker, is_selected: Optional[Callable[[int, bytes], bool]] = 
     through: Dict[int, Answers] = {}
     below: Dict[bytes, Answers] = {}
     now: Optional[int] = None
-    for tree, path, kind, _, face in asker.snapshot.objects():
+    for tree, path, is_directory, _, face in asker.snapshot.objects():
         if tree != now:
             now, below = tree, {}
         above = below.get(path.rpartition(b"/")[0], asker.nobody_known) if path else asker.everybody_granted
-        if kind == "d":
+        if is_directory:
             if face not in through:
                 through[face] = _through(asker, face)
             below[path] = asker.both(above, through[face])

@@ -8,18 +8,21 @@ import itertools
 import os
 import sys
 from dataclasses import dataclass, field, replace
-from typing import Dict, Iterator, List, NamedTuple, Optional, TextIO, Tuple
+from typing import Dict, Iterator, List, NamedTuple, Optional, Set, TextIO, Tuple
 
 from .ask import DENIED, GRANTED, UNKNOWN, Answers, Asker, Want
-from .commands import Paths, asker_of, opened, people_of
+from .checking import Applied, Policy, tell_slips, verdict_of, words_of
+from .commands import Paths, asker_of, opened, people_of, status_of
 from .errors import NO, REFUSED, YES, tell
 from .files import replaced
 from .findings import Finding, everyone_words, findings, special_bits_words
+from .judging import Verdict
 from .lists import Asked, Kind, RefusedList
 from .page import page
 from .people import HIGHEST_ID, Person, stranger_of
+from .policies import read_policy
 from .reach import reached
-from .rows import NAMED, Cells, Level, Rows, level_by, level_of, name_of, questions_of
+from .rows import NAMED, Cells, Level, Name, Rows, level_by, level_of, name_of, questions_of
 from .snapshot import Face, Snapshot
 from .text import Form, Output, quoted
 
@@ -31,7 +34,7 @@ class Places:
     words: str
     folders: int = 0
     files: int = 0
-    names: List[str] = field(default_factory=list)
+    names: List[Name] = field(default_factory=list)
 
 
 @dataclass
@@ -46,29 +49,35 @@ class _Kind:
     unnamed: List[Places]
     objects: int = 0
 
-    def name(self, name: str) -> None:
+    def name(self, name: Name) -> None:
         """Adds the name of an object to what was found about it."""
         self.unnamed = [places for places in self.unnamed if len(places.names) < NAMED]
         for places in self.unnamed:
             places.names.append(name)
 
 
-class Object(NamedTuple):
-    """An object as `Snapshot.objects` yields it, and with --reach who gets past the folders above it."""
+class Alike(NamedTuple):
+    """What objects have in common about which the same is said. With --reach, `above` says who gets past the folders
+    above them, and with a policy, `rules` are those about them."""
 
-    tree: int
-    path: bytes
     is_folder: bool
     bits: int
     face: int
     above: Optional[Answers]
+    rules: Tuple[Applied, ...]
+
+
+_Values = Tuple[bool, int, int, Optional[Answers], Tuple[Applied, ...]]
+"""The values of an `Alike`. One for each object is quicker than an `Alike` for each."""
 
 
 class Report:
     """What the page shows about a snapshot: with a pattern, only about the objects whose path matches. With `is_reach`,
-    nobody has access to what is below a folder that does not let them pass."""
+    nobody has access to what is below a folder that does not let them pass. With a policy, what breaks it is found
+    first."""
 
-    def __init__(self, asker: Asker, glob: Optional[str] = None, is_reach: bool = False) -> None:
+    def __init__(self, asker: Asker, glob: Optional[str] = None, is_reach: bool = False,
+                 policy: Optional[Policy] = None) -> None:
         self.glob = glob
         self.is_reach = is_reach
         self.snapshot: Snapshot = asker.snapshot
@@ -80,35 +89,36 @@ class Report:
         # Two more are asked about: who owns all objects that none of the people owns, and somebody whom nothing names.
         stranger = stranger_of(self.snapshot, stored, asker.people)
         self.asker = Asker(self.snapshot, [*asker.people, Person(str(self._nobody)), stranger], asker.options)
-        self.findings = findings(self.asker, self.snapshot.directory_faces(), stranger)
+        self.policy = policy
+        self.findings = [*(_policy_findings() if policy else ()),
+                         *findings(self.asker, self.snapshot.directory_faces(), stranger)]
         self.found: Dict[str, Dict[str, Places]] = {finding.key: {} for finding in self.findings}
         self._has_posix = any(self.asker.kind(face.list) is Kind.POSIX for face in self.faces.values())
         self._has_hosts = len({tree.host for tree in self.snapshot.trees.values()}) > 1
         self._users: Dict[Tuple[int, Kind], Dict[str, Tuple[int, ...]]] = {}
         self._cells: Dict[Tuple[bytes, Level], Cells] = {}
         self._levels: Dict[Tuple[int, int, int, bool], bytes] = {}
+        self.lists: Set[int] = set()
         self.rows = self._walk()
 
     def _walk(self) -> Rows:
         rows = Rows()
-        kinds: Dict[Tuple[bool, int, int, Optional[Answers]], _Kind] = {}
-        for one in self.objects():
-            tree, path, is_folder = one[:3]
-            kind = kinds.get(one[2:])
+        kinds: Dict[_Values, _Kind] = {}
+        for tree, path, values in self.objects():
+            kind = kinds.get(values)
             if kind is None:
-                kind = kinds[one[2:]] = self._kind(one)
+                kind = kinds[values] = self._kind(Alike(*values))
             kind.objects += 1
             if kind.unnamed:
-                kind.name(self.name(tree, path))
-            row, begins = rows.add(tree, path, is_folder, kind.cells)
+                kind.name((tree, path))
+            row, begins = rows.add(tree, path, kind.is_folder, kind.cells)
             if row is not None:
                 if kind.owners:
                     row.owners.update(kind.owners)
                 if begins and len(row.names) < NAMED:
-                    row.names.append(self.name(tree, path))
+                    row.names.append((tree, path))
         self.folders = sum(kind.objects for kind in kinds.values() if kind.is_folder)
         self.files = sum(kind.objects for kind in kinds.values() if not kind.is_folder)
-        self.lists = {self.faces[face].list for _, _, face, _ in kinds}
         for kind in kinds.values():
             for places in kind.places:
                 places.folders += kind.objects if kind.is_folder else 0
@@ -120,21 +130,25 @@ class Report:
         found = self.snapshot.trees[tree]
         return (f"{quoted(found.host)}:" if self._has_hosts else "") + name_of(found.full(path))
 
-    def objects(self) -> Iterator[Object]:
-        """Yields the objects that the report is about, in the order of trees and paths."""
+    def objects(self) -> Iterator[Tuple[int, bytes, _Values]]:
+        """Yields the tree and the path of each object that the report is about, and what it has in common with others,
+        in the order of trees and paths."""
         paths = None if self.glob is None else Paths(self.snapshot, self.glob)
         reach = (one[3] for one in reached(self.asker)) if self.is_reach else itertools.repeat(None)
-        for (tree, path, letter, mode, face), above in zip(self.snapshot.objects(), reach):
+        for (tree, path, is_folder, mode, face), above in zip(self.snapshot.objects(), reach):
             if paths is None or paths.has(tree, path):
-                yield Object(tree, path, letter == "d", mode & 0o7000, face, above)
+                rules = self.policy.applied(tree, path, is_folder) if self.policy else ()
+                yield tree, path, (is_folder, mode & 0o7000, face, above, rules)
 
-    def _kind(self, one: Object) -> _Kind:
+    def _kind(self, one: Alike) -> _Kind:
+        self.lists.add(self.faces[one.face].list)
         cells, owners = self._cells_of(one)
         places = [self.found[finding.key].setdefault(words, Places(words)) for finding, words in self.words(one)]
         return _Kind(one.is_folder, cells, owners, places, places)
 
-    def words(self, one: Object) -> Iterator[Tuple[Finding, str]]:
-        """Yields what was found about an object."""
+    def words(self, one: Alike) -> Iterator[Tuple[Finding, str]]:
+        """Yields what was found about objects."""
+        yield from self._broken(one)
         face = self.faces[one.face]
         stranger_is_stopped = one.above is not None and one.above.of(self._stranger) is DENIED
         for finding in self.findings:
@@ -148,8 +162,19 @@ class Report:
             if words and (one.is_folder or not finding.directories_only):
                 yield finding, words
 
-    def _cells_of(self, one: Object) -> Tuple[Cells, Tuple[int, ...]]:
-        """Returns how an object answers, and which of the people own it."""
+    def _broken(self, one: Alike) -> Iterator[Tuple[Finding, str]]:
+        """Yields which rules of the policy objects break, and of which that is not known."""
+        found: Dict[Verdict, List[str]] = {Verdict.BROKEN: [], Verdict.UNKNOWN: []}
+        for rule, exemption in one.rules:
+            assert self.policy
+            breaches = self.policy.breaches(rule, one.face, one.is_folder) if exemption is None else ()
+            if breaches:
+                words = "; ".join(map(words_of, breaches))
+                found[verdict_of(breaches)].append(f"{quoted(self.policy.rules[rule].name)}: {words}")
+        return ((finding, "; ".join(words)) for finding, words in zip(self.findings, found.values()) if words)
+
+    def _cells_of(self, one: Alike) -> Tuple[Cells, Tuple[int, ...]]:
+        """Returns how objects answer, and which of the people own them."""
         face, is_folder = self.faces[one.face], one.is_folder
         asked = self.asker.ready(face.list)
         if isinstance(asked, RefusedList):
@@ -221,11 +246,21 @@ class Report:
         return " or ".join(dict.fromkeys(filter(None, found)))
 
     def status(self) -> int:
-        """Returns 2 if a list is refused, something could not be read or the report is about no object, 1 if something
-        else was found, and otherwise 0."""
-        if self.found["refused"] or not self.snapshot.is_complete() or not self.folders + self.files:
+        """Returns 2 if a list is refused, a rule cannot be judged, something could not be read or the report is about
+        no object, 1 if something else was found, and otherwise 0."""
+        if self.found.get("unjudged"):
+            return REFUSED
+        if self.found["refused"] or status_of(YES, self.snapshot) != YES or not self.folders + self.files:
             return REFUSED
         return NO if any(self.found.values()) else YES
+
+
+def _policy_findings() -> List[Finding]:
+    """Returns what can be found with a policy, and was not found yet."""
+    return [Finding("policy", "broken rules", "A rule of the policy is broken by {}.",
+                    "The list grants more than the rule allows, or less than it wants."),
+            Finding("unjudged", "rules that cannot be judged", "A rule of the policy cannot be judged for {}.",
+                    "The list is refused, or something is not known that the rule depends on.")]
 
 
 def _past(levels: bytes, above: Optional[Answers]) -> bytes:
@@ -252,7 +287,12 @@ def _id_of_nobody(asker: Asker) -> int:
 def report(args: argparse.Namespace) -> int:
     """Writes the page, or with --csv or --json the findings, one line per object."""
     snapshot = opened(args.snapshot)
-    made = Report(asker_of(args, snapshot, people_of(args, snapshot)), args.path, args.reach)
+    rules = read_policy(args.policy) if args.policy else []
+    asker = asker_of(args, snapshot, people_of(args, snapshot))
+    policy = Policy(asker, rules) if rules else None
+    made = Report(asker, args.path, args.reach, policy)
+    # with --path, rules may be about other objects
+    has_empty = policy is not None and args.path is None and tell_slips(args.policy, asker, policy)
     if not made.folders + made.files:
         tell(f"{quoted(args.snapshot)}: no object is selected")
     with replaced(args.output) if args.output else contextlib.nullcontext(sys.stdout) as file:
@@ -260,15 +300,15 @@ def report(args: argparse.Namespace) -> int:
             file.writelines(page(made))
         else:
             _put_findings(args, made, file)
-    return made.status()
+    return REFUSED if has_empty else made.status()
 
 
 def _put_findings(args: argparse.Namespace, made: Report, file: TextIO) -> None:
     out = Output(args.form, ["finding", "path", "what"], lambda row: "", file)
-    known: Dict[Tuple[bool, int, int, Optional[Answers]], List[Tuple[Finding, str]]] = {}
-    for one in made.objects():
-        if one[2:] not in known:
-            known[one[2:]] = list(made.words(one))
-        for finding, words in known[one[2:]]:
-            full = os.fsdecode(made.snapshot.trees[one.tree].full(one.path))
+    known: Dict[_Values, List[Tuple[Finding, str]]] = {}
+    for tree, path, values in made.objects():
+        if values not in known:
+            known[values] = list(made.words(Alike(*values)))
+        for finding, words in known[values]:
+            full = os.fsdecode(made.snapshot.trees[tree].full(path))
             out.put({"finding": finding.key, "path": full, "what": words})

@@ -75,6 +75,10 @@ def name_of(path: bytes) -> str:
     return shortened(quoted(os.fsdecode(path)))
 
 
+Name = Tuple[int, bytes]
+"""The tree and the path of an object that the page may name."""
+
+
 @dataclass
 class Cells:
     """The cells of a row: the level of each person who does not own an object, in the order of the people, and the
@@ -98,7 +102,7 @@ class Row:
     objects: int = 0
     folders: int = 0
     files: int = 0
-    names: List[str] = field(default_factory=list)
+    names: List[Name] = field(default_factory=list)
     owners: Set[int] = field(default_factory=set)
     below: Dict[int, Row] = field(default_factory=dict)
     left_out: int = 0
@@ -124,8 +128,7 @@ class Rows:
         self.top = Row(Cells(-1, b"", Level.NONE))
         self.count = 0
         self._tree: Optional[int] = None
-        self._path = b""
-        self._above: List[Tuple[int, Row]] = []
+        self._above: List[Tuple[bytes, Row]] = []
 
     def add(self, tree: int, path: bytes, is_folder: bool, cells: Cells) -> Tuple[Optional[Row], bool]:
         """Adds an object. Returns its row, or None if there are too many rows, and whether the object begins there."""
@@ -146,24 +149,22 @@ class Rows:
                 row.folders += is_folder
                 row.files += not is_folder
         if is_folder:
-            self._above.append((len(path), row or above))
+            self._above.append((path + b"/" if path else b"", row or above))
         return row, begins
 
     def _row_above(self, tree: int, path: bytes) -> Row:
         """Returns the row of the nearest folder above. In the order of bytes, `a-b` is between `a` and `a/b`, so
-        `_above` keeps each folder until no path below it can follow; each is the beginning of the latest path."""
+        `_above` keeps each folder, with what all paths below it begin with, until no such path can follow."""
         if tree != self._tree:
             self._tree, self._above = tree, []
-        while self._above and not self._may_hold(self._above[-1][0], path):
-            self._above.pop()
-        self._path = path
-        for length, row in reversed(self._above):
-            if length == 0 or path[length:length + 1] == b"/":
+        while self._above:
+            beginning, row = self._above[-1]
+            if path.startswith(beginning):
                 return row
-        return self.top
-
-    def _may_hold(self, length: int, path: bytes) -> bool:
-        return length == 0 or path.startswith(self._path[:length]) and path[length:length + 1] <= b"/"
+            if path < beginning:
+                break
+            self._above.pop()
+        return next((row for beginning, row in reversed(self._above) if path.startswith(beginning)), self.top)
 
 
 @dataclass

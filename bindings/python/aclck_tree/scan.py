@@ -3,25 +3,22 @@ times of access do not change either."""
 
 from __future__ import annotations
 
-import contextlib
 import datetime
 import errno
-import grp
 import os
-import pwd
 import socket
 import stat
-import struct
 import sys
 import time
 from concurrent.futures import FIRST_COMPLETED, Future, ThreadPoolExecutor, wait
 from dataclasses import dataclass, field
-from typing import Dict, Iterator, List, NamedTuple, Optional, Sequence, Set, Tuple, Union
+from typing import Callable, Dict, FrozenSet, List, NamedTuple, Optional, Sequence, Set, Tuple, Union
 
-from . import VERSION
+from . import VERSION, accounts
 from .errors import TreeError
-from .handles import OBJECT, Directory, Handles, open_list, open_root, read_names
-from .snapshot import Account, Found, ListForm, StoredList, Tree
+from .handles import OBJECT, Directory, Handles, Held, open_list, open_root, read_names
+from .portions import MIXED, Device, Portion
+from .snapshot import Found, ListForm, StoredList, Tree
 from .writer import Writer
 
 SLOW = 0.0002
@@ -31,16 +28,25 @@ _KINDS = {stat.S_IFDIR: "d", stat.S_IFREG: "f", stat.S_IFIFO: "p", stat.S_IFSOCK
           stat.S_IFCHR: "c"}
 _ABSENT = (errno.ENODATA, errno.ENOTSUP)
 
+_NEW_DIRECTORY = "it was no directory when its name was read: other shards may lack what is below it"
+
 
 @dataclass
 class Options:
-    """The options of a scan."""
+    """The options of a scan. `shard` is 0 if it is not cut into shards."""
 
     threads: int = 32
     one_file_system: bool = False
     attribute: str = "system.nfs4_acl"
     host: str = field(default_factory=socket.gethostname)
     quiet: bool = False
+    shard: int = 0
+    shards: int = 0
+    key: bytes = b""
+
+    def portion(self) -> Portion:
+        """Returns the shard, or what the scan of a list reads."""
+        return Portion(self.shard, self.shards, self.key, self.attribute, self.one_file_system)
 
 
 @dataclass
@@ -61,10 +67,23 @@ class Listing(NamedTuple):
 
 
 class Piece(NamedTuple):
-    """A directory, and names in it whose objects are to be read."""
+    """A directory, and names in it whose objects are to be read. `others` are those of them that were no directories
+    when the names were read. If a list gave the names, directories among them are not entered."""
 
     directory: Directory
     names: List[bytes]
+    others: FrozenSet[bytes] = frozenset()
+    is_listed: bool = False
+
+
+class _Place(NamedTuple):
+    """Where objects are read: the directory, its handle and its path with a slash behind it, and whether its objects
+    are in the shard."""
+
+    piece: Piece
+    held: Held
+    prefix: bytes
+    is_own: bool
 
 
 Task = Union[Listing, Piece]
@@ -83,6 +102,13 @@ class Reader:
         self._handles = Handles(self._root, self._root_handle)
         self._with_lists: Set[int] = set()  # devices on which an object has an NFSv4 list
         self._unsupported: Dict[int, bytes] = {}  # devices without support for such lists: the path that showed it
+        self._mounts: Dict[int, bytes] = {}  # where the tree enters a device: the first of these places
+        self._shard = options.portion() if options.shards else None
+
+    @property
+    def root(self) -> Directory:
+        """The root of the tree."""
+        return self._root
 
     def close(self) -> None:
         """Closes the handles."""
@@ -93,11 +119,17 @@ class Reader:
         another object turned out to have one."""
         return [path for device, path in self._unsupported.items() if device in self._with_lists]
 
+    def devices(self) -> List[Device]:
+        """Returns what was found out about each file system, for the scans of other portions of the tree."""
+        return [Device(place, device in self._with_lists, self._unsupported.get(device))
+                for device, place in sorted(self._mounts.items(), key=lambda item: item[1])]
+
     def read_root(self) -> Result:
         """Reads the root itself, which may be a symbolic link to the tree. Raises OSError."""
         result = Result()
         status = os.fstat(self._root_handle)
-        self._keep(self._root_handle, status, b"", result)
+        if self._has(b""):
+            self._keep(self._root_handle, status, b"", b"", result)
         if stat.S_ISDIR(status.st_mode):
             result.tasks.append(Listing(self._root))
         return result
@@ -106,18 +138,25 @@ class Reader:
         """Does one task. Failures are in the result; the only exception it raises is MemoryError."""
         result = Result()
         try:
-            with self._handles.held(task.directory) as handle:
+            with self._handles.held(task.directory) as held:
                 if isinstance(task, Piece):
-                    self._read_names(task.directory, handle, task.names, result)
+                    self._read_names(task, held, result)
                 else:
-                    self._list(task, handle, result)
+                    self._list(task, held, result)
         except OSError as error:
-            result.errors.append((task.directory.path(), "list", _words(error)))
+            path = task.directory.path()
+            if isinstance(task, Piece) and task.is_listed:
+                result.errors += [(path + b"/" + name, "read", _words(error)) for name in task.names]
+            else:
+                result.errors.append((path, "list", _words(error)))
         return result
 
-    def _list(self, task: Listing, handle: int, result: Result) -> None:
+    def _has(self, directory: bytes) -> bool:
+        return self._shard is None or self._shard.has(directory)
+
+    def _list(self, task: Listing, held: Held, result: Result) -> None:
         """Reads the names of a directory, and their objects too if there are few."""
-        names = open_list(handle)
+        names = open_list(held.handle)
         try:
             if task.start:
                 os.lseek(names, task.start, os.SEEK_SET)
@@ -126,44 +165,56 @@ class Reader:
         finally:
             os.close(names)
         if first and second:  # tasks are done last first: so the objects of these names, and all below them, come next
-            result.tasks = [Listing(task.directory, second.after), Piece(task.directory, second.names),
-                            Piece(task.directory, first.names)]
+            result.tasks = [Listing(task.directory, second.after), Piece(task.directory, second.names, second.others),
+                            Piece(task.directory, first.names, first.others)]
         elif first:
-            self._read_names(task.directory, handle, first.names, result)
+            self._read_names(Piece(task.directory, first.names, first.others), held, result)
 
-    def _read_names(self, directory: Directory, above: int, names: Sequence[bytes], result: Result) -> None:
-        path = directory.path()
-        prefix = path + b"/" if path else b""
-        for name in names:
+    def _read_names(self, piece: Piece, held: Held, result: Result) -> None:
+        """Reads the objects of some names. In a directory of another shard these are only directories."""
+        path = piece.directory.path()
+        place = _Place(piece, held, path + b"/" if path else b"", self._has(path))
+        for name in piece.names if place.is_own else [one for one in piece.names if one not in piece.others]:
             try:
-                self._read(directory, above, name, prefix + name, result)
+                self._read(place, name, result)
             except OSError as error:
-                result.errors.append((prefix + name, "read", _words(error)))
+                result.errors.append((place.prefix + name, "read", _words(error)))
 
-    def _read(self, directory: Directory, above: int, name: bytes, path: bytes, result: Result) -> None:
-        handle = os.open(name, OBJECT, dir_fd=above)
+    def _read(self, place: _Place, name: bytes, result: Result) -> None:
+        handle = os.open(name, OBJECT, dir_fd=place.held.handle)
         try:
             status = os.fstat(handle)
+            is_directory = stat.S_ISDIR(status.st_mode)
             if stat.S_ISLNK(status.st_mode):
-                result.links += 1
-            elif not stat.S_ISDIR(status.st_mode):
-                self._keep(handle, status, path, result)
+                result.links += place.is_own
+            elif place.is_own and not is_directory:
+                self._keep_in(place, handle, status, name, result)
         finally:
             os.close(handle)
-        if stat.S_ISDIR(status.st_mode):
-            self._read_directory(directory, above, name, path, result)
+        if is_directory:
+            self._read_directory(place, name, result)
 
-    def _read_directory(self, directory: Directory, above: int, name: bytes, path: bytes, result: Result) -> None:
-        handle = os.open(name, OBJECT | os.O_DIRECTORY, dir_fd=above)  # mounts what is mounted on demand
+    def _read_directory(self, place: _Place, name: bytes, result: Result) -> None:
+        handle = os.open(name, OBJECT | os.O_DIRECTORY, dir_fd=place.held.handle)  # mounts what is mounted on demand
         try:
             found = os.fstat(handle)
-            if not self._options.one_file_system or found.st_dev == self._device:
-                result.tasks.append(Listing(Directory(directory, name, found)))
-            self._keep(handle, found, path, result)
+            is_entered = not self._options.one_file_system or found.st_dev == self._device
+            if is_entered and not place.piece.is_listed:
+                result.tasks.append(Listing(Directory(place.piece.directory, name, found)))
+            if self._shard and name in place.piece.others:
+                result.errors.append((place.prefix + name, "list", _NEW_DIRECTORY))
+            if place.is_own:
+                self._keep_in(place, handle, found, name, result)
         finally:
             os.close(handle)
 
-    def _keep(self, handle: int, status: os.stat_result, path: bytes, result: Result) -> None:
+    def _keep_in(self, place: _Place, handle: int, status: os.stat_result, name: bytes, result: Result) -> None:
+        path = place.prefix + name
+        mount = place.held.mount if status.st_dev == place.held.device else path
+        self._keep(handle, status, path, mount, result)
+
+    def _keep(self, handle: int, status: os.stat_result, path: bytes, mount: bytes, result: Result) -> None:
+        self._mounts[status.st_dev] = min(self._mounts.get(status.st_dev, mount), mount)
         kind = _KINDS.get(stat.S_IFMT(status.st_mode), "?")
         stored = self._stored(b"/proc/self/fd/%d" % handle, status, path)
         result.found.append(Found(path, kind, stat.S_IMODE(status.st_mode), status.st_uid, status.st_gid, stored))
@@ -233,7 +284,7 @@ class Progress:
 
 
 class Scan:
-    """The scan of one tree into a snapshot."""
+    """The scan of one tree, or of a shard of it, into a snapshot."""
 
     def __init__(self, root: bytes, options: Options, writer: Writer, progress: Progress) -> None:
         """Raises TreeError if the root is not a file or directory that can be read."""
@@ -249,29 +300,47 @@ class Scan:
         self.errors = 0
         typed, place = os.path.normpath(root), os.path.realpath(root)
         self.tree = writer.add_tree(Tree(0, options.host, typed, place, _now(), None, False, VERSION, 0))
+        if self._is_portion():
+            writer.add_portion(self.tree, options.portion())
+
+    def _is_portion(self) -> bool:
+        """Whether it reads only a portion of the tree."""
+        return self._options.shards > 0
 
     def run(self) -> None:
         """Walks the tree. If Ctrl-C ends it early, what was found until then is kept, and is not marked as whole."""
         whole = False
         try:
-            try:
-                self._keep(self._reader.read_root())
-            except OSError as error:
-                self._fail(b"", "read", _words(error))
+            self._begin()
             self._walk()
             whole = True
             for path in self._reader.mixed():
-                self._fail(path, "read", "NFSv4 lists are not supported here, but others of this file system have one")
+                self._fail(path, "read", MIXED)
         finally:
             self._reader.close()
             self._writer.end_tree(self.tree, _now(), whole, self._links)
+            if self._is_portion():
+                self._writer.add_devices(self.tree, self._reader.devices())
+
+    def _begin(self) -> None:
+        try:
+            self._keep(self._reader.read_root())
+        except OSError as error:
+            self._fail(b"", "read", _words(error))
+
+    def _next(self) -> Optional[Task]:
+        """Returns the next task, or None if there is none now."""
+        return self._tasks.pop() if self._tasks else None
 
     def _walk(self) -> None:
         done, began = 0, time.monotonic()
-        while self._tasks:
+        while True:
+            task = self._next()
+            if task is None:
+                break
             before = self._writer.objects
-            self._keep(self._reader.run(self._tasks.pop()))
-            done += self._writer.objects - before
+            self._keep(self._reader.run(task))
+            done += max(1, self._writer.objects - before)
             now = time.monotonic()
             if done >= 64:
                 if (now - began) / done > SLOW and self._options.threads > 1:
@@ -282,9 +351,13 @@ class Scan:
         running: Set[Future[Result]] = set()
         with ThreadPoolExecutor(self._options.threads) as pool:
             try:
-                while self._tasks or running:
-                    while self._tasks and len(running) < 2 * self._options.threads:
-                        running.add(pool.submit(self._reader.run, self._tasks.pop()))
+                while True:
+                    task = self._next() if len(running) < 2 * self._options.threads else None
+                    if task is not None:
+                        running.add(pool.submit(self._reader.run, task))
+                        continue
+                    if not running:
+                        break
                     finished, running = wait(running, return_when=FIRST_COMPLETED)
                     for future in finished:
                         self._keep(future.result())
@@ -305,14 +378,15 @@ class Scan:
         self._writer.add_error(self.tree, path, step, message)
 
 
-def scan_trees(roots: Sequence[bytes], options: Options, writer: Writer,
-               total: Optional[int] = None) -> Tuple[bool, int]:
-    """Scans trees into a snapshot. Returns whether all scans are whole, and how many steps failed.
+def scan_trees(roots: Sequence[bytes], options: Options, writer: Writer, total: Optional[int] = None,
+               make: Callable[[bytes, Options, Writer, Progress], Scan] = Scan) -> Tuple[bool, int]:
+    """Scans trees into a snapshot, each by the scan that `make` returns. Returns whether all scans are whole, and how
+    many steps failed.
 
     Ctrl-C ends the scan early. Raises TreeError if a root cannot be read.
     """
     progress = Progress(writer, total, options.quiet)
-    scans = [Scan(root, options, writer, progress) for root in roots]
+    scans = [make(root, options, writer, progress) for root in roots]
     whole = True
     try:
         for scan in scans:
@@ -321,47 +395,6 @@ def scan_trees(roots: Sequence[bytes], options: Options, writer: Writer,
         whole = False
     progress.end()
     for scan in scans:
-        writer.add_names(_names(writer, scan.tree))
-        writer.add_members((scan.tree, user, group) for user, group in _members())
+        writer.add_names(accounts.names(writer, scan.tree))
+        writer.add_members((scan.tree, user, group) for user, group in accounts.members())
     return whole, sum(scan.errors for scan in scans)
-
-
-def _names(writer: Writer, tree: int) -> Iterator[Account]:
-    """Yields the accounts that this host lists, and those of ids in the tree that it knows but does not list."""
-    owners, groups = writer.seen_ids(tree)
-    users_in_lists, groups_in_lists = _ids_in_lists(writer)
-    known: Dict[bool, Set[int]] = {False: set(), True: set()}
-    for user in pwd.getpwall():
-        known[False].add(user.pw_uid)
-        yield tree, False, user.pw_uid, os.fsencode(user.pw_name)
-    for group in grp.getgrall():
-        known[True].add(group.gr_gid)
-        yield tree, True, group.gr_gid, os.fsencode(group.gr_name)
-    for number in sorted({*owners, *users_in_lists} - known[False]):
-        with contextlib.suppress(KeyError, OverflowError):
-            yield tree, False, number, os.fsencode(pwd.getpwuid(number).pw_name)
-    for number in sorted({*groups, *groups_in_lists} - known[True]):
-        with contextlib.suppress(KeyError, OverflowError):
-            yield tree, True, number, os.fsencode(grp.getgrgid(number).gr_name)
-
-
-def _ids_in_lists(writer: Writer) -> Tuple[Set[int], Set[int]]:
-    users: Set[int] = set()
-    groups: Set[int] = set()
-    for data in writer.posix_lists():
-        if data and len(data) % 8 == 4:
-            for tag, _, number in struct.iter_unpack("<HHI", data[4:]):
-                if tag in (2, 8):
-                    (users if tag == 2 else groups).add(number)
-    return users, groups
-
-
-def _members() -> Iterator[Tuple[bytes, bytes]]:
-    """Yields the memberships that this host lists: the own group of each user, then the members of each group."""
-    names = {group.gr_gid: group.gr_name for group in grp.getgrall()}
-    for user in pwd.getpwall():
-        own = names.get(user.pw_gid, str(user.pw_gid))
-        yield os.fsencode(user.pw_name), os.fsencode(own)
-    for group in grp.getgrall():
-        for name in group.gr_mem:
-            yield os.fsencode(name), os.fsencode(group.gr_name)

@@ -6,8 +6,12 @@ from __future__ import annotations
 from typing import Any, Callable, Dict, Iterator, NamedTuple
 
 from .errors import TreeError
+from .portions import LONGEST_KEY, MOST_SHARDS
 
 FORMAT = 1
+PORTIONS = 2
+"""The version of a snapshot with portions of trees. A program that knows only whole trees refuses it."""
+
 APPLICATION = 0x61636C6B  # "aclk"
 
 LEAST_ROW = 4
@@ -35,15 +39,23 @@ def _word(*words: str) -> _Column:
 _KEY = _number(1, 2**53, "INTEGER PRIMARY KEY")
 _ID = _number(0, 2**32 - 1)
 _FLAG = _number(0, 1)
-_NAME = _Column("BLOB NOT NULL", "typeof({0}) = 'blob' AND NOT instr({0}, x'00')")
+_NO_NUL = "NOT instr({0}, x'00')"
+_NAME = _Column("BLOB NOT NULL", f"typeof({{0}}) = 'blob' AND {_NO_NUL}")
 _TEXT = _Column("TEXT NOT NULL", "typeof({0}) = 'text' AND instr(CAST({0} AS BLOB), x'00') = 0")
 _MAY_BE_TEXT = _Column("TEXT", f"{{0}} IS NULL OR {_TEXT.condition}")
-_TREE, _LIST, _FACE = (_Column("INTEGER NOT NULL", f"typeof({{0}}) = 'integer' AND {{0}} IN (SELECT {key} FROM {key}s)")
+# The conditions of what each object has say without typeof, which is slow, that a value is a number or bytes. The sign
+# keeps SQLite from making a number of a text. 5.0 is taken, and means the same as 5. Bytes are greater than all else.
+_TREE, _LIST, _FACE = (_Column("INTEGER NOT NULL",
+                               f"{{0}} & {2**53 - 1} = +{{0}} AND {{0}} IN (SELECT {key} FROM {key}s)")
                        for key in ("tree", "list", "face"))
+_MODE = _Column("INTEGER NOT NULL", f"{{0}} & {0o7777} = +{{0}}")
 _PATH = _Column("BLOB NOT NULL",  # relative, and without `..`
-                f"{_NAME.condition} AND ({{0}} >= x'30' OR {{0}} < x'2f') AND (NOT instr({{0}}, x'2e2e') OR NOT "
-                "instr(CAST(x'2f' || {0} || x'2f' AS BLOB), x'2f2e2e2f'))")
+                f"({{0}} >= x'30' OR {{0}} >= x'' AND {{0}} < x'2f') AND {_NO_NUL} AND (NOT instr({{0}}, x'2e2e') OR "
+                "NOT instr(CAST(x'2f' || {0} || x'2f' AS BLOB), x'2f2e2e2f'))")
+_MAY_BE_PATH = _Column("BLOB", f"{{0}} IS NULL OR {_PATH.condition}")
 _BYTES = _Column("BLOB", f"{{0}} IS NULL OR typeof({{0}}) = 'blob' AND length({{0}}) <= {LONGEST_LIST}")
+_INDEXED_TREE, _INDEXED_PATH = (_Column(one.declaration, "1") for one in (_TREE, _PATH))
+"""Columns that are read and judged in the index alone, which can differ from the table."""
 
 TABLES: Dict[str, Dict[str, _Column]] = {
     "trees": {"tree": _KEY, "host": _TEXT, "root": _NAME, "place": _NAME, "began": _TEXT, "ended": _MAY_BE_TEXT,
@@ -51,59 +63,83 @@ TABLES: Dict[str, Dict[str, _Column]] = {
     "lists": {"list": _KEY, "kind": _word("nfs4", "posix", "mode"), "mode": _number(0, 0o777), "access": _BYTES,
               "dflt": _BYTES},
     "faces": {"face": _KEY, "tree": _TREE, "uid": _ID, "gid": _ID, "list": _LIST},
-    "objects": {"tree": _TREE, "path": _PATH, "kind": _word(*"fdpsbc?"), "mode": _number(0, 0o7777), "face": _FACE},
+    "objects": {"tree": _INDEXED_TREE, "path": _INDEXED_PATH, "kind": _word(*"fdpsbc?"), "mode": _MODE, "face": _FACE},
     "names": {"tree": _TREE, "is_group": _FLAG, "id": _ID, "name": _NAME},
     "members": {"tree": _TREE, "user": _NAME, "grp": _NAME},
     "errors": {"tree": _TREE, "path": _PATH, "step": _word("read", "list"), "message": _TEXT},
 }
 """The tables with their columns. A file with anything else in it is no snapshot."""
 
+PORTION_TABLES: Dict[str, Dict[str, _Column]] = {
+    "portions": {"tree": _Column("INTEGER PRIMARY KEY", _TREE.condition), "shard": _number(0, MOST_SHARDS),
+                 "shards": _number(0, MOST_SHARDS),
+                 "key": _Column("BLOB NOT NULL", f"typeof({{0}}) = 'blob' AND length({{0}}) <= {LONGEST_KEY}"),
+                 "attribute": _TEXT, "one_file_system": _FLAG},
+    "devices": {"tree": _TREE, "place": _PATH, "has_lists": _FLAG, "without": _MAY_BE_PATH},
+}
+"""The tables that a snapshot with portions of trees has in addition."""
+
 _BOTH = """CASE kind WHEN 'nfs4' THEN access IS NOT NULL AND dflt IS NULL
                      WHEN 'mode' THEN access IS NULL AND dflt IS NULL ELSE access IS NOT NULL OR dflt IS NOT NULL END"""
 """The condition for the two attributes of a list."""
 
+_ROWS = {"lists": _BOTH, "portions": "shard BETWEEN 1 AND shards OR shard = 0 AND shards = 0"}
+"""The conditions for several values of a row."""
+
 SCHEMA = {**{name: f"CREATE TABLE {name} ({', '.join(f'{one} {is_a.declaration}' for one, is_a in columns.items())})"
-             for name, columns in TABLES.items()},
+             for name, columns in {**TABLES, **PORTION_TABLES}.items()},
           "objects_by_path": "CREATE INDEX objects_by_path ON objects (tree, path)"}
 
 Rows = Callable[[str], Iterator[Any]]
 """Runs a query and yields its rows."""
 
 
-def judge(place: str, rows: Rows, size: int) -> int:
-    """Judges everything in a file of some size, and returns the number of its objects. Raises TreeError if there is
-    anything that a scan does not write."""
-    _judge_header(place, rows)
+class Judged(NamedTuple):
+    """The number of objects of a snapshot, and whether it has portions of trees."""
+
+    objects: int
+    has_portions: bool
+
+
+def judge(place: str, rows: Rows, size: int) -> Judged:
+    """Judges everything in a file of some size. Raises TreeError if there is anything that a scan does not write."""
+    has_portions = _judge_header(place, rows) == PORTIONS
     for name, sql in rows("SELECT name, sql FROM sqlite_master"):  # also views, triggers, and virtual tables
         if " ".join(str(sql).split()) != SCHEMA.get(name):
             raise TreeError(f"{place}: no snapshot: its tables are not those of a snapshot")
-    objects = _judge_values(place, rows, size)
-    # Paths in order come from the index, which can differ from the table. The sign makes SQLite read all of it.
-    query = ("SELECT COUNT(*), TOTAL(0) FROM objects INDEXED BY objects_by_path WHERE typeof(path) = 'blob' AND "
-             f"{_TREE.condition.format('+tree')}")
+        if name in PORTION_TABLES and not has_portions:
+            raise TreeError(f"{place}: no snapshot: a snapshot of whole trees has no table {name}")
+    objects = _judge_values(place, rows, size, {**TABLES, **(PORTION_TABLES if has_portions else {})})
+    # The signs make SQLite read all of the index. A path that is there twice counts once.
+    query = ("SELECT COUNT(*) FROM (SELECT DISTINCT tree, path FROM objects INDEXED BY objects_by_path WHERE "
+             f"{_TREE.condition.format('+tree')} AND "
+             f"{_PATH.condition.format('+path')})")
     if next(rows(query))[0] != objects:
-        raise TreeError(f"{place}: damaged: the index does not fit the objects")
-    return objects
+        raise TreeError(f"{place}: damaged: the index does not fit the objects, or a path is there twice or is one that "
+                        "no scan writes")
+    return Judged(objects, has_portions)
 
 
-def _judge_header(place: str, rows: Rows) -> None:
+def _judge_header(place: str, rows: Rows) -> int:
+    """Judges what a file says of itself, and returns its version."""
     application, version, encoding = (next(rows(f"PRAGMA {name}"))[0] for name in (
         "application_id", "user_version", "encoding"))
     if application != APPLICATION:
         raise TreeError(f"{place}: no snapshot of aclck-tree")
-    if version != FORMAT:
-        age = "a newer" if version > FORMAT else "no"
-        raise TreeError(f"{place}: format {version} of {age} aclck-tree; this one reads format {FORMAT}")
+    if version not in (FORMAT, PORTIONS):
+        age = "a newer" if version > PORTIONS else "no"
+        raise TreeError(f"{place}: format {version} of {age} aclck-tree; formats {FORMAT} and {PORTIONS} are read")
     if encoding != "UTF-8":
         raise TreeError(f"{place}: text in it is not UTF-8")
+    return int(version)
 
 
-def _judge_values(place: str, rows: Rows, size: int) -> int:
+def _judge_values(place: str, rows: Rows, size: int, tables: Dict[str, Dict[str, _Column]]) -> int:
     """Judges all values. Pages of a file can be shared, so that a small file has endless rows: all rows together must
     not have more bytes than the file."""
     total = 0
     counts: Dict[str, int] = {}
-    for name, columns in TABLES.items():
+    for name, columns in tables.items():
         lengths = [f"TOTAL(length({one}))" for one, column in columns.items() if "BLOB" in column.declaration]
         # A COUNT(*) without anything else is one instruction, which nothing could end.
         query = f"SELECT COUNT(*), {' + '.join(lengths) or 'TOTAL(0)'} FROM {name}"
@@ -112,7 +148,7 @@ def _judge_values(place: str, rows: Rows, size: int) -> int:
         if total > size:
             raise TreeError(f"{place}: damaged: the table {name} has more rows than the file has room for")
         conditions = [f"({column.condition.format(one)})" for one, column in columns.items()]
-        conditions += [_BOTH] if name == "lists" else []
+        conditions += [f"({_ROWS[name]})"] if name in _ROWS else []
         if any(rows(f"SELECT 1 FROM {name} WHERE NOT ({' AND '.join(conditions)}) IS TRUE LIMIT 1")):
             raise TreeError(f"{place}: damaged: the table {name} has a value that no scan writes")
     return counts["objects"]

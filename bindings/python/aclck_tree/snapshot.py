@@ -13,13 +13,18 @@ The tables:
   its kind (one letter, as for find -type), its mode, and its face.
 - `names` and `members`: the accounts that the scanning host knew, and the ids that the tree has.
 - `errors`: what could not be read, with the path and the step.
+- `portions`: which trees are only a shard of a tree, or the paths of a list. `shard` and `shards` are 0 for a list. The
+  other columns say how the tree was cut, and must be equal in snapshots that are joined.
+- `devices`: what the scan of a portion found out about each file system (`portions.Device`).
 
-The version of this layout is in `PRAGMA user_version`. A newer version is refused, with a message that says so.
+The version of this layout is in `PRAGMA user_version`: 2 if there are `portions` and `devices`, and 1 if these two
+tables are absent. A newer version is refused, with a message that says so.
 """
 
 from __future__ import annotations
 
 import enum
+import functools
 import hashlib
 import os
 import sqlite3
@@ -27,11 +32,18 @@ import stat
 import sys
 import urllib.parse
 from dataclasses import dataclass
-from typing import Any, Dict, Iterator, Optional, Sequence, Set, Tuple
+from typing import Any, Dict, Iterable, Iterator, Optional, Sequence, Set, Tuple
 
 from .errors import TreeError
 from .joined import Joined
+from .portions import Device, Portion
 from .schema import judge
+
+_OBJECTS = "objects INDEXED BY objects_by_path"
+"""Objects with their trees and paths from the index, in which these are judged."""
+
+_MODE = "mode & 4095"
+"""A mode as a whole number."""
 
 STEP = 100_000
 """After how many instructions of SQLite the work is counted."""
@@ -79,8 +91,9 @@ class StoredList:
     access: Optional[bytes]
     default: Optional[bytes]
 
+    @functools.cached_property
     def digest(self) -> bytes:
-        """Returns 16 bytes that are the same for equal lists."""
+        """16 bytes that are the same for equal lists."""
         parts = [self.kind.encode(), b"%o" % self.mode, self.access, self.default]
         whole = b"".join(b"-" if part is None else b"%d:" % len(part) + part for part in parts)
         return hashlib.blake2b(whole, digest_size=16).digest()
@@ -131,10 +144,12 @@ class Snapshot:
         self.allow_work(self._size)
         for line in ("trusted_schema = OFF", "cell_size_check = ON"):
             self._db.execute(f"PRAGMA {line}")
-        self._count = judge(place, self._rows, self._size)
+        self._count, self._has_portions = judge(place, self._rows, self._size)
         rows = self._rows("SELECT * FROM trees ORDER BY tree")
         self.trees = {row[0]: Tree(row[0], row[1], row[2], row[3], row[4], row[5], bool(row[6]), row[7], row[8])
                       for row in rows}
+        rows = self._portion_rows("SELECT * FROM portions ORDER BY tree")
+        self.portions = {row[0]: Portion(row[1], row[2], row[3], row[4], bool(row[5])) for row in rows}
 
     def allow_work(self, size: int) -> None:
         """Allows as much work as questions about a snapshot of this size need. A file can be built so that a question
@@ -153,6 +168,10 @@ class Snapshot:
         except (sqlite3.DatabaseError, UnicodeDecodeError) as error:  # a message of SQLite can have any bytes in it
             raise self._unreadable(error) from None
 
+    def _portion_rows(self, query: str, values: Sequence[object] = ()) -> Iterator[Any]:
+        """Yields the rows of a query about portions, if there are any."""
+        return self._rows(query, values) if self._has_portions else iter(())
+
     def _unreadable(self, error: Exception) -> TreeError:
         words = "it makes more work than any snapshot of its size" if self._steps < 0 else str(error)
         return TreeError(f"{self.place}: cannot be read as a snapshot: {words}")
@@ -164,6 +183,10 @@ class Snapshot:
     def is_complete(self) -> bool:
         """Whether all its scans were completed, and no step of them failed."""
         return self.is_whole() and next(self.errors(), None) is None
+
+    def has_shards(self) -> bool:
+        """Whether it has only a shard of a tree."""
+        return any(not portion.is_list for portion in self.portions.values())
 
     def count(self) -> int:
         """Returns the number of objects."""
@@ -188,20 +211,39 @@ class Snapshot:
 
     def face_counts(self) -> Dict[int, Tuple[int, bytes]]:
         """Returns for each face how many objects have it, and the first path."""
-        rows = self._rows("SELECT face, COUNT(*), MIN(path) FROM objects GROUP BY face")
+        rows = self._rows(f"SELECT face, COUNT(*), MIN(path) FROM {_OBJECTS} GROUP BY face")
         return {row[0]: (row[1], row[2]) for row in rows}
 
     def directory_faces(self) -> Set[int]:
         """Returns the faces that directories have."""
         return {row[0] for row in self._rows("SELECT DISTINCT face FROM objects WHERE kind = 'd'")}
 
-    def objects(self) -> Iterator[Tuple[int, bytes, str, int, int]]:
-        """Yields the tree, path, kind, mode and face of all objects, in the order of trees and paths."""
-        yield from self._rows("SELECT tree, path, kind, mode, face FROM objects ORDER BY tree, path")
+    def objects(self) -> Iterator[Tuple[int, bytes, bool, int, int]]:
+        """Yields of all objects the tree, the path, whether it is a directory (1 or 0), the mode and the face, in the
+        order of trees and paths."""
+        return self._rows(f"SELECT tree, path, kind = 'd', {_MODE}, face FROM {_OBJECTS} ORDER BY tree, path")
+
+    def objects_in(self, tree: int) -> Iterator[Tuple[bytes, bytes, int, int]]:
+        """Yields the path, kind, mode and face of the objects of a tree, in the order of paths."""
+        query = f"SELECT path, CAST(kind AS BLOB), {_MODE}, face FROM objects WHERE tree = ? ORDER BY path"
+        return self._rows(query, (tree,))
+
+    def objects_of(self, tree: int) -> Iterator[Found]:
+        """Yields the objects of a tree in the order of paths. It keeps none of them."""
+        lists, faces = self.lists(), self.faces()
+        query = f"SELECT path, kind, {_MODE}, face FROM {_OBJECTS} WHERE tree = ? ORDER BY path"
+        for path, kind, mode, number in self._rows(query, (tree,)):
+            face = faces[number]
+            yield Found(path, kind, mode, face.uid, face.gid, lists[face.list])
+
+    def devices_of(self, tree: int) -> Iterator[Device]:
+        """Yields what the scan of a portion found out about file systems."""
+        for row in self._portion_rows("SELECT place, has_lists, without FROM devices WHERE tree = ?", (tree,)):
+            yield Device(row[0], bool(row[1]), row[2])
 
     def find(self, tree: int, path: bytes) -> Optional[Tuple[str, int, int]]:
         """Returns the kind, mode and face of an object, or None if there is no such object."""
-        rows = self._rows("SELECT kind, mode, face FROM objects WHERE tree = ? AND path = ?", (tree, path))
+        rows = self._rows(f"SELECT kind, {_MODE}, face FROM {_OBJECTS} WHERE tree = ? AND path = ?", (tree, path))
         return next(rows, None)
 
     def names(self) -> Iterator[Account]:
@@ -217,11 +259,11 @@ class Snapshot:
         """Yields the tree, path, step and message of each failure to read."""
         yield from self._rows("SELECT * FROM errors ORDER BY tree, path")
 
-    def join(self, other: Snapshot, pairs: Sequence[Tuple[int, int]]) -> Joined:
-        """Opens a later snapshot together with this one; `pairs` are the trees of both that are one tree at two
-        times."""
+    def join(self, other: Snapshot, pairs: Sequence[Tuple[int, int]], alike: Iterable[Tuple[int, int]]) -> Joined:
+        """Opens a later snapshot together with this one. `pairs` are the trees of both that are one tree at two times,
+        and `alike` faces of both, with which objects have not changed."""
         self.allow_work(self._size + other._size)
-        return Joined(self._db, uri(other.place, READ_ONLY), pairs)
+        return Joined(self._db, uri(other.place, READ_ONLY), (self._count, other._count), pairs, alike)
 
 
 def uri(place: str, options: str) -> str:

@@ -3,13 +3,15 @@
 from __future__ import annotations
 
 import contextlib
+import itertools
 import os
 import sqlite3
 from typing import Dict, Iterable, Iterator, List, Optional, Sequence, Tuple
 
 from .errors import DeviceError
 from .files import Part, refuse_what_is_no_file
-from .schema import APPLICATION, FORMAT, SCHEMA, TABLES
+from .portions import Device, Portion
+from .schema import APPLICATION, FORMAT, PORTION_TABLES, PORTIONS, SCHEMA, TABLES
 from .snapshot import Account, Found, Snapshot, Tree, uri
 
 
@@ -20,6 +22,7 @@ class Writer:
         """`place` is the name of the snapshot in messages, and `part` that of the file."""
         self._lists: Dict[bytes, int] = {}
         self._faces: Dict[Tuple[int, int, int, int], int] = {}
+        self._has_portions = False
         self.objects = 0
         self.whole = True
         self.place = place
@@ -43,6 +46,20 @@ class Writer:
         cursor = self._db.execute("INSERT INTO trees VALUES (NULL, CAST(? AS TEXT), ?, ?, ?, ?, ?, ?, ?)", row)
         return cursor.lastrowid or 0
 
+    def add_portion(self, tree: int, portion: Portion) -> None:
+        """Records that a tree is only a portion of one."""
+        if not self._has_portions:
+            self._has_portions = True
+            self._db.execute(f"PRAGMA user_version = {PORTIONS}")
+            for name in PORTION_TABLES:
+                self._db.execute(SCHEMA[name])
+        row = (tree, portion.shard, portion.shards, portion.key, _bytes(portion.attribute), portion.one_file_system)
+        self._db.execute("INSERT INTO portions VALUES (?, ?, ?, ?, CAST(? AS TEXT), ?)", row)
+
+    def add_devices(self, tree: int, devices: Iterable[Device]) -> None:
+        """Records what the scan of a portion found out about file systems."""
+        self._db.executemany("INSERT INTO devices VALUES (?, ?, ?, ?)", ((tree, *device) for device in devices))
+
     def end_tree(self, tree: int, ended: str, whole: bool, links: int) -> None:
         """Records how the scan of a tree ended."""
         self._db.execute("UPDATE trees SET ended = ?, whole = ?, links = ? WHERE tree = ?", (ended, whole, links, tree))
@@ -55,7 +72,7 @@ class Writer:
 
     def _face(self, tree: int, found: Found) -> int:
         stored = found.stored
-        digest = stored.digest()
+        digest = stored.digest
         number = self._lists.get(digest)
         if number is None:
             number = self._lists[digest] = len(self._lists) + 1
@@ -104,19 +121,12 @@ class Writer:
 
 
 def merge(writer: Writer, snapshot: Snapshot) -> None:
-    """Adds everything in a snapshot to a new one."""
-    lists, faces = snapshot.lists(), snapshot.faces()
+    """Adds everything in a snapshot of whole trees to a new one."""
     numbers = {number: writer.add_tree(tree) for number, tree in snapshot.trees.items()}
-    batch: List[Found] = []
-    at = 0
-    for tree, path, kind, mode, face in snapshot.objects():
-        if batch and (tree != at or len(batch) == 1000):
-            writer.add_objects(numbers[at], batch)
-            batch = []
-        at = tree
-        batch.append(Found(path, kind, mode, faces[face].uid, faces[face].gid, lists[faces[face].list]))
-    if batch:
-        writer.add_objects(numbers[at], batch)
+    for tree, number in numbers.items():
+        found = snapshot.objects_of(tree)
+        for first in found:
+            writer.add_objects(number, [first, *itertools.islice(found, 999)])
     writer.add_names((numbers[tree], is_group, number, name) for tree, is_group, number, name in snapshot.names())
     writer.add_members((numbers[tree], user, group) for tree, user, group in snapshot.members())
     for tree, path, step, message in snapshot.errors():

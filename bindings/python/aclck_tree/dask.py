@@ -1,0 +1,123 @@
+"""Scans and questions on the workers of a cluster: `client` is a `distributed.Client`. The engine chooses the workers,
+repeats what a lost worker did, and keeps results on disk if memory is short.
+
+Workers and client need this program and the library, and find trees, snapshots and files of people by the same paths. A
+scheduler of Dask runs whatever is sent to it: let nobody else reach it, or use its TLS.
+
+    import aclck_tree.dask as together
+    together.scan(client, "/srv/shared", "monday", 64, "/srv/shards")
+    together.who(client, ["server1.snapshot", "server2.snapshot"], "--may", "w", "--people", "people")
+"""
+
+from __future__ import annotations
+
+import json
+import os
+import shutil
+import subprocess
+import sys
+import tempfile
+from typing import Any, List, NamedTuple, Sequence, TextIO, Tuple
+
+from .errors import NO, REFUSED, USAGE, YES, DeviceError, TreeError, UsageError, tell
+from .text import quoted
+
+RETRIES = 3
+"""How often a task is repeated that fails."""
+
+
+class _Done(NamedTuple):
+    status: int
+    out: bytes
+    printed: str
+
+
+def _run(module: str, words: Sequence[str]) -> _Done:
+    """Runs a module of the program in a process of its own. Raises DeviceError if it fails, so that it is repeated."""
+    done = subprocess.run([sys.executable, "-m", f"aclck_tree.{module}", *words], stdin=subprocess.DEVNULL,
+                          capture_output=True)
+    found = _Done(done.returncode, done.stdout, done.stderr.decode(errors="backslashreplace"))
+    if found.status not in (YES, NO, REFUSED, USAGE):
+        raise DeviceError(f"{words[0]} ended with status {found.status}: {found.printed.strip()}")
+    return found
+
+
+def _submitted(client: Any, module: str, lines: Sequence[Sequence[str]]) -> List[Any]:
+    return [client.submit(_run, module, list(words), pure=False, retries=RETRIES) for words in lines]
+
+
+def _told(done: _Done) -> TreeError:
+    """Returns the error that the last line on standard error says."""
+    line = done.printed.strip().rpartition("\n")[2]
+    text = line[len(_HEAD):] if line.startswith(_HEAD) else line
+    return UsageError(text) if done.status == USAGE else TreeError(text)
+
+
+_HEAD = "aclck-tree: "
+
+
+def scan(client: Any, tree: str, output: str, shards: int, directory: str, *options: str) -> int:
+    """Scans the shards of a tree on the workers, and merges them into `output`. Their snapshots are for this time in a
+    directory that all workers reach. The options are those of the command `scan`. Returns the exit status of the merge.
+    Raises TreeError if a scan or the merge is refused, and DeviceError if one fails."""
+    place = tempfile.mkdtemp(prefix="shards-", dir=directory)
+    try:
+        places = [os.path.join(place, f"{number}-of-{shards}") for number in range(1, shards + 1)]
+        lines = [["scan", tree, "--shard", f"{number}/{shards}", "-o", one, *options]
+                 for number, one in enumerate(places, 1)]
+        for one, future in zip(places, _submitted(client, "__main__", lines)):
+            done: _Done = future.result()
+            if done.status == USAGE or not os.path.exists(one):
+                raise _told(done)
+        done = _run("__main__", ["merge", *places, "-o", output])
+        if done.printed.startswith(_HEAD):
+            raise _told(done)
+        return done.status
+    finally:
+        shutil.rmtree(place, ignore_errors=True)
+
+
+def _ask(client: Any, word: str, lines: Sequence[Sequence[str]], options: Sequence[str], file: TextIO) -> int:
+    """Asks a question about each of some snapshots, or about each of some pairs of them. Writes the rows as JSON, in
+    the order of the snapshots, and returns the exit status that one command about all of them has."""
+    judges = _submitted(client, "partition", [["judge", *places] for places in zip(*lines)])
+    futures = _submitted(client, "partition", [[word, *places, *options, "--json"] for places in lines])
+    for judge in judges:
+        if judge.result().status != YES:
+            raise _told(judge.result())
+    found = []
+    while futures:
+        done: _Done = futures.pop(0).result()  # the workers forget the rows then
+        rows, _, last = done.out.rstrip(b"\n").rpartition(b"\n")
+        if done.status == USAGE:
+            raise _told(done)
+        sys.stderr.writelines(line for line in done.printed.splitlines(True) if line.startswith(_HEAD))
+        file.write(rows.decode("ascii") + ("\n" if rows else ""))
+        found.append(json.loads(last))
+    unmatched = set.intersection(*(set(one["unmatched"]) for one in found)) if found else set()
+    for name in sorted(unmatched):
+        tell(f"the path of rule {quoted(name)} matches nothing")
+    if unmatched or all(one["empty"] for one in found):
+        return REFUSED
+    return max((int(one["status"]) for one in found), key=(YES, NO, REFUSED).index)
+
+
+def who(client: Any, snapshots: Sequence[str], *options: str, file: TextIO = sys.stdout) -> int:
+    """Writes which of the people may do what is asked. The snapshots are those of whole trees, or all shards of them,
+    and the options are those of the command `who`."""
+    return _ask(client, "who", [(place,) for place in snapshots], options, file)
+
+
+def may(client: Any, snapshots: Sequence[str], *options: str, file: TextIO = sys.stdout) -> int:
+    """Writes on which objects one user may do what is asked, as `who` does."""
+    return _ask(client, "may", [(place,) for place in snapshots], options, file)
+
+
+def policy(client: Any, snapshots: Sequence[str], rules: str, *options: str, file: TextIO = sys.stdout) -> int:
+    """Writes which objects break a rule of a policy, as `who` does."""
+    return _ask(client, "policy", [(place,) for place in snapshots], (rules, *options), file)
+
+
+def diff(client: Any, pairs: Sequence[Tuple[str, str]], *options: str, file: TextIO = sys.stdout) -> int:
+    """Writes what changed between the two snapshots of each pair. Shards are compared with the same shards."""
+    return _ask(client, "diff", pairs, options, file)
