@@ -75,21 +75,28 @@ def whole_length(data):
     return min(at, len(data))
 
 
-def compare(data, given, others):
+def two_lists(data, given):
     cut = whole_length(data)
     first = nfs(data[:cut], given)
     try:
-        second = nfs(data[cut:], given)
+        return first, nfs(data[cut:], given)
     except aclck.Refused as refused:
         raise aclck.Refused(refused.reason, offset=cut + refused.offset) from None
-    found = first.compare(second)
-    assert first.means_the_same(second) == (found is None)
-    if found is None:
-        return b"same\n"
+
+
+def difference(found):
+    """Returns the lines that `compare` writes for a difference."""
     lines = ["differ", f"owner {found.owner}", f"group {found.group}", f"user {found.user}"]
     lines += [f"member {group}" for group in found.groups] + [f"mask {aclck.mask_text(found.right)}"]
     answers = ("granted", "denied") if found.first_grants else ("denied", "granted")
     return "".join(line + "\n" for line in [*lines, f"first {answers[0]}", f"second {answers[1]}"]).encode()
+
+
+def compare(data, given, others):
+    first, second = two_lists(data, given)
+    found = first.compare(second)
+    assert first.means_the_same(second) == (found is None)
+    return difference(found) if found else b"same\n"
 
 
 def text(acl, form="canonical"):
