@@ -53,7 +53,7 @@ $(STATIC): crates/aclck/out/aclck.o
 	$(CC) -static-pie -s -Wl,-z,relro,-z,now,-z,noexecstack,-z,pack-relative-relocs \
 	  -o $@ crates/aclck/out/aclck.o $(KIT)/libos_c.a $(KIT)/liblibc_c.a
 
-## install            installs aclck, its pages and examples, and aclck-tree, below PREFIX
+## install            installs aclck, its pages and examples, aclck-tree and aclck-form, below PREFIX
 install: $(STATIC) install-tree
 	install -D -m 755 $(STATIC) '$(PROGRAM)'
 	install -D -m 644 man/aclck.1 '$(MANUAL)'
@@ -66,23 +66,24 @@ uninstall: uninstall-tree
 	rm -f '$(PROGRAM)' '$(MANUAL)' '$(COMPLETION)'
 	rm -rf '$(SHARE)/doc/aclck'
 
-## install-tree       installs aclck-tree, the Python module and the completions: they use the installed library
+## install-tree       installs aclck-tree, aclck-form and the Python module, which use the installed library
 install-tree:
-	install -D -m 755 bin/aclck-tree '$(DESTDIR)$(PREFIX)/bin/aclck-tree'
-	install -D -m 644 man/aclck-tree.1 '$(SHARE)/man/man1/aclck-tree.1'
-	install -D -m 644 completions/aclck-tree.bash '$(SHARE)/bash-completion/completions/aclck-tree'
-	for name in aclck aclck-tree; do \
+	for name in aclck-tree aclck-form; do \
+	  install -D -m 755 bin/$$name '$(DESTDIR)$(PREFIX)/bin/'$$name && \
+	  install -D -m 644 man/$$name.1 '$(SHARE)/man/man1/'$$name.1 && \
+	  install -D -m 644 completions/$$name.bash '$(SHARE)/bash-completion/completions/'$$name || exit 1; done
+	for name in aclck aclck-tree aclck-form; do \
 	  install -D -m 644 completions/_$$name '$(SHARE)/zsh/site-functions/'_$$name && \
 	  install -D -m 644 completions/$$name.fish '$(SHARE)/fish/vendor_completions.d/'$$name.fish || exit 1; done
-	for file in bindings/python/aclck*/*.py bindings/python/aclck*/py.typed; do \
+	for file in bindings/python/aclck*/*.py bindings/python/aclck*/py.typed bindings/python/aclck*/*.sql; do \
 	  install -D -m 644 "$$file" '$(MODULES)/'"$${file#bindings/python/}" || exit 1; done
 
 ## uninstall-tree     removes what install-tree installs
 uninstall-tree:
-	rm -f '$(DESTDIR)$(PREFIX)/bin/aclck-tree' '$(SHARE)/man/man1/aclck-tree.1' \
-	  '$(SHARE)/bash-completion/completions/aclck-tree' \
-	  '$(SHARE)/zsh/site-functions/_aclck' '$(SHARE)/zsh/site-functions/_aclck-tree' \
-	  '$(SHARE)/fish/vendor_completions.d/aclck.fish' '$(SHARE)/fish/vendor_completions.d/aclck-tree.fish'
+	for name in aclck-tree aclck-form; do rm -f '$(DESTDIR)$(PREFIX)/bin/'$$name \
+	  '$(SHARE)/man/man1/'$$name.1 '$(SHARE)/bash-completion/completions/'$$name; done
+	for name in aclck aclck-tree aclck-form; do rm -f '$(SHARE)/zsh/site-functions/'_$$name \
+	  '$(SHARE)/fish/vendor_completions.d/'$$name.fish; done
 	rm -rf '$(MODULES)'
 
 crates/aclck/out/aclck:
@@ -94,8 +95,11 @@ crates/aclck/out/aclck.o: | crates/aclck/out/aclck
 
 ## package            makes the Debian packages and a tarball of what run and library built, in debian/out
 package: $(STATIC)
-	$(MAKE) --no-print-directory $(MADE)/$(SHARED) $(MADE)/libaclck.a
+	$(MAKE) --no-print-directory $(MADE)/$(SHARED) $(MADE)/libaclck.a extensions
 	debian/build
 
 # The targets `library`, `install-library` and `uninstall-library`, for the library for C.
 include library/library.mk
+
+# The targets `sqlite` and `postgres`, and those that install what they build.
+include sql/sql.mk
