@@ -1,9 +1,9 @@
 //! The bytes of the extended attributes that hold ACLs on Linux.
-ghost use Rattle.std.specs.Prelude.{◌≡◌, ◌⊎◌, None, Option, Some, drop, IfErr, IfOk, IfSome, IsNone};
+ghost use Rattle.std.specs.Prelude.{◌≡◌, ◌≤◌, ◌⊎◌, None, Option, Some, drop, length, IfErr, IfOk, IfSome, IsNone};
 ghost use Rattle.acl_posix.specs.declared.attribute_fault.AttributeFault.TheVariants.{Acl};
 ghost use Rattle.acl_posix.specs.declared.fault.AclFault.TheVariants.{Memory};
 ghost use Rattle.acl_posix.specs.Entries.{Entries, pairs};
-ghost use Rattle.acl_posix.specs.Attribute.{attribute_raws, coded_number, frame_fault, IsAttributeOf, IsFaultOfAttribute, IsFirstFall, NeverFalls, stored_raw, stored_raws};
+ghost use Rattle.acl_posix.specs.Attribute.{attribute_raws, coded_number, entry_size, frame_fault, IsAttributeOf, IsFaultOfAttribute, IsFirstFall, NeverFalls, stored_raw, stored_raws};
 
 use crate::acl::PosixAcl;
 use crate::attribute_fault::AttributeFault;
@@ -83,9 +83,12 @@ pub(crate) fn stored_raws(alloc: Global, bytes: &[u8]) -> Result<Vec<RawEntry>, 
     Ok(raws)
 }
 
+/// Returns the numbers of the entry in the first eight bytes.
 #[tactic(auto, unfolding(crate::specs::Attribute::stored_raw))]
-fn stored_raw(bytes: &[u8; 8]) -> RawEntry
-    ensures { result ≡ stored_raw bytes.now }
+pub fn stored_raw(bytes: &[u8]) -> RawEntry
+    requires { entry_size ≤ length bytes.now }
+    ensures numbers { result ≡ stored_raw bytes.now }
+    ensures known { result.tag ≤ 6 }
 {
     RawEntry {
         tag: coded_number(LittleEndian::read_u16(bytes)),
@@ -96,7 +99,8 @@ fn stored_raw(bytes: &[u8; 8]) -> RawEntry
 
 /// Returns the number of the tag type with a code, or 0 if there is none.
 fn coded_number(code: u16) -> u32
-    ensures { result ≡ coded_number code }
+    ensures number { result ≡ coded_number code }
+    ensures known { result ≤ 6 }
 {
     match code {
         0x01 => 1,
@@ -110,7 +114,7 @@ fn coded_number(code: u16) -> u32
 }
 
 /// Returns the place of the first entry whose tag type is before that of the entry before it, in canonical order.
-fn first_fall(entries: &[Entry]) -> Option<usize>
+pub fn first_fall(entries: &[Entry]) -> Option<usize>
     ensures some { IfSome result (IsFirstFall (pairs entries.now)) }
     ensures none { IsNone result → NeverFalls (pairs entries.now) }
 {

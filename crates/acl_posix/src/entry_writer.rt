@@ -90,8 +90,8 @@ fn put_perm(line: &mut [u8; LINE], end: usize, perm: Perm) -> usize
     put(line, end, [b':', read, write, execute])
 }
 
-// Returns the letter of a permission if the set has it, and `-` otherwise.
-fn letter(perm: Perm, bit: u8, shown: u8) -> u8
+/// Returns the letter of a permission if the set has it, and `-` otherwise.
+pub fn letter(perm: Perm, bit: u8, shown: u8) -> u8
     ensures { result ≡ letter perm.bits bit shown }
 {
     if perm.bits & bit == bit { shown } else { b'-' }

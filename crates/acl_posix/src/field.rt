@@ -22,7 +22,7 @@ pub enum TagWord {
 
 /// Returns the tag word that a field spells, in full or by its first letter, or `None` if it spells none.
 #[tactic(auto, unfolding(crate::specs::Fields::word_of))]
-pub(crate) fn read_word(bytes: &[u8]) -> Option<TagWord>
+pub fn read_word(bytes: &[u8]) -> Option<TagWord>
     ensures { result ≡ word_of bytes.now }
 {
     if is_one_of(bytes, b"user", b"u") {
@@ -39,7 +39,7 @@ pub(crate) fn read_word(bytes: &[u8]) -> Option<TagWord>
 }
 
 /// Returns whether a field marks an entry of the default ACL.
-pub(crate) fn is_default(bytes: &[u8]) -> bool
+pub fn is_default(bytes: &[u8]) -> bool
     ensures { result ≡ is_default bytes.now }
 {
     is_one_of(bytes, b"default", b"d")
@@ -54,7 +54,7 @@ fn is_one_of(bytes: &[u8], long: &[u8], short: &[u8]) -> bool
 /// Returns the set that a permission field spells, or `None` if the field has another byte than r, w, x and -, or a
 /// letter twice.
 #[tactic(auto, unfolding(crate::specs::Fields::permissions_of))]
-pub(crate) fn read_permissions(bytes: &[u8]) -> Option<Perm>
+pub fn read_permissions(bytes: &[u8]) -> Option<Perm>
     ensures { option_map (λ perm. perm.bits) result ≡ permissions_of bytes.now }
 {
     let read = count(bytes, b'r');
@@ -81,7 +81,7 @@ fn are_permissions(bytes: &[u8]) -> bool
 }
 
 /// Returns whether there are digits alone, and at least one.
-pub(crate) fn is_number(bytes: &[u8]) -> bool
+pub fn is_number(bytes: &[u8]) -> bool
     ensures { result ≡ is_number bytes.now }
 {
     !bytes.is_empty() && is_all_digits(bytes)
@@ -95,7 +95,7 @@ fn is_all_digits(bytes: &[u8]) -> bool
 
 /// Returns the id that decimal digits spell, or `None` if the number is above 4294967294.
 #[tactic(auto, unfolding(crate::specs::Fields::id_of))]
-pub(crate) fn read_id(digits: &[u8]) -> Option<Id>
+pub fn read_id(digits: &[u8]) -> Option<Id>
     requires { IsTrue (is_number digits.now) }
     ensures { option_map (λ id. id.value) result ≡ id_of digits.now }
 {

@@ -23,6 +23,7 @@ mod form;
 mod group_answers;
 mod group_number;
 mod id;
+pub mod internal;
 pub mod laws;
 mod look_up;
 mod memory;

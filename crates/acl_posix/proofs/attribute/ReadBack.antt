@@ -41,18 +41,19 @@ id_below (group id) h = omega (arith, h)
 id_below mask h = omega arith
 id_below other h = omega arith
 
--- the bytes of an entry mean its numbers
-stored : (e : Tag × ℕ) → IsEntry e → stored_raw (entry_bytes e) ≡ raw_of e
+-- bytes that begin with those of an entry mean its numbers
+pub stored : (e : Tag × ℕ) (rest : List ℕ) → IsEntry e → stored_raw (entry_bytes e ++ rest) ≡ raw_of e
 unfolding entry_bytes stored_raw
-stored e h =
+stored e rest h =
     let number : ℕ = unwrap_or (tag_row e.0).qualifier undefined_id in
-    let tag = little_number-reads_back 2 (tag_code e.0) (little_bytes 2 e.1 ++ little_bytes 4 number) (code_below e.0) in
-    let perm = little_number-reads_back 2 e.1 (little_bytes 4 number) (omega (arith, h.1)) in
-    let id = little_number-reads_back 4 number [] (id_below e.0 h.0) in
+    let tag = little_number-reads_back 2 (tag_code e.0) (little_bytes 2 e.1 ++ (little_bytes 4 number ++ rest))
+    (code_below e.0) in
+    let perm = little_number-reads_back 2 e.1 (little_bytes 4 number ++ rest) (omega (arith, h.1)) in
+    let id = little_number-reads_back 4 number rest (id_below e.0 h.0) in
     λ i. record { tag = (ap coded_number tag ∙ coded e.0) i; id = id i; perm = perm i }
 
 -- the numbers of an entry mean the entry
-again : (t : Tag) (n : ℕ) → raw_pair (raw_of (t, n)) ≡ (t, n)
+pub again : (t : Tag) (n : ℕ) → raw_pair (raw_of (t, n)) ≡ (t, n)
 again user_obj n = refl
 again (user id) n = refl
 again group_obj n = refl
@@ -76,7 +77,7 @@ right other n h below = rw (not_above 7 n (omega (arith, below))) refl
 -- ---- all entries
 
 -- the bytes of entries are eight each
-bytes_length : (ps : List (Tag × ℕ)) → length (flat_map entry_bytes ps) ≡ 8 * length ps
+pub bytes_length : (ps : List (Tag × ℕ)) → length (flat_map entry_bytes ps) ≡ 8 * length ps
 unfolding entry_bytes
 bytes_length [] = refl
 bytes_length (p ∷ ps) = let rest = bytes_length ps in omega (arith, rest)
@@ -86,7 +87,7 @@ all_stored : (ps : List (Tag × ℕ)) → All IsEntry ps
     → map stored_raw (first_chunks 8 (length ps) (flat_map entry_bytes ps)) ≡ map raw_of ps
 unfolding entry_bytes
 all_stored [] h = refl
-all_stored (p ∷ ps) h = λ i. stored p (h 0 p (omega arith)) i
+all_stored (p ∷ ps) h = λ i. stored p [] (h 0 p (omega arith)) i
     ∷ all_stored ps (λ k d lt. h (suc k) d (omega (arith, lt))) i
 
 -- the numbers of entries mean the entries
@@ -110,7 +111,7 @@ before_not_later : (s t : Tag) → tag_cmp s t ≡ Less → rank t < rank s → 
 before_not_later s t before later = not_greater (rank s) (rank t) (qualifier s) (qualifier t) before later
 
 -- the tag types of a list in canonical order never fall
-sorted_rises : (ps : List (Tag × ℕ)) → IsSorted ps → NeverFalls ps
+pub sorted_rises : (ps : List (Tag × ℕ)) → IsSorted ps → NeverFalls ps
 sorted_rises ps sorted place lt fall = before_not_later (tag_at ps (place - 1)) (tag_at ps place)
     (Less-from_sorted tag_cmp (tags ps) (place - 1) place other sorted (omega (arith, fall.later))
     (omega (arith, lt, length-tags_of ps))) fall.falls
