@@ -1,80 +1,32 @@
 -- The bytes of an entry of an attribute: what they mean, and the entry that has the bytes.
-use Rattle.std.proofs.Common.{◌≡◌, ◌∙◌, ◌+◌, ◌*◌, ◌<◌, ◌≤◌, ◌^◌, ◌++◌, ℕ, Bool, true, false, cond, eqb, List, [], ◌∷◌, Option, None, Some, length, drop, refl, ap, sym, subst, arith, length-append}
-use Rattle.std.specs.Prelude.{◌==◌, ◌&&◌, ◌≢◌, nat_lt, option_map, unwrap_or}
+use Rattle.std.proofs.Common.{◌≡◌, ◌∙◌, ◌+◌, ◌*◌, ◌<◌, ◌≤◌, ◌^◌, ◌++◌, ℕ, Bool, true, false, cond, eqb, List, [], ◌∷◌, Option, None, Some, Result, Ok, Err, length, drop, refl, ap, sym, subst, arith}
+use Rattle.std.specs.Prelude.{◌==◌, ◌&&◌, ◌≢◌, IfErr, IfOk, OnOk, nat_lt, option_map, unwrap_or}
 use Rattle.std.specs.Option.{option_or}
-use Rattle.std.specs.List.{flat_map}
 use Rattle.std.proofs.lemmas.Bool.{eqb-true}
 use Rattle.std.proofs.lemmas.Bool.Decides.{nat_tests}
-use Rattle.std.proofs.lemmas.List.Concat.{flat_map-cons}
-use Rattle.byteorder.specs.Endian.{little_bytes, little_number}
-use Rattle.byteorder.specs.Numbers.{little_number-reads_back}
+use Rattle.byteorder.specs.Endian.{little_bytes}
 use Rattle.acl_perm.specs.Bits.{IsPerm}
+use Rattle.acl_posix.proofs.Exports.{again, stored}
 use Rattle.acl_posix.specs.Attribute.{coded_number, tag_code}
 unfoldable use Rattle.acl_posix.specs.Attribute.{entry_bytes, stored_raw}
-use Rattle.acl_posix.specs.Entries.{IsEntry}
+use Rattle.acl_posix.specs.Entries.{IsEntry, pair_of}
+use Rattle.acl_posix.specs.declared.entry.Entry.{Entry}
 use Rattle.acl_posix.specs.Id.{greatest_id}
-use Rattle.acl_posix.specs.RawEntries.{entry_fault, numbered_tag, perm_fault, raw_of, raw_pair, raw_tag, raw_tag_number, undefined_id}
+use Rattle.acl_posix.specs.RawEntries.{entry_fault, numbered_tag, perm_fault, raw_of, raw_pair, raw_tag, undefined_id}
 use Rattle.acl_posix.specs.Tag.{IsTag, Tag, group, group_obj, is_named, mask, other, tag_row, user, user_obj}
 use Rattle.acl_posix.specs.declared.raw_entry.EntryFault.{EntryFault}
 use Rattle.acl_posix.specs.declared.raw_entry.EntryFault.TheVariants as wrong
 use Rattle.acl_posix.specs.declared.raw_entry.RawEntry.{RawEntry}
 use Rattle.acl_nfs4.specs.internal.Progress.{IsBytes}
 use Rattle.acl_nfs4.specs.declared.xdr.fault.Reason.TheVariants.{Truncated}
-use Rattle.acl_forms.specs.Attributes.{id_reason, last_tag, order_reason}
+use Rattle.acl_forms.specs.Attributes.{id_reason}
 unfoldable use Rattle.acl_forms.specs.Attributes.{field_fault, next_entry_fault}
 use Rattle.acl_forms.specs.ReadFaults.{read_fault_at}
 use Rattle.acl_forms.specs.declared.fault.ReadFault.{ReadFault}
 use Rattle.acl_forms.specs.declared.fault.ReadReason.{ReadReason}
 use Rattle.acl_forms.specs.declared.fault.ReadReason.TheVariants as reasons
 
--- ---- the numbers of the bytes of an entry
-
--- a code means the number of its tag type
-coded : (t : Tag) → coded_number (tag_code t) ≡ raw_tag_number t
-coded user_obj = refl
-coded (user id) = refl
-coded group_obj = refl
-coded (group id) = refl
-coded mask = refl
-coded other = refl
-
--- a code takes two bytes
-code_below : (t : Tag) → tag_code t < 256 ^ 2
-code_below user_obj = omega arith
-code_below (user id) = omega arith
-code_below group_obj = omega arith
-code_below (group id) = omega arith
-code_below mask = omega arith
-code_below other = omega arith
-
--- an id takes four bytes
-id_below : (t : Tag) → IsTag t → unwrap_or (tag_row t).qualifier undefined_id < 256 ^ 4
-id_below user_obj h = omega arith
-id_below (user id) h = omega (arith, h)
-id_below group_obj h = omega arith
-id_below (group id) h = omega (arith, h)
-id_below mask h = omega arith
-id_below other h = omega arith
-
--- bytes that begin with those of an entry mean its numbers
-pub stored : (e : Tag × ℕ) (rest : List ℕ) → IsEntry e → stored_raw (entry_bytes e ++ rest) ≡ raw_of e
-unfolding entry_bytes stored_raw
-stored e rest h =
-    let number : ℕ = unwrap_or (tag_row e.0).qualifier undefined_id in
-    let tag = little_number-reads_back 2 (tag_code e.0) (little_bytes 2 e.1 ++ (little_bytes 4 number ++ rest))
-    (code_below e.0) in
-    let perm = little_number-reads_back 2 e.1 (little_bytes 4 number ++ rest) (omega (arith, h.1)) in
-    let id = little_number-reads_back 4 number rest (id_below e.0 h.0) in
-    λ i. record { tag = (ap coded_number tag ∙ coded e.0) i; id = id i; perm = perm i }
-
--- the numbers of an entry mean the entry
-pub again : (t : Tag) (n : ℕ) → raw_pair (raw_of (t, n)) ≡ (t, n)
-again user_obj n = refl
-again (user id) n = refl
-again group_obj n = refl
-again (group id) n = refl
-again mask n = refl
-again other n = refl
+-- ---- entries and their bytes
 
 -- bytes begin with those of at most one entry
 pub one_entry : (x y : Tag × ℕ) (s t : List ℕ) → IsEntry x → IsEntry y → entry_bytes x ++ s ≡ entry_bytes y ++ t
@@ -89,19 +41,6 @@ one_entry x y s t of_x of_y e =
 pub entry_size_is : (e : Tag × ℕ) → length (entry_bytes e) ≡ 8
 unfolding entry_bytes
 entry_size_is e = refl
-
--- the bytes of entries are eight each
-pub bytes_length : (ps : List (Tag × ℕ)) → length (flat_map entry_bytes ps) ≡ 8 * length ps
-bytes_length [] = refl
-bytes_length (p ∷ ps) =
-    let first = ap (λ (l : List ℕ). length l) (flat_map-cons entry_bytes p ps) in
-    omega (
-      arith,
-      first,
-      length-append (entry_bytes p) (flat_map entry_bytes ps),
-      entry_size_is p,
-      bytes_length ps,
-    )
 
 -- ---- no fault in the bytes of an entry
 
@@ -123,47 +62,35 @@ right at (group id) n h below = rw (not_below 7 n (omega (arith, below)), define
 right at mask n h below = rw (not_below 7 n (omega (arith, below))) refl
 right at other n h below = rw (not_below 7 n (omega (arith, below))) refl
 
--- whole bytes whose numbers and whose tag are right have no fault
-nothing_wrong : (at : ℕ) (last : Option Tag) (text : List ℕ) (raw : RawEntry) → 8 ≤ length text
-    → stored_raw text ≡ raw → field_fault at raw ≡ None → order_reason last (raw_tag raw) ≡ None
-    → next_entry_fault at last text ≡ None
+-- whole bytes whose numbers are right have no fault
+nothing_wrong : (at : ℕ) (text : List ℕ) (raw : RawEntry) → 8 ≤ length text → stored_raw text ≡ raw
+    → field_fault at raw ≡ None → next_entry_fault at text ≡ None
 unfolding next_entry_fault
-nothing_wrong at last text raw long is field order = rw (not_below (length text) 8 long, is, field, order) refl
+nothing_wrong at text raw long is field = rw (not_below (length text) 8 long, is, field) refl
 
--- bytes that begin with those of an entry that may come after the last one have no fault
-pub no_next_fault : (at : ℕ) (last : Option Tag) (e : Tag × ℕ) (rest : List ℕ) → IsEntry e
-    → order_reason last e.0 ≡ None → next_entry_fault at last (entry_bytes e ++ rest) ≡ None
+-- bytes that begin with those of an entry have no fault
+pub no_next_fault : (at : ℕ) (e : Tag × ℕ) (rest : List ℕ) → IsEntry e → next_entry_fault at (entry_bytes e ++ rest) ≡ None
 unfolding entry_bytes
-no_next_fault at last e rest h order =
-    let same : raw_tag (raw_of e) ≡ e.0 = ap (λ (p : Tag × ℕ). p.0) (again e.0 e.1) in
-    nothing_wrong at last (entry_bytes e ++ rest) (raw_of e) (omega arith) (stored e rest h) (right at e.0 e.1 h.0 h.1)
-    (subst (λ (t : Tag). order_reason last t ≡ None) (sym same) order)
+no_next_fault at e rest h =
+    nothing_wrong at (entry_bytes e ++ rest) (raw_of e) (omega arith) (stored e rest h) (right at e.0 e.1 h.0 h.1)
 
 -- ---- each fault of the next entry
 
 -- bytes that are too few are cut short
-pub next_short : (at : ℕ) (last : Option Tag) (text : List ℕ) → length text < 8
-    → next_entry_fault at last text ≡ Some (read_fault_at at (reasons.List Truncated))
+pub next_short : (at : ℕ) (text : List ℕ) → length text < 8
+    → next_entry_fault at text ≡ Some (read_fault_at at (reasons.List Truncated))
 unfolding next_entry_fault
-next_short at last text short =
-    let test : nat_lt (length text) 8 ≡ true = grind (arith, nat_tests) in rw test refl
+next_short at text short = let test : nat_lt (length text) 8 ≡ true = grind (arith, nat_tests) in rw test refl
 
 -- no bytes are cut short
-pub nothing_short : (at : ℕ) (last : Option Tag) → next_entry_fault at last [] ≡ Some (read_fault_at at (reasons.List Truncated))
-nothing_short at last = next_short at last [] (omega arith)
+pub nothing_short : (at : ℕ) → next_entry_fault at [] ≡ Some (read_fault_at at (reasons.List Truncated))
+nothing_short at = next_short at [] (omega arith)
 
 -- a fault of the fields is that of the entry
-pub next_field : (at : ℕ) (last : Option Tag) (text : List ℕ) (f : ReadFault) → 8 ≤ length text
-    → field_fault at (stored_raw text) ≡ Some f → next_entry_fault at last text ≡ Some f
+pub next_field : (at : ℕ) (text : List ℕ) (f : ReadFault) → 8 ≤ length text
+    → field_fault at (stored_raw text) ≡ Some f → next_entry_fault at text ≡ Some f
 unfolding next_entry_fault
-next_field at last text f long wrong = rw (not_below (length text) 8 long, wrong) refl
-
--- a fault of the order is that of an entry whose fields are right
-pub next_order : (at : ℕ) (last : Option Tag) (text : List ℕ) (r : ReadReason) → 8 ≤ length text
-    → field_fault at (stored_raw text) ≡ None → order_reason last (raw_tag (stored_raw text)) ≡ Some r
-    → next_entry_fault at last text ≡ Some (read_fault_at at r)
-unfolding next_entry_fault
-next_order at last text r long field wrong = rw (not_below (length text) 8 long, field, wrong) refl
+next_field at text f long wrong = rw (not_below (length text) 8 long, wrong) refl
 
 -- ---- the entry that has some bytes
 
@@ -322,11 +249,17 @@ entry_is at text raw e long fits same is right =
     whole_entry at text long fits field
     ∙ ap (λ (p : Tag × ℕ). entry_bytes p ++ drop 8 text) (ap raw_pair (sym same) ∙ sym is)
 
--- a fault of the order is that of the entry that the numbers of the bytes mean
-pub entry_misplaced : (at : ℕ) (last : Option Tag) (text : List ℕ) (raw : RawEntry) (e : Tag × ℕ) (r : ReadReason)
-    → 8 ≤ length text → raw ≡ stored_raw text → e ≡ raw_pair raw → field_fault at raw ≡ None
-    → order_reason last e.0 ≡ Some r → next_entry_fault at last text ≡ Some (read_fault_at at r)
-entry_misplaced at last text raw e r long same is right wrong =
-    let tag : e.0 ≡ raw_tag (stored_raw text) = ap (λ (p : Tag × ℕ). p.0) is ∙ ap raw_tag same in
-    next_order at last text r long (subst (λ (x : RawEntry). field_fault at x ≡ None) same right)
-    (subst (λ (t : Tag). order_reason last t ≡ Some r) tag wrong)
+-- what is read of whole bytes is the entry with which they begin
+pub entry_read : (at : ℕ) (text : List ℕ) (raw : RawEntry) (r : Result Entry ReadFault) → 8 ≤ length text → IsBytes text
+    → raw ≡ stored_raw text → IfOk r (λ e. pair_of e ≡ raw_pair raw) → OnOk r (field_fault at raw ≡ None)
+    → IfOk r (λ e. text ≡ entry_bytes (pair_of e) ++ drop 8 text)
+entry_read at text raw (Ok e) long fits same is right = entry_is at text raw (pair_of e) long fits same is right
+entry_read at text raw (Err fault) long fits same is right = tt
+
+-- a fault of the fields of whole bytes is the fault of the next entry
+pub field_read : (at : ℕ) (text : List ℕ) (raw : RawEntry) (r : Result Entry ReadFault) → 8 ≤ length text
+    → raw ≡ stored_raw text → IfErr r (λ fault. field_fault at raw ≡ Some fault)
+    → IfErr r (λ fault. next_entry_fault at text ≡ Some fault)
+field_read at text raw (Ok e) long same wrong = tt
+field_read at text raw (Err fault) long same wrong =
+    next_field at text fault long (subst (λ (x : RawEntry). field_fault at x ≡ Some fault) same wrong)

@@ -1,52 +1,53 @@
 -- Bytes spell at most one ACL and have at most one fault, and not both; and what is read of bytes is true of them.
-use Rattle.std.proofs.Common.{◌≡◌, ◌∙◌, ◌+◌, ◌*◌, ◌-◌, ◌/◌, ◌<◌, ◌++◌, ℕ, Bool, true, false, cond, eqb, List, [], ◌∷◌, Option, None, Some, length, drop, map, refl, ap, sym, subst, arith, append_assoc, append-nil, length-append}
-use Rattle.std.specs.Prelude.{◌↔◌, nat_lt, unwrap_or}
+use Rattle.std.proofs.Common.{◌≡◌, ◌∙◌, ◌+◌, ◌*◌, ◌-◌, ◌<◌, ◌≤◌, ◌++◌, ℕ, Bool, true, false, cond, eqb, List, [], ◌∷◌, Option, None, Some, Result, Ok, Err, length, drop, take, refl, ap, sym, subst, arith, inl, inr, append_assoc, append-nil, length-append}
+use Rattle.std.specs.Prelude.{◌==◌, ◌⊎◌, IfErr, IfSome, IsNone, nat_le, nat_lt}
 use Rattle.std.specs.FinMap as fin
 use Rattle.std.specs.List.{All, AllByRecursion, flat_map}
-use Rattle.std.specs.Simd.{first_chunks}
 use Rattle.std.proofs.lemmas.Bool.{eqb-true}
 use Rattle.std.proofs.lemmas.Bool.Decides.{nat_tests}
-use Rattle.std.proofs.lemmas.List.{flat_map_more}
+use Rattle.std.proofs.lemmas.List.{flat_map_more, map-append, nil_from_length, take_rest}
 use Rattle.std.proofs.lemmas.List.Concat.{flat_map-cons}
 use Rattle.std.proofs.lemmas.List.Elements.{recursion_from_All}
 use Rattle.byteorder.specs.Endian.{little_bytes}
-use Rattle.acl_posix.specs.Attribute.{HoldsAcl, attribute_bytes, attribute_raws, attribute_version, stored_raw, version_size}
+use Rattle.acl_posix.proofs.Exports.{all_entries, bytes_length, entries_sorted, set_of, sorted_distinct, sorted_rises}
+use Rattle.acl_posix.proofs.Exports.{one_fault as one_list_fault}
+use Rattle.acl_posix.specs.Attribute.{IsFall, IsFirstFall, NeverFalls, attribute_bytes, attribute_version, version_size}
 unfoldable use Rattle.acl_posix.specs.Attribute.{entry_bytes}
-use Rattle.acl_posix.specs.Entries.{Entries, IsEntry, as_set}
-use Rattle.acl_posix.specs.RawEntries.{raw_of, raw_pairs}
-use Rattle.acl_posix.specs.Tag.{Tag, group_obj, is_named, mask, other, tag_of, user_obj}
+use Rattle.acl_posix.specs.Entries.{Entries, IsEntry, as_set, pair_of, pairs}
+use Rattle.acl_posix.specs.Tag.{Tag, is_named, tag_of}
 use Rattle.acl_posix.specs.Texts.{IsAcl}
-unfoldable use Rattle.acl_posix.specs.Valid.{missing}
+use Rattle.acl_posix.specs.Valid.{IsDistinct, IsFirstRepeat, IsMiss, IsRepeat, IsValid, IsValidList, tag_at}
+use Rattle.acl_posix.specs.declared.entry.Entry.{Entry}
+use Rattle.acl_posix.specs.declared.fault.AclFault.TheVariants as acl
 use Rattle.acl_posix.specs.declared.tag.Tag.{Tag as TagOfCode}
 use Rattle.acl_nfs4.specs.internal.Progress.{IsBytes}
 use Rattle.acl_nfs4.specs.declared.xdr.fault.Reason.TheVariants.{Truncated}
-use Rattle.acl_forms.specs.Attributes.{AreOrderedEntries, IsAttributeFault, SpellsAttribute, entries_bytes, last_tag, next_entry_fault, order_reason, version_fault}
-use Rattle.acl_forms.specs.Attributes.IsAttributeFault.{of_end, of_entry, of_version}
-use Rattle.acl_forms.specs.ReadFaults.{read_fault_at}
+use Rattle.acl_forms.specs.Attributes.{AreBytesOf, IsAttributeFault, IsEntriesFault, NoneBefore, SpellsAttribute, entries_bytes, entry_offset, next_entry_fault, repeat_reason, version_fault}
+use Rattle.acl_forms.specs.Attributes.IsAttributeFault.{of_entry, of_list, of_version}
+use Rattle.acl_forms.specs.Attributes.IsEntriesFault.{absent, out_of_order, repeated}
+use Rattle.acl_forms.specs.ReadFaults.{no_memory_left, read_fault_at}
 use Rattle.acl_forms.specs.declared.fault.ReadFault.{ReadFault}
 use Rattle.acl_forms.specs.declared.fault.ReadReason.TheVariants as reasons
-use Rattle.acl_forms.proofs.AttributeBytes.{again, bytes_length, no_next_fault, nothing_short, one_entry, stored}
-use Rattle.acl_forms.proofs.AttributeOrder.{entries_in_order, entries_sorted, rises, set_of, sorted_rises}
+use Rattle.acl_forms.specs.internal.AttributeEntries.{earlier_fault}
+use Rattle.acl_forms.proofs.AttributeBytes.{no_next_fault, nothing_short, one_entry}
 
 -- ---- where the entries of some bytes end
 
--- no entry comes after the last one
-record Stops (last : Option Tag) (text : List ℕ) : Type 0 where
+-- a text begins with no entry
+record Stops (text : List ℕ) : Type 0 where
   pub at : ℕ
   pub fault : ReadFault
-  pub is : next_entry_fault at last text ≡ Some fault
+  pub is : next_entry_fault at text ≡ Some fault
 
 -- the empty text begins with no entry
-stops_empty : (last : Option Tag) → Stops last []
-stops_empty last =
-    record { at = 0; fault = read_fault_at 0 (reasons.List Truncated); is = nothing_short 0 last }
+stops_empty : Stops []
+stops_empty = record { at = 0; fault = read_fault_at 0 (reasons.List Truncated); is = nothing_short 0 }
 
--- where no entry comes after the last one, the text begins with none
-no_entry : (last : Option Tag) (text : List ℕ) (e : Tag × ℕ) (rest : List ℕ) → Stops last text
-    → text ≡ entry_bytes e ++ rest → IsEntry e → order_reason last e.0 ≡ None → ⊥
-no_entry last text e rest stops is within order =
-    let none : next_entry_fault stops.at last text ≡ None =
-    ap (next_entry_fault stops.at last) is ∙ no_next_fault stops.at last e rest within order in
+-- a text that begins with no entry does not begin with the bytes of one
+no_entry : (text : List ℕ) (e : Tag × ℕ) (rest : List ℕ) → Stops text → text ≡ entry_bytes e ++ rest → IsEntry e → ⊥
+no_entry text e rest stops is within =
+    let none : next_entry_fault stops.at text ≡ None =
+    ap (next_entry_fault stops.at) is ∙ no_next_fault stops.at e rest within in
     let some = stops.is in cc
 
 -- the bytes of entries and others are those of the first entry, and then the rest
@@ -57,28 +58,24 @@ first_bytes e es text =
     ∙ append_assoc (entry_bytes e) (flat_map entry_bytes es) text
 
 -- equal bytes have the same entries before the place where the entries end
-same_front : (last : Option Tag) (xs ys : List (Tag × ℕ)) (s t : List ℕ) → rises last xs → rises last ys
-    → AllByRecursion IsEntry xs → AllByRecursion IsEntry ys → Stops (last_tag last xs) s → Stops (last_tag last ys) t
-    → flat_map entry_bytes xs ++ s ≡ flat_map entry_bytes ys ++ t → (xs ≡ ys) × (s ≡ t)
-same_front last [] [] s t up rises_too of_x of_y stop end e = (refl, e)
-same_front last [] (y ∷ ys) s t up down of_x of_y stop end e =
-    absurd (no_entry last s y (flat_map entry_bytes ys ++ t) stop (e ∙ first_bytes y ys t) of_y.0 down.0)
-same_front last (x ∷ xs) [] s t up down of_x of_y stop end e =
-    absurd (no_entry last t x (flat_map entry_bytes xs ++ s) end (sym e ∙ first_bytes x xs s) of_x.0 up.0)
-same_front last (x ∷ xs) (y ∷ ys) s t up down of_x of_y stop end e =
+same_front : (xs ys : List (Tag × ℕ)) (s t : List ℕ) → AllByRecursion IsEntry xs → AllByRecursion IsEntry ys → Stops s
+    → Stops t → flat_map entry_bytes xs ++ s ≡ flat_map entry_bytes ys ++ t → (xs ≡ ys) × (s ≡ t)
+same_front [] [] s t of_x of_y stop end e = (refl, e)
+same_front [] (y ∷ ys) s t of_x of_y stop end e =
+    absurd (no_entry s y (flat_map entry_bytes ys ++ t) stop (e ∙ first_bytes y ys t) of_y.0)
+same_front (x ∷ xs) [] s t of_x of_y stop end e =
+    absurd (no_entry t x (flat_map entry_bytes xs ++ s) end (sym e ∙ first_bytes x xs s) of_x.0)
+same_front (x ∷ xs) (y ∷ ys) s t of_x of_y stop end e =
     let one = one_entry x y (flat_map entry_bytes xs ++ s) (flat_map entry_bytes ys ++ t) of_x.0 of_y.0
     (sym (first_bytes x xs s) ∙ e ∙ first_bytes y ys t) in
-    let ups : rises (Some x.0) ys = subst (λ (z : Tag × ℕ). rises (Some z.0) ys) (sym one.0) down.1 in
-    let ends : Stops (last_tag (Some x.0) ys) t =
-    subst (λ (z : Tag × ℕ). Stops (last_tag (Some z.0) ys) t) (sym one.0) end in
-    let rest = same_front (Some x.0) xs ys s t up.1 ups of_x.1 of_y.1 stop ends one.1 in
+    let rest = same_front xs ys s t of_x.1 of_y.1 stop end one.1 in
     (ap (λ (z : Tag × ℕ). z ∷ xs) one.0 ∙ ap (λ (zs : List (Tag × ℕ)). y ∷ zs) rest.0, rest.1)
 
--- bytes are whole entries in canonical order, and then a text that begins with no further entry
+-- bytes are whole entries, and then a text that begins with no further entry
 record EndsAt (bytes : List ℕ) (entries : List (Tag × ℕ)) (text : List ℕ) : Type 0 where
-  pub ordered : AreOrderedEntries entries
+  pub within : All IsEntry entries
   pub is : bytes ≡ entries_bytes entries ++ text
-  pub stops : Stops (last_tag None entries) text
+  pub stops : Stops text
 
 -- the entries of some bytes end at one place
 one_end : {bytes : List ℕ} {xs ys : List (Tag × ℕ)} {s t : List ℕ} → EndsAt bytes xs s → EndsAt bytes ys t
@@ -86,26 +83,26 @@ one_end : {bytes : List ℕ} {xs ys : List (Tag × ℕ)} {s t : List ℕ} → En
 one_end {bytes} {xs} {ys} {s} {t} a b =
     let same : flat_map entry_bytes xs ++ s ≡ flat_map entry_bytes ys ++ t =
     ap (λ (l : List ℕ). drop 4 l) (sym a.is ∙ b.is) in
-    same_front None xs ys s t (sorted_rises xs a.ordered.sorted) (sorted_rises ys b.ordered.sorted)
-    (recursion_from_All IsEntry xs a.ordered.within) (recursion_from_All IsEntry ys b.ordered.within) a.stops b.stops
+    same_front xs ys s t (recursion_from_All IsEntry xs a.within) (recursion_from_All IsEntry ys b.within) a.stops b.stops
     same
 
 -- bytes that are whole entries end after them
-whole_end : (bytes : List ℕ) (entries : List (Tag × ℕ)) → AreOrderedEntries entries → bytes ≡ entries_bytes entries
-    → EndsAt bytes entries []
-whole_end bytes entries ordered is = record {
-  ordered = ordered;
-  is = is ∙ sym (append-nil (entries_bytes entries));
-  stops = stops_empty (last_tag None entries);
+whole_end : {bytes : List ℕ} {entries : List (Tag × ℕ)} → AreBytesOf entries bytes → EndsAt bytes entries []
+whole_end {bytes} {entries} h = record {
+  within = h.within;
+  is = h.spelled ∙ sym (append-nil (entries_bytes entries));
+  stops = stops_empty;
 }
 
--- the entries of an ACL are in canonical order and within their limits
-acl_ordered : (acl : Entries) → IsAcl acl → AreOrderedEntries (fin.entries acl)
-acl_ordered acl h = record { sorted = entries_sorted acl; within = h.within }
-
--- bytes that spell an ACL end after its entries
-spelled_end : (acl : Entries) (bytes : List ℕ) → SpellsAttribute acl bytes → EndsAt bytes (fin.entries acl) []
-spelled_end acl bytes h = whole_end bytes (fin.entries acl) (acl_ordered acl h.valid) h.spelled
+-- bytes with a wrong next entry end before it
+entry_end : {bytes : List ℕ} {before : List (Tag × ℕ)} {text : List ℕ} {fault : ReadFault} → All IsEntry before
+    → bytes ≡ entries_bytes before ++ text → next_entry_fault (length (entries_bytes before)) text ≡ Some fault
+    → EndsAt bytes before text
+entry_end {before = before} {fault = fault} within is wrong = record {
+  within = within;
+  is = is;
+  stops = record { at = length (entries_bytes before); fault = fault; is = wrong };
+}
 
 -- the version before entries is right
 version_right : (entries : List (Tag × ℕ)) (text : List ℕ) → version_fault (entries_bytes entries ++ text) ≡ None
@@ -123,125 +120,156 @@ no_version_fault {bytes} {entries} {text} fault end wrong =
 not_empty : (text : List ℕ) → 0 < length text → text ≡ [] → ⊥
 not_empty text some e = let n = ap (λ (l : List ℕ). length l) e in absurd (omega (arith, n, some))
 
+-- ---- what is wrong with a list of entries
+
+-- two places are the same if neither comes before the other
+same_place : (i j : ℕ) → (i < j → ⊥) → (j < i → ⊥) → i ≡ j
+same_place i j p q = grind arith
+
+-- entries have one first fall
+same_fall : (ps : List (Tag × ℕ)) (i j : ℕ) → IsFirstFall ps i → IsFirstFall ps j → i ≡ j
+same_fall ps i j a b = same_place i j (λ lt. b.first i lt a.fall) (λ lt. a.first j lt b.fall)
+
+-- entries have one first repeat
+pub same_repeat : (ps : List (Tag × ℕ)) (i j : ℕ) → IsFirstRepeat ps i → IsFirstRepeat ps j → i ≡ j
+same_repeat ps i j a b = same_place i j (λ lt. b.first i lt a.repeats) (λ lt. a.first j lt b.repeats)
+
+-- entries do not both fall before they repeat a tag, and repeat one before they fall
+one_of_both : (ps : List (Tag × ℕ)) (i j : ℕ) → IsFirstFall ps i → NoneBefore (IsRepeat ps) i → IsFirstRepeat ps j
+    → NoneBefore (IsFall ps) (j + 1) → ⊥
+one_of_both ps i j a free b kept =
+    let not_after : j < i → ⊥ = λ lt. free j lt b.repeats in kept i (omega (arith, not_after)) a.fall
+
+-- the first absent tag of a list is one
+pub same_absent : (ps : List (Tag × ℕ)) (s t : TagOfCode) → IsMiss ps (tag_of s) → IsMiss ps (tag_of t) → s ≡ t
+same_absent ps s t a b = let same = one_list_fault ps (acl.Miss s) (acl.Miss t) refl refl a b in cc
+
+-- a list of entries has at most one fault
+one_of_list : (ps : List (Tag × ℕ)) (len : ℕ) (f g : ReadFault) → IsEntriesFault ps len f → IsEntriesFault ps len g → f ≡ g
+one_of_list ps len _ _ (out_of_order i a free) (out_of_order j b clear) =
+    ap (λ n. read_fault_at (entry_offset n) reasons.Order) (same_fall ps i j a b)
+one_of_list ps len _ _ (out_of_order i a free) (repeated j b kept) = absurd (one_of_both ps i j a free b kept)
+one_of_list ps len _ _ (out_of_order i a free) (absent t never miss) = absurd (never i a.in_range a.fall)
+one_of_list ps len _ _ (repeated i a kept) (out_of_order j b free) = absurd (one_of_both ps j i b free a kept)
+one_of_list ps len _ _ (repeated i a kept) (repeated j b held) =
+    ap (λ n. read_fault_at (entry_offset n) (repeat_reason (tag_at ps n))) (same_repeat ps i j a b)
+one_of_list ps len _ _ (repeated i a kept) (absent t never miss) = absurd (miss.distinct i a.in_range a.repeats)
+one_of_list ps len _ _ (absent t never miss) (out_of_order j b free) = absurd (never j b.in_range b.fall)
+one_of_list ps len _ _ (absent t never miss) (repeated j b kept) = absurd (miss.distinct j b.in_range b.repeats)
+one_of_list ps len _ _ (absent s never miss) (absent t rises lacks) =
+    ap (λ (z : TagOfCode). read_fault_at len (reasons.Miss z)) (same_absent ps s t miss lacks)
+
+-- a valid list with its tag types in order has no fault
+right_list : (ps : List (Tag × ℕ)) (len : ℕ) (f : ReadFault) → NeverFalls ps → IsValidList ps → IsEntriesFault ps len f → ⊥
+right_list ps len _ never valid (out_of_order i a free) = never i a.in_range a.fall
+right_list ps len _ never valid (repeated i a kept) = valid.distinct i a.in_range a.repeats
+right_list ps len _ never valid (absent t rises miss) = let none = valid.complete in let some = miss.absent in cc
+
 -- ---- what bytes spell, and what is wrong with them
-
--- what can be absent has no qualifier
-absent_unnamed : (a b c d : Bool) (l : Tag)
-    → cond a (Some user_obj) (cond b (Some group_obj) (cond c (Some other) (cond d (Some mask) None))) ≡ Some l
-    → is_named l ≡ false
-absent_unnamed false false false false l e = absurd cc
-absent_unnamed a b c d l e = ap (λ o. is_named (unwrap_or o other)) (sym e)
-
--- the first absent tag of a set has no qualifier
-missing_unnamed : (acl : Entries) (l : Tag) → missing acl ≡ Some l → is_named l ≡ false
-unfolding missing
-missing_unnamed acl l e = absent_unnamed _ _ _ _ l e
-
--- a tag of the code without a qualifier is determined by its plain data
-same_code : (s t : TagOfCode) → tag_of s ≡ tag_of t → is_named (tag_of s) ≡ false → s ≡ t
-same_code s t same plain = grind arith
-
--- one tag is the first absent one
-same_miss : (acl : Entries) (s t : TagOfCode) → missing acl ≡ Some (tag_of s) → missing acl ≡ Some (tag_of t) → s ≡ t
-same_miss acl s t a b = same_code s t (ap (λ o. unwrap_or o other) (sym a ∙ b)) (missing_unnamed acl (tag_of s) a)
-
--- bytes with a wrong next entry end before it
-entry_end : {bytes : List ℕ} {before : List (Tag × ℕ)} {text : List ℕ} {fault : ReadFault} → AreOrderedEntries before
-    → bytes ≡ entries_bytes before ++ text
-    → next_entry_fault (length (entries_bytes before)) (last_tag None before) text ≡ Some fault → EndsAt bytes before text
-entry_end {before = before} {fault = fault} ordered is wrong = record {
-  ordered = ordered;
-  is = is;
-  stops = record { at = length (entries_bytes before); fault = fault; is = wrong };
-}
 
 -- bytes have at most one fault
 pub one_fault : (bytes : List ℕ) (one two : ReadFault) → IsAttributeFault bytes one → IsAttributeFault bytes two
     → one ≡ two
 one_fault bytes _ _ (of_version f e) (of_version g h) = cc
-one_fault bytes _ _ (of_version f e) (of_entry before text g ordered is some wrong) =
-    absurd (no_version_fault f (entry_end ordered is wrong) e)
-one_fault bytes _ _ (of_version f e) (of_end entries tag ordered is absent) =
-    absurd (no_version_fault f (whole_end bytes entries ordered is) e)
-one_fault bytes _ _ (of_entry before text f ordered is some wrong) (of_version g h) =
-    absurd (no_version_fault g (entry_end ordered is wrong) h)
-one_fault bytes _ _ (of_entry before text f ordered is some wrong) (of_entry xs s g sorted whole more bad) =
-    let same = one_end (entry_end ordered is wrong) (entry_end sorted whole bad) in
-    let moved : next_entry_fault (length (entries_bytes before)) (last_tag None before) text
-    ≡ next_entry_fault (length (entries_bytes xs)) (last_tag None xs) s =
-    ap (λ (l : List (Tag × ℕ)). next_entry_fault (length (entries_bytes l)) (last_tag None l) text) same.0
-    ∙ ap (next_entry_fault (length (entries_bytes xs)) (last_tag None xs)) same.1 in cc
-one_fault bytes _ _ (of_entry before text f ordered is some wrong) (of_end entries tag sorted whole absent) =
-    absurd (not_empty text some (one_end (entry_end ordered is wrong) (whole_end bytes entries sorted whole)).1)
-one_fault bytes _ _ (of_end entries tag ordered is absent) (of_version g h) =
-    absurd (no_version_fault g (whole_end bytes entries ordered is) h)
-one_fault bytes _ _ (of_end entries tag sorted whole absent) (of_entry before text f ordered is some wrong) =
-    absurd (not_empty text some (one_end (entry_end ordered is wrong) (whole_end bytes entries sorted whole)).1)
-one_fault bytes _ _ (of_end xs s ordered is absent) (of_end ys t sorted whole missed) =
-    let same = one_end (whole_end bytes xs ordered is) (whole_end bytes ys sorted whole) in
-    let tags = same_miss (as_set xs) s t absent
-    (ap (λ (l : List (Tag × ℕ)). missing (as_set l)) same.0 ∙ missed) in
-    ap (λ (z : TagOfCode). read_fault_at (length bytes) (reasons.Miss z)) tags
+one_fault bytes _ _ (of_version f e) (of_entry before text g within is some wrong) =
+    absurd (no_version_fault f (entry_end within is wrong) e)
+one_fault bytes _ _ (of_version f e) (of_list entries g whole wrong) = absurd (no_version_fault f (whole_end whole) e)
+one_fault bytes _ _ (of_entry before text f within is some wrong) (of_version g h) =
+    absurd (no_version_fault g (entry_end within is wrong) h)
+one_fault bytes _ _ (of_entry before text f within is some wrong) (of_entry xs s g inside whole more bad) =
+    let same = one_end (entry_end within is wrong) (entry_end inside whole bad) in
+    let moved : next_entry_fault (length (entries_bytes before)) text ≡ next_entry_fault (length (entries_bytes xs)) s =
+    ap (λ (l : List (Tag × ℕ)). next_entry_fault (length (entries_bytes l)) text) same.0
+    ∙ ap (next_entry_fault (length (entries_bytes xs))) same.1 in cc
+one_fault bytes _ _ (of_entry before text f within is some wrong) (of_list entries g whole bad) =
+    absurd (not_empty text some (one_end (entry_end within is wrong) (whole_end whole)).1)
+one_fault bytes _ _ (of_list entries f whole wrong) (of_version g h) = absurd (no_version_fault g (whole_end whole) h)
+one_fault bytes _ _ (of_list entries f whole wrong) (of_entry before text g within is some bad) =
+    absurd (not_empty text some (one_end (entry_end within is bad) (whole_end whole)).1)
+one_fault bytes _ _ (of_list xs f whole wrong) (of_list ys g all bad) =
+    let same = one_end (whole_end whole) (whole_end all) in
+    one_of_list ys (length bytes) f g (subst (λ (l : List (Tag × ℕ)). IsEntriesFault l (length bytes) f) same.0 wrong) bad
 
 -- bytes that spell an ACL have no fault
 pub no_fault : (acl : Entries) (bytes : List ℕ) (fault : ReadFault) → SpellsAttribute acl bytes
     → IsAttributeFault bytes fault → ⊥
-no_fault acl bytes _ spells (of_version f e) = no_version_fault f (spelled_end acl bytes spells) e
-no_fault acl bytes _ spells (of_entry before text f ordered is some wrong) =
-    not_empty text some (one_end (entry_end ordered is wrong) (spelled_end acl bytes spells)).1
-no_fault acl bytes _ spells (of_end entries tag ordered is absent) =
-    let same = one_end (whole_end bytes entries ordered is) (spelled_end acl bytes spells) in
-    let set : as_set entries ≡ acl = set_of acl entries same.0 in
-    let valid = spells.valid.valid in
-    let wrong : missing acl ≡ Some (tag_of tag) = ap missing (sym set) ∙ absent in cc
+no_fault acl bytes _ spells (of_version f e) = no_version_fault f (whole_end spells.whole) e
+no_fault acl bytes _ spells (of_entry before text f within is some wrong) =
+    not_empty text some (one_end (entry_end within is wrong) (whole_end spells.whole)).1
+no_fault acl bytes _ spells (of_list entries f whole wrong) =
+    let same = one_end (whole_end whole) (whole_end spells.whole) in
+    right_list spells.entries (length bytes) f spells.order spells.valid
+    (subst (λ (l : List (Tag × ℕ)). IsEntriesFault l (length bytes) f) same.0 wrong)
 
 -- bytes spell at most one ACL
 pub one_acl : (one two : Entries) (bytes : List ℕ) → SpellsAttribute one bytes → SpellsAttribute two bytes → one ≡ two
 one_acl one two bytes h k =
-    let same = one_end (spelled_end one bytes h) (spelled_end two bytes k) in
-    sym (set_of one (fin.entries one) refl) ∙ set_of two (fin.entries one) same.0
+    let same = one_end (whole_end h.whole) (whole_end k.whole) in h.set ∙ ap as_set same.0 ∙ sym k.set
 
--- ---- what is read
-
--- bytes that are valid entries in canonical order spell the ACL of these
-pub spelled_whole : (bytes : List ℕ) (entries : List (Tag × ℕ)) → AreOrderedEntries entries
-    → bytes ≡ entries_bytes entries → missing (as_set entries) ≡ None → SpellsAttribute (as_set entries) bytes
-spelled_whole bytes entries ordered is valid =
-    let same = entries_in_order entries ordered.sorted in record {
-      valid = record { valid = valid; within = subst (All IsEntry) (sym same) ordered.within };
-      spelled = is ∙ ap (λ (l : List (Tag × ℕ)). entries_bytes l) (sym same);
+-- the bytes that are written of an ACL spell it
+pub written_spells : (acl : Entries) → IsAcl acl → SpellsAttribute acl (attribute_bytes acl)
+written_spells acl h =
+    let set = set_of acl (fin.entries acl) refl in record {
+      entries = fin.entries acl;
+      whole = record { within = h.within; spelled = refl };
+      order = sorted_rises (fin.entries acl) (entries_sorted acl);
+      valid = record {
+        distinct = sorted_distinct (fin.entries acl) (entries_sorted acl);
+        complete = subst IsValid (sym set) h.valid;
+      };
+      set = sym set;
     }
 
--- a required entry that is absent at the end of the bytes is their fault
-pub miss_refused : (bytes : List ℕ) (entries : List (Tag × ℕ)) (t : TagOfCode) → AreOrderedEntries entries
-    → bytes ≡ entries_bytes entries → missing (as_set entries) ≡ Some (tag_of t)
-    → IsAttributeFault bytes (read_fault_at (length bytes) (reasons.Miss t))
-miss_refused bytes entries t ordered is absent = of_end entries t ordered is absent
-
--- a fault of the next entry is the fault of the bytes
-pub entry_refused : (bytes : List ℕ) (entries : List (Tag × ℕ)) (rest : List ℕ) (at : ℕ) (fault : ReadFault)
-    → AreOrderedEntries entries → bytes ≡ entries_bytes entries ++ rest → 0 < length rest
-    → at ≡ length bytes - length rest → next_entry_fault at (last_tag None entries) rest ≡ Some fault
-    → IsAttributeFault bytes fault
-entry_refused bytes entries rest at fault ordered is some place wrong =
-    let size : length bytes ≡ length (entries_bytes entries) + length rest =
-    ap (λ (l : List ℕ). length l) is ∙ length-append (entries_bytes entries) rest in
-    let same : at ≡ length (entries_bytes entries) = omega (arith, size, place) in
-    of_entry entries rest fault ordered is some
-    (subst (λ (n : ℕ). next_entry_fault n (last_tag None entries) rest ≡ Some fault) same wrong)
+-- ---- what is read
 
 -- a fault of the version is the fault of the bytes
 pub version_refused : (bytes : List ℕ) (fault : ReadFault) → Some fault ≡ version_fault bytes
     → IsAttributeFault bytes fault
 version_refused bytes fault e = of_version fault (sym e)
 
+-- a fault of the next entry is the fault of the bytes
+pub entry_refused : (bytes : List ℕ) (entries : List Entry) (rest : List ℕ) (at : ℕ) (fault : ReadFault)
+    → bytes ≡ entries_bytes (pairs entries) ++ rest → 0 < length rest → at ≡ length bytes - length rest
+    → next_entry_fault at rest ≡ Some fault → IsAttributeFault bytes fault
+entry_refused bytes entries rest at fault is some place wrong =
+    let size : length bytes ≡ length (entries_bytes (pairs entries)) + length rest =
+    ap (λ (l : List ℕ). length l) is ∙ length-append (entries_bytes (pairs entries)) rest in
+    let same : at ≡ length (entries_bytes (pairs entries)) = omega (arith, size, place) in
+    of_entry (pairs entries) rest fault (all_entries entries) is some
+    (subst (λ (n : ℕ). next_entry_fault n rest ≡ Some fault) same wrong)
+
 -- the bytes of entries with one more
-pub bytes_push : (bytes : List ℕ) (ps : List (Tag × ℕ)) (p : Tag × ℕ) (rest more : List ℕ)
+bytes_push : (bytes : List ℕ) (ps : List (Tag × ℕ)) (p : Tag × ℕ) (rest more : List ℕ)
     → bytes ≡ entries_bytes ps ++ rest → rest ≡ entry_bytes p ++ more → bytes ≡ entries_bytes (ps ++ p ∷ []) ++ more
 bytes_push bytes ps p rest more is e =
     let head : List ℕ = little_bytes version_size attribute_version in
     is ∙ ap (λ (l : List ℕ). entries_bytes ps ++ l) e ∙ sym (append_assoc (entries_bytes ps) (entry_bytes p) more)
     ∙ ap (λ (l : List ℕ). l ++ more) (flat_map_more entry_bytes head ps p)
+
+-- the bytes of the entries that were read, with one more
+pub read_more : (bytes : List ℕ) (entries : List Entry) (e : Entry) (rest : List ℕ)
+    → bytes ≡ entries_bytes (pairs entries) ++ rest → rest ≡ entry_bytes (pair_of e) ++ drop 8 rest
+    → bytes ≡ entries_bytes (pairs (entries ++ e ∷ [])) ++ take (length rest - 8) (drop 8 rest)
+read_more bytes entries e rest is begins =
+    let more : rest ≡ entry_bytes (pair_of e) ++ take (length rest - 8) (drop 8 rest) =
+    begins ∙ ap (λ (l : List ℕ). entry_bytes (pair_of e) ++ l) (sym (take_rest rest 8)) in
+    bytes_push bytes (pairs entries) (pair_of e) rest (take (length rest - 8) (drop 8 rest)) is more
+    ∙ ap (λ (ps : List (Tag × ℕ)). entries_bytes ps ++ take (length rest - 8) (drop 8 rest))
+    (sym (map-append pair_of entries (e ∷ [])))
+
+-- where no bytes are left, the bytes are those of the entries
+pub read_whole : (bytes : List ℕ) (entries : List Entry) (rest : List ℕ)
+    → bytes ≡ entries_bytes (pairs entries) ++ rest → true ≡ (length rest == 0) → AreBytesOf (pairs entries) bytes
+read_whole bytes entries rest is none = record {
+  within = all_entries entries;
+  spelled = is
+      ∙ ap (λ (l : List ℕ). entries_bytes (pairs entries) ++ l) (nil_from_length rest (eqb-true (length rest) 0 (sym none)))
+      ∙ append-nil (entries_bytes (pairs entries));
+}
+
+-- a text that is not empty has bytes
+pub some_bytes : (n : ℕ) → false ≡ (n == 0) → 0 < n
+some_bytes n e = grind (arith, nat_tests)
 
 -- a number that is not refused is the version
 version_is : (n : ℕ) → None ≡ cond (eqb n 2) None (Some (read_fault_at 0 reasons.Version)) → n ≡ 2
@@ -273,52 +301,53 @@ pub after_version : (bytes : List ℕ) → IsBytes bytes → None ≡ version_fa
     → bytes ≡ entries_bytes [] ++ drop 4 bytes
 after_version bytes fits e = version_bytes bytes fits e
 
--- ---- what a call answers
+-- ---- what is wrong with the list that was read
 
--- the bytes of entries mean their numbers
-all_stored : (ps : List (Tag × ℕ)) → AllByRecursion IsEntry ps
-    → map stored_raw (first_chunks 8 (length ps) (flat_map entry_bytes ps)) ≡ map raw_of ps
-unfolding entry_bytes
-all_stored [] h = refl
-all_stored (p ∷ ps) h = λ i. stored p [] h.0 i ∷ all_stored ps h.1 i
+-- where the entries fall, a list in which no tag occurs twice is out of order
+pub falls : (ps : List (Tag × ℕ)) (len place : ℕ) → IsDistinct ps → IsFirstFall ps place
+    → IsEntriesFault ps len (read_fault_at (entry_offset place) reasons.Order)
+falls ps len place distinct fall =
+    out_of_order place fall (λ before lt. distinct before (omega (arith, lt, fall.in_range)))
 
--- the numbers of entries mean the entries
-all_again : (ps : List (Tag × ℕ)) → raw_pairs (map raw_of ps) ≡ ps
-all_again [] = refl
-all_again (p ∷ ps) = λ i. again p.0 p.1 i ∷ all_again ps i
+-- the first repeat is the fault, unless the entries fall by then
+pub repeats : (ps : List (Tag × ℕ)) (len place : ℕ) (fall : Option ℕ) (named : Bool) → IsFirstRepeat ps place
+    → is_named (tag_at ps place) ≡ named → IfSome fall (IsFirstFall ps) → (IsNone fall → NeverFalls ps)
+    → IsEntriesFault ps len (earlier_fault fall place (cond named reasons.Duplicate reasons.Multi))
+repeats ps len place None named first is some none =
+    let never = none refl in
+    subst (λ (b : Bool). IsEntriesFault ps len (read_fault_at (entry_offset place) (cond b reasons.Duplicate reasons.Multi)))
+    is (repeated place first (λ before lt. never before (omega (arith, lt, first.in_range))))
+repeats ps len place (Some fall) named first is some none =
+    elim (nat_le fall place) as (λ b. nat_le fall place ≡ b → IsEntriesFault ps len (cond b
+    (read_fault_at (entry_offset fall) reasons.Order)
+    (read_fault_at (entry_offset place) (cond named reasons.Duplicate reasons.Multi)))) [
+      | true ↦ λ e.
+          let le : fall ≤ place = grind (arith, nat_tests) in
+          out_of_order fall some (λ before lt. first.first before (omega (arith, lt, le)))
+      | false ↦ λ e.
+          let less : place < fall = grind (arith, nat_tests) in
+          subst (λ (b : Bool). IsEntriesFault ps len
+          (read_fault_at (entry_offset place) (cond b reasons.Duplicate reasons.Multi))) is
+          (repeated place first (λ before lt. some.first before (omega (arith, lt, less))))
+    ] refl
 
--- the entries that acl_posix reads of bytes that spell an ACL are its entries
-raws_are : (acl : Entries) (bytes : List ℕ) → SpellsAttribute acl bytes
-    → raw_pairs (attribute_raws bytes) ≡ fin.entries acl
-raws_are acl bytes h =
-    let ps : List (Tag × ℕ) = fin.entries acl in
-    let within = recursion_from_All IsEntry ps h.valid.within in
-    let count : length (flat_map entry_bytes ps) / 8 ≡ length ps = omega (arith, bytes_length ps) in
-    ap (λ (l : List ℕ). raw_pairs (attribute_raws l)) h.spelled
-    ∙ ap (λ n. raw_pairs (map stored_raw (first_chunks 8 n (flat_map entry_bytes ps)))) count
-    ∙ ap raw_pairs (all_stored ps within) ∙ all_again ps
+-- a required entry that is absent is the fault of a list that is in order
+pub lacks : (ps : List (Tag × ℕ)) (len : ℕ) (t : TagOfCode) → NeverFalls ps → IsMiss ps (tag_of t)
+    → IsEntriesFault ps len (read_fault_at len (reasons.Miss t))
+lacks ps len t never miss = absent t never miss
 
--- the ACL that acl_posix reads of bytes that spell an ACL is that one
-pub held : (acl read : Entries) (bytes : List ℕ) → SpellsAttribute acl bytes → HoldsAcl bytes read → read ≡ acl
-held acl read bytes h holds =
-    holds.is ∙ set_of acl (raw_pairs (attribute_raws bytes)) (raws_are acl bytes h)
+-- the fault of the list is the fault of the bytes
+pub list_fault : (bytes : List ℕ) (entries : List Entry) (r : Result Entries ReadFault)
+    → AreBytesOf (pairs entries) bytes
+    → IfErr r (λ fault. (fault ≡ no_memory_left) ⊎ IsEntriesFault (pairs entries) (length bytes) fault)
+    → IfErr r (λ fault. (fault ≡ no_memory_left) ⊎ IsAttributeFault bytes fault)
+list_fault bytes entries (Ok acl) whole wrong = tt
+list_fault bytes entries (Err fault) whole (inl none) = inl none
+list_fault bytes entries (Err fault) whole (inr wrong) = inr (of_list (pairs entries) fault whole wrong)
 
--- bytes that spell an ACL spell the one that acl_posix reads of them
-pub read_spelled : (read : Entries) (bytes : List ℕ) → ((acl : Entries) × SpellsAttribute acl bytes)
-    → HoldsAcl bytes read → SpellsAttribute read bytes
-read_spelled read bytes (acl, h) holds =
-    subst (λ (set : Entries). SpellsAttribute set bytes) (sym (held acl read bytes h holds)) h
-
--- bytes that spell some ACL have no fault
-pub spelled_right : (bytes : List ℕ) (fault : ReadFault) → ((acl : Entries) × SpellsAttribute acl bytes)
-    → IsAttributeFault bytes fault → ⊥
-spelled_right bytes fault (acl, h) wrong = no_fault acl bytes fault h wrong
-
--- the bytes that are written of an ACL spell it, and no others
-pub written_spells : (acl : Entries) (bytes : List ℕ) → IsAcl acl
-    → SpellsAttribute acl bytes ↔ (bytes ≡ attribute_bytes acl)
-written_spells acl bytes h = (λ spells. spells.spelled, λ e. record { valid = h; spelled = e })
-
--- an ACL has one spelling
-pub one_spelling : (acl : Entries) (one two : List ℕ) → SpellsAttribute acl one → SpellsAttribute acl two → one ≡ two
-one_spelling acl one two h k = h.spelled ∙ sym k.spelled
+-- the bytes have room for the version and the entries
+pub room : (bytes : List ℕ) (entries : List Entry) → AreBytesOf (pairs entries) bytes
+    → entry_offset (length (pairs entries)) ≡ length bytes
+room bytes entries whole =
+    let size : length bytes ≡ length (entries_bytes (pairs entries)) = ap (λ (l : List ℕ). length l) whole.spelled in
+    omega (arith, size, bytes_length (pairs entries))

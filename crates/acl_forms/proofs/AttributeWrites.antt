@@ -1,5 +1,5 @@
 -- The bytes of an attribute, as they are written piece by piece.
-use Rattle.std.proofs.Common.{◌≡◌, ◌∙◌, ◌+◌, ◌*◌, ◌<◌, ◌≤◌, ◌++◌, ℕ, List, [], ◌∷◌, Option, Result, Err, length, drop, get_or, ap, refl, sym, subst, arith}
+use Rattle.std.proofs.Common.{◌≡◌, ◌∙◌, ◌+◌, ◌<◌, ◌≤◌, ◌++◌, ℕ, List, ◌∷◌, Option, Result, Err, length, drop, get_or, ap, refl, sym, subst, arith}
 use Rattle.std.specs.Io.KnownBytes.{Appends}
 use Rattle.std.specs.List.{All, flat_map}
 use Rattle.std.proofs.lemmas.List.{drop_more}
@@ -9,11 +9,11 @@ use Rattle.acl_perm.proofs.PieceLemmas.{out_cut, out_none, written_both}
 use Rattle.acl_perm.specs.Counts.{count_limit}
 use Rattle.acl_perm.specs.Pieces.{WritesFrom}
 use Rattle.acl_perm.specs.declared.whole.WriteFault.{WriteFault}
+use Rattle.acl_posix.proofs.Exports.{bytes_length}
 use Rattle.acl_posix.specs.Attribute.{attribute_bytes, attribute_version, entry_bytes, version_size}
 use Rattle.acl_posix.specs.Entries.{Entries, IsEntry, pair_of, pairs}
 use Rattle.acl_posix.specs.Tag.{Tag}
 use Rattle.acl_posix.specs.declared.entry.Entry.{Entry}
-use Rattle.acl_forms.proofs.AttributeBytes.{bytes_length}
 use Rattle.acl_forms.proofs.AttributeOrder.{few_entries}
 use Rattle.std.specs.FinMap as fin
 

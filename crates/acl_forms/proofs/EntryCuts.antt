@@ -9,19 +9,20 @@ use Rattle.acl_perm.specs.Ascii.{line_feed}
 use Rattle.acl_perm.specs.Counts.{count_limit}
 use Rattle.acl_perm.specs.Lines.{cut_at, ColumnsFit, IsCut, Span, span_of, spans}
 use Rattle.acl_perm.specs.declared.lines.Piece.{Piece}
-use Rattle.acl_nfs4.specs.Ace.{Ace}
 use Rattle.acl_forms.proofs.TextLemmas.{read_append}
 use Rattle.acl_forms.specs.TextReading.{FailsAsRead, IsEntryCut, IsEntryRest, part_items, read_items, RestFits}
 use Rattle.acl_forms.specs.Texts.{cut_entries, entries_among, items_of, TextRules}
 use Rattle.acl_forms.specs.declared.fault.ReadFault.{ReadFault}
 
 -- a line in which no byte ends an entry is one part
-pub cut_none : (rules : TextRules) (s : Span) → Says rules.ends_entry s.bytes None → cut_entries rules s ≡ s ∷ []
+pub cut_none : {X : Type 0} (rules : TextRules X) (s : Span) → Says rules.ends_entry s.bytes None
+    → cut_entries rules s ≡ s ∷ []
 unfolding cut_entries
 cut_none rules s h = ap (spans s.column) (split_none rules.ends_entry s.bytes h)
 
 -- a line is cut into the part before the first byte that ends an entry, and the rest
-pub cut_some : (rules : TextRules) (s : Span) (i : ℕ) (rest : List ℕ) → Says rules.ends_entry s.bytes (Some i)
+pub cut_some : {X : Type 0} (rules : TextRules X) (s : Span) (i : ℕ) (rest : List ℕ)
+    → Says rules.ends_entry s.bytes (Some i)
     → rest ≡ drop (i + 1) s.bytes
     → IsEntryRest rules s (record { column = s.column; bytes = take i s.bytes })
     (record { column = s.column + i + 1; bytes = rest })
@@ -29,7 +30,8 @@ unfolding cut_entries
 cut_some rules s i rest h r =
     let lt = h.in_range in
     let len : length (take i s.bytes) ≡ i = length-take-le i s.bytes (omega arith) in
-    let split : slice_split rules.ends_entry s.bytes ≡ take i s.bytes ∷ slice_split rules.ends_entry (drop (i + 1) s.bytes) =
+    let split : slice_split rules.ends_entry s.bytes ≡ take i s.bytes ∷ slice_split rules.ends_entry (drop (i + 1)
+    s.bytes) =
     slice_split_first rules.ends_entry s.bytes 0 (omega (arith, h.first))
     ∙ ap (λ (n : ℕ). take n s.bytes ∷ slice_split rules.ends_entry (drop (n + 1) s.bytes)) h.first in
     let left = length-drop (i + 1) s.bytes in
@@ -45,7 +47,7 @@ cut_some rules s i rest h r =
     rw r made
 
 -- the parts of what is left of a line
-abbrev pub parts_left : TextRules → Option Piece → List Span
+abbrev pub parts_left : {X : Type 0} → TextRules X → Option Piece → List Span
 parts_left rules None = []
 parts_left rules (Some p) = cut_entries rules (span_of p)
 
@@ -74,13 +76,13 @@ line_fits whole (first, Some rest) fits h =
     (omega (arith, h.first_fits), omega (arith, h.rest_fits), omega (arith, h.shorter))
 
 -- a cut gives the first part and the parts that are left
-pub part_next : (rules : TextRules) (whole : Span) (r : Piece × Option Piece) → IsEntryCut rules whole r
+pub part_next : {X : Type 0} (rules : TextRules X) (whole : Span) (r : Piece × Option Piece) → IsEntryCut rules whole r
     → cut_entries rules whole ≡ span_of r.0 ∷ parts_left rules r.1
 part_next rules whole (first, None) h = h.0
 part_next rules whole (first, Some rest) h = h.parts
 
 -- the columns of what an entry cut gives are counts, and less is left
-pub part_fits : (rules : TextRules) (whole : Piece) (r : Piece × Option Piece) → ColumnsFit whole
+pub part_fits : {X : Type 0} (rules : TextRules X) (whole : Piece) (r : Piece × Option Piece) → ColumnsFit whole
     → IsEntryCut rules (span_of whole) r → ColumnsFit r.0 × RestFits r.1 × (bytes_left r.1 < bytes_left (Some whole))
 part_fits rules whole (first, None) fits h =
     let same = h.1 in (subst (λ (s : Span). s.column + length s.bytes < count_limit) (sym same) fits, tt, omega arith)
@@ -90,11 +92,11 @@ part_fits rules whole (first, Some rest) fits h =
 -- ---- items
 
 -- the items of parts of a line
-abbrev pub items_in_parts : TextRules → List Span → List (Result Span ReadFault)
+abbrev pub items_in_parts : {X : Type 0} → TextRules X → List Span → List (Result Span ReadFault)
 items_in_parts rules parts = items_of (entries_among rules parts)
 
 -- the items of parts are those of the first part and of the others
-pub items_next : (rules : TextRules) (first : Span) (others : List Span)
+pub items_next : {X : Type 0} (rules : TextRules X) (first : Span) (others : List Span)
     → items_in_parts rules (first ∷ others) ≡ part_items rules first ++ items_in_parts rules others
 items_next rules first others =
     elim (rules.is_part_skipped first.bytes)
@@ -105,18 +107,20 @@ items_next rules first others =
     ]
 
 -- items are read after those that were read
-pub read_on : (g : TextRules) (old new : List Ace) (xs ys : List (Result Span ReadFault)) → read_items g old xs ≡ Ok new
+pub read_on : {X : Type 0} (g : TextRules X) (old new : List X) (xs ys : List (Result Span ReadFault))
+    → read_items g old xs ≡ Ok new
     → read_items g old (xs ++ ys) ≡ read_items g new ys
 read_on g old new xs ys e = read_append g old xs ys ∙ rw e refl
 
 -- the fault of items is that of these items and others
-pub fail_on : (g : TextRules) (old : List Ace) (xs ys : List (Result Span ReadFault)) (fault : ReadFault)
+pub fail_on : {X : Type 0} (g : TextRules X) (old : List X) (xs ys : List (Result Span ReadFault)) (fault : ReadFault)
     → FailsAsRead fault (read_items g old xs) → FailsAsRead fault (read_items g old (xs ++ ys))
 fail_on g old xs ys fault (inl none) = inl none
 fail_on g old xs ys fault (inr e) = inr (read_append g old xs ys ∙ rw e refl)
 
 -- if nothing is left, there are no parts
-pub no_parts : (rules : TextRules) (r : Option Piece) → ((t : Piece) → r ≡ Some t → ⊥) → parts_left rules r ≡ []
+pub no_parts : {X : Type 0} (rules : TextRules X) (r : Option Piece) → ((t : Piece) → r ≡ Some t → ⊥)
+    → parts_left rules r ≡ []
 no_parts rules None h = refl
 no_parts rules (Some t) h = absurd (h t refl)
 

@@ -99,13 +99,14 @@ push_fails aces a mask who push.Memory read h e = inl refl
 -- ---- items
 
 -- a part that is no entry adds nothing
-pub passed_over : (rules : TextRules) (aces : List Ace) (part : Span) → rules.is_part_skipped part.bytes ≡ true
+pub passed_over : {X : Type 0} (rules : TextRules X) (aces : List X) (part : Span)
+    → rules.is_part_skipped part.bytes ≡ true
     → read_items rules aces (part_items rules part) ≡ Ok aces
 unfolding read_items
 passed_over rules aces part e = rw e refl
 
 -- any other part adds its ACE, or has its fault
-pub part_read : (rules : TextRules) (aces new : List Ace) (part : Span) (r : Result (Unit {0}) ReadFault)
+pub part_read : {X : Type 0} (rules : TextRules X) (aces new : List X) (part : Span) (r : Result (Unit {0}) ReadFault)
     → rules.is_part_skipped part.bytes ≡ false → AddsOne (rules.entry aces part) aces new r
     → AddsItems rules (part_items rules part) aces new r
 unfolding read_items
@@ -114,13 +115,14 @@ part_read rules aces new part (Err fault) some (inl none) = inl none
 part_read rules aces new part (Err fault) some (inr e) = inr (rw (some, e) refl)
 
 -- a line without entries adds nothing
-pub line_skipped : (rules : TextRules) (aces : List Ace) (line : Span) → rules.is_line_skipped line.bytes ≡ true
+pub line_skipped : {X : Type 0} (rules : TextRules X) (aces : List X) (line : Span)
+    → rules.is_line_skipped line.bytes ≡ true
     → read_items rules aces (items_of (entries_of rules line)) ≡ Ok aces
 unfolding read_items
 line_skipped rules aces line e = rw e refl
 
 -- the fault of a comment is that of its line
-pub commented : (rules : TextRules) (aces : List Ace) (line : Span) (place : ℕ) (fault : ReadFault)
+pub commented : {X : Type 0} (rules : TextRules X) (aces : List X) (line : Span) (place : ℕ) (fault : ReadFault)
     → position (λ b. b == hash) line.bytes ≡ Some place → comment_fault rules line place ≡ Some fault
     → read_items rules aces (line_items rules line) ≡ Err fault
 unfolding line_items read_items

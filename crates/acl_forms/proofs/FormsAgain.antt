@@ -10,13 +10,15 @@ use Rattle.acl_forms.specs.Acl41.{acl41_bytes}
 use Rattle.acl_forms.specs.Acl41Ids.{EachHasId, acl41_ids_bytes, no_id_from, whom_words}
 use Rattle.acl_forms.specs.AclFlags.{IsAclFlags}
 use Rattle.acl_forms.specs.Forms.{SpellsForm, form_bytes, form_fault, form_list, unless_flags}
+use Rattle.acl_forms.specs.NfsWritten.{nfs_text_fault}
 use Rattle.acl_forms.specs.ToolsWritten.{tools_fault}
 use Rattle.acl_forms.specs.declared.fault.FormFault.{FormFault}
 use Rattle.acl_forms.specs.declared.fault.FormReason.TheVariants.{AclFlags, NoId}
 use Rattle.acl_forms.specs.declared.form.Form.{Form}
-use Rattle.acl_forms.specs.declared.form.Form.TheVariants.{NfsTools, NfsAcl41, NfsAcl41Ids}
+use Rattle.acl_forms.specs.declared.form.Form.TheVariants.{NfsTools, NfsText, NfsAcl41, NfsAcl41Ids}
 use Rattle.acl_forms.proofs.Acl41Lemmas as acl41
 use Rattle.acl_forms.proofs.IdLemmas as ids
+use Rattle.acl_forms.proofs.NfsAgain.{nfs_written_reads_back}
 use Rattle.acl_forms.proofs.ToolsAgain.{written_reads_back}
 
 -- if a fault is kept away by a test and none is left, the test holds
@@ -51,6 +53,10 @@ pub reads_back : (form : Form) (flags set : ℕ) (list other : List Ace) → IsA
 reads_back (NfsTools object) flags set list other is ok none =
     let f = no_flags flags (tools_fault object list) none in
     let back = written_reads_back object list other ok f.1 in
+    (λ s. (s.none ∙ sym f.0, back.0 s.spelled), λ e. record { none = e.0 ∙ f.0; spelled = back.1 e.1 })
+reads_back (NfsText source style) flags set list other is ok none =
+    let f = no_flags flags (nfs_text_fault list) none in
+    let back = nfs_written_reads_back source style list other ok f.1 in
     (λ s. (s.none ∙ sym f.0, back.0 s.spelled), λ e. record { none = e.0 ∙ f.0; spelled = back.1 e.1 })
 reads_back NfsAcl41 flags set list other is ok none =
     let written = acl41.bytes_of flags list is ok in

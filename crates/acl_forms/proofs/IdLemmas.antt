@@ -40,12 +40,12 @@ use Rattle.acl_forms.proofs.WordLemmas.{Takes, Takes-then, bind-ok, bind_then, f
 -- ---- what each word says
 
 -- what is said of a field of nfsace4<> is a value if and only if it is accepted there
-listed_ok : {A : Type 0} (r : Result A Reason) (x : A) → listed r ≡ Ok x → r ≡ Ok x
+pub listed_ok : {A : Type 0} (r : Result A Reason) (x : A) → listed r ≡ Ok x → r ≡ Ok x
 listed_ok (Ok y) x e = ap (λ z. Ok z) (ok_is y x e)
 listed_ok (Err f) x e = absurd cc
 
 -- an accepted field of nfsace4<> is said to be accepted
-listed_again : {A : Type 0} (r : Result A Reason) (x : A) → r ≡ Ok x → listed r ≡ Ok x
+pub listed_again : {A : Type 0} (r : Result A Reason) (x : A) → r ≡ Ok x → listed r ≡ Ok x
 listed_again r x e = ap listed e
 
 -- a kind that was read is that of its number
@@ -64,41 +64,41 @@ kind_lt Allow = omega arith
 kind_lt Deny = omega arith
 
 -- flags that were read are ones of the standard
-flags_are : (n m : ℕ) → flags_of full n ≡ Ok m → (n ≡ m) × IsWithin all_flags m
+pub flags_are : (n m : ℕ) → flags_of full n ≡ Ok m → (n ≡ m) × IsWithin all_flags m
 flags_are n m e = grind (arith, nat_tests)
 
 -- flags of the standard are accepted
-flags_accepted : (n : ℕ) → IsWithin all_flags n → flags_of full n ≡ Ok n
+pub flags_accepted : (n : ℕ) → IsWithin all_flags n → flags_of full n ≡ Ok n
 flags_accepted n within = rw (eq-eqb (bit_and n all_flags) n within) refl
 
 -- a mask that was read is one of the standard, and light enough
-mask_is : (weight n m : ℕ) → mask_of full weight n ≡ Ok m
+pub mask_is : (weight n m : ℕ) → mask_of full weight n ≡ Ok m
     → (n ≡ m) × IsWithin all_rights m × (weight + count_ones m ≤ most_weight)
 mask_is weight n m e = grind (arith, nat_tests)
 
 -- a mask of the standard that is light enough is accepted
-mask_again : (weight n : ℕ) → IsWithin all_rights n → weight + count_ones n ≤ most_weight → mask_of full weight n ≡ Ok n
+pub mask_again : (weight n : ℕ) → IsWithin all_rights n → weight + count_ones n ≤ most_weight → mask_of full weight n ≡ Ok n
 mask_again weight n within light =
     rw (eq-eqb (bit_and n all_rights) n within, le-ltb most_weight (weight + count_ones n) light) refl
 
 -- a part of a set is no greater than the set
-within_le : (set n : ℕ) → IsWithin set n → n ≤ set
+pub within_le : (set n : ℕ) → IsWithin set n → n ≤ set
 within_le set n is = let le : bit_and n set ≤ set = and_le_r n set in rw is at le
 
 -- whether the who is special, as it was read
-special_is : (n m : ℕ) → special_of n ≡ Ok m → (n ≡ m) × (m ≤ 1)
+pub special_is : (n m : ℕ) → special_of n ≡ Ok m → (n ≡ m) × (m ≤ 1)
 special_is n m e = grind (arith, nat_tests)
 
 -- 0 and 1 are accepted
-special_accepted : (n : ℕ) → n ≤ 1 → special_of n ≡ Ok n
+pub special_accepted : (n : ℕ) → n ≤ 1 → special_of n ≡ Ok n
 special_accepted n le = rw (le-leb n 1 le) refl
 
 -- a count that was read is within the limit
-count_is : (n m : ℕ) → count_of n ≡ Ok m → (n ≡ m) × (m ≤ most_aces)
+pub count_is : (n m : ℕ) → count_of n ≡ Ok m → (n ≡ m) × (m ≤ most_aces)
 count_is n m e = grind (arith, nat_tests)
 
 -- a number of ACEs within the limit is accepted
-count_again : (n : ℕ) → n ≤ most_aces → count_of n ≡ Ok n
+pub count_again : (n : ℕ) → n ≤ most_aces → count_of n ≡ Ok n
 count_again n le = grind (arith, nat_tests)
 
 -- ---- an ACE
@@ -111,7 +111,7 @@ pub record TakesIdAce (weight : ℕ) (p : WordPlace) (a : Ace) (q : WordPlace) :
   pub id : IsSome (whom_words a.who)
 
 -- the piece of an ACE with these words
-piece_of : (a : Ace) (words : ℕ × ℕ) → whom_words a.who ≡ Some words → id_ace_bytes a words ≡ id_piece a
+pub piece_of : (a : Ace) (words : ℕ × ℕ) → whom_words a.who ≡ Some words → id_ace_bytes a words ≡ id_piece a
 piece_of a words e = rw e refl
 
 -- there is a value
@@ -233,7 +233,7 @@ unfolding id_aces_from
 ids_take zero list p x fits ok few e =
     subst (λ (y : List Ace × WordPlace). TakesIds zero list p y.0 y.1) (ok_is (list, p) x e) (record {
       more = [];
-      takes = record { parts = refl; bytes = fits };
+      takes = record { parts = refl; counted = omega arith; bytes = fits };
       long = refl;
       ids = tt;
       is = sym (append-nil list);
@@ -306,25 +306,27 @@ pub ids_done : (left : ℕ) (list : List Ace) (at : WordPlace) → left ≡ 0 �
 unfolding id_aces_from
 ids_done left list at e = rw e refl
 
+-- a special identifier or an id of the code is valid as a who
+pub is_who-whom : (w : Whom) → IsWho (whom_name w)
+is_who-whom Owner = is_who-owner
+is_who-whom Group = is_who-group
+is_who-whom Everyone = is_who-everyone
+is_who-whom (Account id) = is_who-decimal id.value id.within
+
 -- each ACE that the code makes of words may be in a list
 pub good_ace : (a : IdAce) → a.flags.bits ≤ 255 → IsAce full (ace_by_id a)
 good_ace a small = record {
   flags = and_mask a.flags.bits 8 ∙ omega (arith, small);
   mask = a.mask.within;
-  who = of_whom a.whom;
-} where
-  of_whom : (w : Whom) → IsWho (whom_name w)
-  of_whom Owner = is_who-owner
-  of_whom Group = is_who-group
-  of_whom Everyone = is_who-everyone
-  of_whom (Account id) = is_who-decimal id.value id.within
+  who = is_who-whom a.whom;
+}
 
 -- ---- the whole value
 
 -- if the end was reached, no byte is left
-ended : (flags : ℕ) (x : List Ace × WordPlace) (y : ℕ × List Ace) → nothing_after flags x ≡ Ok y
+pub ended : {A : Type 0} (flags : ℕ) (x : A × WordPlace) (y : ℕ × A) → nothing_after flags x ≡ Ok y
     → ((flags, x.0) ≡ y) × (x.1.rest ≡ [])
-ended flags x y e = by (eqb (length x.1.rest) 0) refl e
+ended {A = A} flags x y e = by (eqb (length x.1.rest) 0) refl e
   where
     no_bytes : (rest : List ℕ) → length rest ≡ 0 → rest ≡ []
     no_bytes [] e = refl

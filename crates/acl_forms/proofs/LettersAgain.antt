@@ -68,13 +68,13 @@ ReadAgain table object wrong set rows = AllByRecursion (λ (row : Letter). eqb (
     → (at : ℕ) → letter_bits table object wrong at row.letter ≡ Ok row.bits) rows
 
 -- a bit that the set has joins the bits of the other rows
-joined : (set acc bits others : ℕ) → bit_and set bits ≡ bits
+pub joined : (set acc bits others : ℕ) → bit_and set bits ≡ bits
     → bit_or (bit_or acc bits) (bit_and set others) ≡ bit_or acc (bit_and set (bit_or bits others))
 joined set acc bits others e = or_assoc acc bits (bit_and set others)
     ∙ ap (bit_or acc) (ap (λ (n : ℕ). bit_or n (bit_and set others)) (sym e) ∙ sym (and_or set bits others))
 
 -- a bit that the set does not have adds nothing
-left_out : (set acc bits others : ℕ) → bit_and set bits ≡ 0
+pub left_out : (set acc bits others : ℕ) → bit_and set bits ≡ 0
     → bit_or acc (bit_and set others) ≡ bit_or acc (bit_and set (bit_or bits others))
 left_out set acc bits others e = ap (bit_or acc) (sym (and_or set bits others
     ∙ ap (λ (n : ℕ). bit_or n (bit_and set others)) e ∙ or_zero_l (bit_and set others)))

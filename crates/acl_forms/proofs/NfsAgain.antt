@@ -35,22 +35,26 @@ use Rattle.acl_forms.specs.Acl41Ids.{id_of_digits}
 use Rattle.acl_forms.specs.Letters.{letters_from, nfs_flag_letters, nfs_right_letters, no_letter}
 use Rattle.acl_forms.specs.NfsRules.{nfs_rules, SpellsNfsText}
 use Rattle.acl_forms.specs.NfsText.{fields_of_parts, flags_by_tag, id_alone, is_other_number, nfs_ace, nfs_entry, nfs_fields_of, nfs_kind, nfs_tag_of, tag_special, trimmed_span, who_by_tag, who_of_fields, NfsFields}
-use Rattle.acl_forms.specs.NfsWritten.{account_word, as_nfs_written, id_after, is_cut_who, is_id_cut, kept_flags, kind_word, nfs_ace_fault, nfs_entry_text, nfs_fault_from, nfs_line, nfs_text, nfs_text_fault, principal_text, special_word, IsSameButSpecialGroup}
+use Rattle.acl_forms.specs.NfsWritten.{account_word, as_nfs_written, id_after, is_cut_who, is_id_cut, kept_flags, kind_word, nfs_ace_fault, nfs_entry_text, nfs_fault_from, nfs_text, nfs_text_fault, principal_text, special_word, styled_letters, IsSameButSpecialGroup}
 use Rattle.acl_forms.specs.Texts.{cut_entries, line_items}
 use Rattle.acl_forms.specs.ToolsText.{unless_refused}
-use Rattle.acl_forms.specs.ToolsWritten.{is_separator, letters_of, meets}
+use Rattle.acl_forms.specs.ToolsWritten.{is_separator, meets}
 use Rattle.acl_forms.specs.declared.fault.FormReason.TheVariants.{Id, Retention, Separator}
 use Rattle.acl_forms.specs.declared.fault.ReadReason.{ReadReason}
 use Rattle.acl_forms.specs.declared.fault.ReadReason.TheVariants as reasons
 use Rattle.acl_forms.specs.declared.nfs_text.fields.NfsTag.{NfsTag}
 use Rattle.acl_forms.specs.declared.nfs_text.fields.NfsTag.TheVariants.{Everyone, NamedGroup, NamedUser, Owner, OwningGroup}
 use Rattle.acl_forms.specs.declared.object.ObjectKind.TheVariants.{Directory}
+use Rattle.acl_forms.specs.declared.style.LetterStyle.{LetterStyle}
+use Rattle.acl_forms.specs.declared.style.Style.{Style}
 use Rattle.acl_forms.specs.declared.who_field.WhoField.{WhoField}
 use Rattle.acl_forms.specs.declared.who_field.WhoField.TheVariants as source
-use Rattle.acl_forms.proofs.LettersAgain.{and_or, letters_pass, letters_read, bit_missing, ReadAgain}
+use Rattle.acl_forms.proofs.LettersAgain.{and_or, bit_missing, ReadAgain}
 use Rattle.acl_forms.proofs.NfsLemmas.{good_nfs_ace}
 use Rattle.acl_forms.proofs.TextLemmas.{one_list}
-use Rattle.acl_forms.proofs.TextsAgain.{each_again, no_nul, part_at, IsReadAgain}
+use Rattle.acl_forms.proofs.StyledLetters.{styled_pass, styled_read}
+use Rattle.acl_forms.proofs.CommasAgain.{separated_again, separated_pass, IsEntryAgain}
+use Rattle.acl_forms.proofs.TextsAgain.{part_at}
 use Rattle.acl_forms.proofs.ToolsAgain.{all_not, all_pass, apart_sets, either_false, is_inside, is_no_colon, no_fault, no_place, not_refused, plain_who, rights_within, who_pass}
 use Rattle.acl_forms.proofs.WhoLemmas.{id_is, no_id, not_decimal}
 
@@ -151,23 +155,30 @@ flags_again wrong set = (
   ),
 )
 
+-- the letters of the rights of an ACE
+abbrev rights_text : LetterStyle → ℕ → List ℕ
+rights_text letters mask = styled_letters letters (nfs_right_letters []) mask
+
+-- the letters of the flags of an ACE
+abbrev flags_text : LetterStyle → ℕ → List ℕ
+flags_text letters flags = styled_letters letters (nfs_flag_letters []) flags
+
 -- the letters of rights stand for the rights
-mask_again : (at set : ℕ) → IsWithin 0x1f01ff set
-    → letters_from (nfs_right_letters no_letter) Directory reasons.Mask at 0 (letters_of (nfs_right_letters []) set)
-    ≡ Ok set
-mask_again at set within =
-    letters_read (nfs_right_letters no_letter) (nfs_right_letters [])
+mask_again : (letters : LetterStyle) (at set : ℕ) → IsWithin 0x1f01ff set
+    → letters_from (nfs_right_letters no_letter) Directory reasons.Mask at 0 (rights_text letters set) ≡ Ok set
+mask_again letters at set within =
+    styled_read letters (nfs_right_letters no_letter) (nfs_right_letters [])
     (0 ∷ 1 ∷ 5 ∷ 2 ∷ 16 ∷ 6 ∷ 7 ∷ 8 ∷ 3 ∷ 4 ∷ 17 ∷ 18 ∷ 19 ∷ 20 ∷ []) Directory reasons.Mask at 0 set
-    (rights_again reasons.Mask set) refl
+    (rights_again reasons.Mask set) refl (λ at. refl)
     ∙ ap (λ (n : ℕ). Ok n) (or_zero_l (bit_and set 0x1f01ff) ∙ within)
 
 -- the letters of flags stand for the flags but IDENTIFIER_GROUP
-flags_read_again : (at set : ℕ)
-    → letters_from (nfs_flag_letters no_letter) Directory reasons.Flag at 0 (letters_of (nfs_flag_letters []) set)
+flags_read_again : (letters : LetterStyle) (at set : ℕ)
+    → letters_from (nfs_flag_letters no_letter) Directory reasons.Flag at 0 (flags_text letters set)
     ≡ Ok (bit_and set 0xbf)
-flags_read_again at set =
-    letters_read (nfs_flag_letters no_letter) (nfs_flag_letters []) (0 ∷ 1 ∷ 3 ∷ 2 ∷ 4 ∷ 5 ∷ 7 ∷ []) Directory
-    reasons.Flag at 0 set (flags_again reasons.Flag set) refl
+flags_read_again letters at set =
+    styled_read letters (nfs_flag_letters no_letter) (nfs_flag_letters []) (0 ∷ 1 ∷ 3 ∷ 2 ∷ 4 ∷ 5 ∷ 7 ∷ []) Directory
+    reasons.Flag at 0 set (flags_again reasons.Flag set) refl (λ at. refl)
     ∙ ap (λ (n : ℕ). Ok n) (or_zero_l (bit_and set 0xbf))
 
 -- ---- words
@@ -293,7 +304,7 @@ digits_pass (c ∷ cs) d =
     one c low high rest = let a : is_ascii_digit c ≡ true = grind (arith, nat_tests) in rw a rest
 
 -- the digits of an id are a number
-is_number-decimal : (n : ℕ) → IsId n → is_number (decimal n) ≡ true
+pub is_number-decimal : (n : ℕ) → IsId n → is_number (decimal n) ≡ true
 is_number-decimal n is =
     let some : eqb (length (decimal n)) 0 ≡ false =
     (let h = decimal_nonempty n (omega arith) in grind (arith, nat_tests, h)) in
@@ -323,25 +334,17 @@ split_more part rest h = slice_split_at (λ b. b == colon) part colon rest (all_
 split_last : (part : List ℕ) → list_all is_no_colon part ≡ true → slice_split (λ b. b == colon) part ≡ part ∷ []
 split_last part h = slice_split_none (λ b. b == colon) part (all_not (λ b. b == colon) part h)
 
--- the letters of the rights of an ACE
-abbrev rights_text : ℕ → List ℕ
-rights_text mask = letters_of (nfs_right_letters []) mask
-
--- the letters of the flags of an ACE
-abbrev flags_text : ℕ → List ℕ
-flags_text flags = letters_of (nfs_flag_letters []) flags
-
 -- the fields after the principal
-abbrev tail_text : Ace → List ℕ → List ℕ
-tail_text a last = rights_text a.mask ++ colon ∷ (flags_text a.flags ++ colon ∷ last)
+abbrev tail_text : LetterStyle → Ace → List ℕ → List ℕ
+tail_text letters a last = rights_text letters a.mask ++ colon ∷ (flags_text letters a.flags ++ colon ∷ last)
 
 -- the parts of the fields after the principal
-tail_split : (a : Ace) (last : List ℕ) → slice_split (λ b. b == colon) (tail_text a last)
-    ≡ rights_text a.mask ∷ flags_text a.flags ∷ slice_split (λ b. b == colon) last
-tail_split a last =
-    split_more (rights_text a.mask) _ (letters_pass is_no_colon (nfs_right_letters []) a.mask refl)
-    ∙ ap (λ (parts : List (List ℕ)). rights_text a.mask ∷ parts)
-    (split_more (flags_text a.flags) _ (letters_pass is_no_colon (nfs_flag_letters []) a.flags refl))
+tail_split : (letters : LetterStyle) (a : Ace) (last : List ℕ) → slice_split (λ b. b == colon) (tail_text letters a last)
+    ≡ rights_text letters a.mask ∷ flags_text letters a.flags ∷ slice_split (λ b. b == colon) last
+tail_split letters a last =
+    split_more (rights_text letters a.mask) _ (styled_pass letters is_no_colon (nfs_right_letters []) a.mask refl refl)
+    ∙ ap (λ (parts : List (List ℕ)). rights_text letters a.mask ∷ parts)
+    (split_more (flags_text letters a.flags) _ (styled_pass letters is_no_colon (nfs_flag_letters []) a.flags refl refl))
 
 -- the fields of an entry, by the place of its first part
 abbrev parts_at : ℕ → List (List ℕ) → List Span
@@ -356,17 +359,17 @@ fields_again column text parts split =
     ap (λ (parts : List (List ℕ)). fields_of_parts column (parts_at column parts)) split
 
 -- the rights, the flags and the kind of fields are those of an ACE
-record AreFieldsOf (a : Ace) (fields : NfsFields) : Type 0 where
-  pub rights : fields.rights.bytes ≡ rights_text a.mask
-  pub flags : fields.flags.bytes ≡ flags_text a.flags
+record AreFieldsOf (letters : LetterStyle) (a : Ace) (fields : NfsFields) : Type 0 where
+  pub rights : fields.rights.bytes ≡ rights_text letters a.mask
+  pub flags : fields.flags.bytes ≡ flags_text letters a.flags
   pub kind : fields.kind.bytes ≡ kind_word a.kind
 
 -- the letters of a table have no blanks
-rights_kept : (mask : ℕ) → trimmed (rights_text mask) ≡ rights_text mask
-rights_kept mask = kept (rights_text mask) (letters_pass is_no_blank (nfs_right_letters []) mask refl)
+rights_kept : (letters : LetterStyle) (mask : ℕ) → trimmed (rights_text letters mask) ≡ rights_text letters mask
+rights_kept letters mask = kept (rights_text letters mask) (styled_pass letters is_no_blank (nfs_right_letters []) mask refl refl)
 
-flags_kept : (flags : ℕ) → trimmed (flags_text flags) ≡ flags_text flags
-flags_kept flags = kept (flags_text flags) (letters_pass is_no_blank (nfs_flag_letters []) flags refl)
+flags_kept : (letters : LetterStyle) (flags : ℕ) → trimmed (flags_text letters flags) ≡ flags_text letters flags
+flags_kept letters flags = kept (flags_text letters flags) (styled_pass letters is_no_blank (nfs_flag_letters []) flags refl refl)
 
 kind_kept : (kind : Kind) → trimmed (kind_word kind) ≡ kind_word kind
 kind_kept kind = kept (kind_word kind) (kind_pass is_no_blank refl refl kind)
@@ -376,71 +379,71 @@ abbrev ace_with : Kind → ℕ → ℕ → List ℕ → Ace
 ace_with kind flags mask name = record { kind = kind; flags = flags; mask = mask; who = name }
 
 -- fields are read as an ACE
-read_again : (by : WhoField) (a : Ace) (fields : NfsFields) → AreFieldsOf a fields → IsWithin 0x1f01ff a.mask
+read_again : (letters : LetterStyle) (by : WhoField) (a : Ace) (fields : NfsFields) → AreFieldsOf letters a fields → IsWithin 0x1f01ff a.mask
     → who_by_tag by fields (tag_special fields.tag) ≡ Ok a.who
     → nfs_ace by fields ≡ Ok (ace_with a.kind (flags_by_tag fields.tag (bit_and a.flags 0xbf)) a.mask a.who)
 unfolding nfs_ace
-read_again by a fields h within name =
+read_again letters by a fields h within name =
     let mask = ap (letters_from (nfs_right_letters no_letter) Directory reasons.Mask fields.rights.column 0) h.rights
-    ∙ mask_again fields.rights.column a.mask within in
+    ∙ mask_again letters fields.rights.column a.mask within in
     let flags = ap (letters_from (nfs_flag_letters no_letter) Directory reasons.Flag fields.flags.column 0) h.flags
-    ∙ flags_read_again fields.flags.column a.flags in
+    ∙ flags_read_again letters fields.flags.column a.flags in
     rw (mask, flags, kind_again a.kind fields.kind h.kind, name) refl
 
 -- ---- an entry about a special identifier
 
 -- the text of such an entry
-special_text : (tag : NfsTag) (a : Ace) (word : List ℕ) → IsSpecialWord tag a.who word
-    → nfs_entry_text a ≡ word ++ colon ∷ tail_text a (kind_word a.kind)
+special_text : (letters : LetterStyle) (tag : NfsTag) (a : Ace) (word : List ℕ) → IsSpecialWord tag a.who word
+    → nfs_entry_text letters a ≡ word ++ colon ∷ tail_text letters a (kind_word a.kind)
 unfolding nfs_entry_text
-special_text tag a word h = rw (h.word_of, h.no_id)
-    (ap (λ (last : List ℕ). word ++ colon ∷ tail_text a last) (append-nil (kind_word a.kind)))
+special_text letters tag a word h = rw (h.word_of, h.no_id)
+    (ap (λ (last : List ℕ). word ++ colon ∷ tail_text letters a last) (append-nil (kind_word a.kind)))
 
 -- the fields of such an entry, with their places
-abbrev special_at : ℕ → NfsTag → Ace → List ℕ → NfsFields
-special_at column tag a word =
+abbrev special_at : LetterStyle → ℕ → NfsTag → Ace → List ℕ → NfsFields
+special_at letters column tag a word =
     let rights = column + length word + 1 in
-    let flags = rights + length (rights_text a.mask) + 1 in
-    let kind = flags + length (flags_text a.flags) + 1 in
+    let flags = rights + length (rights_text letters a.mask) + 1 in
+    let kind = flags + length (flags_text letters a.flags) + 1 in
     record {
       tag = tag;
       who = part_at (start_of (part_at column word)) a.who;
-      rights = trimmed_span (part_at rights (rights_text a.mask));
-      flags = trimmed_span (part_at flags (flags_text a.flags));
+      rights = trimmed_span (part_at rights (rights_text letters a.mask));
+      flags = trimmed_span (part_at flags (flags_text letters a.flags));
       kind = trimmed_span (part_at kind (kind_word a.kind));
       id = None;
     }
 
 -- such an entry has these fields
-special_fields_again : (column : ℕ) (tag : NfsTag) (a : Ace) (word : List ℕ) → IsSpecialWord tag a.who word
-    → nfs_fields_of (part_at column (nfs_entry_text a)) ≡ Ok (special_at column tag a word)
-special_fields_again column tag a word h =
+special_fields_again : (letters : LetterStyle) (column : ℕ) (tag : NfsTag) (a : Ace) (word : List ℕ) → IsSpecialWord tag a.who word
+    → nfs_fields_of (part_at column (nfs_entry_text letters a)) ≡ Ok (special_at letters column tag a word)
+special_fields_again letters column tag a word h =
     let last = split_last (kind_word a.kind) (kind_pass is_no_colon refl refl a.kind) in
-    let split : slice_split (λ b. b == colon) (nfs_entry_text a)
-    ≡ word ∷ rights_text a.mask ∷ flags_text a.flags ∷ kind_word a.kind ∷ [] =
-    ap (slice_split (λ b. b == colon)) (special_text tag a word h)
+    let split : slice_split (λ b. b == colon) (nfs_entry_text letters a)
+    ≡ word ∷ rights_text letters a.mask ∷ flags_text letters a.flags ∷ kind_word a.kind ∷ [] =
+    ap (slice_split (λ b. b == colon)) (special_text letters tag a word h)
     ∙ split_more word _ h.word_is.no_colon
-    ∙ ap (λ (parts : List (List ℕ)). word ∷ parts) (tail_split a (kind_word a.kind)
-    ∙ ap (λ (parts : List (List ℕ)). rights_text a.mask ∷ flags_text a.flags ∷ parts) last) in
-    fields_again column (nfs_entry_text a) _ split ∙ rw (kept word h.word_is.no_blank, h.tag_of, h.name_of) refl
+    ∙ ap (λ (parts : List (List ℕ)). word ∷ parts) (tail_split letters a (kind_word a.kind)
+    ∙ ap (λ (parts : List (List ℕ)). rights_text letters a.mask ∷ flags_text letters a.flags ∷ parts) last) in
+    fields_again column (nfs_entry_text letters a) _ split ∙ rw (kept word h.word_is.no_blank, h.tag_of, h.name_of) refl
 
 -- such an entry is read as the ACE
-special_again : (by : WhoField) (tag : NfsTag) (a : Ace) (word : List ℕ) (list : List Ace) (column : ℕ)
+special_again : (letters : LetterStyle) (by : WhoField) (tag : NfsTag) (a : Ace) (word : List ℕ) (list : List Ace) (column : ℕ)
     → IsSpecialWord tag a.who word → IsWithin 0x1f01ff a.mask → IsWho a.who → length list < most_aces
     → weight list + count_ones a.mask ≤ most_weight
-    → nfs_entry by list (part_at column (nfs_entry_text a)) ≡ Ok (as_nfs_written a)
-special_again by tag a word list column h within is room light =
-    let fields = special_at column tag a word in
-    let are : AreFieldsOf a fields =
-    record { rights = rights_kept a.mask; flags = flags_kept a.flags; kind = kind_kept a.kind } in
+    → nfs_entry by list (part_at column (nfs_entry_text letters a)) ≡ Ok (as_nfs_written a)
+special_again letters by tag a word list column h within is room light =
+    let fields = special_at letters column tag a word in
+    let are : AreFieldsOf letters a fields =
+    record { rights = rights_kept letters a.mask; flags = flags_kept letters a.flags; kind = kind_kept a.kind } in
     let name : who_by_tag by fields (tag_special tag) ≡ Ok a.who = rw h.name_of refl in
     let same : flags_by_tag tag (bit_and a.flags 0xbf) ≡ kept_flags a.who a.flags =
     h.flags_of (bit_and a.flags 0xbf) ∙ rw h.special refl in
-    let some : is_all_blank (nfs_entry_text a) ≡ false = ap is_all_blank (special_text tag a word h)
+    let some : is_all_blank (nfs_entry_text letters a) ≡ false = ap is_all_blank (special_text letters tag a word h)
     ∙ not_all_blank word _ h.word_is.no_blank h.word_is.some in
-    good_nfs_ace by list (part_at column (nfs_entry_text a)) fields (as_nfs_written a) some room
-    (special_fields_again column tag a word h)
-    (read_again by a fields are within name ∙ ap (λ (f : ℕ). Ok (ace_with a.kind f a.mask a.who)) same)
+    good_nfs_ace by list (part_at column (nfs_entry_text letters a)) fields (as_nfs_written a) some room
+    (special_fields_again letters column tag a word h)
+    (read_again letters by a fields are within name ∙ ap (λ (f : ℕ). Ok (ace_with a.kind f a.mask a.who)) same)
     ∙ ap (unless_refused (as_nfs_written a) fields.rights.column fields.who.column)
     (not_refused list (as_nfs_written a) room light is)
 
@@ -455,11 +458,11 @@ record IsNameKept (who : List ℕ) : Type 0 where
   pub same : trimmed who ≡ who
 
 -- the text of such an entry
-account_text : (tag : NfsTag) (a : Ace) (word : List ℕ) → IsAccountWord tag a.flags word → special_word a.who ≡ None
-    → nfs_entry_text a ≡ word ++ colon ∷ (a.who ++ colon ∷ tail_text a (kind_word a.kind
+account_text : (letters : LetterStyle) (tag : NfsTag) (a : Ace) (word : List ℕ) → IsAccountWord tag a.flags word → special_word a.who ≡ None
+    → nfs_entry_text letters a ≡ word ++ colon ∷ (a.who ++ colon ∷ tail_text letters a (kind_word a.kind
     ++ id_after a.who (id_of_digits a.who)))
 unfolding nfs_entry_text
-account_text tag a word h none = rw (none, h.word_of) (append_assoc word (colon ∷ a.who) _)
+account_text letters tag a word h none = rw (none, h.word_of) (append_assoc word (colon ∷ a.who) _)
 
 -- the parts that the id of a who is
 abbrev id_parts : List ℕ → Option ℕ → List (List ℕ)
@@ -475,16 +478,16 @@ last_split kind who (Some id) h = split_more (kind_word kind) who (kind_pass is_
     ∙ ap (λ (parts : List (List ℕ)). kind_word kind ∷ parts) (split_last who h)
 
 -- the parts of such an entry
-account_split : (tag : NfsTag) (a : Ace) (word : List ℕ) → IsAccountWord tag a.flags word → IsNameKept a.who
-    → slice_split (λ b. b == colon) (nfs_entry_text a)
-    ≡ word ∷ a.who ∷ rights_text a.mask ∷ flags_text a.flags ∷ kind_word a.kind ∷ id_parts a.who (id_of_digits a.who)
-account_split tag a word h name =
+account_split : (letters : LetterStyle) (tag : NfsTag) (a : Ace) (word : List ℕ) → IsAccountWord tag a.flags word → IsNameKept a.who
+    → slice_split (λ b. b == colon) (nfs_entry_text letters a)
+    ≡ word ∷ a.who ∷ rights_text letters a.mask ∷ flags_text letters a.flags ∷ kind_word a.kind ∷ id_parts a.who (id_of_digits a.who)
+account_split letters tag a word h name =
     let id = id_of_digits a.who in
-    ap (slice_split (λ b. b == colon)) (account_text tag a word h name.no_word)
+    ap (slice_split (λ b. b == colon)) (account_text letters tag a word h name.no_word)
     ∙ split_more word _ h.word_is.no_colon
     ∙ ap (λ (parts : List (List ℕ)). word ∷ parts) (split_more a.who _ name.no_colon
-    ∙ ap (λ (parts : List (List ℕ)). a.who ∷ parts) (tail_split a (kind_word a.kind ++ id_after a.who id)
-    ∙ ap (λ (parts : List (List ℕ)). rights_text a.mask ∷ flags_text a.flags ∷ parts)
+    ∙ ap (λ (parts : List (List ℕ)). a.who ∷ parts) (tail_split letters a (kind_word a.kind ++ id_after a.who id)
+    ∙ ap (λ (parts : List (List ℕ)). rights_text letters a.mask ∷ flags_text letters a.flags ∷ parts)
     (last_split a.kind a.who id name.no_colon)))
 
 -- the field of an id
@@ -493,27 +496,27 @@ id_at column who None = None
 id_at column who (Some id) = Some (trimmed_span (part_at column who))
 
 -- the fields of such an entry, with their places
-abbrev account_at : ℕ → NfsTag → Ace → List ℕ → Option ℕ → NfsFields
-account_at column tag a word id =
+abbrev account_at : LetterStyle → ℕ → NfsTag → Ace → List ℕ → Option ℕ → NfsFields
+account_at letters column tag a word id =
     let name = column + length word + 1 in
     let rights = name + length a.who + 1 in
-    let flags = rights + length (rights_text a.mask) + 1 in
-    let kind = flags + length (flags_text a.flags) + 1 in
+    let flags = rights + length (rights_text letters a.mask) + 1 in
+    let kind = flags + length (flags_text letters a.flags) + 1 in
     record {
       tag = tag;
       who = trimmed_span (part_at name a.who);
-      rights = trimmed_span (part_at rights (rights_text a.mask));
-      flags = trimmed_span (part_at flags (flags_text a.flags));
+      rights = trimmed_span (part_at rights (rights_text letters a.mask));
+      flags = trimmed_span (part_at flags (flags_text letters a.flags));
       kind = trimmed_span (part_at kind (kind_word a.kind));
       id = id_at (kind + length (kind_word a.kind) + 1) a.who id;
     }
 
 -- the fields of these parts
-account_parts : (column : ℕ) (tag : NfsTag) (a : Ace) (word : List ℕ) (id : Option ℕ) → IsAccountWord tag a.flags word
-    → fields_of_parts column (parts_at column (word ∷ a.who ∷ rights_text a.mask ∷ flags_text a.flags
-    ∷ kind_word a.kind ∷ id_parts a.who id)) ≡ Ok (account_at column tag a word id)
-account_parts column tag a word None h = rw (kept word h.word_is.no_blank, h.tag_of, h.no_name) refl
-account_parts column tag a word (Some id) h = rw (kept word h.word_is.no_blank, h.tag_of, h.no_name) refl
+account_parts : (letters : LetterStyle) (column : ℕ) (tag : NfsTag) (a : Ace) (word : List ℕ) (id : Option ℕ) → IsAccountWord tag a.flags word
+    → fields_of_parts column (parts_at column (word ∷ a.who ∷ rights_text letters a.mask ∷ flags_text letters a.flags
+    ∷ kind_word a.kind ∷ id_parts a.who id)) ≡ Ok (account_at letters column tag a word id)
+account_parts letters column tag a word None h = rw (kept word h.word_is.no_blank, h.tag_of, h.no_name) refl
+account_parts letters column tag a word (Some id) h = rw (kept word h.word_is.no_blank, h.tag_of, h.no_name) refl
 
 -- the who of a name and an id
 name_again : (by : WhoField) (who : List ℕ) (place column : ℕ) (id : Option ℕ) → IsNameKept who
@@ -525,36 +528,36 @@ name_again source.Id who place column (Some id) h e =
     let i = id_again who id e in rw (h.same, i.0) (rw i.1 (ap (λ (n : List ℕ). Ok n) i.2))
 
 -- such an entry is read as the ACE
-account_again : (by : WhoField) (tag : NfsTag) (a : Ace) (word : List ℕ) (list : List Ace) (column : ℕ)
+account_again : (letters : LetterStyle) (by : WhoField) (tag : NfsTag) (a : Ace) (word : List ℕ) (list : List Ace) (column : ℕ)
     → IsAccountWord tag a.flags word → IsNameKept a.who → IsWithin 0x1f01ff a.mask → IsWho a.who
     → length list < most_aces → weight list + count_ones a.mask ≤ most_weight
-    → nfs_entry by list (part_at column (nfs_entry_text a)) ≡ Ok (as_nfs_written a)
-account_again by tag a word list column h kept_name within is room light =
+    → nfs_entry by list (part_at column (nfs_entry_text letters a)) ≡ Ok (as_nfs_written a)
+account_again letters by tag a word list column h kept_name within is room light =
     let id = id_of_digits a.who in
-    let fields = account_at column tag a word id in
-    let are : AreFieldsOf a fields =
-    record { rights = rights_kept a.mask; flags = flags_kept a.flags; kind = kind_kept a.kind } in
+    let fields = account_at letters column tag a word id in
+    let are : AreFieldsOf letters a fields =
+    record { rights = rights_kept letters a.mask; flags = flags_kept letters a.flags; kind = kind_kept a.kind } in
     let name : who_by_tag by fields (tag_special tag) ≡ Ok a.who =
     rw h.no_name (name_again by a.who (column + length word + 1) _ id kept_name refl) in
     let same : flags_by_tag tag (bit_and a.flags 0xbf) ≡ kept_flags a.who a.flags =
     h.flags_of ∙ rw kept_name.no_special refl in
-    let some : is_all_blank (nfs_entry_text a) ≡ false = ap is_all_blank (account_text tag a word h kept_name.no_word)
+    let some : is_all_blank (nfs_entry_text letters a) ≡ false = ap is_all_blank (account_text letters tag a word h kept_name.no_word)
     ∙ not_all_blank word _ h.word_is.no_blank h.word_is.some in
-    good_nfs_ace by list (part_at column (nfs_entry_text a)) fields (as_nfs_written a) some room
-    (fields_again column (nfs_entry_text a) _ (account_split tag a word h kept_name)
-    ∙ account_parts column tag a word id h)
-    (read_again by a fields are within name ∙ ap (λ (f : ℕ). Ok (ace_with a.kind f a.mask a.who)) same)
+    good_nfs_ace by list (part_at column (nfs_entry_text letters a)) fields (as_nfs_written a) some room
+    (fields_again column (nfs_entry_text letters a) _ (account_split letters tag a word h kept_name)
+    ∙ account_parts letters column tag a word id h)
+    (read_again letters by a fields are within name ∙ ap (λ (f : ℕ). Ok (ace_with a.kind f a.mask a.who)) same)
     ∙ ap (unless_refused (as_nfs_written a) fields.rights.column fields.who.column)
     (not_refused list (as_nfs_written a) room light is)
 
 -- ---- a text
 
 -- the bytes of an entry about a special identifier pass a test that all its pieces pass
-special_pass : (test : ℕ → Bool) (tag : NfsTag) (a : Ace) (word : List ℕ) → IsSpecialWord tag a.who word
-    → list_all test word ≡ true → test colon ≡ true → list_all test (rights_text a.mask) ≡ true
-    → list_all test (flags_text a.flags) ≡ true → list_all test (kind_word a.kind) ≡ true
-    → list_all test (nfs_entry_text a) ≡ true
-special_pass test tag a word h w c r f k = ap (list_all test) (special_text tag a word h)
+special_pass : (letters : LetterStyle) (test : ℕ → Bool) (tag : NfsTag) (a : Ace) (word : List ℕ) → IsSpecialWord tag a.who word
+    → list_all test word ≡ true → test colon ≡ true → list_all test (rights_text letters a.mask) ≡ true
+    → list_all test (flags_text letters a.flags) ≡ true → list_all test (kind_word a.kind) ≡ true
+    → list_all test (nfs_entry_text letters a) ≡ true
+special_pass letters test tag a word h w c r f k = ap (list_all test) (special_text letters tag a word h)
     ∙ simp (list_all-append {X = ℕ}) (rw (w, c, r, f, k) refl)
 
 -- the bytes of the id pass a test that those of the who pass
@@ -564,71 +567,36 @@ id_pass test who None c h = refl
 id_pass test who (Some id) c h = rw (c, h) refl
 
 -- the bytes of an entry about a user or a group pass a test that all its pieces pass
-account_pass : (test : ℕ → Bool) (tag : NfsTag) (a : Ace) (word : List ℕ) → IsAccountWord tag a.flags word
+account_pass : (letters : LetterStyle) (test : ℕ → Bool) (tag : NfsTag) (a : Ace) (word : List ℕ) → IsAccountWord tag a.flags word
     → special_word a.who ≡ None → list_all test word ≡ true → list_all test a.who ≡ true → test colon ≡ true
-    → list_all test (rights_text a.mask) ≡ true → list_all test (flags_text a.flags) ≡ true
-    → list_all test (kind_word a.kind) ≡ true → list_all test (nfs_entry_text a) ≡ true
-account_pass test tag a word h none w n c r f k = ap (list_all test) (account_text tag a word h none)
+    → list_all test (rights_text letters a.mask) ≡ true → list_all test (flags_text letters a.flags) ≡ true
+    → list_all test (kind_word a.kind) ≡ true → list_all test (nfs_entry_text letters a) ≡ true
+account_pass letters test tag a word h none w n c r f k = ap (list_all test) (account_text letters tag a word h none)
     ∙ simp (list_all-append {X = ℕ}) (rw (w, n, c, r, f, k, id_pass test a.who (id_of_digits a.who) c n) refl)
 
--- a byte that is inside an entry is no comma
-no_comma : (b : ℕ) → is_inside b ≡ true → not (b == comma) ≡ true
-no_comma b h = grind (arith, nat_tests, h)
-
--- bytes inside an entry that are not all blank are one item of their line
-line_again : (by : WhoField) (s : Span) → list_all is_inside s.bytes ≡ true → is_all_blank s.bytes ≡ false
-    → line_items (nfs_rules by) s ≡ Ok s ∷ []
-unfolding line_items cut_entries
-line_again by s inside some =
-    let mark = no_place (λ b. b == hash) s.bytes
-    (all_pass is_inside (λ b. not (b == hash)) s.bytes (λ b h. no_mark b h) inside) in
-    let whole = slice_split_none (λ b. b == comma) s.bytes
-    (all_not (λ b. b == comma) s.bytes
-    (all_pass is_inside (λ b. not (b == comma)) s.bytes (λ b h. no_comma b h) inside)) in
-    rw (mark, some, whole) refl where
-      no_mark : (b : ℕ) → is_inside b ≡ true → not (b == hash) ≡ true
-      no_mark b h = grind (arith, nat_tests, h)
-
--- an empty line has no items
-no_items : (by : WhoField) (column : ℕ) → line_items (nfs_rules by) (part_at column []) ≡ []
-unfolding line_items
-no_items by column = refl
-
--- an entry that is inside its line, with a word before it, is read again as its ACE
-read_line : (by : WhoField) (a : Ace) → list_all is_inside (nfs_entry_text a) ≡ true
-    → is_all_blank (nfs_entry_text a) ≡ false
-    → ((list : List Ace) (column : ℕ) → length list < most_aces → weight list + count_ones a.mask ≤ most_weight
-    → nfs_entry by list (part_at column (nfs_entry_text a)) ≡ Ok (as_nfs_written a))
-    → IsReadAgain (nfs_rules by) (nfs_entry_text a) (as_nfs_written a)
-read_line by a inside some again = record {
-  in_line = all_not (λ b. b == line_feed) (nfs_entry_text a)
-      (all_pass is_inside (λ b. not (b == line_feed)) (nfs_entry_text a)
-      (λ b i. (and_true (not (b == line_feed)) _ i).0) inside);
-  item = λ column. line_again by (part_at column (nfs_entry_text a)) inside some;
-  again = again;
+-- an entry about a special identifier is read again
+read_special : (letters : LetterStyle) (by : WhoField) (tag : NfsTag) (a : Ace) (word : List ℕ) → IsSpecialWord tag a.who word
+    → IsWithin 0x1f01ff a.mask → IsWho a.who → IsEntryAgain by (nfs_entry_text letters a) (as_nfs_written a)
+read_special letters by tag a word h within is = record {
+  inside = special_pass letters is_inside tag a word h h.word_is.inside refl
+      (styled_pass letters is_inside (nfs_right_letters []) a.mask refl refl)
+      (styled_pass letters is_inside (nfs_flag_letters []) a.flags refl refl) (kind_pass is_inside refl refl a.kind);
+  some = ap is_all_blank (special_text letters tag a word h) ∙ not_all_blank word _ h.word_is.no_blank h.word_is.some;
+  again = λ list column room light. special_again letters by tag a word list column h within is room light;
 }
 
--- an entry about a special identifier is read again
-read_special : (by : WhoField) (tag : NfsTag) (a : Ace) (word : List ℕ) → IsSpecialWord tag a.who word
-    → IsWithin 0x1f01ff a.mask → IsWho a.who → IsReadAgain (nfs_rules by) (nfs_entry_text a) (as_nfs_written a)
-read_special by tag a word h within is = read_line by a
-    (special_pass is_inside tag a word h h.word_is.inside refl
-    (letters_pass is_inside (nfs_right_letters []) a.mask refl)
-    (letters_pass is_inside (nfs_flag_letters []) a.flags refl) (kind_pass is_inside refl refl a.kind))
-    (ap is_all_blank (special_text tag a word h) ∙ not_all_blank word _ h.word_is.no_blank h.word_is.some)
-    (λ list column room light. special_again by tag a word list column h within is room light)
-
 -- an entry about a user or a group is read again
-read_account : (by : WhoField) (tag : NfsTag) (a : Ace) (word : List ℕ) → IsAccountWord tag a.flags word
+read_account : (letters : LetterStyle) (by : WhoField) (tag : NfsTag) (a : Ace) (word : List ℕ) → IsAccountWord tag a.flags word
     → IsNameKept a.who → IsWithin 0x1f01ff a.mask → IsWho a.who
-    → IsReadAgain (nfs_rules by) (nfs_entry_text a) (as_nfs_written a)
-read_account by tag a word h name within is = read_line by a
-    (account_pass is_inside tag a word h name.no_word h.word_is.inside name.inside refl
-    (letters_pass is_inside (nfs_right_letters []) a.mask refl)
-    (letters_pass is_inside (nfs_flag_letters []) a.flags refl) (kind_pass is_inside refl refl a.kind))
-    (ap is_all_blank (account_text tag a word h name.no_word)
-    ∙ not_all_blank word _ h.word_is.no_blank h.word_is.some)
-    (λ list column room light. account_again by tag a word list column h name within is room light)
+    → IsEntryAgain by (nfs_entry_text letters a) (as_nfs_written a)
+read_account letters by tag a word h name within is = record {
+  inside = account_pass letters is_inside tag a word h name.no_word h.word_is.inside name.inside refl
+      (styled_pass letters is_inside (nfs_right_letters []) a.mask refl refl)
+      (styled_pass letters is_inside (nfs_flag_letters []) a.flags refl refl) (kind_pass is_inside refl refl a.kind);
+  some = ap is_all_blank (account_text letters tag a word h name.no_word)
+      ∙ not_all_blank word _ h.word_is.no_blank h.word_is.some;
+  again = λ list column room light. account_again letters by tag a word list column h name within is room light;
+}
 
 -- if a negation is false, what is negated is true
 not_false : (b : Bool) → not b ≡ false → b ≡ true
@@ -659,52 +627,52 @@ who_cases C who on_owner on_group on_everyone on_none =
     ] refl
 
 -- an ACE that is held is read again
-read_ace : (by : WhoField) (a : Ace) → IsAce full a → nfs_ace_fault a ≡ None
-    → IsReadAgain (nfs_rules by) (nfs_entry_text a) (as_nfs_written a)
-read_ace by a is none =
+read_ace : (letters : LetterStyle) (by : WhoField) (a : Ace) → IsAce full a → nfs_ace_fault a ≡ None
+    → IsEntryAgain by (nfs_entry_text letters a) (as_nfs_written a)
+read_ace letters by a is none =
     let no = none_true (meets a.mask 0x600) (is_cut_who a.who) (is_id_cut (id_of_digits a.who)) none in
     let within = rights_within a.mask is.mask (apart_sets a.mask 0x600 no.0) in
     let apart = either_false (list_any is_separator a.who) (not (bytes_eq (trimmed a.who) a.who)) no.1 in
     let same : trimmed a.who ≡ a.who = bytes_eq_same (trimmed a.who) a.who (not_false _ apart.1) in
     let pass = who_pass a.who (plain_who a.who is.who) apart.0 in
-    who_cases (IsReadAgain (nfs_rules by) (nfs_entry_text a) (as_nfs_written a)) a.who
-    (λ e. read_special by Owner a (codes "owner@")
+    who_cases (IsEntryAgain by (nfs_entry_text letters a) (as_nfs_written a)) a.who
+    (λ e. read_special letters by Owner a (codes "owner@")
     (subst (λ (n : List ℕ). IsSpecialWord Owner n (codes "owner@")) (sym e) owner_word) within is.who)
-    (λ e. read_special by OwningGroup a (codes "group@")
+    (λ e. read_special letters by OwningGroup a (codes "group@")
     (subst (λ (n : List ℕ). IsSpecialWord OwningGroup n (codes "group@")) (sym e) group_word) within is.who)
-    (λ e. read_special by Everyone a (codes "everyone@")
+    (λ e. read_special letters by Everyone a (codes "everyone@")
     (subst (λ (n : List ℕ). IsSpecialWord Everyone n (codes "everyone@")) (sym e) everyone_word) within is.who)
     (λ o.
     let name : IsNameKept a.who =
     record { no_word = o.0; no_special = o.1; inside = pass.0; no_colon = pass.1; same = same } in
     elim (meets a.flags 0x40) as (λ t. meets a.flags 0x40 ≡ t
-    → IsReadAgain (nfs_rules by) (nfs_entry_text a) (as_nfs_written a)) [
+    → IsEntryAgain by (nfs_entry_text letters a) (as_nfs_written a)) [
       | true ↦ λ met.
-          read_account by NamedGroup a (codes "group") (group_flags a.flags is.flags met) name within is.who
+          read_account letters by NamedGroup a (codes "group") (group_flags a.flags is.flags met) name within is.who
       | false ↦ λ apart_flags.
-          read_account by NamedUser a (codes "user") (user_flags a.flags is.flags apart_flags) name within is.who
+          read_account letters by NamedUser a (codes "user") (user_flags a.flags is.flags apart_flags) name within is.who
     ] refl)
 
 -- each ACE of a list that is held is read again
-read_each : (by : WhoField) (list : List Ace) (place : ℕ) → AllByRecursion (IsAce full) list
+read_each : (letters : LetterStyle) (by : WhoField) (list : List Ace) (place : ℕ) → AllByRecursion (IsAce full) list
     → nfs_fault_from place list ≡ None
-    → AllByRecursion (λ a. IsReadAgain (nfs_rules by) (nfs_entry_text a) (as_nfs_written a)) list
-read_each by [] place each none = tt
-read_each by (a ∷ list) place each none =
+    → AllByRecursion (λ a. IsEntryAgain by (nfs_entry_text letters a) (as_nfs_written a)) list
+read_each letters by [] place each none = tt
+read_each letters by (a ∷ list) place each none =
     let no = no_fault place (nfs_ace_fault a) (nfs_fault_from (place + 1) list) none in
-    (read_ace by a each.0 no.0, read_each by list (place + 1) each.1 no.1)
+    (read_ace letters by a each.0 no.0, read_each letters by list (place + 1) each.1 no.1)
 
 -- a test of bytes that plain bytes pass
 abbrev is_no_zero : ℕ → Bool
 is_no_zero b = not (b == 0)
 
--- no byte of a line is zero
-line_no_nul : (a : Ace) → IsWho a.who → list_all is_no_zero (nfs_line a) ≡ true
+-- no byte of an entry is zero
+entry_no_nul : (letters : LetterStyle) (a : Ace) → IsWho a.who → list_all is_no_zero (nfs_entry_text letters a) ≡ true
 unfolding nfs_entry_text
-line_no_nul a is =
+entry_no_nul letters a is =
     let name = all_pass is_plain is_no_zero a.who (λ b h. no_zero b h) (plain_who a.who is) in
-    let rights = letters_pass is_no_zero (nfs_right_letters []) a.mask refl in
-    let flags = letters_pass is_no_zero (nfs_flag_letters []) a.flags refl in
+    let rights = styled_pass letters is_no_zero (nfs_right_letters []) a.mask refl refl in
+    let flags = styled_pass letters is_no_zero (nfs_flag_letters []) a.flags refl refl in
     let kind = kind_pass is_no_zero refl refl a.kind in
     let id = id_pass is_no_zero a.who (id_of_digits a.who) refl name in
     simp (list_all-append {X = ℕ}) (rw (principal a name, rights, flags, kind, id) refl) where
@@ -725,29 +693,33 @@ line_no_nul a is =
           (λ o. rw o.0 (list_all-append is_no_zero (account_word a.flags) (colon ∷ a.who)
           ∙ rw (word a.flags, name) refl))
 
--- no byte of the lines is zero
-lines_no_nul : (list : List Ace) → AllByRecursion (IsAce full) list
-    → AllByRecursion (λ a. list_all is_no_zero (nfs_line a) ≡ true) list
-lines_no_nul [] each = tt
-lines_no_nul (a ∷ list) each = (line_no_nul a each.0.who, lines_no_nul list each.1)
+-- no byte of the entries is zero
+entries_no_nul : (letters : LetterStyle) (list : List Ace) → AllByRecursion (IsAce full) list
+    → AllByRecursion (λ a. list_all is_no_zero (nfs_entry_text letters a) ≡ true) list
+entries_no_nul letters [] each = tt
+entries_no_nul letters (a ∷ list) each = (entry_no_nul letters a each.0.who, entries_no_nul letters list each.1)
 
 -- the text that is written for a list that the form holds spells the list as it is written
-nfs_written_spells : (by : WhoField) (list : List Ace) → IsAccepted full list → nfs_text_fault list ≡ None
-    → SpellsNfsText by (map as_nfs_written list) (nfs_text list)
-nfs_written_spells by list is none = record {
-  no_nul = no_place (λ b. b == 0) (nfs_text list) (no_nul nfs_line list (lines_no_nul list is.each));
-  each = each_again (nfs_rules by) nfs_entry_text as_nfs_written [] list 0 (no_items by) (λ x. refl)
-      (read_each by list 0 is.each none) (omega (arith, is.count)) (omega (arith, is.weight));
-  enough = omega arith;
-}
+nfs_written_spells : (by : WhoField) (style : Style) (list : List Ace) → IsAccepted full list
+    → nfs_text_fault list ≡ None → SpellsNfsText by (map as_nfs_written list) (nfs_text style list)
+nfs_written_spells by style list is none =
+    let entry = nfs_entry_text style.letters in
+    record {
+      no_nul = no_place (λ b. b == 0) (nfs_text style list)
+          (separated_pass is_no_zero refl refl style.separator entry list (entries_no_nul style.letters list is.each));
+      each = separated_again by style.separator entry as_nfs_written list (λ a. refl) (read_each style.letters by list 0 is.each none)
+          (omega (arith, is.count)) (omega (arith, is.weight));
+      enough = omega arith;
+    }
 
 -- the text that is written spells the list as it is written, and no other list
-pub nfs_written_reads_back : (by : WhoField) (list other : List Ace) → IsAccepted full list → nfs_text_fault list ≡ None
-    → SpellsNfsText by other (nfs_text list) ↔ (other ≡ map as_nfs_written list)
-nfs_written_reads_back by list other is none =
-    let again = nfs_written_spells by list is none in (
-      λ s. one_list (nfs_rules by) (nfs_text list) other (map as_nfs_written list) s again,
-      λ e. subst (λ (l : List Ace). SpellsNfsText by l (nfs_text list)) (sym e) again,
+pub nfs_written_reads_back : (by : WhoField) (style : Style) (list other : List Ace) → IsAccepted full list
+    → nfs_text_fault list ≡ None
+    → SpellsNfsText by other (nfs_text style list) ↔ (other ≡ map as_nfs_written list)
+nfs_written_reads_back by style list other is none =
+    let again = nfs_written_spells by style list is none in (
+      λ s. one_list (nfs_rules by) (nfs_text style list) other (map as_nfs_written list) s again,
+      λ e. subst (λ (l : List Ace). SpellsNfsText by l (nfs_text style list)) (sym e) again,
     )
 
 -- ---- what the form changes

@@ -11,8 +11,8 @@ digits_short who n e =
     let len = length-decimal-le 10 n (omega arith) (omega (arith, h.1)) (omega (arith, h.1)) in
     omega (arith, ap length h.0, len)
 
--- the pieces of a line, one after the other
-pub joined : (principal mask flags kind id : List ℕ) → (((((((principal ++ 0x3a ∷ []) ++ mask) ++ 0x3a ∷ []) ++ flags)
-    ++ 0x3a ∷ []) ++ kind) ++ id) ++ 0x0a ∷ []
-    ≡ (principal ++ 0x3a ∷ (mask ++ 0x3a ∷ (flags ++ 0x3a ∷ (kind ++ id)))) ++ 0x0a ∷ []
-joined principal mask flags kind id = simp append_assoc
+-- the pieces of an entry, one after the other
+pub joined : (old principal mask flags kind id : List ℕ) → (((((((old ++ principal) ++ 0x3a ∷ []) ++ mask)
+    ++ 0x3a ∷ []) ++ flags) ++ 0x3a ∷ []) ++ kind) ++ id
+    ≡ old ++ (principal ++ 0x3a ∷ (mask ++ 0x3a ∷ (flags ++ 0x3a ∷ (kind ++ id))))
+joined old principal mask flags kind id = simp append_assoc

@@ -5,7 +5,6 @@ use Rattle.std.proofs.lemmas.Bool.{le-ltb, lt-ltb}
 use Rattle.std.proofs.lemmas.Bool.Decides.{nat_tests}
 use Rattle.acl_perm.specs.Lines.{Span}
 use Rattle.acl_perm.specs.internal.Steps.{◌>>=◌}
-use Rattle.acl_nfs4.specs.Ace.{Ace}
 use Rattle.acl_forms.specs.ReadFaults.{read_fault_at, no_memory_left}
 use Rattle.acl_forms.specs.TextReading.{FailsAsRead, if_enough, read_items, text_read, unless_nul}
 use Rattle.acl_forms.specs.Texts.{AddEach, HasNoNul, item_read, items_in, IsFaultByRules, SpellsByRules, TextRules}
@@ -16,7 +15,7 @@ use Rattle.acl_forms.specs.declared.fault.ReadReason.TheVariants.{Empty}
 -- ---- items
 
 -- items are read one after the other
-pub read_append : (g : TextRules) (list : List Ace) (xs ys : List (Result Span ReadFault))
+pub read_append : {X : Type 0} (g : TextRules X) (list : List X) (xs ys : List (Result Span ReadFault))
     → read_items g list (xs ++ ys) ≡ (read_items g list xs >>= λ l. read_items g l ys)
 unfolding read_items
 read_append g list [] ys = refl
@@ -28,14 +27,14 @@ read_append g list (x ∷ xs) ys =
     ]
 
 -- items that add ACEs are read
-added : (g : TextRules) (list : List Ace) (items : List (Result Span ReadFault)) (all : List Ace)
+added : {X : Type 0} (g : TextRules X) (list : List X) (items : List (Result Span ReadFault)) (all : List X)
     → AddEach g list items all → read_items g list items ≡ Ok all
 unfolding read_items
 added g list [] all e = ap (λ l. Ok l) (sym e)
 added g list (item ∷ items) all each = rw each.1 (added g (list ++ each.0 ∷ []) items all each.2)
 
 -- items that are read add ACEs
-adds : (g : TextRules) (list : List Ace) (items : List (Result Span ReadFault)) (all : List Ace)
+adds : {X : Type 0} (g : TextRules X) (list : List X) (items : List (Result Span ReadFault)) (all : List X)
     → read_items g list items ≡ Ok all → AddEach g list items all
 unfolding read_items
 adds g list [] all e = cc
@@ -47,18 +46,18 @@ adds g list (item ∷ items) all e =
     ] refl e
 
 -- the first item with a fault
-record FirstWrong (g : TextRules) (list : List Ace) (items : List (Result Span ReadFault)) (fault : ReadFault) :
-    Type 0 where
+record FirstWrong {X : Type 0} (g : TextRules X) (list : List X) (items : List (Result Span ReadFault))
+    (fault : ReadFault) : Type 0 where
   pub before : List (Result Span ReadFault)
   pub item : Result Span ReadFault
   pub after : List (Result Span ReadFault)
-  pub all : List Ace
+  pub all : List X
   pub order : items ≡ before ++ item ∷ after
   pub each : AddEach g list before all
   pub wrong : item_read g all item ≡ Err fault
 
 -- a fault that is read is that of the first item with a fault
-first_wrong : (g : TextRules) (list : List Ace) (items : List (Result Span ReadFault)) (fault : ReadFault)
+first_wrong : {X : Type 0} (g : TextRules X) (list : List X) (items : List (Result Span ReadFault)) (fault : ReadFault)
     → read_items g list items ≡ Err fault → FirstWrong g list items fault
 unfolding read_items
 first_wrong g list [] fault e = absurd cc
@@ -89,12 +88,13 @@ first_wrong g list (item ∷ items) fault e =
 -- ---- texts
 
 -- what each answer says about a text
-abbrev pub TextSays : TextRules → List ℕ → Result (List Ace) ReadFault → Type 0
+abbrev pub TextSays : {X : Type 0} → TextRules X → List ℕ → Result (List X) ReadFault → Type 0
 TextSays g text (Ok list) = SpellsByRules g list text
 TextSays g text (Err fault) = IsFaultByRules g text fault
 
 -- what is answered for the list of a text is true of the text
-enough_says : (g : TextRules) (text : List ℕ) (list : List Ace) → HasNoNul text → AddEach g [] (items_in g text) list
+enough_says : {X : Type 0} (g : TextRules X) (text : List ℕ) (list : List X) → HasNoNul text
+    → AddEach g [] (items_in g text) list
     → TextSays g text (if_enough g text list)
 enough_says g text list none each =
     elim (nat_lt (length list) g.least) as (λ b. nat_lt (length list) g.least ≡ b
@@ -104,7 +104,7 @@ enough_says g text list none each =
     ] refl
 
 -- what is answered for the items of a text is true of the text
-items_say : (g : TextRules) (text : List ℕ) → HasNoNul text
+items_say : {X : Type 0} (g : TextRules X) (text : List ℕ) → HasNoNul text
     → TextSays g text (read_items g [] (items_in g text) >>= λ list. if_enough g text list)
 items_say g text none =
     elim (read_items g [] (items_in g text)) as (λ r. read_items g [] (items_in g text) ≡ r
@@ -116,16 +116,17 @@ items_say g text none =
     ] refl
 
 -- the answer of reading a text is true of the text
-text_says : (g : TextRules) (text : List ℕ) → TextSays g text (text_read g text)
+text_says : {X : Type 0} (g : TextRules X) (text : List ℕ) → TextSays g text (text_read g text)
 unfolding text_read
 text_says g text =
-    elim (position (λ b. b == 0) text) as (λ o. position (λ b. b == 0) text ≡ o → TextSays g text (unless_nul g text o)) [
+    elim (position (λ b. b == 0) text) as (λ o. position (λ b. b == 0) text ≡ o → TextSays g text (unless_nul g text
+    o)) [
       | None ↦ λ none. items_say g text none
       | Some place ↦ λ at. nul place at
     ] refl
 
 -- the fault of a text is read
-fault_read : (g : TextRules) (text : List ℕ) (fault : ReadFault) → IsFaultByRules g text fault
+fault_read : {X : Type 0} (g : TextRules X) (text : List ℕ) (fault : ReadFault) → IsFaultByRules g text fault
     → text_read g text ≡ Err fault
 unfolding text_read read_items
 fault_read g text _ (nul place at) = rw at refl
@@ -137,7 +138,7 @@ fault_read g text _ (few list none each less) =
     rw (none, added g [] (items_in g text) list each, lt-ltb (length list) g.least less) refl
 
 -- an answer that is true of a text is the answer of reading it
-answer_read : (g : TextRules) (text : List ℕ) (r : Result (List Ace) ReadFault) → TextSays g text r
+answer_read : {X : Type 0} (g : TextRules X) (text : List ℕ) (r : Result (List X) ReadFault) → TextSays g text r
     → text_read g text ≡ r
 unfolding text_read
 answer_read g text (Ok list) h =
@@ -147,32 +148,37 @@ answer_read g text (Err fault) h = fault_read g text fault h
 -- ---- what a call answers
 
 -- what a call that reads a text returns is what reading the text gives, or memory ran out
-abbrev pub Answered : TextRules → List ℕ → Result (List Ace) ReadFault → Type 0
+abbrev pub Answered : {X : Type 0} → TextRules X → List ℕ → Result (List X) ReadFault → Type 0
 Answered g text result = MatchResult result (λ list. text_read g text ≡ Ok list)
     (λ fault. FailsAsRead fault (text_read g text))
 
 -- if a list is read, the text spells it
-pub text_found : (g : TextRules) (text : List ℕ) (result : Result (List Ace) ReadFault) → Answered g text result
+pub text_found : {X : Type 0} (g : TextRules X) (text : List ℕ) (result : Result (List X) ReadFault)
+    → Answered g text result
     → IfOk result (λ list. SpellsByRules g list text)
 text_found g text (Ok list) h = subst (TextSays g text) h (text_says g text)
 text_found g text (Err fault) h = tt
 
 -- a text that is refused has the fault, or memory ran out
-pub text_refused : (g : TextRules) (text : List ℕ) (result : Result (List Ace) ReadFault) → Answered g text result
+pub text_refused : {X : Type 0} (g : TextRules X) (text : List ℕ) (result : Result (List X) ReadFault)
+    → Answered g text result
     → IfErr result (λ fault. (fault ≡ no_memory_left) ⊎ IsFaultByRules g text fault)
 text_refused g text (Ok list) h = tt
 text_refused g text (Err fault) (inl none) = inl none
 text_refused g text (Err fault) (inr read) = inr (subst (TextSays g text) read (text_says g text))
 
 -- the list that the text spells is returned, unless memory runs out
-pub only_list : (g : TextRules) (text : List ℕ) (result : Result (List Ace) ReadFault) → Answered g text result
-    → (list : List Ace) → SpellsByRules g list text → MatchResult result (λ read. read ≡ list) (λ fault. fault ≡ no_memory_left)
+pub only_list : {X : Type 0} (g : TextRules X) (text : List ℕ) (result : Result (List X) ReadFault)
+    → Answered g text result
+    → (list : List X) → SpellsByRules g list text
+    → MatchResult result (λ read. read ≡ list) (λ fault. fault ≡ no_memory_left)
 only_list g text (Ok read) h list is = let e = answer_read g text (Ok list) is in cc
 only_list g text (Err fault) (inl none) list is = none
 only_list g text (Err fault) (inr read) list is = let e = answer_read g text (Ok list) is in absurd cc
 
 -- a text with a fault is refused with that fault, unless memory runs out
-pub only_fault : (g : TextRules) (text : List ℕ) (result : Result (List Ace) ReadFault) → Answered g text result
+pub only_fault : {X : Type 0} (g : TextRules X) (text : List ℕ) (result : Result (List X) ReadFault)
+    → Answered g text result
     → (wrong : ReadFault) → IsFaultByRules g text wrong
     → MatchResult result (λ _. ⊥) (λ fault. (fault ≡ no_memory_left) ⊎ (fault ≡ wrong))
 only_fault g text (Ok read) h wrong is = let e = answer_read g text (Err wrong) is in cc
@@ -182,19 +188,21 @@ only_fault g text (Err fault) (inr read) wrong is = inr (let e = answer_read g t
 -- ---- texts
 
 -- a text spells at most one list
-pub one_list : (g : TextRules) (text : List ℕ) (one two : List Ace) → SpellsByRules g one text → SpellsByRules g two text
+pub one_list : {X : Type 0} (g : TextRules X) (text : List ℕ) (one two : List X) → SpellsByRules g one text
+    → SpellsByRules g two text
     → one ≡ two
 one_list g text one two h k =
     let e = answer_read g text (Ok one) h in let f = answer_read g text (Ok two) k in cc
 
 -- a text has at most one fault
-pub one_fault : (g : TextRules) (text : List ℕ) (one two : ReadFault) → IsFaultByRules g text one
+pub one_fault : {X : Type 0} (g : TextRules X) (text : List ℕ) (one two : ReadFault) → IsFaultByRules g text one
     → IsFaultByRules g text two → one ≡ two
 one_fault g text one two h k =
     let e = answer_read g text (Err one) h in let f = answer_read g text (Err two) k in cc
 
 -- a text that spells a list has no fault
-pub no_fault : (g : TextRules) (text : List ℕ) (list : List Ace) (fault : ReadFault) → SpellsByRules g list text
+pub no_fault : {X : Type 0} (g : TextRules X) (text : List ℕ) (list : List X) (fault : ReadFault)
+    → SpellsByRules g list text
     → IsFaultByRules g text fault → ⊥
 no_fault g text list fault h k =
     let e = answer_read g text (Ok list) h in let f = answer_read g text (Err fault) k in cc

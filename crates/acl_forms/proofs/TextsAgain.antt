@@ -20,7 +20,7 @@ abbrev pub part_at : ℕ → List ℕ → Span
 part_at column bytes = record { column = column; bytes = bytes }
 
 -- a line is one entry, which is read as an ACE wherever the line is
-pub record IsReadAgain (rules : TextRules) (text : List ℕ) (a : Ace) : Type 0 where
+pub record IsReadAgain (rules : TextRules Ace) (text : List ℕ) (a : Ace) : Type 0 where
   pub in_line : All (λ b. (b == line_feed) ≡ false) text
   pub item : (column : ℕ) → line_items rules (part_at column text) ≡ Ok (part_at column text) ∷ []
   pub again : (list : List Ace) (column : ℕ) → length list < most_aces → weight list + count_ones a.mask ≤ most_weight
@@ -31,12 +31,12 @@ abbrev pub line_by : (Ace → List ℕ) → Ace → List ℕ
 line_by entry a = entry a ++ line_feed ∷ []
 
 -- the items of the lines of ACEs, from a place on
-abbrev pub items_from : TextRules → (Ace → List ℕ) → ℕ → List Ace → List (Result Span ReadFault)
+abbrev pub items_from : TextRules Ace → (Ace → List ℕ) → ℕ → List Ace → List (Result Span ReadFault)
 items_from rules entry column list =
     flat_map (line_items rules) (cut_at line_feed (part_at column (flat_map (line_by entry) list)))
 
 -- the items of a written text are its first entry, and the items of the rest
-items_again : (rules : TextRules) (entry : Ace → List ℕ) (column : ℕ) (a b : Ace) (list : List Ace)
+items_again : (rules : TextRules Ace) (entry : Ace → List ℕ) (column : ℕ) (a b : Ace) (list : List Ace)
     → IsReadAgain rules (entry a) b
     → items_from rules entry column (a ∷ list)
     ≡ Ok (part_at column (entry a)) ∷ items_from rules entry (column + length (entry a) + 1) list
@@ -55,7 +55,8 @@ items_again rules entry column a b list h =
     ++ items_from rules entry (column + length bytes + 1) list) (h.item column)
 
 -- what is written is read again, entry by entry
-pub each_again : (rules : TextRules) (entry : Ace → List ℕ) (written : Ace → Ace) (list more : List Ace) (column : ℕ)
+pub each_again : (rules : TextRules Ace) (entry : Ace → List ℕ) (written : Ace
+    → Ace) (list more : List Ace) (column : ℕ)
     → ((c : ℕ) → line_items rules (part_at c []) ≡ []) → ((a : Ace) → (written a).mask ≡ a.mask)
     → AllByRecursion (λ a. IsReadAgain rules (entry a) (written a)) more
     → length list + length more ≤ most_aces → weight list + weight more ≤ most_weight

@@ -96,7 +96,7 @@ not_decimal n c cs h big e =
     omega (arith, digit_from_value c (subst (AllDigits 10) e (decimal_is_IsNumeral n (omega arith)).0.1).0)
 
 -- names that differ do not pass the test of equality
-bytes_eq-unequal : (xs ys : List ℕ) → (xs ≡ ys → ⊥) → bytes_eq xs ys ≡ false
+pub bytes_eq-unequal : (xs ys : List ℕ) → (xs ≡ ys → ⊥) → bytes_eq xs ys ≡ false
 bytes_eq-unequal xs ys differ = elim (bytes_eq xs ys) as (λ b. bytes_eq xs ys ≡ b → b ≡ false) [
   | true ↦ λ h. absurd (differ ((bytes_eq-Decides xs ys).0 h))
   | false ↦ λ h. refl

@@ -18,7 +18,7 @@ use Rattle.acl_forms.specs.declared.fault.ReadReason.{ReadReason}
 use Rattle.acl_forms.specs.declared.fault.ReadReason.TheVariants as reason
 
 -- the first bytes of a list of bytes are bytes
-IsBytes-take : (n : ℕ) (bytes : List ℕ) → IsBytes bytes → IsBytes (take n bytes)
+pub IsBytes-take : (n : ℕ) (bytes : List ℕ) → IsBytes bytes → IsBytes (take n bytes)
 IsBytes-take n bytes h i =
     elim (cases_lt i n) [
       | inl lt ↦ rw (get_or-take n bytes i 0 lt) (h i)
@@ -38,7 +38,7 @@ pub bind-ok : {A B E : Type 0} {r : Result A E} (f : A → Result B E) {x : A} �
 bind-ok {A = A} {E = E} f e = ap (λ (s : Result A E). s >>= f) e
 
 -- if a test did not refuse, it was false, and the value is that of the other branch
-guard_ok : {A E : Type 0} (b : Bool) (d : E) (r : Result A E) (y : A) → cond b (Err d) r ≡ Ok y
+pub guard_ok : {A E : Type 0} (b : Bool) (d : E) (r : Result A E) (y : A) → cond b (Err d) r ≡ Ok y
     → (b ≡ false) × (r ≡ Ok y)
 guard_ok true d r y e = absurd cc
 guard_ok false d r y e = (refl, e)
@@ -60,6 +60,7 @@ place_at n rest = record { at = n; rest = rest }
 -- what reading took from the front
 pub record Takes (p : WordPlace) (text : List ℕ) (q : WordPlace) : Type 0 where
   pub parts : p.rest ≡ text ++ q.rest
+  pub counted : q.at ≡ p.at + length text
   pub bytes : IsBytes q.rest
 
 -- what two steps took
@@ -67,6 +68,7 @@ pub Takes-then : {p : WordPlace} {x : List ℕ} {q : WordPlace} {y : List ℕ} {
     → Takes p (x ++ y) r
 Takes-then {x = x} {y = y} {r = r} s t = record {
   parts = s.parts ∙ ap (λ (z : List ℕ). x ++ z) t.parts ∙ sym (append_assoc x y r.rest);
+  counted = omega (arith, s.counted, t.counted, length-append x y);
   bytes = t.bytes;
 }
 
@@ -96,7 +98,11 @@ word_takes means p x fits e =
     let b = IsBytes-take 4 p.rest fits in
     let front : word (number (take 4 p.rest)) ≡ take 4 p.rest = be_bytes_4 (take 4 p.rest) _ len b refl in
     let made : Takes p (take 4 p.rest) (place_at (p.at + 4) (drop 4 p.rest)) =
-    record { parts = sym (take-append-drop 4 p.rest); bytes = IsBytes-drop 4 p.rest fits } in
+    record {
+      parts = sym (take-append-drop 4 p.rest);
+      counted = omega (arith, len);
+      bytes = IsBytes-drop 4 p.rest fits;
+    } in
     let whole : Takes p (take 4 p.rest) x.1 = subst (λ (q : WordPlace). Takes p (take 4 p.rest) q) j.1 made in
     record {
       number = number (take 4 p.rest);

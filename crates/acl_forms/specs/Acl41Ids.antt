@@ -108,7 +108,7 @@ id_aces_from (suc n) list at = do
   id_aces_from n (list ++ first.0 ∷ []) first.1
 
 -- the flags and the list, if no byte is left
-abbrev pub nothing_after : ℕ → List Ace × WordPlace → Result (ℕ × List Ace) ReadFault
+abbrev pub nothing_after : {A : Type 0} → ℕ → A × WordPlace → Result (ℕ × A) ReadFault
 nothing_after flags (list, at) = if length at.rest == 0 then Ok (flags, list)
     else Err (read_fault_at at.at (reason.List TrailingBytes))
 

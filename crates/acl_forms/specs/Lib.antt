@@ -4,6 +4,8 @@ pub mod Words
 pub mod FormWrites
 pub mod Acl41
 pub mod Acl41Ids
+pub mod Part
+pub mod PartWords
 pub mod Attributes
 pub mod internal
 pub mod Letters
@@ -12,7 +14,12 @@ pub mod ToolsText
 pub mod ToolsRules
 pub mod NfsText
 pub mod NfsRules
+pub mod PosixText
+pub mod PosixRules
 pub mod TextReading
 pub mod ToolsWritten
 pub mod NfsWritten
+pub mod PosixWritten
 pub mod Forms
+pub mod Ids
+pub mod PartForms

@@ -10,7 +10,7 @@ use Rattle.acl_forms.specs.declared.fault.ReadFault.{ReadFault}
 use Rattle.acl_forms.specs.declared.who_field.WhoField.{WhoField}
 
 -- a comma ends an entry; blank lines are passed over; a text may have no ACE
-abbrev pub nfs_rules : WhoField → TextRules
+abbrev pub nfs_rules : WhoField → TextRules Ace
 nfs_rules source = record {
   ends_entry = λ b. b == comma;
   is_cut_short = λ len. false;

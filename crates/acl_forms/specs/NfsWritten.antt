@@ -1,10 +1,10 @@
--- The text of a list as libarchive prints it in the compact style and with ids, but with a line feed after each entry
--- (archive_acl_to_text in the source of libarchive 3.6.2), and the lists that this text cannot hold, with the reason
--- for each.
-use Rattle.std.specs.Prelude.{◌≡◌, ◌||◌, ◌+◌, ℕ, Bool, false, not, List, [], ◌∷◌, ◌++◌, codes, nat_lt, bit_and, Option, None, Some, if◌then◌else◌}
+-- The text of a list as libarchive prints it with ids, in four styles, but with a line feed after the last entry too
+-- where no comma separates the entries (archive_acl_to_text in the source of libarchive 3.6.2), and the lists that this
+-- text cannot hold, with the reason for each.
+use Rattle.std.specs.Prelude.{◌≡◌, ◌||◌, ◌+◌, ℕ, Bool, false, not, List, [], ◌∷◌, ◌++◌, codes, map, nat_lt, bit_and, ◌==◌, Option, None, Some, if◌then◌else◌}
 use Rattle.std.specs.List.{flat_map, list_any}
 use Rattle.std.specs.Str.{bytes_eq}
-use Rattle.acl_perm.specs.Ascii.{colon, line_feed}
+use Rattle.acl_perm.specs.Ascii.{colon, comma, hyphen, line_feed}
 use Rattle.acl_perm.specs.Bits.{identifier_group_alone}
 use Rattle.acl_perm.specs.Lines.{trimmed}
 use Rattle.acl_perm.specs.declared.kind.Kind.{Kind}
@@ -17,8 +17,23 @@ use Rattle.acl_forms.specs.ToolsWritten.{fault_or, is_separator, letters_of, mee
 use Rattle.acl_forms.specs.declared.fault.FormFault.{FormFault}
 use Rattle.acl_forms.specs.declared.fault.FormReason.{FormReason}
 use Rattle.acl_forms.specs.declared.fault.FormReason.TheVariants.{Id, Retention, Separator}
+use Rattle.acl_forms.specs.declared.letters.Letter.{Letter}
+use Rattle.acl_forms.specs.declared.style.EntrySeparator.{EntrySeparator}
+use Rattle.acl_forms.specs.declared.style.EntrySeparator.TheVariants.{Commas, LineFeeds}
+use Rattle.acl_forms.specs.declared.style.LetterStyle.{LetterStyle}
+use Rattle.acl_forms.specs.declared.style.LetterStyle.TheVariants.{Compact, Full}
+use Rattle.acl_forms.specs.declared.style.Style.{Style}
 
 -- ---- the text
+
+-- the letter of a row, or a hyphen if a set does not have its bits
+abbrev pub letter_or_hyphen : ℕ → Letter → ℕ
+letter_or_hyphen set row = if bit_and set row.bits == row.bits then row.letter else hyphen
+
+-- the letters of the rows whose bits a set has, alone or with a hyphen for each other row
+abbrev pub styled_letters : LetterStyle → List Letter → ℕ → List ℕ
+styled_letters Compact table set = letters_of table set
+styled_letters Full table set = map (letter_or_hyphen set) table
 
 -- the word of a special identifier
 abbrev pub special_word : List ℕ → Option (List ℕ)
@@ -46,18 +61,21 @@ id_after who None = []
 id_after who (Some id) = colon ∷ who
 
 -- the entry of an ACE; no special identifier is digits
-unfoldable pub nfs_entry_text : Ace → List ℕ
-nfs_entry_text a = principal_text a (special_word a.who) ++ colon ∷ (letters_of (nfs_right_letters []) a.mask
-    ++ colon ∷ (letters_of (nfs_flag_letters []) a.flags
+unfoldable pub nfs_entry_text : LetterStyle → Ace → List ℕ
+nfs_entry_text letters a = principal_text a (special_word a.who)
+    ++ colon ∷ (styled_letters letters (nfs_right_letters []) a.mask
+    ++ colon ∷ (styled_letters letters (nfs_flag_letters []) a.flags
     ++ colon ∷ (kind_word a.kind ++ id_after a.who (id_of_digits a.who))))
 
--- the line of an ACE
-abbrev pub nfs_line : Ace → List ℕ
-nfs_line a = nfs_entry_text a ++ line_feed ∷ []
+-- the entries of ACEs in order: with a line feed after each, or with a comma between two of them
+abbrev pub separated : EntrySeparator → (Ace → List ℕ) → List Ace → List ℕ
+separated LineFeeds entry list = flat_map (λ a. entry a ++ line_feed ∷ []) list
+separated Commas entry [] = []
+separated Commas entry (a ∷ list) = entry a ++ flat_map (λ b. comma ∷ entry b) list
 
--- the lines of the ACEs in order
-abbrev pub nfs_text : List Ace → List ℕ
-nfs_text list = flat_map nfs_line list
+-- the text of a list in a style
+abbrev pub nfs_text : Style → List Ace → List ℕ
+nfs_text style list = separated style.separator (nfs_entry_text style.letters) list
 
 -- the flags that are written: not IDENTIFIER_GROUP of a special identifier, where the flag has no effect
 abbrev pub kept_flags : List ℕ → ℕ → ℕ

@@ -12,14 +12,14 @@ use Rattle.acl_forms.specs.ToolsRules.{tools_rules}
 use Rattle.acl_forms.specs.ToolsText.{Fields}
 use Rattle.acl_forms.specs.declared.fault.ReadFault.{ReadFault}
 use Rattle.acl_forms.specs.declared.fault.ReadReason.TheVariants.{Empty, Nul}
-use Rattle.acl_forms.specs.declared.text_form.TextForm.{TextForm}
-use Rattle.acl_forms.specs.declared.text_form.TextForm.TheVariants.{Nfs, Tools}
+use Rattle.acl_forms.specs.declared.ace_text.AceText.{AceText}
+use Rattle.acl_forms.specs.declared.ace_text.AceText.TheVariants.{Nfs, Tools}
 use Rattle.acl_forms.specs.declared.tools.entry.EntryFields.{EntryFields}
 
--- the rules of a form
-abbrev pub rules_of : TextForm → TextRules
-rules_of (Tools object) = tools_rules object
-rules_of (Nfs source) = nfs_rules source
+-- the rules of a form of NFSv4 texts
+abbrev pub ace_rules : AceText → TextRules Ace
+ace_rules (Tools object) = tools_rules object
+ace_rules (Nfs source) = nfs_rules source
 
 -- the columns of what is left, if something is, are counts
 abbrev pub RestFits : Option Piece → Type 0
@@ -27,38 +27,39 @@ RestFits None = Unit {0}
 RestFits (Some p) = ColumnsFit p
 
 -- the first part, and the rest after the byte that ends it
-pub record IsEntryRest (rules : TextRules) (whole first rest : Span) : Type 0 where
+pub record IsEntryRest {X : Type 0} (rules : TextRules X) (whole first rest : Span) : Type 0 where
   pub parts : cut_entries rules whole ≡ first ∷ cut_entries rules rest
   pub shorter : length rest.bytes < length whole.bytes
   pub first_fits : first.column + length first.bytes ≤ whole.column + length whole.bytes
   pub rest_fits : rest.column + length rest.bytes ≤ whole.column + length whole.bytes
 
 -- the first part, and the rest after the byte that ends it if there is one
-abbrev pub IsEntryCut : TextRules → Span → Piece × Option Piece → Type 0
+abbrev pub IsEntryCut : {X : Type 0} → TextRules X → Span → Piece × Option Piece → Type 0
 IsEntryCut rules whole (first, None) =
     (cut_entries rules whole ≡ span_of first ∷ []) × (span_of first ≡ whole)
 IsEntryCut rules whole (first, Some rest) = IsEntryRest rules whole (span_of first) (span_of rest)
 
--- the ACEs of items after a list, or the first fault
-unfoldable pub read_items : TextRules → List Ace → List (Result Span ReadFault) → Result (List Ace) ReadFault
+-- a list with what items spell, or the first fault
+unfoldable pub read_items : {X : Type 0} → TextRules X → List X → List (Result Span ReadFault)
+    → Result (List X) ReadFault
 read_items rules list [] = Ok list
 read_items rules list (item ∷ items) = do
-  a ← item_read rules list item
-  read_items rules (list ++ a ∷ []) items
+  x ← item_read rules list item
+  read_items rules (list ++ x ∷ []) items
 
--- a list of a text, which must have enough ACEs
-abbrev pub if_enough : TextRules → List ℕ → List Ace → Result (List Ace) ReadFault
+-- the list of a text, which must have enough entries
+abbrev pub if_enough : {X : Type 0} → TextRules X → List ℕ → List X → Result (List X) ReadFault
 if_enough rules text list =
     if nat_lt (length list) rules.least then Err (read_fault_at (length text) Empty) else Ok list
 
 -- the list of a text whose first zero byte is here, or its first fault
-abbrev pub unless_nul : TextRules → List ℕ → Option ℕ → Result (List Ace) ReadFault
+abbrev pub unless_nul : {X : Type 0} → TextRules X → List ℕ → Option ℕ → Result (List X) ReadFault
 unless_nul rules text None =
     read_items rules [] (items_in rules text) >>= λ list. if_enough rules text list
 unless_nul rules text (Some place) = Err (read_fault_at place Nul)
 
 -- the list of a text, or its first fault
-unfoldable pub text_read : TextRules → List ℕ → Result (List Ace) ReadFault
+unfoldable pub text_read : {X : Type 0} → TextRules X → List ℕ → Result (List X) ReadFault
 text_read rules text = unless_nul rules text (position (λ b. b == 0) text)
 
 -- the fault of the code is the fault that is reported, or memory ran out
@@ -66,18 +67,18 @@ abbrev pub FailsAsRead : {Y : Type 0} → ReadFault → Result Y ReadFault → T
 FailsAsRead fault read = (fault ≡ no_memory_left) ⊎ (read ≡ Err fault)
 
 -- the result of adding items to a list
-abbrev pub AddsItems : TextRules → List (Result Span ReadFault) → List Ace → List Ace → Result (Unit {0}) ReadFault
-    → Type 0
+abbrev pub AddsItems : {X : Type 0} → TextRules X → List (Result Span ReadFault) → List X → List X
+    → Result (Unit {0}) ReadFault → Type 0
 AddsItems rules items old new result = MatchResult result (λ _. read_items rules old items ≡ Ok new)
     (λ fault. FailsAsRead fault (read_items rules old items))
 
 -- the items of one part of a line
-abbrev pub part_items : TextRules → Span → List (Result Span ReadFault)
+abbrev pub part_items : {X : Type 0} → TextRules X → Span → List (Result Span ReadFault)
 part_items rules part = if rules.is_part_skipped part.bytes then [] else items_of (part ∷ [])
 
--- the result of adding the ACE that is read
-abbrev pub AddsOne : Result Ace ReadFault → List Ace → List Ace → Result (Unit {0}) ReadFault → Type 0
-AddsOne read old new (Ok _) = (a : Ace) × (read ≡ Ok a) × (new ≡ old ++ a ∷ [])
+-- the result of adding what is read
+abbrev pub AddsOne : {X : Type 0} → Result X ReadFault → List X → List X → Result (Unit {0}) ReadFault → Type 0
+AddsOne {X} read old new (Ok _) = (x : X) × (read ≡ Ok x) × (new ≡ old ++ x ∷ [])
 AddsOne read old new (Err fault) = FailsAsRead fault read
 
 -- the answer of a test is the fault for which it looks

@@ -6,35 +6,34 @@ use Rattle.std.specs.List.{flat_map, slice_split}
 use Rattle.acl_perm.specs.Ascii.{hash, line_feed}
 use Rattle.acl_perm.specs.Lines.{Span, cut_at, spans}
 use Rattle.acl_perm.specs.internal.Steps.{◌>>=◌}
-use Rattle.acl_nfs4.specs.Ace.{Ace}
 use Rattle.acl_forms.specs.ReadFaults.{read_fault_at}
 use Rattle.acl_forms.specs.declared.fault.ReadFault.{ReadFault}
 use Rattle.acl_forms.specs.declared.fault.ReadReason.TheVariants.{Comment, Empty, Nul, TooLong}
 
 -- what a form says of its lines and entries: which bytes end an entry within its line; how long a line with a comment
 -- is if readers do not read it whole; which lines, without their comments, have no entry, and which of their parts are
--- no entries; the ACE that an entry spells as the next one of a list, or the entry's first fault; and how many ACEs a
--- text must have
-pub record TextRules : Type 0 where
+-- no entries; what an entry spells as the next one of a list, or the entry's first fault; and how many entries a text
+-- must have. A list has ACEs or entries of POSIX ACLs
+pub record TextRules (X : Type 0) : Type 0 where
   pub ends_entry : ℕ → Bool
   pub is_cut_short : ℕ → Bool
   pub is_line_skipped : List ℕ → Bool
   pub is_part_skipped : List ℕ → Bool
-  pub entry : List Ace → Span → Result Ace ReadFault
+  pub entry : List X → Span → Result X ReadFault
   pub least : ℕ
 
 -- ---- the parts of a text; here a column counts the bytes of the text before it
 
 -- the parts between the bytes that end an entry
-unfoldable pub cut_entries : TextRules → Span → List Span
+unfoldable pub cut_entries : {X : Type 0} → TextRules X → Span → List Span
 cut_entries rules span = spans span.column (slice_split rules.ends_entry span.bytes)
 
 -- the parts that are entries
-abbrev pub entries_among : TextRules → List Span → List Span
+abbrev pub entries_among : {X : Type 0} → TextRules X → List Span → List Span
 entries_among rules parts = filter (λ part. not (rules.is_part_skipped part.bytes)) parts
 
 -- the entries of a line without its comment
-abbrev pub entries_of : TextRules → Span → List Span
+abbrev pub entries_of : {X : Type 0} → TextRules X → Span → List Span
 entries_of rules line = if rules.is_line_skipped line.bytes then [] else entries_among rules (cut_entries rules line)
 
 -- entries as the items of a line
@@ -47,7 +46,7 @@ end_fault at None = None
 end_fault at (Some place) = Some (read_fault_at (at + place) Comment)
 
 -- the fault of a comment, which begins at this place of a line
-unfoldable pub comment_fault : TextRules → Span → ℕ → Option ReadFault
+unfoldable pub comment_fault : {X : Type 0} → TextRules X → Span → ℕ → Option ReadFault
 comment_fault rules line place = if rules.is_cut_short (length line.bytes)
     then Some (read_fault_at (line.column + place) TooLong)
     else end_fault (line.column + place) (position rules.ends_entry (drop place line.bytes))
@@ -58,13 +57,13 @@ unless_fault None items = items
 unless_fault (Some fault) items = Err fault ∷ []
 
 -- the items of a line whose comment begins at this place, if it has one
-abbrev pub items_before : TextRules → Span → Option ℕ → List (Result Span ReadFault)
+abbrev pub items_before : {X : Type 0} → TextRules X → Span → Option ℕ → List (Result Span ReadFault)
 items_before rules line None = items_of (entries_of rules line)
 items_before rules line (Some place) = unless_fault (comment_fault rules line place)
     (items_of (entries_of rules (record { column = line.column; bytes = take place line.bytes })))
 
 -- the items of a line: its entries, or the fault of its comment
-unfoldable pub line_items : TextRules → Span → List (Result Span ReadFault)
+unfoldable pub line_items : {X : Type 0} → TextRules X → Span → List (Result Span ReadFault)
 line_items rules line = items_before rules line (position (λ b. b == hash) line.bytes)
 
 -- the whole text, at its place
@@ -72,38 +71,38 @@ abbrev pub whole_text : List ℕ → Span
 whole_text text = record { column = 0; bytes = text }
 
 -- the items of a text: those of its lines
-abbrev pub items_in : TextRules → List ℕ → List (Result Span ReadFault)
+abbrev pub items_in : {X : Type 0} → TextRules X → List ℕ → List (Result Span ReadFault)
 items_in rules text = flat_map (line_items rules) (cut_at line_feed (whole_text text))
 
 -- ---- what items spell
 
--- the ACE that an item spells as the next one of a list, or its first fault
-abbrev pub item_read : TextRules → List Ace → Result Span ReadFault → Result Ace ReadFault
+-- what an item spells as the next one of a list, or its first fault
+abbrev pub item_read : {X : Type 0} → TextRules X → List X → Result Span ReadFault → Result X ReadFault
 item_read rules list item = item >>= λ entry. rules.entry list entry
 
--- items add ACEs to a list: each spells the next one
-abbrev pub AddEach : TextRules → List Ace → List (Result Span ReadFault) → List Ace → Type 0
+-- items add to a list: each spells the next one of the list
+abbrev pub AddEach : {X : Type 0} → TextRules X → List X → List (Result Span ReadFault) → List X → Type 0
 AddEach rules list [] all = all ≡ list
-AddEach rules list (item ∷ items) all =
-    (a : Ace) × (item_read rules list item ≡ Ok a) × AddEach rules (list ++ a ∷ []) items all
+AddEach {X} rules list (item ∷ items) all =
+    (x : X) × (item_read rules list item ≡ Ok x) × AddEach rules (list ++ x ∷ []) items all
 
 -- a text has no zero byte
 abbrev pub HasNoNul : List ℕ → Type 0
 HasNoNul text = position (λ b. b == 0) text ≡ None
 
 -- a text spells a list
-pub record SpellsByRules (rules : TextRules) (list : List Ace) (text : List ℕ) : Type 0 where
+pub record SpellsByRules {X : Type 0} (rules : TextRules X) (list : List X) (text : List ℕ) : Type 0 where
   pub no_nul : HasNoNul text
   pub each : AddEach rules [] (items_in rules text) list
   pub enough : rules.least ≤ length list
 
--- the first fault of a text: its first zero byte; or the fault of an item, after items that spell ACEs; or that it has
--- too few ACEs
-pub data IsFaultByRules (rules : TextRules) (text : List ℕ) : ReadFault → Type 0 where
+-- the first fault of a text: its first zero byte; or the fault of an item, after items that add to a list; or that it
+-- has too few entries
+pub data IsFaultByRules {X : Type 0} (rules : TextRules X) (text : List ℕ) : ReadFault → Type 0 where
   nul : (place : ℕ) → position (λ b. b == 0) text ≡ Some place
       → IsFaultByRules rules text (read_fault_at place Nul)
-  of_item : (before after : List (Result Span ReadFault)) (item : Result Span ReadFault) (list : List Ace)
+  of_item : (before after : List (Result Span ReadFault)) (item : Result Span ReadFault) (list : List X)
       (fault : ReadFault) → HasNoNul text → items_in rules text ≡ before ++ item ∷ after
       → AddEach rules [] before list → item_read rules list item ≡ Err fault → IsFaultByRules rules text fault
-  few : (list : List Ace) → HasNoNul text → AddEach rules [] (items_in rules text) list → length list < rules.least
+  few : (list : List X) → HasNoNul text → AddEach rules [] (items_in rules text) list → length list < rules.least
       → IsFaultByRules rules text (read_fault_at (length text) Empty)

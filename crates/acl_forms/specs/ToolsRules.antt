@@ -21,7 +21,7 @@ abbrev pub longest_line : ℕ
 longest_line = 409
 
 -- a comma, a tab or a carriage return ends an entry; nothing is passed over but empty parts; a text has an ACE
-abbrev pub tools_rules : ObjectKind → TextRules
+abbrev pub tools_rules : ObjectKind → TextRules Ace
 tools_rules object = record {
   ends_entry = is_break;
   is_cut_short = λ len. nat_lt longest_line len;

@@ -4,9 +4,17 @@
 pub mod Cursor
 -- an ACE whose who is a special identifier or an id
 pub mod IdAces
+-- ACEs of any type while they are read
+pub mod AnyAces
 -- entries of an attribute while they are read and written
 pub mod AttributeEntries
 -- the fields of an entry of a text of FreeBSD, ZFS and archives
 pub mod NfsReading
+-- the fields and the entries of a text of a POSIX ACL
+pub mod PosixReading
+-- how the text of a POSIX ACL is written, pass by pass
+pub mod PosixWriting
+-- the rows of a table of names and ids
+pub mod IdEntries
 -- how a text of entries is written
 pub mod TextWriting

@@ -6,7 +6,7 @@ ghost use Rattle.acl_nfs4.specs.Fields.{count_of, flags_of, kind_of, mask_of};
 ghost use Rattle.acl_nfs4.specs.Limits.{most_aces, most_weight};
 ghost use Rattle.acl_nfs4.specs.Spelling.{IsAccepted, weight};
 ghost use Rattle.acl_nfs4.specs.internal.Reading.{Gives};
-ghost use Rattle.acl_forms.specs.Acl41Ids.{IsAcl41Ids, IsAcl41IdsFault, acl41_ids_in, id_ace_at, id_aces_from, listed, special_of, special_who, id_who_of};
+ghost use Rattle.acl_forms.specs.Acl41Ids.{IsAcl41Ids, IsAcl41IdsFault, acl41_ids_in, id_ace_at, id_aces_from, id_who, id_who_of, listed, special_of, special_who};
 ghost use Rattle.acl_forms.specs.ReadFaults.{no_memory_left};
 ghost use Rattle.acl_forms.specs.Words.{ReadsForm, RefusesForm, word_at};
 ghost use Rattle.acl_forms.specs.declared.fault.ReadFault.{ReadFault};
@@ -125,7 +125,7 @@ fn push(list: &mut Acl, item: IdAce) -> Result<(), AllocError>
 }
 
 // Returns the who. The digits of an id are written into the buffer.
-fn name_of(whom: Whom, digits: &mut Buffer) -> &[u8]
+pub(crate) fn name_of(whom: Whom, digits: &mut Buffer) -> &[u8]
     ensures { result.now ≡ whom_name whom }
 {
     match whom {
@@ -160,7 +160,7 @@ fn next_ace(cursor: &mut Cursor<'_>, weight: u32) -> Result<IdAce, ReadFault>
 }
 
 // Reads the number of ACEs.
-fn count(cursor: &mut Cursor<'_>) -> Result<u32, ReadFault>
+pub(crate) fn count(cursor: &mut Cursor<'_>) -> Result<u32, ReadFault>
     ensures exact { Gives (λ x. (x, cursor_place cursor.new)) result
         (word_at (λ n. listed (count_of n)) (cursor_place cursor.old)) }
     ensures small { IfOk result (λ x. x ≤ most_aces) }
@@ -198,7 +198,7 @@ fn kind_of(number: u32) -> Result<Kind, ReadReason>
     }
 }
 
-fn flags(cursor: &mut Cursor<'_>) -> Result<Flags, ReadFault>
+pub(crate) fn flags(cursor: &mut Cursor<'_>) -> Result<Flags, ReadFault>
     ensures { Gives (λ x. (x.bits, cursor_place cursor.new)) result
         (word_at (λ n. listed (flags_of full n)) (cursor_place cursor.old)) }
 {
@@ -212,7 +212,7 @@ fn flags_of(number: u32) -> Result<Flags, ReadReason>
     Flags::new(number).ok_or(ReadReason::List(Reason::FlagBits))
 }
 
-fn special(cursor: &mut Cursor<'_>) -> Result<u32, ReadFault>
+pub(crate) fn special(cursor: &mut Cursor<'_>) -> Result<u32, ReadFault>
     ensures { Gives (λ x. (x, cursor_place cursor.new)) result (word_at special_of (cursor_place cursor.old)) }
 {
     let offset = offset_of(cursor);
@@ -228,7 +228,7 @@ fn special_of(number: u32) -> Result<u32, ReadReason>
     Ok(number)
 }
 
-fn mask(cursor: &mut Cursor<'_>, weight: u32) -> Result<Mask, ReadFault>
+pub(crate) fn mask(cursor: &mut Cursor<'_>, weight: u32) -> Result<Mask, ReadFault>
     requires { weight ≤ most_weight }
     ensures exact { Gives (λ x. (x.bits, cursor_place cursor.new)) result
         (word_at (λ n. listed (mask_of full weight n)) (cursor_place cursor.old)) }
@@ -267,13 +267,19 @@ fn whom_of(special: u32, number: u32) -> Result<Whom, ReadReason>
     if special == 1 {
         return special_whom(number);
     }
+    account_of(number)
+}
+
+pub(crate) fn account_of(number: u32) -> Result<Whom, ReadReason>
+    ensures { Gives whom_name result (id_who number) }
+{
     match Id::new(number) {
         Some(id) => Ok(Whom::Account(id)),
         None => Err(ReadReason::Id),
     }
 }
 
-fn special_whom(number: u32) -> Result<Whom, ReadReason>
+pub(crate) fn special_whom(number: u32) -> Result<Whom, ReadReason>
     ensures { Gives whom_name result (special_who number) }
 {
     match number {

@@ -1,18 +1,14 @@
 //! Laws of the extended attributes in which Linux keeps POSIX ACLs.
-ghost use Rattle.std.specs.Prelude.{◌≡◌, ◌↔◌, ℕ, List};
+ghost use Rattle.std.specs.Prelude.{◌≡◌, ℕ, List};
 ghost use Rattle.acl_posix.specs.Attribute.{attribute_bytes};
 ghost use Rattle.acl_posix.specs.Entries.{Entries};
 ghost use Rattle.acl_posix.specs.Texts.{IsAcl};
 ghost use Rattle.acl_forms.specs.Attributes.{IsAttributeFault, SpellsAttribute};
 ghost use Rattle.acl_forms.specs.declared.fault.ReadFault.{ReadFault};
 
-/// The bytes that are written of an ACL spell it, and no other bytes do. Bytes spell at most one ACL and have at most
-/// one fault, and not both.
+/// The bytes that are written of an ACL spell it. Bytes spell at most one ACL and have at most one fault, and not both.
 pub fn one_attribute()
-    ensures bytes { (acl : Entries) (bytes : List ℕ) → IsAcl acl
-        → SpellsAttribute acl bytes ↔ (bytes ≡ attribute_bytes acl) }
-    ensures spelling { (acl : Entries) (one two : List ℕ) → SpellsAttribute acl one
-        → SpellsAttribute acl two → one ≡ two }
+    ensures written { (acl : Entries) → IsAcl acl → SpellsAttribute acl (attribute_bytes acl) }
     ensures list { (one two : Entries) (bytes : List ℕ) → SpellsAttribute one bytes
         → SpellsAttribute two bytes → one ≡ two }
     ensures fault { (bytes : List ℕ) (one two : ReadFault) → IsAttributeFault bytes one

@@ -1,22 +1,23 @@
-//! The extended attributes in which Linux keeps POSIX ACLs, in their one spelling.
-ghost use Rattle.std.specs.Prelude.{◌≡◌, ◌+◌, ◌<◌, ◌≤◌, ◌⊎◌, ◌++◌, None, drop, length, option_map, IfErr, IfOk, IfSome, IsNone, MatchResult, OnOk};
+//! The extended attributes in which Linux keeps POSIX ACLs.
+ghost use Rattle.std.specs.Prelude.{◌≡◌, ◌+◌, ◌<◌, ◌≤◌, ◌⊎◌, ◌++◌, ◌∷◌, [], None, drop, length, IfErr, IfOk, MatchResult, OnOk, vec_len};
 ghost use Rattle.acl_perm.specs.Bits.{all_permissions};
 ghost use Rattle.acl_perm.specs.Counts.{count_limit};
-ghost use Rattle.acl_posix.specs.Attribute.{coded_number, entry_bytes, entry_size, stored_raw};
-ghost use Rattle.acl_posix.specs.Entries.{Entries, pair_of};
+ghost use Rattle.acl_posix.specs.Attribute.{NeverFalls, entry_bytes, entry_size, stored_raw};
+ghost use Rattle.acl_posix.specs.Entries.{Entries, as_set, pair_of, pairs};
 ghost use Rattle.acl_posix.specs.RawEntries.{raw_pair};
 ghost use Rattle.acl_posix.specs.Tag.{is_named, tag_of};
-ghost use Rattle.acl_forms.specs.Attributes.{field_fault, id_reason, next_entry_fault, order_reason, repeat_reason, version_fault, IsAttributeFault, SpellsAttribute};
-ghost use Rattle.acl_forms.specs.ReadFaults.{no_memory_left};
+ghost use Rattle.acl_posix.specs.Valid.{IsValidList};
+ghost use Rattle.acl_forms.specs.Attributes.{entry_offset, field_fault, id_reason, next_entry_fault, version_fault, AreBytesOf, IsAttributeFault, IsEntriesFault, SpellsAttribute};
+ghost use Rattle.acl_forms.specs.ReadFaults.{no_memory_left, read_fault_at};
+ghost use Rattle.acl_forms.specs.internal.AttributeEntries.{earlier_fault};
 ghost use Rattle.acl_forms.specs.declared.fault.ReadFault.{ReadFault as FaultValue};
 
 use crate::fault::{ReadFault, ReadReason};
-use crate::seen_tags::SeenTags;
 use acl_nfs4::Reason;
-use acl_posix::{Entry, PosixAcl, RawEntry, Tag};
+use acl_posix::internal::{first_fall, stored_raw};
+use acl_posix::{AclFault, Entry, PosixAcl, RawEntry, Tag};
 use byteorder::{ByteOrder, LittleEndian};
-use std::alloc::Global;
-use std::cmp::Ordering;
+use std::alloc::{AllocError, Global};
 
 /// The version of the attributes.
 pub(crate) const VERSION: u32 = 2;
@@ -33,12 +34,16 @@ const ALL_PERMISSIONS: u32 = 7;
 /// The number in place of an id that means none.
 const UNDEFINED_ID: u32 = u32::MAX;
 
-/// Returns the ACL that all of the bytes spell: the value of `system.posix_acl_access` or `system.posix_acl_default` as
-/// libacl writes it. Fails with the fault that `attribute_fault` returns, and with Memory if memory runs out. Linear
-/// time, and two tables of the entries.
+/// Returns the ACL that all of the bytes spell: the value of `system.posix_acl_access` or `system.posix_acl_default`,
+/// which has the ids of users and of groups in any order. The kernel also takes an id twice, and any id in an entry
+/// that has no qualifier; such bytes are refused here. It takes time in n log n, and linear time if the ids rise.
 ///
-/// The bytes of an ACL are unique. The kernel also takes ids in any order, an id twice, and any id in an entry that has
-/// no qualifier; `PosixAcl::from_attribute` reads such bytes too, unless an id occurs twice.
+/// The faults are judged in this order. At byte 0, Truncated: the version is cut short; Version: it is not 2. For each
+/// entry, Truncated at its first byte: it is cut short; Tag at its first byte, Permission at its third byte, Id or
+/// Qualifier at its fifth byte. Then, at the first byte of the first such entry, Order: its tag type comes before that
+/// of the entry before it in canonical order; Multi or Duplicate: an earlier entry has its tag and qualifier. At the end
+/// of the bytes, Miss of the first absent of USER_OBJ, GROUP_OBJ, OTHER, and of MASK if there is a USER or GROUP entry.
+/// If memory runs out, the reason is Memory.
 ///
 /// ```rust
 /// let bytes = b"\x02\0\0\0\x01\0\x06\0\xff\xff\xff\xff\x04\0\x04\0\xff\xff\xff\xff\x20\0\0\0\xff\xff\xff\xff";
@@ -52,59 +57,88 @@ pub fn read_attribute(alloc: Global, bytes: &[u8]) -> Result<PosixAcl, ReadFault
         → MatchResult result (λ read. read ≡ acl) (λ fault. fault ≡ no_memory_left) }
     ensures fault { IfErr result (λ fault. (fault ≡ no_memory_left) ⊎ IsAttributeFault bytes.now fault) }
     // Bytes with a fault are refused with that fault.
-    ensures refused { (wrong : FaultValue) → IsAttributeFault bytes.now wrong → result ≡ Err wrong }
+    ensures refused { (wrong : FaultValue) → IsAttributeFault bytes.now wrong
+        → MatchResult result (λ _. ⊥) (λ fault. (fault ≡ no_memory_left) ⊎ (fault ≡ wrong)) }
 {
-    if let Some(fault) = attribute_fault(bytes) {
-        return Err(fault);
-    }
-    // The bytes spell an ACL, so this fails only if memory runs out.
-    match PosixAcl::from_attribute(alloc, bytes) {
-        Ok(Some(acl)) => Ok(acl),
-        _ => Err(ReadFault {
-            offset: 0,
-            reason: ReadReason::List(Reason::Memory),
-        }),
-    }
+    read_acl(alloc, bytes)
 }
 
-/// Returns the first fault of the bytes from the left, or `None` if they spell an ACL. It takes no memory and linear
-/// time.
-///
-/// At byte 0, Truncated: the version is cut short; Version: it is not 2. For each entry, Truncated at its first byte: it
-/// is cut short; Tag at its first byte, Permission at its third byte, Id or Qualifier at its fifth byte; and then, at
-/// its first byte, Order if it comes before the entry before it, and Multi or Duplicate if it has the same tag and
-/// qualifier. At the end of the bytes, Miss of the first absent of USER_OBJ, GROUP_OBJ, OTHER, and of MASK if there is a
-/// USER or GROUP entry.
-///
-/// ```rust
-/// let fault = attribute_fault(b"\x02\0\0\0\x01\0\x06\0\xff\xff\xff\xff");
-/// let reason = ReadReason::Miss(Tag::GroupObj);
-/// assert!(rt; fault == Some(ReadFault { offset: 12, reason }));
-/// ```
-pub fn attribute_fault(bytes: &[u8]) -> Option<ReadFault>
-    ensures fault { IfSome result (IsAttributeFault bytes.now) }
-    ensures none { IsNone result → (acl : Entries) × SpellsAttribute acl bytes.now }
+// Returns the ACL of the bytes.
+fn read_acl(alloc: Global, bytes: &[u8]) -> Result<PosixAcl, ReadFault>
+    ensures found { IfOk result (λ acl. SpellsAttribute acl bytes.now) }
+    ensures fault { IfErr result (λ fault. (fault ≡ no_memory_left) ⊎ IsAttributeFault bytes.now fault) }
 {
     if let Some(fault) = version_fault(bytes) {
-        return Some(fault);
+        return Err(fault);
     }
-    let mut seen = SeenTags::NONE;
+    let entries = read_entries(alloc.clone()?, bytes)?;
+    acl_of(alloc, entries, bytes.len())
+}
+
+// Returns the entries after the version, or the first fault of their fields.
+fn read_entries(alloc: Global, bytes: &[u8]) -> Result<Vec<Entry>, ReadFault>
+    requires { version_fault bytes.now ≡ None }
+    ensures entries { IfOk result (λ entries. AreBytesOf (pairs entries.items) bytes.now) }
+    ensures fault { IfErr result (λ fault. (fault ≡ no_memory_left) ⊎ IsAttributeFault bytes.now fault) }
+{
+    let mut entries = Vec::new(alloc);
     let mut rest = &bytes[VERSION_SIZE..];
     while !rest.is_empty() {
         let at = (bytes.len() - rest.len()) as u64;
-        match next_entry(rest, at, seen.last) {
-            Ok(entry) => seen = seen.with(entry.tag),
-            Err(fault) => return Some(fault),
-        }
+        push(&mut entries, next_entry(rest, at)?)?;
         rest = &rest[ENTRY_SIZE..];
     }
-    match seen.missing() {
-        Some(tag) => Some(ReadFault {
-            offset: bytes.len() as u64,
-            reason: ReadReason::Miss(tag),
-        }),
-        None => None,
+    Ok(entries)
+}
+
+fn push(entries: &mut Vec<Entry>, entry: Entry) -> Result<(), AllocError>
+    ensures { OnOk result (entries.new.items ≡ entries.old.items ++ entry ∷ []) }
+{
+    entries.push(entry)?;
+    Ok(())
+}
+
+// Returns the ACL of the entries in this number of bytes, or what is wrong with their list.
+fn acl_of(alloc: Global, entries: Vec<Entry>, len: usize) -> Result<PosixAcl, ReadFault>
+    requires { entry_offset (vec_len entries) ≤ len }
+    ensures set { IfOk result (λ acl. acl ≡ as_set (pairs entries.items)) }
+    ensures order { OnOk result (NeverFalls (pairs entries.items)) }
+    ensures valid { OnOk result (IsValidList (pairs entries.items)) }
+    ensures fault { IfErr result (λ fault. (fault ≡ no_memory_left) ⊎ IsEntriesFault (pairs entries.items) len fault) }
+{
+    let fall = first_fall(&entries);
+    match PosixAcl::from_entries(alloc, entries) {
+        Ok(acl) => match fall {
+            None => Ok(acl),
+            Some(place) => Err(at_entry(place, ReadReason::Order)),
+        },
+        Err(AclFault::Multi(place)) => Err(earlier(fall, place, ReadReason::Multi)),
+        Err(AclFault::Duplicate(place)) => Err(earlier(fall, place, ReadReason::Duplicate)),
+        Err(AclFault::Miss(tag)) => match fall {
+            None => Err(ReadFault::new(len, ReadReason::Miss(tag))),
+            Some(place) => Err(at_entry(place, ReadReason::Order)),
+        },
+        Err(AclFault::Memory) => Err(ReadFault::new(0, ReadReason::List(Reason::Memory))),
     }
+}
+
+// Returns the fault of the entry at a place, or the fall of the tag types if they fall at an earlier place.
+fn earlier(fall: Option<usize>, place: usize, reason: ReadReason) -> ReadFault
+    requires { entry_offset place < count_limit }
+    ensures { result ≡ earlier_fault fall place reason }
+{
+    match fall {
+        Some(fall) if fall <= place => at_entry(fall, ReadReason::Order),
+        _ => at_entry(place, reason),
+    }
+}
+
+// Returns a fault of the entry at a place.
+fn at_entry(place: usize, reason: ReadReason) -> ReadFault
+    requires { entry_offset place < count_limit }
+    ensures { result ≡ read_fault_at (entry_offset place) reason }
+{
+    ReadFault::new(VERSION_SIZE + ENTRY_SIZE * place, reason)
 }
 
 // Returns why the version is refused.
@@ -128,15 +162,12 @@ fn version_fault(bytes: &[u8]) -> Option<ReadFault>
 
 // ---- the fields of an entry
 
-// Reads the entry with which the text at a place begins, after an entry with this tag.
-fn next_entry(text: &[u8], at: u64, last: Option<Tag>) -> Result<Entry, ReadFault>
+// Reads the entry with which the text at a place begins.
+fn next_entry(text: &[u8], at: u64) -> Result<Entry, ReadFault>
     requires { at + length text.now < count_limit }
     ensures entry { IfOk result (λ entry. text.now ≡ entry_bytes (pair_of entry) ++ drop entry_size text.now) }
     ensures whole { OnOk result (entry_size ≤ length text.now) }
-    ensures order { IfOk result (λ entry.
-        order_reason (option_map tag_of last) (tag_of entry.tag) ≡ None) }
-    ensures fault { IfErr result (λ fault.
-        next_entry_fault at (option_map tag_of last) text.now ≡ Some fault) }
+    ensures fault { IfErr result (λ fault. next_entry_fault at text.now ≡ Some fault) }
 {
     if text.len() < ENTRY_SIZE {
         return Err(ReadFault {
@@ -144,41 +175,7 @@ fn next_entry(text: &[u8], at: u64, last: Option<Tag>) -> Result<Entry, ReadFaul
             reason: ReadReason::List(Reason::Truncated),
         });
     }
-    let entry = entry_of(stored_raw(text), at)?;
-    match order_reason(last, entry.tag) {
-        Some(reason) => Err(ReadFault { offset: at, reason }),
-        None => Ok(entry),
-    }
-}
-
-// Returns the numbers of the entry in the first eight bytes.
-#[tactic(auto, unfolding(acl_posix::specs::Attribute::stored_raw))]
-fn stored_raw(text: &[u8]) -> RawEntry
-    requires { entry_size ≤ length text.now }
-    ensures numbers { result ≡ stored_raw text.now }
-    ensures known { result.tag ≤ 6 }
-{
-    RawEntry {
-        tag: coded_number(LittleEndian::read_u16(text)),
-        id: LittleEndian::read_u32(&text[4..]),
-        perm: u32::from(LittleEndian::read_u16(&text[2..])),
-    }
-}
-
-// Returns the number of the tag type with a code, or 0 if there is none.
-fn coded_number(code: u16) -> u32
-    ensures number { result ≡ coded_number code }
-    ensures known { result ≤ 6 }
-{
-    match code {
-        0x01 => 1,
-        0x02 => 2,
-        0x04 => 3,
-        0x08 => 4,
-        0x10 => 5,
-        0x20 => 6,
-        _ => 0,
-    }
+    entry_of(stored_raw(text), at)
 }
 
 // Returns the entry of these numbers, which lie at a place.
@@ -235,28 +232,4 @@ fn is_named(tag: Tag) -> bool
     ensures { result ≡ is_named (tag_of tag) }
 {
     matches!(tag, Tag::User(_) | Tag::Group(_))
-}
-
-// Returns why an entry may not come after the last one.
-fn order_reason(last: Option<Tag>, tag: Tag) -> Option<ReadReason>
-    ensures { result ≡ order_reason (option_map tag_of last) (tag_of tag) }
-{
-    match last {
-        None => None,
-        Some(last) => match last.cmp(&tag) {
-            Ordering::Less => None,
-            Ordering::Equal => Some(repeated(tag)),
-            Ordering::Greater => Some(ReadReason::Order),
-        },
-    }
-}
-
-fn repeated(tag: Tag) -> ReadReason
-    ensures { result ≡ repeat_reason (tag_of tag) }
-{
-    if is_named(tag) {
-        ReadReason::Duplicate
-    } else {
-        ReadReason::Multi
-    }
 }

@@ -14,6 +14,7 @@ ghost use Rattle.acl_forms.specs.ToolsRules.{IsToolsFault, SpellsTools};
 ghost use Rattle.acl_forms.specs.ToolsWritten.{as_written, tools_fault, tools_text, IsSameButGroup};
 ghost use Rattle.acl_forms.specs.declared.fault.ReadFault.{ReadFault};
 ghost use Rattle.acl_forms.specs.declared.object.ObjectKind.{ObjectKind};
+ghost use Rattle.acl_forms.specs.declared.style.Style.{Style};
 ghost use Rattle.acl_forms.specs.declared.who_field.WhoField.{WhoField};
 
 /// The bytes that are written of flags and a list spell them, and no other bytes do. Bytes spell at most one list.
@@ -71,12 +72,12 @@ pub fn one_nfs_text()
         → SpellsNfsText source list text → IsFaultOfNfsText source text fault → ⊥ }
 {}
 
-/// The text of a list that the form can hold spells the list as it is written, and no other list, by the names and by
-/// the ids.
+/// The text of a list that the form can hold spells the list as it is written, and no other list, in each style, by the
+/// names and by the ids.
 pub fn nfs_text_reads_back()
-    ensures { (source : WhoField) (list other : List Ace) → IsAccepted full list
+    ensures { (source : WhoField) (style : Style) (list other : List Ace) → IsAccepted full list
         → nfs_text_fault list ≡ None
-        → SpellsNfsText source other (nfs_text list) ↔ (other ≡ map as_nfs_written list) }
+        → SpellsNfsText source other (nfs_text style list) ↔ (other ≡ map as_nfs_written list) }
 {}
 
 /// An ACE as it is written differs from the ACE at most in IDENTIFIER_GROUP of a special identifier, and names the same

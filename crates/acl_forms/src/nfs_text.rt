@@ -2,7 +2,7 @@
 
 pub(crate) mod entry;
 mod fields;
-mod id;
+pub(crate) mod id;
 mod reader;
 pub(crate) mod writer;
 

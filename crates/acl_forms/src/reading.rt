@@ -2,37 +2,41 @@
 ghost use Rattle.std.specs.Prelude.{◌≡◌, ◌==◌, [], ◌≤◌, MatchResult, Ok, length, position};
 ghost use Rattle.acl_perm.specs.Ascii.{hash};
 ghost use Rattle.acl_perm.specs.Lines.{span_of, ColumnsFit};
-ghost use Rattle.acl_forms.specs.TextReading.{text_read, read_items, rules_of, AddsItems, FailsAsRead, IsEntryCut, JudgesComment, part_items};
+ghost use Rattle.acl_forms.specs.TextReading.{text_read, read_items, AddsItems, FailsAsRead, IsEntryCut, JudgesComment, part_items};
 ghost use Rattle.acl_forms.specs.Texts.{comment_fault, cut_entries, entries_among, entries_of, items_in, items_of, line_items};
 
 use crate::fault::{ReadFault, ReadReason};
 use crate::text_form::TextForm;
-use acl_nfs4::Acl;
 use acl_perm::internal::{Piece, place_of};
 use std::alloc::Global;
 
-/// Returns the list that a text spells.
+/// Returns the list of what the entries of a text spell.
 #[tactic(auto, unfolding(crate::specs::TextReading::text_read))]
-pub(crate) fn read_text(alloc: Global, text: &[u8], form: TextForm) -> Result<Acl, ReadFault>
-    ensures { MatchResult result (λ list. text_read (rules_of form) text.now ≡ Ok list)
-        (λ fault. FailsAsRead fault (text_read (rules_of form) text.now)) }
+pub(crate) fn read_text<F: TextForm>(
+    alloc: Global,
+    text: &[u8],
+    form: F,
+) -> Result<F::List, ReadFault>
+    ensures { MatchResult result (λ list. text_read (F.rules form) text.now ≡ Ok (F.items list))
+        (λ fault. FailsAsRead fault (text_read (F.rules form) text.now)) }
 {
     if let Some(place) = place_of(text, 0) {
         return Err(ReadFault::new(place, ReadReason::Nul));
     }
-    let acl = read_lines(alloc, text, form)?;
-    if acl.len() < form.least() {
+    let list = read_lines(alloc, text, form)?;
+    if form.len_of(&list) < form.least() {
         return Err(ReadFault::new(text.len(), ReadReason::Empty));
     }
-    Ok(acl)
+    Ok(list)
 }
 
 // Returns the list of the lines of a text.
-fn read_lines(alloc: Global, text: &[u8], form: TextForm) -> Result<Acl, ReadFault>
-    ensures { MatchResult result (λ list. read_items (rules_of form) [] (items_in (rules_of form) text.now) ≡ Ok list)
-        (λ fault. FailsAsRead fault (read_items (rules_of form) [] (items_in (rules_of form) text.now))) }
+fn read_lines<F: TextForm>(alloc: Global, text: &[u8], form: F) -> Result<F::List, ReadFault>
+    ensures { MatchResult result
+        (λ list. read_items (F.rules form) [] (items_in (F.rules form) text.now) ≡ Ok (F.items list))
+        (λ fault. FailsAsRead fault (read_items (F.rules form) [] (items_in (F.rules form) text.now))) }
 {
-    let mut acl = Acl::new(alloc);
+    let mut list = form.new_list(alloc);
     let mut rest = Some(Piece {
         // Here a column counts the bytes of the text before it.
         column: 0,
@@ -40,27 +44,28 @@ fn read_lines(alloc: Global, text: &[u8], form: TextForm) -> Result<Acl, ReadFau
     });
     while let Some(left) = rest {
         let (line, after) = left.cut(b'\n');
-        read_line(&mut acl, line, form)?;
+        read_line(&mut list, line, form)?;
         rest = after;
     }
-    Ok(acl)
+    Ok(list)
 }
 
-// Adds the ACEs of a line.
+// Adds the entries of a line.
 #[tactic(auto, unfolding(crate::specs::Texts::line_items))]
-fn read_line(acl: &mut Acl, line: Piece<'_>, form: TextForm) -> Result<(), ReadFault>
+fn read_line<F: TextForm>(list: &mut F::List, line: Piece<'_>, form: F) -> Result<(), ReadFault>
     requires { ColumnsFit line }
-    ensures { AddsItems (rules_of form) (line_items (rules_of form) (span_of line.entry)) acl.old acl.new result }
+    ensures { AddsItems (F.rules form) (line_items (F.rules form) (span_of line.entry)) (F.items list.old)
+        (F.items list.new) result }
 {
     let Some(place) = mark_in(line.bytes) else {
-        return read_entries(acl, line, form);
+        return read_entries(list, line, form);
     };
     judge_comment(line, place, form)?;
     let before = Piece {
         column: line.column,
         bytes: &line.bytes[..place],
     };
-    read_entries(acl, before, form)
+    read_entries(list, before, form)
 }
 
 fn mark_in(line: &[u8]) -> Option<usize>
@@ -71,10 +76,10 @@ fn mark_in(line: &[u8]) -> Option<usize>
 
 // Judges the comment that begins at this place of a line.
 #[tactic(auto, unfolding(crate::specs::Texts::comment_fault))]
-fn judge_comment(line: Piece<'_>, place: usize, form: TextForm) -> Result<(), ReadFault>
+fn judge_comment<F: TextForm>(line: Piece<'_>, place: usize, form: F) -> Result<(), ReadFault>
     requires fits { ColumnsFit line }
     requires inside { place ≤ length line.bytes.now }
-    ensures { JudgesComment result (comment_fault (rules_of form) (span_of line.entry) place) }
+    ensures { JudgesComment result (comment_fault (F.rules form) (span_of line.entry) place) }
 {
     if form.is_cut_short(line.bytes.len()) {
         return Err(ReadFault::new(line.column + place, ReadReason::TooLong));
@@ -85,38 +90,38 @@ fn judge_comment(line: Piece<'_>, place: usize, form: TextForm) -> Result<(), Re
     }
 }
 
-// Adds the ACEs of a line without its comment.
-fn read_entries(acl: &mut Acl, line: Piece<'_>, form: TextForm) -> Result<(), ReadFault>
+// Adds the entries of a line without its comment.
+fn read_entries<F: TextForm>(list: &mut F::List, line: Piece<'_>, form: F) -> Result<(), ReadFault>
     requires { ColumnsFit line }
-    ensures { AddsItems (rules_of form) (items_of (entries_of (rules_of form) (span_of line.entry))) acl.old acl.new
-        result }
+    ensures { AddsItems (F.rules form) (items_of (entries_of (F.rules form) (span_of line.entry))) (F.items list.old)
+        (F.items list.new) result }
 {
     if form.is_line_skipped(line.bytes) {
         return Ok(());
     }
-    read_parts(acl, line, form)
+    read_parts(list, line, form)
 }
 
-// Adds the ACEs of the parts of a line.
-fn read_parts(acl: &mut Acl, line: Piece<'_>, form: TextForm) -> Result<(), ReadFault>
+// Adds the entries among the parts of a line.
+fn read_parts<F: TextForm>(list: &mut F::List, line: Piece<'_>, form: F) -> Result<(), ReadFault>
     requires { ColumnsFit line }
-    ensures { AddsItems (rules_of form)
-        (items_of (entries_among (rules_of form) (cut_entries (rules_of form) (span_of line.entry)))) acl.old acl.new
-        result }
+    ensures { AddsItems (F.rules form)
+        (items_of (entries_among (F.rules form) (cut_entries (F.rules form) (span_of line.entry)))) (F.items list.old)
+        (F.items list.new) result }
 {
     let mut rest = Some(line);
     while let Some(left) = rest {
         let (part, after) = cut_entry(left, form);
-        add_part(acl, part, form)?;
+        add_part(list, part, form)?;
         rest = after;
     }
     Ok(())
 }
 
 // Returns the part before the first byte that ends an entry, and the part after it if there is one.
-fn cut_entry(line: Piece<'_>, form: TextForm) -> (Piece<'_>, Option<Piece<'_>>)
+fn cut_entry<F: TextForm>(line: Piece<'_>, form: F) -> (Piece<'_>, Option<Piece<'_>>)
     requires { ColumnsFit line }
-    ensures parts { IsEntryCut (rules_of form) (span_of line.entry) result }
+    ensures parts { IsEntryCut (F.rules form) (span_of line.entry) result }
 {
     match first_end(line.bytes, form) {
         None => (line, None),
@@ -134,19 +139,20 @@ fn cut_entry(line: Piece<'_>, form: TextForm) -> (Piece<'_>, Option<Piece<'_>>)
     }
 }
 
-fn first_end(bytes: &[u8], form: TextForm) -> Option<usize>
-    ensures { result ≡ position (rules_of form).ends_entry bytes.now }
+fn first_end<F: TextForm>(bytes: &[u8], form: F) -> Option<usize>
+    ensures { result ≡ position (F.rules form).ends_entry bytes.now }
 {
     bytes.iter().position(|b| form.ends_entry(*b))
 }
 
-// Adds the ACE of a part of a line, unless the part is no entry.
-fn add_part(acl: &mut Acl, part: Piece<'_>, form: TextForm) -> Result<(), ReadFault>
+// Adds the entry of a part of a line, unless the part is no entry.
+fn add_part<F: TextForm>(list: &mut F::List, part: Piece<'_>, form: F) -> Result<(), ReadFault>
     requires { ColumnsFit part }
-    ensures { AddsItems (rules_of form) (part_items (rules_of form) (span_of part.entry)) acl.old acl.new result }
+    ensures { AddsItems (F.rules form) (part_items (F.rules form) (span_of part.entry)) (F.items list.old)
+        (F.items list.new) result }
 {
     if form.is_part_skipped(part.bytes) {
         return Ok(());
     }
-    form.add_entry(acl, part)
+    form.add_entry(list, part)
 }

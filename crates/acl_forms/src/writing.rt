@@ -1,42 +1,86 @@
-//! Writes texts of entries, line by line without memory.
-ghost use Rattle.std.specs.Prelude.{◌≡◌, ◌+◌, ◌*◌, ◌≤◌, ◌++◌, ◌==◌, bit_and, filter, length, map, OnErr, OnOk};
+//! Writes texts of entries, entry by entry without memory.
+ghost use Rattle.std.specs.Prelude.{◌≡◌, ◌+◌, ◌*◌, ◌<◌, ◌≤◌, ◌++◌, ◌==◌, [], bit_and, filter, length, map, OnErr, OnOk};
 ghost use Rattle.std.specs.List.{flat_map};
 ghost use Rattle.arrayvec.specs.ArrayVec.{array_vec_len};
 ghost use Rattle.acl_perm.specs.Devices.{one_more};
 ghost use Rattle.acl_perm.specs.Pieces.{WritesFrom};
-ghost use Rattle.acl_nfs4.specs.Limits.{most_aces};
+ghost use Rattle.acl_nfs4.specs.Ace.{ace};
+ghost use Rattle.acl_nfs4.specs.Limits.{longest_who, most_aces};
+ghost use Rattle.acl_forms.specs.NfsWritten.{letter_or_hyphen, styled_letters};
 ghost use Rattle.acl_forms.specs.ToolsWritten.{letters_of, meets};
-ghost use Rattle.acl_forms.specs.internal.TextWriting.{text_line_room, lines_text};
+ghost use Rattle.acl_forms.specs.internal.TextWriting.{entries_left, entry_of, separator_of, text_line_room};
 
 use crate::letters::Letter;
-use crate::text_form::TextForm;
-use acl_nfs4::Aces;
+use crate::style::{EntrySeparator, LetterStyle, Style};
+use crate::{nfs_text, tools};
+use acl_nfs4::{AceRef, Aces};
 use acl_perm::internal::put_next;
 use acl_perm::{Sink, WriteFault};
 use arrayvec::ArrayVec;
 
-/// Room for a line: the longest words, all letters, the longest who, an id, and the bytes between them.
+/// Room for an entry: the longest words, all letters, the longest who, an id, and the bytes between them and at its
+/// ends.
 pub(crate) type Line = ArrayVec<u8, LINE_ROOM>;
 
 pub(crate) const LINE_ROOM: usize = 1080;
 
-/// Writes the lines of the ACEs, and returns how many bytes are out then.
-pub(crate) fn put_lines<S: Sink>(
+/// A form of text that is written entry by entry.
+#[derive(Clone, Copy)]
+pub(crate) enum WrittenForm {
+    /// The text of nfs4-acl-tools.
+    Tools,
+    /// The text of FreeBSD, ZFS and libarchive.
+    Nfs(Style),
+}
+
+impl WrittenForm {
+    // Returns what separates the entries.
+    fn separator(self) -> EntrySeparator
+        ensures { result ≡ separator_of self }
+    {
+        match self {
+            WrittenForm::Tools => EntrySeparator::LineFeeds,
+            WrittenForm::Nfs(style) => style.separator,
+        }
+    }
+
+    // Adds the entry of an ACE to a line that has room for it.
+    fn add_entry(self, line: &mut Line, item: AceRef<'_>)
+        requires room { array_vec_len line.old ≤ 1 }
+        requires short { length item.who.now ≤ longest_who }
+        ensures text { line.new.items ≡ line.old.items ++ entry_of self (ace item.entry) }
+        ensures len { array_vec_len line.new < text_line_room }
+    {
+        match self {
+            WrittenForm::Tools => tools::writer::add_entry(line, item),
+            WrittenForm::Nfs(style) => nfs_text::writer::add_entry(line, item, style.letters),
+        }
+    }
+}
+
+/// Writes the entries of the ACEs, and returns how many bytes are out then.
+pub(crate) fn put_entries<S: Sink>(
     sink: &mut S,
     aces: Aces<'_>,
-    form: TextForm,
+    form: WrittenForm,
 ) -> Result<u64, WriteFault>
     requires { length aces ≤ most_aces }
     ensures written { WritesFrom (S.contents sink.old) (S.contents sink.new) 0
-        (lines_text form aces.entry) result }
+        (entries_left form [] aces.entry) result }
     ensures none_failed { OnOk result (S.failure_count sink.new ≡ S.failure_count sink.old) }
     ensures failed { OnErr result (S.failure_count sink.new ≡ one_more (S.failure_count sink.old)) }
 {
+    let separator = form.separator();
     let mut line = ArrayVec::new();
     let mut done = 0;
+    let mut before: &[u8] = b"";
     for ace in aces {
-        form.fill(&mut line, ace);
+        line.clear();
+        add(&mut line, before);
+        form.add_entry(&mut line, ace);
+        add(&mut line, separator.after_each());
         done = put_next(sink, done, &line)?;
+        before = separator.between();
     }
     Ok(done)
 }
@@ -61,6 +105,34 @@ pub(crate) fn add_letters(line: &mut Line, table: &[Letter], set: u32)
         if set & row.bits == row.bits {
             line.push(row.letter);
         }
+    }
+}
+
+// Adds a letter for each row, or a hyphen if the set does not have its bits.
+fn add_columns(line: &mut Line, table: &[Letter], set: u32)
+    requires room { array_vec_len line.old + length table.now ≤ text_line_room }
+    ensures text { line.new.items ≡ line.old.items ++ map (letter_or_hyphen set) table.now }
+    ensures len { array_vec_len line.new ≡ array_vec_len line.old + length table.now }
+{
+    for row in table {
+        let letter = if set & row.bits == row.bits {
+            row.letter
+        } else {
+            b'-'
+        };
+        line.push(letter);
+    }
+}
+
+/// Adds the letters of the rows whose bits a set has, in a style.
+pub(crate) fn add_styled(line: &mut Line, table: &[Letter], set: u32, letters: LetterStyle)
+    requires room { array_vec_len line.old + length table.now ≤ text_line_room }
+    ensures text { line.new.items ≡ line.old.items ++ styled_letters letters table.now set }
+    ensures len { array_vec_len line.new ≤ array_vec_len line.old + length table.now }
+{
+    match letters {
+        LetterStyle::Compact => add_letters(line, table, set),
+        LetterStyle::Full => add_columns(line, table, set),
     }
 }
 

@@ -1,21 +1,41 @@
 -- How the code writes a text of entries (this library's own). No public clause cites it.
-use Rattle.std.specs.Prelude.{ℕ, List}
-use Rattle.std.specs.List.{flat_map}
+use Rattle.std.specs.Prelude.{ℕ, List, [], ◌∷◌, ◌++◌}
+use Rattle.acl_perm.specs.Ascii.{comma, line_feed}
 use Rattle.acl_nfs4.specs.Ace.{Ace}
-use Rattle.acl_forms.specs.NfsWritten.{nfs_line}
-use Rattle.acl_forms.specs.ToolsWritten.{tools_line}
-use Rattle.acl_forms.specs.declared.text_form.TextForm.{TextForm}
-use Rattle.acl_forms.specs.declared.text_form.TextForm.TheVariants.{Nfs, Tools}
+use Rattle.acl_forms.specs.NfsWritten.{nfs_entry_text}
+use Rattle.acl_forms.specs.ToolsWritten.{tools_entry_text}
+use Rattle.acl_forms.specs.declared.style.EntrySeparator.{EntrySeparator}
+use Rattle.acl_forms.specs.declared.style.EntrySeparator.TheVariants.{Commas, LineFeeds}
+use Rattle.acl_forms.specs.declared.writing.WrittenForm.{WrittenForm}
+use Rattle.acl_forms.specs.declared.writing.WrittenForm.TheVariants.{Nfs, Tools}
 
--- the room for a line: the longest words, all letters, the longest who, an id, and the bytes between them
+-- the room for an entry: the longest words, all letters, the longest who, an id, and the bytes between them and at its
+-- ends
 abbrev pub text_line_room : ℕ
 text_line_room = 1080
 
--- the line of an ACE in a form
-abbrev pub line_of : TextForm → Ace → List ℕ
-line_of (Tools object) a = tools_line a
-line_of (Nfs source) a = nfs_line a
+-- the entry of an ACE in a form
+abbrev pub entry_of : WrittenForm → Ace → List ℕ
+entry_of Tools a = tools_entry_text a
+entry_of (Nfs style) a = nfs_entry_text style.letters a
 
--- the lines of the ACEs in order
-abbrev pub lines_text : TextForm → List Ace → List ℕ
-lines_text form list = flat_map (line_of form) list
+-- what separates the entries of a form
+abbrev pub separator_of : WrittenForm → EntrySeparator
+separator_of Tools = LineFeeds
+separator_of (Nfs style) = style.separator
+
+-- the bytes between two entries
+abbrev pub between : EntrySeparator → List ℕ
+between LineFeeds = []
+between Commas = comma ∷ []
+
+-- the bytes after each entry
+abbrev pub after_each : EntrySeparator → List ℕ
+after_each LineFeeds = line_feed ∷ []
+after_each Commas = []
+
+-- the entries that are left, with these bytes before the next one
+abbrev pub entries_left : WrittenForm → List ℕ → List Ace → List ℕ
+entries_left form before [] = []
+entries_left form before (a ∷ list) = (before ++ entry_of form a ++ after_each (separator_of form))
+    ++ entries_left form (between (separator_of form)) list

@@ -42,8 +42,8 @@ fn number_of(digits: &[u8]) -> u64
     value
 }
 
-// Returns whether there are digits alone, and at least one.
-fn is_number(bytes: &[u8]) -> bool
+/// Returns whether there are digits alone, and at least one.
+pub(crate) fn is_number(bytes: &[u8]) -> bool
     ensures { result ≡ is_number bytes.now }
 {
     !bytes.is_empty() && is_all_digits(bytes)

@@ -5,9 +5,9 @@ ghost use Rattle.acl_forms.specs.NfsRules.{IsFaultOfNfsText, SpellsNfsText};
 ghost use Rattle.acl_forms.specs.ReadFaults.{no_memory_left};
 ghost use Rattle.acl_forms.specs.declared.fault.ReadFault.{ReadFault as FaultValue};
 
+use crate::ace_text::AceText;
 use crate::fault::ReadFault;
 use crate::reading::read_text;
-use crate::text_form::TextForm;
 use crate::who_field::WhoField;
 use acl_nfs4::Acl;
 use std::alloc::Global;
@@ -46,5 +46,5 @@ pub fn read_nfs_text(alloc: Global, text: &[u8], source: WhoField) -> Result<Acl
     ensures refused { (wrong : FaultValue) → IsFaultOfNfsText source text.now wrong
         → MatchResult result (λ _. ⊥) (λ fault. (fault ≡ no_memory_left) ⊎ (fault ≡ wrong)) }
 {
-    read_text(alloc, text, TextForm::Nfs(source))
+    read_text(alloc, text, AceText::Nfs(source))
 }

@@ -1,5 +1,5 @@
 //! Writes the text of NFSv4 lists on FreeBSD, in ZFS and in archives, if it can hold the list.
-ghost use Rattle.std.specs.Prelude.{◌≡◌, ◌+◌, ◌≤◌, ◌++◌, length, option_map, IfSome};
+ghost use Rattle.std.specs.Prelude.{◌≡◌, ◌+◌, ◌<◌, ◌≤◌, ◌++◌, length, option_map, IfSome};
 ghost use Rattle.std.specs.Str.{bytes_eq};
 ghost use Rattle.arrayvec.specs.ArrayVec.{array_vec_len};
 ghost use Rattle.acl_perm.specs.Lines.{trimmed};
@@ -8,7 +8,7 @@ ghost use Rattle.acl_nfs4.specs.Limits.{longest_who, most_aces};
 ghost use Rattle.acl_forms.specs.Acl41Ids.{id_of_digits};
 ghost use Rattle.acl_forms.specs.FormWrites.{WritesIfHeld};
 ghost use Rattle.acl_forms.specs.Letters.{nfs_flag_letters, nfs_right_letters};
-ghost use Rattle.acl_forms.specs.NfsWritten.{account_word, id_after, is_cut_who, is_id_cut, kind_word, nfs_ace_fault, nfs_fault_from, nfs_line, nfs_text, nfs_text_fault, principal_text, special_word};
+ghost use Rattle.acl_forms.specs.NfsWritten.{account_word, id_after, is_cut_who, is_id_cut, kind_word, nfs_ace_fault, nfs_entry_text, nfs_fault_from, nfs_text, nfs_text_fault, principal_text, special_word};
 ghost use Rattle.acl_forms.specs.ToolsWritten.{letters_of};
 ghost use Rattle.acl_forms.specs.internal.TextWriting.{text_line_room};
 
@@ -16,10 +16,9 @@ use crate::acl41_ids_writer::id_in_digits;
 use crate::fault::{FormFault, FormReason};
 use crate::form_write::FormWriteFault;
 use crate::letters::{nfs_flag_letters, nfs_right_letters};
-use crate::text_form::TextForm;
+use crate::style::{LetterStyle, Style};
 use crate::tools::writer::has_separator;
-use crate::who_field::WhoField;
-use crate::writing::{Line, add, add_letters, meets, put_lines};
+use crate::writing::{Line, WrittenForm, add, add_styled, meets, put_entries};
 use acl_nfs4::internal::{EVERYONE_NAME, GROUP_NAME, OWNER_NAME};
 use acl_nfs4::{AceRef, Aces, AclView, Kind};
 use acl_perm::Sink;
@@ -44,28 +43,31 @@ pub fn nfs_text_fault(list: &AclView<'_>) -> Option<FormFault>
     first_fault(list.aces())
 }
 
-/// Writes a list as libarchive prints it in the compact style and with ids, but with a line feed after each entry, if
-/// `nfs_text_fault` returns `None`. A who that is the digits of an id is written as the name and as the id, and
-/// IDENTIFIER_GROUP of a special identifier is not written. It ends at the first put that fails: then `written` bytes
-/// went out. It takes no memory, and time linear in the text.
+/// Writes a list as libarchive prints it with ids and in this style, if `nfs_text_fault` returns `None`. Where no comma
+/// separates the entries, there is a line feed after the last one too. A who that is the digits of an id is written as
+/// the name and as the id, and IDENTIFIER_GROUP of a special identifier is not written. It ends at the first put that
+/// fails: then `written` bytes went out. It takes no memory, and time linear in the text.
 ///
 /// ```rust
 /// let text = b"owner@:r-w:f:allow,user:1001:::deny";
 /// let list = read_nfs_text(alloc, text, WhoField::Name)?;
 /// let mut text = Counted::new(Vec::new(alloc));
-/// write_nfs_text(&list.view(), &mut text)?;
-/// let expected = b"owner@:rw:f:allow\nuser:1001:::deny:1001\n";
+/// write_nfs_text(&list.view(), Style::ARCHIVE, &mut text)?;
+/// let expected = b"owner@:rw:f:allow,user:1001:::deny:1001";
 /// assert!(rt; text.into_inner().as_slice() == expected.as_slice());
 /// ```
-pub fn write_nfs_text<S: Sink>(list: &AclView<'_>, sink: &mut S) -> Result<(), FormWriteFault>
+pub fn write_nfs_text<S: Sink>(
+    list: &AclView<'_>,
+    style: Style,
+    sink: &mut S,
+) -> Result<(), FormWriteFault>
     ensures written { WritesIfHeld S.contents S.failure_count sink.old sink.new
-        (nfs_text_fault list.now) (nfs_text list.now) result }
+        (nfs_text_fault list.now) (nfs_text style list.now) result }
 {
     if let Some(fault) = nfs_text_fault(list) {
         return Err(FormWriteFault::Form(fault));
     }
-    // Either field may be the who: both are written.
-    put_lines(sink, list.aces(), TextForm::Nfs(WhoField::Name))?;
+    put_entries(sink, list.aces(), WrittenForm::Nfs(style))?;
     Ok(())
 }
 
@@ -116,31 +118,31 @@ fn has_id_cut(who: &[u8]) -> bool
     }
 }
 
-/// Writes the line of an ACE into the buffer.
+/// Adds the entry of an ACE to a line that has room for it.
 #[tactic(auto, unfolding(crate::specs::NfsWritten::nfs_entry_text))]
-pub(crate) fn fill(line: &mut Line, item: AceRef<'_>)
-    requires { length item.who.now ≤ longest_who }
-    ensures text { line.new.items ≡ nfs_line (ace item.entry) }
-    ensures short { array_vec_len line.new ≤ text_line_room }
+pub(crate) fn add_entry(line: &mut Line, item: AceRef<'_>, letters: LetterStyle)
+    requires room { array_vec_len line.old ≤ 1 }
+    requires short { length item.who.now ≤ longest_who }
+    ensures text { line.new.items ≡ line.old.items ++ nfs_entry_text letters (ace item.entry) }
+    ensures len { array_vec_len line.new < text_line_room }
 {
-    line.clear();
     add_principal(line, item);
     line.push(b':');
-    add_letters(line, nfs_right_letters(), item.mask.bits());
+    add_styled(line, nfs_right_letters(), item.mask.bits(), letters);
     line.push(b':');
-    add_letters(line, nfs_flag_letters(), item.flags.bits() as u32);
+    add_styled(line, nfs_flag_letters(), item.flags.bits() as u32, letters);
     line.push(b':');
     add(line, kind_word(item.kind));
     add_id(line, item.who);
-    line.push(b'\n');
 }
 
-// Adds the principal of an ACE to an empty line.
+// Adds the principal of an ACE.
 fn add_principal(line: &mut Line, item: AceRef<'_>)
-    requires empty { array_vec_len line.old ≡ 0 }
+    requires room { array_vec_len line.old ≤ 1 }
     requires short { length item.who.now ≤ longest_who }
-    ensures text { line.new.items ≡ principal_text (ace item.entry) (special_word item.entry.who.now) }
-    ensures len { array_vec_len line.new ≤ length item.entry.who.now + 9 }
+    ensures text { line.new.items
+        ≡ line.old.items ++ principal_text (ace item.entry) (special_word item.entry.who.now) }
+    ensures len { array_vec_len line.new ≤ array_vec_len line.old + length item.entry.who.now + 9 }
 {
     match special_word(item.who) {
         Some(word) => add(line, word),

@@ -107,7 +107,7 @@ static FAULTS: [(&[u8], &str); 17] = [
 ];
 
 // A value that Linux accepts, in which it repairs or keeps what libacl never writes, and the message of its fault.
-static NOT_CANONICAL: [(&[u8], &str); 4] = [
+static NOT_CANONICAL: [(&[u8], &str); 3] = [
     (b"\x02\0\0\0", "Miss USER_OBJ at byte 4"),
     (
         b"\x02\0\0\0\x01\0\x01\0\xff\xff\xff\xff\x04\0\x05\0\xff\xff\xff\xff\x10\0\0\0\x07\0\0\0\
@@ -120,9 +120,33 @@ static NOT_CANONICAL: [(&[u8], &str); 4] = [
           \x10\0\x07\0\xff\xff\xff\xff\x20\0\0\0\xff\xff\xff\xff",
         "Duplicate at byte 20",
     ),
+];
+
+// A value with ids in another order, which Linux accepts and stores as it is, and what getfacl -n prints.
+static UNSORTED: [(&[u8], &str); 2] = [
     (
         b"\x02\0\0\0\x01\0\x02\0\xff\xff\xff\xff\x02\0\x04\0\x09\0\0\0\x02\0\x06\0\x08\0\0\0\
           \x04\0\x05\0\xff\xff\xff\xff\x10\0\x02\0\xff\xff\xff\xff\x20\0\x03\0\xff\xff\xff\xff",
+        "user::-w-\nuser:8:rw-\nuser:9:r--\ngroup::r-x\nmask::-w-\nother::-wx\n",
+    ),
+    (
+        b"\x02\0\0\0\x01\0\x05\0\xff\xff\xff\xff\x02\0\x04\0\x09\0\0\0\x02\0\x06\0\x08\0\0\0\
+          \x02\0\x06\0\0\0\0\x80\x04\0\x07\0\xff\xff\xff\xff\x10\0\x06\0\xff\xff\xff\xff\
+          \x20\0\0\0\xff\xff\xff\xff",
+        "user::r-x\nuser:8:rw-\nuser:9:r--\nuser:2147483648:rw-\ngroup::rwx\nmask::rw-\nother::---\n",
+    ),
+];
+
+// A value with two faults, and the message of the first: the place decides, and at one place Order.
+static TWO_FAULTS: [(&[u8], &str); 2] = [
+    (
+        b"\x02\0\0\0\x01\0\x04\0\xff\xff\xff\xff\x01\0\x06\0\xff\xff\xff\xff\x20\0\x04\0\xff\xff\xff\xff\
+          \x04\0\x04\0\xff\xff\xff\xff",
+        "Multi at byte 12",
+    ),
+    (
+        b"\x02\0\0\0\x01\0\x04\0\xff\xff\xff\xff\x04\0\x06\0\xff\xff\xff\xff\x01\0\x04\0\xff\xff\xff\xff\
+          \x20\0\x04\0\xff\xff\xff\xff",
         "Order at byte 20",
     ),
 ];
@@ -175,12 +199,25 @@ mod ample {
     }
 
     #[test]
+    fn ids_in_any_order_are_sorted(rt: HostRuntime) -> Result<(), Fail> {
+        let alloc = rt.alloc();
+        for (bytes, text) in UNSORTED {
+            let acl = read_attribute(alloc, bytes)?;
+            assert!(rt; is_shown_as(alloc, &acl, text)?, "{text}");
+        }
+        Ok(())
+    }
+
+    #[test]
     fn the_first_fault_is_reported(rt: HostRuntime) -> Result<(), Fail> {
         let alloc = rt.alloc();
         for (bytes, message) in FAULTS {
             assert!(rt; is_refused(alloc, bytes, message)?, "{message}");
         }
         for (bytes, message) in NOT_CANONICAL {
+            assert!(rt; is_refused(alloc, bytes, message)?, "{message}");
+        }
+        for (bytes, message) in TWO_FAULTS {
             assert!(rt; is_refused(alloc, bytes, message)?, "{message}");
         }
         Ok(())

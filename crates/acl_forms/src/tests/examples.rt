@@ -3,8 +3,8 @@
 
 use crate::*;
 use acl_nfs4::{Counted, Principal, parse_text};
-use acl_perm::Mode;
-use acl_posix::{PosixAcl, Tag};
+use acl_perm::{Mode, Perm};
+use acl_posix::{Id, Names, PosixAcl, Tag};
 use std::test::Fail;
 
 #[test]
@@ -14,13 +14,6 @@ fn flags_of_a_list_are_a_number_below_eight(rt: HostRuntime) -> Result<(), Fail>
     assert!(rt; !flags.contains(AclFlags::DEFAULTED));
     assert!(rt; flags.bits() == 3);
     Ok(())
-}
-
-#[test]
-fn attribute_fault_finds_the_absent_entry(rt: HostRuntime) {
-    let fault = attribute_fault(b"\x02\0\0\0\x01\0\x06\0\xff\xff\xff\xff");
-    let reason = ReadReason::Miss(Tag::GroupObj);
-    assert!(rt; fault == Some(ReadFault { offset: 12, reason }));
 }
 
 mod ample {
@@ -47,6 +40,16 @@ mod ample {
             &mut Counted::new(room.as_mut_slice()),
         )?;
         assert!(rt; read_acl41(alloc, &room)? == (AclFlags::PROTECTED, list));
+        Ok(())
+    }
+
+    #[test]
+    fn read_part_leaves_out_a_name_that_nobody_knows(rt: HostRuntime) -> Result<(), Fail> {
+        let alloc = rt.alloc();
+        let bytes = b"\0\0\0\0\0\0\0\x01\0\0\0\0\0\0\0\0\0\0\0\x01\0\0\0\x04NOW@";
+        let part = read_part(alloc, Form::NfsAcl41, bytes)?;
+        assert!(rt; part.list.is_empty());
+        assert!(rt; part.left_out.len() == 1);
         Ok(())
     }
 
@@ -97,6 +100,44 @@ mod ample {
             b"\x02\0\0\0\x01\0\x06\0\xff\xff\xff\xff\x04\0\x04\0\xff\xff\xff\xff\x20\0\0\0\xff\xff\xff\xff";
         let acl = read_attribute(alloc, bytes)?;
         assert!(rt; acl.mode().bits == 0o640);
+        Ok(())
+    }
+
+    #[test]
+    fn read_posix_text_takes_the_id_after_a_name(rt: HostRuntime) -> Result<(), Fail> {
+        let alloc = rt.alloc();
+        let text = b"user::rw-,group::r--,other::---,user:bob:rw-:1001,mask::rw-";
+        let file = read_posix_text(alloc, text, &Names::new(alloc))?;
+        let bob = Tag::User(Id { value: 1001 });
+        assert!(rt; file.access.get(bob) == Some(Perm { bits: 6 }));
+        Ok(())
+    }
+
+    #[test]
+    fn read_default_text_takes_the_mark_and_its_absence(rt: HostRuntime) -> Result<(), Fail> {
+        let alloc = rt.alloc();
+        let text = b"default:user::rw-\ngroup::r--\nd:o::---\n";
+        let acl = read_default_text(alloc, text, &Names::new(alloc))?;
+        assert!(rt; acl.mode().bits == 0o640);
+        Ok(())
+    }
+
+    #[test]
+    fn write_posix_text_writes_the_text_of_star(rt: HostRuntime) -> Result<(), Fail> {
+        let alloc = rt.alloc();
+        let text = b"user::rw-,group::r--,other::---,user:bob:rw-:1001,mask::rw-";
+        let acl = read_posix_text(alloc, text, &Names::new(alloc))?.access;
+        let users = [NamedId {
+            id: Id { value: 1001 },
+            name: b"bob",
+        }];
+        let names = IdNames {
+            users: &users,
+            groups: &[],
+        };
+        let mut written = Counted::new(Vec::new(alloc));
+        write_posix_text(&acl, names, TarStyle::Star, &mut written)?;
+        assert!(rt; written.into_inner().as_slice() == text.as_slice());
         Ok(())
     }
 
@@ -172,13 +213,31 @@ mod ample {
     }
 
     #[test]
-    fn write_nfs_text_writes_a_line_for_each_entry(rt: HostRuntime) -> Result<(), Fail> {
+    fn ids_give_names_for_the_ids_of_a_value(rt: HostRuntime) -> Result<(), Fail> {
+        let alloc = rt.alloc();
+        let mut ids = Ids::new(alloc);
+        let id = Id { value: 1001 };
+        ids.add(IdName {
+            name: b"bob",
+            id,
+            is_group: false,
+        })?;
+        let bytes = b"\0\0\0\0\0\0\0\x01\0\0\0\0\0\0\0\0\0\0\0\0\0\0\0\x01\0\0\x03\xe9";
+        let (_, list) = ids.read(alloc, Form::NfsAcl41Ids, bytes)?;
+        for ace in list.aces() {
+            assert!(rt; ace.principal() == Principal::User(b"bob"));
+        }
+        Ok(())
+    }
+
+    #[test]
+    fn write_nfs_text_writes_a_style(rt: HostRuntime) -> Result<(), Fail> {
         let alloc = rt.alloc();
         let text = b"owner@:r-w:f:allow,user:1001:::deny";
         let list = read_nfs_text(alloc, text, WhoField::Name)?;
         let mut text = Counted::new(Vec::new(alloc));
-        write_nfs_text(&list.view(), &mut text)?;
-        let expected = b"owner@:rw:f:allow\nuser:1001:::deny:1001\n";
+        write_nfs_text(&list.view(), Style::ARCHIVE, &mut text)?;
+        let expected = b"owner@:rw:f:allow,user:1001:::deny:1001";
         assert!(rt; text.into_inner().as_slice() == expected.as_slice());
         Ok(())
     }

@@ -1,5 +1,5 @@
-//! The same list in each form. The text is one that nfs4_getfacl 0.4.2 prints, the bytes are in the layout of RFC 4506, and
-//! what a text cannot hold is this library's own.
+//! The same list in each form. The texts are those that nfs4_getfacl 0.4.2 and libarchive 3.6.2 print, the bytes are in
+//! the layout of RFC 4506, and what a text cannot hold is this library's own.
 
 use crate::*;
 use acl_nfs4::{Acl, parse_text};
@@ -8,9 +8,19 @@ use std::alloc::{AllocError, Global};
 use std::test::Fail;
 
 // A form, the flags, and the value of a list in which only the user 1001 may read.
-static VALUES: [(Form, u8, &[u8]); 4] = [
+static VALUES: [(Form, u8, &[u8]); 6] = [
     (Form::NfsTools(ObjectKind::File), 0, b"A::1001:r\n"),
     (Form::NfsTools(ObjectKind::Directory), 0, b"A::1001:r\n"),
+    (
+        Form::NfsText(WhoField::Name, Style::ARCHIVE),
+        0,
+        b"user:1001:r::allow:1001",
+    ),
+    (
+        Form::NfsText(WhoField::Id, Style::ARCHIVE),
+        0,
+        b"user:1001:r::allow:1001",
+    ),
     (
         Form::NfsAcl41,
         2,
@@ -24,7 +34,7 @@ static VALUES: [(Form, u8, &[u8]); 4] = [
 ];
 
 // A form, flags, the text of a list, and the message that says why the form cannot hold them.
-static NOT_HELD: [(Form, u32, &[u8], &str); 5] = [
+static NOT_HELD: [(Form, u32, &[u8], &str); 7] = [
     (
         Form::NfsTools(ObjectKind::File),
         1,
@@ -50,6 +60,18 @@ static NOT_HELD: [(Form, u32, &[u8], &str); 5] = [
         "Inherited at entry 0",
     ),
     (
+        Form::NfsText(WhoField::Name, Style::ARCHIVE),
+        4,
+        b"ALLOW - READ_DATA alice\n",
+        "AclFlags at entry 0",
+    ),
+    (
+        Form::NfsText(WhoField::Name, Style::ARCHIVE),
+        0,
+        b"ALLOW - READ_DATA alice \n",
+        "Separator at entry 0",
+    ),
+    (
         Form::NfsAcl41Ids,
         1,
         b"ALLOW - READ_DATA 1001\nALLOW - READ_DATA alice\n",
@@ -58,7 +80,7 @@ static NOT_HELD: [(Form, u32, &[u8], &str); 5] = [
 ];
 
 // A form, a value that spells no list in it, and the message that says why.
-static REFUSED: [(Form, &[u8], &str); 4] = [
+static REFUSED: [(Form, &[u8], &str); 5] = [
     (
         Form::NfsTools(ObjectKind::File),
         b"A:f:1001:r\n",
@@ -70,6 +92,11 @@ static REFUSED: [(Form, &[u8], &str); 4] = [
         "Fields at byte 11",
     ),
     (Form::NfsAcl41, b"A::1001:r\n", "AclFlagBits at byte 0"),
+    (
+        Form::NfsText(WhoField::Id, Style::ARCHIVE),
+        b"A::1001:r\n",
+        "Tag at byte 0",
+    ),
     (
         Form::NfsAcl41Ids,
         b"\0\0\0\x02\0\0\0\x01\0\0\0\0\0\0\0\0\0\0\0\x01\0\0\0\x041001",

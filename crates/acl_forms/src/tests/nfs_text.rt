@@ -7,6 +7,21 @@ use acl_perm::Counted;
 use std::alloc::{AllocError, Global};
 use std::test::Fail;
 
+const LINES: Style = Style {
+    separator: EntrySeparator::LineFeeds,
+    letters: LetterStyle::Compact,
+};
+
+const FULL_LINES: Style = Style {
+    separator: EntrySeparator::LineFeeds,
+    letters: LetterStyle::Full,
+};
+
+const FULL_COMMAS: Style = Style {
+    separator: EntrySeparator::Commas,
+    letters: LetterStyle::Full,
+};
+
 // A text, and the list that libarchive made of it, with the names.
 const READ: [(&[u8], &[u8]); 9] = [
     (b"", b""),
@@ -76,19 +91,39 @@ const REFUSED: [(&[u8], &str); 24] = [
     (b"user:a\x7f:r::allow", "WhoControl at byte 5"),
 ];
 
-// A list in the text form, and the text that libarchive printed for it in the compact style and with ids.
-const PRINTED: [(&[u8], &[u8]); 3] = [
+// A style, a list in the text form, and the text that libarchive printed for it in this style and with ids. It prints
+// no line feed after the last entry.
+const PRINTED: [(Style, &[u8], &[u8]); 7] = [
     (
+        LINES,
         b"DENY FILE|NOPROP APPEND_DATA|EXECUTE|DELETE_CHILD|WRITE_ATTRIBUTES|WRITE_ACL|WRITE_OWNER b b\n",
         b"user:b b:xpDACo:fn:deny\n",
     ),
     (
+        LINES,
         b"ALLOW GROUP - GROUP@\nALLOW FILE|INHERITONLY|GROUP READ_DATA 2001\n",
         b"group@:::allow\ngroup:2001:r:fi:allow:2001\n",
     ),
     (
+        LINES,
         b"ALLOW - - 007\nALLOW - - 2147483647\n",
         b"user:007:::allow\nuser:2147483647:::allow:2147483647\n",
+    ),
+    (
+        Style::ARCHIVE,
+        b"ALLOW - READ_DATA OWNER@\nDENY FILE|INHERITED - bob\nALLOW GROUP EXECUTE 20\n",
+        b"owner@:r::allow,user:bob::fI:deny,group:20:x::allow:20",
+    ),
+    (Style::ARCHIVE, b"", b""),
+    (
+        FULL_LINES,
+        b"ALLOW - READ_DATA|WRITE_OWNER OWNER@\nDENY FILE|INHERITED - bob\n",
+        b"owner@:r-----------o-:-------:allow\nuser:bob:--------------:f-----I:deny\n",
+    ),
+    (
+        FULL_COMMAS,
+        b"ALLOW - - EVERYONE@\nALLOW GROUP SYNCHRONIZE 20\n",
+        b"everyone@:--------------:-------:allow,group:20:-------------s:-------:allow:20",
     ),
 ];
 
@@ -116,9 +151,14 @@ fn is_read(
 }
 
 // Returns whether a list is written as this text, or refused with this message.
-fn is_written(alloc: Global, list: &Acl, expected: &[u8]) -> Result<bool, AllocError> {
+fn is_written(
+    alloc: Global,
+    list: &Acl,
+    style: Style,
+    expected: &[u8],
+) -> Result<bool, AllocError> {
     let mut text = Counted::new(Vec::new(alloc));
-    match write_nfs_text(&list.view(), &mut text) {
+    match write_nfs_text(&list.view(), style, &mut text) {
         Ok(()) => Ok(text.into_inner().as_slice() == expected),
         Err(fault) => Ok(fault.to_string(alloc)?.as_bytes() == expected),
     }
@@ -157,9 +197,9 @@ mod ample {
     #[test]
     fn a_list_is_written_as_libarchive_prints_it(rt: HostRuntime) -> Result<(), Fail> {
         let alloc = rt.alloc();
-        for (own, text) in PRINTED {
+        for (style, own, text) in PRINTED {
             let list = parse_text(alloc, own)?;
-            assert!(rt; is_written(alloc, &list, text)?);
+            assert!(rt; is_written(alloc, &list, style, text)?);
         }
         Ok(())
     }
@@ -169,7 +209,7 @@ mod ample {
         let alloc = rt.alloc();
         for (own, message) in NOT_HELD {
             let list = parse_text(alloc, own)?;
-            assert!(rt; is_written(alloc, &list, message.as_bytes())?);
+            assert!(rt; is_written(alloc, &list, FULL_COMMAS, message.as_bytes())?);
         }
         Ok(())
     }

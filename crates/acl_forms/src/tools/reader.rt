@@ -5,10 +5,10 @@ ghost use Rattle.acl_forms.specs.ToolsRules.{IsToolsFault, SpellsTools};
 ghost use Rattle.acl_forms.specs.ReadFaults.{no_memory_left};
 ghost use Rattle.acl_forms.specs.declared.fault.ReadFault.{ReadFault as FaultValue};
 
+use crate::ace_text::AceText;
 use crate::fault::ReadFault;
 use crate::object::ObjectKind;
 use crate::reading::read_text;
-use crate::text_form::TextForm;
 use acl_nfs4::Acl;
 use std::alloc::Global;
 
@@ -42,5 +42,5 @@ pub fn read_tools(alloc: Global, text: &[u8], object: ObjectKind) -> Result<Acl,
     ensures refused { (wrong : FaultValue) → IsToolsFault object text.now wrong
         → MatchResult result (λ _. ⊥) (λ fault. (fault ≡ no_memory_left) ⊎ (fault ≡ wrong)) }
 {
-    read_text(alloc, text, TextForm::Tools(object))
+    read_text(alloc, text, AceText::Tools(object))
 }

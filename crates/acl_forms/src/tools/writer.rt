@@ -1,20 +1,19 @@
 //! Writes the text of nfs4-acl-tools, if it can hold the list.
-ghost use Rattle.std.specs.Prelude.{◌≡◌, ◌+◌, ◌≤◌, ◌++◌, ◌==◌, length, map, None};
+ghost use Rattle.std.specs.Prelude.{◌≡◌, ◌+◌, ◌<◌, ◌≤◌, ◌++◌, ◌==◌, length, map, None};
 ghost use Rattle.std.specs.List.{list_any};
 ghost use Rattle.arrayvec.specs.ArrayVec.{array_vec_len};
 ghost use Rattle.acl_nfs4.specs.Ace.{ace};
 ghost use Rattle.acl_nfs4.specs.Limits.{longest_who, most_aces};
 ghost use Rattle.acl_forms.specs.FormWrites.{WritesIfHeld};
-ghost use Rattle.acl_forms.specs.ToolsWritten.{as_written, is_no_file_ace, is_separator, kind_letter, letters_of, meets, tools_ace_fault, tools_fault, tools_fault_from, tools_line, tools_text};
+ghost use Rattle.acl_forms.specs.ToolsWritten.{as_written, is_no_file_ace, is_separator, kind_letter, letters_of, meets, tools_ace_fault, tools_entry_text, tools_fault, tools_fault_from, tools_line, tools_text};
 ghost use Rattle.acl_forms.specs.internal.TextWriting.{text_line_room};
 
 use crate::fault::{FormFault, FormReason};
 use crate::form_write::FormWriteFault;
 use crate::letters::{FLAG_LETTERS, single_letters};
 use crate::object::ObjectKind;
-use crate::text_form::TextForm;
 use crate::tools::entry::with_group;
-use crate::writing::{Line, add, add_letters, meets, put_lines};
+use crate::writing::{Line, WrittenForm, add, add_letters, meets, put_entries};
 use acl_nfs4::{AceRef, Aces, AclView, Kind};
 use acl_perm::Sink;
 use arrayvec::ArrayVec;
@@ -70,7 +69,7 @@ pub fn write_tools<S: Sink>(
     if let Some(fault) = tools_fault(list, object) {
         return Err(FormWriteFault::Form(fault));
     }
-    put_lines(sink, list.aces(), TextForm::Tools(object))?;
+    put_entries(sink, list.aces(), WrittenForm::Tools)?;
     Ok(())
 }
 
@@ -126,20 +125,32 @@ pub(crate) fn has_separator(who: &[u8]) -> bool
     who.iter().any(|b| is_separator(*b))
 }
 
-fn is_separator(b: u8) -> bool
+/// Returns whether a byte separates fields or entries, or begins a comment.
+pub(crate) fn is_separator(b: u8) -> bool
     ensures { result ≡ is_separator b }
 {
     b == b',' || b == b':' || b == b'#'
 }
 
-/// Writes the line of an ACE into the buffer.
-#[tactic(auto, unfolding(crate::specs::ToolsWritten::tools_entry_text))]
-pub(crate) fn fill(line: &mut Line, item: AceRef<'_>)
+// Writes the line of an ACE into the buffer.
+fn fill(line: &mut Line, item: AceRef<'_>)
     requires { length item.who.now ≤ longest_who }
     ensures text { line.new.items ≡ tools_line (ace item.entry) }
     ensures short { array_vec_len line.new ≤ text_line_room }
 {
     line.clear();
+    add_entry(line, item);
+    line.push(b'\n');
+}
+
+/// Adds the entry of an ACE to a line that has room for it.
+#[tactic(auto, unfolding(crate::specs::ToolsWritten::tools_entry_text))]
+pub(crate) fn add_entry(line: &mut Line, item: AceRef<'_>)
+    requires room { array_vec_len line.old ≤ 1 }
+    requires short { length item.who.now ≤ longest_who }
+    ensures text { line.new.items ≡ line.old.items ++ tools_entry_text (ace item.entry) }
+    ensures len { array_vec_len line.new < text_line_room }
+{
     line.push(kind_letter(item.kind));
     line.push(b':');
     add_letters(
@@ -151,7 +162,6 @@ pub(crate) fn fill(line: &mut Line, item: AceRef<'_>)
     add(line, item.who);
     line.push(b':');
     add_letters(line, single_letters(), item.mask.bits());
-    line.push(b'\n');
 }
 
 fn kind_letter(kind: Kind) -> u8

@@ -1,11 +1,8 @@
-use Rattle.acl_forms.proofs.AttributeLemmas.{no_fault, one_acl, one_fault, one_spelling, written_spells}
+use Rattle.acl_forms.proofs.AttributeLemmas.{no_fault, one_acl, one_fault, written_spells}
 use Rattle.acl_forms.proofs.attribute_laws.one_attribute.Goals as goal
 
-pub returns-clause-bytes : goal.returns-clause-bytes
-returns-clause-bytes c = written_spells
-
-pub returns-clause-spelling : goal.returns-clause-spelling
-returns-clause-spelling c = one_spelling
+pub returns-clause-written : goal.returns-clause-written
+returns-clause-written c = written_spells
 
 pub returns-clause-list : goal.returns-clause-list
 returns-clause-list c = one_acl

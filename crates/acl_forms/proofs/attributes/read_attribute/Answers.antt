@@ -1,32 +1,18 @@
-use Rattle.std.proofs.Common.{Err, ap, refl}
-use Rattle.acl_forms.proofs.AttributeLemmas.{no_fault, one_acl, one_fault, read_spelled, spelled_right}
-use Rattle.acl_forms.specs.declared.fault.ReadFault.{ReadFault}
+use Rattle.acl_forms.proofs.AttributeLemmas.{no_fault, one_acl, one_fault}
+use Rattle.acl_forms.proofs.ReadAnswers.{only_fault, only_value}
+use Rattle.acl_forms.specs.Attributes.{IsAttributeFault, SpellsAttribute}
 use Rattle.acl_forms.proofs.attributes.read_attribute.Goals as goal
 
-pub returns-in-Some-clause-only : goal.returns-in-Some-clause-only
-returns-in-Some-clause-only c = λ acl is.
-    absurd (no_fault acl c.args.bytes.now c.in-Some.fault is c.in-Some.ensures.fault)
+pub returns-clause-only : goal.returns-clause-only
+returns-clause-only c =
+    let bytes = c.args.bytes.now in
+    only_value (λ acl. SpellsAttribute acl bytes) (IsAttributeFault bytes) c.read_acl.result
+    (λ one two h k. one_acl one two bytes h k) (λ acl f h k. no_fault acl bytes f h k) c.read_acl.ensures.found
+    c.read_acl.ensures.fault
 
-pub returns-in-Some-clause-refused : goal.returns-in-Some-clause-refused
-returns-in-Some-clause-refused c = λ wrong is.
-    ap (λ (f : ReadFault). Err f) (one_fault c.args.bytes.now c.in-Some.fault wrong c.in-Some.ensures.fault is)
-
-pub returns-in-Ok-Some-clause-found : goal.returns-in-Ok-Some-clause-found
-returns-in-Ok-Some-clause-found c =
-    read_spelled c.in-Ok-Some.acl c.args.bytes.now (c.in_default.ensures.none refl)
-    (rw c.in-Ok-Some.field-0-is at c.in-Ok-Some.ensures.read)
-
-pub returns-in-Ok-Some-clause-only : goal.returns-in-Ok-Some-clause-only
-returns-in-Ok-Some-clause-only c = λ acl is.
-    one_acl c.in-Ok-Some.acl acl c.args.bytes.now
-    (read_spelled c.in-Ok-Some.acl c.args.bytes.now (c.in_default.ensures.none refl)
-    (rw c.in-Ok-Some.field-0-is at c.in-Ok-Some.ensures.read))
-    is
-
-pub returns-in-Ok-Some-clause-refused : goal.returns-in-Ok-Some-clause-refused
-returns-in-Ok-Some-clause-refused c = λ wrong is.
-    absurd (spelled_right c.args.bytes.now wrong (c.in_default.ensures.none refl) is)
-
-pub returns-in_default-from_attribute-clause-refused : goal.returns-in_default-from_attribute-clause-refused
-returns-in_default-from_attribute-clause-refused c = λ wrong is.
-    absurd (spelled_right c.args.bytes.now wrong (c.in_default.ensures.none refl) is)
+pub returns-clause-refused : goal.returns-clause-refused
+returns-clause-refused c =
+    let bytes = c.args.bytes.now in
+    only_fault (λ acl. SpellsAttribute acl bytes) (IsAttributeFault bytes) c.read_acl.result
+    (λ f g h k. one_fault bytes f g h k) (λ acl f h k. no_fault acl bytes f h k) c.read_acl.ensures.found
+    c.read_acl.ensures.fault

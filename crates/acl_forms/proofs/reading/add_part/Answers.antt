@@ -1,15 +1,15 @@
 use Rattle.std.proofs.Common.{sym, ◌∙◌}
 use Rattle.acl_perm.specs.Lines.{span_of}
 use Rattle.acl_forms.proofs.EntryLemmas.{part_read, passed_over}
-use Rattle.acl_forms.specs.TextReading.{rules_of}
 use Rattle.acl_forms.proofs.reading.add_part.Goals as goal
 
 pub returns-then-is_part_skipped : goal.returns-then-is_part_skipped
-returns-then-is_part_skipped c =
-    passed_over (rules_of c.args.form) c.args.acl.now (span_of c.args.part)
+returns-then-is_part_skipped g c =
+    passed_over (g.F.TextForm.rules c.args.form) (g.F.TextForm.items c.args.list.now) (span_of c.args.part)
     (sym c.is_part_skipped.ensures ∙ c.if-is_part_skipped.true)
 
 pub returns : goal.returns
-returns c =
-    part_read (rules_of c.args.form) c.args.acl.now _ (span_of c.args.part) c.add_entry.result
+returns g c =
+    part_read (g.F.TextForm.rules c.args.form) (g.F.TextForm.items c.args.list.now) _ (span_of c.args.part)
+    c.add_entry.result
     (sym c.is_part_skipped.ensures ∙ c.if-is_part_skipped.false) c.add_entry.ensures

@@ -1,10 +1,9 @@
 use Rattle.std.proofs.Common.{sym, ◌∙◌}
 use Rattle.acl_perm.specs.Lines.{span_of}
 use Rattle.acl_forms.proofs.EntryLemmas.{line_skipped}
-use Rattle.acl_forms.specs.TextReading.{rules_of}
 use Rattle.acl_forms.proofs.reading.read_entries.Goals as goal
 
 pub returns-then-is_line_skipped : goal.returns-then-is_line_skipped
-returns-then-is_line_skipped c =
-    line_skipped (rules_of c.args.form) c.args.acl.now (span_of c.args.line)
+returns-then-is_line_skipped g c =
+    line_skipped (g.F.TextForm.rules c.args.form) (g.F.TextForm.items c.args.list.now) (span_of c.args.line)
     (sym c.is_line_skipped.ensures ∙ c.if-is_line_skipped.true)

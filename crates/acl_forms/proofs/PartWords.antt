@@ -1,0 +1,615 @@
+-- Bytes are read as flags and ACEs of any type if and only if they spell them.
+use Rattle.std.proofs.Common.{◌≡◌, ◌∙◌, ◌+◌, ◌<◌, ◌≤◌, ◌^◌, ◌++◌, ℕ, zero, suc, Bool, true, false, cond, eqb, ltb, List, [], ◌∷◌, Option, Some, None, Result, Ok, Err, length, take, drop, replicate, refl, ap, sym, subst, arith, append_assoc, append-nil, length-append, inl, inr}
+use Rattle.std.specs.Prelude.{IfOk, count_ones, option_map, sum_by, nat_le}
+use Rattle.std.specs.Fmt.{decimal}
+use Rattle.std.specs.List.{AllByRecursion, flat_map, list_all}
+use Rattle.std.specs.Str.{is_utf8}
+use Rattle.std.proofs.lemmas.Bool.{eqb-true, le-leb, leb-true, le-ltb, ltb-false}
+use Rattle.std.proofs.lemmas.Bool.Decides.{nat_tests}
+use Rattle.std.proofs.lemmas.List.{drop_at, length-replicate, length-take, take-append-drop, take_at}
+use Rattle.std.proofs.lemmas.List.Concat.{flat_map-cons}
+use Rattle.std.proofs.lemmas.List.Sums.{sum_by-cons, sum_by_push}
+use Rattle.acl_perm.proofs.Bools.{and_true}
+use Rattle.acl_perm.specs.Bits.{all_flags, all_rights}
+use Rattle.acl_perm.specs.Profile.{full}
+use Rattle.acl_posix.specs.Id.{IsId, greatest_id}
+use Rattle.acl_nfs4.proofs.Exports.{IsBytes-drop}
+use Rattle.acl_nfs4.specs.AccessPart.{AnyAce, IsAnyAce, IsAnyWho, any_piece}
+use Rattle.acl_nfs4.specs.Ace.{Ace}
+use Rattle.acl_nfs4.specs.Fields.{count_of, flags_of, mask_of, padding_of, unless, who_len_of, who_reason}
+use Rattle.acl_nfs4.specs.Limits.{longest_who, most_weight}
+use Rattle.acl_nfs4.specs.PartFault.{any_who_of, type_of}
+use Rattle.acl_nfs4.specs.Spelling.{pad_len, word}
+use Rattle.acl_nfs4.specs.Who.{is_no_who_len, is_plain}
+use Rattle.acl_nfs4.specs.declared.xdr.fault.Reason.{Reason}
+use Rattle.acl_nfs4.specs.declared.xdr.fault.Reason.TheVariants.{Truncated}
+use Rattle.acl_nfs4.specs.internal.Progress.{IsBytes}
+use Rattle.acl_nfs4.specs.internal.Reading.{text_fault}
+use Rattle.acl_forms.specs.Acl41Ids.{id_who, listed, nothing_after, special_of}
+use Rattle.acl_forms.specs.Part.{PlacedAce, IsReadAsPart, RefusesPart, SpellsPart, any_weight, is_unknown_deny, kept, left_out}
+use Rattle.acl_forms.specs.PartWords.{AceReader, IsPartAce, Names, SpelledAce, SpellsById, SpellsByName, SpellsWhole, bytes_at, judged_bytes, special_name, unless_unknown, who_by_name, who_by_number}
+use Rattle.acl_forms.specs.PartWords.Names.{by_id, by_special}
+unfoldable use Rattle.acl_forms.specs.PartWords.{ace_by_name, ace_by_number, aces_from, placed_from, whole_in}
+use Rattle.acl_forms.specs.ReadFaults.{read_fault_at}
+use Rattle.acl_forms.specs.Words.{WordPlace, acl_flags_of, start, word_at}
+use Rattle.acl_forms.specs.declared.fault.ReadFault.{ReadFault}
+use Rattle.acl_forms.specs.declared.fault.ReadReason.{ReadReason}
+use Rattle.acl_forms.specs.declared.fault.ReadReason.TheVariants as reason
+use Rattle.acl_forms.specs.declared.part.Part.{Part}
+use Rattle.acl_forms.specs.declared.part.left_out.LeftOut.{LeftOut}
+use Rattle.acl_forms.specs.internal.AnyAces.{IsPartReadAs}
+use Rattle.acl_forms.proofs.AnyNames.{known_who}
+use Rattle.acl_forms.proofs.IdLemmas.{count_again, count_is, ended, flags_accepted, flags_are, listed_again, listed_ok, mask_again, mask_is, special_accepted, special_is, within_le}
+use Rattle.acl_forms.proofs.WhoLemmas.{is_who-decimal}
+use Rattle.acl_forms.proofs.WordLemmas.{Takes, Takes-then, bind-ok, bind_then, flags_again, flags_found, guard_ok, ok_is, place_at, word_again, word_takes}
+
+-- ---- any bytes
+
+-- bytes that were read spell their value, and reading took them
+record TakesBytes {A : Type 0} (n : ℕ) (means : List ℕ → Result A ReadReason) (p : WordPlace) (x : A × WordPlace)
+    : Type 0 where
+  pub accepted : means (take n p.rest) ≡ Ok x.0
+  pub long : length (take n p.rest) ≡ n
+  pub takes : Takes p (take n p.rest) x.1
+
+-- whole bytes that give a value were accepted, and reading continues after them
+judged_ok : {A : Type 0} (n : ℕ) (p : WordPlace) (r : Result A ReadReason) (x : A × WordPlace)
+    → judged_bytes n p r ≡ Ok x → (r ≡ Ok x.0) × (place_at (p.at + n) (drop n p.rest) ≡ x.1)
+judged_ok n p (Ok y) x e =
+    let h : (y, place_at (p.at + n) (drop n p.rest)) ≡ x = ok_is _ _ e in (ap (λ z. Ok z.0) h, ap (λ z. z.1) h)
+judged_ok n p (Err d) x e = absurd cc
+
+-- bytes that gave a value were taken
+bytes_take : {A : Type 0} (n : ℕ) (means : List ℕ → Result A ReadReason) (p : WordPlace) (x : A × WordPlace)
+    → IsBytes p.rest → bytes_at n means p ≡ Ok x → TakesBytes n means p x
+bytes_take n means p x fits e =
+    let g = guard_ok (ltb (length p.rest) n) (read_fault_at p.at (reason.List Truncated))
+    (judged_bytes n p (means (take n p.rest))) x e in
+    let j = judged_ok n p (means (take n p.rest)) x g.1 in
+    let enough : n ≤ length p.rest = ltb-false _ _ g.0 in
+    let len : length (take n p.rest) ≡ n = omega (arith, length-take n p.rest) in
+    let made : Takes p (take n p.rest) (place_at (p.at + n) (drop n p.rest)) =
+    record {
+      parts = sym (take-append-drop n p.rest);
+      counted = omega (arith, len);
+      bytes = IsBytes-drop n p.rest fits;
+    } in
+    record {
+      accepted = j.0;
+      long = len;
+      takes = subst (λ (q : WordPlace). Takes p (take n p.rest) q) j.1 made;
+    }
+
+-- bytes that were written are read again
+bytes_again : {A : Type 0} (n : ℕ) (means : List ℕ → Result A ReadReason) (at : ℕ) (text rest : List ℕ) (x : A)
+    → length text ≡ n → means text ≡ Ok x
+    → bytes_at n means (place_at at (text ++ rest)) ≡ Ok (x, place_at (at + n) rest)
+bytes_again n means at text rest x len e =
+    let long : ltb (length (text ++ rest)) n ≡ false = le-ltb _ _ (omega (arith, length-append text rest)) in
+    rw (long, take_at text rest n len, e, drop_at text rest n len) refl
+
+-- ---- a list of ACEs, by a reader of ACEs
+
+-- an ACE was read and taken, and it may be in a list
+pub record TakesAce (Spells : AnyAce → List ℕ → Type 0) (bits : ℕ) (p : WordPlace) (a : AnyAce) (q : WordPlace)
+    : Type 0 where
+  pub bytes : List ℕ
+  pub takes : Takes p bytes q
+  pub spells : Spells a bytes
+  pub known : is_unknown_deny a.type_number a.who ≡ false
+  pub light : bits + count_ones a.mask ≤ most_weight
+
+-- a reader reads what is spelled, and nothing else
+pub record IsReader (Spells : AnyAce → List ℕ → Type 0) (read : AceReader) : Type 0 where
+  pub take_ace : (bits : ℕ) (p : WordPlace) (x : AnyAce × WordPlace) → IsBytes p.rest → read bits p ≡ Ok x
+      → TakesAce Spells bits p x.0 x.1
+  pub again : (bits at : ℕ) (a : AnyAce) (bytes rest : List ℕ) → Spells a bytes
+      → is_unknown_deny a.type_number a.who ≡ false → bits + count_ones a.mask ≤ most_weight
+      → read bits (place_at at (bytes ++ rest)) ≡ Ok (a, place_at (at + length bytes) rest)
+
+-- the bytes of an ACE
+abbrev bytes_of : SpelledAce → List ℕ
+bytes_of s = s.bytes
+
+-- the number of mask bits of an ACE
+abbrev bits_of : SpelledAce → ℕ
+bits_of s = count_ones s.ace.mask
+
+-- ACEs were read and taken after a list
+record TakesAces (Spells : AnyAce → List ℕ → Type 0) (n : ℕ) (list : List PlacedAce) (p : WordPlace)
+    (out : List PlacedAce) (q : WordPlace) : Type 0 where
+  pub more : List SpelledAce
+  pub takes : Takes p (flat_map bytes_of more) q
+  pub long : length more ≡ n
+  pub each : AllByRecursion (IsPartAce Spells) more
+  pub light : any_weight list + sum_by bits_of more ≤ most_weight
+  pub is : out ≡ list ++ placed_from p.at more
+
+-- what a reader makes of bytes
+module _ {Spells : AnyAce → List ℕ → Type 0} {read : AceReader} (reader : IsReader Spells read) where
+  -- reading ACEs takes their bytes
+  aces_take : (n : ℕ) (list : List PlacedAce) (p : WordPlace) (x : List PlacedAce × WordPlace) → IsBytes p.rest
+      → any_weight list ≤ most_weight → aces_from read n list p ≡ Ok x → TakesAces Spells n list p x.0 x.1
+  unfolding aces_from placed_from
+  aces_take zero list p x fits light e =
+      subst (λ (y : List PlacedAce × WordPlace). TakesAces Spells zero list p y.0 y.1) (ok_is (list, p) x e) (record {
+        more = [];
+        takes = record { parts = refl; counted = omega arith; bytes = fits };
+        long = refl;
+        each = tt;
+        light = omega (arith, light);
+        is = sym (append-nil list);
+      })
+  aces_take (suc n) list p x fits light e =
+      bind_then (read (any_weight list) p) _ x e (λ first fe rest.
+      let t = reader.take_ace (any_weight list) p first fits fe in
+      let one : PlacedAce = record { ace = first.0; offset = p.at } in
+      let spelled : SpelledAce = record { ace = first.0; bytes = t.bytes } in
+      let heavier : any_weight (list ++ one ∷ []) ≡ any_weight list + count_ones first.0.mask =
+      sum_by_push (λ (q : PlacedAce). count_ones q.ace.mask) list one in
+      let s = aces_take n (list ++ one ∷ []) first.1 x t.takes.bytes (omega (arith, heavier, t.light)) rest in
+      record {
+        more = spelled ∷ s.more;
+        takes = subst (λ (y : List ℕ). Takes p y x.1) (sym (flat_map-cons bytes_of spelled s.more))
+            (Takes-then t.takes s.takes);
+        long = omega (arith, s.long);
+        each = (record { spells = t.spells; known = t.known }, s.each);
+        light = omega (arith, heavier, s.light, sum_by-cons bits_of spelled s.more);
+        is = s.is ∙ append_assoc list (one ∷ []) (placed_from first.1.at s.more)
+            ∙ ap (λ (at : ℕ). list ++ one ∷ placed_from at s.more) t.takes.counted;
+      })
+
+  -- ACEs that were spelled are read again after a list
+  aces_again : (more : List SpelledAce) (list : List PlacedAce) (at : ℕ) (rest : List ℕ)
+      → AllByRecursion (IsPartAce Spells) more → any_weight list + sum_by bits_of more ≤ most_weight
+      → aces_from read (length more) list (place_at at (flat_map bytes_of more ++ rest))
+      ≡ Ok (list ++ placed_from at more, place_at (at + length (flat_map bytes_of more)) rest)
+  unfolding aces_from placed_from
+  aces_again [] list at rest each light =
+      ap (λ (l : List PlacedAce). Ok (l, place_at at rest)) (sym (append-nil list))
+      ∙ ap (λ (k : ℕ). Ok (list ++ [], place_at k rest)) (omega arith)
+  aces_again (s ∷ more) list at rest each light =
+      let one : PlacedAce = record { ace = s.ace; offset = at } in
+      let tail : List ℕ = flat_map bytes_of more ++ rest in
+      let heavier : any_weight (list ++ one ∷ []) ≡ any_weight list + count_ones s.ace.mask =
+      sum_by_push (λ (q : PlacedAce). count_ones q.ace.mask) list one in
+      let all = sum_by-cons bits_of s more in
+      ap (λ (t : List ℕ). aces_from read (suc (length more)) list (place_at at t))
+      (ap (λ (t : List ℕ). t ++ rest) (flat_map-cons bytes_of s more)
+      ∙ append_assoc s.bytes (flat_map bytes_of more) rest)
+      ∙ bind-ok _ (reader.again (any_weight list) at s.ace s.bytes tail each.0.spells each.0.known
+      (omega (arith, light, all)))
+      ∙ aces_again more (list ++ one ∷ []) (at + length s.bytes) rest each.1 (omega (arith, light, all, heavier))
+      ∙ ap (λ (l : List PlacedAce). Ok (l, place_at (at + length s.bytes + length (flat_map bytes_of more)) rest))
+      (append_assoc list (one ∷ []) (placed_from (at + length s.bytes) more))
+      ∙ ap (λ (k : ℕ). Ok (list ++ one ∷ placed_from (at + length s.bytes) more, place_at k rest))
+      (omega (arith, ap length (flat_map-cons bytes_of s more), length-append s.bytes (flat_map bytes_of more)))
+
+  -- what was read was spelled
+  pub whole_spelled : (bytes : List ℕ) (x : ℕ × List PlacedAce) → IsBytes bytes → whole_in read bytes ≡ Ok x
+      → SpellsWhole Spells x.0 x.1 bytes
+  unfolding whole_in
+  whole_spelled bytes x fits e =
+      bind_then (word_at acl_flags_of (start bytes)) _ x e (λ f fe fr.
+      bind_then (word_at (λ n. listed (count_of n)) f.1) _ x fr (λ c ce cr.
+      bind_then (aces_from read c.0 [] c.1) _ x cr (λ l le lr.
+      let flags = flags_found bytes f.0 f.1 fits fe in
+      let ft = word_takes acl_flags_of (start bytes) f fits fe in
+      let ct = word_takes (λ n. listed (count_of n)) f.1 c flags.2 ce in
+      let count = count_is ct.number c.0 (listed_ok (count_of ct.number) c.0 ct.accepted) in
+      let t = aces_take c.0 [] c.1 l ct.takes.bytes (omega arith) le in
+      let last = ended f.0 l x lr in
+      let body : List ℕ = flat_map bytes_of t.more in
+      let eight : c.1.at ≡ 8 = omega (arith, ft.takes.counted, ct.takes.counted) in
+      let parts : f.1.rest ≡ word (length t.more) ++ body =
+      ct.takes.parts ∙ ap (λ (n : ℕ). word n ++ c.1.rest) (count.0 ∙ sym t.long)
+      ∙ ap (λ (r : List ℕ). word (length t.more) ++ r)
+      (t.takes.parts ∙ ap (λ (r : List ℕ). body ++ r) last.1 ∙ append-nil body) in
+      subst (λ (y : ℕ × List PlacedAce). SpellsWhole Spells y.0 y.1 bytes) last.0 (
+        t.more,
+        t.is ∙ ap (λ (at : ℕ). placed_from at t.more) eight,
+        record {
+          flags = flags.0;
+          count = omega (arith, t.long, count.1);
+          weight = omega (arith, t.light);
+          each = t.each;
+          spelled = flags.1 ∙ ap (λ (r : List ℕ). word f.0 ++ r) parts;
+        },
+      ))))
+
+  -- what was spelled is read again
+  pub whole_read : (bytes : List ℕ) (set : ℕ) (list : List PlacedAce) → SpellsWhole Spells set list bytes
+      → whole_in read bytes ≡ Ok (set, list)
+  unfolding whole_in
+  whole_read bytes set list (spelled, is, h) =
+      let n : ℕ = length spelled in
+      let body : List ℕ = flat_map bytes_of spelled in
+      let c = h.count in
+      let w = h.weight in
+      bind-ok _ (flags_again bytes set (word n ++ body) h.flags h.spelled)
+      ∙ bind-ok _ (ap (λ (t : List ℕ). word_at (λ n. listed (count_of n)) (place_at 4 (word n ++ t)))
+      (sym (append-nil body))
+      ∙ word_again (λ n. listed (count_of n)) 4 n (body ++ []) n (omega (arith, c))
+      (listed_again _ n (count_again n c)))
+      ∙ bind-ok (nothing_after set) (aces_again spelled [] 8 [] h.each (omega (arith, w)))
+      ∙ ap (λ (l : List PlacedAce). Ok (set, l)) (sym is)
+
+  -- ---- what a call answers
+
+  -- a part that is returned is that of the ACEs that the bytes spell
+  pub words_found : (bytes : List ℕ) → IsBytes bytes → (result : Result Part ReadFault)
+      → IsPartReadAs result (whole_in read bytes)
+      → IfOk result (λ part. SpellsPart (λ whole. SpellsWhole Spells part.flags.bits whole bytes) part.list
+      part.left_out.items)
+  words_found bytes fits (Ok part) (set, list, e, is) = record {
+    whole = list;
+    spelled = subst (λ (n : ℕ). SpellsWhole Spells n list bytes) (sym is.flags)
+        (whole_spelled bytes (set, list) fits e);
+    kept = is.kept;
+    left_out = is.left_out;
+  }
+  words_found bytes fits (Err f) h = tt
+
+  -- the part of the ACEs that the bytes spell is returned, unless memory runs out
+  pub words_only : (bytes : List ℕ) → (result : Result Part ReadFault) → IsPartReadAs result (whole_in read bytes)
+      → (set : ℕ) (list : List Ace) (out : List LeftOut)
+      → SpellsPart (λ whole. SpellsWhole Spells set whole bytes) list out → IsReadAsPart result set list out
+  words_only bytes (Ok part) (flags, aces, said, is) set list out h =
+      let e : (flags, aces) ≡ (set, h.whole) = ok_is _ _ (sym said ∙ whole_read bytes set h.whole h.spelled) in
+      record {
+        flags = is.flags ∙ ap (λ z. z.0) e;
+        kept = is.kept ∙ ap (λ z. kept z.1) e ∙ sym h.kept;
+        left_out = is.left_out ∙ ap (λ z. left_out z.1) e ∙ sym h.left_out;
+      }
+  words_only bytes (Err f) (inl memory) set list out h = memory
+  words_only bytes (Err f) (inr said) set list out h =
+      absurd (apart (sym said ∙ whole_read bytes set h.whole h.spelled))
+    where
+      apart : {x : ℕ × List PlacedAce} {f : ReadFault} → Err f ≡ Ok x → ⊥
+      apart e = cc
+
+-- bytes with a fault are refused with that fault, unless memory runs out
+pub words_refused : (read : AceReader) (bytes : List ℕ) (result : Result Part ReadFault)
+    → IsPartReadAs result (whole_in read bytes) → (wrong : ReadFault) → whole_in read bytes ≡ Err wrong
+    → RefusesPart result wrong
+words_refused read bytes (Ok part) (flags, list, said, is) wrong e = cc
+words_refused read bytes (Err f) (inl memory) wrong e = inr memory
+words_refused read bytes (Err f) (inr said) wrong e = inl cc
+
+-- ---- an ACE with a name
+
+-- a type that was read is one of the four
+type_is : (n m : ℕ) → type_of n ≡ Ok m → (n ≡ m) × (m < 4)
+type_is n m e = grind (arith, nat_tests)
+
+-- a type below four is accepted
+type_again : (n : ℕ) → n < 4 → type_of n ≡ Ok n
+type_again n few = grind (arith, nat_tests)
+
+-- a length that was read is one that a who may have
+who_len_is : (n m : ℕ) → who_len_of n ≡ Ok m → (n ≡ m) × (is_no_who_len m ≡ false)
+who_len_is n m e = grind (arith, nat_tests)
+
+-- the length of a name is within the bounds
+bounds : (n : ℕ) → is_no_who_len n ≡ false → (1 ≤ n) × (n ≤ longest_who)
+bounds n e = grind (arith, nat_tests)
+
+-- a length that a who may have is accepted
+who_len_again : (n : ℕ) → is_no_who_len n ≡ false → who_len_of n ≡ Ok n
+who_len_again n some = rw some refl
+
+-- bytes with no fault of their encoding are text without control bytes
+is_text : (bytes : List ℕ) → option_map who_reason (text_fault bytes) ≡ None
+    → (is_utf8 bytes ≡ true) × (list_all is_plain bytes ≡ true)
+is_text bytes e = grind arith
+
+-- bytes that are accepted are the value, and have no fault
+taken_is : (fault : Option Reason) (bytes who : List ℕ) → unless fault bytes ≡ Ok who → (bytes ≡ who) × (fault ≡ None)
+taken_is None bytes who e = (ok_is bytes who e, refl)
+taken_is (Some f) bytes who e = absurd cc
+
+-- what is accepted of the who of an ACE
+unless_ok : (type_number : ℕ) (name who : List ℕ) → unless_unknown type_number name ≡ Ok who
+    → (is_unknown_deny type_number name ≡ false) × (name ≡ who)
+unless_ok type_number name who e =
+    let g = guard_ok (is_unknown_deny type_number name) _ (Ok name) who e in (g.0, ok_is name who g.1)
+
+-- what is said of a name that was read
+record SaysName (type_number : ℕ) (bytes who : List ℕ) : Type 0 where
+  pub same : bytes ≡ who
+  pub utf8 : is_utf8 who ≡ true
+  pub plain : list_all is_plain who ≡ true
+  pub known : is_unknown_deny type_number who ≡ false
+
+-- a name that was read is a name
+name_is : (type_number : ℕ) (bytes who : List ℕ) → who_by_name type_number bytes ≡ Ok who
+    → SaysName type_number bytes who
+name_is type_number bytes who e =
+    bind_then (listed (any_who_of bytes)) (λ w. unless_unknown type_number w) who e (λ w we rest.
+    let taken = taken_is (option_map who_reason (text_fault bytes)) bytes w (listed_ok (any_who_of bytes) w we) in
+    let known = unless_ok type_number w who rest in
+    let same : bytes ≡ who = taken.0 ∙ known.1 in
+    let text = is_text who (ap (λ (t : List ℕ). option_map who_reason (text_fault t)) (sym same) ∙ taken.1) in
+    record {
+      same = same;
+      utf8 = text.0;
+      plain = text.1;
+      known = ap (is_unknown_deny type_number) (sym known.1) ∙ known.0;
+    })
+
+-- a name is accepted
+name_again : (type_number : ℕ) (who : List ℕ) → IsAnyWho who → is_unknown_deny type_number who ≡ false
+    → who_by_name type_number who ≡ Ok who
+name_again type_number who is known = rw (is.utf8, is.plain, known) refl
+
+-- bytes that are all zero are as many zeros
+bytes_are_zeros : (bytes : List ℕ) → list_all (λ b. eqb b 0) bytes ≡ true → bytes ≡ replicate (length bytes) 0
+bytes_are_zeros [] e = refl
+bytes_are_zeros (b ∷ bytes) e =
+    let h = and_true (eqb b 0) (list_all (λ b. eqb b 0) bytes) e in
+    let first : b ≡ 0 = eqb-true _ _ h.0 in
+    let others : bytes ≡ replicate (length bytes) 0 = bytes_are_zeros bytes h.1 in
+    cc
+
+-- padding that was read is zero
+padding_is : (bytes : List ℕ) (x : Unit {0}) → listed (padding_of bytes) ≡ Ok x → bytes ≡ replicate (length bytes) 0
+padding_is bytes x e =
+    bytes_are_zeros bytes (by (list_all (λ b. eqb b 0) bytes) refl (listed_ok (padding_of bytes) x e))
+  where
+    by : (b : Bool) → list_all (λ b. eqb b 0) bytes ≡ b → padding_of bytes ≡ Ok x
+        → list_all (λ b. eqb b 0) bytes ≡ true
+    by true t e = t
+    by false t e = absurd grind arith
+
+-- a number of zeros are all zero
+zeros_again : (n : ℕ) → list_all (λ b. eqb b 0) (replicate n 0) ≡ true
+zeros_again zero = refl
+zeros_again (suc n) = zeros_again n
+
+-- zero bytes are accepted as padding
+padding_again : (n : ℕ) → listed (padding_of (replicate n 0)) ≡ Ok tt
+padding_again n = rw (zeros_again n) refl
+
+-- if each field of an ACE was read, the ACE was read
+takes_fields : (bits : ℕ) (p : WordPlace) (t f m l : ℕ × WordPlace) (w : List ℕ × WordPlace) (z : Unit {0} × WordPlace)
+    → IsBytes p.rest → word_at (λ n. listed (type_of n)) p ≡ Ok t → word_at (λ n. listed (flags_of full n)) t.1 ≡ Ok f
+    → word_at (λ n. listed (mask_of full bits n)) f.1 ≡ Ok m → word_at (λ n. listed (who_len_of n)) m.1 ≡ Ok l
+    → bytes_at l.0 (who_by_name t.0) l.1 ≡ Ok w → bytes_at (pad_len l.0) (λ b. listed (padding_of b)) w.1 ≡ Ok z
+    → TakesAce SpellsByName bits p (record { type_number = t.0; flags = f.0; mask = m.0; who = w.0 }) z.1
+takes_fields bits p t f m l w z fits te fe me le we ze =
+    let tt = word_takes (λ n. listed (type_of n)) p t fits te in
+    let ft = word_takes (λ n. listed (flags_of full n)) t.1 f tt.takes.bytes fe in
+    let mt = word_takes (λ n. listed (mask_of full bits n)) f.1 m ft.takes.bytes me in
+    let lt = word_takes (λ n. listed (who_len_of n)) m.1 l mt.takes.bytes le in
+    let wt = bytes_take l.0 (who_by_name t.0) l.1 w lt.takes.bytes we in
+    let zt = bytes_take (pad_len l.0) (λ b. listed (padding_of b)) w.1 z wt.takes.bytes ze in
+    let number = type_is tt.number t.0 (listed_ok (type_of tt.number) t.0 tt.accepted) in
+    let flags = flags_are ft.number f.0 (listed_ok (flags_of full ft.number) f.0 ft.accepted) in
+    let mask = mask_is bits mt.number m.0 (listed_ok (mask_of full bits mt.number) m.0 mt.accepted) in
+    let len = who_len_is lt.number l.0 (listed_ok (who_len_of lt.number) l.0 lt.accepted) in
+    let says = name_is t.0 (take l.0 l.1.rest) w.0 wt.accepted in
+    let long : length w.0 ≡ l.0 = ap length (sym says.same) ∙ wt.long in
+    let zeros : take (pad_len l.0) w.1.rest ≡ replicate (pad_len (length w.0)) 0 =
+    padding_is _ z.0 zt.accepted ∙ ap (λ (k : ℕ). replicate k 0) (zt.long ∙ ap pad_len (sym long)) in
+    let a : AnyAce = record { type_number = t.0; flags = f.0; mask = m.0; who = w.0 } in
+    let tw : Takes p (word t.0) t.1 = subst (λ (n : ℕ). Takes p (word n) t.1) number.0 tt.takes in
+    let fw : Takes t.1 (word f.0) f.1 = subst (λ (n : ℕ). Takes t.1 (word n) f.1) flags.0 ft.takes in
+    let mw : Takes f.1 (word m.0) m.1 = subst (λ (n : ℕ). Takes f.1 (word n) m.1) mask.0 mt.takes in
+    let lw : Takes m.1 (word (length w.0)) l.1 =
+    subst (λ (n : ℕ). Takes m.1 (word n) l.1) (len.0 ∙ sym long) lt.takes in
+    let ww : Takes l.1 w.0 w.1 = subst (λ (b : List ℕ). Takes l.1 b w.1) says.same wt.takes in
+    let zw : Takes w.1 (replicate (pad_len (length w.0)) 0) z.1 =
+    subst (λ (b : List ℕ). Takes w.1 b z.1) zeros zt.takes in
+    record {
+      bytes = any_piece a;
+      takes = Takes-then (Takes-then (Takes-then (Takes-then (Takes-then tw fw) mw) lw) ww) zw;
+      spells = record {
+        is = record {
+          type_number = number.1;
+          flags = flags.1;
+          mask = mask.1;
+          who = record { long = ap is_no_who_len long ∙ len.1; utf8 = says.utf8; plain = says.plain };
+        };
+        spelled = refl;
+      };
+      known = says.known;
+      light = mask.2;
+    }
+
+-- the parts of an ACE before other bytes, one after the other
+regrouped : (a b c d e f g : List ℕ)
+    → ((((((a ++ b) ++ c) ++ d) ++ e) ++ f) ++ g) ≡ a ++ (b ++ (c ++ (d ++ (e ++ (f ++ g)))))
+regrouped a b c d e f g = simp append_assoc
+
+-- an ACE of nfsacl41 is read if and only if it is spelled
+pub reader_by_name : IsReader SpellsByName ace_by_name
+unfolding ace_by_name
+reader_by_name = record { take_ace = takes; again = again } where
+  takes : (bits : ℕ) (p : WordPlace) (x : AnyAce × WordPlace) → IsBytes p.rest → ace_by_name bits p ≡ Ok x
+      → TakesAce SpellsByName bits p x.0 x.1
+  takes bits p x fits e =
+      bind_then (word_at (λ n. listed (type_of n)) p) _ x e (λ t te tr.
+      bind_then (word_at (λ n. listed (flags_of full n)) t.1) _ x tr (λ f fe fr.
+      bind_then (word_at (λ n. listed (mask_of full bits n)) f.1) _ x fr (λ m me mr.
+      bind_then (word_at (λ n. listed (who_len_of n)) m.1) _ x mr (λ l le lr.
+      bind_then (bytes_at l.0 (who_by_name t.0) l.1) _ x lr (λ w we wr.
+      bind_then (bytes_at (pad_len l.0) (λ b. listed (padding_of b)) w.1) _ x wr (λ z ze zr.
+      subst (λ (y : AnyAce × WordPlace). TakesAce SpellsByName bits p y.0 y.1) (ok_is _ x zr)
+      (takes_fields bits p t f m l w z fits te fe me le we ze)))))))
+
+  named_again : (bits at : ℕ) (a : AnyAce) (rest : List ℕ) → IsAnyAce full a
+      → is_unknown_deny a.type_number a.who ≡ false → bits + count_ones a.mask ≤ most_weight
+      → ace_by_name bits (place_at at (any_piece a ++ rest)) ≡ Ok (a, place_at (at + length (any_piece a)) rest)
+  named_again bits at a rest is known light =
+      let n : ℕ = length a.who in
+      let pad : List ℕ = replicate (pad_len n) 0 in
+      let b = bounds n is.who.long in
+      let len : length pad ≡ pad_len n = length-replicate _ _ in
+      let low = within_le all_flags a.flags is.flags in
+      let small = within_le all_rights a.mask is.mask in
+      let r5 = pad ++ rest in
+      let r4 = a.who ++ r5 in
+      let r3 = word n ++ r4 in
+      let r2 = word a.mask ++ r3 in
+      let r1 = word a.flags ++ r2 in
+      ap (λ (x : List ℕ). ace_by_name bits (place_at at x))
+      (regrouped (word a.type_number) (word a.flags) (word a.mask) (word n) a.who pad rest)
+      ∙ bind-ok _ (word_again (λ n. listed (type_of n)) at a.type_number r1 a.type_number
+      (let t = is.type_number in omega arith) (listed_again _ a.type_number (type_again a.type_number is.type_number)))
+      ∙ bind-ok _ (word_again (λ n. listed (flags_of full n)) (at + 4) a.flags r2 a.flags (omega (arith, low))
+      (listed_again _ a.flags (flags_accepted a.flags is.flags)))
+      ∙ bind-ok _ (word_again (λ n. listed (mask_of full bits n)) (at + 4 + 4) a.mask r3 a.mask (omega (arith, small))
+      (listed_again _ a.mask (mask_again bits a.mask is.mask light)))
+      ∙ bind-ok _ (word_again (λ n. listed (who_len_of n)) (at + 4 + 4 + 4) n r4 n (omega (arith, b.1))
+      (listed_again _ n (who_len_again n is.who.long)))
+      ∙ bind-ok _ (bytes_again n (who_by_name a.type_number) (at + 4 + 4 + 4 + 4) a.who r5 a.who refl
+      (name_again a.type_number a.who is.who known))
+      ∙ bind-ok _ (bytes_again (pad_len n) (λ b. listed (padding_of b)) (at + 4 + 4 + 4 + 4 + n) pad rest tt len
+      (padding_again (pad_len n)))
+      ∙ ap (λ (k : ℕ). Ok (a, place_at k rest)) (omega (arith, len, length-append a.who pad))
+
+  again : (bits at : ℕ) (a : AnyAce) (bytes rest : List ℕ) → SpellsByName a bytes
+      → is_unknown_deny a.type_number a.who ≡ false → bits + count_ones a.mask ≤ most_weight
+      → ace_by_name bits (place_at at (bytes ++ rest)) ≡ Ok (a, place_at (at + length bytes) rest)
+  again bits at a bytes rest spells known light =
+      subst (λ (b : List ℕ). ace_by_name bits (place_at at (b ++ rest)) ≡ Ok (a, place_at (at + length b) rest))
+      (sym spells.spelled) (named_again bits at a rest spells.is known light)
+
+-- ---- an ACE with a number
+
+-- what a number that was read names
+record SaysNumber (type_number special n : ℕ) (who : List ℕ) : Type 0 where
+  pub names : Names special n who
+  pub known : is_unknown_deny type_number who ≡ false
+
+-- an id that was read is one, and somebody knows it
+id_is : (type_number n : ℕ) (who : List ℕ) → id_who n ≡ Ok who → SaysNumber type_number 0 n who
+id_is type_number n who e = by (nat_le n greatest_id) refl e
+  where
+    by : (b : Bool) → nat_le n greatest_id ≡ b → cond b (Ok (decimal n)) (Err reason.Id) ≡ Ok who
+        → SaysNumber type_number 0 n who
+    by true t e =
+        let is : IsId n = leb-true n greatest_id t in
+        let known = known_who (decimal n) (is_who-decimal n is) in
+        subst (SaysNumber type_number 0 n) (ok_is (decimal n) who e)
+        (record { names = by_id n is; known = rw known refl })
+    by false t e = absurd cc
+
+-- a number that was read names the who
+number_is : (type_number special n : ℕ) (who : List ℕ) → special ≤ 1 → n < 2 ^ 32
+    → who_by_number type_number special n ≡ Ok who → SaysNumber type_number special n who
+number_is type_number special n who le lt e = by (eqb special 1) refl e
+  where
+    by : (b : Bool) → eqb special 1 ≡ b → cond b (unless_unknown type_number (special_name n)) (id_who n) ≡ Ok who
+        → SaysNumber type_number special n who
+    by true t e =
+        let h = unless_ok type_number (special_name n) who e in
+        subst (λ (m : ℕ). SaysNumber type_number m n who) (sym (eqb-true special 1 t))
+        (subst (SaysNumber type_number 1 n) h.1 (record { names = by_special n lt; known = h.0 }))
+    by false t e =
+        let none : special ≡ 0 = grind arith in
+        subst (λ (m : ℕ). SaysNumber type_number m n who) (sym none) (id_is type_number n who e)
+
+-- what the words of a who are
+record ReadsNumber (type_number special n : ℕ) (who : List ℕ) : Type 0 where
+  pub low : special ≤ 1
+  pub fits : n < 2 ^ 32
+  pub read : who_by_number type_number special n ≡ Ok who
+
+-- the number of a who is read again
+number_again : (type_number special n : ℕ) (who : List ℕ) → Names special n who
+    → is_unknown_deny type_number who ≡ false → ReadsNumber type_number special n who
+number_again type_number _ _ _ (by_special n lt) known =
+    record { low = omega arith; fits = lt; read = rw known refl }
+number_again type_number _ _ _ (by_id id is) known =
+    let le : id ≤ 4294967294 = is in
+    record { low = omega arith; fits = omega (arith, le); read = rw (le-leb id greatest_id is) refl }
+
+-- the bytes of an ACE with these words
+abbrev words_of : AnyAce → ℕ → ℕ → List ℕ
+words_of a special n =
+    word a.type_number ++ (word a.flags ++ (word special ++ (word a.mask ++ word n)))
+
+-- if each word of an ACE was read, the ACE was read
+takes_words : (bits : ℕ) (p : WordPlace) (t f s m : ℕ × WordPlace) (w : List ℕ × WordPlace) → IsBytes p.rest
+    → word_at (λ n. listed (type_of n)) p ≡ Ok t → word_at (λ n. listed (flags_of full n)) t.1 ≡ Ok f
+    → word_at special_of f.1 ≡ Ok s → word_at (λ n. listed (mask_of full bits n)) s.1 ≡ Ok m
+    → word_at (who_by_number t.0 s.0) m.1 ≡ Ok w
+    → TakesAce SpellsById bits p (record { type_number = t.0; flags = f.0; mask = m.0; who = w.0 }) w.1
+takes_words bits p t f s m w fits te fe se me we =
+    let tt = word_takes (λ n. listed (type_of n)) p t fits te in
+    let ft = word_takes (λ n. listed (flags_of full n)) t.1 f tt.takes.bytes fe in
+    let st = word_takes special_of f.1 s ft.takes.bytes se in
+    let mt = word_takes (λ n. listed (mask_of full bits n)) s.1 m st.takes.bytes me in
+    let wt = word_takes (who_by_number t.0 s.0) m.1 w mt.takes.bytes we in
+    let number = type_is tt.number t.0 (listed_ok (type_of tt.number) t.0 tt.accepted) in
+    let flags = flags_are ft.number f.0 (listed_ok (flags_of full ft.number) f.0 ft.accepted) in
+    let special = special_is st.number s.0 st.accepted in
+    let mask = mask_is bits mt.number m.0 (listed_ok (mask_of full bits mt.number) m.0 mt.accepted) in
+    let says = number_is t.0 s.0 wt.number w.0 special.1 wt.fits wt.accepted in
+    let a : AnyAce = record { type_number = t.0; flags = f.0; mask = m.0; who = w.0 } in
+    let tw : Takes p (word t.0) t.1 = subst (λ (n : ℕ). Takes p (word n) t.1) number.0 tt.takes in
+    let fw : Takes t.1 (word f.0) f.1 = subst (λ (n : ℕ). Takes t.1 (word n) f.1) flags.0 ft.takes in
+    let sw : Takes f.1 (word s.0) s.1 = subst (λ (n : ℕ). Takes f.1 (word n) s.1) special.0 st.takes in
+    let mw : Takes s.1 (word m.0) m.1 = subst (λ (n : ℕ). Takes s.1 (word n) m.1) mask.0 mt.takes in
+    record {
+      bytes = words_of a s.0 wt.number;
+      takes = Takes-then tw (Takes-then fw (Takes-then sw (Takes-then mw wt.takes)));
+      spells = record {
+        special = s.0;
+        number = wt.number;
+        type_number = number.1;
+        flags = flags.1;
+        mask = mask.1;
+        who = says.names;
+        spelled = refl;
+      };
+      known = says.known;
+      light = mask.2;
+    }
+
+-- the five words of an ACE before other bytes
+five_regrouped : (a b c d e f : List ℕ) → (a ++ (b ++ (c ++ (d ++ e)))) ++ f ≡ a ++ (b ++ (c ++ (d ++ (e ++ f))))
+five_regrouped a b c d e f = simp append_assoc
+
+-- an ACE of nfsacl41i is read if and only if it is spelled
+pub reader_by_number : IsReader SpellsById ace_by_number
+unfolding ace_by_number
+reader_by_number = record { take_ace = takes; again = again } where
+  takes : (bits : ℕ) (p : WordPlace) (x : AnyAce × WordPlace) → IsBytes p.rest → ace_by_number bits p ≡ Ok x
+      → TakesAce SpellsById bits p x.0 x.1
+  takes bits p x fits e =
+      bind_then (word_at (λ n. listed (type_of n)) p) _ x e (λ t te tr.
+      bind_then (word_at (λ n. listed (flags_of full n)) t.1) _ x tr (λ f fe fr.
+      bind_then (word_at special_of f.1) _ x fr (λ s se sr.
+      bind_then (word_at (λ n. listed (mask_of full bits n)) s.1) _ x sr (λ m me mr.
+      bind_then (word_at (who_by_number t.0 s.0) m.1) _ x mr (λ w we wr.
+      subst (λ (y : AnyAce × WordPlace). TakesAce SpellsById bits p y.0 y.1) (ok_is _ x wr)
+      (takes_words bits p t f s m w fits te fe se me we))))))
+
+  again : (bits at : ℕ) (a : AnyAce) (bytes rest : List ℕ) → SpellsById a bytes
+      → is_unknown_deny a.type_number a.who ≡ false → bits + count_ones a.mask ≤ most_weight
+      → ace_by_number bits (place_at at (bytes ++ rest)) ≡ Ok (a, place_at (at + length bytes) rest)
+  again bits at a bytes rest h known light =
+      let r = number_again a.type_number h.special h.number a.who h.who known in
+      let low = within_le all_flags a.flags h.flags in
+      let small = within_le all_rights a.mask h.mask in
+      let r4 = word h.number ++ rest in
+      let r3 = word a.mask ++ r4 in
+      let r2 = word h.special ++ r3 in
+      let r1 = word a.flags ++ r2 in
+      let long : length bytes ≡ 20 = ap length h.spelled in
+      ap (λ (t : List ℕ). ace_by_number bits (place_at at (t ++ rest))) h.spelled
+      ∙ ap (λ (t : List ℕ). ace_by_number bits (place_at at t))
+      (five_regrouped (word a.type_number) (word a.flags) (word h.special) (word a.mask) (word h.number) rest)
+      ∙ bind-ok _ (word_again (λ n. listed (type_of n)) at a.type_number r1 a.type_number
+      (let t = h.type_number in omega arith) (listed_again _ a.type_number (type_again a.type_number h.type_number)))
+      ∙ bind-ok _ (word_again (λ n. listed (flags_of full n)) (at + 4) a.flags r2 a.flags (omega (arith, low))
+      (listed_again _ a.flags (flags_accepted a.flags h.flags)))
+      ∙ bind-ok _ (word_again special_of (at + 4 + 4) h.special r3 h.special (let s = r.low in omega arith)
+      (special_accepted h.special r.low))
+      ∙ bind-ok _ (word_again (λ n. listed (mask_of full bits n)) (at + 4 + 4 + 4) a.mask r4 a.mask
+      (omega (arith, small)) (listed_again _ a.mask (mask_again bits a.mask h.mask light)))
+      ∙ bind-ok _ (word_again (who_by_number a.type_number h.special) (at + 4 + 4 + 4 + 4) h.number rest a.who r.fits
+      r.read)
+      ∙ ap (λ (k : ℕ). Ok (a, place_at k rest)) (omega (arith, long))

@@ -1,0 +1,152 @@
+-- The bytes of lists of ACEs of any type in nfsacl41 and nfsacl41i: the layouts of Acl41 and Acl41Ids with each type of
+-- RFC 8881, section 6.2.1.1, and each special identifier, but for a DENY of one that nobody knows. How a special number
+-- without a meaning is named is this library's own.
+use Rattle.std.specs.Prelude.{◌≡◌, ◌==◌, ℕ, zero, suc, ◌+◌, ◌<◌, ◌≤◌, ◌^◌, List, [], ◌∷◌, ◌++◌, codes, count_ones, false, length, nat_lt, sum_by, take, drop, if◌then◌else◌, Result, Ok, Err}
+use Rattle.std.specs.Fmt.{decimal}
+use Rattle.std.specs.List.{AllByRecursion, flat_map}
+use Rattle.acl_perm.specs.Bits.{all_flags, all_rights}
+use Rattle.acl_perm.specs.Profile.{full}
+use Rattle.acl_perm.specs.internal.Steps.{◌>>=◌}
+use Rattle.acl_posix.specs.Id.{IsId}
+use Rattle.acl_nfs4.specs.AccessPart.{AnyAce, IsAnyAce, any_piece}
+use Rattle.acl_nfs4.specs.Fields.{count_of, flags_of, mask_of, padding_of, who_len_of}
+use Rattle.acl_nfs4.specs.Limits.{most_aces, most_weight}
+use Rattle.acl_nfs4.specs.PartFault.{any_who_of, type_of}
+use Rattle.acl_nfs4.specs.Spelling.{pad_len, word}
+use Rattle.acl_nfs4.specs.Who.{everyone_name, group_name, owner_name}
+use Rattle.acl_nfs4.specs.Within.{IsWithin}
+use Rattle.acl_nfs4.specs.declared.xdr.fault.Reason.TheVariants.{SpecialWho, Truncated}
+use Rattle.acl_forms.specs.AclFlags.{IsAclFlags}
+use Rattle.acl_forms.specs.Acl41Ids.{id_who, listed, nothing_after, special_of}
+use Rattle.acl_forms.specs.Part.{PlacedAce, any_weight, is_unknown_deny}
+use Rattle.acl_forms.specs.ReadFaults.{read_fault_at}
+use Rattle.acl_forms.specs.Words.{WordPlace, acl_flags_of, start, word_at}
+use Rattle.acl_forms.specs.declared.fault.ReadFault.{ReadFault}
+use Rattle.acl_forms.specs.declared.fault.ReadReason.{ReadReason}
+use Rattle.acl_forms.specs.declared.fault.ReadReason.TheVariants as reason
+
+-- ---- the bytes of an ACE
+
+-- the name of a special identifier by its number; a number above three has a name that no list names
+abbrev pub special_name : ℕ → List ℕ
+special_name n = if n == 1 then owner_name
+    else (if n == 2 then group_name
+    else (if n == 3 then everyone_name else codes "special " ++ decimal n ++ codes "@"))
+
+-- two words name a who: 1 and the number of a special identifier, or 0 and an id
+pub data Names : ℕ → ℕ → List ℕ → Type 0 where
+  by_special : (n : ℕ) → n < 2 ^ 32 → Names 1 n (special_name n)
+  by_id : (id : ℕ) → IsId id → Names 0 id (decimal id)
+
+-- the bytes spell the ACE in nfsacl41
+pub record SpellsByName (a : AnyAce) (bytes : List ℕ) : Type 0 where
+  pub is : IsAnyAce full a
+  pub spelled : bytes ≡ any_piece a
+
+-- the bytes spell the ACE in nfsacl41i
+pub record SpellsById (a : AnyAce) (bytes : List ℕ) : Type 0 where
+  pub special : ℕ
+  pub number : ℕ
+  pub type_number : a.type_number < 4
+  pub flags : IsWithin all_flags a.flags
+  pub mask : IsWithin all_rights a.mask
+  pub who : Names special number a.who
+  pub spelled : bytes ≡ word a.type_number ++ (word a.flags ++ (word special ++ (word a.mask ++ word number)))
+
+-- ---- the bytes of a list
+
+-- an ACE and its bytes
+pub record SpelledAce : Type 0 where
+  pub ace : AnyAce
+  pub bytes : List ℕ
+
+-- each ACE with the place of its first byte, if the bytes of the first ACE are at this place
+unfoldable pub placed_from : ℕ → List SpelledAce → List PlacedAce
+placed_from at [] = []
+placed_from at (s ∷ list) = record { ace = s.ace; offset = at } ∷ placed_from (at + length s.bytes) list
+
+-- the bytes spell the ACE, and it may be in a list
+pub record IsPartAce (Spells : AnyAce → List ℕ → Type 0) (s : SpelledAce) : Type 0 where
+  pub spells : Spells s.ace s.bytes
+  pub known : is_unknown_deny s.ace.type_number s.ace.who ≡ false
+
+-- the flags are those of the standard, the list is within the limits of this library, and these are the bytes: the word
+-- of the flags, the word of the list's length, and the bytes of its ACEs
+pub record SpellsAces (Spells : AnyAce → List ℕ → Type 0) (set : ℕ) (list : List SpelledAce) (bytes : List ℕ)
+    : Type 0 where
+  pub flags : IsAclFlags set
+  pub count : length list ≤ most_aces
+  pub weight : sum_by (λ s. count_ones s.ace.mask) list ≤ most_weight
+  pub each : AllByRecursion (IsPartAce Spells) list
+  pub spelled : bytes ≡ word set ++ (word (length list) ++ flat_map (λ s. s.bytes) list)
+
+-- the bytes spell flags and these ACEs, each at its place; the first one is after two words
+abbrev pub SpellsWhole : (AnyAce → List ℕ → Type 0) → ℕ → List PlacedAce → List ℕ → Type 0
+SpellsWhole Spells set list bytes =
+    (spelled : List SpelledAce) × (list ≡ placed_from 8 spelled) × SpellsAces Spells set spelled bytes
+
+-- ---- the first fault of bytes
+
+-- what this many bytes mean and the place after them, or why they are refused
+abbrev pub judged_bytes : {A : Type 0} → ℕ → WordPlace → Result A ReadReason → Result (A × WordPlace) ReadFault
+judged_bytes n p (Ok x) = Ok (x, record { at = p.at + n; rest = drop n p.rest })
+judged_bytes n p (Err r) = Err (read_fault_at p.at r)
+
+-- this many bytes at a place: cut short, or what they mean
+abbrev pub bytes_at : {A : Type 0} → ℕ → (List ℕ → Result A ReadReason) → WordPlace → Result (A × WordPlace) ReadFault
+bytes_at n means p = if nat_lt (length p.rest) n then Err (read_fault_at p.at (reason.List Truncated))
+    else judged_bytes n p (means (take n p.rest))
+
+-- the who of an ACE of this type, unless nobody knows whom a DENY names
+abbrev pub unless_unknown : ℕ → List ℕ → Result (List ℕ) ReadReason
+unless_unknown type_number who =
+    if is_unknown_deny type_number who then Err (reason.List SpecialWho) else Ok who
+
+-- the who that bytes are in an ACE of this type, or why they are refused
+abbrev pub who_by_name : ℕ → List ℕ → Result (List ℕ) ReadReason
+who_by_name type_number bytes = listed (any_who_of bytes) >>= λ who. unless_unknown type_number who
+
+-- the who of a number in an ACE of this type, or why the number is refused
+abbrev pub who_by_number : ℕ → ℕ → ℕ → Result (List ℕ) ReadReason
+who_by_number type_number special n =
+    if special == 1 then unless_unknown type_number (special_name n) else id_who n
+
+-- a call that reads an ACE at a place, after ACEs of this weight, and the place after it
+abbrev pub AceReader : Type 0
+AceReader = ℕ → WordPlace → Result (AnyAce × WordPlace) ReadFault
+
+-- the ACE at a place in nfsacl41
+unfoldable pub ace_by_name : AceReader
+ace_by_name weight at = do
+  number ← word_at (λ n. listed (type_of n)) at
+  flags ← word_at (λ n. listed (flags_of full n)) number.1
+  mask ← word_at (λ n. listed (mask_of full weight n)) flags.1
+  len ← word_at (λ n. listed (who_len_of n)) mask.1
+  who ← bytes_at len.0 (who_by_name number.0) len.1
+  padding ← bytes_at (pad_len len.0) (λ b. listed (padding_of b)) who.1
+  Ok (record { type_number = number.0; flags = flags.0; mask = mask.0; who = who.0 }, padding.1)
+
+-- the ACE at a place in nfsacl41i
+unfoldable pub ace_by_number : AceReader
+ace_by_number weight at = do
+  number ← word_at (λ n. listed (type_of n)) at
+  flags ← word_at (λ n. listed (flags_of full n)) number.1
+  special ← word_at special_of flags.1
+  mask ← word_at (λ n. listed (mask_of full weight n)) special.1
+  who ← word_at (who_by_number number.0 special.0) mask.1
+  Ok (record { type_number = number.0; flags = flags.0; mask = mask.0; who = who.0 }, who.1)
+
+-- the list with this many more ACEs from a place on, and the place after them
+unfoldable pub aces_from : AceReader → ℕ → List PlacedAce → WordPlace → Result (List PlacedAce × WordPlace) ReadFault
+aces_from read zero list at = Ok (list, at)
+aces_from read (suc n) list at = do
+  first ← read (any_weight list) at
+  aces_from read n (list ++ record { ace = first.0; offset = at.at } ∷ []) first.1
+
+-- the flags and the ACEs that all of the bytes spell, or the first fault from the left
+unfoldable pub whole_in : AceReader → List ℕ → Result (ℕ × List PlacedAce) ReadFault
+whole_in read bytes = do
+  flags ← word_at acl_flags_of (start bytes)
+  count ← word_at (λ n. listed (count_of n)) flags.1
+  list ← aces_from read count.0 [] count.1
+  nothing_after flags.0 list

@@ -1,0 +1,49 @@
+-- An ACE of any type as the code holds it (this library's own). No public clause cites it.
+use Rattle.std.specs.Prelude.{◌≡◌, ◌⊎◌, ℕ, List, Result, Ok, Err, true}
+use Rattle.acl_nfs4.specs.AccessPart.{AnyAce, IsAnyWho}
+use Rattle.acl_nfs4.specs.Who.{is_unknown_special}
+use Rattle.acl_forms.specs.Part.{IsPartWith, PlacedAce, kept, left_out}
+use Rattle.acl_forms.specs.PartWords.{AceReader, ace_by_name, ace_by_number, special_name}
+use Rattle.acl_forms.specs.ReadFaults.{no_memory_left}
+use Rattle.acl_forms.specs.Words.{WordPlace}
+use Rattle.acl_forms.specs.declared.fault.ReadFault.{ReadFault}
+use Rattle.acl_forms.specs.declared.part.Part.{Part}
+use Rattle.acl_forms.specs.declared.part.any_ace.AnyAceRef.{AnyAceRef}
+use Rattle.acl_forms.specs.declared.part.any_ace.AnyWho.{AnyWho}
+use Rattle.acl_forms.specs.declared.part.any_ace.AnyWho.TheVariants.{Known, Name, Special}
+use Rattle.acl_forms.specs.declared.part.words.Layout.{Layout}
+use Rattle.acl_forms.specs.declared.part.words.Layout.TheVariants.{ByName, ByNumber}
+use Rattle.acl_forms.specs.internal.IdAces.{whom_name}
+
+-- the name of a who
+abbrev pub any_name : AnyWho → List ℕ
+any_name (Name name) = name.now
+any_name (Known whom) = whom_name whom
+any_name (Special n) = special_name n
+
+-- the ACE of an `AnyAceRef`
+abbrev pub any_ace_of : AnyAceRef → AnyAce
+any_ace_of a =
+    record { type_number = a.type_number; flags = a.flags.bits; mask = a.mask.bits; who = any_name a.who }
+
+-- a name is one that an ACE may have, and nobody knows whom the special identifier of a number names
+abbrev pub HasAnyName : AnyWho → Type 0
+HasAnyName (Name name) = IsAnyWho name.now
+HasAnyName (Known whom) = Unit {0}
+HasAnyName (Special n) = is_unknown_special (special_name n) ≡ true
+
+-- what reads an ACE in a layout
+abbrev pub reader_of : Layout → AceReader
+reader_of ByName = ace_by_name
+reader_of ByNumber = ace_by_number
+
+-- the result of reading ACEs is the part of those that are read, and ends at this place, unless memory runs out
+abbrev pub GivesAnyPart : ℕ → WordPlace → Result Part ReadFault → Result (List PlacedAce × WordPlace) ReadFault → Type 0
+GivesAnyPart flags at (Ok part) read = (list : List PlacedAce) × (read ≡ Ok (list, at)) × IsPartWith part flags (kept list) (left_out list)
+GivesAnyPart flags at (Err fault) read = (fault ≡ no_memory_left) ⊎ (read ≡ Err fault)
+
+-- the result of a call is the part of what is read, unless memory runs out
+abbrev pub IsPartReadAs : Result Part ReadFault → Result (ℕ × List PlacedAce) ReadFault → Type 0
+IsPartReadAs (Ok part) said = (flags : ℕ) × (list : List PlacedAce) × (said ≡ Ok (flags, list))
+    × IsPartWith part flags (kept list) (left_out list)
+IsPartReadAs (Err fault) said = (fault ≡ no_memory_left) ⊎ (said ≡ Err fault)
