@@ -60,7 +60,7 @@ same_name m n p q = same_answers (bytes_eq (decimal m) (decimal n)) (m == n)
     (λ h. (bytes_eq-Decides (decimal m) (decimal n)).1 (ap decimal (eqb-true m n h)))
 
 -- a group is among some groups by its name if and only if it is by its id
-is_one : (id : ℕ) (gs : List ℕ) → IsId id → AllByRecursion IsId gs → is_one_of (decimal id) (map decimal gs)
+pub is_one : (id : ℕ) (gs : List ℕ) → IsId id → AllByRecursion IsId gs → is_one_of (decimal id) (map decimal gs)
     ≡ posix.is_member id gs
 is_one id [] h all = refl
 is_one id (g ∷ gs) h all =
@@ -79,11 +79,11 @@ abbrev pub tag_applies : Situation → Tag → Bool
 tag_applies s tag = applies s (ace_with Allow tag 0)
 
 -- the ACEs of a USER match the requester who has the name of its id
-tag_applies-user : (s : Situation) (id : ℕ) → IsId id → tag_applies s (user id) ≡ bytes_eq s.user_name (decimal id)
+pub tag_applies-user : (s : Situation) (id : ℕ) → IsId id → tag_applies s (user id) ≡ bytes_eq s.user_name (decimal id)
 tag_applies-user s id h = rw (not_owner id h, not_group id h, not_everyone id h) refl
 
 -- the ACEs of a GROUP match a requester who is in the group that has the name of its id
-tag_applies-group : (s : Situation) (id : ℕ) → IsId id → tag_applies s (group id) ≡ is_one_of (decimal id) s.groups
+pub tag_applies-group : (s : Situation) (id : ℕ) → IsId id → tag_applies s (group id) ≡ is_one_of (decimal id) s.groups
 tag_applies-group s id h = rw (not_owner id h, not_group id h, not_everyone id h) refl
 
 -- two numbers compare equal if and only if they are the same

@@ -1,6 +1,6 @@
 -- The bits of the image of permissions.
-use Rattle.std.proofs.Common.{◌≡◌, ℕ, zero, suc, ◌+◌, ◌-◌, ◌<◌, Bool, true, false, cond, eqb, ltb, List, [], ◌∷◌, refl, sym, ap, ◌∙◌, arith}
-use Rattle.std.specs.Prelude.{◌||◌, count_ones, bit_and, bit_or, not}
+use Rattle.std.proofs.Common.{◌≡◌, ℕ, zero, suc, ◌+◌, ◌-◌, ◌<◌, Bool, true, false, cond, eqb, ltb, List, [], ◌∷◌, refl, sym, ap, ◌∙◌, arith, inl, inr}
+use Rattle.std.specs.Prelude.{◌⊎◌, ◌||◌, count_ones, bit_and, bit_or, not}
 use Rattle.std.specs.Int.{w8}
 use Rattle.std.proofs.lemmas.Bool.{ltb-true, true≢false}
 use Rattle.acl_perm.specs.Bits.{all_rights, has_bit, IsMask}
@@ -121,6 +121,42 @@ image_bit want (suc (suc (suc (suc (suc (suc (suc zero))))))) lt h = absurd (non
 image_bit want (suc (suc (suc (suc (suc (suc (suc (suc b)))))))) lt h =
     absurd (true≢false (sym h ∙ has_bit-above w8 (image want) (suc (suc (suc (suc (suc (suc (suc (suc b))))))))
     (omega (arith, image_lt want lt)) (omega arith)))
+
+-- which right of an image it is, and to which permission it belongs
+pub image_right : (want b : ℕ) → want < 8 → has_bit (image want) b ≡ true
+    → ((b ≡ 0) × (has_bit want 2 ≡ true)) ⊎ (((b ≡ 1) × (has_bit want 1 ≡ true)) ⊎ (((b ≡ 2) × (has_bit want 1 ≡ true))
+    ⊎ ((b ≡ 5) × (has_bit want 0 ≡ true))))
+image_right want zero lt h = inl (refl, sym (rights.read_data.same want lt) ∙ h)
+image_right want (suc zero) lt h = inr (inl (refl, sym (rights.write_data.same want lt) ∙ h))
+image_right want (suc (suc zero)) lt h = inr (inr (inl (refl, sym (rights.append_data.same want lt) ∙ h)))
+image_right want (suc (suc (suc zero))) lt h = absurd (none_at 3 others.third want lt h)
+image_right want (suc (suc (suc (suc zero)))) lt h = absurd (none_at 4 others.fourth want lt h)
+image_right want (suc (suc (suc (suc (suc zero))))) lt h =
+    inr (inr (inr (refl, sym (rights.execute.same want lt) ∙ h)))
+image_right want (suc (suc (suc (suc (suc (suc zero)))))) lt h = absurd (none_at 6 others.sixth want lt h)
+image_right want (suc (suc (suc (suc (suc (suc (suc zero))))))) lt h = absurd (none_at 7 others.seventh want lt h)
+image_right want (suc (suc (suc (suc (suc (suc (suc (suc b)))))))) lt h =
+    absurd (true≢false (sym h ∙ has_bit-above w8 (image want) (suc (suc (suc (suc (suc (suc (suc (suc b))))))))
+    (omega (arith, image_lt want lt)) (omega arith)))
+
+-- a set of permissions has three bits
+pub small_bit : (want k : ℕ) → want < 8 → has_bit want k ≡ true → (k ≡ 0) ⊎ ((k ≡ 1) ⊎ (k ≡ 2))
+small_bit want zero lt h = inl refl
+small_bit want (suc zero) lt h = inr (inl refl)
+small_bit want (suc (suc zero)) lt h = inr (inr refl)
+small_bit want (suc (suc (suc zero))) lt h =
+    absurd (true≢false (sym h ∙ same_below 8 (λ p. has_bit p 3) (λ p. false) refl want lt))
+small_bit want (suc (suc (suc (suc zero)))) lt h =
+    absurd (true≢false (sym h ∙ same_below 8 (λ p. has_bit p 4) (λ p. false) refl want lt))
+small_bit want (suc (suc (suc (suc (suc zero))))) lt h =
+    absurd (true≢false (sym h ∙ same_below 8 (λ p. has_bit p 5) (λ p. false) refl want lt))
+small_bit want (suc (suc (suc (suc (suc (suc zero)))))) lt h =
+    absurd (true≢false (sym h ∙ same_below 8 (λ p. has_bit p 6) (λ p. false) refl want lt))
+small_bit want (suc (suc (suc (suc (suc (suc (suc zero))))))) lt h =
+    absurd (true≢false (sym h ∙ same_below 8 (λ p. has_bit p 7) (λ p. false) refl want lt))
+small_bit want (suc (suc (suc (suc (suc (suc (suc (suc k)))))))) lt h =
+    absurd (true≢false (sym h ∙ has_bit-above w8 want (suc (suc (suc (suc (suc (suc (suc (suc k))))))))
+    (omega (arith, lt)) (omega arith)))
 
 -- what is not allowed is denied
 pub complement : (j p : ℕ) → j < 3 → p < 8 → has_bit (7 - p) j ≡ not (has_bit p j)

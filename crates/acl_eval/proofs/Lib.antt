@@ -36,3 +36,11 @@ pub mod ChmodGrants
 pub mod ChmodChildren
 pub mod ResolvedLists
 pub mod Memberships
+pub mod TagColumns
+pub mod AlwaysDecides
+pub mod ShapeRights
+pub mod ShapeChecks
+pub mod ShapeBuilding
+pub mod NoGreatest
+pub mod ListNames
+pub mod Losses

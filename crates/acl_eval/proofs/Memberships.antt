@@ -68,11 +68,11 @@ any_gives {P = P} p (x ∷ xs) h e = by (any_gives p xs h) (p x) refl
     by rest false pe = rest (sym (ap (λ (t : Bool). t || list_any p xs) pe) ∙ e)
 
 -- what a list has: each test that an element passes passes for some element of the list
-abbrev Has : List Ace → Ace → Type 0
-Has list a = (q : Ace → Bool) → q a ≡ true → list_any q list ≡ true
+abbrev AlwaysHas : List Ace → Ace → Type 0
+AlwaysHas list a = (q : Ace → Bool) → q a ≡ true → list_any q list ≡ true
 
 -- a list has each of its elements
-has_each : (front list whole : List Ace) → front ++ list ≡ whole → AllByRecursion (Has whole) list
+has_each : (front list whole : List Ace) → front ++ list ≡ whole → AllByRecursion (AlwaysHas whole) list
 has_each front [] whole e = tt
 has_each front (a ∷ list) whole e = (
   λ q h. ap (list_any q) (sym e) ∙ list_any-append q front (a ∷ list) ∙ rw h (or_true (list_any q front)),
@@ -136,7 +136,7 @@ module _ (suffix : List ℕ) (list : List Ace) (v : Assignment) (s : Situation) 
       (λ g h. ap (is_stand_in suffix list) (sym (bytes_eq_same name g h)) ∙ stands) e) ∙ apart.groups))
 
   -- it is one after if and only if the assignment matches the identifier
-  now_is : (a : Ace) → Has list a → is_unknown_special a.who ≡ true → is_one_of (a.who ++ suffix) after.groups ≡ v a.who
+  now_is : (a : Ace) → AlwaysHas list a → is_unknown_special a.who ≡ true → is_one_of (a.who ++ suffix) after.groups ≡ v a.who
   now_is a has unknown = list_any-append (bytes_eq name) s.groups (matched_groups v suffix list)
       ∙ ap (λ (t : Bool). t || is_one_of name (matched_groups v suffix list)) (not_before name stands)
       ∙ new_is name ∙ by (v a.who) refl
@@ -203,7 +203,7 @@ module _ (suffix : List ℕ) (list : List Ace) (v : Assignment) (s : Situation) 
       flag = has_bit-or a.flags identifier_group_alone identifier_group ∙ or_true (has_bit a.flags identifier_group)
 
   -- the ACE with a group matches as the assignment says
-  same_match : (a : Ace) → Has list a → is_misnamed suffix a ≡ false → has_taken_name suffix list a ≡ false
+  same_match : (a : Ace) → AlwaysHas list a → is_misnamed suffix a ≡ false → has_taken_name suffix list a ≡ false
       → matches after (principal_of (with_stand_in suffix a)) ≡ matches_under v s a
   same_match a has named free = by (is_unknown_special a.who) refl
     where
@@ -227,7 +227,7 @@ module _ (suffix : List ℕ) (list : List Ace) (v : Assignment) (s : Situation) 
       by false u = rw u refl
 
   -- it decides a bit if and only if the ACE does under the assignment
-  same_decides : (a : Ace) (bit : ℕ) → Has list a → is_misnamed suffix a ≡ false → has_taken_name suffix list a ≡ false
+  same_decides : (a : Ace) (bit : ℕ) → AlwaysHas list a → is_misnamed suffix a ≡ false → has_taken_name suffix list a ≡ false
       → decides after bit (with_stand_in suffix a) ≡ decides_under v s bit a
   same_decides a bit has named free =
       ap (λ (t : Bool). has_bit a.mask bit && (takes_part (with_stand_in suffix a) && t)) (same_match a has named free)
@@ -239,7 +239,7 @@ module _ (suffix : List ℕ) (list : List Ace) (v : Assignment) (s : Situation) 
       grouped false b c = refl
 
   -- so does the first ACE that decides
-  same_kind : (part : List Ace) (bit : ℕ) → AllByRecursion (Has list) part
+  same_kind : (part : List Ace) (bit : ℕ) → AllByRecursion (AlwaysHas list) part
       → AllByRecursion (λ a. is_misnamed suffix a ≡ false) part → AllByRecursion (λ a. has_taken_name suffix list a ≡ false) part
       → option_map (λ a. a.kind) (find (decides after bit) (with_groups suffix part)) ≡ answer_under v part s bit
   same_kind [] bit has named free = refl
@@ -298,8 +298,8 @@ same_under rights suffix list other free same v s apart is request within = (
   whole : List Ace
   whole = list ++ other
 
-  has : AllByRecursion (Has whole) list × AllByRecursion (Has whole) other
-  has = each_half (Has whole) list other (has_each [] whole whole refl)
+  has : AllByRecursion (AlwaysHas whole) list × AllByRecursion (AlwaysHas whole) other
+  has = each_half (AlwaysHas whole) list other (has_each [] whole whole refl)
 
   named : AllByRecursion (λ a. is_misnamed suffix a ≡ false) list × AllByRecursion (λ a. is_misnamed suffix a ≡ false) other
   named = each_half (λ a. is_misnamed suffix a ≡ false) list other (none_each (is_misnamed suffix) whole free.named)

@@ -126,7 +126,7 @@ owning_alone E og want gs c no_mask =
     (none_named E (group id) c refl no_mask))
 
 -- an entry that is there contains the empty request
-contains_none : (o : Option ℕ) → is_some o ≡ true → is_contained o 0 ≡ true
+pub contains_none : (o : Option ℕ) → is_some o ≡ true → is_contained o 0 ≡ true
 contains_none None h = absurd cc
 contains_none (Some n) h = rw (and_zero_r n) refl
 
@@ -139,7 +139,7 @@ and_same true a false false f g h = refl
 and_same false a e c f g h = absurd cc
 
 -- if the entry of a group matches, MASK and such an entry decide, or without MASK the entry of the owning group
-class_plain : (E : Entries) (og want : ℕ) (gs : List ℕ) → Complete E → contains 7 want ≡ true
+pub class_plain : (E : Entries) (og want : ℕ) (gs : List ℕ) → Complete E → contains 7 want ≡ true
     → any_matches E og gs ≡ true
     → (any_contains E og gs want && mask_contains E want) ≡ class_contains E og gs want
 class_plain E og want gs c whole matched = by (fin.get E mask) refl
@@ -158,7 +158,7 @@ class_plain E og want gs c whole matched = by (fin.get E mask) refl
         (entry_contains E group_obj want) matches_is (owning_alone E og want gs c no_mask) matched
 
 -- two choices by one test are the same if their two answers are, the first pair where the test holds
-same_choice : (t : Bool) {a b c d : Bool} → (t ≡ true → a ≡ b) → c ≡ d → cond t a c ≡ cond t b d
+pub same_choice : (t : Bool) {a b c d : Bool} → (t ≡ true → a ≡ b) → c ≡ d → cond t a c ≡ cond t b d
 same_choice true f e = f refl
 same_choice false f e = e
 

@@ -20,5 +20,9 @@ pub mod ListChmod
 pub mod Resolved
 pub mod BridgeLaws
 pub mod BridgeNames
+pub mod ToPosix
+pub mod NoGreatest
+pub mod Pruning
+pub mod ListNames
 pub mod Programs
 pub mod internal

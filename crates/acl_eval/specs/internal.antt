@@ -25,3 +25,5 @@ pub mod Keys
 pub mod UnknownBody
 -- the search for an assignment that grants a request
 pub mod RequestBody
+-- how the POSIX ACL of a shape is made
+pub mod ShapeBody

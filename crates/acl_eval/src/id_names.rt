@@ -36,7 +36,8 @@ pub(crate) fn principal_id(names: &Names, whom: Principal<'_>) -> Option<Id>
     }
 }
 
-fn user_id(names: &Names, name: &[u8]) -> Option<Id>
+/// Returns the id of a user name: that of the table, and otherwise that of its digits.
+pub(crate) fn user_id(names: &Names, name: &[u8]) -> Option<Id>
     ensures { option_map (λ id. id.value) result ≡ id_of_name names.now.users name.now }
 {
     match names.user(name) {
@@ -45,7 +46,8 @@ fn user_id(names: &Names, name: &[u8]) -> Option<Id>
     }
 }
 
-fn group_id(names: &Names, name: &[u8]) -> Option<Id>
+/// Returns the id of a group name: that of the table, and otherwise that of its digits.
+pub(crate) fn group_id(names: &Names, name: &[u8]) -> Option<Id>
     ensures { option_map (λ id. id.value) result ≡ id_of_name names.now.groups name.now }
 {
     match names.group(name) {

@@ -7,6 +7,10 @@ ghost use Rattle.acl_nfs4.specs.UnknownGroups.{HasFreeNames, with_groups};
 ghost use Rattle.acl_eval.specs.Memberships.{IsApart, joining};
 ghost use Rattle.acl_eval.specs.Unknown.{Assignment, GrantsUnder, answer_under};
 ghost use Rattle.acl_posix.specs.Check.{ids};
+ghost use Rattle.acl_posix.specs.Entries.{Entries};
+ghost use Rattle.acl_eval.specs.NoGreatest.{HaveNoneAbove, all_but_the_user, denied_user, members_alone, members_read, others_write, two_groups, two_permissions, user_writes};
+ghost use Rattle.acl_eval.specs.Pruning.{EntriesDecideLoss};
+ghost use Rattle.acl_eval.specs.ToPosix.{IsBest, IsGreatest, IsSound, EntryShape};
 ghost use Rattle.acl_nfs4.specs.Ace.{Ace};
 ghost use Rattle.acl_nfs4.specs.Spelling.{IsAccepted};
 ghost use Rattle.acl_eval.specs.BridgeLaws.{AnswersAlike, GrantsSingles, KeepsGrants};
@@ -237,4 +241,30 @@ pub fn resolved_for_the_object()
         → GrantsAtMost rights (resolved_list owner_name owning_group list)
         (resolved_list owner_name owning_group other)
         ↔ GrantsAtMostFor owner_name owning_group rights list other }
+{}
+
+/// The POSIX ACL of a shape grants no more than the list, and no ACL with entries for the same users and groups that
+/// grants no more than the list grants more.
+pub fn best_of_a_shape()
+    ensures sound { (list : List Ace) (shape : EntryShape) (entries : Entries)
+        → IsBest list shape entries → IsSound list entries }
+    ensures greatest { (list : List Ace) (shape : EntryShape) (entries : Entries)
+        → IsBest list shape entries → IsGreatest list shape entries }
+{}
+
+/// Some lists have no greatest POSIX ACL that grants no more than they do: each time, two ACLs grant no more than the
+/// list, and no third one grants all that both grant.
+pub fn no_greatest()
+    // One permission, and an entry for a user.
+    ensures users { HaveNoneAbove denied_user all_but_the_user members_alone }
+    // Two permissions, and an entry for a user.
+    ensures permissions { HaveNoneAbove two_permissions user_writes members_alone }
+    // Two permissions, and groups alone.
+    ensures groups { HaveNoneAbove two_groups members_read others_write }
+{}
+
+/// If a user or a group of a shape gets no entry, the ACL grants whatever it granted before, if and only if each of the
+/// other GROUP_OBJ, GROUP and OTHER entries has what it had before and what the entry had that was taken out.
+pub fn entries_decide_loss()
+    ensures { EntriesDecideLoss }
 {}

@@ -76,8 +76,8 @@ pub fn prepare_ids(alloc: Global, list: &AclView<'_>, names: &Names) -> Result<V
     Ok(bytes_of(alloc, list, names)?)
 }
 
-// Returns the place of the first ACE that names a user or a group without an id.
-fn first_unknown(list: &AclView<'_>, names: &Names) -> Option<usize>
+/// Returns the place of the first ACE that names a user or a group without an id.
+pub(crate) fn first_unknown(list: &AclView<'_>, names: &Names) -> Option<usize>
     ensures unknown { result ≡ first_unknown names.now list.now }
     ensures known { result ≡ None → HaveIds names.now list.now }
 {

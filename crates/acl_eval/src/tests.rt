@@ -13,4 +13,5 @@ mod mode_changes;
 mod modes;
 mod naming;
 mod resolving;
+mod shapes;
 mod unknown;

@@ -1,7 +1,7 @@
 //! The tables of this crate in ample memory, where a check may not answer that memory ran out, as it may in the file of
 //! its subject. The module `ample` of such a file has the other tests that need ample memory.
 
-use super::{bridging, creation, granting, ids, mode_changes, modes, naming};
+use super::{bridging, creation, granting, ids, mode_changes, modes, naming, shapes};
 use acl_nfs4::PushFault;
 
 #[test]
@@ -15,5 +15,7 @@ fn every_row_holds_with_enough_memory(rt: HostRuntime) -> Result<(), PushFault> 
     mode_changes::check_mode_changes(&rt, alloc)?;
     mode_changes::check_second_change(&rt, alloc)?;
     modes::check_modes(&rt, alloc)?;
+    shapes::check_named(&rt, alloc)?;
+    shapes::check_shapes(&rt, alloc)?;
     naming::check_sorted_groups(&rt, alloc)
 }

@@ -2,8 +2,8 @@
 
 use crate::*;
 use acl_nfs4::parse_text;
-use acl_perm::{Mask, Mode, Right};
-use acl_posix::{Id, Names, parse};
+use acl_perm::{Mask, Mode, Perm, Right};
+use acl_posix::{Id, Names, Tag, parse};
 use std::test::Fail;
 
 // The examples of `grants`, `granted`, `decided` and `deciding_ace`.
@@ -57,6 +57,30 @@ fn a_list_of_ids_decides_by_ids(rt: HostRuntime) -> Result<(), Fail> {
         .decided(object, &bob, Mask::ALL)
         .ok_or("not prepared")?;
     assert!(rt; rights.allowed == Mask::READ_DATA && rights.denied == Mask::WRITE_DATA);
+    Ok(())
+}
+
+#[test]
+fn a_denied_user_may_only_read(rt: HostRuntime) -> Result<(), Fail> {
+    let alloc = rt.alloc();
+    let list = parse_text(
+        alloc,
+        b"DENY - WRITE_DATA 1000\nALLOW - READ_DATA|WRITE_DATA|APPEND_DATA EVERYONE@",
+    )?;
+    let bob = Id::new(1000).ok_or("no id")?;
+    let (users, groups) = (&[bob], &[]);
+    let shape = PosixShape { users, groups };
+    let acl = posix_of_shape(alloc, &list.view(), &shape, &Names::new(alloc), 256)?;
+    assert!(rt; acl.get(Tag::User(bob)) == Some(Perm::READ));
+    Ok(())
+}
+
+#[test]
+fn a_user_and_a_group_are_named(rt: HostRuntime) -> Result<(), Fail> {
+    let alloc = rt.alloc();
+    let list = parse_text(alloc, b"DENY - WRITE_DATA 1000\nALLOW GROUP READ_DATA 50")?;
+    let named = named_ids(alloc, &list.view(), &Names::new(alloc))?;
+    assert!(rt; named.users.len() == 1 && named.groups.len() == 1);
     Ok(())
 }
 

@@ -1,0 +1,446 @@
+-- What is lost if a user or a group gets no entry: the other entries decide it.
+use Rattle.std.proofs.Common.{◌≡◌, ℕ, Bool, true, false, List, [], ◌∷◌, ◌++◌, Option, None, Some, refl, sym, ap, subst, ◌∙◌, arith, inl, inr}
+use Rattle.std.proofs.lemmas.Bool.{cases_Bool, eq-eqb, eqb-true, false≢true, not-true, or_cases, true≢false}
+use Rattle.std.proofs.lemmas.List.Folds.{list_any-append}
+use Rattle.std.proofs.lemmas.Option.{same_Some}
+use Rattle.std.specs.Prelude.{◌⊎◌, ◌↔◌, ◌==◌, ◌&&◌, ◌||◌, filter, if◌then◌else◌, not}
+use Rattle.std.specs.List.{list_any}
+use Rattle.std.specs.Ordering.{eq_by_cmp}
+use Rattle.acl_perm.proofs.Bools.{and_true, or_false_right, or_true_right}
+use Rattle.acl_perm.specs.Bits.{IsPerm}
+use Rattle.acl_perm.specs.declared.kind.Kind.TheVariants.{Allow}
+use Rattle.acl_posix.specs.Check.{Object, Requester, is_member}
+use Rattle.acl_posix.specs.Id.{IsId}
+use Rattle.acl_posix.specs.Tag.{Tag, user_obj, user, group_obj, group, mask, other, IsTag, is_named, tag_cmp}
+use Rattle.acl_posix.proofs.Exports.{same_tag}
+use Rattle.acl_nfs4.specs.Ace.{Ace}
+use Rattle.acl_eval.specs.BridgeLaws.{IsAsked}
+use Rattle.acl_eval.specs.Pruning.{IsNameOf, KeepsEntries, LosesNothing, ShapeGrants, shape_without, is_shared, taken_out}
+use Rattle.acl_eval.specs.ToPosix.{AlwaysHas, EntryShape, is_in_class, is_in_shape, looks_at}
+use Rattle.acl_eval.specs.internal.ShapeBody.{TagColumn, may_match}
+use Rattle.acl_eval.proofs.AlwaysDecides.{AreFree, HasIds, IsExtra, IsTagged, asked_by_tags, asker, entry_id, extra_groups, free_ids, group_besides, group_in, groups_in, is_extra, looks, none_there, object_at, or_none, own_meets, owning_besides, owning_in, owns, requester_at, same_itself}
+use Rattle.acl_eval.proofs.ShapeChecks.{class_parts, some_member}
+
+-- ---- numbers without one of them
+
+but_lacks : (id : ℕ) (xs : List ℕ) → is_member id (shape_without id xs) ≡ false
+but_lacks id [] = refl
+but_lacks id (x ∷ xs) = by (but_lacks id xs) (x == id) refl
+  where
+    by : is_member id (shape_without id xs) ≡ false → (b : Bool) → (x == id) ≡ b
+        → is_member id (if not b then x ∷ shape_without id xs else shape_without id xs) ≡ false
+    by rest true e = rest
+    by rest false e = rw (e, rest) refl
+
+member_but : (n id : ℕ) (xs : List ℕ) → is_member n (shape_without id xs) ≡ true
+    → (is_member n xs ≡ true) × ((n == id) ≡ false)
+member_but n id [] h = absurd cc
+member_but n id (x ∷ xs) h = by (member_but n id xs) (x == id) refl h
+  where
+    by : (is_member n (shape_without id xs) ≡ true → (is_member n xs ≡ true) × ((n == id) ≡ false)) → (b : Bool)
+        → (x == id) ≡ b → is_member n (if not b then x ∷ shape_without id xs else shape_without id xs) ≡ true
+        → (is_member n (x ∷ xs) ≡ true) × ((n == id) ≡ false)
+    by rest true e h = let two = rest h in
+        (ap (λ (b : Bool). (x == n) || b) two.0 ∙ or_true_right (x == n), two.1)
+    by rest false e h = elim (or_cases (x == n) (is_member n (shape_without id xs)) h) [
+      | inl same ↦ (
+        ap (λ (b : Bool). b || is_member n xs) same,
+        ap (λ (m : ℕ). m == id) (sym (eqb-true x n same)) ∙ e,
+      )
+      | inr more ↦ let two = rest more in
+          (ap (λ (b : Bool). (x == n) || b) two.0 ∙ or_true_right (x == n), two.1)
+    ]
+
+but_keeps : (n id : ℕ) (xs : List ℕ) → is_member n xs ≡ true → (n == id) ≡ false → is_member n (shape_without id xs) ≡ true
+but_keeps n id [] h differ = absurd cc
+but_keeps n id (x ∷ xs) h differ = by (λ g. but_keeps n id xs g differ) (x == id) refl
+    (or_cases (x == n) (is_member n xs) h)
+  where
+    by : (is_member n xs ≡ true → is_member n (shape_without id xs) ≡ true) → (b : Bool) → (x == id) ≡ b
+        → ((x == n) ≡ true) ⊎ (is_member n xs ≡ true)
+        → is_member n (if not b then x ∷ shape_without id xs else shape_without id xs) ≡ true
+    by rest true e (inl same) = absurd (true≢false (sym e ∙ (ap (λ (m : ℕ). m == id) (eqb-true x n same) ∙ differ)))
+    by rest true e (inr more) = rest more
+    by rest false e (inl same) = ap (λ (b : Bool). b || is_member n (shape_without id xs)) same
+    by rest false e (inr more) = ap (λ (b : Bool). (x == n) || b) (rest more) ∙ or_true_right (x == n)
+
+-- ---- a part of a shape
+
+-- the second shape has no user and no group that the first lacks
+record IsWithin (whole part : EntryShape) : Type 0 where
+  users : (id : ℕ) → is_member id part.users ≡ true → is_member id whole.users ≡ true
+  groups : (id : ℕ) → is_member id part.groups ≡ true → is_member id whole.groups ≡ true
+
+out_within : (name : Tag) (shape : EntryShape) → IsWithin shape (taken_out name shape)
+out_within user_obj shape = record { users = λ id h. h; groups = λ id h. h }
+out_within (user u) shape = record { users = λ id h. (member_but id u shape.users h).0; groups = λ id h. h }
+out_within group_obj shape = record { users = λ id h. h; groups = λ id h. h }
+out_within (group g) shape = record { users = λ id h. h; groups = λ id h. (member_but id g shape.groups h).0 }
+out_within mask shape = record { users = λ id h. h; groups = λ id h. h }
+out_within other shape = record { users = λ id h. h; groups = λ id h. h }
+
+-- a member of neither list
+lacks_part : (id : ℕ) (whole part : List ℕ) → (is_member id part ≡ true → is_member id whole ≡ true)
+    → is_member id whole ≡ false → is_member id part ≡ false
+lacks_part id whole part within lacking = elim (cases_Bool (is_member id part)) [
+  | inl has ↦ absurd (true≢false (sym (within has) ∙ lacking))
+  | inr none ↦ none
+]
+
+-- a requester without an entry in a shape has none in a part of it
+class_part : (whole part : EntryShape) (object : Object) (requester : Requester) → IsWithin whole part
+    → is_in_class whole object requester ≡ true → is_in_class part object requester ≡ true
+class_part whole part object requester w h =
+    let two = class_parts whole object requester h in
+    rw (two.0, lacks_part requester.user whole.users part.users (w.users requester.user) two.1) refl
+
+-- an entry of a part is an entry of the shape
+part_there : (whole part : EntryShape) (t : Tag) → IsWithin whole part → is_in_shape part t ≡ true → is_in_shape whole t ≡ true
+part_there whole part user_obj w h = h
+part_there whole part (user id) w h = w.users id h
+part_there whole part group_obj w h = h
+part_there whole part (group id) w h = w.groups id h
+part_there whole part mask w h = h
+part_there whole part other w h = h
+
+-- ids that a shape does not have are not in a part of it
+free_part : (whole part : EntryShape) (keys : TagColumn) (free next own : ℕ) → IsWithin whole part
+    → AreFree whole keys free next own → AreFree part keys free next own
+free_part whole part keys free next own w f = record {
+  free_id = f.free_id;
+  next_id = f.next_id;
+  own_id = f.own_id;
+  free_user = lacks_part free whole.users part.users (w.users free) f.free_user;
+  free_key = f.free_key;
+  differ = f.differ;
+  next_user = λ id h. f.next_user id (w.users id h);
+  next_key = f.next_key;
+  own_group = λ id h. f.own_group id (w.groups id h);
+  own_key = f.own_key;
+}
+
+-- the check looks at some shared entry for each requester without an entry
+record IsShared (shape : EntryShape) (object : Object) (requester : Requester) : Type 0 where
+  entry : Tag
+  shared : is_shared entry ≡ true
+  there : is_in_shape shape entry ≡ true
+  looks : looks_at shape object requester entry ≡ true
+
+some_shared : (shape : EntryShape) (object : Object) (requester : Requester) → is_in_class shape object requester ≡ true
+    → IsShared shape object requester
+some_shared shape object requester class = elim (cases_Bool (is_member object.group requester.groups)) [
+  | inl owning ↦ record { entry = group_obj; shared = refl; there = refl; looks = rw (class, owning) refl }
+  | inr outside ↦
+      elim (cases_Bool (list_any (λ id. id == object.group || is_member id shape.groups) requester.groups)) [
+        | inl some ↦
+            let (n, has, passes) = some_member (λ id. id == object.group || is_member id shape.groups) requester.groups
+            some in
+            elim (or_cases (n == object.group) (is_member n shape.groups) passes) [
+              | inl same ↦ absurd (true≢false (sym has
+                  ∙ (ap (λ (m : ℕ). is_member m requester.groups) (eqb-true n object.group same) ∙ outside)))
+              | inr named ↦
+                  record { entry = group n; shared = refl; there = named; looks = rw (class, has, named) refl }
+            ]
+        | inr none ↦ record { entry = other; shared = refl; there = refl; looks = rw (class, none) refl }
+      ]
+]
+
+-- ---- nothing is lost if the other entries keep what they had and have what the entry had
+
+-- a requester of whom the check asks no entry of a user
+again : (list : List Ace) (shape : EntryShape) (name : Tag) (object : Object) (requester : Requester) (want : ℕ)
+    → KeepsEntries list shape name → IsPerm want → is_in_class (taken_out name shape) object requester ≡ true
+    → AlwaysHas list shape name want → ShapeGrants list (taken_out name shape) object requester want
+again list shape name object requester want keeps few class has =
+    let s = some_shared (taken_out name shape) object requester class in
+    record { entry = s.entry; looks = s.looks; has = keeps s.entry s.shared s.there want few (inr has) }
+
+-- fewer numbers pass a test of membership
+none_less : (own : ℕ) (whole part gs : List ℕ) → ((id : ℕ) → is_member id part ≡ true → is_member id whole ≡ true)
+    → list_any (λ id. id == own || is_member id whole) gs ≡ false
+    → list_any (λ id. id == own || is_member id part) gs ≡ false
+none_less own whole part [] within h = refl
+none_less own whole part (g ∷ gs) within h =
+    let two = or_none (g == own || is_member g whole) (list_any (λ id. id == own || is_member id whole) gs) h in
+    let one = or_none (g == own) (is_member g whole) two.0 in
+    rw (one.0, lacks_part g whole part (within g) one.1, none_less own whole part gs within two.1) refl
+
+-- the user who was taken out is in the class of the others
+out_class : (shape : EntryShape) (u : ℕ) (object : Object) (requester : Requester)
+    → looks_at shape object requester (user u) ≡ true → is_in_class (taken_out (user u) shape) object requester ≡ true
+out_class shape u object requester l =
+    let one = and_true (not (requester.user == object.user)) _ l in
+    let two = and_true (requester.user == u) (is_member u shape.users) one.1 in
+    let lacking : is_member requester.user (shape_without u shape.users) ≡ false =
+    ap (λ (n : ℕ). is_member n (shape_without u shape.users)) (eqb-true requester.user u two.0) ∙ but_lacks u shape.users in
+    rw (not-true _ one.0, lacking) refl
+
+-- a user who stays
+user_stays : (list : List Ace) (shape : EntryShape) (u v : ℕ) (object : Object) (requester : Requester) (want : ℕ)
+    → (v == u) ≡ false → looks_at shape object requester (user v) ≡ true → AlwaysHas list shape (user v) want
+    → ShapeGrants list (taken_out (user u) shape) object requester want
+user_stays list shape u v object requester want differ l has =
+    let one = and_true (not (requester.user == object.user)) _ l in
+    let two = and_true (requester.user == v) (is_member v shape.users) one.1 in
+    record {
+      entry = user v;
+      looks = rw (not-true _ one.0, two.0, but_keeps v u shape.users two.1 differ) refl;
+      has = λ o r asked m.
+          let a = and_true (not (r.user == o.user)) _ m in
+          let b = and_true (r.user == v) (is_member v (shape_without u shape.users)) a.1 in
+          has o r asked (rw (not-true _ a.0, b.0, (member_but v u shape.users b.1).0) refl);
+    }
+
+nothing_lost : (list : List Ace) (shape : EntryShape) (name : Tag) → is_named name ≡ true → KeepsEntries list shape name
+    → LosesNothing list shape (taken_out name shape)
+nothing_lost list shape name named keeps object requester asked want few g = by name named keeps g.entry g.looks g.has
+  where
+    class : (n : Tag) → is_in_class shape object requester ≡ true
+        → is_in_class (taken_out n shape) object requester ≡ true
+    class n h = class_part shape (taken_out n shape) object requester (out_within n shape) h
+
+    by : (n : Tag) → is_named n ≡ true → KeepsEntries list shape n → (e : Tag)
+        → looks_at shape object requester e ≡ true → AlwaysHas list shape e want
+        → ShapeGrants list (taken_out n shape) object requester want
+    by user_obj d k e l h = absurd (false≢true d)
+    by group_obj d k e l h = absurd (false≢true d)
+    by mask d k e l h = absurd (false≢true d)
+    by other d k e l h = absurd (false≢true d)
+    by (user u) d k user_obj l h = record { entry = user_obj; looks = l; has = h }
+    by (user u) d k (user v) l h = elim (cases_Bool (v == u)) [
+      | inl same ↦
+          let is : v ≡ u = eqb-true v u same in
+          again list shape (user u) object requester want k few
+          (out_class shape u object requester
+          (subst (λ (n : ℕ). looks_at shape object requester (user n) ≡ true) is l))
+          (subst (λ (n : ℕ). AlwaysHas list shape (user n) want) is h)
+      | inr differ ↦ user_stays list shape u v object requester want differ l h
+    ]
+    by (user u) d k group_obj l h =
+        let two = and_true (is_in_class shape object requester) _ l in
+        record { entry = group_obj; looks = rw (class (user u) two.0, two.1) refl; has = k group_obj refl refl want few (inl h) }
+    by (user u) d k (group v) l h =
+        let two = and_true (is_in_class shape object requester) _ l in
+        let one = and_true (is_member v requester.groups) (is_member v shape.groups) two.1 in
+        record {
+          entry = group v;
+          looks = rw (class (user u) two.0, one.0, one.1) refl;
+          has = k (group v) refl one.1 want few (inl h);
+        }
+    by (user u) d k mask l h = absurd (false≢true l)
+    by (user u) d k other l h =
+        let two = and_true (is_in_class shape object requester) _ l in
+        record { entry = other; looks = rw (class (user u) two.0, not-true _ two.1) refl; has = k other refl refl want few (inl h) }
+    by (group u) d k user_obj l h = record { entry = user_obj; looks = l; has = h }
+    by (group u) d k (user v) l h = record { entry = user v; looks = l; has = h }
+    by (group u) d k group_obj l h =
+        let two = and_true (is_in_class shape object requester) _ l in
+        record { entry = group_obj; looks = rw (class (group u) two.0, two.1) refl; has = k group_obj refl refl want few (inl h) }
+    by (group u) d k (group v) l h =
+        let two = and_true (is_in_class shape object requester) _ l in
+        let one = and_true (is_member v requester.groups) (is_member v shape.groups) two.1 in
+        elim (cases_Bool (v == u)) [
+          | inl same ↦ again list shape (group u) object requester want k few (class (group u) two.0)
+              (subst (λ (n : ℕ). AlwaysHas list shape (group n) want) (eqb-true v u same) h)
+          | inr differ ↦
+              let stays = but_keeps v u shape.groups one.1 differ in
+              record {
+                entry = group v;
+                looks = rw (class (group u) two.0, one.0, stays) refl;
+                has = k (group v) refl stays want few (inl h);
+              }
+        ]
+    by (group u) d k mask l h = absurd (false≢true l)
+    by (group u) d k other l h =
+        let two = and_true (is_in_class shape object requester) _ l in
+        record {
+          entry = other;
+          looks = rw (
+            class (group u) two.0,
+            none_less object.group shape.groups (shape_without u shape.groups)
+                requester.groups (λ id m. (member_but id u shape.groups m).0) (not-true _ two.1),
+          ) refl;
+          has = k other refl refl want few (inl h);
+        }
+
+-- ---- and only then
+
+-- a shared entry is looked at for requesters without an entry
+shared_class : (shape : EntryShape) (object : Object) (requester : Requester) (e : Tag) → is_shared e ≡ true
+    → looks_at shape object requester e ≡ true → is_in_class shape object requester ≡ true
+shared_class shape object requester user_obj s l = absurd (false≢true s)
+shared_class shape object requester (user id) s l = absurd (false≢true s)
+shared_class shape object requester group_obj s l = (and_true (is_in_class shape object requester) _ l).0
+shared_class shape object requester (group id) s l = (and_true (is_in_class shape object requester) _ l).0
+shared_class shape object requester mask s l = absurd (false≢true s)
+shared_class shape object requester other s l = (and_true (is_in_class shape object requester) _ l).0
+
+-- the situation of a shared entry: the check looks at no other entry of the shape
+only : (t : EntryShape) (e : Tag) (extra : Option Tag) (free next own : ℕ) → is_shared e ≡ true → is_in_shape t e ≡ true
+    → ((h : ℕ) → is_member h t.groups ≡ true → (own == h) ≡ false)
+    → ((h : ℕ) → extra ≡ Some (group h) → (own == h) ≡ false)
+    → is_extra extra group_obj ≡ false → ((h : ℕ) → is_member h t.groups ≡ true → is_extra extra (group h) ≡ false)
+    → is_in_class t (object_at e extra free next own) (requester_at e extra free own) ≡ true
+    → (x : Tag) → looks_at t (object_at e extra free next own) (requester_at e extra free own) x ≡ true → x ≡ e
+only t e extra free next own s there o1 o2 n1 n2 class user_obj l =
+    absurd (true≢false (sym l ∙ (class_parts t (object_at e extra free next own) (requester_at e extra free own) class).0))
+only t e extra free next own s there o1 o2 n1 n2 class (user v) l =
+    let one = and_true (not (asker e extra free == (object_at e extra free next own).user)) _ l in
+    let two = and_true (asker e extra free == v) (is_member v t.users) one.1 in
+    absurd (true≢false (sym two.1 ∙ (ap (λ (n : ℕ). is_member n t.users) (sym (eqb-true (asker e extra free) v two.0))
+    ∙ (class_parts t (object_at e extra free next own) (requester_at e extra free own) class).1)))
+only t e extra free next own s there o1 o2 n1 n2 class group_obj l =
+    let two = and_true (is_in_class t (object_at e extra free next own) (requester_at e extra free own)) _ l in
+    same_tag group_obj e (sym (or_false_right (eq_by_cmp tag_cmp group_obj e))
+    ∙ (ap (λ (b : Bool). eq_by_cmp tag_cmp group_obj e || b) (sym n1)
+    ∙ (ap (λ (b : Bool). eq_by_cmp tag_cmp group_obj e || b) (sym (owning_besides own extra o2))
+    ∙ (ap (λ (b : Bool). b || is_member own (extra_groups own extra))
+    (sym (owning_in own e (λ id q. o1 id (sym (ap (is_in_shape t) q) ∙ there))))
+    ∙ (sym (list_any-append (λ (x : ℕ). x == own) (groups_in own e) (extra_groups own extra)) ∙ two.1)))))
+only t e extra free next own s there o1 o2 n1 n2 class (group h) l =
+    let two = and_true (is_in_class t (object_at e extra free next own) (requester_at e extra free own)) _ l in
+    let one = and_true (is_member h (groups_in own e ++ extra_groups own extra)) (is_member h t.groups) two.1 in
+    same_tag (group h) e (sym (or_false_right (eq_by_cmp tag_cmp (group h) e))
+    ∙ (ap (λ (b : Bool). eq_by_cmp tag_cmp (group h) e || b) (sym (n2 h one.1))
+    ∙ (ap (λ (b : Bool). eq_by_cmp tag_cmp (group h) e || b) (sym (group_besides own h extra (o1 h one.1)))
+    ∙ (ap (λ (b : Bool). b || is_member h (extra_groups own extra)) (sym (group_in own h e (o1 h one.1)))
+    ∙ (sym (list_any-append (λ (x : ℕ). x == h) (groups_in own e) (extra_groups own extra)) ∙ one.0)))))
+only t e extra free next own s there o1 o2 n1 n2 class mask l = absurd (false≢true l)
+only t user_obj extra free next own s there o1 o2 n1 n2 class other l = absurd (false≢true s)
+only t (user id) extra free next own s there o1 o2 n1 n2 class other l = absurd (false≢true s)
+only t group_obj extra free next own s there o1 o2 n1 n2 class other l =
+    let two = and_true (is_in_class t (object_at group_obj extra free next own) (requester_at group_obj extra free own))
+    _ l in
+    absurd (true≢false (sym (eq-eqb own own refl) ∙ (none_there own own t.groups (own ∷ extra_groups own extra)
+    (not-true _ two.1) (ap (λ (b : Bool). b || is_member own (extra_groups own extra)) (eq-eqb own own refl))).0))
+only t (group g) extra free next own s there o1 o2 n1 n2 class other l =
+    let two = and_true (is_in_class t (object_at (group g) extra free next own) (requester_at (group g) extra free own))
+    _ l in
+    absurd (true≢false (sym there ∙ (none_there own g t.groups (g ∷ extra_groups own extra)
+    (not-true _ two.1) (ap (λ (b : Bool). b || is_member g (extra_groups own extra)) (eq-eqb g g refl))).1))
+only t mask extra free next own s there o1 o2 n1 n2 class other l = absurd (false≢true s)
+only t other extra free next own s there o1 o2 n1 n2 class other l = refl
+
+-- the name that was taken out may match wherever the check looks at a shared entry of the rest
+may_be_out : (shape : EntryShape) (name e : Tag) → is_named name ≡ true → is_shared e ≡ true
+    → may_match (taken_out name shape) e name ≡ true
+may_be_out shape user_obj e n s = absurd (false≢true n)
+may_be_out shape (user u) user_obj n s = refl
+may_be_out shape (user u) (user v) n s = absurd (false≢true s)
+may_be_out shape (user u) group_obj n s = ap (λ (b : Bool). not b) (but_lacks u shape.users)
+may_be_out shape (user u) (group v) n s = ap (λ (b : Bool). not b) (but_lacks u shape.users)
+may_be_out shape (user u) mask n s = absurd (false≢true s)
+may_be_out shape (user u) other n s = ap (λ (b : Bool). not b) (but_lacks u shape.users)
+may_be_out shape group_obj e n s = absurd (false≢true n)
+may_be_out shape (group g) e n s = ap (λ (b : Bool). not (eq_by_cmp tag_cmp e other) || not b) (but_lacks g shape.groups)
+    ∙ or_true_right (not (eq_by_cmp tag_cmp e other))
+may_be_out shape mask e n s = absurd (false≢true n)
+may_be_out shape other e n s = absurd (false≢true n)
+
+-- it is neither the owning group nor a group of the rest
+not_owning : (name : Tag) → is_named name ≡ true → eq_by_cmp tag_cmp group_obj name ≡ false
+not_owning user_obj n = absurd (false≢true n)
+not_owning (user u) n = refl
+not_owning group_obj n = absurd (false≢true n)
+not_owning (group g) n = refl
+not_owning mask n = absurd (false≢true n)
+not_owning other n = absurd (false≢true n)
+
+not_rest : (shape : EntryShape) (name : Tag) (h : ℕ) → is_member h (taken_out name shape).groups ≡ true
+    → eq_by_cmp tag_cmp (group h) name ≡ false
+not_rest shape name h there = elim (cases_Bool (eq_by_cmp tag_cmp (group h) name)) [
+  | inl same ↦ absurd (true≢false (sym (subst (λ (n : Tag). is_member h (taken_out n shape).groups ≡ true)
+      (sym (same_tag (group h) name same)) there) ∙ but_lacks h shape.groups))
+  | inr differ ↦ differ
+]
+
+-- a shared entry has no user of its own
+no_user : (e : Tag) (free : ℕ) → is_shared e ≡ true → asker e None free ≡ free
+no_user user_obj free s = refl
+no_user (user v) free s = absurd (false≢true s)
+no_user group_obj free s = refl
+no_user (group v) free s = refl
+no_user mask free s = refl
+no_user other free s = refl
+
+-- no requester of a shared entry is the owner
+owned : (e : Tag) (extra : Option Tag) (free next own : ℕ) → is_shared e ≡ true
+    → (object_at e extra free next own).user ≡ next
+owned user_obj extra free next own s = absurd (false≢true s)
+owned (user v) extra free next own s = absurd (false≢true s)
+owned group_obj extra free next own s = refl
+owned (group v) extra free next own s = refl
+owned mask extra free next own s = absurd (false≢true s)
+owned other extra free next own s = refl
+
+-- before it was taken out, the check looked at its entry
+looked_out : (shape : EntryShape) (name e : Tag) (free next own : ℕ) (keys : TagColumn) → AreFree shape keys free next own
+    → is_named name ≡ true → is_in_shape shape name ≡ true → is_shared e ≡ true
+    → looks_at shape (object_at e (Some name) free next own) (requester_at e (Some name) free own) name ≡ true
+looked_out shape user_obj e free next own keys f n there s = absurd (false≢true n)
+looked_out shape (user u) e free next own keys f n there s =
+    rw (owned e (Some (user u)) free next own s, f.next_user u there, eq-eqb u u refl, there) refl
+looked_out shape group_obj e free next own keys f n there s = absurd (false≢true n)
+looked_out shape (group g) e free next own keys f n there s =
+    let asks : asker e (Some (group g)) free ≡ free = no_user e free s in
+    let member : is_member g (groups_in own e ++ g ∷ []) ≡ true =
+    list_any-append (λ (x : ℕ). x == g) (groups_in own e) (g ∷ [])
+    ∙ ap (λ (b : Bool). is_member g (groups_in own e) || (b || false)) (eq-eqb g g refl)
+    ∙ or_true_right (is_member g (groups_in own e)) in
+    rw (owned e (Some (group g)) free next own s, asks, f.differ, f.free_user, member, there) refl
+looked_out shape mask e free next own keys f n there s = absurd (false≢true n)
+looked_out shape other e free next own keys f n there s = absurd (false≢true n)
+
+-- what the ACL of the rest grants in the situation of a shared entry, this entry has
+had : (list : List Ace) (t : EntryShape) (e : Tag) (object : Object) (requester : Requester) (want : ℕ)
+    → ((x : Tag) → looks_at t object requester x ≡ true → x ≡ e) → ShapeGrants list t object requester want
+    → AlwaysHas list t e want
+had list t e object requester want one g = subst (λ (x : Tag). AlwaysHas list t x want) (one g.entry g.looks) g.has
+
+entries_kept : (list : List Ace) (shape : EntryShape) (name : Tag) → IsNameOf shape name
+    → LosesNothing list shape (taken_out name shape) → KeepsEntries list shape name
+entries_kept list shape name is loses e shared there want few has =
+    let t : EntryShape = taken_out name shape in
+    let keys : TagColumn = (name, Allow) ∷ [] in
+    let (free, next, own, f) = free_ids shape keys is.few (omega arith) in
+    let w = out_within name shape in
+    let ft = free_part shape t keys free next own w f in
+    let whole = part_there shape t e w there in
+    let ids : HasIds shape = record { users = is.users; groups = is.groups } in
+    let tag : IsTag e = entry_id shape e ids whole in
+    let known : IsTag name = entry_id shape name ids is.there in
+    elim has [
+      | inl first ↦
+          let l = looks t keys e None free next own ft there tt in
+          had list t e (object_at e None free next own) (requester_at e None free own) want
+          (only t e None free next own shared there ft.own_group (λ h q. absurd cc) refl (λ h q. refl)
+          (shared_class t (object_at e None free next own) (requester_at e None free own) e shared l))
+          (loses (object_at e None free next own) (requester_at e None free own)
+          (asked_by_tags e None free next own tag tt f.free_id f.next_id f.own_id) want few (record {
+            entry = e;
+            looks = looks shape keys e None free next own f whole tt;
+            has = first;
+          }))
+      | inr second ↦
+          let extra : IsExtra (may_match t e) keys (Some name) = (
+            may_be_out shape name e is.named shared,
+            ap (λ (b : Bool). b || false) (same_itself name),
+          ) in
+          let l = looks t keys e (Some name) free next own ft there extra in
+          had list t e (object_at e (Some name) free next own) (requester_at e (Some name) free own) want
+          (only t e (Some name) free next own shared there ft.own_group
+          (λ h q. f.own_group h (sym (ap (is_in_shape shape) (same_Some name (group h) q)) ∙ is.there))
+          (not_owning name is.named) (not_rest shape name)
+          (shared_class t (object_at e (Some name) free next own) (requester_at e (Some name) free own) e shared l))
+          (loses (object_at e (Some name) free next own) (requester_at e (Some name) free own)
+          (asked_by_tags e (Some name) free next own tag known f.free_id f.next_id f.own_id) want few (record {
+            entry = name;
+            looks = looked_out shape name e free next own keys f is.named is.there shared;
+            has = second;
+          }))
+    ]
+
+pub entries_decide : (list : List Ace) (shape : EntryShape) (name : Tag) → IsNameOf shape name
+    → LosesNothing list shape (taken_out name shape) ↔ KeepsEntries list shape name
+entries_decide list shape name is =
+    (entries_kept list shape name is, nothing_lost list shape name is.named)

@@ -1,0 +1,10 @@
+use Rattle.acl_eval.specs.Ids.{with_ids}
+use Rattle.acl_eval.specs.ToPosix.{entry_shape_of}
+use Rattle.acl_eval.proofs.ShapeBuilding.{three_best}
+use Rattle.acl_eval.proofs.posix_shape.best_of_shape.Goals as goal
+
+pub returns-then-is_within : goal.returns-then-is_within
+returns-then-is_within c =
+    let list = with_ids c.args.names.now c.args.list.now in
+    three_best list (entry_shape_of c.args.shape.now) c.in_ok-acl.acl (c.in_ok-acl.ensures.three list c.in_ok-columns.ensures)
+    (c.is_within.ensures.0 c.if-is_within.true) c.in_ok-acl.ensures.valid
