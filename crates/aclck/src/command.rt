@@ -119,7 +119,7 @@ fn perform<'a, S: Source, K: Sink>(
     perform_named(alloc, name, &matches, source, out)
 }
 
-// Reads the values of the words first, so that no input is read if one of them is bad.
+// Collects the words outside options, and runs the command with them.
 fn perform_named<S: Source, K: Sink>(
     alloc: Global,
     name: Name,
@@ -136,7 +136,8 @@ fn perform_named<S: Source, K: Sink>(
     perform_at(alloc, name, matches, texts.as_slice(), source, out)
 }
 
-// Reads the values of a command, and runs it. `words` are the words outside options.
+// Reads all values of a command before it runs the command, so that no input is read if one of them is bad. `words`
+// are the words outside options.
 fn perform_at<'a, 'w: 'a, S: Source, K: Sink>(
     alloc: Global,
     name: Name,
