@@ -123,7 +123,7 @@ enum aclck_reason {
     ACLCK_IFLAG_BITS = 34,
     ACLCK_NOT_DIRECTORY = 35,
     ACLCK_EMPTY = 36,
-    ACLCK_ID_DIFFERS = 37, /* no form that a call reads yet has it */
+    ACLCK_ID_DIFFERS = 37,
     ACLCK_COMMENT = 38,
     ACLCK_NUL = 39,
     ACLCK_TOO_LONG = 40,
@@ -198,7 +198,19 @@ enum aclck_form {
     ACLCK_NFS_TOOLS_FILE = 1,      /* the text of nfs4_getfacl for a file; it has no flags of the list */
     ACLCK_NFS_TOOLS_DIRECTORY = 2, /* the text of nfs4_getfacl for a directory; it has no flags of the list */
     ACLCK_NFS_ACL41 = 3,           /* flags and a list: the attribute dacl (RFC 8881, section 6.2.2) */
-    ACLCK_NFS_ACL41_IDS = 4        /* flags and a list with ids: Samba's attribute security.nfs4acl_xdr */
+    ACLCK_NFS_ACL41_IDS = 4,       /* flags and a list with ids: Samba's attribute security.nfs4acl_xdr */
+    ACLCK_NFS_TEXT = 5,            /* the text of getfacl of FreeBSD, of ZFS and of archives; it has no flags */
+    ACLCK_NFS_TEXT_IDS = 6,        /* the same text, of which the ids and not the names are read */
+    ACLCK_FORM_COMMAS = 16,        /* may be added to 5 and 6: commas between the entries, and not lines */
+    ACLCK_FORM_FULL = 32           /* may be added to 5 and 6: a place for each letter, with - for one that is absent */
+};
+
+/* Forms in which other systems keep POSIX ACLs, and which ACL of a value is meant (docs/c.md). */
+enum aclck_posix_form {
+    ACLCK_POSIX_ATTRIBUTE = 1,       /* the attributes system.posix_acl_access and system.posix_acl_default of Linux */
+    ACLCK_POSIX_TEXT = 2,            /* the access ACL of a text SCHILY.acl.access of an archive */
+    ACLCK_POSIX_DEFAULT_OF_TEXT = 3, /* the default ACL of such a text, which need not have one */
+    ACLCK_POSIX_DEFAULT_TEXT = 4     /* the ACL of a text SCHILY.acl.default of an archive */
 };
 
 /* What is certain of a request, where a list has names that nobody knows. */
@@ -260,6 +272,28 @@ typedef struct aclck_masks {
     uint32_t *at;
     size_t len;
 } aclck_masks;
+
+/* An ACE that aclck_read_part() leaves out: its number among all ACEs of the value, the place of its first byte, both
+   from 0, and the reason (enum aclck_reason): ACLCK_AUDIT_OR_ALARM or ACLCK_SPECIAL_WHO. */
+typedef struct aclck_left_out {
+    uint64_t place;
+    uint64_t offset;
+    uint32_t reason;
+} aclck_left_out;
+
+/* Room for the ACEs that are left out. */
+typedef struct aclck_left_outs {
+    aclck_left_out *at;
+    size_t cap;
+} aclck_left_outs;
+
+/* What aclck_read_part() makes: the number of bytes of the list, the number of the ACEs that are left out, and the
+   flags of the list (enum aclck_acl_flag). */
+typedef struct aclck_list_part {
+    uint64_t needed;
+    uint64_t left_out;
+    uint32_t flags;
+} aclck_list_part;
 
 /* An ACE: its kind (enum aclck_kind), the sums of its flags (enum aclck_flag) and of its rights (enum aclck_right), and
    its who: a name, or OWNER@, GROUP@ or EVERYONE@. */
@@ -650,16 +684,26 @@ enum aclck_status aclck_holders(aclck_bytes acl, const aclck_question *question,
    ACLCK_DONE, ACLCK_REFUSED (*fault), ACLCK_BAD_ARGUMENT: also where `form` is no form, ACLCK_MEMORY, ACLCK_SHORT. */
 
 /* Writes the bytes of the list that all of the value spells in the form to the front of `out`, their number to *needed,
-   and the flags of the list (enum aclck_acl_flag) to *flags: 0 for a text. ACLCK_DONE (`out`, *needed, *flags),
-   ACLCK_SHORT (*needed, *flags). */
+   and the flags of the list (enum aclck_acl_flag) to *flags: 0 for a text. ACLCK_FORM_COMMAS and ACLCK_FORM_FULL have
+   no effect. ACLCK_DONE (`out`, *needed, *flags), ACLCK_SHORT (*needed, *flags). */
 ACLCK_CALL ACLCK_WRITES(4) ACLCK_WRITES(5) ACLCK_WRITES(6)
 enum aclck_status aclck_read_form(aclck_bytes value, enum aclck_form form, aclck_buffer out, size_t *needed,
                                   uint32_t *flags, aclck_fault *fault);
 
+/* The same without the ACEs that access does not read: AUDIT and ALARM ACEs, and ALLOW ACEs of a special name other
+   than OWNER@, GROUP@ and EVERYONE@. They are at the front of `left`, in order; without them the list grants no more.
+   A DENY of such a name is refused with ACLCK_SPECIAL_WHO. A text is read as aclck_read_form() reads it. A value of n
+   bytes has fewer than n / 20 + 1 ACEs that are left out. ACLCK_DONE (`out`, `left`, *part), ACLCK_SHORT where `out` or
+   `left` has no room (*part). */
+ACLCK_CALL ACLCK_WRITES(3) ACLCK_WRITES(6)
+enum aclck_status aclck_read_part(aclck_bytes value, enum aclck_form form, aclck_list_part *part, aclck_buffer out,
+                                  aclck_left_outs left, aclck_fault *fault);
+
 /* Writes the value of the flags and of the list in the form to the front of `out`, and the number of its bytes to
    *needed. ACLCK_REFUSED also where the form cannot hold the list or the flags. Where it can, aclck_read_form() reads
-   the value as the same flags and list; only in a text does GROUP@ get the flag IDENTIFIER_GROUP, which has no effect
-   there. ACLCK_BAD_ARGUMENT also where `flags` is above 7. ACLCK_DONE (`out`, *needed), ACLCK_SHORT (*needed). */
+   the value as the same flags and list; only in the texts of nfs4_getfacl does GROUP@ get the flag IDENTIFIER_GROUP,
+   and in the text of FreeBSD does each special identifier lose it. It has no effect there. ACLCK_BAD_ARGUMENT also
+   where `flags` is above 7. ACLCK_DONE (`out`, *needed), ACLCK_SHORT (*needed). */
 ACLCK_CALL ACLCK_WRITES(5) ACLCK_WRITES(6)
 enum aclck_status aclck_write_form(aclck_bytes acl, enum aclck_form form, uint32_t flags, aclck_buffer out,
                                    size_t *needed, aclck_fault *fault);
@@ -833,6 +877,15 @@ enum aclck_status aclck_entries_bridge(aclck_entries entries, aclck_buffer out, 
 ACLCK_CALL ACLCK_WRITES(3) ACLCK_WRITES(4)
 enum aclck_status aclck_entries_from_attribute(aclck_bytes attribute, aclck_entry_buffer out, size_t *needed,
                                                aclck_fault *fault);
+
+/* The entries of the ACL that value->text spells in the form. No entries (*needed is 0) mean that the text has no default
+   ACL. In a text, a user or group is an id, a name with an id at the end of its entry, or one of value->names. An
+   attribute may have the ids of users and of groups in any order, but no id where none belongs, and it has entries.
+   ACLCK_REFUSED with the reasons of aclck_read_form(), and fault->offset is the place of a byte. ACLCK_BAD_ARGUMENT also
+   where the names make no table. */
+ACLCK_CALL ACLCK_READS(1) ACLCK_WRITES(4) ACLCK_WRITES(5)
+enum aclck_status aclck_entries_from_form(const aclck_posix_text *value, enum aclck_posix_form form,
+                                          aclck_entry_buffer out, size_t *needed, aclck_fault *fault);
 
 /* The bytes of the extended attribute with these entries. */
 ACLCK_CALL ACLCK_WRITES(3) ACLCK_WRITES(4)

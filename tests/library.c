@@ -1155,6 +1155,31 @@ static void ask_foreign_bytes(const uint8_t *data, size_t size) {
         abort();
 }
 
+/* Reads bytes in each form. A list that is read is written in the form, and read again: it must grant the same. */
+static void ask_forms(aclck_bytes value) {
+    static unsigned char room[3][1 << 14];
+    aclck_buffer list = {room[0], sizeof room[0]}, text = {room[1], sizeof room[1]}, again = {room[2], sizeof room[2]};
+    enum aclck_status status = ACLCK_DONE;
+    for (int form = ACLCK_NFS_TOOLS_FILE; status != ACLCK_BAD_ARGUMENT; form++) {
+        uint32_t flags = 0, flags_again = 0, same = 0;
+        size_t len = 0, written = 0;
+        aclck_fault fault;
+        status = aclck_read_form(value, (enum aclck_form)form, list, &len, &flags, &fault);
+        if (status ? status == ACLCK_REFUSED && fault.offset > value.len : flags > 7)
+            abort();
+        if (status)
+            continue;
+        aclck_bytes acl = {room[0], len};
+        status = aclck_write_form(acl, (enum aclck_form)form, flags, text, &written, &fault);
+        if (status == ACLCK_REFUSED)
+            continue;
+        if (status || aclck_read_form(aclck_bytes_of(room[1], written), (enum aclck_form)form, again, &len,
+                                      &flags_again, &fault) ||
+            flags_again != flags || aclck_same(acl, aclck_bytes_of(room[2], len), ACLCK_FULL, &same, &fault) || !same)
+            abort();
+    }
+}
+
 /* The first byte selects the call, and the second byte is its number or its options. The rest is its input, or its two
    inputs. */
 int LLVMFuzzerTestOneInput(const uint8_t *data, size_t size) {
@@ -1197,6 +1222,7 @@ int LLVMFuzzerTestOneInput(const uint8_t *data, size_t size) {
     if (status == ACLCK_REFUSED && (r.fault.reason < 1 || r.fault.reason > ACLCK_LIMITS))
         abort();
     ask_foreign_bytes(data, size);
+    ask_forms(aclck_bytes_of(data + 3, size - 3));
     return 0;
 }
 #else

@@ -151,6 +151,7 @@ static uint32_t invoke_entries(const char *call, size_t len, size_t count) {
     const aclck_creation creation = {0777, 022, ACLCK_DIRECTORY};
     const aclck_entry_buffer all = {entries, sizeof entries / sizeof *entries};
     const aclck_entry_buffer room = {changed, sizeof changed / sizeof *changed};
+    const aclck_posix_text value = {LIST, {NULL, 0}};
     aclck_entries given = {entries, 0};
     aclck_posix_decision decision;
     aclck_posix_difference difference;
@@ -161,6 +162,8 @@ static uint32_t invoke_entries(const char *call, size_t len, size_t count) {
     if (status || IS("entries_from_attribute"))
         return status;
     count_from_here();
+    if (IS("entries_from_form"))
+        return aclck_entries_from_form(&value, ACLCK_POSIX_ATTRIBUTE, room, &needed, &fault);
     if (IS("entries_check"))
         return aclck_entries_check(given, &question, &word, &fault);
     if (IS("entries_deciding"))

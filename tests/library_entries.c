@@ -29,6 +29,7 @@ typedef struct {
 typedef struct {
     aclck_entries entries;
     aclck_bytes attribute;
+    aclck_posix_text value;
     uint32_t number;
     aclck_creation creation;
 } given;
@@ -46,6 +47,7 @@ WRITER(calculate, aclck_entries_calc_mask(g->entries, out, needed, fault))
 WRITER(create, aclck_entries_create(g->entries, &g->creation, out, needed, fault))
 WRITER(bridge, aclck_entries_bridge(g->entries, BYTES, needed, fault))
 WRITER(read_attribute, aclck_entries_from_attribute(g->attribute, out, needed, fault))
+WRITER(read_form, aclck_entries_from_form(&g->value, (enum aclck_posix_form)g->number, out, needed, fault))
 WRITER(write_attribute, aclck_entries_to_attribute(g->entries, BYTES, needed, fault))
 
 static given with_entries(const list *l, uint32_t number) {
@@ -410,6 +412,87 @@ static void are_attributes_refused(void) {
     }
 }
 
+/* ---- values of forms; the texts are those of star(1), bsdtar(1) and tar(1) */
+
+#define TEXT(text) {text, sizeof(text) - 1}
+static const aclck_name NAMES[] = {{TEXT("bob"), 1001, 0}, {TEXT("bob"), 30, 1}};
+#define BASE_OF_STAR "user::rw-,group::r--,other::---"
+
+static given with_value(aclck_bytes text, uint32_t form) {
+    given g;
+    memset(&g, 0, sizeof g);
+    g.value.text = text;
+    g.value.names.at = NAMES;
+    g.value.names.len = sizeof NAMES / sizeof *NAMES;
+    g.number = form;
+    return g;
+}
+
+static void are_values_read(void) {
+    static const struct {
+        uint32_t form;
+        aclck_bytes value;
+        list acl;
+    } rows[] = {
+        {ACLCK_POSIX_ATTRIBUTE,
+         ATTRIBUTE(HEAD A_USER_OBJ("\7") A_USER("\x09", "\5") A_USER("\7", "\6") A_GROUP_OBJ("\5") A_MASK("\4")
+                       A_OTHER("\1")),
+         {{U(7), USER(7, 6), USER(9, 5), G(5), M(4), O(1)}, 6}},
+        {ACLCK_POSIX_TEXT, TEXT(BASE_OF_STAR), {{U(6), G(4), O(0)}, 3}},
+        {ACLCK_POSIX_TEXT, TEXT("user::rw-\ngroup::r--\nother::---\n"), {{U(6), G(4), O(0)}, 3}},
+        {ACLCK_POSIX_TEXT, TEXT(BASE_OF_STAR ",user:ann:rw-:7,mask::rw-"), {{U(6), USER(7, 6), G(4), M(6), O(0)}, 5}},
+        {ACLCK_POSIX_TEXT, TEXT(BASE_OF_STAR ",user:bob:rw-:7,mask::rw-"), {{U(6), USER(7, 6), G(4), M(6), O(0)}, 5}},
+        {ACLCK_POSIX_TEXT, TEXT(BASE_OF_STAR ",user:bob:r--,group:bob:-w-,mask::rw-"),
+         {{U(6), USER(1001, 4), G(4), GROUP(30, 2), M(6), O(0)}, 6}},
+        {ACLCK_POSIX_DEFAULT_OF_TEXT, TEXT(BASE_OF_STAR), {{{0, 0, 0}}, 0}},
+        {ACLCK_POSIX_DEFAULT_OF_TEXT, TEXT(BASE_OF_STAR ",d:u::r--,default:group::r-x,d:o::--x"), {{U(4), G(5), O(1)}, 3}},
+        {ACLCK_POSIX_DEFAULT_TEXT, TEXT("user::rwx,default:group::r-x,other::--x"), {{U(7), G(5), O(1)}, 3}},
+    };
+    for (size_t i = 0; i < sizeof rows / sizeof *rows; i++) {
+        given g = with_value(rows[i].value, rows[i].form);
+        gives_entries(read_form, &g, &rows[i].acl);
+    }
+}
+
+static void are_values_refused(void) {
+    static const struct {
+        uint32_t form;
+        aclck_bytes value;
+        uint32_t reason, offset, tag;
+    } rows[] = {
+        {ACLCK_POSIX_ATTRIBUTE, ATTRIBUTE(HEAD), ACLCK_MISS, 4, ACLCK_TAG_USER_OBJ},
+        {ACLCK_POSIX_ATTRIBUTE, ATTRIBUTE(HEAD A_USER_OBJ("\6") A_GROUP_OBJ("\4") "\x20\0\0\0\0\0\0\0"), ACLCK_QUALIFIER,
+         24, 0},
+        {ACLCK_POSIX_TEXT, TEXT(""), ACLCK_MISS, 0, ACLCK_TAG_USER_OBJ},
+        {ACLCK_POSIX_TEXT, TEXT(BASE_OF_STAR ",user:eve:r--,mask::r--"), ACLCK_UNKNOWN_NAME, 37, 0},
+        {ACLCK_POSIX_TEXT, TEXT(BASE_OF_STAR ",user:7:r--:8,mask::r--"), ACLCK_ID_DIFFERS, 43, 0},
+        {ACLCK_POSIX_TEXT, TEXT(BASE_OF_STAR ",user:eve:r--:4294967295,mask::r--"), ACLCK_ID, 45, 0},
+        {ACLCK_POSIX_TEXT, TEXT("user::rw-:5,group::r--,other::---"), ACLCK_FIELDS, 0, 0},
+        {ACLCK_POSIX_TEXT, TEXT("# bob, his list\n" BASE_OF_STAR), ACLCK_COMMENT, 5, 0},
+        {ACLCK_POSIX_TEXT, TEXT("user::rw-,user::rw-,group::r--,other::---"), ACLCK_MULTI, 10, 0},
+        {ACLCK_POSIX_DEFAULT_TEXT, TEXT("user::rwx,group::,other::--x"), ACLCK_PERMISSION, 17, 0},
+        {ACLCK_POSIX_DEFAULT_OF_TEXT, TEXT(BASE_OF_STAR ",d:u::r--"), ACLCK_MISS, 40, ACLCK_TAG_GROUP_OBJ},
+    };
+    for (size_t i = 0; i < sizeof rows / sizeof *rows; i++) {
+        given g = with_value(rows[i].value, rows[i].form);
+        refuses(read_form, &g, sizeof(aclck_entry), fault_at(rows[i].offset, rows[i].reason, rows[i].tag));
+    }
+}
+
+/* Numbers that are no form, and a name that is no name. */
+static void are_bad_forms_refused(void) {
+    static const uint32_t forms[] = {0, 5, 16, 18, 4294967295u};
+    static const aclck_name none = {TEXT(""), 7, 0};
+    for (size_t i = 0; i < sizeof forms / sizeof *forms; i++) {
+        given g = with_value((aclck_bytes)TEXT(BASE_OF_STAR), forms[i]);
+        is_bad(read_form, &g, sizeof(aclck_entry));
+    }
+    given g = with_value((aclck_bytes)TEXT(BASE_OF_STAR), ACLCK_POSIX_TEXT);
+    g.value.names.at = &none;
+    g.value.names.len = 1;
+    is_bad(read_form, &g, sizeof(aclck_entry));
+}
+
 /* Writes an attribute in which some bytes are others, and returns its length. */
 static size_t choose_attribute(unsigned char *bytes) {
     static const aclck_bytes good = ATTRIBUTE(HEAD A_USER_OBJ("\7") A_USER("\7", "\6") A_USER("\x09", "\5")
@@ -469,7 +552,8 @@ int main(int argc, char **argv) {
         TEST(are_questions_answered), TEST(are_bad_questions_refused), TEST(are_excesses_found),
         TEST(are_two_acls_judged), TEST(are_faults_reported),
         TEST(are_repeats_reported), TEST(is_order_judged), TEST(are_entries_changed), TEST(are_modes_read),
-        TEST(are_bad_numbers_refused), TEST(is_limit_kept), TEST(are_attributes_read), TEST(are_attributes_refused)};
+        TEST(are_bad_numbers_refused), TEST(is_limit_kept), TEST(are_attributes_read), TEST(are_attributes_refused),
+        TEST(are_values_read), TEST(are_values_refused), TEST(are_bad_forms_refused)};
     for (size_t i = 0; i < sizeof tests / sizeof *tests; i++) {
         about = tests[i].name;
         tests[i].run();

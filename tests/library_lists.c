@@ -955,8 +955,13 @@ static void is_not_written(enum aclck_form form, aclck_bytes list, uint32_t flag
 }
 
 /* RFC 8881, section 6.2.2: the attribute dacl is a word of flags and a list. In Samba's source3/modules/nfs41acl.x an
-   ACE has five words: type, flags, 1 for a special who, mask, and its number (OWNER@ is 1) or the id. */
+   ACE has five words: type, flags, 1 for a special who, mask, and its number (OWNER@ is 1) or the id. The last texts
+   are those that libarchive 3.6.2 prints in its four styles and with ids; it ends no text with a line feed. */
 static void are_forms_read_and_written_by_hand(void) {
+    const int styles[] = {0, ACLCK_FORM_COMMAS, ACLCK_FORM_FULL, ACLCK_FORM_COMMAS | ACLCK_FORM_FULL};
+    const char *const printed[] = {"owner@:x::deny\ngroup:20:r::allow:20\n", "owner@:x::deny,group:20:r::allow:20",
+                                   "owner@:--x-----------:-------:deny\ngroup:20:r-------------:-------:allow:20\n",
+                                   "owner@:--x-----------:-------:deny,group:20:r-------------:-------:allow:20"};
     const enum aclck_form texts[] = {ACLCK_NFS_TOOLS_FILE, ACLCK_NFS_TOOLS_DIRECTORY};
     const aclck_bytes list = list_of_the_manual(), two = list_of("DENY - EXECUTE OWNER@\nALLOW GROUP READ_DATA 20\n");
     const uint32_t words[] = {ACLCK_PROTECTED, 2, ACLCK_DENY, 0, 1, ACLCK_EXECUTE, 1,
@@ -977,6 +982,14 @@ static void are_forms_read_and_written_by_hand(void) {
     for (size_t i = 0; i < sizeof words / sizeof *words; i++)
         at = put_word(at, words[i]);
     is_read_and_written(ACLCK_NFS_ACL41_IDS, aclck_bytes_of(bytes, (size_t)(at - bytes)), ACLCK_PROTECTED, two);
+    for (int i = 0; i < 8; i++) {
+        const enum aclck_form form = (enum aclck_form)((i % 2 ? ACLCK_NFS_TEXT_IDS : ACLCK_NFS_TEXT) | styles[i / 2]);
+        is_read_and_written(form, aclck_string(printed[i / 2]), 0, two);
+        is_read(form, aclck_string(" user:joe : -rx : : allow # bob's\n"), 0,
+                list_of("ALLOW - READ_DATA|EXECUTE joe\n"));
+        is_read(form, aclck_string("group:staff:rx::allow:20"), 0,
+                list_of(i % 2 ? "ALLOW GROUP READ_DATA|EXECUTE 20\n" : "ALLOW GROUP READ_DATA|EXECUTE staff\n"));
+    }
 }
 
 static void are_other_values_refused(void) {
@@ -996,33 +1009,85 @@ static void are_other_values_refused(void) {
     }
     is_not_read(ACLCK_NFS_ACL41_IDS, aclck_bytes_of("\0\0\0\0\0\0\0\1\0\0\0\0\0\0\0\0\0\0\0\2", 20),
                 ACLCK_IFLAG_BITS, 16);
+    is_not_read(ACLCK_NFS_TEXT, aclck_string("user:7:r::allow:8"), ACLCK_ID_DIFFERS, 16);
+    is_not_read(ACLCK_NFS_TEXT_IDS, aclck_string("user:bob:r::allow:x"), ACLCK_ID, 18);
+    is_not_read((enum aclck_form)(ACLCK_NFS_TEXT | ACLCK_FORM_FULL), aclck_string("user:bob:ry::allow"), ACLCK_MASK,
+                10);
+}
+
+/* The number, the place and the reason of each ACE that is left out, as the layouts of RFC 8881 and of nfs41acl.x have
+   them: AUDIT bob, ALLOW alice, ALLOW NOW@; and ALLOW of the special name 9, DENY of the group 20. */
+static void are_aces_left_out(void) {
+    char named[] = "\0\0\0\2\0\0\0\3\0\0\0\2\0\0\0\20\0\0\0\2\0\0\0\3bob\0\0\0\0\0\0\0\0\0\0\0\0\1\0\0\0\5alice"
+                         "\0\0\0\0\0\0\0\0\0\0\0\0\0\0\1\0\0\0\4NOW@";
+    char numbered[] = "\0\0\0\0\0\0\0\2\0\0\0\0\0\0\0\0\0\0\0\1\0\0\0\1\0\0\0\11\0\0\0\1\0\0\0\100\0\0\0\0"
+                            "\0\0\0\1\0\0\0\24";
+    const aclck_bytes values[] = {aclck_bytes_of(named, sizeof named - 1),
+                                  aclck_bytes_of(numbered, sizeof numbered - 1)};
+    const aclck_bytes lists[] = {list_of("ALLOW - READ_DATA alice\n"), list_of("DENY GROUP READ_DATA 20\n")};
+    const aclck_left_out wanted[][2] = {{{0, 8, ACLCK_AUDIT_OR_ALARM}, {2, 52, ACLCK_SPECIAL_WHO}},
+                                        {{0, 8, ACLCK_SPECIAL_WHO}, {0, 0, 0}}};
+    const enum aclck_form forms[] = {ACLCK_NFS_ACL41, ACLCK_NFS_ACL41_IDS};
+    for (int i = 0; i < 2; i++) {
+        const size_t count = i ? 1 : 2;
+        unsigned char room[512] = {7};
+        aclck_left_out at[2] = {{7, 7, 7}, {7, 7, 7}};
+        aclck_left_outs left = {at, count - 1};
+        aclck_buffer out = aclck_buffer_of(room, sizeof room);
+        aclck_fault fault = {0, 0, 0, 77, 0, 0, 0};
+        aclck_list_part part = {77, 77, 77};
+        EXPECT(aclck_read_part(values[i], (enum aclck_form)9, &part, out, left, &fault) == ACLCK_BAD_ARGUMENT);
+        EXPECT(part.needed == 77 && part.left_out == 77 && part.flags == 77);
+        EXPECT(aclck_read_part(values[i], forms[i], &part, out, left, &fault) == ACLCK_SHORT);
+        EXPECT(part.needed == lists[i].len && part.left_out == count && at[0].place == 7 && room[0] == 7);
+        left.cap = count;
+        EXPECT(!aclck_read_part(values[i], forms[i], &part, out, left, &fault) && fault.reason == 77);
+        EXPECT(part.needed == lists[i].len && !memcmp(room, lists[i].at, lists[i].len));
+        EXPECT(part.left_out == count && part.flags == (i ? 0 : ACLCK_PROTECTED));
+        for (size_t k = 0; k < count; k++)
+            EXPECT(at[k].place == wanted[i][k].place && at[k].offset == wanted[i][k].offset &&
+                   at[k].reason == wanted[i][k].reason);
+        out.cap = lists[i].len - 1;
+        EXPECT(aclck_read_part(values[i], forms[i], &part, out, left, &fault) == ACLCK_SHORT);
+    }
+    numbered[11] = 1;
+    aclck_fault fault;
+    aclck_list_part part;
+    EXPECT(aclck_read_part(values[1], forms[1], &part, aclck_buffer_of(NULL, 0), (aclck_left_outs){NULL, 0}, &fault) ==
+           ACLCK_REFUSED);
+    EXPECT(fault.reason == ACLCK_SPECIAL_WHO && fault.offset == 24);
 }
 
 static void are_lists_kept_out_of_forms(void) {
-    const enum aclck_form all[] = {ACLCK_NFS_TOOLS_FILE, ACLCK_NFS_TOOLS_DIRECTORY, ACLCK_NFS_ACL41,
-                                   ACLCK_NFS_ACL41_IDS};
+    const enum aclck_form all[] = {ACLCK_NFS_TOOLS_FILE, ACLCK_NFS_TOOLS_DIRECTORY, ACLCK_NFS_TEXT,
+                                   ACLCK_NFS_TEXT_IDS, ACLCK_NFS_ACL41, ACLCK_NFS_ACL41_IDS};
+    const uint32_t others[] = {0, 7, 8, ACLCK_NFS_ACL41 | ACLCK_FORM_COMMAS, ACLCK_FORM_FULL, ACLCK_NFS_TEXT | 64};
     const aclck_bytes bob = list_of("ALLOW - READ_DATA 7\nALLOW - READ_DATA bob\n");
-    for (int i = 0; i < 4; i++) {
+    for (int i = 0; i < 6; i++) {
         uint32_t found = 77;
         given g = list_with(bob, 0);
         is_not_written(all[i], aclck_bytes_of("\0\0\0\1\0\0", 6), 0, ACLCK_TRUNCATED, 4);
         g.form = all[i];
         g.flags = 8;
         is_bad(write_form, &g, 1);
-        g.form = (enum aclck_form)(i ? 4 + i : 0);
+        g.form = (enum aclck_form)others[i];
         g.flags = 0;
         g.flags_read = &found;
         is_bad(write_form, &g, 1);
         is_bad(read_form, &g, 1);
         EXPECT(found == 77);
     }
-    for (int i = 0; i < 2; i++) {
+    for (int i = 0; i < 4; i++) {
         is_not_written(all[i], bob, ACLCK_PROTECTED, ACLCK_ACL_FLAGS, 0);
-        is_not_written(all[i], aclck_bytes_of("\0\0\0\0", 4), 0, ACLCK_EMPTY, 0);
-        is_not_written(all[i], list_of("ALLOW INHERITED READ_DATA bob\n"), 0, ACLCK_INHERITED_ACE, 0);
         is_not_written(all[i], list_of("ALLOW - READ_DATA bob\nDENY - WRITE_RETENTION bob\n"), 0, ACLCK_RETENTION, 1);
         is_not_written(all[i], list_of("ALLOW - READ_DATA a:b\n"), 0, ACLCK_SEPARATOR, 0);
     }
+    for (int i = 0; i < 2; i++) {
+        is_not_written(all[i], aclck_bytes_of("\0\0\0\0", 4), 0, ACLCK_EMPTY, 0);
+        is_not_written(all[i], list_of("ALLOW INHERITED READ_DATA bob\n"), 0, ACLCK_INHERITED_ACE, 0);
+    }
+    is_not_written(ACLCK_NFS_TEXT, list_of("ALLOW - READ_DATA bob \n"), 0, ACLCK_SEPARATOR, 0);
+    is_not_written(ACLCK_NFS_TEXT, list_of("ALLOW - READ_DATA 2147483648\n"), 0, ACLCK_ID, 0);
     is_not_written(ACLCK_NFS_TOOLS_FILE, list_of("ALLOW FILE READ_DATA bob\n"), 0, ACLCK_NOT_DIRECTORY, 0);
     is_not_written(ACLCK_NFS_ACL41_IDS, bob, ACLCK_PROTECTED, ACLCK_NO_ID, 1);
 }
@@ -1338,8 +1403,9 @@ static void run_rows(void) {
         TEST(are_modes_set_by_hand), TEST(are_names_exchanged_by_hand), TEST(are_bad_names_refused),
         TEST(are_owners_named_by_hand), TEST(are_wrong_aces_refused), TEST(are_unknown_names_answered_by_hand),
         TEST(are_groups_put_for_names_by_hand), TEST(are_forms_read_and_written_by_hand),
-        TEST(are_other_values_refused), TEST(are_lists_kept_out_of_forms), TEST(are_bad_questions_refused),
-        TEST(are_lengths_judged), TEST(are_bad_ids_refused), TEST(are_bad_options_refused),
+        TEST(are_other_values_refused), TEST(are_aces_left_out), TEST(are_lists_kept_out_of_forms),
+        TEST(are_bad_questions_refused), TEST(are_lengths_judged), TEST(are_bad_ids_refused),
+        TEST(are_bad_options_refused),
         TEST(are_many_groups_asked), TEST(are_no_groups_made), TEST(are_lists_of_all_sizes_asked)};
     for (size_t i = 0; i < sizeof tests / sizeof *tests; i++) {
         about = tests[i].name;

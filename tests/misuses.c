@@ -120,6 +120,11 @@ void f(aclck_bytes acl, aclck_object object, aclck_requester who, aclck_question
     use(aclck_entries_sorted(room, ACLCK_ADD_MASK, entries, &needed, &fault));
 /* misuse: room for bytes in place of room for entries */
     use(aclck_entries_from_attribute(acl, out, &needed, &fault));
+/* misuse: bytes without names in place of a value of a form */
+    use(aclck_entries_from_form(acl, ACLCK_POSIX_TEXT, room, &needed, &fault));
+/* misuse: a form of NFSv4 lists as one of POSIX ACLs */
+    const aclck_posix_text value = {acl, {NULL, 0}};
+    use(aclck_entries_from_form(&value, ACLCK_NFS_TEXT, room, &needed, &fault));
 /* misuse: room for entries in place of room for bytes */
     use(aclck_entries_to_attribute(entries, room, &needed, &fault));
 /* misuse: an attribute in place of entries */

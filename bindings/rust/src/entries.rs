@@ -177,7 +177,7 @@ fn raw_entry(entry: &Entry) -> raw::Entry {
 }
 
 /// Returns an entry that the library wrote.
-fn entry(found: raw::Entry) -> Entry {
+pub(crate) fn entry(found: raw::Entry) -> Entry {
     let tag = match found.tag {
         1 => Tag::UserObj,
         2 => Tag::User(found.id),

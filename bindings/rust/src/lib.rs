@@ -30,14 +30,15 @@ pub use entries::{
     entries_from_attribute, entries_mode, entries_sorted, entries_to_attribute, Entry, MissingMask, PosixDecision,
     PosixDifference, Tag,
 };
-pub use forms::{read_form, write_form, ListFlags, ListForm};
+pub use forms::{read_form, read_part, write_form, ListFlags, ListForm, TextStyle};
 pub use posix::{
-    posix_bridge, posix_calc_mask, posix_check, posix_chmod, posix_create, posix_show, Name, PosixQuestion, PosixText,
+    entries_from_form, posix_bridge, posix_calc_mask, posix_check, posix_chmod, posix_create, posix_show, Name, PosixForm,
+    PosixQuestion, PosixText,
 };
 pub use prepared::{
     decide_ids, decide_prepared, decide_prepared_many, prepare, prepare_ids, IdObject, IdRequester,
 };
-pub use raw::Fault;
+pub use raw::{Fault, LeftOut};
 pub use renaming::{renamed, Merging, Renaming};
 pub use rights::Rights;
 pub use unknown::{decide_unknown, Possible, Request};

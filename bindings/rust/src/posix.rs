@@ -1,6 +1,7 @@
 //! POSIX ACLs by their texts (acl(5); docs/formats.md).
 
 use crate::answers::{answered, made};
+use crate::entries::{entry, Entry};
 use crate::nfs4::DIRECTORY;
 use crate::raw::{self, Bytes};
 use crate::{Error, Form, Kind};
@@ -75,6 +76,40 @@ pub fn posix_create(text: PosixText, mode: u32, umask: u32, kind: Kind) -> Resul
 /// Returns the bytes of the NFSv4 list that the bridge makes of the access ACL of the text.
 pub fn posix_bridge(text: PosixText) -> Result<Vec<u8>, Error> {
     changed(text, 64, |text, out, needed, fault| unsafe { raw::aclck_posix_bridge(text, out, needed, fault) })
+}
+
+/// A form in which archives and Linux keep POSIX ACLs, and which ACL of a value is meant.
+#[derive(Clone, Copy, Debug, PartialEq, Eq)]
+pub enum PosixForm {
+    /// The attribute `system.posix_acl_access` or `system.posix_acl_default`.
+    Attribute,
+    /// The access ACL of a text `SCHILY.acl.access` of an archive.
+    Text,
+    /// The default ACL of such a text, which need not have one.
+    DefaultOfText,
+    /// The ACL of a text `SCHILY.acl.default` of an archive.
+    DefaultText,
+}
+
+impl PosixForm {
+    /// Returns the number of the form in `enum aclck_posix_form`.
+    fn number(self) -> u32 {
+        match self {
+            PosixForm::Attribute => 1,
+            PosixForm::Text => 2,
+            PosixForm::DefaultOfText => 3,
+            PosixForm::DefaultText => 4,
+        }
+    }
+}
+
+/// Returns the entries of the ACL that a value spells in a form. There are none if a text has no default ACL.
+pub fn entries_from_form(value: PosixText, form: PosixForm) -> Result<Vec<Entry>, Error> {
+    let names = raw_names(value.names);
+    let found = made(value.text.len() / 5 + 3, |out, needed, fault| unsafe {
+        raw::aclck_entries_from_form(&raw_text(value, &names), form.number(), out, needed, fault)
+    })?;
+    Ok(found.into_iter().map(entry).collect())
 }
 
 /// Makes a call on a text. The first buffer has room for some bytes for each byte of the text.

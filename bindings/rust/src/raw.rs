@@ -32,7 +32,7 @@ impl Default for Bytes {
     }
 }
 
-/// `aclck_buffer`, `aclck_masks`, `aclck_decided_list` and `aclck_entry_buffer`.
+/// `aclck_buffer`, `aclck_masks`, `aclck_decided_list`, `aclck_entry_buffer` and `aclck_left_outs`.
 #[repr(C)]
 pub struct Buffer<T> {
     at: *mut T,
@@ -43,6 +43,27 @@ impl<T> Buffer<T> {
     pub fn of(room: &mut [T]) -> Buffer<T> {
         Buffer { at: room.as_mut_ptr(), len: room.len() }
     }
+}
+
+/// `aclck_left_out`.
+#[repr(C)]
+#[derive(Clone, Copy, Debug, Default, PartialEq, Eq)]
+pub struct LeftOut {
+    /// The number of the ACE among all ACEs of the value, from 0.
+    pub place: u64,
+    /// The place of the ACE's first byte, from 0.
+    pub offset: u64,
+    /// The number of the reason in `enum aclck_reason`: 3 for AUDIT and ALARM, 11 for a special name.
+    pub reason: u32,
+}
+
+/// `aclck_list_part`.
+#[repr(C)]
+#[derive(Default)]
+pub struct Part {
+    pub needed: u64,
+    pub left_out: u64,
+    pub flags: u32,
 }
 
 /// `aclck_object`.
@@ -311,6 +332,9 @@ extern "C" {
     pub fn aclck_read_form(
         value: Bytes, form: u32, out: Buffer<u8>, needed: *mut usize, flags: *mut u32, fault: *mut Fault,
     ) -> u32;
+    pub fn aclck_read_part(
+        value: Bytes, form: u32, part: *mut Part, out: Buffer<u8>, left: Buffer<LeftOut>, fault: *mut Fault,
+    ) -> u32;
     pub fn aclck_write_form(
         acl: Bytes, form: u32, flags: u32, out: Buffer<u8>, needed: *mut usize, fault: *mut Fault,
     ) -> u32;
@@ -383,6 +407,9 @@ extern "C" {
     ) -> u32;
     pub fn aclck_entries_from_attribute(
         attribute: Bytes, out: Buffer<Entry>, needed: *mut usize, fault: *mut Fault,
+    ) -> u32;
+    pub fn aclck_entries_from_form(
+        value: *const PosixText, form: u32, out: Buffer<Entry>, needed: *mut usize, fault: *mut Fault,
     ) -> u32;
     pub fn aclck_entries_to_attribute(
         entries: Array<Entry>, out: Buffer<u8>, needed: *mut usize, fault: *mut Fault,

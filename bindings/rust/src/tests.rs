@@ -198,11 +198,13 @@ fn a_list_has_a_value_in_each_form() {
     let dacl = [&[0, 0, 0, 6], &list[..]].concat();
     let ids = b"\0\0\0\x06\0\0\0\x01\0\0\0\0\0\0\0\x40\0\0\0\0\0\0\0\x01\0\0\0\x14";
     let both = ListFlags::PROTECTED | ListFlags::DEFAULTED;
-    let rows: [(ListForm, ListFlags, &[u8]); 4] = [
+    let rows: [(ListForm, ListFlags, &[u8]); 6] = [
         (ListForm::NfsToolsFile, ListFlags::NONE, b"A:g:20:r\n"),
         (ListForm::NfsToolsDirectory, ListFlags::NONE, b"A:g:20:r\n"),
         (ListForm::NfsAcl41, both, &dacl),
         (ListForm::NfsAcl41Ids, both, ids),
+        (ListForm::NfsText(TextStyle::COMMAS), ListFlags::NONE, b"group:20:r::allow:20"),
+        (ListForm::NfsTextIds(TextStyle::FULL), ListFlags::NONE, b"group:20:r-------------:-------:allow:20\n"),
     ];
     for (form, flags, value) in rows {
         assert_eq!(read_form(value, form), Ok((list.clone(), flags)));
@@ -213,6 +215,14 @@ fn a_list_has_a_value_in_each_form() {
     assert!(matches!(fault, Error::Refused(Fault { reason: 45, offset: 0, .. })), "{fault}");
     let fault = read_form(b"A:g:20:r\nA:f:20:r\n", ListForm::NfsToolsFile).unwrap_err();
     assert!(matches!(fault, Error::Refused(Fault { reason: 35, offset: 11, .. })), "{fault}");
+}
+
+// RFC 8881, section 6.2.2: flags and one AUDIT ACE of `EVE`.
+#[test]
+fn an_audit_ace_is_left_out() {
+    let value = b"\0\0\0\x04\0\0\0\x01\0\0\0\x02\0\0\0\x10\0\0\0\x02\0\0\0\x03EVE\0";
+    let left = vec![LeftOut { place: 0, offset: 8, reason: 3 }];
+    assert_eq!(read_part(value, ListForm::NfsAcl41), Ok((vec![0; 4], ListFlags::DEFAULTED, left)));
 }
 
 #[test]
@@ -269,6 +279,12 @@ fn posix_entries_are_asked_and_changed() {
     assert_eq!(entries_from_attribute(&entries_to_attribute(&list).unwrap()), Ok(list.clone()));
     assert_eq!(entries_from_attribute(&[2, 0, 0, 0]), Ok(vec![]));
     assert!(matches!(entries_from_attribute(&[2, 0, 0]), Err(Error::Refused(Fault { reason: 29, .. }))));
+    let star = b"user::rw-,group::r--,other::---,user:bob:rw-:5,mask::rw-";
+    let value = |text| PosixText { text, names: &[] };
+    assert_eq!(entries_from_form(value(star), PosixForm::Text).map(|found| found[1]), Ok(bob));
+    assert_eq!(entries_from_form(value(star), PosixForm::DefaultOfText), Ok(vec![]));
+    let fault = entries_from_form(value(b"user::rw-"), PosixForm::DefaultText);
+    assert!(matches!(fault, Err(Error::Refused(Fault { reason: 27, offset: 9, .. }))));
     assert!(show(&entries_bridge(&list).unwrap(), Profile::Full).unwrap().starts_with(b"ALLOW - READ_DATA"));
 }
 

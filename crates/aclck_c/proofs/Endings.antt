@@ -62,8 +62,8 @@ writes_bytes Means (Err f) {fault} {fault_after} {returned} means ends =
     }
 
 -- what bytes say that they also say in other words
-pub in_words : (Means Says : List ℕ → Type 0) (made : Result (Vec ℕ) Failure)
-    → ((text : List ℕ) → Means text → Says text) → IfOk made (λ bytes. Means bytes.items)
+pub in_words : {A : Type 0} (Means Says : List A → Type 0) (made : Result (Vec A) Failure)
+    → ((text : List A) → Means text → Says text) → IfOk made (λ bytes. Means bytes.items)
     → IfOk made (λ bytes. Says bytes.items)
 in_words Means Says (Ok bytes) follows h = follows bytes.items h
 in_words Means Says (Err f) follows h = tt
@@ -164,10 +164,10 @@ writes_of_entries {AreGood} {IsRefused} {Means} {made} good means says ends = re
 }
 
 -- the names are good, unless an argument is bad or memory ran out
-names_are_good : (given : RawPosixText) (IsRefused : Refusal → Type 0) (Means : List ℕ → Type 0)
-    (made : Result (Vec ℕ) Failure) {buffer buffer_after : List ℕ} {needed needed_after : ℕ}
+names_are_good : {A : Type 0} (given : RawPosixText) (IsRefused : Refusal → Type 0) (Means : List A → Type 0)
+    (made : Result (Vec A) Failure) {buffer buffer_after : List A} {needed needed_after : ℕ}
     {fault fault_after : Refusal} {returned : ℕ}
-    → ((text : List ℕ) → Means text → AreGoodNames given.names.now)
+    → ((text : List A) → Means text → AreGoodNames given.names.now)
     → ((shown : Refusal) → IsRefused shown → AreGoodNames given.names.now)
     → IfOk made (λ bytes. Means bytes.items) → IfErr made (IsFailure (AreGoodNames given.names.now) IsRefused ⊤)
     → EndsCall made buffer buffer_after needed needed_after fault fault_after returned
@@ -182,10 +182,10 @@ names_are_good given IsRefused Means (Err failure.Memory) by_text by_refusal mea
     absurd (not_memory ends.reported.0)
 
 -- a call that made bytes of the text of POSIX ACLs, with arguments other than the names that are good
-pub writes_of_file : {given : RawPosixText} {IsRefused : Refusal → Type 0} {AreGood : Type 0} {Means : List ℕ → Type 0}
-    {made : Result (Vec ℕ) Failure} {buffer buffer_after : List ℕ} {needed needed_after : ℕ}
+pub writes_of_file : {A : Type 0} {given : RawPosixText} {IsRefused : Refusal → Type 0} {AreGood : Type 0}
+    {Means : List A → Type 0} {made : Result (Vec A) Failure} {buffer buffer_after : List A} {needed needed_after : ℕ}
     {fault fault_after : Refusal} {returned : ℕ}
-    → ((text : List ℕ) → Means text → AreGoodNames given.names.now)
+    → ((text : List A) → Means text → AreGoodNames given.names.now)
     → ((shown : Refusal) → IsRefused shown → AreGoodNames given.names.now)
     → AreGood → IfOk made (λ bytes. Means bytes.items)
     → IfErr made (IsFailure (AreGoodNames given.names.now) IsRefused ⊤)

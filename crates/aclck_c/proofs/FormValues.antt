@@ -16,7 +16,7 @@ use Rattle.aclck_c.specs.internal.Failures.{IsFailure, IsListFailure, of_refusal
 use Rattle.aclck_c.specs.internal.FormFailures.{IsFormFailure, IsHoldingFailure, IsValueFailure, of_value}
 
 -- if a refusal says why the input is refused, so does the failure
-refusal_failure : (IsRefused : Refusal → Type 0) (o : Option Refusal)
+pub refusal_failure : (IsRefused : Refusal → Type 0) (o : Option Refusal)
     → ((shown : Refusal) → Some shown ≡ o → IsRefused shown) → IsFailure ⊤ IsRefused ⊤ (of_refusal o)
 refusal_failure IsRefused (Some shown) says = says shown refl
 refusal_failure IsRefused None says = tt

@@ -12,10 +12,14 @@ pub mod Deciders
 pub mod Endings
 -- failures of entries and of attributes
 pub mod EntriesFailures
+-- failures of values of POSIX forms
+pub mod PosixForms
 -- failures of names and of texts
 pub mod FileFailures
 -- values of forms
 pub mod FormValues
+pub mod FormParts
+pub mod PartGrants
 -- failures of lists that are prepared for ids
 pub mod IdFailures
 -- failures of groups for identifiers that nobody knows

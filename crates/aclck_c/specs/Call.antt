@@ -67,9 +67,9 @@ pub record WritesOfList (p : Profile) (list : List ℕ) (AreGood : Type 0) (Mean
   pub bytes : WritesBytes Means buffer buffer_after needed needed_after returned
   pub input : ReadsList p list AreGood fault fault_after returned
 
--- what a call promises that makes bytes of the text of POSIX ACLs
-pub record WritesOfFile (given : RawPosixText) (AreGood : Type 0) (IsRefused : Refusal → Type 0)
-    (Means : List ℕ → Type 0) (buffer buffer_after : List ℕ) (needed needed_after : ℕ)
+-- what a call promises that makes bytes or entries of the text of POSIX ACLs
+pub record WritesOfFile {A : Type 0} (given : RawPosixText) (AreGood : Type 0) (IsRefused : Refusal → Type 0)
+    (Means : List A → Type 0) (buffer buffer_after : List A) (needed needed_after : ℕ)
     (fault fault_after : Refusal) (returned : ℕ) : Type 0 where
   pub bytes : WritesBytes Means buffer buffer_after needed needed_after returned
   pub input : ReadsFile given IsRefused AreGood status.done_or_short fault fault_after returned

@@ -1,6 +1,6 @@
 -- Values of forms in calls from C (this library's own, over the definitions of the forms): which form a number means,
 -- what is made of a value and of a list, and why either is refused.
-use Rattle.std.specs.Prelude.{◌≡◌, ◌==◌, ◌⊎◌, ℕ, List, IsSome, None, Option, Some, codes, if◌then◌else◌}
+use Rattle.std.specs.Prelude.{◌≡◌, ◌==◌, ◌⊎◌, ℕ, List, IsSome, None, Option, Some, bit_and, codes, if◌then◌else◌}
 use Rattle.acl_perm.specs.Profile.{full}
 use Rattle.acl_nfs4.specs.Ace.{Ace}
 use Rattle.acl_nfs4.specs.Spelling.{Xdr, spelling}
@@ -14,8 +14,12 @@ use Rattle.acl_forms.specs.declared.fault.ReadFault.{ReadFault}
 use Rattle.acl_forms.specs.declared.fault.ReadReason.{ReadReason}
 use Rattle.acl_forms.specs.declared.fault.ReadReason.TheVariants as reading
 use Rattle.acl_forms.specs.declared.form.Form.{Form}
-use Rattle.acl_forms.specs.declared.form.Form.TheVariants.{NfsAcl41, NfsAcl41Ids, NfsTools}
+use Rattle.acl_forms.specs.declared.form.Form.TheVariants.{NfsAcl41, NfsAcl41Ids, NfsText, NfsTools}
 use Rattle.acl_forms.specs.declared.object.ObjectKind.TheVariants.{Directory, File}
+use Rattle.acl_forms.specs.declared.style.EntrySeparator.TheVariants.{Commas, LineFeeds}
+use Rattle.acl_forms.specs.declared.style.LetterStyle.TheVariants.{Compact, Full}
+use Rattle.acl_forms.specs.declared.style.Style.{Style}
+use Rattle.acl_forms.specs.declared.who_field.WhoField.TheVariants as source
 use Rattle.aclck_c.specs.Lists.{IsRefusedList}
 use Rattle.aclck_c.specs.Posix.{tag_number}
 use Rattle.aclck_c.specs.Refusal.{in_value, reason_number}
@@ -24,13 +28,26 @@ use Rattle.aclck_c.specs.declared.refusal.Refusal.{Refusal}
 
 -- ---- the numbers of `enum aclck_form`
 
+-- the style of the bits of a number: 16 for commas, 32 for a place for each letter
+abbrev pub style_of_number : ℕ → Style
+style_of_number number = record {
+  separator = if bit_and number 16 == 0 then LineFeeds else Commas;
+  letters = if bit_and number 32 == 0 then Compact else Full;
+}
+
+-- the text of a number, which is 5 or 6 without the bits of a style
+abbrev pub text_of_number : ℕ → Option Form
+text_of_number number =
+    if bit_and number 0xffffffcf == 5 then Some (NfsText source.Name (style_of_number number))
+    else (if bit_and number 0xffffffcf == 6 then Some (NfsText source.Id (style_of_number number)) else None)
+
 -- the form of a number
 abbrev pub form_of_number : ℕ → Option Form
 form_of_number number =
     if number == 1 then Some (NfsTools File)
     else (if number == 2 then Some (NfsTools Directory)
     else (if number == 3 then Some NfsAcl41
-    else (if number == 4 then Some NfsAcl41Ids else None)))
+    else (if number == 4 then Some NfsAcl41Ids else text_of_number number)))
 
 -- the number is that of a form, and this holds of the form
 pub record HoldsOfForm (number : ℕ) (Holds : Form → Type 0) : Type 0 where

@@ -1,9 +1,15 @@
 -- What the exports promise about each other (this library's own, over RFC 8881, section 6.2.1).
-use Rattle.std.specs.Prelude.{◌≡◌, ◌↔◌, ℕ, List, map, take}
+use Rattle.std.specs.Prelude.{◌≡◌, ◌↔◌, ℕ, List, false, map, take}
+use Rattle.std.specs.List.{AllByRecursion}
+use Rattle.acl_perm.specs.Situation.{Situation}
+use Rattle.acl_nfs4.specs.AccessPart.{access_part}
 use Rattle.acl_nfs4.specs.Ace.{Ace}
 use Rattle.acl_nfs4.specs.Spelling.{Xdr}
 use Rattle.acl_eval.specs.Grant.{SameGrants}
 use Rattle.acl_eval.specs.GroupSearch.{AreRisingNames}
+use Rattle.acl_eval.specs.Unknown.{Assignment, GrantsUnder}
+use Rattle.acl_forms.specs.Part.{PlacedAce, is_unknown_deny, kept}
+use Rattle.acl_forms.specs.PartWords.{SpellsById, SpellsByName, SpellsWhole}
 use Rattle.acl_normal.specs.NormalForm.{Normalizes}
 use Rattle.aclck_c.specs.Options.{profile_from}
 use Rattle.aclck_c.specs.Out.{HandsOut}
@@ -33,3 +39,22 @@ RisingGroupsDecideAlike =
     → AreRisingNames (map (λ g. g.now) who.groups.now)
     → AreDecidedIn (asked_prepared object question who) mask list found
     ↔ AreDecidedIn (asked object who) mask list found
+
+-- no DENY names a special identifier that nobody knows
+abbrev pub HasNoUnknownDeny : List PlacedAce → Type 0
+HasNoUnknownDeny whole = AllByRecursion (λ p. is_unknown_deny p.ace.type_number p.ace.who ≡ false) whole
+
+-- no value of nfsacl41 or nfsacl41i of which a part is read spells such a DENY
+pub record FormsHaveNoUnknownDeny : Type 0 where
+  pub by_name : (set : ℕ) (whole : List PlacedAce) (value : List ℕ) → SpellsWhole SpellsByName set whole value
+      → HasNoUnknownDeny whole
+  pub by_id : (set : ℕ) (whole : List PlacedAce) (value : List ℕ) → SpellsWhole SpellsById set whole value
+      → HasNoUnknownDeny whole
+
+-- what the ACEs that are kept grant, what access reads of the whole list grants too, whether or not the special
+-- identifiers that nobody knows match the requester
+abbrev pub PartGrantsNoMore : Type 0
+PartGrantsNoMore =
+    (whole : List PlacedAce) (v : Assignment) (s : Situation) (request : ℕ) → HasNoUnknownDeny whole
+    → GrantsUnder v (kept whole) s request
+    → GrantsUnder v (access_part (map (λ p. p.ace) whole)).kept s request

@@ -9,6 +9,7 @@ pub mod Entries
 pub mod EntriesExcess
 pub mod Excess
 pub mod FormValues
+pub mod FormParts
 pub mod Holders
 pub mod Ids
 pub mod Implies
@@ -21,6 +22,7 @@ pub mod Next
 pub mod Options
 pub mod Out
 pub mod Posix
+pub mod PosixForms
 pub mod Prepared
 pub mod Refusal
 pub mod Renaming

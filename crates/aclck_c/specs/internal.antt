@@ -12,6 +12,8 @@ pub mod Endings
 pub mod Failures
 -- why a value of a form is not read or made
 pub mod FormFailures
+-- how a part of a value of a form is read and handed out
+pub mod FormParts
 -- why a list is not prepared for ids
 pub mod IdFailures
 -- the first difference of two lists

@@ -27,6 +27,7 @@ pub use nfs4::decide::{RawDecided, aclck_decide};
 pub use nfs4::deciding::{RawDecision, aclck_deciding};
 pub use nfs4::encode::aclck_encode;
 pub use nfs4::excess::aclck_excess;
+pub use nfs4::form_part::{RawLeftOut, RawPart, aclck_read_part};
 pub use nfs4::forms::{aclck_read_form, aclck_write_form};
 pub use nfs4::granted::aclck_granted;
 pub use nfs4::ids::{RawIdObject, RawIdRequester, RawNames, aclck_decide_ids, aclck_prepare_ids};
@@ -56,6 +57,7 @@ pub use posix::entries_made::{
     aclck_entries_from_attribute, aclck_entries_sorted, aclck_entries_to_attribute,
 };
 pub use posix::file::RawPosixText;
+pub use posix::forms::aclck_entries_from_form;
 pub use posix::names::RawName;
 pub use posix::texts::{
     aclck_posix_bridge, aclck_posix_calc_mask, aclck_posix_chmod, aclck_posix_create,

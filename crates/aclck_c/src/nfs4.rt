@@ -11,6 +11,7 @@ pub(crate) mod deciding;
 pub(crate) mod encode;
 pub(crate) mod excess;
 pub(crate) mod form_fault;
+pub(crate) mod form_part;
 pub(crate) mod forms;
 pub(crate) mod granted;
 pub(crate) mod ids;

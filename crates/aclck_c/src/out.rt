@@ -1,6 +1,6 @@
 //! Results for callers: in their buffers bytes or numbers, and the numbers of answers.
-ghost use Rattle.std.specs.Prelude.{◌≡◌};
-ghost use Rattle.aclck_c.specs.Out.{truth_number};
+ghost use Rattle.std.specs.Prelude.{◌≡◌, ◌≤◌, length};
+ghost use Rattle.aclck_c.specs.Out.{Puts, truth_number};
 ghost use Rattle.aclck_c.specs.internal.Endings.{EndsCall, PutsIfRoom};
 
 use crate::failure::Failure;
@@ -39,7 +39,15 @@ pub(crate) fn put<T: Copy>(items: &[T], out: &mut [T], needed: &mut usize) -> u3
     if items.len() > out.len() {
         return SHORT;
     }
+    fill(items, out);
+    DONE
+}
+
+/// Puts items at the front of a buffer that has room for them.
+pub(crate) fn fill<T: Copy>(items: &[T], out: &mut [T])
+    requires { length items.now ≤ length out.old }
+    ensures { Puts items.now out.old out.new }
+{
     let (front, _) = out.split_at_mut(items.len());
     front.copy_from_slice(items);
-    DONE
 }

@@ -7,6 +7,7 @@ pub(crate) mod entries_check;
 pub(crate) mod entries_excess;
 pub(crate) mod entries_made;
 pub(crate) mod file;
+pub(crate) mod forms;
 pub(crate) mod names;
 pub(crate) mod text_fault;
 pub(crate) mod texts;

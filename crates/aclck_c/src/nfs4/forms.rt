@@ -1,6 +1,6 @@
 //! Lists in the forms of other systems: what a value of a form spells, and the value of a list.
 ghost use Rattle.acl_perm.specs.Profile.{full};
-ghost use Rattle.aclck_c.specs.FormValues.{IsGoodForm, IsRefusedForNumber, IsRefusedValueIn, IsValueOf, MakesFormValue, MakesFormValueIn, ReadsFormValue, ReadsFormValueIn, form_of_number};
+ghost use Rattle.aclck_c.specs.FormValues.{IsGoodForm, IsRefusedForNumber, IsRefusedValueIn, IsValueOf, MakesFormValue, MakesFormValueIn, ReadsFormValue, ReadsFormValueIn, form_of_number, style_of_number, text_of_number};
 ghost use Rattle.aclck_c.specs.Lists.{AreList};
 ghost use Rattle.aclck_c.specs.Status as status;
 ghost use Rattle.aclck_c.specs.internal.FormFailures.{IsFormFailure, IsHoldingFailure, IsValueFailure};
@@ -12,13 +12,23 @@ use crate::nfs4::form_fault::holding_refusal;
 use crate::out::{answer, put};
 use crate::refusal::Refusal;
 use crate::status::BAD_ARGUMENT;
-use acl_forms::{AclFlags, Form, FormWriteFault, ObjectKind, read, write};
+use acl_forms::{
+    AclFlags, EntrySeparator, Form, FormWriteFault, LetterStyle, ObjectKind, Style, WhoField, read,
+    write,
+};
 use acl_nfs4::AclView;
 use acl_perm::Counted;
 use std::alloc::Global;
 
+// The bits of a style that may be added to the number of a text, and the other bits.
+const COMMAS: u32 = 16;
+
+const FULL: u32 = 32;
+
+const WITHOUT_STYLE: u32 = 0xffff_ffcf;
+
 /// Writes the bytes of the list that a value of a form spells, and the flags of the list into `flags`; a text has none.
-/// `form` is a number of `enum aclck_form`. Returns 0 if the bytes are at the front of `out`; 2 if the value is
+/// `form` is a number of `enum aclck_form`; the bits of a style have no effect. Returns 0 if the bytes are at the front of `out`; 2 if the value is
 /// refused, with the reason and the place of a byte in `fault`; 3 if no form has the number; 4 if memory ran out; 5 if
 /// `out` is too short. At 0 and 5 `needed` is the number of bytes, and the flags are in `flags`.
 #[unsafe(no_mangle)]
@@ -49,8 +59,8 @@ pub extern "C" fn aclck_read_form(
     }
 }
 
-// Returns the form with this number in `enum aclck_form`.
-fn form_of_number(number: u32) -> Option<Form>
+/// Returns the form with this number in `enum aclck_form`.
+pub(crate) fn form_of_number(number: u32) -> Option<Form>
     ensures { result ≡ form_of_number number }
 {
     match number {
@@ -58,8 +68,36 @@ fn form_of_number(number: u32) -> Option<Form>
         2 => Some(Form::NfsTools(ObjectKind::Directory)),
         3 => Some(Form::NfsAcl41),
         4 => Some(Form::NfsAcl41Ids),
+        _ => text_of_number(number),
+    }
+}
+
+// Returns the text with this number, to which the bits of a style may be added.
+fn text_of_number(number: u32) -> Option<Form>
+    ensures { result ≡ text_of_number number }
+{
+    match number & WITHOUT_STYLE {
+        5 => Some(Form::NfsText(WhoField::Name, style_of_number(number))),
+        6 => Some(Form::NfsText(WhoField::Id, style_of_number(number))),
         _ => None,
     }
+}
+
+// Returns the style of the bits of a number.
+fn style_of_number(number: u32) -> Style
+    ensures { result ≡ style_of_number number }
+{
+    let separator = if number & COMMAS == 0 {
+        EntrySeparator::LineFeeds
+    } else {
+        EntrySeparator::Commas
+    };
+    let letters = if number & FULL == 0 {
+        LetterStyle::Compact
+    } else {
+        LetterStyle::Full
+    };
+    Style { separator, letters }
 }
 
 // Returns the flags and the bytes of the list. Fails if the value is refused or memory runs out.

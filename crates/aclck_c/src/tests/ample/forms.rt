@@ -1,5 +1,5 @@
-//! Values of forms. The text is in nfs4_setfacl(1), and the bytes are in the layout of RFC 4506; the flags of a list are
-//! those of RFC 8881, section 6.2.2.
+//! Values of forms. The texts are those of nfs4_setfacl(1) and of libarchive 3.6.2, and the bytes are in the layout of
+//! RFC 4506; the flags of a list are those of RFC 8881, section 6.2.2.
 use crate::status::{BAD_ARGUMENT, DONE, REFUSED, SHORT};
 use crate::tests::{LIST, no_fault};
 use crate::{Refusal, aclck_read_form, aclck_write_form};
@@ -13,6 +13,14 @@ const DIRECTORY: u32 = 2;
 const ACL41: u32 = 3;
 
 const ACL41_IDS: u32 = 4;
+
+const TEXT: u32 = 5;
+
+const TEXT_IDS: u32 = 6;
+
+const COMMAS: u32 = 16;
+
+const FULL: u32 = 32;
 
 // The list of bob with the flag PROTECTED, as the attribute dacl has it.
 const DACL: &[u8; 28] = b"\0\0\0\x02\0\0\0\x01\0\0\0\0\0\0\0\0\0\0\0\x01\0\0\0\x03bob\0";
@@ -33,14 +41,18 @@ fn read(
 
 #[test]
 fn a_value_is_read_in_its_form(rt: HostRuntime) -> Result<(), Fail> {
-    let rows: [(u32, &[u8], u32, u32); 7] = [
+    let rows: [(u32, &[u8], u32, u32); 11] = [
         (FILE, b"A::bob:r\n", DONE, 0),
         (DIRECTORY, b"A::bob:r", DONE, 0),
         (ACL41, DACL, DONE, 2),
         (ACL41_IDS, DACL, REFUSED, 77),
         (FILE, DACL, REFUSED, 77),
+        (TEXT, b"user:bob:r::allow:1001", DONE, 0),
+        (TEXT + COMMAS + FULL, b"user:bob:r::allow\n", DONE, 0),
+        (TEXT_IDS + COMMAS, b"user:bob:r::allow", DONE, 0),
         (0, DACL, BAD_ARGUMENT, 77),
-        (5, DACL, BAD_ARGUMENT, 77),
+        (7, DACL, BAD_ARGUMENT, 77),
+        (ACL41 + COMMAS, DACL, BAD_ARGUMENT, 77),
     ];
     for (form, value, expected, bits) in rows {
         let mut fault = no_fault();
@@ -56,12 +68,14 @@ fn a_value_is_read_in_its_form(rt: HostRuntime) -> Result<(), Fail> {
 
 #[test]
 fn a_value_is_refused_at_its_byte(rt: HostRuntime) -> Result<(), Fail> {
-    let rows: [(u32, &[u8], u32, u64); 5] = [
+    let rows: [(u32, &[u8], u32, u64); 7] = [
         (FILE, b"A:f:bob:r", 35, 2),
         (DIRECTORY, b"A:f:bob:r\nD::", 16, 10),
         (DIRECTORY, b"\n", 36, 1),
         (ACL41, b"\0\0\0\x08", 33, 0),
         (ACL41_IDS, &DACL[..7], 1, 4),
+        (TEXT, b"user:7:r::allow:8", 37, 16),
+        (TEXT_IDS, b"user:bob:r::allow#,", 38, 18),
     ];
     for (form, value, reason, offset) in rows {
         let mut fault = no_fault();
@@ -99,7 +113,7 @@ fn a_short_buffer_for_a_list_has_its_flags(rt: HostRuntime) -> Result<(), Fail> 
 
 #[test]
 fn a_list_is_written_in_a_form_that_holds_it(rt: HostRuntime) -> Result<(), Fail> {
-    let rows: [(u32, u32, u32, &[u8], u32); 8] = [
+    let rows: [(u32, u32, u32, &[u8], u32); 12] = [
         (FILE, 0, DONE, b"A::bob:r\n", 0),
         (DIRECTORY, 0, DONE, b"A::bob:r\n", 0),
         (ACL41, 2, DONE, DACL, 0),
@@ -107,11 +121,21 @@ fn a_list_is_written_in_a_form_that_holds_it(rt: HostRuntime) -> Result<(), Fail
         (ACL41_IDS, 2, REFUSED, b"", 41),
         (ACL41, 8, BAD_ARGUMENT, b"", 0),
         (FILE, 8, BAD_ARGUMENT, b"", 0),
-        (5, 0, BAD_ARGUMENT, b"", 0),
+        (TEXT, 0, DONE, b"user:bob:r::allow\n", 0),
+        (TEXT_IDS + COMMAS, 0, DONE, b"user:bob:r::allow", 0),
+        (
+            TEXT + COMMAS + FULL,
+            0,
+            DONE,
+            b"user:bob:r-------------:-------:allow",
+            0,
+        ),
+        (TEXT, 1, REFUSED, b"", 45),
+        (7, 0, BAD_ARGUMENT, b"", 0),
     ];
     for (form, flags, expected, value, reason) in rows {
         let mut fault = no_fault();
-        let mut out = [7u8; 28];
+        let mut out = [7u8; 37];
         let mut needed = 0;
         let status = aclck_write_form(
             rt.alloc(),
