@@ -9,7 +9,7 @@ Names of users and groups are `str` or `bytes`. In a `str`, bytes that are not U
 from ._library import VERSION
 from .aces import ALLOW, DENY, Ace, AceFlag, AceKind
 from .faults import Refused
-from .forms import ListFlag, ListForm
+from .forms import LeftOut, ListFlag, ListForm, TextStyle
 from .nfs import Decision, Difference, NfsAcl, TableRow
 from .posix import Entry, PosixAcl, PosixDecision, PosixDifference
 from .prepared import (
@@ -62,6 +62,7 @@ __all__ = [
     "EXECUTE",
     "Entry",
     "LIST_DIRECTORY",
+    "LeftOut",
     "ListFlag",
     "ListForm",
     "NfsAcl",
@@ -81,6 +82,7 @@ __all__ = [
     "Requesters",
     "SYNCHRONIZE",
     "TableRow",
+    "TextStyle",
     "VERSION",
     "WRITE_ACL",
     "WRITE_ATTRIBUTES",

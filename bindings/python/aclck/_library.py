@@ -202,6 +202,24 @@ class Possible(ctypes.Structure):
     _fields_ = [("allowed", Word), ("denied", Word), ("unknown", Word), ("request", Word), ("left_out", Word)]
 
 
+class LeftOut(ctypes.Structure):
+    """An ACE that is left out."""
+
+    _fields_ = [("place", ctypes.c_uint64), ("offset", ctypes.c_uint64), ("reason", Word)]
+
+
+class Part(ctypes.Structure):
+    """The number of bytes of a list, the number of the ACEs that are left out, and the flags of the list."""
+
+    _fields_ = [("needed", ctypes.c_uint64), ("left_out", ctypes.c_uint64), ("flags", Word)]
+
+
+class LeftOuts(ctypes.Structure):
+    """Room for ACEs that are left out."""
+
+    _fields_ = [("at", ctypes.POINTER(LeftOut)), ("cap", _size)]
+
+
 class Difference(ctypes.Structure):
     """Whether two lists grant the same, and if not, the right on which they differ."""
 
@@ -210,72 +228,60 @@ class Difference(ctypes.Structure):
 
 lib = load()
 _fault, _words = ctypes.POINTER(Fault), ctypes.POINTER(Word)
-_out = [Buffer, ctypes.POINTER(_size)]
 _asked = [Bytes, ctypes.POINTER(Object), ctypes.POINTER(Requester), ctypes.POINTER(Question)]
 _asked_by_ids = [ctypes.POINTER(IdObject), ctypes.POINTER(IdRequester), ctypes.POINTER(Question)]
-_posix = ctypes.POINTER(PosixText)
+_posix, _out = ctypes.POINTER(PosixText), [Buffer, ctypes.POINTER(_size)]
 _entries = [EntryBuffer, ctypes.POINTER(_size), _fault]
 _posix_asked = [Entries, ctypes.POINTER(PosixQuestion)]
-_TYPES: "dict[str, list[Any]]" = {
-    "decide": [*_asked, ctypes.POINTER(Decided), _fault],
-    "check": [*_asked, _words, _fault],
-    "decide_unknown": [*_asked, ctypes.POINTER(Possible), _fault],
-    "granted": [*_asked, _words, _fault],
-    "deciding": [*_asked, ctypes.POINTER(Decision), _fault],
-    "prepare_ids": [Bytes, ctypes.POINTER(Names), Word, *_out, _fault],
-    "decide_ids": [Bytes, *_asked_by_ids, ctypes.POINTER(Decided)],
-    "check_many": [Bytes, ctypes.POINTER(Object), Requesters, ctypes.POINTER(Question), Masks, _fault],
-    "prepare": [Bytes, Word, *_out, _fault],
-    "decide_prepared": [*_asked, ctypes.POINTER(Decided)],
-    "decide_prepared_many": [Bytes, ctypes.POINTER(Object), Requesters, ctypes.POINTER(Question), DecidedList],
-    "mode": [Bytes, Word, _words, _fault],
-    "child": [Bytes, Word, *_out, _fault],
-    "chmod": [Bytes, Word, Word, *_out, _fault],
-    "show": [Bytes, Word, *_out, _fault],
-    "build": [Aces, Word, *_out, _fault],
-    "next": [Bytes, Word, ctypes.POINTER(_size), ctypes.POINTER(Ace), _fault],
-    "encode": [Bytes, Word, *_out, _fault],
-    "renamed": [Bytes, ctypes.POINTER(Renamings), Word, *_out, _fault],
-    "resolved": [Bytes, ctypes.POINTER(Object), Word, *_out, _fault],
-    "with_groups": [Bytes, ctypes.POINTER(Bytes), Word, *_out, _fault],
-    "read_form": [Bytes, Word, *_out, _words, _fault],
-    "write_form": [Bytes, Word, Word, *_out, _fault],
-    "normalize": [Bytes, Word, *_out, _fault],
-    "normalize_inherit": [Bytes, Word, *_out, _fault],
-    "table": [Bytes, ctypes.POINTER(Question), *_out, _fault],
-    "holders": [Bytes, ctypes.POINTER(Question), *_out, _fault],
-    "needed": [Bytes, Word, Masks, ctypes.POINTER(_size), _fault],
-    "same": [Bytes, Bytes, Word, _words, _fault],
-    "compare": [Bytes, Bytes, Word, ctypes.POINTER(Difference), Buffer, _fault],
-    "excess": [Bytes, Bytes, Word, ctypes.POINTER(Difference), Buffer, _fault],
-    "implies": [Bytes, ctypes.POINTER(Implication), ctypes.POINTER(Difference), Buffer, _fault],
-    "read_mask": [Bytes, _words],
-    "mask_text": [Word, *_out],
-    "reason_text": [Word, *_out],
-    "posix_check": [_posix, ctypes.POINTER(PosixQuestion), _words, _fault],
-    "posix_show": [_posix, Word, *_out, _fault],
-    "posix_calc_mask": [_posix, *_out, _fault],
-    "posix_chmod": [_posix, Word, *_out, _fault],
-    "posix_create": [_posix, ctypes.POINTER(Creation), *_out, _fault],
-    "posix_bridge": [_posix, *_out, _fault],
-    "entries_check": [*_posix_asked, _words, _fault],
-    "entries_deciding": [*_posix_asked, ctypes.POINTER(PosixDecision), _fault],
-    "entries_mode": [Entries, _words, _fault],
-    "entries_excess": [Entries, Entries, ctypes.POINTER(PosixDifference), _fault],
-    "entries_sorted": [Entries, Word, *_entries],
-    "entries_chmod": [Entries, Word, *_entries],
-    "entries_calc_mask": [Entries, *_entries],
-    "entries_create": [Entries, ctypes.POINTER(Creation), *_entries],
-    "entries_bridge": [Entries, *_out, _fault],
-    "entries_from_attribute": [Bytes, *_entries],
-    "entries_to_attribute": [Entries, *_out, _fault],
-    "version": [],
-}
+_CALLS: "List[Tuple[str, List[Any]]]" = [
+    ("decide", [*_asked, ctypes.POINTER(Decided), _fault]),
+    ("check granted", [*_asked, _words, _fault]),
+    ("decide_unknown", [*_asked, ctypes.POINTER(Possible), _fault]),
+    ("deciding", [*_asked, ctypes.POINTER(Decision), _fault]),
+    ("prepare_ids", [Bytes, ctypes.POINTER(Names), Word, *_out, _fault]),
+    ("decide_ids", [Bytes, *_asked_by_ids, ctypes.POINTER(Decided)]),
+    ("check_many", [Bytes, ctypes.POINTER(Object), Requesters, ctypes.POINTER(Question), Masks, _fault]),
+    ("prepare child show encode normalize normalize_inherit", [Bytes, Word, *_out, _fault]),
+    ("decide_prepared", [*_asked, ctypes.POINTER(Decided)]),
+    ("decide_prepared_many", [Bytes, ctypes.POINTER(Object), Requesters, ctypes.POINTER(Question), DecidedList]),
+    ("mode", [Bytes, Word, _words, _fault]),
+    ("chmod write_form", [Bytes, Word, Word, *_out, _fault]),
+    ("build", [Aces, Word, *_out, _fault]),
+    ("next", [Bytes, Word, ctypes.POINTER(_size), ctypes.POINTER(Ace), _fault]),
+    ("renamed", [Bytes, ctypes.POINTER(Renamings), Word, *_out, _fault]),
+    ("resolved", [Bytes, ctypes.POINTER(Object), Word, *_out, _fault]),
+    ("with_groups", [Bytes, ctypes.POINTER(Bytes), Word, *_out, _fault]),
+    ("read_form", [Bytes, Word, *_out, _words, _fault]),
+    ("read_part", [Bytes, Word, ctypes.POINTER(Part), Buffer, LeftOuts, _fault]),
+    ("table holders", [Bytes, ctypes.POINTER(Question), *_out, _fault]),
+    ("needed", [Bytes, Word, Masks, ctypes.POINTER(_size), _fault]),
+    ("same", [Bytes, Bytes, Word, _words, _fault]),
+    ("compare excess", [Bytes, Bytes, Word, ctypes.POINTER(Difference), Buffer, _fault]),
+    ("implies", [Bytes, ctypes.POINTER(Implication), ctypes.POINTER(Difference), Buffer, _fault]),
+    ("read_mask", [Bytes, _words]),
+    ("mask_text reason_text", [Word, *_out]),
+    ("posix_check", [_posix, ctypes.POINTER(PosixQuestion), _words, _fault]),
+    ("posix_show posix_chmod", [_posix, Word, *_out, _fault]),
+    ("posix_calc_mask posix_bridge", [_posix, *_out, _fault]),
+    ("posix_create", [_posix, ctypes.POINTER(Creation), *_out, _fault]),
+    ("entries_check", [*_posix_asked, _words, _fault]),
+    ("entries_deciding", [*_posix_asked, ctypes.POINTER(PosixDecision), _fault]),
+    ("entries_mode", [Entries, _words, _fault]),
+    ("entries_excess", [Entries, Entries, ctypes.POINTER(PosixDifference), _fault]),
+    ("entries_sorted entries_chmod", [Entries, Word, *_entries]),
+    ("entries_calc_mask", [Entries, *_entries]),
+    ("entries_create", [Entries, ctypes.POINTER(Creation), *_entries]),
+    ("entries_bridge entries_to_attribute", [Entries, *_out, _fault]),
+    ("entries_from_attribute", [Bytes, *_entries]),
+    ("entries_from_form", [_posix, Word, *_entries]),
+    ("version", []),
+]
+"""The names of calls, and the types of their arguments."""
 
 
 def _declare() -> "dict[str, Any]":
     found = {}
-    for name, types in _TYPES.items():
+    for name, types in ((name, types) for names, types in _CALLS for name in names.split()):
         try:
             call = getattr(lib, "aclck_" + name)
         except AttributeError:

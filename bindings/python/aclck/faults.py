@@ -13,14 +13,14 @@ class Refused(ValueError):
 
     Attributes:
         reason: the name of the reason, such as `Truncated` (docs/formats.md has all).
-        offset: for bytes, the place of the refused field in bytes, from 0. For a POSIX list that is not valid, the
-            place of the entry in its part, from 0. Otherwise None.
+        offset: for bytes and for a text of an archive, the place of the refused field in bytes, from 0. For a POSIX
+            list that is not valid, the place of the entry in its part, from 0. Otherwise None.
         ace: for a list that is made of ACEs, and for one whose names are exchanged, the place of the ACE, from 0.
             Otherwise None.
         line, column: for a text, the place, both from 1; the column is in bytes. Otherwise None.
         part: for a POSIX list that is not valid, `access` or `default`. Otherwise None.
         tag: if an entry is missing, its tag, such as `MASK`. Otherwise None.
-        second: whether the second of two lists is refused.
+        second: whether the second of two lists or texts is refused.
     """
 
     def __init__(self, reason: str, *, offset: Optional[int] = None, line: Optional[int] = None,
@@ -45,7 +45,7 @@ class Refused(ValueError):
         if self.ace is not None:
             return f"{self.reason} at ACE {self.ace}"
         if self.offset is not None:
-            return f"{self.reason} at byte {self.offset}"
+            return f"{self.reason} {self.tag or ''}".rstrip() + f" at byte {self.offset}"
         return self.reason
 
 
@@ -62,6 +62,13 @@ def refused(name: str, offset: int, line: int, column: int, second: int, part: i
     if name in ("UnknownName", "Merged"):
         return Refused(name, ace=offset)
     return Refused(name, offset=offset, second=bool(second))
+
+
+def in_text(refused: Refused, length: int, second: bool) -> Refused:
+    """Makes the exception for a text of this length, whose places are those of bytes. An entry that is missing is so at
+    the end."""
+    offset = refused.offset if refused.ace is None else refused.ace
+    return Refused(refused.reason, offset=length if refused.tag else offset, tag=refused.tag, second=second)
 
 
 def of_part(refused: Refused, default: bool) -> Refused:

@@ -4,7 +4,7 @@ from __future__ import annotations
 
 import ctypes
 import enum
-from typing import Tuple
+from typing import List, NamedTuple, Tuple
 
 from . import _library as c
 from .faults import Refused
@@ -25,6 +25,22 @@ class ListForm(enum.Enum):
     NFS_ACL41_IDS = 4
     """Samba's attribute `security.nfs4acl_xdr`: flags of the list, and a list whose users and groups are ids."""
 
+    NFS_TEXT = 5
+    """The text of `getfacl` of FreeBSD, of ZFS and of archives, by its names. It has no flags of the list."""
+
+    NFS_TEXT_IDS = 6
+    """The same text. An entry with a name and an id is about the id."""
+
+
+class TextStyle(enum.IntFlag):
+    """How `ListForm.NFS_TEXT` and `ListForm.NFS_TEXT_IDS` are written. Both flags have no effect when they are read."""
+
+    COMMAS = 16
+    """Commas are between the entries, as in `SCHILY.acl.ace`. Without this, a line feed is after each entry."""
+
+    FULL = 32
+    """Each letter has a place, with `-` for one that is absent. Without this, only the letters are written."""
+
 
 class ListFlag(enum.IntFlag):
     """The flags of a whole list (section 6.2.2). A set of flags is equal to its number, and is written as it."""
@@ -40,6 +56,22 @@ class ListFlag(enum.IntFlag):
         return format(self.value, spec)
 
 
+class LeftOut(NamedTuple):
+    """An ACE that is left out of a list. Its `str` is a line that says so."""
+
+    ace: int
+    """The number of the ACE among all ACEs of the value, from 0."""
+
+    offset: int
+    """The place of the ACE's first byte, from 0."""
+
+    reason: str
+    """`AuditOrAlarm`, or `SpecialWho` for a special name other than `OWNER@`, `GROUP@` and `EVERYONE@`."""
+
+    def __str__(self) -> str:
+        return f"{self.reason} at ACE {self.ace}, byte {self.offset}"
+
+
 def read(value: bytes, form: ListForm) -> Tuple[bytes, ListFlag]:
     """Returns the bytes of the list that a value spells, and the flags of the list. Raises Refused with the offset."""
     flags = c.Word()
@@ -47,10 +79,25 @@ def read(value: bytes, form: ListForm) -> Tuple[bytes, ListFlag]:
     return data, ListFlag(flags.value)
 
 
-def written(acl: c.Bytes, form: ListForm, flags: int) -> bytes:
+def read_part(value: bytes, form: ListForm) -> Tuple[bytes, ListFlag, List[LeftOut]]:
+    """Returns the bytes of the list without the ACEs that access does not read, the flags of the list, and the ACEs
+    that are left out. Raises Refused with the offset."""
+    most = len(value) // 20 + 1  # no ACE that is left out has fewer than 20 bytes
+    part, left, room, status = c.Part(), (c.LeftOut * most)(), 4 * len(value) + 64, c.SHORT
+    while status == c.SHORT:
+        out, fault = ctypes.create_string_buffer(room), c.Fault()
+        buffers = c.Buffer(ctypes.addressof(out), room), c.LeftOuts(left, most)
+        status = c.calls["read_part"](c.in_c(value), _number(form), ctypes.byref(part), *buffers, ctypes.byref(fault))
+        room = part.needed
+    c.judge(status, fault)
+    found = [LeftOut(one.place, one.offset, c.short_text("reason_text", one.reason)) for one in left[:part.left_out]]
+    return out.raw[:part.needed], ListFlag(part.flags), found
+
+
+def written(acl: c.Bytes, form: ListForm, flags: int, style: int) -> bytes:
     """Returns the value of flags and of a list. Raises Refused with the place of an ACE if the form cannot hold it."""
     try:
-        return c.bytes_of("write_form", (acl, _number(form), c.word(flags)), 2 * acl.len + 64)
+        return c.bytes_of("write_form", (acl, _number(form) | TextStyle(style), c.word(flags)), 2 * acl.len + 64)
     except Refused as refused:
         raise Refused(refused.reason, ace=refused.offset) from None
 

@@ -12,7 +12,7 @@ from . import forms
 from ._library import File, Name
 from .aces import Ace, AceKind
 from .faults import Refused
-from .forms import ListFlag, ListForm
+from .forms import LeftOut, ListFlag, ListForm, TextStyle
 from .prepared import Prepared, PreparedIds, names_in_c
 from .questions import Decided, Requesters, decided
 from .rights import ALL
@@ -101,14 +101,26 @@ class NfsAcl:
         data, flags = forms.read(c.encoded(value), form)
         return cls(data), flags
 
-    def to_form(self, form: ListForm, flags: int = ListFlag(0)) -> bytes:
-        """Returns the value of the list and of flags of the whole list in the form of another system.
+    @classmethod
+    def from_form_part(cls, value: Name, form: ListForm) -> Tuple[NfsAcl, ListFlag, List[LeftOut]]:
+        """Reads a value as `from_form` does, but leaves out the ACEs that access does not read, and returns them too:
+        AUDIT and ALARM ACEs, and ALLOW ACEs of a special name other than `OWNER@`, `GROUP@` and `EVERYONE@`. The list
+        grants no more than the whole list. Nothing is left out of a text.
+
+        Raises Refused, with the offset in the value, also for a DENY of such a name, and TypeError as `from_form` does.
+        """
+        data, found, left_out = forms.read_part(c.encoded(value), form)
+        return cls(data), found, left_out
+
+    def to_form(self, form: ListForm, flags: int = ListFlag(0), style: int = TextStyle(0)) -> bytes:
+        """Returns the value of the list and of flags of the whole list in the form of another system. Only the text of
+        FreeBSD and of archives has styles.
 
         Raises Refused, with the place of the ACE from 0, if the form cannot hold the list or the flags: nothing is left
-        out in silence. Raises ValueError if the flags are not those of `ListFlag`, and TypeError if the form is not a
-        `ListForm`.
+        out in silence. Raises ValueError if the flags are not those of `ListFlag`, the style is not one of `TextStyle`,
+        or the form has no styles, and TypeError if the form is not a `ListForm`.
         """
-        return forms.written(self._list, form, flags)
+        return forms.written(self._list, form, flags, style)
 
     def _mode(self) -> int:
         found, fault = ctypes.c_uint32(), c.Fault()

@@ -11,7 +11,7 @@ from typing import Iterable, Iterator, List, Mapping, Match, NamedTuple, Optiona
 
 from . import _library as c
 from ._library import File, Name
-from .faults import Refused, of_part
+from .faults import Refused, in_text, of_part
 from .nfs import NfsAcl
 
 _TAGS = ("", "user", "user", "group", "group", "mask", "other")
@@ -23,6 +23,7 @@ _ID = re.compile(r"\b(u|user|g|group):(\d+):")
 _NAME = re.compile(r"(?!\d+$)[^\s:,#\\]+")
 _ACCESS, _DEFAULT = "system.posix_acl_access", "system.posix_acl_default"
 _CANONICAL = 0
+_TEXT, _DEFAULT_OF_TEXT, _DEFAULT_TEXT = 2, 3, 4  # forms of texts in archives (enum aclck_posix_form)
 _FORMS = {"canonical": _CANONICAL, "shown": c.SHOWN, "short": c.FORM_SHORT}
 
 T = TypeVar("T", c.Word, c.PosixDecision, c.PosixDifference)
@@ -115,6 +116,27 @@ class PosixAcl:
                  for place, data in enumerate((access, default))]
         first = _mode_entries(c.word(mode)) if access is None else _made("entries_sorted", parts[0], 0)
         return cls._of(first, parts[1])
+
+    @classmethod
+    def from_archive(cls, access: Optional[Name], default: Optional[Name] = None,
+                     names: Iterable[Tuple[str, int, bool]] = (), mode: int = 0) -> PosixAcl:
+        """Makes a list from the texts of the headers `SCHILY.acl.access` and `SCHILY.acl.default` of an archive, each
+        None if the header is absent. Without the first, the entries are those of the mode. In a text, a user or a group
+        is an id, a name with an id at the end of its entry, or one of `names`: name, id, whether it is a group.
+
+        Raises Refused with the place of a byte in the text, which is the second one for a default header. Raises
+        ValueError if both texts have a default ACL, and as the constructor does for names.
+        """
+        table = _table(names)
+        first, second = (None if text is None else c.PosixText(c.in_c(c.encoded(text)), table)
+                         for text in (access, default))
+        parts = [_mode_entries(c.word(mode)) if first is None else _in_text(first, _TEXT),
+                 _held([]) if first is None else _in_text(first, _DEFAULT_OF_TEXT)]
+        if second is not None:
+            if parts[1].len:
+                raise ValueError("both texts have a default ACL")
+            parts[1] = _in_text(second, _DEFAULT_TEXT)
+        return cls._of(*parts)
 
     @classmethod
     def from_entries(cls, entries: Iterable[Entry], *, mask: bool = False) -> PosixAcl:
@@ -293,6 +315,14 @@ def _made(call: str, part: Union[c.Entries, c.Bytes], *args: object, default: bo
         return _held(c.entries_of(call, (part, *args), part.len + 3))
     except Refused as refused:
         raise of_part(refused, default) from None
+
+
+def _in_text(text: c.PosixText, form: int) -> c.Entries:
+    """Returns the entries of an ACL in a text of an archive. Raises Refused with the place of a byte."""
+    try:
+        return _held(c.entries_of("entries_from_form", (text, form), text.text.len // 5 + 3))
+    except Refused as refused:
+        raise in_text(refused, text.text.len, form == _DEFAULT_TEXT) from None
 
 
 def _question(user: int, groups: Iterable[int], owner: int, group: int, want: int) -> c.PosixQuestion:

@@ -15,7 +15,8 @@ from aclck_tree.errors import DEVICE, REFUSED, YES, DeviceError, TreeError, Usag
 from aclck_tree.text import quoted_line
 
 from .accounts import System, Table, exchanged
-from .values import IDS, NFS, POSIX, TOOLS, WITH_FLAGS, read_nfs, read_posix, written_nfs, written_posix
+from .values import (NFS, POSIX, TOOLS, WITH_FLAGS, WITH_IDS, read_nfs, read_part, read_posix, written_nfs,
+                     written_posix)
 
 if TYPE_CHECKING:
     from _typeshed import SupportsWrite
@@ -27,6 +28,8 @@ _EPILOG = """forms of NFSv4 lists:
   xdr            the attribute system.nfs4_acl
   text           the text of aclck show-nfs
   nfs4-tools     the text of nfs4_getfacl and nfs4_setfacl
+  nfs-text       the text of getfacl of FreeBSD, and SCHILY.acl.ace in archives
+  nfs-text-ids   the same text; of an entry with a name and an id, the id counts
   nfs41          the attribute system.nfs4_dacl, with flags of the list
   nfs41-ids      the attribute security.nfs4acl_xdr, with flags and with ids
 forms of POSIX lists:
@@ -84,12 +87,14 @@ def parser_of() -> argparse.ArgumentParser:
                         "names with | between")
     parser.add_argument("--drop", choices=("flags", "access", "default"), help="leave out the flags of the list, the "
                         "access entries or the default entries, which TO cannot hold")
+    parser.add_argument("--leave-out", action="store_true", help="with FROM nfs41 or nfs41-ids: leave out the ACEs "
+                        "that access does not read, and report them")
     return parser
 
 
 def _judge(args: argparse.Namespace) -> None:
     """Raises UsageError if options do not go with the forms."""
-    args.crosses, args.to_ids = args.source in POSIX and args.target in NFS, args.target == IDS
+    args.crosses, args.to_ids = args.source in POSIX and args.target in NFS, args.target in WITH_IDS
     args.exchanges = args.names is not None or args.system
     for is_wrong, line in (
             (args.source in NFS and args.target in POSIX, "no POSIX form holds an NFSv4 list"),
@@ -97,7 +102,8 @@ def _judge(args: argparse.Namespace) -> None:
             ((TOOLS in (args.source, args.target)) != bool(args.kind), "--file or --directory goes with nfs4-tools"),
             ((args.source == "posix-default") != (args.mode is not None), "--mode goes with FROM posix-default"),
             (args.flags is not None and args.target not in WITH_FLAGS, "--flags goes with TO nfs41 or nfs41-ids"),
-            (args.exchanges and args.to_ids == (args.crosses or args.source == IDS),
+            (args.leave_out and args.source not in WITH_FLAGS, "--leave-out goes with FROM nfs41 or nfs41-ids"),
+            (args.exchanges and args.to_ids == (args.crosses or args.source in WITH_IDS),
              "--names and --system go from a form with names to one with ids, or back"),
             (args.domain is not None and not (args.domain and args.exchanges),
              "--domain is not empty, and goes with --names or --system")):
@@ -116,6 +122,10 @@ def _converted(args: argparse.Namespace, data: bytes) -> bytes:
         if args.target in POSIX:
             return written_posix(args.target, posix)
         acl, flags = posix.bridge(), ListFlag(0)
+    elif args.leave_out:
+        acl, flags, left_out = read_part(args.source, data)
+        for ace in left_out:
+            _tell(f"left out: {ace}")
     else:
         acl, flags = read_nfs(args.source, data, args.kind)
     if args.exchanges:

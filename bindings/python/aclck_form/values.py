@@ -2,22 +2,27 @@
 
 from __future__ import annotations
 
-from typing import Optional, Tuple
+from typing import List, Optional, Tuple
 
-from aclck import ListFlag, ListForm, NfsAcl, PosixAcl
+from aclck import LeftOut, ListFlag, ListForm, NfsAcl, PosixAcl
 from aclck_tree.errors import TreeError
 
-NFS = ("xdr", "text", "nfs4-tools", "nfs41", "nfs41-ids")
+NFS = ("xdr", "text", "nfs4-tools", "nfs-text", "nfs-text-ids", "nfs41", "nfs41-ids")
 POSIX = ("posix", "posix-access", "posix-default")
-TOOLS, IDS = "nfs4-tools", "nfs41-ids"
+TOOLS = "nfs4-tools"
 WITH_FLAGS = ("nfs41", "nfs41-ids")
 """The forms that have flags of the whole list."""
+WITH_IDS = ("nfs-text-ids", "nfs41-ids")
+"""The forms in which users and groups are ids."""
+
+_OF_LIBRARY = {"nfs-text": ListForm.NFS_TEXT, "nfs-text-ids": ListForm.NFS_TEXT_IDS, "nfs41": ListForm.NFS_ACL41,
+               "nfs41-ids": ListForm.NFS_ACL41_IDS}
 
 
 def _form_of_library(form: str, kind: Optional[str]) -> ListForm:
     if form == TOOLS:
         return ListForm.NFS_TOOLS_DIRECTORY if kind == "directory" else ListForm.NFS_TOOLS_FILE
-    return ListForm.NFS_ACL41_IDS if form == IDS else ListForm.NFS_ACL41
+    return _OF_LIBRARY[form]
 
 
 def read_nfs(form: str, data: bytes, kind: Optional[str]) -> Tuple[NfsAcl, ListFlag]:
@@ -27,6 +32,12 @@ def read_nfs(form: str, data: bytes, kind: Optional[str]) -> Tuple[NfsAcl, ListF
     if form == "text":
         return NfsAcl.from_text(data), ListFlag(0)
     return NfsAcl.from_form(data, _form_of_library(form, kind))
+
+
+def read_part(form: str, data: bytes) -> Tuple[NfsAcl, ListFlag, List[LeftOut]]:
+    """Returns the list without the ACEs that access does not read, the flags of the list, and the ACEs that are left
+    out, of a value with flags. Raises Refused with the place in the value."""
+    return NfsAcl.from_form_part(data, _form_of_library(form, None))
 
 
 def written_nfs(form: str, acl: NfsAcl, flags: ListFlag, kind: Optional[str]) -> bytes:
