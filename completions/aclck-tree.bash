@@ -1,7 +1,7 @@
 # Completion of aclck-tree for bash: commands, options, the names of rights, and files.
 
 declare -gA _aclck_tree_options=(
-    [scan]='-o --one-file-system --threads --attribute --host --quiet --from --lines --shard --key'
+    [scan]='-o --one-file-system --threads --attribute --host --quiet --from --lines --archive --root --shard --key'
     [merge]='-o'
     [info]='--csv --raw --json'
     [who]='--may --any --path --reach --people --passwd --group --getent --each --domain --linux --csv --raw --json'

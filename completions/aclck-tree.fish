@@ -25,6 +25,8 @@ complete -c aclck-tree -n '__fish_seen_subcommand_from scan' -l one-file-system 
 complete -c aclck-tree -n '__fish_seen_subcommand_from scan' -l quiet -d 'Report failures alone'
 complete -c aclck-tree -n '__fish_seen_subcommand_from scan' -l from -r -d 'Read only the paths of a list'
 complete -c aclck-tree -n '__fish_seen_subcommand_from scan' -l lines -d 'A line feed ends each path'
+complete -c aclck-tree -n '__fish_seen_subcommand_from scan' -l archive -r -d 'Read this archive, and no tree'
+complete -c aclck-tree -n '__fish_seen_subcommand_from scan' -l root -x -d 'The directory of the archive'
 complete -c aclck-tree -n '__fish_seen_subcommand_from scan' -l shard -x -d 'Read only this shard, I/N'
 complete -c aclck-tree -n '__fish_seen_subcommand_from scan' -l key -r -d 'The same for all shards'
 complete -c aclck-tree -n '__fish_seen_subcommand_from scan' -l threads -x -d 'Reads at once'

@@ -1,7 +1,8 @@
 """The snapshots of docs/database.md, for tests/sqlite and tests/tree_load."""
 import os
 
-from sql_cases import POSIX, nfs
+from encoders import nfs
+from sql_cases import POSIX
 from trees import ROOT  # which finds the library
 from aclck_tree.snapshot import Found, StoredList, Tree
 from aclck_tree.writer import new_snapshot

@@ -6,40 +6,19 @@ import ctypes
 import json
 import os
 import shutil
-import signal
-import struct
 import subprocess
-import sys
 import tempfile
 import unittest
 from unittest import mock
 
-ROOT = os.path.dirname(os.path.dirname(os.path.abspath(__file__)))
-TOOL = os.path.join(ROOT, "bin/aclck-tree")
-LIBRARY = os.environ.setdefault("ACLCK_LIBRARY", os.path.join(ROOT, "library/out/libaclck.so.1"))
-if not os.path.exists(LIBRARY):
-    sys.exit(f"tree: {LIBRARY} is not built: make library")
-sys.path.insert(0, os.path.join(ROOT, "bindings/python"))
+from encoders import ANYBODY, nfs, posix
+from harness import LIBRARY, ROOT, run
 
+TOOL = os.path.join(ROOT, "bin/aclck-tree")
 IS_ROOT = os.getuid() == 0
-ANYBODY = 0xFFFFFFFF
 OWNER, EDITORS, BOB = (0, 0, 7, "OWNER@"), (0, 0x40, 7, "editors@example.com"), (1, 0, 6, "bob@example.com")
 EVERYONE = (0, 0, 0x80, "EVERYONE@")
 PEOPLE = "alice: staff\nbob: editors staff\ndora: editors\ncarl:\n"
-
-
-def nfs(*aces):
-    """Returns the bytes of a list. Each ACE is its type, flags, mask and who (RFC 8881, section 6.2.1; RFC 4506)."""
-    data = struct.pack(">I", len(aces))
-    for kind, flags, mask, name in aces:
-        who = name.encode("utf-8", "surrogateescape")
-        data += struct.pack(">IIII", kind, flags, mask, len(who)) + who + bytes(-len(who) % 4)
-    return data
-
-
-def posix(*entries):
-    """Returns the bytes of an attribute. Each entry is its tag, permissions and id (linux/posix_acl_xattr.h)."""
-    return struct.pack("<I", 2) + b"".join(struct.pack("<HHI", *entry) for entry in entries)
 
 
 def tool(*words, directory=None, **more):
@@ -115,19 +94,3 @@ class Scratch(unittest.TestCase):
 
     def asked(self, word, *words):
         return self.ask(word, "snapshot", "--domain", "example.com", *words)[1]
-
-
-class Loud(unittest.TextTestResult):
-    def addSkip(self, test, reason):
-        super().addSkip(test, reason)
-        print(f"{os.path.basename(sys.argv[0])}: SKIPPED: {test.id().rpartition('.')[2]}: {reason}")
-
-
-def run():
-    """Runs the tests of a script, or those that its words name, and exits with 1 if one fails. Signals that a shell or
-    nohup(1) had ignored have their usual effect."""
-    signal.signal(signal.SIGINT, signal.default_int_handler)
-    for number in (signal.SIGTERM, signal.SIGHUP):
-        signal.signal(number, signal.SIG_DFL)
-    runner = unittest.TextTestRunner(resultclass=Loud, verbosity=0, stream=sys.stdout)
-    sys.exit(not unittest.main(exit=False, testRunner=runner).result.wasSuccessful())

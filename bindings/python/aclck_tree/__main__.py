@@ -106,19 +106,24 @@ def _add_user(parser: argparse.ArgumentParser) -> None:
 def _add_scan(words: "argparse._SubParsersAction[_Parser]") -> None:
     scan = _add_word(words, "scan", "read trees into a snapshot",
                      "Reads lists, owners, groups and modes of all objects in trees into one file.")
-    scan.add_argument("tree", nargs="+", metavar="TREE",
+    scan.add_argument("tree", nargs="*", metavar="TREE",
                       help="a directory; a link to one is followed, links in it are not")
     scan.add_argument("-o", dest="output", metavar="SNAPSHOT", required=True, help="the file to make")
     scan.add_argument("--one-file-system", action="store_true", help="do not go into other file systems")
     scan.add_argument("--threads", type=int, default=32, metavar="N", help="how many objects to read at once where a "
                       "read waits (32)")
-    scan.add_argument("--attribute", default="system.nfs4_acl", metavar="NAME", help="where NFSv4 lists are "
-                      "(system.nfs4_acl)")
+    scan.add_argument("--attribute", metavar="NAME", help="read NFSv4 lists from this attribute alone; else from "
+                      "system.nfs4_acl, system.nfs4_dacl, security.nfs4acl_xdr or system.nfs4_acl_xdr, whichever "
+                      "comes first")
     scan.add_argument("--host", metavar="NAME", help="the name of this host in the snapshot")
     scan.add_argument("--quiet", action="store_true", help="report failures alone")
     scan.add_argument("--from", dest="list", metavar="FILE", help="read only the paths of this list, or of standard "
                       "input for -, which are paths below the tree; a zero byte ends each, as in find -print0")
     scan.add_argument("--lines", action="store_true", help="with --from: a line feed ends each path")
+    scan.add_argument("--archive", metavar="FILE", action="append", default=[],
+                      help="read the members of this tar archive, and no tree; may be given several times")
+    scan.add_argument("--root", metavar="DIRECTORY", help="with --archive: the directory of the archive that is the "
+                      "tree; else the whole archive is")
     scan.add_argument("--shard", metavar="I/N", help="read only shard I of N, which merge joins")
     scan.add_argument("--key", metavar="FILE", help="with --shard: bytes that nobody else knows, the same for all "
                       "shards")
@@ -164,7 +169,7 @@ def _add_comparisons(words: "argparse._SubParsersAction[_Parser]") -> None:
     diff.add_argument("new", metavar="NEW")
     diff.add_argument("--each", action="store_true", help="write one line per object, and not one per class of changes")
     diff.add_argument("--pair", metavar="OLD=NEW", action="append", default=[],
-                      help="these are one tree at two places; may be given several times")
+                      help="these paths are one tree; may be given several times")
     _add_people(diff)
     _add_domain(diff, linux=False)
     policy = _add_word(words, "policy", "whether a tree keeps a policy, and what breaks it",
@@ -174,6 +179,11 @@ def _add_comparisons(words: "argparse._SubParsersAction[_Parser]") -> None:
     policy.add_argument("--each", action="store_true", help="write one line per object and rule")
     _add_people(policy)
     _add_domain(policy)
+    for parser in (same, diff, policy):
+        _add_form(parser)
+
+
+def _add_exports(words: "argparse._SubParsersAction[_Parser]") -> None:
     report = _add_word(words, "report", "make a page of HTML",
                        "Makes one page with totals, a table of who has which access, and findings.")
     report.add_argument("snapshot", metavar="SNAPSHOT")
@@ -186,7 +196,7 @@ def _add_comparisons(words: "argparse._SubParsersAction[_Parser]") -> None:
     info = _add_word(words, "info", "what a snapshot has",
                      "Writes which trees a snapshot has, and each step of its scan that failed.")
     info.add_argument("snapshot", metavar="SNAPSHOT")
-    for parser in (same, diff, policy, report, info):
+    for parser in (report, info):
         _add_form(parser)
     load = _add_word(words, "load", "put snapshots into a database",
                      "Puts snapshots into tables of PostgreSQL, all of them or none. It needs psql.")
@@ -202,10 +212,11 @@ def parser_of() -> argparse.ArgumentParser:
                      formatter_class=argparse.RawDescriptionHelpFormatter,
                      description="Who may do what in a whole tree of files. It reads live files and never writes one.")
     parser.add_argument("--version", action="version", version=f"aclck-tree {VERSION}")
-    words = parser.add_subparsers(dest="word", metavar="WORD", required=True, parser_class=_Parser)
+    words = parser.add_subparsers(dest="word", metavar="COMMAND", required=True, parser_class=_Parser)
     _add_scan(words)
     _add_questions(words)
     _add_comparisons(words)
+    _add_exports(words)
     return parser
 
 

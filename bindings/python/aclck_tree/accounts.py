@@ -6,11 +6,61 @@ import contextlib
 import grp
 import os
 import pwd
+import re
 import struct
-from typing import Dict, Iterator, Set, Tuple
+import threading
+from typing import Dict, Iterator, Optional, Set, Tuple
 
 from .snapshot import Account
 from .writer import Writer
+
+_NO_NAME = re.compile(rb"[0-9]*|.*@|.*\0.*", re.DOTALL)
+"""What is no name for an id in a list: digits would be an id, and an @ at the end makes a name special."""
+
+
+def is_name(name: bytes) -> bool:
+    """Whether a name can stand for an id."""
+    return not _NO_NAME.fullmatch(name)
+
+
+class System:
+    """The accounts of this system. It is asked once about each name and id. Any number of threads can use it."""
+
+    def __init__(self) -> None:
+        self._names: Dict[Tuple[bool, int], Optional[bytes]] = {}
+        self._numbers: Dict[Tuple[bool, bytes], Optional[int]] = {}
+        self._lock = threading.Lock()
+
+    def name_of(self, is_group: bool, number: int) -> Optional[bytes]:
+        """Returns the name of an id, or None if it has none that a list can have, or one that means another id."""
+        key = is_group, number
+        with self._lock:
+            if key not in self._names:
+                name = _name_of(is_group, number)
+                is_its_own = name is not None and is_name(name) and _number_of(is_group, name) == number
+                self._names[key] = name if is_its_own else None
+            return self._names[key]
+
+    def number_of(self, is_group: bool, name: bytes) -> Optional[int]:
+        """Returns the id of a name, or None if this system does not know the name."""
+        key = is_group, name
+        with self._lock:
+            if key not in self._numbers:
+                self._numbers[key] = _number_of(is_group, name)
+            return self._numbers[key]
+
+
+def _name_of(is_group: bool, number: int) -> Optional[bytes]:
+    with contextlib.suppress(KeyError, OverflowError):
+        return os.fsencode(grp.getgrgid(number).gr_name if is_group else pwd.getpwuid(number).pw_name)
+    return None
+
+
+def _number_of(is_group: bool, name: bytes) -> Optional[int]:
+    with contextlib.suppress(KeyError, ValueError):  # a name with a zero byte is no name
+        spelled = os.fsdecode(name)
+        return grp.getgrnam(spelled).gr_gid if is_group else pwd.getpwnam(spelled).pw_uid
+    return None
 
 
 def names(writer: Writer, tree: int) -> Iterator[Account]:

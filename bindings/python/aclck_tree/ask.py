@@ -22,8 +22,8 @@ from aclck import (
     read_mask,
 )
 
-from .errors import UsageError
-from .lists import POSIX_MASKS, Asked, Kind, Ready, RefusedList, ready
+from .errors import TreeError, UsageError
+from .lists import POSIX_MASKS, Asked, Kind, Ready, RefusedList, decoded, nfs_bytes, pieces, ready
 from .people import Person, accounts_of
 from .snapshot import Face, ListForm, Snapshot, StoredList
 
@@ -170,16 +170,34 @@ class Asker:
     def ready(self, number: int) -> Ready:
         """Returns a list that is ready for questions."""
         if number not in self._ready:
-            self._ready[number] = ready(self._stored[number], self.options.linux)
+            self._ready[number] = ready(self._stored[number], self.options.linux, self.options.domain)
         return self._ready[number]
 
     def stored(self, number: int) -> StoredList:
         """Returns a list as it was found."""
         return self._stored[number]
 
+    def loadable(self, number: int) -> StoredList:
+        """Returns a list as a database has it, in which the names of accounts have the domain. Raises TreeError for a
+        value that the scan refused: a database has no reason for it."""
+        stored = self._stored[number]
+        if stored.kind == ListForm.REFUSED:
+            raise TreeError(f"{self.snapshot.place}: a list that the scan refused is not loaded: "
+                            f"{decoded(stored.default or b'')}")
+        if stored.kind == ListForm.ACCOUNTS:
+            return StoredList(ListForm.NFS4, stored.mode, nfs_bytes(stored, self.options.domain), None)
+        return stored
+
     def kind(self, number: int) -> Kind:
         """Returns whether a list is an NFSv4 list, or a POSIX list or a mode."""
-        return Kind.NFS4 if self._stored[number].kind == ListForm.NFS4 else Kind.POSIX
+        return Kind.POSIX if self._stored[number].is_posix else Kind.NFS4
+
+    def whos(self, number: int) -> Iterator[Tuple[bool, bytes]]:
+        """Yields the who of each ACE of an NFSv4 list, also of one that is refused, and whether it is a group."""
+        stored = self._stored[number]
+        if stored.is_nfs:
+            for piece in pieces(nfs_bytes(stored, self.options.domain)):
+                yield piece.is_group, piece.who
 
     def full_name(self, name: str) -> str:
         """Returns a name, with the domain added if it has none."""

@@ -285,7 +285,7 @@ def info(args: argparse.Namespace) -> int:
     kinds = snapshot.count_kinds()
     directories = f"{kinds.get('d', 0):,} director" + ("y" if kinds.get("d") == 1 else "ies")
     out.note(f"{plural(snapshot.count(), 'object')} ({directories}), {plural(len(snapshot.lists()), 'distinct list')}, "
-             f"{len(snapshot.faces()):,} distinct owners, groups and lists")
+             f"{len(snapshot.faces()):,} with owner and group")
     for number, path, step, message in snapshot.errors():
         whole = snapshot.trees[number].full(path)
         out.put({"tree": number, "path": os.fsdecode(whole), "step": step, "message": message})

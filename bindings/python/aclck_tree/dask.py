@@ -60,28 +60,28 @@ def scan(client: Any, tree: str, output: str, shards: int, directory: str, *opti
     """Scans the shards of a tree on the workers, and merges them into `output`. Their snapshots are for this time in a
     directory that all workers reach. The options are those of the command `scan`. Returns the exit status of the merge.
     Raises TreeError if a scan or the merge is refused, and DeviceError if one fails."""
-    place = tempfile.mkdtemp(prefix="shards-", dir=directory)
+    folder = tempfile.mkdtemp(prefix="shards-", dir=directory)
     try:
-        places = [os.path.join(place, f"{number}-of-{shards}") for number in range(1, shards + 1)]
+        paths = [os.path.join(folder, f"{number}-of-{shards}") for number in range(1, shards + 1)]
         lines = [["scan", tree, "--shard", f"{number}/{shards}", "-o", one, *options]
-                 for number, one in enumerate(places, 1)]
-        for one, future in zip(places, _submitted(client, "__main__", lines)):
+                 for number, one in enumerate(paths, 1)]
+        for one, future in zip(paths, _submitted(client, "__main__", lines)):
             done: _Done = future.result()
             if done.status == USAGE or not os.path.exists(one):
                 raise _told(done)
-        done = _run("__main__", ["merge", *places, "-o", output])
+        done = _run("__main__", ["merge", *paths, "-o", output])
         if done.printed.startswith(_HEAD):
             raise _told(done)
         return done.status
     finally:
-        shutil.rmtree(place, ignore_errors=True)
+        shutil.rmtree(folder, ignore_errors=True)
 
 
 def _ask(client: Any, word: str, lines: Sequence[Sequence[str]], options: Sequence[str], file: TextIO) -> int:
     """Asks a question about each of some snapshots, or about each of some pairs of them. Writes the rows as JSON, in
     the order of the snapshots, and returns the exit status that one command about all of them has."""
-    judges = _submitted(client, "partition", [["judge", *places] for places in zip(*lines)])
-    futures = _submitted(client, "partition", [[word, *places, *options, "--json"] for places in lines])
+    judges = _submitted(client, "partition", [["judge", *paths] for paths in zip(*lines)])
+    futures = _submitted(client, "partition", [[word, *paths, *options, "--json"] for paths in lines])
     for judge in judges:
         if judge.result().status != YES:
             raise _told(judge.result())
@@ -105,17 +105,17 @@ def _ask(client: Any, word: str, lines: Sequence[Sequence[str]], options: Sequen
 def who(client: Any, snapshots: Sequence[str], *options: str, file: TextIO = sys.stdout) -> int:
     """Writes which of the people may do what is asked. The snapshots are those of whole trees, or all shards of them,
     and the options are those of the command `who`."""
-    return _ask(client, "who", [(place,) for place in snapshots], options, file)
+    return _ask(client, "who", [(path,) for path in snapshots], options, file)
 
 
 def may(client: Any, snapshots: Sequence[str], *options: str, file: TextIO = sys.stdout) -> int:
     """Writes on which objects one user may do what is asked, as `who` does."""
-    return _ask(client, "may", [(place,) for place in snapshots], options, file)
+    return _ask(client, "may", [(path,) for path in snapshots], options, file)
 
 
 def policy(client: Any, snapshots: Sequence[str], rules: str, *options: str, file: TextIO = sys.stdout) -> int:
     """Writes which objects break a rule of a policy, as `who` does."""
-    return _ask(client, "policy", [(place,) for place in snapshots], (rules, *options), file)
+    return _ask(client, "policy", [(path,) for path in snapshots], (rules, *options), file)
 
 
 def diff(client: Any, pairs: Sequence[Tuple[str, str]], *options: str, file: TextIO = sys.stdout) -> int:

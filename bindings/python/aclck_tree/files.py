@@ -17,10 +17,10 @@ class Part:
     """A new, empty file next to the place that it will take. Nobody can guess its name, and only its owner may read
     it. While it is open it is locked, so that other runs can see that it is in use."""
 
-    def __init__(self, place: str) -> None:
-        """Raises TreeError if something is at the place that is not a file, and OSError if the file cannot be made."""
-        refuse_what_is_no_file(place)
-        directory, base = os.path.split(place)
+    def __init__(self, path: str) -> None:
+        """Raises TreeError if something else than a file is there, and OSError if the file cannot be made."""
+        refuse_what_is_no_file(path)
+        directory, base = os.path.split(path)
         self._remove_leftovers(directory or ".", base[:200])
         self.name = os.path.join(directory, f".{base[:200]}.{secrets.token_hex(16)}.part")
         self.handle = os.open(self.name, os.O_RDWR | os.O_CREAT | os.O_EXCL | os.O_NOFOLLOW, 0o600)
@@ -34,12 +34,12 @@ class Part:
             for name in [entry.name for entry in entries if pattern.fullmatch(entry.name)]:
                 _remove_leftover(os.path.join(directory, name))
 
-    def take(self, place: str) -> None:
+    def take(self, path: str) -> None:
         """Moves the file to its place. Raises OSError if that fails, or if the file is no longer where it was made."""
         os.fsync(self.handle)
         if not os.path.samestat(os.fstat(self.handle), os.lstat(self.name)):
             raise OSError(0, f"{self.name} was exchanged")
-        os.replace(self.name, place)
+        os.replace(self.name, path)
 
     def drop(self) -> None:
         """Closes the file, and removes it if it has not taken its place."""
@@ -49,11 +49,11 @@ class Part:
         os.close(self.handle)
 
 
-def refuse_what_is_no_file(place: str) -> None:
-    """Raises TreeError if there is a directory, a link, a device or the like at a place. It opens nothing."""
+def refuse_what_is_no_file(path: str) -> None:
+    """Raises TreeError if there is a directory, a link, a device or the like at a path. It opens nothing."""
     with contextlib.suppress(OSError):
-        if not stat.S_ISREG(os.lstat(place).st_mode):
-            raise TreeError(f"{place}: not a regular file, and is not replaced")
+        if not stat.S_ISREG(os.lstat(path).st_mode):
+            raise TreeError(f"{path}: not a regular file, and is not replaced")
 
 
 def _lock(handle: int) -> bool:
@@ -77,18 +77,19 @@ def _remove_leftover(name: str) -> None:
 
 
 @contextlib.contextmanager
-def replaced(place: str) -> Iterator[TextIO]:
-    """Makes a text file that replaces `place` when the block is done. If the block raises, `place` stays as it was.
+def replaced(path: str) -> Iterator[TextIO]:
+    """Makes a text file that replaces the file at `path` when the block is done. If the block raises, the old file stays
+    as it was.
 
-    Raises TreeError if something is at the place that is not a file, and DeviceError if the file cannot be written.
+    Raises TreeError if something else than a file is there, and DeviceError if the file cannot be written.
     """
     try:
-        part = Part(place)
+        part = Part(path)
         try:
             with open(part.handle, "w", encoding="utf-8", errors="surrogateescape", closefd=False) as file:
                 yield file
-            part.take(place)
+            part.take(path)
         finally:
             part.drop()
     except OSError as error:
-        raise DeviceError(f"{place}: {error.strerror or error}") from None
+        raise DeviceError(f"{path}: {error.strerror or error}") from None

@@ -53,30 +53,38 @@ class Finding:
     faces: Dict[int, str] = field(default_factory=dict)
 
 
+def _kinds() -> List[Finding]:
+    """Returns all kinds of finding in the order of the page, without faces."""
+    return [
+        Finding("refused", "refused lists", "The lists of {} are refused.",
+                "No question about these objects has an answer."),
+        Finding("everyone", "writable by everybody", "{} can be changed by everybody.",
+                "Somebody who is not the owner, whom no entry names, and who is in no group, has these rights."),
+        Finding("readable", "readable by everybody", "{} can be read by everybody.",
+                "Somebody who is not the owner, whom no entry names, and who is in no group, may read these."),
+        Finding("bits", "setuid, setgid and sticky bits", "A setuid, setgid or sticky bit is set on {}.",
+                "These bits of the mode are beside the list. A program with setuid or setgid runs as its owner or "
+                "group, and new files in a folder with setgid get its group. In a folder with the sticky bit, only "
+                "the owner of a file and the owner of the folder may remove or rename it."),
+        Finding("no-account", "ids without an account", "Ids without an account own or may use {}.",
+                "A list or the ownership names an id that the scanned system had no account for."),
+        Finding("children", "folders that pass on something else",
+                "New folders or new files in {} get other access than the folder itself.",
+                "The list of a new directory or of a new file in these directories grants something else.", True),
+        Finding("special", "special names", "The lists of {} have special names.",
+                "Some answers depend on whom the server takes for these."),
+        Finding("idle", "entries that change nothing", "The lists of {} have entries or rights that change nothing.",
+                "Without all that is named here the list grants everybody the same. What new files and folders in a "
+                "folder inherit is named only if they get the same without it."),
+    ]
+
+
 def findings(asker: Asker, directories: Set[int], stranger: Person) -> List[Finding]:
     """Returns all findings; `directories` are the faces that directories have, and `stranger` is somebody whom nothing
     names."""
     faces = asker.snapshot.faces()
-    everyone = Finding("everyone", "writable by everybody", "{} can be changed by everybody.",
-                       "Somebody who is not the owner, whom no entry names, and who is in no group, has these rights.")
-    readable = Finding("readable", "readable by everybody", "{} can be read by everybody.",
-                       "Somebody who is not the owner, whom no entry names, and who is in no group, may read these.")
-    bits = Finding("bits", "setuid, setgid and sticky bits", "A setuid, setgid or sticky bit is set on {}.",
-                   "These bits of the mode are beside the list. A program with setuid or setgid runs as its owner or "
-                   "group, and new files in a folder with setgid get its group. In a folder with the sticky bit, only "
-                   "the owner of a file and the owner of the folder may remove or rename it.")
-    no_account = Finding("no-account", "ids without an account", "Ids without an account own or may use {}.",
-                         "A list or the ownership names an id that the scanned system had no account for.")
-    idle = Finding("idle", "entries that change nothing", "The lists of {} have entries or rights that change nothing.",
-                   "Without all that is named here the list grants everybody the same. What new files and folders in a "
-                   "folder inherit is named only if they get the same without it.")
-    children = Finding("children", "folders that pass on something else",
-                       "New folders or new files in {} get other access than the folder itself.",
-                       "The list of a new directory or of a new file in these directories grants something else.", True)
-    special = Finding("special", "special names", "The lists of {} have special names.",
-                      "Some answers depend on whom the server takes for these.")
-    refused = Finding("refused", "refused lists", "The lists of {} are refused.",
-                      "No question about these objects has an answer.")
+    kinds = _kinds()
+    refused, everyone, readable, _, no_account, children, special, idle = kinds
     of_directories = {faces[number].list for number in directories}
     lists: Dict[int, _OfList] = {}
     for number, face in faces.items():
@@ -96,7 +104,7 @@ def findings(asker: Asker, directories: Set[int], stranger: Person) -> List[Find
                                (children, found.children if number in directories else "")):
             if words:
                 finding.faces[number] = words
-    return [refused, everyone, readable, bits, no_account, children, special, idle]
+    return kinds
 
 
 def everyone_words(words: str, is_folder: bool, mode: int) -> str:

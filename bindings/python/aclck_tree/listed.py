@@ -16,7 +16,8 @@ from typing import Iterator, List, NamedTuple, Optional
 
 from .errors import DeviceError, TreeError
 from .handles import Directory
-from .scan import Options, Piece, Progress, Scan, Task
+from .progress import Progress
+from .scan import Options, Piece, Scan, Task
 from .text import quoted, quoted_path
 from .writer import Writer
 

@@ -169,6 +169,12 @@ def pieces(data: bytes) -> List[Piece]:
     return found
 
 
+def joined(found: Sequence[Piece]) -> bytes:
+    """Returns the bytes of a list of some ACEs."""
+    return struct.pack(">I", len(found)) + b"".join(
+        _packed(piece.kind, piece.flags, piece.mask, piece.who) for piece in found)
+
+
 def _is_special(piece: Piece) -> bool:
     return piece.who.endswith(b"@") and piece.who not in _KNOWN
 
@@ -191,18 +197,16 @@ def _suffix(found: Sequence[Piece]) -> bytes:
     return next(b"?%d" % number for number in itertools.count(2) if b"%d" % number not in ends)
 
 
-def _ready_nfs(data: bytes) -> Ready:
+def asked_nfs(data: bytes) -> Asked:
+    """Makes an NFSv4 list ready for questions. Raises Refused, with the offset, if it cannot be asked."""
     with contextlib.suppress(Refused):  # most lists are asked as they are
         acl = NfsAcl(data)
         return Asked(acl, places=range(len(acl)))
-    try:
-        left_out = NfsAcl.decide_unknown(data, user="?", owner="?", group="?", mask=0).left_out
-    except Refused as refused:
-        return RefusedList(str(refused))
+    left_out = NfsAcl.decide_unknown(data, user="?", owner="?", group="?", mask=0).left_out
     found = pieces(data)
     too_long = next((piece for piece in found if _is_special(piece) and len(piece.who) > MOST_BYTES), None)
     if too_long:
-        return RefusedList(f"SpecialWho at byte {too_long.start + 16}")
+        raise Refused("SpecialWho", offset=too_long.start + 16)
     places = tuple(place for place, piece in enumerate(found) if piece.kind not in _DECIDES_NOTHING)
     names = dict.fromkeys(found[place].who for place in places if _is_special(found[place]))
     suffix = _suffix(found)
@@ -228,8 +232,23 @@ def _ready_posix(stored: StoredList, linux: bool) -> Ready:
         return RefusedList(str(refused))
 
 
-def ready(stored: StoredList, linux: bool = False) -> Ready:
-    """Makes a list ready for questions. With `linux`, a POSIX list with an empty mask grants as it does on Linux."""
-    if stored.kind == ListForm.NFS4:
-        return _ready_nfs(stored.access or b"")
-    return _ready_posix(stored, linux)
+def nfs_bytes(stored: StoredList, domain: str) -> bytes:
+    """Returns the bytes of an NFSv4 list. The names of accounts get the domain, as the names of people do."""
+    data = stored.access or b""
+    if stored.kind != ListForm.ACCOUNTS or not domain:
+        return data
+    suffix = b"@" + encoded(domain)
+    return joined([piece if b"@" in piece.who else piece._replace(who=piece.who + suffix) for piece in pieces(data)])
+
+
+def ready(stored: StoredList, linux: bool = False, domain: str = "") -> Ready:
+    """Makes a list ready for questions. With `linux`, a POSIX list with an empty mask grants as it does on Linux. The
+    names of accounts in an NFSv4 list get the domain."""
+    if stored.kind == ListForm.REFUSED:
+        return RefusedList(decoded(stored.default or b""))
+    if stored.is_posix:
+        return _ready_posix(stored, linux)
+    try:
+        return asked_nfs(nfs_bytes(stored, domain))
+    except Refused as refused:
+        return RefusedList(str(refused))

@@ -241,7 +241,7 @@ def _ordered_faces(source: _Source) -> List[Tuple[Face, bytes]]:
     the snapshot has."""
     asker = source.asker
     found = [face for face in asker.faces.values() if face.tree == source.tree.tree]
-    digests = {number: asker.stored(number).digest for number in {face.list for face in found}}
+    digests = {number: asker.loadable(number).digest for number in {face.list for face in found}}
     return sorted(((face, digests[face.list]) for face in found),
                   key=lambda pair: (pair[0].uid, pair[0].gid, pair[1]))
 
@@ -283,7 +283,7 @@ def _face_lines(source: _Source, faces: Sequence[Tuple[Face, bytes]], counts: _C
 
 
 def _list_lines(source: _Source, faces: Sequence[Tuple[Face, bytes]]) -> Iterator[bytes]:
-    stored = {digest: source.asker.stored(face.list) for face, digest in faces}
+    stored = {digest: source.asker.loadable(face.list) for face, digest in faces}
     for digest, one in stored.items():
         yield line([digest, one.kind.value, one.mode, one.access, one.default])
 

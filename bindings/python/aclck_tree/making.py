@@ -8,18 +8,55 @@ import functools
 import os
 import stat
 import sys
-from typing import Callable, Optional
+from typing import Callable, Iterator, Optional, Protocol, Sequence, Tuple
 
+from . import accounts
 from .combining import gathered, join
-from .errors import REFUSED, YES, TreeError, UsageError, tell
+from .errors import REFUSED, YES, DeviceError, TreeError, UsageError, tell
 from .files import refuse_what_is_no_file
 from .listed import ListedScan, entries, opened_list
 from .portions import LONGEST_KEY, MOST_SHARDS, read_shard
-from .scan import Options, Scan, scan_trees
-from .snapshot import Snapshot
+from .progress import Progress
+from .scan import Options, Scan
+from .snapshot import Account, Snapshot
 from .text import plural, quoted
 from .writer import Writer, new_snapshot
 from .writer import merge as merge_into
+
+
+class AnyScan(Protocol):
+    """A scan into a snapshot: of a tree, of the paths of a list, or of an archive."""
+
+    tree: int
+    errors: int
+
+    def run(self) -> None:
+        """Reads everything."""
+
+    def names(self) -> Iterator[Account]:
+        """Yields the accounts that say who its ids are."""
+
+
+def scan_trees(roots: Sequence[bytes], options: Options, writer: Writer, total: Optional[int] = None,
+               make: Callable[[bytes, Options, Writer, Progress], AnyScan] = Scan) -> Tuple[bool, int]:
+    """Scans trees into a snapshot, each by the scan that `make` returns. Returns whether all scans are whole, and how
+    many steps failed.
+
+    Ctrl-C ends the scan early. Raises TreeError if a root cannot be read.
+    """
+    progress = Progress(writer, total, options.quiet)
+    scans = [make(root, options, writer, progress) for root in roots]
+    whole = True
+    try:
+        for scan in scans:
+            scan.run()
+    except KeyboardInterrupt:
+        whole = False
+    progress.end()
+    for scan in scans:
+        writer.add_names(scan.names())
+        writer.add_members((scan.tree, user, group) for user, group in accounts.members())
+    return whole, sum(scan.errors for scan in scans)
 
 
 def _known_total(place: str) -> Optional[int]:
@@ -38,15 +75,19 @@ def scan(args: argparse.Namespace) -> int:
     """Scans trees into a snapshot. A scan that ended early does not replace a whole snapshot."""
     if args.threads < 1:
         raise UsageError("--threads takes a number from 1")
-    options = Options(args.threads, args.one_file_system, args.attribute, quiet=args.quiet)
+    options = Options(args.threads, args.one_file_system, quiet=args.quiet)
+    if args.attribute is not None:
+        options.attributes = (args.attribute,)
     if args.host:
         options.host = args.host
     _cut(args, options)
-    roots = [os.fsencode(tree) for tree in args.tree]
+    roots = [os.fsencode(tree) for tree in args.tree or args.archive]
     place = args.output
     total = _known_total(place)
     with contextlib.ExitStack() as stack:
-        make: Callable[..., Scan] = Scan
+        make: Callable[..., AnyScan] = Scan
+        if args.archive:
+            make = _archive_scan(args.root or "")
         if args.list is not None:
             found = entries(stack.enter_context(opened_list(args.list)), b"\n" if args.lines else b"\0")
             make = functools.partial(ListedScan, found=found)
@@ -61,8 +102,22 @@ def scan(args: argparse.Namespace) -> int:
     return REFUSED if errors or not writer.whole else YES
 
 
+def _archive_scan(root: str) -> Callable[..., AnyScan]:
+    try:
+        from .archived import ArchiveScan  # which needs the library
+    except ImportError as error:
+        raise DeviceError(str(error)) from None
+    return functools.partial(ArchiveScan, root=os.fsencode(root))
+
+
 def _cut(args: argparse.Namespace, options: Options) -> None:
     """Reads the options that say what portion of a tree is read."""
+    is_cut = args.list is not None or args.shard is not None or args.attribute is not None or args.one_file_system
+    if bool(args.tree) == bool(args.archive) or args.archive and is_cut:
+        raise UsageError("scan takes trees, or archives by --archive, with none of the options --from, --shard, "
+                         "--attribute and --one-file-system")
+    if args.root is not None and not args.archive:
+        raise UsageError("--root goes with --archive")
     if args.list is not None and (args.shard is not None or len(args.tree) > 1):
         raise UsageError("--from takes one tree, and no --shard")
     if args.lines and args.list is None:

@@ -9,7 +9,7 @@ from dataclasses import dataclass, field
 from typing import AbstractSet, Dict, Iterable, Iterator, List, NamedTuple, Optional, Sequence, Set, Tuple
 
 from .ask import Asker
-from .lists import Asked, Kind, Ready, decoded, encoded, pieces
+from .lists import Asked, Kind, Ready, decoded, encoded
 from .people import Person
 from .text import quoted
 
@@ -96,7 +96,7 @@ def unmentioned(asker: Asker, names: Optional[Iterable[Tuple[Person, Name]]] = N
     in_lists: Set[bytes] = set()
     for number, kind in lists.items():
         if kind is Kind.NFS4:
-            found = {(0, piece.is_group, piece.who) for piece in pieces(asker.stored(number).access or b"")}
+            found = {(0, is_group, who) for is_group, who in asker.whos(number)}
             wanted.mention(found)
             in_lists.update(who.partition(b"@")[2] for _, _, who in found)
         elif asker.stored(number).access is not None:

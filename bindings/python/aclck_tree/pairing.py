@@ -15,8 +15,8 @@ Pair = Tuple[int, int]
 
 def pair_trees(old: Snapshot, new: Snapshot, given: Sequence[str] = ()) -> List[Pair]:
     """Returns the pairs of trees that are one tree at two times: first those that `given` names, as `OLD=NEW`, then
-    those with the same host and place, then those with the same place; or the only tree of each. A host and place, or
-    a place, that two trees of one snapshot have pairs none of them.
+    those with the same host and path, then those with the same path; or the only tree of each. A host and path, or
+    a path, that two trees of one snapshot have pairs none of them.
 
     Raises UsageError if a given pair names no tree, more than one, or one that another pair has.
     """
@@ -58,7 +58,7 @@ def _given(old: Snapshot, new: Snapshot, words: str) -> Pair:
     found = [(one, two) for at in range(1, len(parts))
              for one in _trees(old, "=".join(parts[:at])) for two in _trees(new, "=".join(parts[at:]))]
     if len(found) != 1:
-        reason = "names more than one pair of trees; write HOST:PLACE" if found else "names no pair of trees"
+        reason = "names more than one pair of trees; write HOST:PATH" if found else "names no pair of trees"
         raise UsageError(f"--pair {quoted(words)} {reason}")
     return found[0]
 

@@ -13,7 +13,7 @@ from dataclasses import dataclass, field
 from typing import Dict, Iterable, Iterator, List, Optional, Sequence, Tuple, Union
 
 from .errors import TreeError, UsageError
-from .snapshot import ListForm, Snapshot, StoredList
+from .snapshot import Snapshot, StoredList
 from .text import quoted
 
 
@@ -119,9 +119,9 @@ def stranger_of(snapshot: Snapshot, lists: Iterable[StoredList], people: Iterabl
     names: List[bytes] = []
     ids: List[int] = []
     for stored in lists:
-        if stored.kind == ListForm.NFS4:
+        if stored.is_nfs:
             names += [stored.access or b""]
-        else:
+        elif stored.is_posix:
             ids += ids_in(stored.access or b"")
             ids += ids_in(stored.default or b"")
     for face in snapshot.faces().values():

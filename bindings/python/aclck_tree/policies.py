@@ -1,4 +1,4 @@
-"""Reads a policy: rules about the lists of the objects in a tree, in TOML (docs/trees.md, "Policies")."""
+"""Reads a policy: rules about the lists of the objects in a tree, in TOML (docs/policies.md)."""
 
 from __future__ import annotations
 
@@ -116,12 +116,12 @@ def names_in(rules: Iterable[Rule]) -> Iterator[Tuple[str, Tuple[bool, ...]]]:
 class _Table:
     """A table of a policy, which must have no keys but those that were taken from it."""
 
-    def __init__(self, place: str, table: Dict[str, Any]) -> None:
-        self._place = place
+    def __init__(self, where: str, table: Dict[str, Any]) -> None:
+        self._where = where
         self._left = dict(table)
 
     def refuse(self, reason: str) -> NoReturn:
-        raise TreeError(f"{self._place}: {reason}")
+        raise TreeError(f"{self._where}: {reason}")
 
     def text(self, key: str) -> Optional[str]:
         """Takes a text, or None if there is none."""
@@ -153,7 +153,7 @@ class _Table:
         found = self._left.pop(key, [])
         if not isinstance(found, list) or not all(isinstance(one, dict) for one in found):
             self.refuse(f"{key} is not an array of tables, which begin with [[{key}]]")
-        return (_Table(f"{self._place}: {word} {number}", one) for number, one in enumerate(found, 1))
+        return (_Table(f"{self._where}: {word} {number}", one) for number, one in enumerate(found, 1))
 
     def bound(self, key: str, is_most: bool) -> Optional[Bound]:
         """Takes a bound."""
@@ -171,10 +171,10 @@ class _Table:
             self.refuse(f"unknown key {quoted(key)}")
 
 
-def read_policy(place: str) -> List[Rule]:
+def read_policy(path: str) -> List[Rule]:
     """Reads the rules of a file. Raises TreeError, with the number of the rule, if a rule is none, and if the file
     cannot be read."""
-    top = _Table(quoted(place), _loaded(place))
+    top = _Table(quoted(path), _loaded(path))
     rules: List[Rule] = []
     numbers: Dict[str, int] = {}
     for number, table in enumerate(top.tables("rule", "rule"), 1):
@@ -189,20 +189,20 @@ def read_policy(place: str) -> List[Rule]:
     return rules
 
 
-def _loaded(place: str) -> Dict[str, Any]:
+def _loaded(path: str) -> Dict[str, Any]:
     try:
-        with open(place, "rb") as file:
+        with open(path, "rb") as file:
             data = file.read(MOST_BYTES + 1)
     except (OSError, ValueError) as error:
-        raise TreeError(f"{quoted(place)}: {getattr(error, 'strerror', None) or error}") from None
+        raise TreeError(f"{quoted(path)}: {getattr(error, 'strerror', None) or error}") from None
     if len(data) > MOST_BYTES:
-        raise TreeError(f"{quoted(place)}: it has more than {MOST_BYTES:,} bytes")
+        raise TreeError(f"{quoted(path)}: it has more than {MOST_BYTES:,} bytes")
     if any(line.count(b".") > MOST_DOTS for line in data.split(b"\n")):
-        raise TreeError(f"{quoted(place)}: a line has more than {MOST_DOTS} dots")
+        raise TreeError(f"{quoted(path)}: a line has more than {MOST_DOTS} dots")
     try:
         return loads(data.decode())
     except (ValueError, RecursionError) as error:
-        raise TreeError(f"{quoted(place)}: it is not TOML: {error}") from None
+        raise TreeError(f"{quoted(path)}: it is not TOML: {error}") from None
 
 
 def _rule(table: _Table) -> Rule:

@@ -5,20 +5,21 @@ from __future__ import annotations
 
 import datetime
 import errno
+import functools
 import os
 import socket
 import stat
-import sys
 import time
 from concurrent.futures import FIRST_COMPLETED, Future, ThreadPoolExecutor, wait
 from dataclasses import dataclass, field
-from typing import Callable, Dict, FrozenSet, List, NamedTuple, Optional, Sequence, Set, Tuple, Union
+from typing import Dict, FrozenSet, Iterator, List, NamedTuple, Optional, Sequence, Set, Tuple, Union
 
 from . import VERSION, accounts
-from .errors import TreeError
+from .errors import DeviceError, TreeError
 from .handles import OBJECT, Directory, Handles, Held, open_list, open_root, read_names
 from .portions import MIXED, Device, Portion
-from .snapshot import Found, ListForm, StoredList, Tree
+from .progress import Progress
+from .snapshot import Account, Found, ListForm, StoredList, Tree
 from .writer import Writer
 
 SLOW = 0.0002
@@ -27,6 +28,15 @@ SLOW = 0.0002
 _KINDS = {stat.S_IFDIR: "d", stat.S_IFREG: "f", stat.S_IFIFO: "p", stat.S_IFSOCK: "s", stat.S_IFBLK: "b",
           stat.S_IFCHR: "c"}
 _ABSENT = (errno.ENODATA, errno.ENOTSUP)
+
+ATTRIBUTES = ("system.nfs4_acl", "system.nfs4_dacl", "security.nfs4acl_xdr", "system.nfs4_acl_xdr")
+"""The attributes with NFSv4 lists. If an object has several of them, the first counts."""
+
+OTHER_FORMS = ATTRIBUTES[1:]
+"""Those that are in another form than the first (`values.py`)."""
+
+_MOST_VALUES = 1024
+"""How many values of attributes are kept with the lists that they are."""
 
 _NEW_DIRECTORY = "it was no directory when its name was read: other shards may lack what is below it"
 
@@ -37,7 +47,7 @@ class Options:
 
     threads: int = 32
     one_file_system: bool = False
-    attribute: str = "system.nfs4_acl"
+    attributes: Sequence[str] = ATTRIBUTES
     host: str = field(default_factory=socket.gethostname)
     quiet: bool = False
     shard: int = 0
@@ -46,7 +56,7 @@ class Options:
 
     def portion(self) -> Portion:
         """Returns the shard, or what the scan of a list reads."""
-        return Portion(self.shard, self.shards, self.key, self.attribute, self.one_file_system)
+        return Portion(self.shard, self.shards, self.key, ",".join(self.attributes), self.one_file_system)
 
 
 @dataclass
@@ -100,8 +110,10 @@ class Reader:
         self._device = status.st_dev
         self._root = Directory(None, b"", status)
         self._handles = Handles(self._root, self._root_handle)
-        self._with_lists: Set[int] = set()  # devices on which an object has an NFSv4 list
-        self._unsupported: Dict[int, bytes] = {}  # devices without support for such lists: the path that showed it
+        self._with_lists: Set[int] = set()  # devices on which an object has the first of the attributes
+        self._unsupported: Dict[int, bytes] = {}  # devices without support for it: the path that showed it
+        self._accounts = accounts.System()
+        self._values = functools.lru_cache(_MOST_VALUES)(self._read_value)
         self._mounts: Dict[int, bytes] = {}  # where the tree enters a device: the first of these places
         self._shard = options.portion() if options.shards else None
 
@@ -221,20 +233,46 @@ class Reader:
 
     def _stored(self, place: bytes, status: os.stat_result, path: bytes) -> StoredList:
         """Returns the list of an object. `place` leads to the object that the handle has, and not by its name."""
-        try:
-            data = os.getxattr(place, self._options.attribute)
-            self._with_lists.add(status.st_dev)
-            return StoredList(ListForm.NFS4, 0, data, None)
-        except OSError as error:
-            if error.errno == errno.ENOTSUP and status.st_dev not in self._with_lists:
-                self._unsupported.setdefault(status.st_dev, path)
-            elif error.errno != errno.ENODATA:
-                raise
+        nfs = self._nfs(place, status.st_dev, path)
+        if nfs:
+            return nfs
         access = _attribute(place, "system.posix_acl_access")
         default = _attribute(place, "system.posix_acl_default") if stat.S_ISDIR(status.st_mode) else None
         if access is None and default is None:
             return StoredList(ListForm.MODE, status.st_mode & 0o777, None, None)
         return StoredList(ListForm.POSIX, status.st_mode & 0o777 if access is None else 0, access, default)
+
+    def _nfs(self, place: bytes, device: int, path: bytes) -> Optional[StoredList]:
+        """Returns the first NFSv4 list of an object, or None if it has none."""
+        first, *others = self._options.attributes
+        is_unsupported = False
+        try:
+            data = os.getxattr(place, first)
+            self._with_lists.add(device)
+            return self._value(first, data)
+        except OSError as error:
+            if error.errno == errno.ENOTSUP and device not in self._with_lists:
+                is_unsupported = True
+            elif error.errno != errno.ENODATA:
+                raise
+        for name in others:
+            value = _attribute(place, name)
+            if value is not None:
+                return self._value(name, value)
+        if is_unsupported:
+            self._unsupported.setdefault(device, path)
+        return None
+
+    def _value(self, name: str, value: bytes) -> StoredList:
+        """Returns the list of an attribute."""
+        return self._values(name, value) if name in OTHER_FORMS else StoredList(ListForm.NFS4, 0, value, None)
+
+    def _read_value(self, name: str, value: bytes) -> StoredList:
+        try:
+            from .values import read_value  # which needs the library; a scan without such attributes does not
+        except ImportError as error:
+            raise DeviceError(str(error)) from None
+        return read_value(name, value, self._accounts)
 
 
 def _attribute(place: bytes, name: str) -> Optional[bytes]:
@@ -250,37 +288,9 @@ def _words(error: OSError) -> str:
     return error.strerror or str(error)
 
 
-def _now() -> str:
+def utc_now() -> str:
+    """Returns the time as a snapshot has it."""
     return datetime.datetime.now(datetime.timezone.utc).strftime("%Y-%m-%dT%H:%M:%SZ")
-
-
-class Progress:
-    """A line on a terminal, written at most five times a second. Without a terminal, or with `quiet`, nothing is
-    written."""
-
-    def __init__(self, writer: Writer, total: Optional[int], quiet: bool) -> None:
-        self._writer = writer
-        self._total = total
-        self._on = sys.stderr.isatty() and not quiet
-        self._began = self._last = time.monotonic()
-
-    def tell(self) -> None:
-        """Writes the line if it is time to."""
-        now = time.monotonic()
-        if not self._on or now - self._last < 0.2:
-            return
-        self._last = now
-        count = self._writer.objects
-        known = f" of about {self._total:,}" if self._total else ""
-        sys.stderr.write(f"\r{count:,}{known} objects, {count / (now - self._began):,.0f} a second, "
-                         f"{self._writer.lists:,} distinct lists\x1b[K")
-        sys.stderr.flush()
-
-    def end(self) -> None:
-        """Removes the line."""
-        if self._on:
-            sys.stderr.write("\r\x1b[K")
-            sys.stderr.flush()
 
 
 class Scan:
@@ -299,9 +309,13 @@ class Scan:
         self._links = 0
         self.errors = 0
         typed, place = os.path.normpath(root), os.path.realpath(root)
-        self.tree = writer.add_tree(Tree(0, options.host, typed, place, _now(), None, False, VERSION, 0))
+        self.tree = writer.add_tree(Tree(0, options.host, typed, place, utc_now(), None, False, VERSION, 0))
         if self._is_portion():
             writer.add_portion(self.tree, options.portion())
+
+    def names(self) -> Iterator[Account]:
+        """Yields the accounts of this host."""
+        return accounts.names(self._writer, self.tree)
 
     def _is_portion(self) -> bool:
         """Whether it reads only a portion of the tree."""
@@ -318,7 +332,7 @@ class Scan:
                 self._fail(path, "read", MIXED)
         finally:
             self._reader.close()
-            self._writer.end_tree(self.tree, _now(), whole, self._links)
+            self._writer.end_tree(self.tree, utc_now(), whole, self._links)
             if self._is_portion():
                 self._writer.add_devices(self.tree, self._reader.devices())
 
@@ -376,25 +390,3 @@ class Scan:
     def _fail(self, path: bytes, step: str, message: str) -> None:
         self.errors += 1
         self._writer.add_error(self.tree, path, step, message)
-
-
-def scan_trees(roots: Sequence[bytes], options: Options, writer: Writer, total: Optional[int] = None,
-               make: Callable[[bytes, Options, Writer, Progress], Scan] = Scan) -> Tuple[bool, int]:
-    """Scans trees into a snapshot, each by the scan that `make` returns. Returns whether all scans are whole, and how
-    many steps failed.
-
-    Ctrl-C ends the scan early. Raises TreeError if a root cannot be read.
-    """
-    progress = Progress(writer, total, options.quiet)
-    scans = [make(root, options, writer, progress) for root in roots]
-    whole = True
-    try:
-        for scan in scans:
-            scan.run()
-    except KeyboardInterrupt:
-        whole = False
-    progress.end()
-    for scan in scans:
-        writer.add_names(accounts.names(writer, scan.tree))
-        writer.add_members((scan.tree, user, group) for user, group in accounts.members())
-    return whole, sum(scan.errors for scan in scans)

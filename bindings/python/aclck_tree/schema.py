@@ -12,6 +12,9 @@ FORMAT = 1
 PORTIONS = 2
 """The version of a snapshot with portions of trees. A program that knows only whole trees refuses it."""
 
+KINDS = 3
+"""The version of a snapshot whose lists may be of the kinds that came later."""
+
 APPLICATION = 0x61636C6B  # "aclk"
 
 LEAST_ROW = 4
@@ -80,7 +83,10 @@ PORTION_TABLES: Dict[str, Dict[str, _Column]] = {
 """The tables that a snapshot with portions of trees has in addition."""
 
 _BOTH = """CASE kind WHEN 'nfs4' THEN access IS NOT NULL AND dflt IS NULL
-                     WHEN 'mode' THEN access IS NULL AND dflt IS NULL ELSE access IS NOT NULL OR dflt IS NOT NULL END"""
+                     WHEN 'mode' THEN access IS NULL AND dflt IS NULL
+                     WHEN 'accounts' THEN access IS NOT NULL AND dflt IS NULL
+                     WHEN 'refused' THEN access IS NOT NULL AND dflt IS NOT NULL
+                     ELSE access IS NOT NULL OR dflt IS NOT NULL END"""
 """The condition for the two attributes of a list."""
 
 _ROWS = {"lists": _BOTH, "portions": "shard BETWEEN 1 AND shards OR shard = 0 AND shards = 0"}
@@ -94,6 +100,10 @@ Rows = Callable[[str], Iterator[Any]]
 """Runs a query and yields its rows."""
 
 
+_LATER = {**TABLES["lists"], "kind": _word("nfs4", "posix", "mode", "accounts", "refused")}
+"""The columns of the lists of a snapshot with the kinds that came later."""
+
+
 class Judged(NamedTuple):
     """The number of objects of a snapshot, and whether it has portions of trees."""
 
@@ -103,13 +113,15 @@ class Judged(NamedTuple):
 
 def judge(place: str, rows: Rows, size: int) -> Judged:
     """Judges everything in a file of some size. Raises TreeError if there is anything that a scan does not write."""
-    has_portions = _judge_header(place, rows) == PORTIONS
+    version = _judge_header(place, rows)
+    has_portions = version >= PORTIONS
     for name, sql in rows("SELECT name, sql FROM sqlite_master"):  # also views, triggers, and virtual tables
         if " ".join(str(sql).split()) != SCHEMA.get(name):
             raise TreeError(f"{place}: no snapshot: its tables are not those of a snapshot")
         if name in PORTION_TABLES and not has_portions:
             raise TreeError(f"{place}: no snapshot: a snapshot of whole trees has no table {name}")
-    objects = _judge_values(place, rows, size, {**TABLES, **(PORTION_TABLES if has_portions else {})})
+    objects = _judge_values(place, rows, size, {**TABLES, **({"lists": _LATER} if version == KINDS else {}),
+                                                **(PORTION_TABLES if has_portions else {})})
     # The signs make SQLite read all of the index. A path that is there twice counts once.
     query = ("SELECT COUNT(*) FROM (SELECT DISTINCT tree, path FROM objects INDEXED BY objects_by_path WHERE "
              f"{_TREE.condition.format('+tree')} AND "
@@ -126,9 +138,9 @@ def _judge_header(place: str, rows: Rows) -> int:
         "application_id", "user_version", "encoding"))
     if application != APPLICATION:
         raise TreeError(f"{place}: no snapshot of aclck-tree")
-    if version not in (FORMAT, PORTIONS):
-        age = "a newer" if version > PORTIONS else "no"
-        raise TreeError(f"{place}: format {version} of {age} aclck-tree; formats {FORMAT} and {PORTIONS} are read")
+    if version not in (FORMAT, PORTIONS, KINDS):
+        age = "a newer" if version > KINDS else "no"
+        raise TreeError(f"{place}: format {version} of {age} aclck-tree; formats {FORMAT} to {KINDS} are read")
     if encoding != "UTF-8":
         raise TreeError(f"{place}: text in it is not UTF-8")
     return int(version)

@@ -5,9 +5,11 @@ The tables:
 
 - `trees`: one row per scanned tree: the host, the root's path as it was typed and from `/`, when the scan began and
   ended (UTC), whether it is whole, the version of the program, and how many symbolic links were not followed.
-- `lists`: each distinct list once. `kind` is `nfs4` (the bytes of `system.nfs4_acl`), `posix` (`access` and `dflt` are
-  the bytes of `system.posix_acl_access` and `_default`, or NULL if there is none; `mode` has the nine bits that replace
-  an absent access list), or `mode` (only those nine bits).
+- `lists`: each distinct list once. `kind` is `nfs4` (`access` has the bytes of `system.nfs4_acl`, and `mode` the flags
+  of the list if the attribute had any), `posix` (`access` and `dflt` are the bytes of `system.posix_acl_access` and
+  `_default`, or NULL if there is none; `mode` has the nine bits that replace an absent access list), or `mode` (only
+  those nine bits). Two more kinds came later: `accounts` is as `nfs4`, but its names are those of accounts and have no
+  domain; and `refused` is a value in another form that the scan refused: `access` has it, and `dflt` the reason.
 - `faces`: each distinct owner, group and list once. A question is about a face.
 - `objects`: one row per file, directory or other object: its path below the root (bytes, empty for the root itself),
   its kind (one letter, as for find -type), its mode, and its face.
@@ -17,8 +19,8 @@ The tables:
   other columns say how the tree was cut, and must be equal in snapshots that are joined.
 - `devices`: what the scan of a portion found out about each file system (`portions.Device`).
 
-The version of this layout is in `PRAGMA user_version`: 2 if there are `portions` and `devices`, and 1 if these two
-tables are absent. A newer version is refused, with a message that says so.
+The version of this layout is in `PRAGMA user_version`: 3 if a list may be of a kind that came later, 2 if there are
+`portions` and `devices`, and 1 if these two tables are absent. A newer version is refused, with a message that says so.
 """
 
 from __future__ import annotations
@@ -75,21 +77,34 @@ class Tree:
 
 
 class ListForm(str, enum.Enum):
-    """How a list was found: as an NFSv4 list, as POSIX lists, or as a mode alone. A form equals its word."""
+    """How a list was found: as an NFSv4 list, as one whose ids the scan named, as POSIX lists, as a mode alone, or as a
+    value that the scan refused. A form equals its word."""
 
     NFS4 = "nfs4"
+    ACCOUNTS = "accounts"
     POSIX = "posix"
     MODE = "mode"
+    REFUSED = "refused"
 
 
 @dataclass(frozen=True)
 class StoredList:
-    """A list as the file system gave it."""
+    """A list as the file system gave it. The columns of the table `lists` say what the fields are."""
 
     kind: ListForm
     mode: int
     access: Optional[bytes]
     default: Optional[bytes]
+
+    @property
+    def is_nfs(self) -> bool:
+        """Whether it is an NFSv4 list."""
+        return self.kind in (ListForm.NFS4, ListForm.ACCOUNTS)
+
+    @property
+    def is_posix(self) -> bool:
+        """Whether it is a POSIX list or a mode."""
+        return self.kind in (ListForm.POSIX, ListForm.MODE)
 
     @functools.cached_property
     def digest(self) -> bytes:
@@ -202,7 +217,7 @@ class Snapshot:
 
     def is_posix(self, number: int) -> bool:
         """Whether a list is a POSIX list or a mode."""
-        rows = self._rows("SELECT kind <> 'nfs4' FROM lists WHERE list = ?", (number,))
+        rows = self._rows("SELECT kind IN ('posix', 'mode') FROM lists WHERE list = ?", (number,))
         return bool(next(rows)[0])
 
     def faces(self) -> Dict[int, Face]:

@@ -11,8 +11,8 @@ from typing import Dict, Iterable, Iterator, List, Optional, Sequence, Tuple
 from .errors import DeviceError
 from .files import Part, refuse_what_is_no_file
 from .portions import Device, Portion
-from .schema import APPLICATION, FORMAT, PORTION_TABLES, PORTIONS, SCHEMA, TABLES
-from .snapshot import Account, Found, Snapshot, Tree, uri
+from .schema import APPLICATION, FORMAT, KINDS, PORTION_TABLES, PORTIONS, SCHEMA, TABLES
+from .snapshot import Account, Found, ListForm, Snapshot, Tree, uri
 
 
 class Writer:
@@ -22,7 +22,7 @@ class Writer:
         """`place` is the name of the snapshot in messages, and `part` that of the file."""
         self._lists: Dict[bytes, int] = {}
         self._faces: Dict[Tuple[int, int, int, int], int] = {}
-        self._has_portions = False
+        self._version = FORMAT
         self.objects = 0
         self.whole = True
         self.place = place
@@ -48,13 +48,18 @@ class Writer:
 
     def add_portion(self, tree: int, portion: Portion) -> None:
         """Records that a tree is only a portion of one."""
-        if not self._has_portions:
-            self._has_portions = True
-            self._db.execute(f"PRAGMA user_version = {PORTIONS}")
-            for name in PORTION_TABLES:
-                self._db.execute(SCHEMA[name])
+        self._raise_version(PORTIONS)
         row = (tree, portion.shard, portion.shards, portion.key, _bytes(portion.attribute), portion.one_file_system)
         self._db.execute("INSERT INTO portions VALUES (?, ?, ?, ?, CAST(? AS TEXT), ?)", row)
+
+    def _raise_version(self, version: int) -> None:
+        """Makes the snapshot one of at least some version, which is a later one than `FORMAT`."""
+        if self._version == FORMAT:
+            for name in PORTION_TABLES:
+                self._db.execute(SCHEMA[name])
+        if self._version < version:
+            self._version = version
+            self._db.execute(f"PRAGMA user_version = {version}")
 
     def add_devices(self, tree: int, devices: Iterable[Device]) -> None:
         """Records what the scan of a portion found out about file systems."""
@@ -76,6 +81,8 @@ class Writer:
         number = self._lists.get(digest)
         if number is None:
             number = self._lists[digest] = len(self._lists) + 1
+            if stored.kind in (ListForm.ACCOUNTS, ListForm.REFUSED):
+                self._raise_version(KINDS)
             self._db.execute("INSERT INTO lists VALUES (?, ?, ?, ?, ?)",
                              (number, stored.kind, stored.mode, stored.access, stored.default))
         key = (tree, found.uid, found.gid, number)

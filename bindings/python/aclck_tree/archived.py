@@ -1,0 +1,325 @@
+"""The scan of an archive. What its members are is gathered in a temporary file first, because a later member of the
+same path counts, and because the names of any member can be those of ids in the list of another one."""
+
+from __future__ import annotations
+
+import contextlib
+import functools
+import hashlib
+import os
+import sqlite3
+from typing import Any, Dict, Iterator, List, NamedTuple, Optional, Sequence, Set, Tuple
+
+from . import VERSION, accounts, headers
+from .archives import SHOWN, Damaged, Member, members, opened_archive
+from .errors import TreeError
+from .listed import LONGEST_PATH, names_in
+from .people import HIGHEST_ID
+from .progress import Progress
+from .scan import Options, utc_now
+from .snapshot import Account, Found, StoredList, Tree
+from .text import quoted, quoted_path
+from .writer import Writer
+
+AT_ONCE = 1000
+"""How many objects are written at once."""
+
+_CACHE = 1 << 16  # kilobytes
+_FAULT = "!"
+"""The kind of a member that cannot be read."""
+
+_ROW = "key, kind, mode, uid, gid, user, grp, headers, fault, was_other"
+_PUT = (f"INSERT INTO members ({_ROW}) VALUES (?, ?, ?, ?, ?, ?, ?, ?, ?, ?) ON CONFLICT (key) DO UPDATE SET "
+        "kind = excluded.kind, mode = excluded.mode, uid = excluded.uid, gid = excluded.gid, user = excluded.user, "
+        "grp = excluded.grp, headers = excluded.headers, fault = excluded.fault, "
+        "was_other = was_other OR excluded.was_other")
+
+
+class _Row(NamedTuple):
+    """What is known of a path. `was_other` says that a member of this path was no directory."""
+
+    key: bytes
+    kind: str
+    mode: int = 0
+    uid: int = 0
+    gid: int = 0
+    user: bytes = b""
+    group: bytes = b""
+    headers: int = 0
+    fault: str = ""
+    was_other: bool = True
+
+
+class Names(accounts.System):
+    """The names and ids that an archive has, and those of this system that say nothing else."""
+
+    def __init__(self) -> None:
+        super().__init__()
+        self._own_names: Dict[Tuple[bool, int], bytes] = {}
+        self._own_numbers: Dict[Tuple[bool, bytes], int] = {}
+        self._doubtful: Set[Tuple[bool, object]] = set()  # names with two ids, and ids with two names
+
+    def add(self, is_group: bool, number: int, name: bytes) -> None:
+        """Adds an account of the archive."""
+        if accounts.is_name(name):
+            if self._own_names.setdefault((is_group, number), name) != name:
+                self._doubtful.add((is_group, number))
+            if self._own_numbers.setdefault((is_group, name), number) != number:
+                self._doubtful.add((is_group, name))
+
+    def fits(self, is_group: bool, number: int, name: bytes) -> bool:
+        """Whether the archive has no other name for an id, and no other id for a name."""
+        return (self._own_names.get((is_group, number), name) == name
+                and self._own_numbers.get((is_group, name), number) == number
+                and self._doubtful.isdisjoint(((is_group, number), (is_group, name))))
+
+    def name_of(self, is_group: bool, number: int) -> Optional[bytes]:
+        own = self._own_names.get((is_group, number))
+        found = super().name_of(is_group, number) if own is None else own
+        return found if found is not None and self.fits(is_group, number, found) else None
+
+    def number_of(self, is_group: bool, name: bytes) -> Optional[int]:
+        own = self._own_numbers.get((is_group, name))
+        found = super().number_of(is_group, name) if own is None else own
+        return found if found is not None and self.fits(is_group, found, name) else None
+
+    def rows(self) -> Iterator[Tuple[bool, int, bytes]]:
+        """Yields the accounts of the archive."""
+        for (is_group, name), number in self._own_numbers.items():
+            if self.fits(is_group, number, name):
+                yield is_group, number, name
+
+
+def split(path: bytes) -> List[bytes]:
+    """Returns the names of the path of a member. Those of a path that begins with a slash have a slash in front. Raises
+    ValueError, with the reason, if a part is `..`, or if it cannot be a path."""
+    if len(path) > LONGEST_PATH:
+        raise ValueError(f"it has more than {LONGEST_PATH:,} bytes")
+    return ([b"/"] if path.startswith(b"/") else []) + names_in(path.lstrip(b"/"))
+
+
+class _Gathered:
+    """What is known of the members, in a file that nobody else sees."""
+
+    def __init__(self) -> None:
+        self._headers: Dict[bytes, int] = {}
+        self._db = sqlite3.connect("", isolation_level=None)
+        for line in ("PRAGMA journal_mode = OFF", "PRAGMA synchronous = OFF", f"PRAGMA cache_size = -{_CACHE}", "BEGIN",
+                     "CREATE TABLE members (key BLOB PRIMARY KEY, kind TEXT, mode INTEGER, uid INTEGER, gid INTEGER, "
+                     "user BLOB, grp BLOB, headers INTEGER, fault TEXT, was_other INTEGER) WITHOUT ROWID",
+                     "CREATE TABLE headers (number INTEGER, name TEXT, value BLOB)",
+                     "CREATE INDEX headers_by_number ON headers (number)",
+                     "CREATE TABLE faults (fault TEXT PRIMARY KEY) WITHOUT ROWID"):
+            self._db.execute(line)
+
+    def close(self) -> None:
+        """Removes what is known."""
+        self._db.close()
+
+    def add(self, member: Member) -> None:
+        """Adds a member. It replaces an earlier one of the same path."""
+        try:
+            key = b"\0".join(split(member.path))
+        except ValueError as error:
+            more = ".." if len(member.path) > SHOWN else ""
+            self._db.execute("INSERT OR IGNORE INTO faults VALUES (CAST(? AS TEXT))", (
+                f"{quoted_path(member.path[:SHOWN])}{more}: {error}".encode("utf-8", "surrogateescape"),))
+            return
+        row = self._linked(key, member.target) if member.kind == "h" else self._row(key, member)
+        self._db.execute(_PUT, row)
+
+    def _row(self, key: bytes, member: Member) -> _Row:
+        fault = ""
+        if not member.kind:
+            fault = "it is of a kind that is not known"
+        elif not (0 <= member.uid <= HIGHEST_ID and 0 <= member.gid <= HIGHEST_ID):
+            fault = "its owner or its group is no id"
+        elif b"\0" in member.user + member.group:
+            fault = "the name of its owner or of its group has a zero byte"
+        if fault:
+            return _Row(key, _FAULT, fault=fault)
+        return _Row(key, member.kind, member.mode, member.uid, member.gid, member.user, member.group,
+                    self._number(member.headers), "", member.kind != "d")
+
+    def _linked(self, key: bytes, target: bytes) -> _Row:
+        """Returns what a hard link is: what its target was when the link was made."""
+        try:
+            found = self.row(b"\0".join(split(target)))
+        except ValueError:
+            found = None
+        if found and found.kind not in ("d", _FAULT):
+            return found._replace(key=key, was_other=True)
+        return _Row(key, _FAULT, fault=f"it is a hard link to {quoted_path(target[:SHOWN])}, and no file is there")
+
+    def row(self, key: bytes) -> Optional[_Row]:
+        """Returns what is known of a path."""
+        found = self._db.execute(f"SELECT {_ROW} FROM members WHERE key = ?", (key,)).fetchone()
+        return _Row(*found) if found else None
+
+    def _number(self, headers: Dict[str, bytes]) -> int:
+        """Returns the number of some headers: 0 if there are none, and the same for equal ones."""
+        if not headers:
+            return 0
+        whole = b"".join(b"%b=%d:%b" % (name.encode(), len(value), value) for name, value in sorted(headers.items()))
+        digest = hashlib.blake2b(whole, digest_size=16).digest()
+        if digest not in self._headers:
+            self._headers[digest] = len(self._headers) + 1
+            self._db.executemany("INSERT INTO headers VALUES (?, ?, ?)", (
+                (self._headers[digest], name, value) for name, value in headers.items()))
+        return self._headers[digest]
+
+    def headers(self, number: int) -> Dict[str, bytes]:
+        """Returns the headers of a number."""
+        return dict(self._db.execute("SELECT name, value FROM headers WHERE number = ?", (number,)))
+
+    def texts(self) -> Iterator[bytes]:
+        """Yields all texts of POSIX lists."""
+        query = "SELECT value FROM headers WHERE name IN ('SCHILY.acl.access', 'SCHILY.acl.default') ORDER BY number"
+        return (row[0] for row in self._db.execute(query))
+
+    def owners(self) -> Iterator[Tuple[bool, int, bytes]]:
+        """Yields the owners and the groups of the members: whether it is a group, the id, and the name."""
+        for uid, gid, user, group in self._db.execute(
+                f"SELECT DISTINCT uid, gid, user, grp FROM members WHERE kind <> '{_FAULT}'"):
+            yield False, uid, user
+            yield True, gid, group
+
+    def rows(self, root: bytes) -> Iterator[_Row]:
+        """Yields what is known of a directory and of all that is below it. What is below a path follows the path."""
+        query = f"SELECT {_ROW} FROM members "
+        found: Iterator[Any] = self._db.execute(f"{query} ORDER BY key")
+        if root:
+            found = self._db.execute(f"{query} WHERE key = ? OR key >= ? AND key < ? ORDER BY key",
+                                     (root, root + b"\0", root + b"\1"))
+        return (_Row(*row) for row in found)
+
+    def faults(self) -> Iterator[str]:
+        """Yields the faults of the paths that are none."""
+        for fault, in self._db.execute("SELECT CAST(fault AS BLOB) FROM faults ORDER BY fault"):
+            yield fault.decode("utf-8", "surrogateescape")
+
+
+class ArchiveScan:
+    """The scan of an archive, or of a directory in it, into a snapshot."""
+
+    def __init__(self, place: bytes, options: Options, writer: Writer, progress: Progress, *,
+                 root: bytes = b"") -> None:
+        """Raises TreeError if there is no archive, or if the root is no path."""
+        try:
+            self._root = b"\0".join(split(root))
+        except ValueError as error:
+            raise TreeError(f"{quoted_path(root)}: {error}") from None
+        self._stack = contextlib.ExitStack()
+        self._file = self._stack.enter_context(opened_archive(place))
+        self._place, self._typed = place, root
+        self._writer = writer
+        self._progress = progress
+        self._names = Names()
+        self._gathered = _Gathered()
+        self._stack.callback(self._gathered.close)
+        self._stored = functools.lru_cache(4096)(self._list)
+        self._links = 0
+        self.errors = 0
+        below = root.strip(b"/")
+        typed, real = ((one + b"/" + below if below else one) for one in (os.path.normpath(place),
+                                                                          os.path.realpath(place)))
+        self.tree = writer.add_tree(Tree(0, options.host, typed, real, utc_now(), None, False, VERSION, 0))
+
+    def run(self) -> None:
+        """Reads the archive. If Ctrl-C ends it early, what was found until then is kept, and is not marked as whole."""
+        ended: Optional[KeyboardInterrupt] = None
+        whole = False
+        try:
+            try:
+                self._gather()
+            except KeyboardInterrupt as error:
+                ended = error
+            self._write()
+            whole = not ended
+        finally:
+            self._stack.close()
+            self._writer.end_tree(self.tree, utc_now(), whole, self._links)
+        if ended:
+            raise ended
+
+    def names(self) -> Iterator[Account]:
+        """Yields the accounts of the archive, and those of this host that say nothing else."""
+        for row in self._names.rows():
+            yield (self.tree, *row)
+        for account in accounts.names(self._writer, self.tree):
+            if self._names.fits(*account[1:]):
+                yield account
+
+    def _gather(self) -> None:
+        count = 0
+        try:
+            for count, member in enumerate(members(self._file), 1):
+                self._gathered.add(member)
+                self._progress.tell(count)
+        except Damaged as error:
+            if not count:
+                raise TreeError(f"{quoted_path(self._place)}: not a tar archive: {error}") from None
+            self._fail(b"", f"the archive is damaged behind its first {count:,} members: {error}")
+        if self._root and not any(True for _ in self._gathered.rows(self._root)):
+            raise TreeError(f"{quoted_path(self._place)}: the archive has no {quoted_path(self._typed)}")
+
+    def _write(self) -> None:
+        """Writes the objects and the failures."""
+        for is_group, number, name in self._gathered.owners():
+            self._names.add(is_group, number, name)
+        for text in self._gathered.texts():
+            for is_group, number, name in headers.ids_in(text):
+                self._names.add(is_group, number, name)
+        for fault in self._gathered.faults():
+            self._fail(b"", fault)
+        found: List[Found] = []
+        for path, row in self._below_directories():
+            one = self._found(path, row)
+            found += [one] if one else []
+            if len(found) == AT_ONCE:
+                self._keep(found)
+                found = []
+        self._keep(found)
+
+    def _keep(self, found: Sequence[Found]) -> None:
+        self._writer.add_objects(self.tree, found)
+        self._progress.tell()
+
+    def _below_directories(self) -> Iterator[Tuple[bytes, _Row]]:
+        """Yields what is known of each path of the tree. A path that leads through anything else than a directory is a
+        failure: in the file system it would be another one."""
+        other: Optional[bytes] = None
+        for row in self._gathered.rows(self._root):
+            path = row.key[len(self._root) + 1 if self._root else 0:].replace(b"\0", b"/")
+            if row.key.startswith(b"/") and not self._root:
+                self._fail(b"", f"{quoted_path(path[1:SHOWN])}: it begins with a slash, and --root names no directory")
+            elif other is not None and (not other or row.key.startswith(other + b"\0")):
+                through = other.replace(b"\0", b"/")
+                self._fail(path, f"its path leads through {quoted_path(through[:SHOWN])}, which is no directory")
+            else:
+                other = row.key if row.was_other else None
+                yield path, row
+
+    def _found(self, path: bytes, row: _Row) -> Optional[Found]:
+        """Returns the object of a path, or None if it is a link or cannot be read."""
+        if row.kind == "l":
+            self._links += 1
+            return None
+        fault = row.fault
+        for is_group, number, name in ((False, row.uid, row.user), (True, row.gid, row.group)):
+            if not fault and accounts.is_name(name) and not self._names.fits(is_group, number, name):
+                word = "group" if is_group else "owner"
+                fault = f"its {word} {quoted_path(name)} has the id {number}, and elsewhere in the archive it is other"
+        if fault:
+            self._fail(path, fault)
+            return None
+        return Found(path, row.kind, row.mode, row.uid, row.gid,
+                     self._stored(row.headers, row.kind == "d", row.mode & 0o777))
+
+    def _list(self, number: int, is_directory: bool, mode: int) -> StoredList:
+        found = self._gathered.headers(number) if number else {}
+        return headers.read_headers(found, is_directory, mode, self._names)
+
+    def _fail(self, path: bytes, message: str) -> None:
+        self.errors += 1
+        self._writer.add_error(self.tree, path, "read", message)
