@@ -1,31 +1,9 @@
 """The answers of the Python module `aclck` to the words of a command and its input, as the program writes them. The
-scripts that compare the module with the program share this file. The library is the one that ACLCK_LIBRARY names, or
-the one that `make library` leaves.
+scripts that compare the module with the program share this file.
 """
-import os
-import sys
-
-ROOT = os.path.dirname(os.path.dirname(os.path.abspath(__file__)))
-PYTHON = os.path.join(ROOT, "bindings/python")
-LIBRARY = os.environ.setdefault("ACLCK_LIBRARY", os.path.join(ROOT, "library/out/libaclck.so.1"))
-if not os.path.exists(LIBRARY):
-    sys.exit(f"{os.path.basename(sys.argv[0])}: {LIBRARY} is not built: make library")
-sys.path.insert(0, PYTHON)
-import aclck  # noqa: E402
-
-
-def options(words):
-    """Returns the options of a command line, and the other words."""
-    found, others, rest = {}, [], iter(words)
-    for word in rest:
-        if word == "--":
-            others += rest
-        elif word.startswith("--") and len(word) > 2:
-            name, equals, value = word[2:].partition("=")
-            found[name] = True if name in ("inherit", "dir") else value if equals else next(rest)
-        else:
-            others.append(word)
-    return found, others
+import harness  # puts the module on the path
+import aclck
+from cases import options
 
 
 def names(words):

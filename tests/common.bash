@@ -1,4 +1,24 @@
-# Functions that several scripts of tests/ use.
+# What several scripts of tests/ use. Most of them end with `exit "$failed"`.
+script=${0##*/}
+failed=0
+
+# Prints what is wrong, and lets the script fail.
+wrong() {
+  echo "$script: $*"
+  failed=1
+}
+
+# Sets `program` to the executable $1, or to the one that `rt ci` leaves, and ends the script if there is none.
+find_program() {
+  program=$(realpath -m "${1:-crates/aclck/out/aclck}")
+  [ -x "$program" ] || { echo "$script: $program is not built"; exit 1; }
+}
+
+# Makes the directory `work`, which is removed when the script ends.
+make_work() {
+  work=$(mktemp -d)
+  trap 'rm -rf "$work"' EXIT
+}
 
 # Reads the file $1 as a terminal session, runs its commands in the current directory, and prints the session that they
 # make. A command follows `$ `, and continues on the next line if its line ends in a backslash. It starts with the exit

@@ -1,16 +1,20 @@
 """A server of PostgreSQL for tests/postgres, tests/tree_load and bench/database, in a folder of its own and as a user
-without privileges.
+without privileges. It also has what the two scripts of tests/ share: databases for tests, and sessions of pages.
 """
 import os
 import pwd
+import re
 import shutil
 import signal
 import subprocess
+import sys
 import tempfile
 import time
+import unittest
 
-ROOT = os.path.dirname(os.path.dirname(os.path.abspath(__file__)))
-MADE = os.path.dirname(os.path.abspath(os.environ.get("ACLCK_LIBRARY", f"{ROOT}/library/out/libaclck.so.1")))
+from harness import LIBRARY, ROOT, SCRIPT, run
+
+MADE = os.path.dirname(os.path.abspath(LIBRARY))
 
 
 class Missing(Exception):
@@ -90,3 +94,57 @@ class Server:
             self.child.send_signal(signal.SIGINT)  # which ends what is asked too
             self.child.wait(60)
         shutil.rmtree(self.folder, ignore_errors=True)
+
+    def psql(self, script, database="postgres", *words):
+        """Runs a script, and returns its output with its errors between."""
+        done = subprocess.run(["psql", "-X", "-q", "-A", "-t", *words, database], input=script.encode(),
+                              stdout=subprocess.PIPE, stderr=subprocess.STDOUT, env=self.environment)
+        return done.stdout.decode()
+
+    def lines(self, script, database="postgres", *words):
+        """Runs a script without an error, and returns the lines of its output."""
+        out = self.psql(script, database, *words)
+        if re.search(r"(?m)^(?:ERROR|FATAL|WARNING|psql: error): ", out):
+            raise AssertionError(out)
+        return out.splitlines()
+
+
+class OnServer(unittest.TestCase):
+    """Tests that ask one server. Each test makes databases of its own."""
+
+    server = None
+    databases = 0
+
+    @classmethod
+    def setUpClass(cls):
+        if not OnServer.server.child:
+            unittest.addModuleCleanup(OnServer.server.stop)
+            OnServer.server.start()
+
+    def new_database(self, options=""):
+        OnServer.databases += 1
+        name = f"test{OnServer.databases}"
+        self.server.lines(f"CREATE DATABASE {name} {options}")
+        return name
+
+
+def run_on_server():
+    """Runs the tests of a script, or says what is missing."""
+    try:
+        OnServer.server = Server()
+    except Missing as what:
+        sys.exit(print(f"{SCRIPT}: skipped, because {what}"))
+    run()
+
+
+def statements(block):
+    """Returns the statements of a session of psql, each with the lines that the page shows below it."""
+    found = []
+    for line in block.splitlines():
+        if line.startswith("=> "):
+            found.append((line[3:], []))
+        elif line.startswith("-> "):
+            found[-1] = (f"{found[-1][0]}\n{line[3:]}", [])
+        else:
+            found[-1][1].append(line)
+    return found

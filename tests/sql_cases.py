@@ -4,18 +4,18 @@ the answer that vectors/ records. So no expectation comes from what the function
 An argument is a list or an attribute (bytes), a number, or one of the classes below. The wanted answer is bytes, a
 text, a number, None, or a `Refused`.
 """
-import json
 import os
 import re
-import struct
 from typing import NamedTuple
+
+from cases import cases_of, options
+from encoders import ANYBODY, nfs, posix
 
 ROOT = os.path.dirname(os.path.dirname(os.path.abspath(__file__)))
 RIGHTS = """READ_DATA WRITE_DATA APPEND_DATA READ_NAMED_ATTRS WRITE_NAMED_ATTRS EXECUTE DELETE_CHILD READ_ATTRIBUTES
     WRITE_ATTRIBUTES WRITE_RETENTION WRITE_RETENTION_HOLD - - - - - DELETE READ_ACL WRITE_ACL WRITE_OWNER
     SYNCHRONIZE""".split()
 TAGS = {"u": 1, "user": 1, "g": 4, "group": 4, "m": 16, "mask": 16, "o": 32, "other": 32}
-ANYBODY = 0xFFFFFFFF
 
 
 class Text(NamedTuple):
@@ -49,20 +49,6 @@ class Case(NamedTuple):
     arguments: tuple
     wanted: object
     source: str
-
-
-def options(words):
-    """Returns the options of a command line, and the other words."""
-    found, others, rest = {}, [], iter(words)
-    for word in rest:
-        if word == "--":
-            others += rest
-        elif word.startswith("--") and len(word) > 2:
-            name, equals, value = word[2:].partition("=")
-            found[name] = True if name in ("inherit", "dir") else value if equals else next(rest)
-        else:
-            others.append(word)
-    return found, others
 
 
 def name(word):
@@ -170,11 +156,6 @@ def entries(text, part):
     return sorted(found, key=lambda entry: (entry[0], entry[2]))
 
 
-def attribute(found):
-    """Returns the attribute of entries (linux/posix_acl_xattr.h)."""
-    return struct.pack("<I", 2) + b"".join(struct.pack("<HHI", *entry) for entry in found)
-
-
 def is_simple(case, others):
     """Returns whether a text is accepted and has ids alone, so that it is easy to make its attribute."""
     return case["status"] < 2 and not others
@@ -187,8 +168,8 @@ def show_posix(case, given, others):
     wanted = None if case["status"] < 2 else case["err"][7:].strip()
     yield "acl_posix_fault", [text, *names(others)], wanted
     if is_simple(case, others):
-        yield "acl_posix_fault", [attribute(entries(text.data, 0))], None
-        yield "acl_posix_entries", [attribute(entries(text.data, 0))], shown(entries(text.data, 0))
+        yield "acl_posix_fault", [posix(*entries(text.data, 0))], None
+        yield "acl_posix_entries", [posix(*entries(text.data, 0))], shown(entries(text.data, 0))
 
 
 def shown(found):
@@ -205,7 +186,7 @@ def check_posix(case, given, others):
     wanted = answer("text", case, lambda out: out == b"granted\n")
     yield "acl_posix_grants", [Text(text), *asked, *names(others)], wanted
     if is_simple(case, others):
-        yield "acl_posix_grants", [attribute(entries(text, 0)), *asked], wanted
+        yield "acl_posix_grants", [posix(*entries(text, 0)), *asked], wanted
 
 
 def changed(function, given_numbers):
@@ -216,8 +197,8 @@ def changed(function, given_numbers):
         part = int(function == "acl_posix_create")
         # A directory without a default ACL has no attribute that says what is created.
         if is_simple(case, others) and entries(text, part):
-            made = attribute(entries(bytes.fromhex(case["out"]), 0))
-            yield function, [attribute(entries(text, part)), *numbers], made
+            made = posix(*entries(bytes.fromhex(case["out"]), 0))
+            yield function, [posix(*entries(text, part)), *numbers], made
     return calls
 
 
@@ -232,7 +213,7 @@ def creation_of(given):
 def chmod(case, given, others):
     yield from changed("acl_posix_chmod", mode_of)(case, given, others)
     if is_simple(case, others):
-        made = attribute(entries(bytes.fromhex(case["out"]), 0))
+        made = posix(*entries(bytes.fromhex(case["out"]), 0))
         yield "acl_posix_mode", [made], int(given["mode"], 8)
 
 
@@ -240,7 +221,7 @@ def bridge(case, given, others):
     text = bytes.fromhex(case["in"])
     yield "acl_posix_bridge", [Text(text), *names(others)], answer("text", case, bytes)
     if is_simple(case, others):
-        yield "acl_posix_bridge", [attribute(entries(text, 0))], bytes.fromhex(case["out"])
+        yield "acl_posix_bridge", [posix(*entries(text, 0))], bytes.fromhex(case["out"])
 
 
 CALLS = {
@@ -256,14 +237,12 @@ def of_vectors():
     """Yields the cases of vectors/. The functions know the full profile alone, and words that are refused are no call
     of a function."""
     for command, calls in CALLS.items():
-        with open(os.path.join(ROOT, f"vectors/{command}.jsonl"), encoding="ascii") as file:
-            for number, line in enumerate(file, 1):
-                case = json.loads(line)
-                given, others = options(case["words"][1:]) if case["status"] != 3 else ({}, [])
-                if case["status"] == 3 or given.get("profile") == "narrow":
-                    continue
-                for function, arguments, wanted in calls(case, given, others):
-                    yield Case(function, tuple(arguments), wanted, f"{command}.jsonl:{number}")
+        for case, source in cases_of(command):
+            given, others = options(case["words"][1:]) if case["status"] != 3 else ({}, [])
+            if case["status"] == 3 or given.get("profile") == "narrow":
+                continue
+            for function, arguments, wanted in calls(case, given, others):
+                yield Case(function, tuple(arguments), wanted, source)
 
 
 # ---- rows that were worked out by hand, for what no command of aclck asks
@@ -272,22 +251,13 @@ ALLOW, DENY, GROUP = 0, 1, 0x40
 BAD = "a name is empty, or a number means nothing"
 
 
-def nfs(*aces):
-    """Returns the bytes of a list. Each ACE is its type, flags, mask and who (RFC 8881, section 6.2.1; RFC 4506)."""
-    data = struct.pack(">I", len(aces))
-    for kind, flags, mask, who in aces:
-        who = who.encode()
-        data += struct.pack(">IIII", kind, flags, mask, len(who)) + who + bytes(-len(who) % 4)
-    return data
-
-
 LIST = nfs((DENY, 0, 2, "mallory"), (ALLOW, GROUP, 3, "editors"), (ALLOW, 0, 1, "OWNER@"))
 READ = nfs((ALLOW, 0, 1, "EVERYONE@"))
 ODD = 'a"b\\c é'
 BOB = (Text(b"alice"), Text(b"staff"), Text(b"bob"))
 ENTRIES = [(1, 7, ANYBODY), (2, 6, 1002), (4, 5, ANYBODY), (8, 6, 30), (16, 4, ANYBODY), (32, 0, ANYBODY)]
-POSIX = attribute(ENTRIES)
-PLAIN = attribute([ENTRIES[0], ENTRIES[2], ENTRIES[5]])
+POSIX = posix(*ENTRIES)
+PLAIN = posix(ENTRIES[0], ENTRIES[2], ENTRIES[5])
 SHOWN = Text(b"u::rwx,u:bob:r,g::r,m::r,o::r")
 
 
@@ -349,19 +319,19 @@ def posix_rows():
     yield "acl_posix_mode", (POSIX,), 0o740
     yield "acl_posix_mode", (PLAIN,), 0o750
     yield "acl_posix_of_mode", (0o750,), PLAIN
-    yield "acl_posix_calc_mask", (PLAIN,), attribute([*ENTRIES[:1], ENTRIES[2], (16, 5, ANYBODY), ENTRIES[5]])
+    yield "acl_posix_calc_mask", (PLAIN,), posix(*ENTRIES[:1], ENTRIES[2], (16, 5, ANYBODY), ENTRIES[5])
     yield "acl_posix_of_mode", (0o1000,), Refused(BAD)
     yield "acl_posix_excess", (POSIX, POSIX), None
     yield "acl_posix_excess", (POSIX, PLAIN), {"want": 4}
 
 
 def faults_of_attributes():
-    twice = attribute([ENTRIES[0], ENTRIES[0], ENTRIES[2], ENTRIES[5]])
+    twice = posix(ENTRIES[0], ENTRIES[0], ENTRIES[2], ENTRIES[5])
     for data, wanted in ((b"", "Size"), (POSIX[:-1], "Size"), (b"\1" + POSIX[1:], "Version"),
-                         (attribute(ENTRIES[:4] + ENTRIES[5:]), "Miss MASK"), (twice, "Multi at entry 1"),
-                         (attribute(ENTRIES[::-1]), "Order at entry 1"),
-                         (attribute([(1, 8, 0), *ENTRIES[1:]]), "Permission at entry 0"),
-                         (attribute([ENTRIES[0], (3, 7, 0), *ENTRIES[1:]]), "Tag at entry 1")):
+                         (posix(*ENTRIES[:4], *ENTRIES[5:]), "Miss MASK"), (twice, "Multi at entry 1"),
+                         (posix(*ENTRIES[::-1]), "Order at entry 1"),
+                         (posix((1, 8, 0), *ENTRIES[1:]), "Permission at entry 0"),
+                         (posix(ENTRIES[0], (3, 7, 0), *ENTRIES[1:]), "Tag at entry 1")):
         yield "acl_posix_fault", (data,), wanted
         yield "acl_posix_mode", (data,), Refused(f"attribute refused: {wanted}")
         yield "acl_posix_entries", (data,), Refused(f"attribute refused: {wanted}")
