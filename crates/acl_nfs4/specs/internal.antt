@@ -1,5 +1,6 @@
 -- What only the code and its proofs need (this library's own): no clause of a public call cites it. One definition that
--- such a clause cites is made of it: the fault of a list of any ACEs (`PartFault`) is found field by field, by `Reading`.
+-- such a clause cites is made of it: the fault of a list of any ACEs (`PartFault`) is found field by
+-- field, by `Reading`.
 
 -- the result of reading a list's bytes from left to right, and its fault
 pub mod Reading

@@ -58,7 +58,8 @@ next_place b xs i a old new l is adds so =
     (adds (with_bit b (all_cleared (take i xs))) so)
 
 -- if the next ACE has the bit, its row is added to the rows of the ACEs before it
-pub row_in_place : (b : ℕ) {xs : List Ace} {i : ℕ} {a : Ace} (old : List BorrowedRow) {new : List BorrowedRow} (r : BorrowedRow)
+pub row_in_place : (b : ℕ) {xs : List Ace} {i : ℕ} {a : Ace} (old : List BorrowedRow) {new : List BorrowedRow}
+    (r : BorrowedRow)
     → i < length xs → slice_index_or xs i a ≡ a → has_bit a.mask b ≡ true → IsTidy xs
     → r.kind ≡ a.kind → r.who.now ≡ a.who → r.group ≡ has_bit (flags_for (principal_of a)) identifier_group
     → r.source ≡ i → new ≡ old ++ r ∷ []

@@ -56,7 +56,8 @@ one_row b xs e a old new r has key is at own who group more =
       kind = own ∙ ap (λ v. v.kind) is;
       who = who ∙ ap (λ v. v.who) is;
       group = group ∙ ap (λ v. has_bit v.flags identifier_group) is;
-      place = first_ace_gives b p xs (emitted_ace e).kind r.source (sym (kind_first b p xs) ∙ key (emitted_counts b e has)) at
+      place = first_ace_gives b p xs (emitted_ace e).kind r.source
+          (sym (kind_first b p xs) ∙ key (emitted_counts b e has)) at
           ∙ ap (λ k. Some (k, r.source)) (sym (own ∙ ap (λ v. v.kind) is));
     }) more
   where

@@ -44,8 +44,8 @@ pub struct BorrowedRow<'a> {
 }
 
 /// Returns the ACEs of a list's normal form that have a right, in the order of the normal form (this library's own,
-/// over RFC 8881, section 6.2.1). If `right` has several rights, the table is that of the lowest one; if it has none, the
-/// table is empty. Fails if memory runs out.
+/// over RFC 8881, section 6.2.1). If `right` has several rights, the table is that of the lowest one; if it has none,
+/// the table is empty. Fails if memory runs out.
 ///
 /// ```rust
 /// let list = parse_text(alloc, b"DENY - WRITE_DATA bob\nALLOW - READ_DATA|WRITE_DATA OWNER@\n")?;

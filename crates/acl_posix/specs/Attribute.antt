@@ -1,7 +1,7 @@
 -- The bytes of the extended attributes `system.posix_acl_access` and `system.posix_acl_default` of Linux
 -- (include/uapi/linux/posix_acl_xattr.h and posix_acl.h, version 2), and which of them are an ACL (posix_acl_from_xattr
--- and posix_acl_valid of fs/posix_acl.c). That a user or group occurs once, as acl(5), "VALID ACLs", says, is not judged
--- by the kernel; the order of the faults, and that places count from 0, are this library's own.
+-- and posix_acl_valid of fs/posix_acl.c). The kernel does not judge that a user or group occurs once, as acl(5), "VALID
+-- ACLs", says. The order of the faults, and that places count from 0, are this library's own.
 use Rattle.std.specs.Prelude.{ℕ, ◌≡◌, ◌<◌, ◌-◌, ◌+◌, ◌/◌, ◌%◌, ◌++◌, ◌⊎◌, List, [], length, drop, map, Option, Some, None, nat_lt, not, ◌==◌, if◌then◌else◌}
 use Rattle.std.specs.List.{flat_map}
 use Rattle.std.specs.Simd.{first_chunks}
@@ -39,8 +39,8 @@ tag_code (group id) = 0x08
 tag_code mask = 0x10
 tag_code other = 0x20
 
--- the bytes of an entry, the lowest byte of each number first: the code of the tag type in two bytes, the permissions in
--- two, and the id in four, which is ACL_UNDEFINED_ID if there is no qualifier
+-- the bytes of an entry, the lowest byte of each number first: the code of the tag type in two bytes, the permissions
+-- in two, and the id in four, which is ACL_UNDEFINED_ID if there is no qualifier
 unfoldable pub entry_bytes : Tag × ℕ → List ℕ
 entry_bytes entry =
     little_bytes 2 (tag_code entry.0) ++ (little_bytes 2 entry.1 ++ little_bytes 4 (raw_of entry).id)

@@ -23,7 +23,11 @@ undefined_id = 4294967295
 
 -- the numbers of an entry; the id of an entry without a qualifier is undefined
 abbrev pub raw_of : Tag × ℕ → RawEntry
-raw_of entry = record { tag = raw_tag_number entry.0; id = unwrap_or (tag_row entry.0).qualifier undefined_id; perm = entry.1 }
+raw_of entry = record {
+  tag = raw_tag_number entry.0;
+  id = unwrap_or (tag_row entry.0).qualifier undefined_id;
+  perm = entry.1;
+}
 
 -- the tag with a number and a qualifier
 abbrev pub numbered_tag : ℕ → ℕ → Tag

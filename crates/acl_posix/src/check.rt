@@ -44,7 +44,8 @@ pub(crate) trait AccessCheck: EntrySet {
     /// request.
     #[tactic(auto, using(crate::proofs::sorted::Groups::contains_empty))]
     fn any_matches<G: GroupNumber>(&self, owning_group: Id, groups: &[G]) -> bool
-        ensures { result ≡ any_matches (Self.entries self.now) owning_group.value (map G.number groups.now) }
+        ensures { result ≡ any_matches (Self.entries self.now) owning_group.value
+            (map G.number groups.now) }
     {
         self.any_contains(owning_group, groups, Perm::NONE)
     }
@@ -64,14 +65,16 @@ pub(crate) trait AccessCheck: EntrySet {
 
     /// Returns whether one matching entry contains all that is requested. It searches for each group of the requester.
     fn any_contains<G: GroupNumber>(&self, owning_group: Id, groups: &[G], request: Perm) -> bool
-        ensures { result ≡ any_contains (Self.entries self.now) owning_group.value (map G.number groups.now) request.bits }
+        ensures { result ≡ any_contains (Self.entries self.now) owning_group.value
+            (map G.number groups.now) request.bits }
     {
         groups.iter().any(|group| self.group_contains(owning_group, group.number(), request))
     }
 
     /// Returns whether an entry that matches by this group contains all that is requested.
     fn group_contains(&self, owning_group: Id, group: u32, request: Perm) -> bool
-        ensures { result ≡ group_contains (Self.entries self.now) owning_group.value request.bits group }
+        ensures { result ≡ group_contains (Self.entries self.now) owning_group.value request.bits
+            group }
     {
         (group == owning_group.value && self.entry_contains(Tag::GroupObj, request))
             || self.group_entry_contains(group, request)

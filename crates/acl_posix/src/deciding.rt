@@ -82,7 +82,8 @@ pub(crate) trait Deciding: AccessCheck {
     }
 
     fn decider_contains(&self, entry: Option<Tag>, want: Perm) -> bool
-        ensures { result ≡ decider_contains (Self.entries self.now) (option_map tag_of entry) want.bits }
+        ensures { result ≡ decider_contains (Self.entries self.now) (option_map tag_of entry)
+            want.bits }
     {
         match entry {
             Some(tag) => self.entry_contains(tag, want),

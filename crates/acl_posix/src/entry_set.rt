@@ -40,7 +40,8 @@ pub(crate) trait EntrySet {
 
     /// Returns the permissions of the group with a number, if it has an entry.
     fn get_group(&self, number: u32) -> Option<Perm>
-        ensures { option_map (λ perm. perm.bits) result ≡ set.get (entries self.now) (group number) }
+        ensures { option_map (λ perm. perm.bits) result
+            ≡ set.get (entries self.now) (group number) }
     {
         self.find(GROUP_RANK, number)
     }
@@ -60,7 +61,8 @@ pub(crate) trait EntrySet {
     fn place_of(&self, rank: u8, qualifier: u32) -> Option<usize>
         ensures found { (tag : AnyTag) → rank ≡ rank_of tag → qualifier ≡ qualifier_of tag
             → IsFoundAt (entries self.now) tag result }
-        ensures in_range { IfSome result (λ place. place < length (set.entries (entries self.now))) }
+        ensures in_range { IfSome result (λ place.
+            place < length (set.entries (entries self.now))) }
     {
         let mut low = 0;
         let mut high = self.count();

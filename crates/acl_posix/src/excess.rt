@@ -24,9 +24,12 @@ pub(crate) struct Reached {
 pub(crate) trait Excess: GroupAnswers {
     /// Returns a requester and an object for which this set grants a request that another denies.
     fn difference(&self, second: &Self) -> Option<PosixDifference>
-        ensures none { IsNone result → GrantsNothingMore (Self.entries self.now) (Self.entries second.now) }
-        ensures some { IfSome result (IsPosixExcess (Self.entries self.now) (Self.entries second.now)) }
-        ensures lowest { IfSome result (IsLowestRequest (Self.entries self.now) (Self.entries second.now)) }
+        ensures none { IsNone result → GrantsNothingMore (Self.entries self.now)
+            (Self.entries second.now) }
+        ensures some { IfSome result (IsPosixExcess (Self.entries self.now)
+            (Self.entries second.now)) }
+        ensures lowest { IfSome result (IsLowestRequest (Self.entries self.now)
+            (Self.entries second.now)) }
     {
         let user = self.free_user(second);
         let group = self.free_group(second);
@@ -47,11 +50,14 @@ pub(crate) trait Excess: GroupAnswers {
         group: Option<Id>,
         request: Perm,
     ) -> Option<PosixDifference>
-        requires user { IsFreeId (either_names (Self.entries self.now) (Self.entries second.now)) user }
-        requires group { IsFreeId (either_lists (Self.entries self.now) (Self.entries second.now)) group }
+        requires user { IsFreeId (either_names (Self.entries self.now) (Self.entries second.now))
+            user }
+        requires group { IsFreeId (either_lists (Self.entries self.now) (Self.entries second.now))
+            group }
         ensures none { IsNone result
             → GrantsNothingMoreOf (Self.entries self.now) (Self.entries second.now) request.bits }
-        ensures some { IfSome result (IsExcessOf (Self.entries self.now) (Self.entries second.now) request.bits) }
+        ensures some { IfSome result (IsExcessOf (Self.entries self.now) (Self.entries second.now)
+            request.bits) }
     {
         if self.entry_contains(Tag::UserObj, request)
             && !second.entry_contains(Tag::UserObj, request)
@@ -74,7 +80,8 @@ pub(crate) trait Excess: GroupAnswers {
         requires { IsFreeId (either_names (Self.entries self.now) (Self.entries second.now)) user }
         ensures none { IsNone result → (group : ℕ) → IsId group
             → NoUserExcess (Self.entries self.now) (Self.entries second.now) group request.bits }
-        ensures some { IfSome result (IsExcessOf (Self.entries self.now) (Self.entries second.now) request.bits) }
+        ensures some { IfSome result (IsExcessOf (Self.entries self.now) (Self.entries second.now)
+            request.bits) }
     {
         for value in 0..u32::MAX {
             let group = Id { value };
@@ -88,7 +95,8 @@ pub(crate) trait Excess: GroupAnswers {
     /// Returns a difference for one request to a user who is not the owner, with one owning group.
     fn excess_at(&self, second: &Self, user: Option<Id>, asked: Asked) -> Option<PosixDifference>
         requires { IsFreeId (either_names (Self.entries self.now) (Self.entries second.now)) user }
-        ensures none { IsNone result → NoUserExcess (Self.entries self.now) (Self.entries second.now)
+        ensures none { IsNone result → NoUserExcess (Self.entries self.now)
+            (Self.entries second.now)
             asked.group.value asked.request.bits }
         ensures some { IfSome result
             (IsExcessOf (Self.entries self.now) (Self.entries second.now) asked.request.bits) }
@@ -119,10 +127,14 @@ pub(crate) trait Excess: GroupAnswers {
         asked: Asked,
         reached: Reached,
     ) -> Option<PosixDifference>
-        requires names { NamesUsers (Self.entries self.now) (Self.entries first.now) (Self.entries second.now) }
-        requires granted { Reaches (Self.entries first.now) asked.group.value asked.request.bits true reached.granted }
-        requires denied { Reaches (Self.entries second.now) asked.group.value asked.request.bits false reached.denied }
-        ensures none { IsNone result → (id : ℕ) → set.contains_key (Self.entries self.now) (user_tag id) ≡ true
+        requires names { NamesUsers (Self.entries self.now) (Self.entries first.now)
+            (Self.entries second.now) }
+        requires granted { Reaches (Self.entries first.now) asked.group.value asked.request.bits
+            true reached.granted }
+        requires denied { Reaches (Self.entries second.now) asked.group.value asked.request.bits
+            false reached.denied }
+        ensures none { IsNone result → (id : ℕ)
+            → set.contains_key (Self.entries self.now) (user_tag id) ≡ true
             → NoExcessAt (Self.entries first.now) (Self.entries second.now) asked.group.value asked.request.bits id }
         ensures some { IfSome result
             (IsExcessOf (Self.entries first.now) (Self.entries second.now) asked.request.bits) }
@@ -146,12 +158,16 @@ pub(crate) trait Excess: GroupAnswers {
         reached: Reached,
         user: Id,
     ) -> Option<FewGroups>
-        requires named { either_names (Self.entries self.now) (Self.entries second.now) user.value ≡ true }
-        requires granted { Reaches (Self.entries self.now) asked.group.value asked.request.bits true reached.granted }
-        requires denied { Reaches (Self.entries second.now) asked.group.value asked.request.bits false reached.denied }
+        requires named { either_names (Self.entries self.now) (Self.entries second.now) user.value
+            ≡ true }
+        requires granted { Reaches (Self.entries self.now) asked.group.value asked.request.bits
+            true reached.granted }
+        requires denied { Reaches (Self.entries second.now) asked.group.value asked.request.bits
+            false reached.denied }
         ensures none { IsNone result → NoExcessAt (Self.entries self.now) (Self.entries second.now)
             asked.group.value asked.request.bits user.value }
-        ensures some { IfSome result (λ few. IsUserExcess (Self.entries self.now) (Self.entries second.now)
+        ensures some { IfSome result (λ few.
+            IsUserExcess (Self.entries self.now) (Self.entries second.now)
             asked.group.value asked.request.bits user.value (group_numbers few)) }
     {
         match (

@@ -24,7 +24,8 @@ pub(crate) trait GroupAnswers: AccessCheck {
     /// Returns the answer of the entries that match by one group, if some entry does.
     #[tactic(auto, unfolding(crate::specs::internal::GroupAnswers::group_answer))]
     fn group_answer(&self, asked: Asked, group: Id) -> Option<bool>
-        ensures { result ≡ group_answer (Self.entries self.now) asked.group.value asked.request.bits group.value }
+        ensures { result ≡ group_answer (Self.entries self.now) asked.group.value
+            asked.request.bits group.value }
     {
         if !self.group_contains(asked.group, group.value, Perm::NONE) {
             return None;
@@ -88,9 +89,11 @@ pub(crate) trait GroupAnswers: AccessCheck {
 
     /// Returns a group that some entry of this set matches, and to which this set and another give these answers.
     fn group_with(&self, two: &Self, asked: Asked, own: bool, others: Option<bool>) -> Option<Id>
-        ensures some { IfSome result (λ id. HasAnswers (Self.entries self.now) (Self.entries two.now)
+        ensures some { IfSome result (λ id.
+            HasAnswers (Self.entries self.now) (Self.entries two.now)
             asked.group.value asked.request.bits own others id.value) }
-        ensures none { IsNone result → (id : ℕ) → HasAnswers (Self.entries self.now) (Self.entries two.now)
+        ensures none { IsNone result → (id : ℕ)
+            → HasAnswers (Self.entries self.now) (Self.entries two.now)
             asked.group.value asked.request.bits own others id → ⊥ }
     {
         if self.has_answers(two, asked, own, others, asked.group) {
@@ -108,7 +111,8 @@ pub(crate) trait GroupAnswers: AccessCheck {
 
     /// Returns groups with which this set gives this answer.
     fn groups_with(&self, asked: Asked, answer: bool) -> Option<FewGroups>
-        ensures { Reaches (Self.entries self.now) asked.group.value asked.request.bits answer result }
+        ensures { Reaches (Self.entries self.now) asked.group.value asked.request.bits answer
+            result }
     {
         if self.entry_contains(Tag::Other, asked.request) == answer {
             return Some(FewGroups::None);
@@ -122,7 +126,8 @@ pub(crate) trait GroupAnswers: AccessCheck {
     /// Returns groups with which this set grants what another denies. At most two groups are needed: one that makes
     /// this set grant, and one whose entry in the other set denies.
     fn group_excess(&self, second: &Self, asked: Asked) -> Option<FewGroups>
-        ensures some { IfSome result (λ few. IsGroupExcess (Self.entries self.now) (Self.entries second.now)
+        ensures some { IfSome result (λ few.
+            IsGroupExcess (Self.entries self.now) (Self.entries second.now)
             asked.group.value asked.request.bits (group_numbers few)) }
         ensures none { IsNone result → (groups : List ℕ) → IsGroupExcess (Self.entries self.now)
             (Self.entries second.now) asked.group.value asked.request.bits groups → ⊥ }

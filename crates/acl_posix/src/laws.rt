@@ -33,9 +33,9 @@ pub fn mask_stays()
     ensures { MaskStays }
 {}
 
-/// An ACL grants nothing more than itself. If it grants nothing more than a second ACL, and the second nothing more than
-/// a third, then it grants nothing more than the third. Neither of two ACLs grants more than the other if and only if
-/// they answer every request alike.
+/// An ACL grants nothing more than itself. If it grants nothing more than a second ACL, and the second nothing more
+/// than a third, then it grants nothing more than the third. Neither of two ACLs grants more than the other if and only
+/// if they answer every request alike.
 pub fn nothing_more_is_an_order()
     ensures itself { (a : Entries) → GrantsNothingMore a a }
     ensures chain { (a b c : Entries) → GrantsNothingMore a b → GrantsNothingMore b c

@@ -38,10 +38,10 @@ pub fn parse(alloc: Global, text: &[u8], names: &Names) -> Result<PosixFile, Tex
     ensures refused { (wrong : FaultValue) → IsTextFault text.now names.now wrong
         → IsTextRefusedWith result wrong }
 {
-    read_file(alloc, text, names)
+    parsed(alloc, text, names)
 }
 
-fn read_file(alloc: Global, text: &[u8], names: &Names) -> Result<PosixFile, TextFault>
+fn parsed(alloc: Global, text: &[u8], names: &Names) -> Result<PosixFile, TextFault>
     ensures found { IfOk result (Reads text.now names.now) }
     ensures fault { IfErr result (IsTextFaultOrMemory text.now names.now) }
 {

@@ -26,5 +26,6 @@ fn worked_lists<A: Abort>(rt: &A, memory: Memory) {
     changes::tables(rt, memory);
     checks::requests(rt, memory);
     creation::new_files(rt, memory);
-    excess::differences(rt, memory);
+    excess::differences_of_users(rt, memory);
+    excess::differences_of_groups(rt, memory);
 }

@@ -165,7 +165,8 @@ lacking_begins profile (suc todo) n list t e b =
 from_kind : (profile : Profile) (n : ℕ) (list : List Ace) (t : List ℕ) → Border profile (at_kind n list) t
     → BeginsSpelling profile t
 from_kind profile n list t b =
-    let h = begun_before_ace profile n list t b in lacking_begins profile (n - length list) n list t (omega (arith, h.fewer)) b
+    let h = begun_before_ace profile n list t b in
+    lacking_begins profile (n - length list) n list t (omega (arith, h.fewer)) b
 
 -- a text up to the padding of an ACE begins a spelling
 from_padding : (profile : Profile) (n : ℕ) (list : List Ace) (k : Kind) (f m : ℕ) (w t : List ℕ)

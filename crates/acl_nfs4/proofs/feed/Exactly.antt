@@ -127,7 +127,8 @@ one_answer p s piece a b x y ok h g =
     ]
 
 -- a feed that no piece changes is unchanged after many pieces
-same_after_each : (s : StreamState) → ((piece : List ℕ) (answer : Fed) (now : StreamState) → Feeds s piece answer now → now ≡ s)
+same_after_each : (s : StreamState)
+    → ((piece : List ℕ) (answer : Fed) (now : StreamState) → Feeds s piece answer now → now ≡ s)
     → (pieces : List (List ℕ)) (answers : List Fed) (new : StreamState) → FeedsEach s pieces answers new → new ≡ s
 same_after_each s stays [] [] new h = h
 same_after_each s stays [] (a ∷ answers) new h = absurd h

@@ -44,7 +44,8 @@ joins p s x y (fed.Done t) new h =
 joins p s x y (fed.Refused f) new h = (h.0, subst (λ (t : List ℕ). RefusesStream p t f) (append_assoc s x y) h.1)
 
 -- the answer to a chunk, counted from the bytes that were taken before it, is the answer to both together
-joins_taken : (old now new : StreamState) (front chunk : List ℕ) (a : Fed) → HasTaken old front now → Feeds now chunk a new
+joins_taken : (old now new : StreamState) (front chunk : List ℕ) (a : Fed) → HasTaken old front now
+    → Feeds now chunk a new
     → Feeds old (front ++ chunk) (further (length front) a) new
 joins_taken (more p s) now new front chunk a h f =
     joins p s front chunk a new (subst (λ (n : StreamState). Feeds n chunk a new) h f)
@@ -100,7 +101,8 @@ end_chunk old now new piece {rest = rest} {chunk = chunk} {back = back} taken n 
     (subst (λ (x : List ℕ). Feeds now x a new) both (unchanged_by_more now new chunk back a ends f))
 
 -- after one more part that is answered with More, the feed has taken the piece up to the end of that part
-pub more_piece : (old now new : StreamState) (piece : List ℕ) {rest chunk : List ℕ} (taken n : ℕ) → rest ≡ drop taken piece
+pub more_piece : (old now new : StreamState) (piece : List ℕ) {rest chunk : List ℕ} (taken n : ℕ)
+    → rest ≡ drop taken piece
     → chunk ≡ take n rest → HasTaken old (take taken piece) now → Feeds now chunk fed.More new
     → HasTaken old (take (taken + n) piece) new
 more_piece old now new piece {chunk = chunk} taken n re ce h f =

@@ -32,7 +32,8 @@ pub record Scans (p : Profile) (body : List ℕ) (from : Progress) (a : Ace) (q 
       (record { seen = from.seen + 1; used = length body - length q.rest; weight = from.weight + count_ones a.mask })
 
 -- a body is judged one ACE further if the next ACE is accepted
-pub scans_one_more : (p : Profile) (body : List ℕ) (from : Progress) (a : Ace) (here q : Place) → IsProfile p → IsBytes body
+pub scans_one_more : (p : Profile) (body : List ℕ) (from : Progress) (a : Ace) (here q : Place) → IsProfile p
+    → IsBytes body
     → IsScanned p body from → here ≡ behind_scanned body from → ace_at p from.weight here ≡ Ok (a, q)
     → Scans p body from a q
 scans_one_more p body from a here q ok fits s at e =

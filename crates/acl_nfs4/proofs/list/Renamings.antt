@@ -1,5 +1,5 @@
 -- Names that are exchanged by a table, and names that become one.
-use Rattle.acl_nfs4.proofs.Common.{[], Ace, AllByRecursion, and_true, ap, append_assoc, arith, Bool, bytes_eq, bytes_eq_same, cond, count_ones, drop, drop_all, false, full, get_or, get_or_default, IsAccepted, IsAce, IsWho, length, length-append, length-map, length-take, List, map, None, not, Option, option_map, option_map_or, refl, same_Some, Some, subst, suc, sym, take, take_all, true, weight, who_fault, ℕ, ◌&&◌, ◌++◌, ◌+◌, ◌<◌, ◌∙◌, ◌∷◌, ◌≡◌, ◌≤◌}
+use Rattle.acl_nfs4.proofs.Common.{[], Ace, AllByRecursion, and_true, ap, append_assoc, arith, Bool, bytes_eq, bytes_eq_same, cond, count_ones, drop, false, full, get_or, get_or_default, IsAccepted, IsAce, IsWho, length, length-append, length-map, List, map, None, not, Option, option_map, option_map_or, refl, same_Some, Some, subst, suc, sym, take, true, weight, who_fault, ℕ, ◌&&◌, ◌++◌, ◌+◌, ◌<◌, ◌∙◌, ◌∷◌, ◌≡◌}
 use Rattle.std.specs.BTreeMap.{BTreeMap, get_by, UpdatesBy}
 use Rattle.std.specs.Cmp.Lexicographic.{slice_cmp}
 use Rattle.std.specs.List.{list_any}
@@ -126,11 +126,6 @@ rows_to table place x lt is =
     ∙ map-append row_of (take place table) (get_or table place x ∷ [])
     ∙ ap (λ (y : Renaming). rows (take place table) ++ row_of y ∷ []) (sym is)
 
--- no row was read
-pub reading_starts : (names : Names) (table : List Renaming) → ((g : Bool) (q : List ℕ) → names g q ≡ None)
-    → IsReading names 0 table
-reading_starts names table none = record { known = none; judged = refl }
-
 -- one more row was read
 pub reading_more : (names after : Names) (place : ℕ) (table : List Renaming) (x : Renaming) → place < length table
     → IsReading names place table → is_good_row names (row_of (get_or table place x)) ≡ true
@@ -152,32 +147,6 @@ reading_more names after place table d lt s good put =
           (Some (length before))) fine)
           ∙ sym (ap (bad_row_after before) (rows_from table place x lt is)) ∙ s.judged;
     }
-
--- the next row is not good
-pub reading_stops : (names : Names) (place : ℕ) (table : List Renaming) (x : Renaming) → place < length table
-    → IsReading names place table → is_good_row names (row_of (get_or table place x)) ≡ false
-    → bad_row (rows table) ≡ Some place
-reading_stops names place table d lt s bad =
-    let x : Renaming = get_or table place d in
-    let is : x ≡ get_or table place x = get_or_default table place d x lt in
-    let before : List NameRow = rows (take place table) in
-    let r : NameRow = row_of x in
-    let wrong : is_good_row (new_name before) r ≡ false = sym (good_same names (new_name before) r s.known) ∙ bad in
-    let len : length before ≡ place = length-map (take place table) row_of
-    ∙ omega (arith, lt, length-take place table) in
-    sym s.judged ∙ ap (bad_row_after before) (rows_from table place x lt is)
-    ∙ ap (λ (t : Bool). cond t (bad_row_after (before ++ r ∷ []) (rows (drop (place + 1) table)))
-    (Some (length before))) wrong
-    ∙ ap (λ (k : ℕ). Some k) len
-
--- all rows were read
-pub reading_ends : (names : Names) (place : ℕ) (table : List Renaming) → length table ≤ place
-    → IsReading names place table
-    → (bad_row (rows table) ≡ None) × ((g : Bool) (q : List ℕ) → names g q ≡ new_name (rows table) g q)
-reading_ends names place table le s = (
-  sym s.judged ∙ ap (λ (t : List Renaming). bad_row_after (rows (take place table)) (rows t)) (drop_all place table le),
-  λ g q. s.known g q ∙ ap (λ (t : List Renaming). new_name (rows t) g q) (take_all place table le),
-)
 
 -- ---- names that become one
 
@@ -335,23 +304,6 @@ pub record IsJudging (names olds : Names) (place : ℕ) (rest whole : List Ace) 
   pub judged : merge_after names before rest ≡ first_merge names whole
   pub counted : place ≡ length before
 
--- no name was judged
-pub judging_starts : (names olds : Names) (whole : List Ace) → ((g : Bool) (q : List ℕ) → olds g q ≡ None)
-    → IsJudging names olds 0 whole whole
-judging_starts names olds whole none = record {
-  before = [];
-  noted = record { each = tt; known = λ g q w e. let some : None ≡ Some w = sym (none g q) ∙ e in absurd cc };
-  parts = refl;
-  judged = refl;
-  counted = refl;
-}
-
--- fewer names were judged than the list has
-pub judging_few : (names olds : Names) (place : ℕ) (rest whole others : List Ace) (a : Ace)
-    → IsJudging names olds place rest whole → rest ≡ a ∷ others → place < length whole
-judging_few names olds place rest whole others a s e =
-    omega (arith, s.counted, ap length s.parts, length-append s.before rest, ap length e)
-
 -- one more name was judged
 pub judging_more : (names olds after : Names) (place : ℕ) (rest whole others : List Ace) (a : Ace)
     → IsJudging names olds place rest whole → rest ≡ a ∷ others
@@ -374,11 +326,6 @@ pub judging_stops : (names olds : Names) (place : ℕ) (rest whole others : List
 judging_stops names olds place rest whole others a s e h = sym s.judged ∙ ap (merge_after names s.before) e
     ∙ ap (λ (t : Bool). cond t (Some (length s.before)) (merge_after names (s.before ++ a ∷ []) others))
     (found_merge names olds s.before a s.noted h) ∙ ap (λ (k : ℕ). Some k) (sym s.counted)
-
--- all names were judged
-pub judging_ends : (names olds : Names) (place : ℕ) (rest whole : List Ace) → IsJudging names olds place rest whole
-    → rest ≡ [] → first_merge names whole ≡ None
-judging_ends names olds place rest whole s e = sym s.judged ∙ ap (merge_after names s.before) e
 
 -- ---- the list with new names
 
@@ -496,7 +443,8 @@ pub put_user : (m : NameMap) (after : BTreeMap (Bor (List ℕ)) (Bor (List ℕ))
     (value : Bor (List ℕ)) → is_group ≡ false
     → UpdatesBy (λ x y. slice_cmp nat_cmp x.now y.now) (λ k. slice_cmp nat_cmp name k.now) m.users after (Some value)
     → (g : Bool) (q : List ℕ)
-    → name_for (record { users = after; groups = m.groups }) g q ≡ with_new_name (name_for m) is_group name value.now g q
+    → name_for (record { users = after; groups = m.groups }) g q
+    ≡ with_new_name (name_for m) is_group name value.now g q
 put_user m after is_group name value e u false q = half_put m.users after name value u q
     ∙ sym (ap (λ (k : Bool). cond (same_sort k false && bytes_eq name q) (Some value.now) (name_for m false q)) e)
 put_user m after is_group name value e u true q =
@@ -552,7 +500,8 @@ exchange_accepted table list aces names good same e ok =
     (renamed_accepted table aces good (subst (IsAccepted full) (sym e) ok))
 
 -- the list with the names of the map is that of the table
-pub exchange_is : (table : List NameRow) (list aces made : List Ace) (names : Names) → names ≡ new_name table → aces ≡ list
+pub exchange_is : (table : List NameRow) (list aces made : List Ace) (names : Names) → names ≡ new_name table
+    → aces ≡ list
     → made ≡ map (ace_by names) aces → made ≡ renamed table list
 exchange_is table list aces made names same e is =
     is ∙ ap (λ (n : Names). map (ace_by n) aces) same ∙ ap (map (ace_by (new_name table))) e

@@ -156,7 +156,8 @@ kind_read Allow = refl
 kind_read Deny = refl
 
 -- if no value fits a field, it is missing
-none_if_unfit : {A : Type 0} (Says : Option A → Type 0) (o : Option A) → Says o → ((x : A) → Says (Some x) → ⊥) → o ≡ None
+none_if_unfit : {A : Type 0} (Says : Option A → Type 0) (o : Option A) → Says o → ((x : A) → Says (Some x) → ⊥)
+    → o ≡ None
 none_if_unfit Says None says none = refl
 none_if_unfit Says (Some x) says none = absurd (none x says)
 

@@ -49,10 +49,12 @@ no_feed_in a h =
 
 -- a body is not skipped
 body_not_skipped : (a : Ace) → is_skipped (body a) ≡ false
-body_not_skipped a = by_kind a.kind (0x20 ∷ (set_text flag_names a.flags ++ 0x20 ∷ (set_text rights a.mask ++ 0x20 ∷ a.who))) where
-  by_kind : (kind : Kind) (rest : List ℕ) → is_skipped (kind_name kind ++ rest) ≡ false
-  by_kind Allow rest = refl
-  by_kind Deny rest = refl
+body_not_skipped a =
+    by_kind a.kind (0x20 ∷ (set_text flag_names a.flags ++ 0x20 ∷ (set_text rights a.mask ++ 0x20 ∷ a.who)))
+  where
+    by_kind : (kind : Kind) (rest : List ℕ) → is_skipped (kind_name kind ++ rest) ≡ false
+    by_kind Allow rest = refl
+    by_kind Deny rest = refl
 
 -- a body spells its ACE
 spells_line : (p : Profile) (a : Ace) → IsProfile p → IsAce p a → SpellsAce (body a) a
@@ -88,7 +90,8 @@ spelled_from : (p : Profile) (number : ℕ) (list : List Ace) → IsProfile p �
     → SpellEach (ace_lines_from number (lines_of (ace_text list))) list
 spelled_from p number [] is each = tt
 spelled_from p number (a ∷ list) is each =
-    rw (lines_next p a list each.0, body_not_skipped a) (spells_line p a is each.0, spelled_from p (number + 1) list is each.1)
+    rw (lines_next p a list each.0, body_not_skipped a)
+    (spells_line p a is each.0, spelled_from p (number + 1) list is each.1)
 
 -- the written text spells the list
 pub text_again : (p : Profile) (list : List Ace) → IsProfile p → IsAccepted p list → IsAceText p list (ace_text list)

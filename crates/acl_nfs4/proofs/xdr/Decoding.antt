@@ -20,14 +20,16 @@ of_input p given left f (inr (inr (inr l))) = inr (fault_stays p given left f.of
 is_only : (p : Profile) (list : List Ace) (text rest given left : List ℕ) (result : Result (List Ace) Fault)
     → IsProfile p → Xdr p list text → text ++ rest ≡ given ++ left → Decodes p given (left ≡ []) result
     → IsOrFails result list
-is_only p list text rest given left (Ok found) ok x e d = sym (one_spelling p list found text given rest left ok x d e).0
+is_only p list text rest given left (Ok found) ok x e d =
+    sym (one_spelling p list found text given rest left ok x d e).0
 is_only p list text rest given left (Err f) ok x e d = elim (of_input p given left f d) [
   | inl fails ↦ fails
   | inr g ↦ absurd (value_or_fault p (given ++ left) list text rest f.offset f.reason ok x (sym e) g)
 ]
 
 -- if the input begins with a list, the answer is that list or a fault of the device or of memory
-pub only_that_list : (p : Profile) (old new : Option (List ℕ)) (given : List ℕ) (result : Result (List Ace) Fault) → IsProfile p
+pub only_that_list : (p : Profile) (old new : Option (List ℕ)) (given : List ℕ) (result : Result (List Ace) Fault)
+    → IsProfile p
     → Consumes old new given → Decodes p given (IsAtEnd new) result
     → (list : List Ace) (text rest : List ℕ) → Xdr p list text → old ≡ Some (text ++ rest) → IsOrFails result list
 only_that_list p None new given result ok c d list text rest x e = absurd cc
@@ -46,7 +48,8 @@ is_refused p given left (Err g) o r ok d f = elim (of_input p given left g d) [
 ]
 
 -- if the input has a fault, the answer is that fault or one of the device or of memory
-pub refused_with_that_fault : (p : Profile) (old new : Option (List ℕ)) (given : List ℕ) (result : Result (List Ace) Fault)
+pub refused_with_that_fault : (p : Profile) (old new : Option (List ℕ)) (given : List ℕ)
+    (result : Result (List Ace) Fault)
     → IsProfile p → Consumes old new given → Decodes p given (IsAtEnd new) result
     → (input : List ℕ) (o : ℕ) (r : Reason) → old ≡ Some input → IsFault p input o r
     → FaultsOrFails result (record { offset = o; reason = r })

@@ -71,7 +71,8 @@ first_at s front rest n parts border here owed some breaks ends = record {
 }
 
 -- if the next field fails, its fault is the fault of the text
-field_fault : {A : Type 0} (profile : Profile) (bytes t : List ℕ) (p : Place) (s : Stage) (value : List ℕ → Result A Reason)
+field_fault : {A : Type 0} (profile : Profile) (bytes t : List ℕ) (p : Place) (s : Stage)
+    (value : List ℕ → Result A Reason)
     (f : Fault) → Carried bytes t p → Border profile s t → IsOwed s
     → ((r : Reason) → refuses profile s (take (size s) p.rest) r → 0 < size s)
     → ((r : Reason) → value (take (size s) p.rest) ≡ Err r → refuses profile s (take (size s) p.rest) r)
@@ -153,7 +154,8 @@ tail_fails : (profile : Profile) (bytes : List ℕ) (n : ℕ) (list : List Ace) 
     (p : Place) (fault : Fault) → Carried bytes t p → Border profile (at_who n list k f m l) t → 1 ≤ l → l ≤ longest_who
     → from_who k f m l p ≡ Err fault → IsFault profile bytes fault.offset fault.reason
 tail_fails profile bytes n list k f m l t p fault c b some short e =
-    bind_fails (field l who_of p) _ fault e (λ h. field_fault profile bytes t p (at_who n list k f m l) who_of fault c b tt
+    bind_fails (field l who_of p) _ fault e
+    (λ h. field_fault profile bytes t p (at_who n list k f m l) who_of fault c b tt
     (λ r _. some) (λ r m. m) h) (λ w we wr.
     let (taken, is, len) = who_takes l p w c.fits we in
     let cw = Carried-then bytes t p w.0 w.1 c taken in
@@ -170,7 +172,8 @@ pub ace_fails : (profile : Profile) (bytes : List ℕ) (n : ℕ) (list : List Ac
     → ace_at profile (weight list) p ≡ Err fault → IsFault profile bytes fault.offset fault.reason
 unfolding ace_at
 ace_fails profile bytes n list t p fault c b lt e =
-    bind_fails (word_field kind_of p) _ fault e (λ h. field_fault profile bytes t p (at_kind n list) (λ x. kind_of (number x))
+    bind_fails (word_field kind_of p) _ fault e
+    (λ h. field_fault profile bytes t p (at_kind n list) (λ x. kind_of (number x))
     fault c b lt (λ r _. some_word r) (λ r m. m) h) (λ k ke kr.
     let ck = Carried-then bytes t p (word (kind_number k.0)) k.1 c (kind_takes p k c.fits ke) in
     let bk = typed n list k.0 t b lt in
@@ -181,7 +184,8 @@ ace_fails profile bytes n list t p fault c b lt e =
     let cf = Carried-then bytes _ k.1 (word f.0) f.1 ck flags_taken in
     let bf = flagged n list k.0 f.0 _ bk flags_within in
     bind_fails (word_field (mask_of profile (weight list)) f.1) _ fault fr
-    (λ h. field_fault profile bytes _ f.1 (at_mask n list k.0 f.0) (λ x. mask_of profile (weight list) (number x)) fault cf
+    (λ h. field_fault profile bytes _ f.1 (at_mask n list k.0 f.0) (λ x. mask_of profile (weight list) (number x))
+    fault cf
     bf tt (λ r _. some_word r) (λ r m. m) h) (λ m me mr.
     let (mask_taken, mask_within, light) = mask_takes profile (weight list) f.1 m cf.fits me in
     let cm = Carried-then bytes _ f.1 (word m.0) m.1 cf mask_taken in

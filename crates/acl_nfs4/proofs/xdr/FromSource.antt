@@ -52,7 +52,8 @@ placed_reason view offset (Ok x) value f placed gives = absurd cc
 placed_reason view offset (Err r) value f placed gives = (r, gives, cc)
 
 -- a field that its judge accepted has the value that the judge returned
-pub placed_value : {X A : Type 0} (view : X → A) (offset : ℕ) (judged : Result X Reason) (value : Result A Reason) (x : X)
+pub placed_value : {X A : Type 0} (view : X → A) (offset : ℕ) (judged : Result X Reason) (value : Result A Reason)
+    (x : X)
     → Placed offset judged (Ok x) → Gives view judged value → value ≡ Ok (view x)
 placed_value view offset (Ok y) value x placed gives = gives ∙ ap (λ (z : _). Ok (view z)) cc
 placed_value view offset (Err r) value x placed gives = absurd cc

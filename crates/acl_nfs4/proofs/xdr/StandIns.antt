@@ -1,5 +1,5 @@
 -- Groups that stand for unknown special identifiers: which names they have, and the list with them.
-use Rattle.acl_nfs4.proofs.Common.{[], Ace, ace, All, and_true, ap, append-nil, append_assoc, arith, Bool, bytes_eq, bytes_eq_same, cond, count_ones, drop, ends_in_at, false, get_or, is_no_who_len, is_plain, is_unknown_special, is_utf8, is_utf8-from_IsUtf8, IsUtf8, IsUtf8-from_is_utf8, IsWho, le-leb, le-ltb, length, length-append, length-map, length-take, List, list_all, longest_who, lt-ltb, ltb-true, map, most_aces, most_weight, nat_le, nat_lt, nat_tests, None, not, Option, refl, Some, subst, suc, sum_by-append, sym, take, take-append-drop, take_all, true, weight, zero, ℕ, ◌&&◌, ◌++◌, ◌+◌, ◌-◌, ◌<◌, ◌==◌, ◌∙◌, ◌∷◌, ◌≡◌, ◌≢◌, ◌≤◌}
+use Rattle.acl_nfs4.proofs.Common.{[], Ace, ace, ap, append-nil, append_assoc, arith, Bool, bytes_eq, bytes_eq_same, cond, count_ones, drop, ends_in_at, false, get_or, is_no_who_len, is_plain, is_unknown_special, is_utf8, is_utf8-from_IsUtf8, IsUtf8, IsUtf8-from_is_utf8, le-leb, le-ltb, length, length-append, length-map, List, list_all, longest_who, lt-ltb, ltb-true, map, most_aces, most_weight, nat_le, nat_lt, nat_tests, None, not, Option, refl, Some, subst, suc, sum_by-append, sym, take, take-append-drop, take_all, true, weight, zero, ℕ, ◌&&◌, ◌++◌, ◌+◌, ◌-◌, ◌<◌, ◌==◌, ◌∙◌, ◌∷◌, ◌≡◌, ◌≢◌, ◌≤◌}
 use Rattle.std.specs.Borrow.{Bor}
 use Rattle.std.specs.BTreeSet.{BTreeSet, insert_key}
 use Rattle.std.specs.Cmp.Lexicographic.{slice_cmp}
@@ -16,7 +16,6 @@ use Rattle.std.proofs.lemmas.List.Elements.{All-push}
 use Rattle.std.proofs.lemmas.List.Folds.{list_all-append, list_any_more}
 use Rattle.std.proofs.lemmas.Map.Lookups.{exact_bytes}
 use Rattle.std.proofs.lemmas.Map.Text.{is_eq-slice_cmp}
-use Rattle.std.proofs.lemmas.Slice.Eq.{bytes_eq-Decides}
 use Rattle.std.proofs.lemmas.Str.{IsUtf8-append, IsUtf8-past_char}
 use Rattle.acl_nfs4.specs.AccessPart.{IsAnyWho}
 use Rattle.acl_nfs4.specs.Renamed.{is_account}
@@ -27,7 +26,7 @@ use Rattle.acl_nfs4.specs.declared.who.WhoFault.TheVariants.{Control, Length, Sp
 use Rattle.acl_nfs4.specs.internal.PartReading.{CanBePart, has_name, HasUnknownNames, is_good_suffix, is_unknown_name}
 use Rattle.acl_nfs4.specs.internal.Reading.{text_fault}
 use Rattle.acl_nfs4.proofs.list.FromAces.{build_on}
-use Rattle.acl_nfs4.proofs.list.Renamings.{account_is_who, name_self}
+use Rattle.acl_nfs4.proofs.list.Renamings.{name_self}
 use Rattle.acl_nfs4.proofs.xdr.Faults.{weight-push}
 use Rattle.acl_nfs4.proofs.xdr.Lists.{weight-cons}
 
@@ -42,7 +41,8 @@ utf8_behind front back f whole = by f.0 (ap (λ (t : List ℕ). t ++ back) f.1.1
       where
         walk : (ds : List ℕ) → IsUtf8 (encode_utf8_all ds ++ back) → IsUtf8 back
         walk [] u = u
-        walk (d ∷ ds) u = walk ds (IsUtf8-past_char _ (encode_utf8_all ds ++ back) d u (append_assoc _ (encode_utf8_all ds) back))
+        walk (d ∷ ds) u = walk ds
+            (IsUtf8-past_char _ (encode_utf8_all ds ++ back) d u (append_assoc _ (encode_utf8_all ds) back))
 
 -- a text and more are UTF-8 if and only if what is behind is
 utf8_same : (front back : List ℕ) → is_utf8 front ≡ true → is_utf8 (front ++ back) ≡ is_utf8 back
@@ -99,7 +99,8 @@ some_byte n = grind (arith, nat_tests)
 -- there is room for it
 pub account_after : (name suffix : List ℕ) → IsAnyWho name → is_unknown_special name ≡ true
     → (nat_le (length suffix) (longest_who - length name) && is_good_suffix suffix) ≡ is_account (name ++ suffix)
-account_after name [] is unknown = and_none (nat_le 0 (longest_who - length name)) ∙ sym (ap is_account (append-nil name)
+account_after name [] is unknown = and_none (nat_le 0 (longest_who - length name))
+    ∙ sym (ap is_account (append-nil name)
     ∙ rw (is.long, is.utf8, is.plain, unknown) refl)
   where
     and_none : (b : Bool) → (b && false) ≡ false
@@ -192,16 +193,14 @@ name_inserted old new name is who =
 -- a test of some of one more ACE
 any_more : (p : AceRef → Bool) (es : List AceRef) (i : ℕ) (item : AceRef) → i < length es → item ≡ get_or es i item
     → list_any p (take (i + 1) es) ≡ (list_any p (take i es) || p item)
-any_more p es i item lt read = list_any_more p es i item lt ∙ ap (λ (x : AceRef). list_any p (take i es) || p x) (sym read)
-
--- no set has the name of no ACE
-pub names_none : (names : BTreeSet (Bor (List ℕ))) → names.keys ≡ [] → HasUnknownNames names []
-names_none names e who = ap (list_any (λ k. is_eq (slice_cmp nat_cmp who k.now))) e
+any_more p es i item lt read = list_any_more p es i item lt
+    ∙ ap (λ (x : AceRef). list_any p (take i es) || p x) (sym read)
 
 -- the names with that of one more ACE
 pub names_more : (old new : BTreeSet (Bor (List ℕ))) (es : List AceRef) (i : ℕ) (item : AceRef) → i < length es
     → item ≡ get_or es i item → is_unknown_special item.who.now ≡ true → HasUnknownNames old (take i es)
-    → new.keys ≡ insert_key (λ x y. slice_cmp nat_cmp x.now y.now) old.keys item.who → HasUnknownNames new (take (i + 1) es)
+    → new.keys ≡ insert_key (λ x y. slice_cmp nat_cmp x.now y.now) old.keys item.who
+    → HasUnknownNames new (take (i + 1) es)
 names_more old new es i item lt read unknown has is who = name_inserted old new item.who is who
     ∙ ap (λ (t : Bool). t || bytes_eq who item.who.now) (has who)
     ∙ ap (λ (t : Bool). list_any (λ a. is_unknown_name who (ace a)) (take i es) || (t && bytes_eq who item.who.now))
@@ -239,7 +238,8 @@ with_suffix who front suffix = by (bytes_eq front who) (bytes_eq (who ++ suffix)
 
 -- the set has what is before the suffix if and only if the name is an unknown special identifier with the suffix
 pub stands_in : (names : BTreeSet (Bor (List ℕ))) (list : List AceRef) (name suffix front : List ℕ)
-    → name ≡ front ++ suffix → HasUnknownNames names list → has_name names front ≡ is_stand_in suffix (map ace list) name
+    → name ≡ front ++ suffix → HasUnknownNames names list
+    → has_name names front ≡ is_stand_in suffix (map ace list) name
 stands_in names list name suffix front e has = has front ∙ each list
     ∙ ap (is_stand_in suffix (map ace list)) (sym e)
   where
@@ -282,7 +282,8 @@ places_map p (x ∷ es) = ap (λ (n : ℕ). cond (not (p (ace x))) (1 + n) 0) (p
 -- the same of the place that is found
 pub place_map : (p : Ace → Bool) (es : List AceRef) → position (λ a. p (ace a)) es ≡ position p (map ace es)
 place_map p es = sym (ap (λ (k : ℕ). cond (nat_lt k (length (map ace es))) (Some k) None) (places_map p es)
-    ∙ ap (λ (n : ℕ). cond (nat_lt (position_or_len (λ a. p (ace a)) es) n) (Some (position_or_len (λ a. p (ace a)) es)) None)
+    ∙ ap (λ (n : ℕ). cond (nat_lt (position_or_len (λ a. p (ace a)) es) n) (Some (position_or_len (λ a. p (ace a)) es))
+    None)
     (length-map es ace))
 
 -- if no element passes, the first does not, and none of the others does
@@ -333,7 +334,8 @@ len_none p (x ∷ xs) none =
     rw (both.0, len_none p xs both.1) (omega arith)
 
 -- the place of the first ACE that passes
-pub place_is : (p : Ace → Bool) (es : List AceRef) (i : ℕ) (item : AceRef) → list_any (λ a. p (ace a)) (take i es) ≡ false
+pub place_is : (p : Ace → Bool) (es : List AceRef) (i : ℕ) (item : AceRef)
+    → list_any (λ a. p (ace a)) (take i es) ≡ false
     → i < length es → item ≡ get_or es i item → p (ace item) ≡ true → Some i ≡ position p (map ace es)
 place_is p es i item before lt read e =
     let found : position_or_len (λ a. p (ace a)) es ≡ i =
@@ -354,7 +356,8 @@ place_none p es i none le =
     sym is ∙ place_map p es
 
 -- no ACE passes up to the next place
-pub none_more : (p : Ace → Bool) (es : List AceRef) (i : ℕ) (item : AceRef) → list_any (λ a. p (ace a)) (take i es) ≡ false
+pub none_more : (p : Ace → Bool) (es : List AceRef) (i : ℕ) (item : AceRef)
+    → list_any (λ a. p (ace a)) (take i es) ≡ false
     → i < length es → item ≡ get_or es i item → p (ace item) ≡ false
     → list_any (λ a. p (ace a)) (take (i + 1) es) ≡ false
 none_more p es i item before lt read e = any_more (λ a. p (ace a)) es i item lt read ∙ rw (before, e) refl
@@ -367,24 +370,10 @@ pub named_at : (suffix : List ℕ) (es : List AceRef) (i : ℕ) (item : AceRef) 
 named_at suffix es i item lt read none = ap (λ (x : AceRef). is_misnamed suffix (ace x)) read
     ∙ passes_nowhere (λ a. is_misnamed suffix (ace a)) es i item (place_map (is_misnamed suffix) es ∙ none) lt
 
--- the ACE at a place has a name
-pub any_at : (es : List AceRef) (i : ℕ) (item : AceRef) → i < length es → item ≡ get_or es i item → CanBePart es
-    → IsAnyWho item.who.now
-any_at es i item lt read part = subst (λ (x : AceRef). IsAnyWho x.who.now) (sym read) (part.each i item lt)
-
 -- one more ACE of the code
 next_ace : (es : List AceRef) (i : ℕ) (item : AceRef) → i < length es → item ≡ get_or es i item
     → map ace (take i es) ++ ace item ∷ [] ≡ map ace (take (i + 1) es)
 next_ace es i item lt read = build_on es i item (map ace (take i es)) _ lt read refl refl
-
--- one more ACE with a group
-pub groups_more : (suffix : List ℕ) (es : List AceRef) (i : ℕ) (item : AceRef) (list new : List Ace) → i < length es
-    → item ≡ get_or es i item → list ≡ with_groups suffix (map ace (take i es))
-    → new ≡ list ++ with_stand_in suffix (ace item) ∷ [] → new ≡ with_groups suffix (map ace (take (i + 1) es))
-groups_more suffix es i item list new lt read way step =
-    step ∙ ap (λ (l : List Ace). l ++ with_stand_in suffix (ace item) ∷ []) way
-    ∙ sym (map-append (with_stand_in suffix) (map ace (take i es)) (ace item ∷ []))
-    ∙ ap (with_groups suffix) (next_ace es i item lt read)
 
 -- groups weigh as much as the identifiers for which they stand
 groups_weight : (suffix : List ℕ) (list : List Ace) → weight (with_groups suffix list) ≡ weight list
@@ -398,20 +387,6 @@ front_weight es n =
     let whole : map ace (take n es) ++ map ace (drop n es) ≡ map ace es =
     sym (map-append ace (take n es) (drop n es)) ∙ ap (map ace) (take-append-drop n es) in
     omega (arith, sum_by-append (λ a. count_ones a.mask) (map ace (take n es)) (map ace (drop n es)), ap weight whole)
-
--- the list has room for the next ACE
-pub groups_room : (suffix : List ℕ) (es : List AceRef) (i : ℕ) (list : List Ace) → i < length es → CanBePart es
-    → list ≡ with_groups suffix (map ace (take i es)) → length list < most_aces
-groups_room suffix es i list lt part way =
-    omega (
-      arith,
-      lt,
-      part.count,
-      ap length way,
-      length-map (map ace (take i es)) (with_stand_in suffix),
-      length-map (take i es) ace,
-      length-take i es,
-    )
 
 -- the list is light enough for the next ACE
 pub groups_light : (suffix : List ℕ) (es : List AceRef) (i : ℕ) (item : AceRef) (list : List Ace) → i < length es
@@ -430,24 +405,11 @@ groups_light suffix es i item list lt read part way =
 
 -- ---- one ACE
 
--- a name that is no unknown special identifier is valid as a who
-pub known_is_who : (who : List ℕ) → IsAnyWho who → is_unknown_special who ≡ false → IsWho who
-known_is_who who is known = rw (is.long, is.utf8, is.plain, known) refl
-
--- an unknown special identifier that gets a name is valid as a who with the suffix
-pub named_is_who : (suffix : List ℕ) (a : Ace) → is_unknown_special a.who ≡ true → is_misnamed suffix a ≡ false
-    → IsWho (a.who ++ suffix)
-named_is_who suffix a unknown named = account_is_who (a.who ++ suffix)
-    (by (is_account (a.who ++ suffix)) (sym (ap (λ (t : Bool). t && not (is_account (a.who ++ suffix))) unknown) ∙ named))
-  where
-    by : (t : Bool) → not t ≡ false → t ≡ true
-    by true e = refl
-    by false e = absurd cc
-
 -- ---- the part that is read
 
 -- a part with one more ACE
-pub part_push : (es : List AceRef) (item : AceRef) (others : ℕ) → CanBePart es → length (map ace es) + others < most_aces
+pub part_push : (es : List AceRef) (item : AceRef) (others : ℕ) → CanBePart es
+    → length (map ace es) + others < most_aces
     → weight (map ace es) + count_ones item.mask.bits ≤ most_weight → IsAnyWho item.who.now
     → CanBePart (es ++ item ∷ [])
 part_push es item others part few light any = record {

@@ -24,7 +24,8 @@ pub enum GroupsFault {
     /// the suffix follows it.
     #[error("Name at ACE {0}")]
     Name(usize),
-    /// The ACE at this place, from 0, is for a group that has the name of an unknown special identifier with the suffix.
+    /// The ACE at this place, from 0, is for a group that has the name of an unknown special identifier with the
+    /// suffix.
     #[error("Merged at ACE {0}")]
     Merged(usize),
     /// Memory ran out.
@@ -44,11 +45,12 @@ impl From<AllocError> for GroupsFault {
 }
 
 impl<'a> AccessPart<'a> {
-    /// Returns the list of the ACEs that are kept, in which a group stands for each unknown special identifier: its name
-    /// is the identifier followed by the suffix, and its ACEs have IDENTIFIER_GROUP set. All else stays. A requester of
-    /// whom it is known which identifiers match has the groups of these identifiers. Fails with `Name` for the first ACE
-    /// whose identifier with the suffix is not the name of a group: it is too long, is not valid as a who, or ends in
-    /// `@`. Otherwise fails with `Merged` for the first ACE of another group that has such a name. Takes time n log n.
+    /// Returns the list of the ACEs that are kept, in which a group stands for each unknown special identifier: its
+    /// name is the identifier followed by the suffix, and its ACEs have IDENTIFIER_GROUP set. All else stays. A
+    /// requester of whom it is known which identifiers match has the groups of these identifiers. Fails with `Name` for
+    /// the first ACE whose identifier with the suffix is not the name of a group: it is too long, is not valid as a
+    /// who, or ends in `@`. Otherwise fails with `Merged` for the first ACE of another group that has such a name.
+    /// Takes time n log n.
     ///
     /// ```rust
     /// let bytes = b"\0\0\0\x01\0\0\0\0\0\0\0\0\0\0\0\x01\0\0\0\x04NOW@";

@@ -83,7 +83,8 @@ pub walk_here : (whole : List Principal) {refs others : List AceRef} (ws : List 
     → AreWalked refs others here there apart → AreWalked refs others (here + 1) there apart
 walk_here whole {refs} {others} ws {x} {w} {here} {there} {apart} {own} lt at wi all h none inv = record {
   same = λ bit e rest. inv.same bit e
-      (column_passed whole refs ws x w here apart own bit lt at wi all h e (ap (λ m. has_bit m bit) none ∙ no_bit bit) ∙ rest);
+      (column_passed whole refs ws x w here apart own bit lt at wi all h e (ap (λ m. has_bit m bit) none ∙ no_bit bit)
+      ∙ rest);
 }
 
 -- the walk continues after an ACE of the second list without open rights
@@ -105,7 +106,8 @@ pub walk_apart : (whole : List Principal) {refs others : List AceRef} (ws vs : L
     → HasOpenBits (ace x) w apart own → HasOpenBits (ace y) v apart theirs → IsUnion apart own more
     → IsUnion more theirs new
     → AreWalked refs others here there apart → AreWalked refs others (here + 1) (there + 1) new
-walk_apart whole {refs} {others} ws vs {x} {y} {w} {v} {here} {there} {apart} {own} {theirs} more lh lt xa ya wi vi hw hv ho ht u z inv =
+walk_apart whole {refs} {others} ws vs {x} {y} {w} {v} {here} {there} {apart} {own} {theirs} more lh lt xa ya wi vi hw
+    hv ho ht u z inv =
     record {
       same = λ bit e rest.
           let outer = or_parts (has_bit more bit) (has_bit theirs bit) (sym (z bit) ∙ e) in
@@ -121,7 +123,8 @@ pub walk_both : (whole : List Principal) {refs others : List AceRef} (ws vs : Li
     → v ≡ slice_index_or vs there Nobody → AreWhoms whole (aces_in refs) ws → AreWhoms whole (aces_in others) vs
     → HasOpenBits (ace x) w apart own → HasOpenBits (ace y) v apart theirs → own ≡ theirs → w ≡ v → x.kind ≡ y.kind
     → AreWalked refs others here there apart → AreWalked refs others (here + 1) (there + 1) apart
-walk_both whole {refs} {others} ws vs {x} {y} {w} {v} {here} {there} {apart} {own} {theirs} lh lt xa ya wi vi hw hv ho ht oe we ke inv =
+walk_both whole {refs} {others} ws vs {x} {y} {w} {v} {here} {there} {apart} {own} {theirs} lh lt xa ya wi vi hw hv ho
+    ht oe we ke inv =
     record { same = λ bit e rest. inv.same bit e (heads bit e rest) }
   where
     named : IsWhom whole (ace x) w

@@ -68,7 +68,8 @@ pairs_at way xs ys ps set z lt before f =
     let rest : List Principal = drop (z + 1) ps in
     subst (λ v. FindsFirst way xs ys (principal_pairs v) (Some set)) (sym (split_there ps z everyone lt))
     (pairs_after way xs ys ps (take z ps) (s ∷ rest) [] (Some set) (split_there ps z everyone lt)
-    (front_agrees way xs ys ps z (omega arith) before) (found_left way xs ys (partners s rest) (principal_pairs rest) set f))
+    (front_agrees way xs ys ps z (omega arith) before)
+    (found_left way xs ys (partners s rest) (principal_pairs rest) set f))
 
 -- if each principal agrees with all, no pair is found
 pub pairs_none : (way : Direction) (xs ys : List Ace) (ps : List Principal) (z : ℕ) → length ps ≤ z
@@ -95,7 +96,8 @@ pair_swapped (a ∷ xs) p q b =
 
 -- a principal that doesn't agree with all, where all before it do, doesn't agree with a later one
 pub has_partner : (way : Direction) (xs ys : List Ace) (ps : List Principal) (z : ℕ) → z < length ps
-    → ((k : ℕ) → k < length ps → OnAll (AlikeAlone way xs ys ps) k) → ((k : ℕ) → k < z → OnAll (AlikeWithAll way xs ys ps) k)
+    → ((k : ℕ) → k < length ps → OnAll (AlikeAlone way xs ys ps) k)
+    → ((k : ℕ) → k < z → OnAll (AlikeWithAll way xs ys ps) k)
     → (OnAll (AlikeWithAll way xs ys ps) z → ⊥)
     → ((k : ℕ) → k < length (drop (z + 1) ps)
     → OnAll (AlikeWith way xs ys (slice_index_or ps z everyone) (drop (z + 1) ps)) k) → ⊥
@@ -145,7 +147,8 @@ fast_single way xs ys ps v empty l lt =
 -- if the lists grant alike to nobody, to each principal alone and to each pair, no small set is found
 pub fast_none : (way : Direction) (xs ys : List Ace) (ps : List Principal) (v z : ℕ) → GrantAlikeTo way xs ys []
     → IsLeast (OnAll (AlikeAlone way xs ys ps)) (length ps) v → length ps ≤ v
-    → IsLeast (OnAll (AlikeWithAll way xs ys ps)) (length ps) z → length ps ≤ z → FindsSet way xs ys (small_sets ps) None
+    → IsLeast (OnAll (AlikeWithAll way xs ys ps)) (length ps) z → length ps ≤ z
+    → FindsSet way xs ys (small_sets ps) None
 fast_none way xs ys ps v z empty l le m me =
     record {
       first = inl (
@@ -159,7 +162,8 @@ fast_none way xs ys ps v z empty l le m me =
 pub fast_pair : (way : Direction) (xs ys : List Ace) (ps : List Principal) (v z w : ℕ) → GrantAlikeTo way xs ys []
     → IsLeast (OnAll (AlikeAlone way xs ys ps)) (length ps) v → length ps ≤ v
     → IsLeast (OnAll (AlikeWithAll way xs ys ps)) (length ps) z → z < length ps
-    → IsLeast (OnAll (AlikeWith way xs ys (slice_index_or ps z everyone) (drop (z + 1) ps))) (length (drop (z + 1) ps)) w
+    → IsLeast (OnAll (AlikeWith way xs ys (slice_index_or ps z everyone) (drop (z + 1) ps))) (length (drop (z + 1) ps))
+    w
     → w < length (drop (z + 1) ps)
     → FindsSet way xs ys (small_sets ps) (Some
     (slice_index_or ps z everyone ∷ slice_index_or (drop (z + 1) ps) w everyone ∷ []))
@@ -178,10 +182,12 @@ fast_pair way xs ys ps v z w empty l le m lt n lw =
 pub fast_partner : (way : Direction) (xs ys : List Ace) (ps : List Principal) (v z w : ℕ)
     → IsLeast (OnAll (AlikeAlone way xs ys ps)) (length ps) v → length ps ≤ v
     → IsLeast (OnAll (AlikeWithAll way xs ys ps)) (length ps) z → z < length ps
-    → IsLeast (OnAll (AlikeWith way xs ys (slice_index_or ps z everyone) (drop (z + 1) ps))) (length (drop (z + 1) ps)) w
+    → IsLeast (OnAll (AlikeWith way xs ys (slice_index_or ps z everyone) (drop (z + 1) ps))) (length (drop (z + 1) ps))
+    w
     → length (drop (z + 1) ps) ≤ w → ⊥
 fast_partner way xs ys ps v z w l le m lt n lw =
-    has_partner way xs ys ps z lt (λ k lk. l.before k (omega arith)) m.before (m.at lt) (λ k lk. n.before k (omega arith))
+    has_partner way xs ys ps z lt (λ k lk. l.before k (omega arith)) m.before (m.at lt)
+    (λ k lk. n.before k (omega arith))
 
 -- ---- two lists that are compared
 
@@ -211,7 +217,8 @@ partner_within both {v} {z} {w} l le m lt n = go (cases_lt w (length (later_than
   where
     go : (w < length (later_than both z)) ⊎ (length (later_than both z) ≤ w) → z + 1 + w < length (all_mentioned both)
     go (inl lw) = omega (arith, length-drop (z + 1) (all_mentioned both))
-    go (inr past) = absurd (fast_partner both.direction both.first both.second (all_mentioned both) v z w l le m lt n past)
+    go (inr past) = absurd
+        (fast_partner both.direction both.first both.second (all_mentioned both) v z w l le m lt n past)
 
 -- the principals at the numbers of the first member and its first partner are the small set that is found
 pub pair_answer : (both : TwoLists) {p q : Principal} {v z w i : ℕ} → AreAlikeTo both [] → IsFirstSingle both v

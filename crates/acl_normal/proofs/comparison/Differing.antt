@@ -13,7 +13,8 @@ use Rattle.acl_normal.specs.declared.comparison.direction.Direction.TheVariants.
 
 -- in the situation, the answers of the lists differ for no right in the direction
 abbrev pub AlikeIn : Direction → List Ace → List Ace → Situation → Type 0
-AlikeIn way xs ys s = (b : ℕ) → has_bit all_rights b ≡ true → differ_in way (grants_bit xs s b) (grants_bit ys s b) ≡ false
+AlikeIn way xs ys s = (b : ℕ) → has_bit all_rights b ≡ true
+    → differ_in way (grants_bit xs s b) (grants_bit ys s b) ≡ false
 
 -- in no situation do the answers of the lists differ in the direction
 abbrev pub AlikeEverywhere : Direction → List Ace → List Ace → Type 0

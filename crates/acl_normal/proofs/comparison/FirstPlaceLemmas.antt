@@ -139,7 +139,10 @@ firsts_step ps xs a (One j) b i old is s h later = go (has_bit a.mask b) refl
     new = record { place = i; kind = a.kind }
 
     go : (t : Bool) → has_bit a.mask b ≡ t → AreFirstFrom ps xs b i (put old a (One j) i b)
-    go true e = rw e (record { count = length-set old j new ∙ later.count; each = λ k lt. put_at ps xs a j b i old is h later e k lt (cases_eq k j) })
+    go true e = rw e (record {
+      count = length-set old j new ∙ later.count;
+      each = λ k lt. put_at ps xs a j b i old is h later e k lt (cases_eq k j);
+    })
     go false e = rw e (record {
       count = later.count;
       each =

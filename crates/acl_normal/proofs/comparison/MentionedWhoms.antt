@@ -140,14 +140,16 @@ whole_ready aces {table} te by n =
     (subst (λ v. AreByRow (aces_in aces) v table) (sym (length-map aces ace)) by)
 
 -- of the code's values, the first ones say whom the ACEs of the first list name
-pub whoms_first : (ps : List Principal) (list other : List AceRef) (ws : List Whom) {part : List Whom} {n : ℕ} → n ≡ length list
+pub whoms_first : (ps : List Principal) (list other : List AceRef) (ws : List Whom) {part : List Whom} {n : ℕ}
+    → n ≡ length list
     → part ≡ take n ws → AreWhoms ps (aces_in list ++ aces_in other) ws → AreWhoms ps (aces_in list) part
 whoms_first ps list other ws is e h =
     subst (AreWhoms ps (aces_in list)) (sym (e ∙ ap (λ v. take v ws) (is ∙ sym (length-map list ace))))
     (whoms_front ps (aces_in list) (aces_in other) ws h)
 
 -- of the code's values, the others say whom the ACEs of the second list name
-pub whoms_second : (ps : List Principal) (list other : List AceRef) (ws : List Whom) {part : List Whom} {n : ℕ} → n ≡ length list
+pub whoms_second : (ps : List Principal) (list other : List AceRef) (ws : List Whom) {part : List Whom} {n : ℕ}
+    → n ≡ length list
     → part ≡ drop n ws → AreWhoms ps (aces_in list ++ aces_in other) ws → AreWhoms ps (aces_in other) part
 whoms_second ps list other ws is e h =
     subst (AreWhoms ps (aces_in other)) (sym (e ∙ ap (λ v. drop v ws) (is ∙ sym (length-map list ace))))

@@ -61,7 +61,8 @@ pair_alone xs p b = pair_granted xs p p b
     one_value t v = grind arith
 
 -- the lists do not differ for a pair that overlaps and is not inverted
-pub not_inverted : (way : Direction) (xs ys : List Ace) (b : ℕ) (p q : Principal) (r s : Placing) → IsPlacing xs ys b p r
+pub not_inverted : (way : Direction) (xs ys : List Ace) (b : ℕ) (p q : Principal) (r s : Placing)
+    → IsPlacing xs ys b p r
     → IsPlacing xs ys b q s → SameAlone way r → inverts way r s ≡ false → may_overlap p q ≡ true
     → AlikeAt way xs ys (p ∷ q ∷ []) b
 not_inverted way xs ys b p q r s h i u e o = go (is_users r.class && is_users s.class) refl
@@ -102,7 +103,8 @@ agrees_from_rows way xs ys b p r (q ∷ ps) (s ∷ rows) h u z e =
 agrees_from_rows way xs ys b p r _ _ h u z e = absurd z
 
 -- a principal does not agree with all on the bit if its placing inverts one of theirs
-pub not_agrees_from_rows : (way : Direction) (xs ys : List Ace) (b : ℕ) (p : Principal) (r : Placing) (ps : List Principal)
+pub not_agrees_from_rows : (way : Direction) (xs ys : List Ace) (b : ℕ) (p : Principal) (r : Placing)
+    (ps : List Principal)
     (rows : List Placing) → IsPlacing xs ys b p r → AllZip (IsPlacing xs ys b) ps rows
     → inverts_any way r rows ≡ true → AgreesAt way xs ys ps b p → ⊥
 not_agrees_from_rows way xs ys b p r [] [] h z e a = cc
@@ -124,13 +126,15 @@ partners_agree way xs ys p (q ∷ ps) h =
     cond_both (may_overlap p q) _ _ (λ sets. FindsFirst way xs ys sets None) (λ e. inl (h.0 e, later)) (λ e. later)
 
 -- a principal that agrees with all agrees with the rest of them
-pub agrees_rest : (way : Direction) (xs ys : List Ace) (ps rest : List Principal) (p : Principal) → Agrees way xs ys (ps ++ rest) p
+pub agrees_rest : (way : Direction) (xs ys : List Ace) (ps rest : List Principal) (p : Principal)
+    → Agrees way xs ys (ps ++ rest) p
     → Agrees way xs ys rest p
 agrees_rest way xs ys [] rest p h = h
 agrees_rest way xs ys (q ∷ ps) rest p h = agrees_rest way xs ys ps rest p h.1
 
 -- if each of the first principals agrees with all, the first pair is that of the rest
-pub pairs_after : (way : Direction) (xs ys : List Ace) (whole before rest done : List Principal) (r : Option (List Principal))
+pub pairs_after : (way : Direction) (xs ys : List Ace) (whole before rest done : List Principal)
+    (r : Option (List Principal))
     → whole ≡ done ++ (before ++ rest) → AllByRecursion (Agrees way xs ys whole) before
     → FindsFirst way xs ys (principal_pairs rest) r
     → FindsFirst way xs ys (principal_pairs (before ++ rest)) r

@@ -1,9 +1,9 @@
 -- The list that grants some rights where another list grants one right.
 use Rattle.std.specs.Prelude.{IsNone}
-use Rattle.acl_normal.proofs.Common.{Ace, AllByRecursion, Bool, Column, HasName, HasNames, IfSome, IsSituation, List, None, Option, Principal, Situation, [], ace_key, all_rights, and_from, and_parts, ap, append-nil, bits_from_mask, column, counts, false, false≢true, has_bit, if◌then◌else◌, is_allow, is_among, is_mentioning, longest, map, matches, mentioned, mentioned_in, no_bit, principal_of, refl, same_answers, small_sets, small_situation, Some, subst, sym, takes_part, true, two_lists, verdict, ℕ, ◌&&◌, ◌++◌, ◌+◌, ◌<◌, ◌↔◌, ◌∙◌, ◌∷◌, ◌≡◌, IsMask}
+use Rattle.acl_normal.proofs.Common.{Ace, AllByRecursion, Bool, Column, HasName, HasNames, IfSome, IsSituation, List, None, Option, Principal, Situation, [], ace_key, all_rights, and_from, and_parts, ap, append-nil, bits_from_mask, column, counts, false, false≢true, has_bit, if◌then◌else◌, is_allow, is_among, is_mentioning, longest, map, matches, mentioned, mentioned_in, no_bit, principal_of, refl, same_answers, small_sets, small_situation, Some, subst, sym, takes_part, true, two_lists, verdict, ℕ, ◌&&◌, ◌++◌, ◌+◌, ◌↔◌, ◌∙◌, ◌∷◌, ◌≡◌, IsMask}
 use Rattle.acl_normal.proofs.Each.{all_append, all_right, all_weaker}
 use Rattle.acl_eval.proofs.Same.{at_most_by_bits}
-use Rattle.acl_eval.specs.Grant.{Grant, GrantsAtMost, grants_bit}
+use Rattle.acl_eval.specs.Grant.{GrantsAtMost, grants_bit}
 use Rattle.acl_normal.proofs.comparison.MentionedPrincipals.{all_in, among_mentioned, mentioned_rising, rising_in}
 use Rattle.acl_normal.proofs.comparison.Ordered.{below_one, rising_same}
 use Rattle.acl_normal.proofs.unique.Columns.{column_has, column_lacks}

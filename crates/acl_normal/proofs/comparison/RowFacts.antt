@@ -119,7 +119,8 @@ not_alone_from_row way ps xs ys b k rows lt h n = let r = row_at ps xs ys b k ro
 
 -- the search for the first single principal continues with the next bit
 pub single_step : (way : Direction) {own : Direction} {ps : List Principal} {xs ys : List Ace} {bit old new : ℕ}
-    {rows : List Placing} → own ≡ way → ArePlacings ps xs ys bit rows → has_bit all_rights bit ≡ true → IsFirstBelow (is_unlike own) rows old new
+    {rows : List Placing} → own ≡ way → ArePlacings ps xs ys bit rows → has_bit all_rights bit ≡ true
+    → IsFirstBelow (is_unlike own) rows old new
     → Least (AlikeAlone way xs ys ps) (length ps) bit old
     → Least (AlikeAlone way xs ys ps) (length ps) (bit + 1) new
 single_step way {own} {ps} {xs} {ys} {bit} {old} {new} {rows} same h has found l =
@@ -143,7 +144,8 @@ all_alone way _ xs ys b _ z h = absurd z
 
 -- the search for the first member of a pair continues with the next bit
 pub member_step : (way : Direction) {own : Direction} {ps : List Principal} {xs ys : List Ace} {bit old new : ℕ}
-    {rows : List Placing} → own ≡ way → ArePlacings ps xs ys bit rows → ((k : ℕ) → k < length ps → OnAll (AlikeAlone way xs ys ps) k)
+    {rows : List Placing} → own ≡ way → ArePlacings ps xs ys bit rows
+    → ((k : ℕ) → k < length ps → OnAll (AlikeAlone way xs ys ps) k)
     → has_bit all_rights bit ≡ true → IsFirstBelow (λ r. inverts_any own r rows) rows old new
     → Least (AlikeWithAll way xs ys ps) (length ps) bit old
     → Least (AlikeWithAll way xs ys ps) (length ps) (bit + 1) new
@@ -187,14 +189,16 @@ others_length ps {xs} {ys} {b} at {items} h is split = ap length (split ∙ ap (
 
 -- the search for the first partner continues with the next bit, with the placings as the code holds them
 pub partner_loop : (way : Direction) {own : Direction} {ps : List Principal} {xs ys : List Ace} {bit at old new : ℕ}
-    {row : Placing} {items slice others : List Placing} → own ≡ way → at < length ps → ArePlacings ps xs ys bit items → slice ≡ items
+    {row : Placing} {items slice others : List Placing} → own ≡ way → at < length ps → ArePlacings ps xs ys bit items
+    → slice ≡ items
     → others ≡ drop (at + 1) slice → row ≡ slice_index_or items at row
     → ((k : ℕ) → k < length ps → OnAll (AlikeAlone way xs ys ps) k) → has_bit all_rights bit ≡ true
     → IsFirstBelow (inverts own row) others old new
     → Least (AlikeWith way xs ys (slice_index_or ps at everyone) (drop (at + 1) ps)) (length (drop (at + 1) ps)) bit old
     → Least (AlikeWith way xs ys (slice_index_or ps at everyone) (drop (at + 1) ps)) (length (drop (at + 1) ps))
     (bit + 1) new
-partner_loop way {own} {ps} {xs} {ys} {bit} {at} {old} {new} {row} {items} {slice} {others} oe lt h is split read alone has found l =
+partner_loop way {own} {ps} {xs} {ys} {bit} {at} {old} {new} {row} {items} {slice} {others} oe lt h is split read alone
+    has found l =
     let first : IsFirstBelow (inverts way row) others old new =
     subst (λ v. IsFirstBelow (inverts v row) others old new) oe found in
     let count : length items ≡ length ps = rows_length ps h in

@@ -151,7 +151,8 @@ places_all refs others places i le h ge =
     let e : i ≡ length others = omega arith in subst (λ v. ArePlacesOf refs others v places) e h
 
 -- with the copies there are at least as many values as before
-pub copies_long : (ws : List Whom) {now : List Whom} (places : List ℕ) → now ≡ with_copies ws places → length ws ≤ length now
+pub copies_long : (ws : List Whom) {now : List Whom} (places : List ℕ) → now ≡ with_copies ws places
+    → length ws ≤ length now
 copies_long ws {now} places is =
     omega (arith, ap length is, length-append ws (map (λ q. slice_index_or ws q Nobody) places))
 
@@ -164,7 +165,8 @@ copies_there whole refs others ws places shown n h is all e i lt =
     omega (arith, ap (λ v. slice_index_or v i 0) is, at, whoms_length whole refs ws all, e)
 
 -- the principals that two lists together mention are those that the two lists mention
-pub joined_mentions : (list other : List AceRef) {aces shown : List AceRef} (r : Result Mentions AllocError) → shown ≡ aces
+pub joined_mentions : (list other : List AceRef) {aces shown : List AceRef} (r : Result Mentions AllocError)
+    → shown ≡ aces
     → aces ≡ list ++ other → IfOk r (AreMentionsOf (aces_in shown))
     → IfOk r (AreMentioned (aces_in list) (aces_in other))
 joined_mentions list other {aces} {shown} (Ok m) se ae h =

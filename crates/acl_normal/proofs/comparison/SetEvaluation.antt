@@ -36,7 +36,8 @@ pub record DecidesAll (refs : List AceRef) (set : List Principal) (i granted dec
   pub bits : (bit : ℕ) → decides granted decided (aces_in (drop i refs)) set bit ≡ is_granted_to (aces_in refs) set bit
 
 -- after one more ACE, what is granted and decided still decides as the whole list
-pub loop_more : {refs : List AceRef} {x : AceRef} {set : List Principal} {granted decided own : ℕ} (anew : ℕ) {new more i : ℕ}
+pub loop_more : {refs : List AceRef} {x : AceRef} {set : List Principal} {granted decided own : ℕ} (anew : ℕ)
+    {new more i : ℕ}
     → i < length refs → x ≡ slice_index_or refs i x → IsGrantedAnew x.kind own decided anew → IsUnion granted anew new
     → IsUnion decided own more → HasBitsOf (ace x) set own → DecidesAll refs set i granted decided
     → DecidesAll refs set (i + 1) new more

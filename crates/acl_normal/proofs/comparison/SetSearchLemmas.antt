@@ -24,11 +24,13 @@ pub found_later : (way : Direction) (xs ys : List Ace) (ps : List Principal) (re
 found_later way xs ys ps rest whole a g = record { found = λ r h. g.found r (inl (a, h)) }
 
 -- nothing is found where no set is left
-pub found_none : (way : Direction) (xs ys : List Ace) (whole : List (List Principal)) → GoesOn way xs ys [] whole → FindsSet way xs ys whole None
+pub found_none : (way : Direction) (xs ys : List Ace) (whole : List (List Principal)) → GoesOn way xs ys [] whole
+    → FindsSet way xs ys whole None
 found_none way xs ys whole g = record { first = g.found None refl }
 
 -- the search among single principals ends at one
-pub single_here : (way : Direction) (xs ys : List Ace) (names : List PrincipalRef) (p : PrincipalRef) (whole : List (List Principal))
+pub single_here : (way : Direction) (xs ys : List Ace) (names : List PrincipalRef) (p : PrincipalRef)
+    (whole : List (List Principal))
     (i : ℕ) → i < length names → (GrantAlikeTo way xs ys (principal (slice_index_or names i p) ∷ []) → ⊥)
     → GoesOn way xs ys (singles (principals (drop i names))) whole
     → FindsSet way xs ys whole (Some (principal (slice_index_or names i p) ∷ []))
@@ -37,16 +39,19 @@ single_here way xs ys names p whole i lt d g =
     (subst (λ v. GoesOn way xs ys (singles (principals v)) whole) (drop_more names i p lt) g)
 
 -- the search continues after a principal to whom alone the lists grant alike
-pub single_later : {way : Direction} {xs ys : List Ace} (names : List PrincipalRef) (p : PrincipalRef) {whole : List (List Principal)}
+pub single_later : {way : Direction} {xs ys : List Ace} (names : List PrincipalRef) (p : PrincipalRef)
+    {whole : List (List Principal)}
     {i : ℕ} → i < length names → GrantAlikeTo way xs ys (principal (slice_index_or names i p) ∷ [])
     → GoesOn way xs ys (singles (principals (drop i names))) whole
     → GoesOn way xs ys (singles (principals (drop (i + 1) names))) whole
 single_later {way} {xs} {ys} names p {whole} {i} lt a g =
-    found_later way xs ys (principal (slice_index_or names i p) ∷ []) (singles (principals (drop (i + 1) names))) whole a
+    found_later way xs ys (principal (slice_index_or names i p) ∷ []) (singles (principals (drop (i + 1) names))) whole
+    a
     (subst (λ v. GoesOn way xs ys (singles (principals v)) whole) (drop_more names i p lt) g)
 
 -- the search among single principals finds none after the last one
-pub single_none : (way : Direction) (xs ys : List Ace) (names : List PrincipalRef) (whole : List (List Principal)) (i : ℕ)
+pub single_none : (way : Direction) (xs ys : List Ace) (names : List PrincipalRef) (whole : List (List Principal))
+    (i : ℕ)
     → length names ≤ i → GoesOn way xs ys (singles (principals (drop i names))) whole → FindsSet way xs ys whole None
 single_none way xs ys names whole i le g =
     found_none way xs ys whole (subst (λ v. GoesOn way xs ys (singles (principals v)) whole) (drop_all i names le) g)
@@ -83,11 +88,13 @@ partner_later {way} {xs} {ys} s others q {whole} {i} lt a g =
     ]
 
 -- the search among partners finds none after the last one
-pub partner_none : (way : Direction) (xs ys : List Ace) (s : Principal) (others : List PrincipalRef) (whole : List (List Principal))
+pub partner_none : (way : Direction) (xs ys : List Ace) (s : Principal) (others : List PrincipalRef)
+    (whole : List (List Principal))
     (i : ℕ) → length others ≤ i → GoesOn way xs ys (partners s (principals (drop i others))) whole
     → FindsSet way xs ys whole None
 partner_none way xs ys s others whole i le g =
-    found_none way xs ys whole (subst (λ v. GoesOn way xs ys (partners s (principals v)) whole) (drop_all i others le) g)
+    found_none way xs ys whole
+    (subst (λ v. GoesOn way xs ys (partners s (principals v)) whole) (drop_all i others le) g)
 
 -- what is found in the first part is found in both
 pub found_left : (way : Direction) (xs ys : List Ace) (left right : List (List Principal)) (ps : List Principal)
@@ -97,14 +104,16 @@ found_left way xs ys (s ∷ left) right ps (inl h) = inl (h.0, found_left way xs
 found_left way xs ys (s ∷ left) right ps (inr h) = inr h
 
 -- if nothing is found in the first part, what is found in the second part is found in both
-pub found_right : (way : Direction) (xs ys : List Ace) (left right : List (List Principal)) (r : Option (List Principal))
+pub found_right : (way : Direction) (xs ys : List Ace) (left right : List (List Principal))
+    (r : Option (List Principal))
     → FindsFirst way xs ys left None → FindsFirst way xs ys right r → FindsFirst way xs ys (left ++ right) r
 found_right way xs ys [] right r h i = i
 found_right way xs ys (s ∷ left) right r (inl h) i = inl (h.0, found_right way xs ys left right r h.1 i)
 found_right way xs ys (s ∷ left) right r (inr h) i = absurd (cc)
 
 -- the search among pairs ends at the pairs of one principal
-pub pair_here : {way : Direction} {xs ys : List Ace} (names : List PrincipalRef) {others : List PrincipalRef} (p : PrincipalRef)
+pub pair_here : {way : Direction} {xs ys : List Ace} (names : List PrincipalRef) {others : List PrincipalRef}
+    (p : PrincipalRef)
     {whole : List (List Principal)} {i : ℕ} {ps : List Principal} → i < length names → others ≡ drop (i + 1) names
     → FindsSet way xs ys (partners (principal (slice_index_or names i p)) (principals others)) (Some ps)
     → GoesOn way xs ys (principal_pairs (principals (drop i names))) whole → FindsSet way xs ys whole (Some ps)
@@ -120,7 +129,8 @@ pair_here {way} {xs} {ys} names {others} p {whole} {i} {ps} lt is h g =
     }
 
 -- the search continues after the pairs of one principal if none of them is found
-pub pair_later : {way : Direction} {xs ys : List Ace} (names : List PrincipalRef) {others : List PrincipalRef} (p : PrincipalRef)
+pub pair_later : {way : Direction} {xs ys : List Ace} (names : List PrincipalRef) {others : List PrincipalRef}
+    (p : PrincipalRef)
     {whole : List (List Principal)} {i : ℕ} → i < length names → others ≡ drop (i + 1) names
     → FindsSet way xs ys (partners (principal (slice_index_or names i p)) (principals others)) None
     → GoesOn way xs ys (principal_pairs (principals (drop i names))) whole
@@ -138,9 +148,11 @@ pair_later {way} {xs} {ys} names {others} p {whole} {i} lt is h g =
 
 -- the search among pairs finds none after the last principal
 pub pair_none : (way : Direction) (xs ys : List Ace) (names : List PrincipalRef) (whole : List (List Principal)) (i : ℕ)
-    → length names ≤ i → GoesOn way xs ys (principal_pairs (principals (drop i names))) whole → FindsSet way xs ys whole None
+    → length names ≤ i → GoesOn way xs ys (principal_pairs (principals (drop i names))) whole
+    → FindsSet way xs ys whole None
 pair_none way xs ys names whole i le g =
-    found_none way xs ys whole (subst (λ v. GoesOn way xs ys (principal_pairs (principals v)) whole) (drop_all i names le) g)
+    found_none way xs ys whole
+    (subst (λ v. GoesOn way xs ys (principal_pairs (principals v)) whole) (drop_all i names le) g)
 
 -- the empty set is found first if the lists do not grant the same there
 pub empty_differs : (way : Direction) (xs ys : List Ace) (ps : List Principal) → (GrantAlikeTo way xs ys [] → ⊥)
@@ -148,14 +160,17 @@ pub empty_differs : (way : Direction) (xs ys : List Ace) (ps : List Principal) �
 empty_differs way xs ys ps d = record { first = inr (d, refl) }
 
 -- a single principal is found before all pairs
-pub single_differs : {way : Direction} {xs ys : List Ace} (ps : List Principal) {set : List Principal} → GrantAlikeTo way xs ys []
+pub single_differs : {way : Direction} {xs ys : List Ace} (ps : List Principal) {set : List Principal}
+    → GrantAlikeTo way xs ys []
     → FindsSet way xs ys (singles ps) (Some set) → FindsSet way xs ys (small_sets ps) (Some set)
 single_differs {way} {xs} {ys} ps {set} a h =
     record { first = inl (a, found_left way xs ys (singles ps) (principal_pairs ps) set h.first) }
 
 -- where none is found, the pairs decide
-pub pair_decides : {way : Direction} {xs ys : List Ace} (ps : List Principal) {r : Option (List Principal)} → GrantAlikeTo way xs ys []
-    → FindsSet way xs ys (singles ps) None → FindsSet way xs ys (principal_pairs ps) r → FindsSet way xs ys (small_sets ps) r
+pub pair_decides : {way : Direction} {xs ys : List Ace} (ps : List Principal) {r : Option (List Principal)}
+    → GrantAlikeTo way xs ys []
+    → FindsSet way xs ys (singles ps) None → FindsSet way xs ys (principal_pairs ps) r
+    → FindsSet way xs ys (small_sets ps) r
 pair_decides {way} {xs} {ys} ps {r} a h i =
     record { first = inl (a, found_right way xs ys (singles ps) (principal_pairs ps) r h.first i.first) }
 

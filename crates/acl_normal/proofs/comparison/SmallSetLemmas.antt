@@ -172,7 +172,8 @@ answers_relate R xs ys b k all =
     (first_has b xs ys) (second_has k xs ys) (omega arith)
     (column_is_short ms (column xs b) (first_has b xs ys)) (column_is_short ms (column ys k) (second_has k xs ys))
     (λ p h. one_is_short ms p h)
-    (λ set small. at_small (λ v. R (grants_bit xs (small_situation n v) b) (grants_bit ys (small_situation n v) k)) ms set
+    (λ set small. at_small (λ v. R (grants_bit xs (small_situation n v) b) (grants_bit ys (small_situation n v) k)) ms
+    set
     (mentioned_rising xs ys) each small)
 
 -- a test of two answers that passes in each small situation passes in every situation
@@ -210,7 +211,8 @@ pub alike_in_situation : (way : Direction) (xs ys : List Ace) (set : List Princi
     → IsSmallSet (λ p. length (principal_name p) < strange_length xs ys) set
     → AlikeIn way xs ys (small_situation (strange_length xs ys) set) ↔ GrantAlikeTo way xs ys set
 alike_in_situation way xs ys set small = (
-  λ h b i. differ_moved way (sym (both_situations xs ys set b small).0) (sym (both_situations xs ys set b small).1) (h b i),
+  λ h b i. differ_moved way (sym (both_situations xs ys set b small).0) (sym (both_situations xs ys set b small).1)
+      (h b i),
   λ h b i. differ_moved way (both_situations xs ys set b small).0 (both_situations xs ys set b small).1 (h b i),
 )
 

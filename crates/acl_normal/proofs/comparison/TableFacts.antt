@@ -68,8 +68,8 @@ over_is q w k v (r ∷ rows) =
     ∙ ap (λ t. (is_counted q r && (nat_lt (place_of w r) k && not (nat_lt (other_place w r) v))) || t)
     (over_is q w k v rows)
 
--- if two principals are each answered alike, one is of a kind in both lists, and the orders of both are known, then they
--- differ together if and only if the other is of the other kind and the orders differ as the direction wants
+-- if two principals are each answered alike, one is of a kind in both lists, and the orders of both are known, then
+-- they differ together if and only if the other is of the other kind and the orders differ as the direction wants
 crosses : (way : Direction) (k c l m rh rt sh st : Bool) → differ_in way rh rt ≡ false → differ_in way sh st ≡ false
     → cond k rh (not rt) ≡ true
     → (c && differ_in way (cond l sh rh) (cond m st rt))
@@ -80,7 +80,8 @@ crosses Over true c l m rh rt sh st h i e = grind arith
 crosses Over false c l m rh rt sh st h i e = grind arith
 
 -- what one and the others add on two sides, side by side
-by_side : (v w x y p q : Bool) → (((v && x) || (w && y)) || ((v && p) || (w && q))) ≡ ((v && (x || p)) || (w && (y || q)))
+by_side : (v w x y p q : Bool)
+    → (((v && x) || (w && y)) || ((v && p) || (w && q))) ≡ ((v && (x || p)) || (w && (y || q)))
 by_side v w x y p q = grind arith
 
 -- classes that don't differ are the same
@@ -328,7 +329,8 @@ slice_within both {bit} {size} {items} is within h =
     (rows_within (all_mentioned both) both.first both.second bit size items within.first within.second h.each)
 
 -- a placing of the first part of a list has its place in the whole list too
-pub near_is : (rows : List Placing) {near : List Placing} {limit k : ℕ} (d : Placing) → near ≡ take limit rows → limit ≤ length rows
+pub near_is : (rows : List Placing) {near : List Placing} {limit k : ℕ} (d : Placing) → near ≡ take limit rows
+    → limit ≤ length rows
     → k < length near → (k < limit) × (slice_index_or near k d ≡ slice_index_or rows k no_placing)
 near_is rows {near} {limit} {k} d is within below =
     let lt : k < limit = omega (arith, below, ap length is, length-take-le limit rows within) in (
@@ -382,15 +384,16 @@ pub first_of_camp : {q : Camp} {size limit k : ℕ} {rows : List Placing} {forwa
     → AllByRecursion (SameAlone q.direction) rows → AllByRecursion (IsPlacingWithin size) rows
     → IsPlaceTable q Here size rows forward → IsPlaceTable q There size rows back → fs ≡ forward → bs ≡ back
     → t ≡ is_inverting q (slice_index_or rows k no_placing) fs bs → t ≡ true → IsFirstOf q rows limit k
-first_of_camp {q} {size} {limit} {k} {rows} {forward} {back} {fs} {bs} {t} lt le before alone places f b fe be h e = record {
-  within = omega arith;
-  before = before;
-  at = λ _. found_true q size rows (slice_index_or rows k no_placing) fs bs t h e
-      (all_at (SameAlone q.direction) rows k no_placing (omega arith) alone) alone
-      (all_at (IsPlacingWithin size) rows k no_placing (omega arith) places)
-      (subst (λ v. IsPlaceTable q Here size rows v) (sym fe) f)
-      (subst (λ v. IsPlaceTable q There size rows v) (sym be) b);
-}
+first_of_camp {q} {size} {limit} {k} {rows} {forward} {back} {fs} {bs} {t} lt le before alone places f b fe be h e =
+    record {
+      within = omega arith;
+      before = before;
+      at = λ _. found_true q size rows (slice_index_or rows k no_placing) fs bs t h e
+          (all_at (SameAlone q.direction) rows k no_placing (omega arith) alone) alone
+          (all_at (IsPlacingWithin size) rows k no_placing (omega arith) places)
+          (subst (λ v. IsPlaceTable q Here size rows v) (sym fe) f)
+          (subst (λ v. IsPlaceTable q There size rows v) (sym be) b);
+    }
 
 -- a placing of the camp that the code's tables do not report inverts none
 pub not_of_camp : {q : Camp} {size k : ℕ} {rows : List Placing} {forward back fs bs : List ℕ} {t : Bool}

@@ -181,7 +181,8 @@ marked_apart {whole} {out} {old} {rest} {next} {q} {m} {xs} h l b has =
 free_apart : {whole : List Ace} {out : List Emitted} {old rest next : Marked} {q : ColumnKey} {m : ℕ} {xs : List Ace}
     → IsTurn whole out old rest next q m xs → (l : ColumnKey) (b : ℕ) → has_bit m b ≡ true → key_eq l q ≡ false
     → is_free (column xs b) l ≡ true → principal_eq l.0 q.0 ≡ false
-free_apart {whole} {out} {old} {rest} {next} {q} {m} {xs} h l b e apart was = false_from_ne_true _ (λ t. absurd (same t))
+free_apart {whole} {out} {old} {rest} {next} {q} {m} {xs} h l b e apart was =
+    false_from_ne_true _ (λ t. absurd (same t))
   where
     same : principal_eq l.0 q.0 ≡ true → ⊥
     same t =

@@ -13,7 +13,8 @@ pub fills_nothing : (xs : List Ace) (old : Marked) → Fills xs old old 0
 fills_nothing xs old = record { grows = grows_nothing xs old; all = λ k b l. absurd (omega (arith, l)) }
 
 -- if the free keys of both kinds and both classes were entered at bit n, all below n + 1 are marked
-pub fills_on : (xs : List Ace) (old : Marked) {new v w x y : Marked} (n : ℕ) → Fills xs old new n → Enters Deny false n xs new v
+pub fills_on : (xs : List Ace) (old : Marked) {new v w x y : Marked} (n : ℕ) → Fills xs old new n
+    → Enters Deny false n xs new v
     → Enters Deny true n xs v w → Enters Allow false n xs w x → Enters Allow true n xs x y → Fills xs old y (n + 1)
 fills_on xs old {new} {v} {w} {x} {y} n f a b c d = record {
   grows = grows_on xs old new y f.grows all;

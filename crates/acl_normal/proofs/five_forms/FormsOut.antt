@@ -28,7 +28,8 @@ one_out {a} {b} {c} {done} {count} {whole} list lists h said =
     out_more 0 done count a b c whole (spellings (list ∷ lists)) (spelling list) (spellings lists) h refl said.0 said.1
 
 -- if the first list that is left was cut, the bytes were cut there
-pub cut_out : {a b : Option (List ℕ)} (c : Option (List ℕ)) {done : ℕ} {fault : WriteFault} {whole : List ℕ} (list : List Ace)
+pub cut_out : {a b : Option (List ℕ)} (c : Option (List ℕ)) {done : ℕ} {fault : WriteFault} {whole : List ℕ}
+    (list : List Ace)
     (lists : List (List Ace)) → AreLeft a b done whole (list ∷ lists)
     → WritesFrom b c done (spelling list) (Err fault) → WritesFrom a c 0 whole (Err fault)
 cut_out {a} {b} c {done} {fault} {whole} list lists h said =
@@ -36,7 +37,8 @@ cut_out {a} {b} c {done} {fault} {whole} list lists h said =
     said.1 said.2
 
 -- when the last list was written, all bytes are out, and if it was cut, they were cut there
-pub last_out : {a b : Option (List ℕ)} (c : Option (List ℕ)) {done : ℕ} {whole : List ℕ} (list : List Ace) (r : Result ℕ WriteFault)
+pub last_out : {a b : Option (List ℕ)} (c : Option (List ℕ)) {done : ℕ} {whole : List ℕ} (list : List Ace)
+    (r : Result ℕ WriteFault)
     → AreLeft a b done whole (list ∷ []) → WritesFrom b c done (spelling list) r → WritesFrom a c 0 whole r
 last_out {a} {b} c {done} {whole} list (Ok count) h said =
     out_all 0 count a c whole [] (one_out list [] h said) refl
@@ -74,7 +76,8 @@ file_out f {a} b {c} {first} {count} object said =
     one_out f.file (after_file f) (object_out f object) said
 
 -- after the third list, the other two are left
-pub directory_out : (f : FiveForms) {a : Option (List ℕ)} (b c : Option (List ℕ)) {d : Option (List ℕ)} {first second count : ℕ}
+pub directory_out : (f : FiveForms) {a : Option (List ℕ)} (b c : Option (List ℕ)) {d : Option (List ℕ)}
+    {first second count : ℕ}
     → WritesFrom a b 0 (spelling f.object) (Ok first) → WritesFrom b c first (spelling f.file) (Ok second)
     → WritesFrom c d second (spelling f.directory) (Ok count)
     → AreLeft a d count (five_spellings f) (after_directory f)

@@ -48,7 +48,8 @@ reduced_form source needed result accepted h emission shorter kept =
     (λ bit. omega (arith, shorter bit, reduced_fewer source needed h bit)) (λ p within. kept p (h.profiles p within))
 
 -- if the second pass returns a list, this is the plain reduction
-pub passes_reduce : {V E : Type 0} (list : V → List Ace) (source : List Ace) {aces reached lent : List Ace} (answer : Result V E)
+pub passes_reduce : {V E : Type 0} (list : V → List Ace) (source : List Ace) {aces reached lent : List Ace}
+    (answer : Result V E)
     → aces ≡ source → ((bit : ℕ) → column reached bit ≡ unshadowed [] (column aces bit)) → KeepsProfiles aces reached
     → lent ≡ reached
     → IfOk answer (λ v. (bit : ℕ)

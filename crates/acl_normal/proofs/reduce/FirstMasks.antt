@@ -353,7 +353,8 @@ reaches_more aces rows place masks seen all all' x here both fresh r next of_all
       (firsts_to_more whole place fresh.bits r.firsts within is new));
   holds =
       subst (HoldsSeen whole _ all') (sym shown)
-      (subst (λ v. HoldsSeen whole v all' (aces_with aces masks ++ masked (ace x) fresh.bits ∷ [])) (sym (row_written next r.holds))
+      (subst (λ v. HoldsSeen whole v all' (aces_with aces masks ++ masked (ace x) fresh.bits ∷ []))
+      (sym (row_written next r.holds))
       (seen_more whole (mask_numbers seen) all all' (ace x) fresh.bits r.holds named new of_all));
 }
   where
@@ -371,7 +372,8 @@ reaches_more aces rows place masks seen all all' x here both fresh r next of_all
 
     new : IsFresh (aces_with aces masks) (ace x) fresh.bits
     new =
-        fresh_is whole (mask_numbers seen) all (aces_with aces masks) (ace x) next.active fresh.bits r.holds named next.takes_part
+        fresh_is whole (mask_numbers seen) all (aces_with aces masks) (ace x) next.active fresh.bits r.holds named
+        next.takes_part
         (subst (λ v. IsDifference next.active (bit_or v all) fresh.bits) (row_had next r.holds) next.new)
 
     shown : aces_with aces (masks ++ fresh ∷ []) ≡ aces_with aces masks ++ masked (ace x) fresh.bits ∷ []

@@ -77,7 +77,8 @@ decided-append m [] r = grind arith
 decided-append m ((p, k) ∷ l) r = grind (arith, decided-append m l r)
 
 -- one more ACE adds what it allows everyone, where none before it decides
-pub default_allows_more : (xs : List AceRef) {x : AceRef} {i : ℕ} (m n s u : ℕ) → i < length xs → x ≡ slice_index_or xs i x
+pub default_allows_more : (xs : List AceRef) {x : AceRef} {i : ℕ} (m n s u : ℕ) → i < length xs
+    → x ≡ slice_index_or xs i x
     → Marks m (λ bit. kind_eq (default (column (aces_in (take i xs)) bit)) Allow)
     → Marks s (is_shadowed everyone (aces_in (take i xs)))
     → Marks n (λ bit. kind_eq (default (column (ace x ∷ []) bit)) Allow && not (has_bit s bit))

@@ -129,4 +129,5 @@ reduced_in_two xs ys zs accepted first f second g =
 pub only_one : (xs ns ms : List Ace) → IsNormal ns → SameGrants all_rights xs ns → IsNormal ms
     → SameGrants all_rights xs ms → ms ≡ ns
 only_one xs ns ms n f m g =
-    normal_unique ms ns m n ((equivalence all_rights).transitive ms xs ns ((equivalence all_rights).symmetric xs ms g) f)
+    normal_unique ms ns m n
+    ((equivalence all_rights).transitive ms xs ns ((equivalence all_rights).symmetric xs ms g) f)

@@ -74,7 +74,8 @@ both_le : (a b : Principal) → is_le (principal_cmp a b) ≡ true → is_le (pr
 both_le a b h l = grind (arith, principal_order.reversed a b, principal_exact a b)
 
 -- each place between two of one principal, in the order, is of that principal
-principal_between : (p : Principal) (xs : List Ace) (order : List ℕ) (i j k : ℕ) → IsByPrincipal xs order → i ≤ j → j ≤ k
+principal_between : (p : Principal) (xs : List Ace) (order : List ℕ) (i j k : ℕ) → IsByPrincipal xs order → i ≤ j
+    → j ≤ k
     → k < length xs → principal_here xs (slice_index_or order i 0) ≡ p
     → principal_here xs (slice_index_or order k 0) ≡ p → principal_here xs (slice_index_or order j 0) ≡ p
 principal_between p xs order i j k by from to l first last =

@@ -31,7 +31,8 @@ puts_absent place kind users mask old new n before lacks = record {
   above = λ k u b i l. before.above k u b i (omega (arith, l));
 }
 
--- if the place was put into the sets of the bits below n, the sets of the bits below n + 1 have it but for that of bit n
+-- if the place was put into the sets of the bits below n, the sets of the bits below n + 1 have it, but for that of bit
+-- n itself
 puts_elsewhere : (place : ℕ) (kind : Kind) (users : Bool) (mask : ℕ) (old sets : List (BTreeSet ℕ Global)) (n : ℕ)
     → PutsBelow place kind users mask n old sets → (k : Kind) (u : Bool) (b i : ℕ) → b < n + 1
     → slot_of k u b ≢ slot_of kind users n

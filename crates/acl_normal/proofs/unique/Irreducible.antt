@@ -26,7 +26,8 @@ none_right m [] r h = h
 none_right m ((p, k) ∷ l) r h = grind (arith, none_right m l r)
 
 -- a key is not needed after a key that matches in all the same situations
-not_needed_after : (c l r t : Column) (p q : Principal) (k j : Kind) → IsIrreducible c → c ≡ l ++ (p, k) ∷ (r ++ (q, j) ∷ t)
+not_needed_after : (c l r t : Column) (p q : Principal) (k j : Kind) → IsIrreducible c
+    → c ≡ l ++ (p, k) ∷ (r ++ (q, j) ∷ t)
     → ((s : Situation) → matches s q ≡ true → matches s p ≡ true) → ⊥
 not_needed_after c l r t p q k j irr is over =
     not_needless c (l ++ (p, k) ∷ r) t q j irr (is ∙ sym (append_assoc l ((p, k) ∷ r) ((q, j) ∷ t)))

@@ -84,7 +84,8 @@ kind_present c d p q k irr names agree h i = go (splits_at (is_either p q) c k h
         by false e = irr s.before (x, k) s.after s.is (λ v valid.
             cliques_agree HasName (matches v) c (without_principal x c) (clique_of v) refl tt names
             (names_without HasName x c names) (lost_agrees c d x e agree missing)
-            ∙ ap (verdict (matches v)) (without_key c s.before s.after x k (once_from_clean c (irreducible_clean c irr)) s.is))
+            ∙ ap (verdict (matches v))
+            (without_key c s.before s.after x k (once_from_clean c (irreducible_clean c irr)) s.is))
 
 -- each two of two principals that overlap do so
 either_overlap : (p q : Principal) → may_overlap p q ≡ true → (x y : Principal) → is_either p q x ≡ true
@@ -115,8 +116,8 @@ decide_alike c d ic id nc nd same p q o = go (first_kind (is_either p q) c) (fir
         let y : Principal = t.principal in
         let w : IsNarrower (is_either x y) (is_either p q) = either_within (is_either p q) x y s.passes t.passes in
         let left =
-        first_decides x y c j (irreducible_clean c ic) (first_within (is_either p q) (is_either x y) c j s (either_first x y)
-        w) in
+        first_decides x y c j (irreducible_clean c ic)
+        (first_within (is_either p q) (is_either x y) c j s (either_first x y) w) in
         let right =
         first_decides x y d k (irreducible_clean d id)
         (first_within (is_either p q) (is_either x y) d k t (either_second x y) w) in

@@ -65,7 +65,8 @@ covers_alone x hx sx e same = record {
 -- two principals that overlap have such a small set
 has_cover : (P : Principal → Type 0) (p q : Principal) (n : ℕ) → P p → P q → length (principal_name p) < n
     → length (principal_name q) < n → may_overlap p q ≡ true → Covers P p q n
-has_cover P p q n hp hq sp sq o = go (principal_eq p everyone) refl (principal_eq q everyone) refl (principal_cmp p q) refl
+has_cover P p q n hp hq sp sq o =
+    go (principal_eq p everyone) refl (principal_eq q everyone) refl (principal_cmp p q) refl
   where
     go : (b : Bool) → principal_eq p everyone ≡ b → (t : Bool) → principal_eq q everyone ≡ t → (w : Ordering)
         → principal_cmp p q ≡ w → Covers P p q n

@@ -25,7 +25,8 @@ forms_tell p a b n m is f g = (
       laws.transitive a m b (subst (λ v. SameGrants p.masks a v) forms f.grants) (laws.symmetric b m g.grants),
   λ same.
       let all = laws.transitive n b m (laws.transitive n a b (laws.symmetric a n f.grants) same) g.grants in
-      ap spelling (normal_unique n m f.normal g.normal ((same_within p n m is (fits n f.accepted) (fits m g.accepted)).0 all)),
+      ap spelling (normal_unique n m f.normal g.normal
+      ((same_within p n m is (fits n f.accepted) (fits m g.accepted)).0 all)),
 )
   where
     laws : IsEquivalence (SameGrants p.masks)

@@ -73,7 +73,8 @@ reduced_within c e h = unshadowed_within [] c e (needed_within (default (unshado
 
 -- a normal list has each principal at most once at a bit
 pub normal_once : (ns : List Ace) (b : ℕ) → IsNormal ns → IsOnce (column ns b)
-normal_once ns b n = once_from_clean (column ns b) (irreducible_clean (column ns b) (irreducible_column ns b n.irreducible))
+normal_once ns b n =
+    once_from_clean (column ns b) (irreducible_clean (column ns b) (irreducible_column ns b n.irreducible))
 
 -- a normal list that grants the same has columns alike those of what is left
 pub normal_alike : (xs ys ns : List Ace) (b : ℕ) → IsIrreducibleList (left ys) → SameGrants all_rights xs ys
@@ -116,7 +117,8 @@ is_taken xs ys ns columns irr f n g = record {
     once : (b : ℕ) → IsOnce (column ys b)
     once b =
         subst IsOnce (column_left b ys)
-        (once_from_clean (column (left ys) b) (irreducible_clean (column (left ys) b) (irreducible_column (left ys) b irr)))
+        (once_from_clean (column (left ys) b)
+        (irreducible_clean (column (left ys) b) (irreducible_column (left ys) b irr)))
 
     in_rows : (b : ℕ) (e : ColumnKey) → Has (column ns b) e → Has (column ys b) e
     in_rows b (p, k) h =

@@ -90,7 +90,8 @@ pub(crate) fn searched_among<'a>(
 ) -> Result<Option<Difference>, AllocError>
     requires list { HasNames (aces_in list.now) }
     requires other { HasNames (aces_in other.now) }
-    ensures { IfOk result (IsSearched (two_lists direction (aces_in list.now) (aces_in other.now))) }
+    ensures { IfOk result (IsSearched
+        (two_lists direction (aces_in list.now) (aces_in other.now))) }
 {
     let mentions = mentioned(alloc, list, other)?;
     let compared = Compared::of(direction, list, other, &mentions);

@@ -41,7 +41,8 @@ pub(crate) fn first_inverting(
     requires places { AllByRecursion (IsPlacingWithin size) placings.now }
     requires size { size < slice_limit }
     requires alone { AllByRecursion (SameAlone direction) placings.now }
-    ensures { IfOk result (IsFirstBelow (λ r. inverts_any direction r placings.now) placings.now limit) }
+    ensures { IfOk result (IsFirstBelow (λ r. inverts_any direction r placings.now) placings.now
+        limit) }
 {
     let camp = Camp::of(direction, Kind::Allow, Class::Users);
     let allowed_users = first_of(alloc, placings, size, limit, camp)?;

@@ -1,5 +1,6 @@
-//! The search for the first small set at which two lists differ in a direction. A test of each pair of principals would take time that
-//! grows with the square of their number, so the search finds one principal of the pair first, and then the other.
+//! The search for the first small set at which two lists differ in a direction. A test of each pair of principals would
+//! take time that grows with the square of their number, so the search finds one principal of the pair first, and then
+//! the other.
 ghost use Rattle.std.specs.Prelude.{◌<◌};
 ghost use Rattle.acl_normal.specs.Common.{all_mentioned, AreNumbered, FindSet, IfOk, IfSome, length, members_or_none};
 ghost use Rattle.acl_normal.specs.internal.comparison.TwoLists.{AreAlikeAlone, IsFirstMember, IsFirstPartner, IsFirstSingle};
@@ -11,8 +12,9 @@ use acl_perm::internal::Bit;
 use std::alloc::{AllocError, Global};
 
 impl Compared<'_, '_> {
-    /// Returns the first small set at which the lists differ in the direction. The lesser member of the first such pair is the least
-    /// principal that is in any such pair, and the other member is the least later principal that makes a pair with it.
+    /// Returns the first small set at which the lists differ in the direction. The lesser member of the first such pair
+    /// is the least principal that is in any such pair, and the other member is the least later principal that makes a
+    /// pair with it.
     pub(crate) fn first_set(&self, alloc: Global) -> Result<Option<Members>, AllocError>
         ensures found { IfOk result (λ r.
             FindSet self.now (members_or_none (all_mentioned self.now) r)) }

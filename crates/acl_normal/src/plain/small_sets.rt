@@ -72,7 +72,8 @@ fn searched<'a>(
 // The first small set at which the lists differ.
 #[tactic(auto, using(crate::proofs::comparison::SetSearchLemmas::empty_differs))]
 fn first_set<'a>(lists: Lists<'_, '_>, whole: &[Principal<'a>]) -> Option<SmallSet<'a>>
-    ensures { FindsSet lists.entry.direction (aces_in lists.entry.first.now) (aces_in lists.entry.second.now)
+    ensures { FindsSet lists.entry.direction (aces_in lists.entry.first.now)
+        (aces_in lists.entry.second.now)
         (small_sets (principals whole.now)) (set_or_none result) }
 {
     if !lists.are_alike(SmallSet::Empty) {
@@ -87,7 +88,8 @@ fn first_set<'a>(lists: Lists<'_, '_>, whole: &[Principal<'a>]) -> Option<SmallS
 // The first principal at which alone the lists differ.
 #[tactic(auto, using(crate::proofs::comparison::SetSearchLemmas::single_ends))]
 fn first_single<'a>(lists: Lists<'_, '_>, whole: &[Principal<'a>]) -> Option<SmallSet<'a>>
-    ensures { FindsSet lists.entry.direction (aces_in lists.entry.first.now) (aces_in lists.entry.second.now)
+    ensures { FindsSet lists.entry.direction (aces_in lists.entry.first.now)
+        (aces_in lists.entry.second.now)
         (singles (principals whole.now)) (set_or_none result) }
 {
     for p in whole {
@@ -102,7 +104,8 @@ fn first_single<'a>(lists: Lists<'_, '_>, whole: &[Principal<'a>]) -> Option<Sma
 // The first pair at which the lists differ.
 #[tactic(auto, using(crate::proofs::comparison::SetSearchLemmas::pair_ends))]
 fn first_pair<'a>(lists: Lists<'_, '_>, whole: &[Principal<'a>]) -> Option<SmallSet<'a>>
-    ensures { FindsSet lists.entry.direction (aces_in lists.entry.first.now) (aces_in lists.entry.second.now)
+    ensures { FindsSet lists.entry.direction (aces_in lists.entry.first.now)
+        (aces_in lists.entry.second.now)
         (principal_pairs (principals whole.now)) (set_or_none result) }
 {
     for (i, p) in whole.iter().enumerate() {
@@ -121,7 +124,8 @@ fn first_partner<'a>(
     p: Principal<'a>,
     rest: &[Principal<'a>],
 ) -> Option<SmallSet<'a>>
-    ensures { FindsSet lists.entry.direction (aces_in lists.entry.first.now) (aces_in lists.entry.second.now)
+    ensures { FindsSet lists.entry.direction (aces_in lists.entry.first.now)
+        (aces_in lists.entry.second.now)
         (partners (principal p.entry) (principals rest.now)) (set_or_none result) }
 {
     for q in rest {
@@ -149,9 +153,11 @@ impl Lists<'_, '_> {
 
     // Returns whether the lists do not differ in the direction if only the principals of the set match, and everyone.
     fn are_alike(self, set: SmallSet<'_>) -> bool
-        ensures alike { OnTrue result (GrantAlikeTo self.entry.direction (aces_in self.entry.first.now)
+        ensures alike { OnTrue result (GrantAlikeTo self.entry.direction
+            (aces_in self.entry.first.now)
             (aces_in self.entry.second.now) (set_of set.entry)) }
-        ensures differ { OnFalse result (GrantAlikeTo self.entry.direction (aces_in self.entry.first.now)
+        ensures differ { OnFalse result (GrantAlikeTo self.entry.direction
+            (aces_in self.entry.first.now)
             (aces_in self.entry.second.now) (set_of set.entry) → ⊥) }
     {
         self.direction

@@ -133,7 +133,8 @@ framed body n size =
 pub reads_back : (acl : Entries) → IsAcl acl → HoldsAcl (attribute_bytes acl) acl
 reads_back acl h =
     let ps : List (Tag × ℕ) = fin.entries acl in
-    let pairs_are : raw_pairs (attribute_raws (attribute_bytes acl)) ≡ ps = ap raw_pairs (written acl h) ∙ all_again ps in
+    let pairs_are : raw_pairs (attribute_raws (attribute_bytes acl)) ≡ ps = ap raw_pairs (written acl h)
+    ∙ all_again ps in
     let set_is : as_set (raw_pairs (attribute_raws (attribute_bytes acl))) ≡ acl = set_of acl _ pairs_are in
     record {
       frame = framed (flat_map entry_bytes ps) (length ps) (bytes_length ps);

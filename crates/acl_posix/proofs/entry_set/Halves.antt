@@ -117,7 +117,8 @@ found_nowhere E r q low high tag left done is_rank is_qualifier = fin.get-entrie
     let within : j < length (fin.entries E) = omega (arith, lt, length-tags_of (fin.entries E)) in
     let there = get_or_default (fin.keys E) j tag other lt in
     let order = λ (o : Ordering) (is : order_of (get_or (fin.keys E) j other) r q ≡ o).
-    (λ t. tag_cmp (there t) tag) ∙ sym (λ t. order_of (get_or (fin.keys E) j other) (is_rank t) (is_qualifier t)) ∙ is in
+    (λ t. tag_cmp (there t) tag) ∙ sym (λ t. order_of (get_or (fin.keys E) j other) (is_rank t) (is_qualifier t))
+    ∙ is in
     elim (cases_lt j low) [
       | inl below ↦ unequal _ tag Less (order Less (left.before j below)) refl
       | inr above ↦ unequal _ tag Greater (order Greater (left.after j (omega (arith, above, done)) within)) refl

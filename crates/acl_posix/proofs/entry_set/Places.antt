@@ -1,5 +1,5 @@
 -- Entries that are read place by place, in canonical order.
-use Rattle.acl_posix.proofs.Common.{ap, Bool, cond, drop, false, get_or, length, List, list_any, None, Some, Tag, tags, true, ℕ, ◌+◌, ◌<◌, ◌||◌, ◌∙◌, ◌∷◌, ◌≡◌, ◌≤◌}
+use Rattle.acl_posix.proofs.Common.{ap, Bool, cond, drop, false, get_or, length, List, list_any, Some, Tag, tags, true, ℕ, ◌+◌, ◌<◌, ◌||◌, ◌∙◌, ◌∷◌, ◌≡◌, ◌≤◌}
 use Rattle.std.specs.Prelude.{find}
 use Rattle.std.proofs.lemmas.List.{at_drop_all, at_drop_more}
 use Rattle.acl_posix.proofs.tag.Tags.{list_any-map}
@@ -23,13 +23,6 @@ any_here p ps i e lt at left is = list_any-map p (λ (q : Tag × ℕ). q.0) ps �
     ∙ at_entry (λ (qs : List (Tag × ℕ)). list_any (λ q. p q.0) qs) ps i e lt at
     ∙ ap (λ (b : Bool). b || list_any (λ (q : Tag × ℕ). p q.0) (drop (i + 1) ps)) is
 
--- this entry does not pass
-pub any_later : (p : Tag → Bool) (ps : List (Tag × ℕ)) (i : ℕ) (e : Tag × ℕ) → i < length ps → get_or ps i e ≡ e
-    → AnyLeft p ps i → p e.0 ≡ false → AnyLeft p ps (i + 1)
-any_later p ps i e lt at left is = left
-    ∙ at_entry (λ (qs : List (Tag × ℕ)). list_any (λ q. p q.0) qs) ps i e lt at
-    ∙ ap (λ (b : Bool). b || list_any (λ (q : Tag × ℕ). p q.0) (drop (i + 1) ps)) is
-
 -- no entry passes, if none is left
 pub any_nowhere : (p : Tag → Bool) (ps : List (Tag × ℕ)) (i : ℕ) → length ps ≤ i → AnyLeft p ps i
     → list_any p (tags ps) ≡ false
@@ -47,14 +40,3 @@ pub first_here : (p : Tag × ℕ → Bool) (ps : List (Tag × ℕ)) (i : ℕ) (e
     → FirstLeft p ps i → p e ≡ true → find p ps ≡ Some e
 first_here p ps i e lt at left is = left ∙ at_entry (λ (qs : List (Tag × ℕ)). find p qs) ps i e lt at
     ∙ ap (λ (b : Bool). cond b (Some e) (find p (drop (i + 1) ps))) is
-
--- this entry does not pass
-pub first_later : (p : Tag × ℕ → Bool) (ps : List (Tag × ℕ)) (i : ℕ) (e : Tag × ℕ) → i < length ps → get_or ps i e ≡ e
-    → FirstLeft p ps i → p e ≡ false → FirstLeft p ps (i + 1)
-first_later p ps i e lt at left is = left ∙ at_entry (λ (qs : List (Tag × ℕ)). find p qs) ps i e lt at
-    ∙ ap (λ (b : Bool). cond b (Some e) (find p (drop (i + 1) ps))) is
-
--- no entry passes, if none is left
-pub first_nowhere : (p : Tag × ℕ → Bool) (ps : List (Tag × ℕ)) (i : ℕ) → length ps ≤ i → FirstLeft p ps i
-    → find p ps ≡ None
-first_nowhere p ps i le left = left ∙ at_drop_all (λ (qs : List (Tag × ℕ)). find p qs) ps i le

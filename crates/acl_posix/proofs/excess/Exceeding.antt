@@ -129,6 +129,7 @@ made_excess A B og r u few d not is_user is_groups is_group is_request h = recor
   asks = ap (λ (p : Perm). p.bits) is_request;
 }
 
+-- the difference in what the owner is granted
 pub made_owner : (A B : Entries) (r : Perm) (d : PosixDifference) → d.user ≡ d.owner → d.request ≡ r
     → entry_contains A user_obj r.bits ≡ true → entry_contains B user_obj r.bits ≡ false → IsExcessOf A B r.bits d
 made_owner A B r d same is_request a b = record {

@@ -165,6 +165,7 @@ joined_never y b never (g ∷ gs) h = elim (join_either (y g) (joined y gs) b h)
 
 -- ---- the answers with no group, one group and two groups
 
+-- with no group, OTHER decides
 pub with_none : (E : Entries) (og r : ℕ) → stranger_grants E og [] r ≡ entry_contains E other r
 with_none E og r = stranger_is E og r []
 
@@ -172,11 +173,13 @@ join_alone : (a : Option Bool) → join a None ≡ a
 join_alone None = refl
 join_alone (Some x) = refl
 
+-- with one group, its answer decides, or OTHER if it has none
 pub with_one : (E : Entries) (og r g : ℕ)
     → stranger_grants E og (g ∷ []) r ≡ unwrap_or (group_answer E og r g) (entry_contains E other r)
 with_one E og r g = stranger_is E og r (g ∷ [])
     ∙ ap (λ (a : Option Bool). unwrap_or a (entry_contains E other r)) (join_alone (group_answer E og r g))
 
+-- with two groups, both answers together decide, or OTHER if neither group has one
 pub with_two : (E : Entries) (og r g h : ℕ) → stranger_grants E og (g ∷ (h ∷ [])) r
     ≡ unwrap_or (join (group_answer E og r g) (group_answer E og r h)) (entry_contains E other r)
 with_two E og r g h = stranger_is E og r (g ∷ (h ∷ []))
@@ -240,23 +243,28 @@ with_answers A B og r g a b is_a is_b grants denies = record {
   denied = with_one B og r g ∙ ap (λ (x : Option Bool). unwrap_or x (entry_contains B other r)) is_b ∙ denies;
 }
 
+-- with no group, the first set grants and the second denies if OTHER does
 pub excess_none : (A B : Entries) (og r : ℕ) → entry_contains A other r ≡ true → entry_contains B other r ≡ false
     → IsGroupExcess A B og r []
 excess_none A B og r grants denies =
     record { granted = with_none A og r ∙ grants; denied = with_none B og r ∙ denies }
 
+-- a group that the first set grants and the second denies is enough
 pub excess_both : (A B : Entries) (og r g : ℕ) → HasAnswers A B og r true (Some false) g
     → IsGroupExcess A B og r (g ∷ [])
 excess_both A B og r g h = with_answers A B og r g (Some true) (Some false) h.own_is h.others_is refl refl
 
+-- if OTHER of the first set grants, a group that only the second set has, and denies, is enough
 pub excess_denied : (A B : Entries) (og r g : ℕ) → HasAnswers B A og r false None g
     → entry_contains A other r ≡ true → IsGroupExcess A B og r (g ∷ [])
 excess_denied A B og r g h grants = with_answers A B og r g None (Some false) h.others_is h.own_is grants refl
 
+-- if OTHER of the second set denies, a group that only the first set has, and grants, is enough
 pub excess_granted : (A B : Entries) (og r g : ℕ) → HasAnswers A B og r true None g
     → entry_contains B other r ≡ false → IsGroupExcess A B og r (g ∷ [])
 excess_granted A B og r g h denies = with_answers A B og r g (Some true) None h.own_is h.others_is refl denies
 
+-- a group that only the first set has, and grants, and a group that the second set denies are enough
 pub excess_two : (A B : Entries) (og r g h : ℕ) → HasAnswers A B og r true None g
     → HasAnswers B B og r false (Some false) h → IsGroupExcess A B og r (g ∷ (h ∷ []))
 excess_two A B og r g h grants denies =
@@ -316,23 +324,26 @@ none_denied A B og r grants never gs h =
 
 -- ---- groups with which a set gives an answer
 
--- answers that a test finds equal are equal, and answers that it finds different are not
+-- answers that a test finds equal are equal
 pub same_answer : (a b : Bool) → beq a b ≡ true → a ≡ b
 same_answer true true h = refl
 same_answer true false h = sym h
 same_answer false true h = h
 same_answer false false h = refl
 
+-- answers that a test finds different are not equal
 pub other_answer : (a b : Bool) → beq a b ≡ false → a ≡ b → ⊥
 other_answer true true h is = absurd cc
 other_answer true false h is = absurd cc
 other_answer false true h is = absurd cc
 other_answer false false h is = absurd cc
 
+-- with no group, the answer is that of OTHER
 pub reached_none : (E : Entries) (og r : ℕ) (b : Bool) → entry_contains E other r ≡ b
     → stranger_grants E og [] r ≡ b
 reached_none E og r b is = with_none E og r ∙ is
 
+-- with one group that has an answer, the answer is that of the group
 pub reached_one : (E : Entries) (og r g : ℕ) (b : Bool) → group_answer E og r g ≡ Some b
     → stranger_grants E og (g ∷ []) r ≡ b
 reached_one E og r g b is =
@@ -342,6 +353,7 @@ unwrapped : (a : Option Bool) (o b : Bool) → (a ≡ Some b → ⊥) → (o ≡
 unwrapped None o b never differs h = differs h
 unwrapped (Some x) o b never differs h = never (ap (λ (y : Bool). Some y) h)
 
+-- an answer that neither OTHER nor a group gives is never given
 pub not_reached : (E : Entries) (og r : ℕ) (b : Bool) → (entry_contains E other r ≡ b → ⊥)
     → ((g : ℕ) → HasAnswers E E og r b (Some b) g → ⊥) → (gs : List ℕ) → stranger_grants E og gs r ≡ b → ⊥
 not_reached E og r b differs never gs h =

@@ -1,5 +1,5 @@
 -- A text spells one file or has one fault, and not both.
-use Rattle.acl_posix.proofs.Common.{[], Access, access_of, acl_fault, ap, arith, as_set, Default, default_of, Entries, Err, FailsWith, IfErr, IfOk, inl, inr, is_refusal, IsAclOf, IsDefaultOf, IsFaultOf, IsFile, IsFirstInvalid, IsFirstTextFault, IsInvalidText, IsPartFault, IsTextFault, IsTextFaultOrMemory, IsTextRefusedWith, IsValidList, length, List, Lists, MatchResult, no_lists, None, Ok, Option, Part, PartEntry, pieces_of, PosixFile, read_pieces, Reads, refl, Result, rules, Some, SpellAll, subst, sym, Table, Tag, TextFault, TextPiece, true, ℕ, ◌<◌, ◌↔◌, ◌∙◌, ◌∷◌, ◌≡◌, ◌⊎◌}
+use Rattle.acl_posix.proofs.Common.{[], Access, access_of, acl_fault, ap, arith, as_set, Default, default_of, Entries, Err, FailsWith, IfErr, IfOk, inl, inr, is_refusal, IsAclOf, IsDefaultOf, IsFaultOf, IsFile, IsFirstInvalid, IsFirstTextFault, IsInvalidText, IsPartFault, IsTextFault, IsTextFaultOrMemory, IsTextRefusedWith, IsValidList, length, List, Lists, MatchResult, no_lists, None, Ok, Option, Part, PartEntry, pieces_of, PosixFile, read_pieces, Reads, refl, Result, rules, Some, SpellAll, subst, sym, Table, Tag, TextFault, TextPiece, true, ℕ, ◌<◌, ◌↔◌, ◌∙◌, ◌∷◌, ◌≡◌}
 use Rattle.acl_posix.proofs.reader.Lines.{all_read, first_read, joined, judged}
 use Rattle.acl_posix.proofs.sorting.ValidLists.{no_fault, one_fault}
 use Rattle.acl_posix.specs.Names.{empty_table}

@@ -1,6 +1,6 @@
 -- The list of a set, in canonical order: the place of a tag, the permissions there, and edits of one entry.
-use Rattle.acl_posix.proofs.Common.{[], All, All-map, AllByRecursion, ap, arith, as_set, below_all, Bool, both_hold, cases_lt, code_cmp, codes_total, cond, Entries, Entry, eq_by_cmp, eq_by_cmp_equiv, Err, false, filter, find-where_key, get_or, get_or-map, get_or_default, Greater, inl, inr, insert, is_eq, is_lt, is_sorted-where_key, IsBinarySearchResult, IsEntry, IsGap, IsSearchInRange, IsSome, IsSorted, IsSortedBy, IsStrictlySortedBy, IsTag, IsTagAt, length, Less, Less-from_sorted, List, list_any, list_any_at, map-set, MatchResult, None, not, Ok, Option, Ordering, pair_of, pairs, passes_less, refl, Result, searchable_from_sorted, set, Some, sorted_tail, subst, suc, sym, T, Tag, tag_cmp, tag_of, TagOfCode, tags, tags_total, tied_itself, true, where_key, zero, ℕ, ◌&&◌, ◌+◌, ◌<◌, ◌↔◌, ◌∙◌, ◌∷◌, ◌≡◌}
-use Rattle.acl_posix.proofs.tag.Tags.{exact_tags, length-tags, length-tags_of, list_any-map, pairs-insert, tag_read}
+use Rattle.acl_posix.proofs.Common.{[], All, All-map, AllByRecursion, ap, arith, as_set, below_all, Bool, both_hold, cases_lt, code_cmp, codes_total, cond, Entries, Entry, eq_by_cmp, eq_by_cmp_equiv, Err, false, filter, find-where_key, get_or, get_or-map, Greater, inl, inr, insert, is_eq, is_lt, is_sorted-where_key, IsBinarySearchResult, IsEntry, IsGap, IsSearchInRange, IsSome, IsSorted, IsSortedBy, IsStrictlySortedBy, IsTag, IsTagAt, length, Less, Less-from_sorted, List, list_any_at, map-set, MatchResult, None, not, Ok, Option, Ordering, pair_of, pairs, passes_less, refl, Result, searchable_from_sorted, set, Some, sorted_tail, subst, suc, sym, T, Tag, tag_cmp, tag_of, TagOfCode, tags, tags_total, tied_itself, true, where_key, zero, ℕ, ◌&&◌, ◌+◌, ◌<◌, ◌↔◌, ◌∙◌, ◌∷◌, ◌≡◌}
+use Rattle.acl_posix.proofs.tag.Tags.{exact_tags, length-tags, length-tags_of, pairs-insert, tag_read}
 use Rattle.std.specs.FinMap as fin
 use Rattle.acl_posix.specs.declared.tag.Tag.TheVariants as code
 
@@ -54,12 +54,6 @@ tag_within tag = tt
 -- each entry of a list is within its limits
 pub all_entries : (es : List Entry) → All IsEntry (pairs es)
 all_entries es = All-map IsEntry pair_of es (λ k d lt. (tag_within (get_or es k d).tag, (get_or es k d).perm.within))
-
--- a test of some entry of a set, and of the list that has its entries
-pub any_tag : (p : Tag → Bool) (E : Entries) (es : List Entry) → pairs es ≡ fin.entries E
-    → list_any p (fin.keys E) ≡ list_any (λ (e : Entry). p (tag_of e.tag)) es
-any_tag p E es same = ap (λ (ps : List (Tag × ℕ)). list_any p (tags ps)) (sym same)
-    ∙ list_any-map p (λ (q : Tag × ℕ). q.0) (pairs es) ∙ list_any-map (λ (q : Tag × ℕ). p q.0) pair_of es
 
 -- ---- what a binary search says
 
@@ -139,14 +133,6 @@ entry_found E l i es e same lt read is = subst (λ (t : Tag). fin.get E t ≡ So
     (find_at E i (pair_of e) (omega (arith, lt, keys_length E es same, length-tags_of (fin.entries E)))
     (ap (λ (ps : List (Tag × ℕ)). get_or ps i (pair_of e)) (sym same) ∙ get_or-map pair_of es i e (pair_of e) lt
     ∙ ap pair_of (sym read)))
-
--- the permissions of the entry at the place of a tag
-pub perm_at_place : (E : Entries) (l : Tag) (i : ℕ) (es : List Entry) (e : Entry) → pairs es ≡ fin.entries E
-    → IsTagAt (fin.keys E) l i → fin.get E l ≡ Some (get_or es i e).perm.bits
-perm_at_place E l i es e same at =
-    let lt : i < length es = omega (arith, at.in_range, keys_length E es same) in
-    entry_found E l i es (get_or es i e) same lt (get_or_default es i e (get_or es i e) lt)
-    (sym (tag_read es i e l lt) ∙ ap (λ (ps : List (Tag × ℕ)). get_or (tags ps) i l) same ∙ at.has)
 
 -- a tag with a place has an entry
 pub present_at : (E : Entries) (l : Tag) (i : ℕ) → IsTagAt (fin.keys E) l i → IsSome (fin.get E l)

@@ -11,7 +11,8 @@ use Rattle.acl_posix.proofs.tag.Tags.{length-tags_of}
 -- raw entries in canonical order have the entries of their set
 pub entries_of_raws : (E : Entries) (raws : List RawEntry) → as_set (raw_pairs raws) ≡ E → AreCanonical raws
     → raw_pairs raws ≡ fin.entries E
-entries_of_raws E raws view h = sym (entries_in_order (raw_pairs raws) h.sorted) ∙ ap (λ (s : Entries). fin.entries s) view
+entries_of_raws E raws view h = sym (entries_in_order (raw_pairs raws) h.sorted)
+    ∙ ap (λ (s : Entries). fin.entries s) view
 
 -- they are as many
 pub raws_length : (E : Entries) (raws : List RawEntry) → as_set (raw_pairs raws) ≡ E → AreCanonical raws
@@ -33,11 +34,6 @@ rises_more ps place so_far here before later below = elim (cases_lt before place
       let same : before ≡ place = omega (arith, below, not_less) in
       ap (λ k. tag_cmp (tag_at ps (k - 1)) (tag_at ps k)) same ∙ here
 ]
-
--- no tag stops where the tags rise
-pub no_stop : (ps : List (Tag × ℕ)) (place : ℕ) → RisesUpTo ps place
-    → (before : ℕ) → before < place → IsStop ps before → ⊥
-no_stop ps place so_far before below stop = stop.stops (so_far before stop.later below)
 
 -- a list whose tags rise is in canonical order
 pub all_rise : (ps : List (Tag × ℕ)) (place : ℕ) → length ps ≤ place → RisesUpTo ps place → IsSorted ps

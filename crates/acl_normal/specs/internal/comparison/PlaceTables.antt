@@ -26,9 +26,9 @@ camp_of direction kind class = record { direction = direction; kind = kind; clas
 abbrev pub is_counted : Camp → Placing → Bool
 is_counted camp r = not (is_users camp.class && is_users r.class) && has_kind (not (is_allow camp.kind)) r
 
--- the principals that come before one of the camp in the list of a side, and not in the other list, make a difference in
--- the direction: in either direction on each side; and where only the first list may grant more, an ALLOW comes before
--- a DENY in the first list, and after it in the second
+-- the principals that come before one of the camp in the list of a side, and not in the other list, make a difference
+-- in the direction: in either direction on each side; and where only the first list may grant more, an ALLOW comes
+-- before a DENY in the first list, and after it in the second
 abbrev pub is_wanted : Direction → Bool → Side → Bool
 is_wanted Either allows side = true
 is_wanted Over true Here = false

@@ -10,4 +10,7 @@ returns-in-None c =
 pub returns-in-Some : goal.returns-in-Some
 returns-in-Some c =
     let text = c.args.text.now in
-    record { parts = line_some text c.in-Some.place (says_value (λ b. eqb b 10) text _ _ c.place_of.ensures c.in-Some.is) }
+    record {
+      parts = line_some text c.in-Some.place
+          (says_value (λ b. eqb b 10) text _ _ c.place_of.ensures c.in-Some.is);
+    }

@@ -3,8 +3,8 @@ use Rattle.acl_posix.proofs.parser.parse.Goals as goal
 
 pub returns-clause-only : goal.returns-clause-only
 returns-clause-only c =
-    only_file c.args.text.now c.args.names.now c.read_file.result c.read_file.ensures.found c.read_file.ensures.fault
+    only_file c.args.text.now c.args.names.now c.parsed.result c.parsed.ensures.found c.parsed.ensures.fault
 
 pub returns-clause-refused : goal.returns-clause-refused
 returns-clause-refused c =
-    only_fault c.args.text.now c.args.names.now c.read_file.result c.read_file.ensures.found c.read_file.ensures.fault
+    only_fault c.args.text.now c.args.names.now c.parsed.result c.parsed.ensures.found c.parsed.ensures.fault

@@ -3,7 +3,8 @@ use Rattle.acl_posix.proofs.raw_list.read_entries.Goals as goal
 
 pub returns-in-Err-clause-accepts : goal.returns-in-Err-clause-accepts
 returns-in-Err-clause-accepts c = λ are.
-    absurd (not_wrong c.args.raws.now c.loop-place.place _ c.in-Err.fault c.loop-place-test.true are c.in-Err.ensures.fault)
+    absurd (not_wrong c.args.raws.now c.loop-place.place _ c.in-Err.fault c.loop-place-test.true are
+    c.in-Err.ensures.fault)
 
 pub loop-place-preserved : goal.loop-place-preserved
 loop-place-preserved c = record {

@@ -24,12 +24,14 @@ named_mask_read whole weight line column field mask heavy e h =
 
 pub returns-then-is_too_heavy-clause-exact : goal.returns-then-is_too_heavy-clause-exact
 returns-then-is_too_heavy-clause-exact c =
-    named_mask_read c.args.profile.masks.bits c.args.weight c.args.line c.args.column c.args.field.now c.in-Some.bits true
+    named_mask_read c.args.profile.masks.bits c.args.weight c.args.line c.args.column c.args.field.now c.in-Some.bits
+    true
     (ap (λ (n : ℕ). set_within rights n c.args.field.now) (sym c.bits.ensures.value) ∙ sym c.in-Some.ensures.exact)
     (sym c.is_too_heavy.ensures ∙ c.if-is_too_heavy.true)
 
 pub returns-clause-exact : goal.returns-clause-exact
 returns-clause-exact c =
-    named_mask_read c.args.profile.masks.bits c.args.weight c.args.line c.args.column c.args.field.now c.in-Some.bits false
+    named_mask_read c.args.profile.masks.bits c.args.weight c.args.line c.args.column c.args.field.now c.in-Some.bits
+    false
     (ap (λ (n : ℕ). set_within rights n c.args.field.now) (sym c.bits.ensures.value) ∙ sym c.in-Some.ensures.exact)
     (sym c.is_too_heavy.ensures ∙ c.if-is_too_heavy.false)

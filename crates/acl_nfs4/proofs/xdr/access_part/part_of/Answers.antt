@@ -20,7 +20,8 @@ loop-left-preserved c =
     rw (c.bits.ensures.value, c.in_ok-add.ensures) (record {
       reads = sym more ∙ c.loop-left.invariant.reads;
       light = c.in_ok-ace.ensures.light;
-      few = part_few c.loop-left.part (any_ace c.in_ok-ace.ace) c.loop-left.left most_aces some c.loop-left.invariant.few;
+      few = part_few c.loop-left.part (any_ace c.in_ok-ace.ace) c.loop-left.left most_aces some
+          c.loop-left.invariant.few;
       heavy = part_heavy c.loop-left.part (any_ace c.in_ok-ace.ace) c.loop-left.weight c.loop-left.invariant.heavy;
     })
 

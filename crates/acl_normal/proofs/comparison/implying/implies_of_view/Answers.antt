@@ -1,4 +1,4 @@
-use Rattle.acl_normal.proofs.Common.{aces_in, ap, full, HasNames, subst, sym, ◌∙◌, ◌≡◌}
+use Rattle.acl_normal.proofs.Common.{aces_in, ap, full, HasNames, subst, sym, ◌∙◌}
 use Rattle.acl_normal.proofs.comparison.RightReplaced.{implication_found, replaced_named}
 use Rattle.acl_normal.proofs.comparison.implying.implies_of_view.Goals as goal
 use Rattle.acl_normal.proofs.unique.Accepted.{accepted_names}

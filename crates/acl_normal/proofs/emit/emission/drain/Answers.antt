@@ -33,7 +33,8 @@ emitted-smaller c =
 
 pub emitted-preserved : goal.emitted-preserved
 emitted-preserved c =
-    let after = turn_in_rows c.args.rows.now c.emitted.rows c.take_out.new.self c.emitted.out.items c.push.new.self.items _
+    let after = turn_in_rows c.args.rows.now c.emitted.rows c.take_out.new.self c.emitted.out.items
+    c.push.new.self.items _
     c.emitted.ready c.pop.new.ready c.free_after.new.ready (plain_key c.in-Some.next.key) c.in-Some.next.mask.bits
     c.emitted.invariant.drains c.in-Some.ensures.some c.emitted.invariant.rows c.in_ok-push.ensures.items refl
     c.take_out.ensures c.in_ok-free_after.ensures.marks in

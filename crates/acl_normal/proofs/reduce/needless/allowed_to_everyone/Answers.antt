@@ -12,7 +12,8 @@ loop-place-init c = record {
 
 pub loop-place-preserved : goal.loop-place-preserved
 loop-place-preserved c =
-    let here = shown_here c.args.aces.now c.args.masks.now c.requires.places c.loop-place-test.true c.index-aces-place.is c.index-masks-place.is in
+    let here = shown_here c.args.aces.now c.args.masks.now c.requires.places c.loop-place-test.true
+    c.index-aces-place.is c.index-masks-place.is in
     record {
       within = c.union-allowed.result.within;
       allows =

@@ -25,7 +25,8 @@ returns-in_err-from_entries-clause-fault c =
     (c.in_default-first_fall.ensures.none refl) in
     let wrong = invalid_from c.args.bytes.now c.deref.result.now (pairs c.in_ok-entries.entries.items)
     (λ entries. NeverFalls entries × IsFaultOf entries c.in_err-from_entries.field-0.0)
-    (sym c.frame_fault.ensures ∙ c.in_default.is) (the_raws c.args.bytes.now (c.deref.ensures.value ∙ c.in_ok-raws.ensures))
+    (sym c.frame_fault.ensures ∙ c.in_default.is)
+    (the_raws c.args.bytes.now (c.deref.ensures.value ∙ c.in_ok-raws.ensures))
     c.in_ok-entries.ensures.valid c.in_ok-entries.ensures.entries (never, c.in_err-from_entries.ensures.fault) in
     let p = err_from_is_err_and c.from_residual-in_err-from_entries.result
     c.from_residual-in_err-from_entries.ensures.1 in
@@ -34,7 +35,8 @@ returns-in_err-from_entries-clause-fault c =
 pub returns-clause-read : goal.returns-clause-read
 returns-clause-read c =
     holds_from c.args.bytes.now c.deref.result.now (pairs c.in_ok-entries.entries.items) _
-    (sym c.frame_fault.ensures ∙ c.in_default.is) (the_raws c.args.bytes.now (c.deref.ensures.value ∙ c.in_ok-raws.ensures))
+    (sym c.frame_fault.ensures ∙ c.in_default.is)
+    (the_raws c.args.bytes.now (c.deref.ensures.value ∙ c.in_ok-raws.ensures))
     c.in_ok-entries.ensures.valid c.in_ok-entries.ensures.entries
     (subst (λ (es : List Entry). NeverFalls (pairs es)) c.deref-2.ensures.value
     (c.in_default-first_fall.ensures.none refl))

@@ -3,7 +3,8 @@ use Rattle.acl_normal.proofs.comparison.compared.Compared.placings.Goals as goal
 use Rattle.acl_normal.proofs.comparison.RowFacts.{rows_more}
 
 pub loop-i-preserved : goal.loop-i-preserved
-loop-i-preserved c = rows_more c.self.inside.mentioned.now _ _ c.loop-i-test.true c.index.ensures c.index-in-loop-i.ensures
+loop-i-preserved c =
+    rows_more c.self.inside.mentioned.now _ _ c.loop-i-test.true c.index.ensures c.index-in-loop-i.ensures
     c.of.ensures
     (subst (λ both. AreFirstFrom (principals c.self.inside.mentioned.now) both.first c.args.right.bit 0
     c.in_ok-here.here.items) c.self.view_is c.in_ok-here.ensures)

@@ -1,6 +1,6 @@
 use Rattle.acl_posix.proofs.Common.{Access, Default, err_from_is_err_and, lists_of}
 use Rattle.acl_posix.proofs.reader.Settled.{file_found, part_refused, text_refused}
-use Rattle.acl_posix.proofs.parser.read_file.Goals as goal
+use Rattle.acl_posix.proofs.parser.parsed.Goals as goal
 
 pub returns-in_err-lists-clause-fault : goal.returns-in_err-lists-clause-fault
 returns-in_err-lists-clause-fault c =
