@@ -70,7 +70,7 @@ kept_accepted list a named wanted ok room light small =
 -- ---- one more ACE
 
 -- one more ACE is kept after the others, or it is left out
-kept-push : (list : List PlacedAce) (p : PlacedAce)
+pub kept-push : (list : List PlacedAce) (p : PlacedAce)
     → kept (list ++ p ∷ []) ≡ kept list ++ cons_option (kept_unless (reason_of p.ace) p.ace) []
 kept-push list p = filter_map-append (λ (q : PlacedAce). kept_unless (reason_of q.ace) q.ace) list (p ∷ [])
 
@@ -91,7 +91,7 @@ left_from-push place (q ∷ list) p =
     (noted_if (place + suc (length list)) p.offset (reason_of p.ace)))
 
 -- one more ACE of a whole list is reported after the others, if it is left out
-left_out-push : (list : List PlacedAce) (p : PlacedAce)
+pub left_out-push : (list : List PlacedAce) (p : PlacedAce)
     → left_out (list ++ p ∷ []) ≡ left_out list ++ noted_if (length list) p.offset (reason_of p.ace)
 left_out-push list p =
     left_from-push 0 list p

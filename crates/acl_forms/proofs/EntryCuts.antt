@@ -10,7 +10,7 @@ use Rattle.acl_perm.specs.Counts.{count_limit}
 use Rattle.acl_perm.specs.Lines.{cut_at, ColumnsFit, IsCut, Span, span_of, spans}
 use Rattle.acl_perm.specs.declared.lines.Piece.{Piece}
 use Rattle.acl_forms.proofs.TextLemmas.{read_append}
-use Rattle.acl_forms.specs.TextReading.{FailsAsRead, IsEntryCut, IsEntryRest, part_items, read_items, RestFits}
+use Rattle.acl_forms.specs.TextReading.{FailsAsRead, IsHeld, IsEntryCut, IsEntryRest, part_items, read_items, RestFits}
 use Rattle.acl_forms.specs.Texts.{cut_entries, entries_among, items_of, TextRules}
 use Rattle.acl_forms.specs.declared.fault.ReadFault.{ReadFault}
 
@@ -117,6 +117,37 @@ pub fail_on : {X : Type 0} (g : TextRules X) (old : List X) (xs ys : List (Resul
     → FailsAsRead fault (read_items g old xs) → FailsAsRead fault (read_items g old (xs ++ ys))
 fail_on g old xs ys fault (inl none) = inl none
 fail_on g old xs ys fault (inr e) = inr (read_append g old xs ys ∙ rw e refl)
+
+-- what is held, with items that are left, gives what these items give after this list
+pub record ReadsTo {X : Type 0} (g : TextRules X) (Held : List X → Type 0) (list : List X)
+    (items left : List (Result Span ReadFault)) : Type 0 where
+  pub now : List X
+  pub held : Held now
+  pub same : read_items g now left ≡ read_items g list items
+
+-- the fault of the next items is that of all items
+pub stops : {X : Type 0} (g : TextRules X) (Held : List X → Type 0) (list : List X)
+    (items next after left : List (Result Span ReadFault)) (fault : ReadFault) (r : ReadsTo g Held list items left)
+    → left ≡ next ++ after → FailsAsRead fault (read_items g r.now next) → FailsAsRead fault (read_items g list items)
+stops g Held list items next after left fault r e h =
+    subst (FailsAsRead fault) (sym (ap (read_items g r.now) e) ∙ r.same) (fail_on g r.now next after fault h)
+
+-- the next items are read
+pub goes_on : {X : Type 0} (g : TextRules X) (Held New : List X → Type 0) (list : List X)
+    (items next after left : List (Result Span ReadFault)) (r : ReadsTo g Held list items left) → left ≡ next ++ after
+    → IsHeld (read_items g r.now next) New → ReadsTo g New list items after
+goes_on g Held New list items next after left r e h = record {
+  now = h.0;
+  held = h.2;
+  same = sym (read_on g r.now h.0 next after h.1) ∙ sym (ap (read_items g r.now) e) ∙ r.same;
+}
+
+-- all items are read if none is left
+pub all_read : {X : Type 0} (g : TextRules X) (Held : List X → Type 0) (list : List X)
+    (items left : List (Result Span ReadFault)) → ReadsTo g Held list items left → left ≡ []
+    → IsHeld (read_items g list items) Held
+unfolding read_items
+all_read g Held list items left r none = (r.now, sym r.same ∙ ap (read_items g r.now) none, r.held)
 
 -- if nothing is left, there are no parts
 pub no_parts : {X : Type 0} (rules : TextRules X) (r : Option Piece) → ((t : Piece) → r ≡ Some t → ⊥)

@@ -1,23 +1,19 @@
 -- How an entry is read, step by step.
-use Rattle.std.proofs.Common.{◌≡◌, ◌∙◌, ◌<◌, ◌≤◌, ℕ, true, false, List, [], ◌∷◌, length, Option, None, Some, Result, Ok, Err, refl, sym, ap, subst, arith, inl, inr}
-use Rattle.std.specs.Prelude.{◌==◌, nat_le, position}
+use Rattle.std.proofs.Common.{◌≡◌, ◌∙◌, ◌++◌, ℕ, true, false, List, [], ◌∷◌, length, Option, None, Some, Result, Ok, Err, refl, ap, subst, arith, inl, inr}
+use Rattle.std.specs.Prelude.{◌==◌, position}
 use Rattle.std.specs.List.{slice_split}
-use Rattle.std.proofs.lemmas.Bool.{le-leb}
-use Rattle.std.proofs.lemmas.Bool.Decides.{nat_tests}
 use Rattle.std.proofs.lemmas.List.Splits.{length-slice_split}
 use Rattle.acl_perm.specs.Ascii.{colon, hash}
 use Rattle.acl_perm.specs.Lines.{cut_at, IsCut, Span, span_of, spans}
 use Rattle.acl_perm.specs.declared.lines.Piece.{Piece}
 use Rattle.acl_nfs4.specs.Ace.{Ace}
-use Rattle.acl_nfs4.specs.Limits.{most_aces}
 use Rattle.acl_nfs4.specs.Push.{push_refusal, PushAnswers}
 use Rattle.acl_nfs4.specs.declared.list.push_fault.PushFault.{PushFault}
 use Rattle.acl_nfs4.specs.declared.list.push_fault.PushFault.TheVariants as push
 use Rattle.acl_nfs4.specs.declared.xdr.fault.Reason.TheVariants as list
-use Rattle.acl_forms.specs.ReadFaults.{read_fault_at}
 use Rattle.acl_forms.specs.TextReading.{AddsItems, AddsOne, FailsAsRead, part_items, read_items}
 use Rattle.acl_forms.specs.Texts.{comment_fault, entries_of, items_of, line_items, TextRules}
-use Rattle.acl_forms.specs.ToolsText.{tools_ace, Fields, entry_fields_of, four, refused_at, taken, tools_entry, unless_refused}
+use Rattle.acl_forms.specs.ToolsText.{tools_ace, Fields, fields_read, four, refused_at, taken, tools_entry, unless_refused}
 use Rattle.acl_forms.specs.declared.fault.ReadFault.{ReadFault}
 use Rattle.acl_forms.specs.declared.fault.ReadReason.TheVariants as reasons
 use Rattle.acl_forms.specs.declared.object.ObjectKind.{ObjectKind}
@@ -55,34 +51,25 @@ more_than_four a b c d rest = let some = some_part colon rest in rw some.2 refl
 
 -- ---- entries
 
--- an entry without four fields has that fault
-pub no_fields : (object : ObjectKind) (aces : List Ace) (entry : Span) → entry_fields_of entry ≡ None
-    → tools_entry object aces entry ≡ Err (read_fault_at entry.column reasons.Fields)
+-- the fault of finding the fields is the fault of the entry
+pub no_fields : (object : ObjectKind) (aces : List Ace) (entry : Span) (fault : ReadFault)
+    → fields_read (length aces) entry ≡ Err fault → tools_entry object aces entry ≡ Err fault
 unfolding tools_entry
-no_fields object aces entry e = rw e refl
-
--- a full list takes no entry with four fields
-pub one_too_many : (object : ObjectKind) (aces : List Ace) (entry : Span) (fields : Fields)
-    → entry_fields_of entry ≡ Some fields → most_aces ≤ length aces
-    → tools_entry object aces entry ≡ Err (read_fault_at entry.column (reasons.List list.TooManyAces))
-unfolding tools_entry
-one_too_many object aces entry fields e full = rw (e, le-leb most_aces (length aces) full) refl
+no_fields object aces entry fault wrong = rw wrong refl
 
 -- the fault of the fields is the fault of the entry
 pub bad_fields : (object : ObjectKind) (aces : List Ace) (entry : Span) (fields : Fields) (fault : ReadFault)
-    → entry_fields_of entry ≡ Some fields → length aces < most_aces → tools_ace object fields ≡ Err fault
+    → fields_read (length aces) entry ≡ Ok fields → tools_ace object fields ≡ Err fault
     → tools_entry object aces entry ≡ Err fault
 unfolding tools_entry
-bad_fields object aces entry fields fault e room wrong =
-    let r : nat_le most_aces (length aces) ≡ false = grind (arith, nat_tests) in rw (e, r, wrong) refl
+bad_fields object aces entry fields fault e wrong = rw (e, wrong) refl
 
 -- the ACE of the fields is taken, or refused
 pub good_fields : (object : ObjectKind) (aces : List Ace) (entry : Span) (fields : Fields) (a : Ace)
-    → entry_fields_of entry ≡ Some fields → length aces < most_aces → tools_ace object fields ≡ Ok a
+    → fields_read (length aces) entry ≡ Ok fields → tools_ace object fields ≡ Ok a
     → tools_entry object aces entry ≡ taken aces a fields.rights.column fields.who.column
 unfolding tools_entry
-good_fields object aces entry fields a e room good =
-    let r : nat_le most_aces (length aces) ≡ false = grind (arith, nat_tests) in rw (e, r, good) refl
+good_fields object aces entry fields a e good = rw (e, good) refl
 
 -- the fault of a push is that of the ACE, or memory ran out
 pub push_fails : (aces : List Ace) (a : Ace) (mask who : ℕ) (fault : PushFault) (read : Result Ace ReadFault)
@@ -106,13 +93,13 @@ unfolding read_items
 passed_over rules aces part e = rw e refl
 
 -- any other part adds its ACE, or has its fault
-pub part_read : {X : Type 0} (rules : TextRules X) (aces new : List X) (part : Span) (r : Result (Unit {0}) ReadFault)
-    → rules.is_part_skipped part.bytes ≡ false → AddsOne (rules.entry aces part) aces new r
-    → AddsItems rules (part_items rules part) aces new r
+pub part_read : {X : Type 0} (rules : TextRules X) (aces : List X) (Held : List X → Type 0) (part : Span)
+    (r : Result (Unit {0}) ReadFault) → rules.is_part_skipped part.bytes ≡ false
+    → AddsOne (rules.entry aces part) aces Held r → AddsItems rules (part_items rules part) aces Held r
 unfolding read_items
-part_read rules aces new part (Ok done) some h = rw (some, h.1) (ap (λ l. Ok l) (sym h.2))
-part_read rules aces new part (Err fault) some (inl none) = inl none
-part_read rules aces new part (Err fault) some (inr e) = inr (rw (some, e) refl)
+part_read rules aces Held part (Ok done) some h = (aces ++ h.0 ∷ [], rw (some, h.1) refl, h.2)
+part_read rules aces Held part (Err fault) some (inl none) = inl none
+part_read rules aces Held part (Err fault) some (inr e) = inr (rw (some, e) refl)
 
 -- a line without entries adds nothing
 pub line_skipped : {X : Type 0} (rules : TextRules X) (aces : List X) (line : Span)

@@ -5,6 +5,7 @@ pub mod IdLemmas
 pub mod IdWrites
 pub mod AnyNames
 pub mod AnyAces
+pub mod PartAnswers
 pub mod PartWords
 pub mod WholeLists
 pub mod Exits
@@ -22,12 +23,18 @@ pub mod AttributeBytes
 pub mod AttributeLemmas
 pub mod AttributeWrites
 pub mod NfsLemmas
+pub mod AnyTexts
+pub mod AnyEntries
 pub mod DigitLemmas
 pub mod NfsWrites
 pub mod TextsAgain
 pub mod CommasAgain
 pub mod NfsAgain
+pub mod NamesOfIds
 pub mod PosixLemmas
 pub mod PosixWrites
+pub mod PosixEntriesAgain
+pub mod PosixAgain
+pub mod PosixTextsAgain
 pub mod FormsAgain
 pub mod IdTables

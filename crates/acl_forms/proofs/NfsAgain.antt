@@ -34,7 +34,7 @@ use Rattle.acl_nfs4.specs.Within.{IsWithin}
 use Rattle.acl_forms.specs.Acl41Ids.{id_of_digits}
 use Rattle.acl_forms.specs.Letters.{letters_from, nfs_flag_letters, nfs_right_letters, no_letter}
 use Rattle.acl_forms.specs.NfsRules.{nfs_rules, SpellsNfsText}
-use Rattle.acl_forms.specs.NfsText.{fields_of_parts, flags_by_tag, id_alone, is_other_number, nfs_ace, nfs_entry, nfs_fields_of, nfs_kind, nfs_tag_of, tag_special, trimmed_span, who_by_tag, who_of_fields, NfsFields}
+use Rattle.acl_forms.specs.NfsText.{fields_of_parts, flags_by_tag, id_alone, is_other_number, nfs_ace, nfs_entry, nfs_fields_of, nfs_fields_read, nfs_kind, nfs_tag_of, tag_special, trimmed_span, who_by_tag, who_of_fields, NfsFields}
 use Rattle.acl_forms.specs.NfsWritten.{account_word, as_nfs_written, id_after, is_cut_who, is_id_cut, kept_flags, kind_word, nfs_ace_fault, nfs_entry_text, nfs_fault_from, nfs_text, nfs_text_fault, principal_text, special_word, styled_letters, IsSameButSpecialGroup}
 use Rattle.acl_forms.specs.Texts.{cut_entries, line_items}
 use Rattle.acl_forms.specs.ToolsText.{unless_refused}
@@ -61,7 +61,7 @@ use Rattle.acl_forms.proofs.WhoLemmas.{id_is, no_id, not_decimal}
 -- ---- blanks
 
 -- a byte that is no blank
-abbrev is_no_blank : ℕ → Bool
+abbrev pub is_no_blank : ℕ → Bool
 is_no_blank b = not (is_blank b)
 
 -- bytes without blanks have none at their end
@@ -73,7 +73,7 @@ end_kept (b ∷ bs) h =
     rw no (ap (λ (l : List ℕ). b ∷ l) (end_kept bs both.1))
 
 -- bytes without blanks have none at their ends
-kept : (bs : List ℕ) → list_all is_no_blank bs ≡ true → trimmed bs ≡ bs
+pub kept : (bs : List ℕ) → list_all is_no_blank bs ≡ true → trimmed bs ≡ bs
 unfolding trimmed
 kept [] h = refl
 kept (b ∷ bs) h =
@@ -427,6 +427,12 @@ special_fields_again letters column tag a word h =
     ∙ ap (λ (parts : List (List ℕ)). rights_text letters a.mask ∷ flags_text letters a.flags ∷ parts) last) in
     fields_again column (nfs_entry_text letters a) _ split ∙ rw (kept word h.word_is.no_blank, h.tag_of, h.name_of) refl
 
+-- the fields of an entry that is not blank are read if the list has room
+found_again : (count : ℕ) (entry : Span) (fields : NfsFields) → is_all_blank entry.bytes ≡ false → count < most_aces
+    → nfs_fields_of entry ≡ Ok fields → nfs_fields_read count entry ≡ Ok fields
+found_again count entry fields some room e =
+    let r : nat_le most_aces count ≡ false = grind (arith, nat_tests) in rw (some, r) e
+
 -- such an entry is read as the ACE
 special_again : (letters : LetterStyle) (by : WhoField) (tag : NfsTag) (a : Ace) (word : List ℕ) (list : List Ace) (column : ℕ)
     → IsSpecialWord tag a.who word → IsWithin 0x1f01ff a.mask → IsWho a.who → length list < most_aces
@@ -441,8 +447,9 @@ special_again letters by tag a word list column h within is room light =
     h.flags_of (bit_and a.flags 0xbf) ∙ rw h.special refl in
     let some : is_all_blank (nfs_entry_text letters a) ≡ false = ap is_all_blank (special_text letters tag a word h)
     ∙ not_all_blank word _ h.word_is.no_blank h.word_is.some in
-    good_nfs_ace by list (part_at column (nfs_entry_text letters a)) fields (as_nfs_written a) some room
-    (special_fields_again letters column tag a word h)
+    good_nfs_ace by list (part_at column (nfs_entry_text letters a)) fields (as_nfs_written a)
+    (found_again (length list) (part_at column (nfs_entry_text letters a)) fields some room
+    (special_fields_again letters column tag a word h))
     (read_again letters by a fields are within name ∙ ap (λ (f : ℕ). Ok (ace_with a.kind f a.mask a.who)) same)
     ∙ ap (unless_refused (as_nfs_written a) fields.rights.column fields.who.column)
     (not_refused list (as_nfs_written a) room light is)
@@ -543,9 +550,10 @@ account_again letters by tag a word list column h kept_name within is room light
     h.flags_of ∙ rw kept_name.no_special refl in
     let some : is_all_blank (nfs_entry_text letters a) ≡ false = ap is_all_blank (account_text letters tag a word h kept_name.no_word)
     ∙ not_all_blank word _ h.word_is.no_blank h.word_is.some in
-    good_nfs_ace by list (part_at column (nfs_entry_text letters a)) fields (as_nfs_written a) some room
+    good_nfs_ace by list (part_at column (nfs_entry_text letters a)) fields (as_nfs_written a)
+    (found_again (length list) (part_at column (nfs_entry_text letters a)) fields some room
     (fields_again column (nfs_entry_text letters a) _ (account_split letters tag a word h kept_name)
-    ∙ account_parts letters column tag a word id h)
+    ∙ account_parts letters column tag a word id h))
     (read_again letters by a fields are within name ∙ ap (λ (f : ℕ). Ok (ace_with a.kind f a.mask a.who)) same)
     ∙ ap (unless_refused (as_nfs_written a) fields.rights.column fields.who.column)
     (not_refused list (as_nfs_written a) room light is)

@@ -1,17 +1,14 @@
 -- How the fields of an entry of a text of FreeBSD, ZFS and archives are found.
-use Rattle.std.proofs.Common.{◌≡◌, ◌∙◌, ◌+◌, ◌≤◌, ◌<◌, ℕ, true, false, cond, List, [], ◌∷◌, length, drop, Option, None, Some, Ok, Err, refl, sym, ap, arith}
-use Rattle.std.specs.Prelude.{map, nat_le, not, option_map}
-use Rattle.std.proofs.lemmas.Bool.{le-leb}
-use Rattle.std.proofs.lemmas.Bool.Decides.{nat_tests}
+use Rattle.std.proofs.Common.{◌≡◌, ◌∙◌, ◌+◌, ◌≤◌, ℕ, true, false, cond, List, [], ◌∷◌, length, drop, Option, None, Some, Ok, Err, refl, sym, ap, arith}
+use Rattle.std.specs.Prelude.{map, not, option_map}
 use Rattle.std.proofs.lemmas.List.{length-drop}
 use Rattle.std.proofs.lemmas.List.Sums.{prefix_len-le-length}
 use Rattle.acl_perm.specs.Ascii.{colon}
 use Rattle.acl_perm.specs.Lines.{blanks_before, end_trimmed, is_all_blank, is_blank, start_of, trimmed, IsCut, Span, span_of}
 use Rattle.acl_perm.specs.declared.lines.Piece.{Piece}
 use Rattle.acl_nfs4.specs.Ace.{Ace}
-use Rattle.acl_nfs4.specs.Limits.{most_aces}
 use Rattle.acl_nfs4.specs.declared.xdr.fault.Reason.TheVariants as list
-use Rattle.acl_forms.specs.NfsText.{fields_by_tag, named_fields, nfs_ace, nfs_entry, nfs_fields_of, nfs_tag_of, special_fields, tag_special, trimmed_span, NfsFields}
+use Rattle.acl_forms.specs.NfsText.{fields_by_tag, named_fields, nfs_ace, nfs_entry, nfs_fields_of, nfs_fields_read, nfs_tag_of, special_fields, tag_special, trimmed_span, NfsFields}
 use Rattle.acl_forms.specs.ReadFaults.{read_fault_at}
 use Rattle.acl_forms.specs.ToolsText.{taken}
 use Rattle.acl_forms.specs.internal.NfsReading.{parts_of_rest, parts_in, tail_of_parts, tail_with_id, with_tail, TailFields}
@@ -163,40 +160,22 @@ bad_number entry word r tag cut is some none = rw (parts_from entry word r cut i
 
 -- ---- entries
 
--- a blank entry has that fault
-pub blank_entry : (source : WhoField) (aces : List Ace) (entry : Span) → is_all_blank entry.bytes ≡ true
-    → nfs_entry source aces entry ≡ Err (read_fault_at entry.column reasons.EmptyEntry)
-unfolding nfs_entry
-blank_entry source aces entry blank = rw blank refl
-
--- a full list takes no other entry
-pub one_entry_too_many : (source : WhoField) (aces : List Ace) (entry : Span) → is_all_blank entry.bytes ≡ false
-    → most_aces ≤ length aces
-    → nfs_entry source aces entry ≡ Err (read_fault_at entry.column (reasons.List list.TooManyAces))
-unfolding nfs_entry
-one_entry_too_many source aces entry some full = rw (some, le-leb most_aces (length aces) full) refl
-
--- the fault of the fields is the fault of the entry
+-- the fault of finding the fields is the fault of the entry
 pub bad_nfs_fields : (source : WhoField) (aces : List Ace) (entry : Span) (fault : ReadFault)
-    → is_all_blank entry.bytes ≡ false → length aces < most_aces → nfs_fields_of entry ≡ Err fault
-    → nfs_entry source aces entry ≡ Err fault
+    → nfs_fields_read (length aces) entry ≡ Err fault → nfs_entry source aces entry ≡ Err fault
 unfolding nfs_entry
-bad_nfs_fields source aces entry fault some room wrong =
-    let r : nat_le most_aces (length aces) ≡ false = grind (arith, nat_tests) in rw (some, r, wrong) refl
+bad_nfs_fields source aces entry fault wrong = rw wrong refl
 
 -- the fault of the ACE is the fault of the entry
 pub bad_nfs_ace : (source : WhoField) (aces : List Ace) (entry : Span) (fields : NfsFields) (fault : ReadFault)
-    → is_all_blank entry.bytes ≡ false → length aces < most_aces → nfs_fields_of entry ≡ Ok fields
-    → nfs_ace source fields ≡ Err fault → nfs_entry source aces entry ≡ Err fault
+    → nfs_fields_read (length aces) entry ≡ Ok fields → nfs_ace source fields ≡ Err fault
+    → nfs_entry source aces entry ≡ Err fault
 unfolding nfs_entry
-bad_nfs_ace source aces entry fields fault some room good wrong =
-    let r : nat_le most_aces (length aces) ≡ false = grind (arith, nat_tests) in rw (some, r, good, wrong) refl
+bad_nfs_ace source aces entry fields fault good wrong = rw (good, wrong) refl
 
 -- the ACE of the fields is taken, or refused
 pub good_nfs_ace : (source : WhoField) (aces : List Ace) (entry : Span) (fields : NfsFields) (a : Ace)
-    → is_all_blank entry.bytes ≡ false → length aces < most_aces → nfs_fields_of entry ≡ Ok fields
-    → nfs_ace source fields ≡ Ok a
+    → nfs_fields_read (length aces) entry ≡ Ok fields → nfs_ace source fields ≡ Ok a
     → nfs_entry source aces entry ≡ taken aces a fields.rights.column fields.who.column
 unfolding nfs_entry
-good_nfs_ace source aces entry fields a some room good is =
-    let r : nat_le most_aces (length aces) ≡ false = grind (arith, nat_tests) in rw (some, r, good, is) refl
+good_nfs_ace source aces entry fields a good is = rw (good, is) refl

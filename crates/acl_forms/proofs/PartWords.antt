@@ -1,5 +1,5 @@
 -- Bytes are read as flags and ACEs of any type if and only if they spell them.
-use Rattle.std.proofs.Common.{◌≡◌, ◌∙◌, ◌+◌, ◌<◌, ◌≤◌, ◌^◌, ◌++◌, ℕ, zero, suc, Bool, true, false, cond, eqb, ltb, List, [], ◌∷◌, Option, Some, None, Result, Ok, Err, length, take, drop, replicate, refl, ap, sym, subst, arith, append_assoc, append-nil, length-append, inl, inr}
+use Rattle.std.proofs.Common.{◌≡◌, ◌∙◌, ◌+◌, ◌<◌, ◌≤◌, ◌^◌, ◌++◌, ℕ, zero, suc, Bool, true, false, cond, eqb, ltb, List, [], ◌∷◌, Option, Some, None, Result, Ok, Err, length, take, drop, replicate, refl, ap, sym, subst, arith, append_assoc, append-nil, length-append}
 use Rattle.std.specs.Prelude.{IfOk, count_ones, option_map, sum_by, nat_le}
 use Rattle.std.specs.Fmt.{decimal}
 use Rattle.std.specs.List.{AllByRecursion, flat_map, list_all}
@@ -26,7 +26,7 @@ use Rattle.acl_nfs4.specs.declared.xdr.fault.Reason.TheVariants.{Truncated}
 use Rattle.acl_nfs4.specs.internal.Progress.{IsBytes}
 use Rattle.acl_nfs4.specs.internal.Reading.{text_fault}
 use Rattle.acl_forms.specs.Acl41Ids.{id_who, listed, nothing_after, special_of}
-use Rattle.acl_forms.specs.Part.{PlacedAce, IsReadAsPart, RefusesPart, SpellsPart, any_weight, is_unknown_deny, kept, left_out}
+use Rattle.acl_forms.specs.Part.{PlacedAce, IsReadAsPart, RefusesPart, SpellsPart, any_weight, is_unknown_deny, left_out}
 use Rattle.acl_forms.specs.PartWords.{AceReader, IsPartAce, Names, SpelledAce, SpellsById, SpellsByName, SpellsWhole, bytes_at, judged_bytes, special_name, unless_unknown, who_by_name, who_by_number}
 use Rattle.acl_forms.specs.PartWords.Names.{by_id, by_special}
 unfoldable use Rattle.acl_forms.specs.PartWords.{ace_by_name, ace_by_number, aces_from, placed_from, whole_in}
@@ -40,6 +40,7 @@ use Rattle.acl_forms.specs.declared.part.left_out.LeftOut.{LeftOut}
 use Rattle.acl_forms.specs.internal.AnyAces.{IsPartReadAs}
 use Rattle.acl_forms.proofs.AnyNames.{known_who}
 use Rattle.acl_forms.proofs.IdLemmas.{count_again, count_is, ended, flags_accepted, flags_are, listed_again, listed_ok, mask_again, mask_is, special_accepted, special_is, within_le}
+use Rattle.acl_forms.proofs.PartAnswers.{part_found, part_only, part_refused}
 use Rattle.acl_forms.proofs.WhoLemmas.{is_who-decimal}
 use Rattle.acl_forms.proofs.WordLemmas.{Takes, Takes-then, bind-ok, bind_then, flags_again, flags_found, guard_ok, ok_is, place_at, word_again, word_takes}
 
@@ -241,40 +242,22 @@ module _ {Spells : AnyAce → List ℕ → Type 0} {read : AceReader} (reader : 
       → IsPartReadAs result (whole_in read bytes)
       → IfOk result (λ part. SpellsPart (λ whole. SpellsWhole Spells part.flags.bits whole bytes) part.list
       part.left_out.items)
-  words_found bytes fits (Ok part) (set, list, e, is) = record {
-    whole = list;
-    spelled = subst (λ (n : ℕ). SpellsWhole Spells n list bytes) (sym is.flags)
-        (whole_spelled bytes (set, list) fits e);
-    kept = is.kept;
-    left_out = is.left_out;
-  }
-  words_found bytes fits (Err f) h = tt
+  words_found bytes fits =
+      part_found (λ set whole. SpellsWhole Spells set whole bytes) (whole_in read bytes)
+      (λ set list e. whole_spelled bytes (set, list) fits e)
 
   -- the part of the ACEs that the bytes spell is returned, unless memory runs out
   pub words_only : (bytes : List ℕ) → (result : Result Part ReadFault) → IsPartReadAs result (whole_in read bytes)
       → (set : ℕ) (list : List Ace) (out : List LeftOut)
       → SpellsPart (λ whole. SpellsWhole Spells set whole bytes) list out → IsReadAsPart result set list out
-  words_only bytes (Ok part) (flags, aces, said, is) set list out h =
-      let e : (flags, aces) ≡ (set, h.whole) = ok_is _ _ (sym said ∙ whole_read bytes set h.whole h.spelled) in
-      record {
-        flags = is.flags ∙ ap (λ z. z.0) e;
-        kept = is.kept ∙ ap (λ z. kept z.1) e ∙ sym h.kept;
-        left_out = is.left_out ∙ ap (λ z. left_out z.1) e ∙ sym h.left_out;
-      }
-  words_only bytes (Err f) (inl memory) set list out h = memory
-  words_only bytes (Err f) (inr said) set list out h =
-      absurd (apart (sym said ∙ whole_read bytes set h.whole h.spelled))
-    where
-      apart : {x : ℕ × List PlacedAce} {f : ReadFault} → Err f ≡ Ok x → ⊥
-      apart e = cc
+  words_only bytes =
+      part_only (λ set whole. SpellsWhole Spells set whole bytes) (whole_in read bytes) (whole_read bytes)
 
 -- bytes with a fault are refused with that fault, unless memory runs out
 pub words_refused : (read : AceReader) (bytes : List ℕ) (result : Result Part ReadFault)
     → IsPartReadAs result (whole_in read bytes) → (wrong : ReadFault) → whole_in read bytes ≡ Err wrong
     → RefusesPart result wrong
-words_refused read bytes (Ok part) (flags, list, said, is) wrong e = cc
-words_refused read bytes (Err f) (inl memory) wrong e = inr memory
-words_refused read bytes (Err f) (inr said) wrong e = inl cc
+words_refused read bytes = part_refused (whole_in read bytes)
 
 -- ---- an ACE with a name
 
@@ -315,14 +298,14 @@ unless_ok type_number name who e =
     let g = guard_ok (is_unknown_deny type_number name) _ (Ok name) who e in (g.0, ok_is name who g.1)
 
 -- what is said of a name that was read
-record SaysName (type_number : ℕ) (bytes who : List ℕ) : Type 0 where
+pub record SaysName (type_number : ℕ) (bytes who : List ℕ) : Type 0 where
   pub same : bytes ≡ who
   pub utf8 : is_utf8 who ≡ true
   pub plain : list_all is_plain who ≡ true
   pub known : is_unknown_deny type_number who ≡ false
 
 -- a name that was read is a name
-name_is : (type_number : ℕ) (bytes who : List ℕ) → who_by_name type_number bytes ≡ Ok who
+pub name_is : (type_number : ℕ) (bytes who : List ℕ) → who_by_name type_number bytes ≡ Ok who
     → SaysName type_number bytes who
 name_is type_number bytes who e =
     bind_then (listed (any_who_of bytes)) (λ w. unless_unknown type_number w) who e (λ w we rest.

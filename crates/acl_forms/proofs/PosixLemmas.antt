@@ -243,7 +243,7 @@ entries_refused names text fault (inr read) =
 -- the entries that are read are those that the text spells
 spelled : (part : Part) (names : Table) (text : List ℕ) (entries : List PlacedEntry)
     → text_read (posix_rules part names) text ≡ Ok entries → SpellsByRules (posix_rules part names) entries text
-spelled part names text entries read = texts.text_found (posix_rules part names) text (Ok entries) read
+spelled part names text entries read = texts.text_found (posix_rules part names) text (Ok entries) (entries, read, refl)
 
 -- the fault of the access part is the fault of the text
 pub access_refused : (names : Table) (text : List ℕ) (entries part : List PlacedEntry) (fault : ReadFault)

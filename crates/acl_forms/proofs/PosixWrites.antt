@@ -10,12 +10,12 @@ use Rattle.std.proofs.lemmas.List.Concat.{flat_map-cons}
 use Rattle.acl_posix.specs.Entries.{Entries, IsEntry, pair_of, pairs}
 use Rattle.acl_posix.specs.Tag.{Tag, tag_of}
 use Rattle.acl_posix.specs.declared.entry.Entry.{Entry}
-use Rattle.acl_forms.specs.PosixWritten.{entries_text, id_reason_of, is_base, is_cut_name, longest_name, name_reason, named_reason, pieces_if, posix_fault_from, tag_name}
+use Rattle.acl_forms.specs.PosixNames.{NamesOfIds, tag_name}
+use Rattle.acl_forms.specs.PosixWritten.{entries_text, id_reason_of, is_base, is_cut_name, longest_name, name_reason, named_reason, pieces_if, posix_fault_from}
 use Rattle.acl_forms.specs.ToolsWritten.{fault_or}
 use Rattle.acl_forms.specs.declared.fault.FormFault.{FormFault}
 use Rattle.acl_forms.specs.declared.fault.FormReason.{FormReason}
 use Rattle.acl_forms.specs.declared.fault.FormReason.TheVariants.{Separator, TooLong}
-use Rattle.acl_forms.specs.declared.posix_text.names.IdNames.{IdNames}
 use Rattle.acl_forms.specs.declared.posix_text.style.TarStyle.{TarStyle}
 use Rattle.acl_forms.specs.declared.posix_text.style.TarStyle.TheVariants.{Star}
 use Rattle.acl_forms.specs.internal.AttributeEntries.{most_entries}
@@ -25,7 +25,7 @@ use Rattle.acl_forms.proofs.AttributeOrder.{few_entries}
 -- ---- what the text can hold
 
 -- the faults of the entries from a place on are that of the entry there, or those of the entries after it
-pub fault_next : (names : IdNames) (style : TarStyle) (place : ℕ) (es : List Entry) (i : ℕ) (e : Entry)
+pub fault_next : (names : NamesOfIds) (style : TarStyle) (place : ℕ) (es : List Entry) (i : ℕ) (e : Entry)
     → i < length es → e ≡ get_or es i e
     → posix_fault_from names style place (pairs (drop i es))
     ≡ fault_or place (named_reason style (tag_of e.tag) (tag_name names (tag_of e.tag)))
@@ -35,13 +35,13 @@ fault_next names style place es i e lt read =
     (drop_more es i e lt ∙ ap (λ (x : Entry). x ∷ drop (i + 1) es) (sym read))
 
 -- if no entry has a fault, none of them has a reason
-first_held : (place : ℕ) (o : Option FormReason) (others : Option FormFault) → fault_or place o others ≡ None
+pub first_held : (place : ℕ) (o : Option FormReason) (others : Option FormFault) → fault_or place o others ≡ None
     → (o ≡ None) × (others ≡ None)
 first_held place None others e = (refl, e)
 first_held place (Some reason) others e = absurd cc
 
 -- an entry of an ACL that the text can hold has no reason
-held_at : (names : IdNames) (style : TarStyle) (place : ℕ) (es : List Entry) (i : ℕ) (d : Entry) → i < length es
+held_at : (names : NamesOfIds) (style : TarStyle) (place : ℕ) (es : List Entry) (i : ℕ) (d : Entry) → i < length es
     → posix_fault_from names style place (pairs es) ≡ None
     → named_reason style (tag_of (get_or es i d).tag) (tag_name names (tag_of (get_or es i d).tag)) ≡ None
 held_at names style place [] i d lt e = absurd (omega (arith, lt))
@@ -50,7 +50,7 @@ held_at names style place (x ∷ es) (suc i) d lt e =
     held_at names style (place + 1) es i d (omega (arith, lt)) (first_held place _ _ e).1
 
 -- of two reasons that are not there, the first is not there
-no_first : (a b : Option FormReason) → option_or a b ≡ None → a ≡ None
+pub no_first : (a b : Option FormReason) → option_or a b ≡ None → a ≡ None
 no_first None b e = refl
 no_first (Some reason) b e = absurd cc
 
@@ -68,7 +68,7 @@ short_in style tag (Some name) e =
     short_name (is_cut_name name) (length name) (no_first (name_reason name) (id_reason_of style tag) e)
 
 -- the name of an entry of an ACL that the text can hold is short
-pub short_at : (names : IdNames) (style : TarStyle) (es : List Entry) (i : ℕ) (e : Entry) → i < length es
+pub short_at : (names : NamesOfIds) (style : TarStyle) (es : List Entry) (i : ℕ) (e : Entry) → i < length es
     → e ≡ get_or es i e → posix_fault_from names style 0 (pairs es) ≡ None
     → IsShortName (tag_name names (tag_of e.tag))
 short_at names style es i e lt read held =
@@ -79,7 +79,7 @@ short_at names style es i e lt read held =
 -- ---- pieces
 
 -- the pieces of the entries that are left are that of the next entry and those of the entries after it
-pub piece_next : {i : ℕ} {e : Entry} (names : IdNames) (style : TarStyle) (test : Tag → Bool) (es : List Entry)
+pub piece_next : {i : ℕ} {e : Entry} (names : NamesOfIds) (style : TarStyle) (test : Tag → Bool) (es : List Entry)
     (line piece : List ℕ) → i < length es → e ≡ get_or es i e → line ≡ piece_if names style test (pair_of e)
     → piece ≡ line
     → pieces_if names style test (pairs (drop i es)) ≡ piece ++ pieces_if names style test (pairs (drop (i + 1) es))
@@ -97,7 +97,7 @@ few acl es within same =
     omega (arith, size, length-map es pair_of, few_entries acl within)
 
 -- the text of star is the base entries and then the others
-pub star_text : (names : IdNames) (style : TarStyle) (ps : List (Tag × ℕ)) → style ≡ Star
+pub star_text : (names : NamesOfIds) (style : TarStyle) (ps : List (Tag × ℕ)) → style ≡ Star
     → pieces_if names style is_base ps ++ pieces_if names style (λ tag. not (is_base tag)) ps
     ≡ entries_text names style ps
 star_text names style ps e = rw e refl

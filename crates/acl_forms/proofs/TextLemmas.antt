@@ -6,7 +6,7 @@ use Rattle.std.proofs.lemmas.Bool.Decides.{nat_tests}
 use Rattle.acl_perm.specs.Lines.{Span}
 use Rattle.acl_perm.specs.internal.Steps.{◌>>=◌}
 use Rattle.acl_forms.specs.ReadFaults.{read_fault_at, no_memory_left}
-use Rattle.acl_forms.specs.TextReading.{FailsAsRead, if_enough, read_items, text_read, unless_nul}
+use Rattle.acl_forms.specs.TextReading.{FailsAsRead, IsHeld, if_enough, read_items, text_read, unless_nul}
 use Rattle.acl_forms.specs.Texts.{AddEach, HasNoNul, item_read, items_in, IsFaultByRules, SpellsByRules, TextRules}
 use Rattle.acl_forms.specs.Texts.IsFaultByRules.{few, nul, of_item}
 use Rattle.acl_forms.specs.declared.fault.ReadFault.{ReadFault}
@@ -126,7 +126,7 @@ text_says g text =
     ] refl
 
 -- the fault of a text is read
-fault_read : {X : Type 0} (g : TextRules X) (text : List ℕ) (fault : ReadFault) → IsFaultByRules g text fault
+pub fault_read : {X : Type 0} (g : TextRules X) (text : List ℕ) (fault : ReadFault) → IsFaultByRules g text fault
     → text_read g text ≡ Err fault
 unfolding text_read read_items
 fault_read g text _ (nul place at) = rw at refl
@@ -138,7 +138,7 @@ fault_read g text _ (few list none each less) =
     rw (none, added g [] (items_in g text) list each, lt-ltb (length list) g.least less) refl
 
 -- an answer that is true of a text is the answer of reading it
-answer_read : {X : Type 0} (g : TextRules X) (text : List ℕ) (r : Result (List X) ReadFault) → TextSays g text r
+pub answer_read : {X : Type 0} (g : TextRules X) (text : List ℕ) (r : Result (List X) ReadFault) → TextSays g text r
     → text_read g text ≡ r
 unfolding text_read
 answer_read g text (Ok list) h =
@@ -149,14 +149,19 @@ answer_read g text (Err fault) h = fault_read g text fault h
 
 -- what a call that reads a text returns is what reading the text gives, or memory ran out
 abbrev pub Answered : {X : Type 0} → TextRules X → List ℕ → Result (List X) ReadFault → Type 0
-Answered g text result = MatchResult result (λ list. text_read g text ≡ Ok list)
+Answered g text result = MatchResult result (λ list. IsHeld (text_read g text) (λ all. list ≡ all))
     (λ fault. FailsAsRead fault (text_read g text))
+
+-- the list that is held was read
+pub held_read : {X : Type 0} (list : List X) (read : Result (List X) ReadFault) → IsHeld read (λ all. list ≡ all)
+    → read ≡ Ok list
+held_read list read (all, is, same) = is ∙ ap (λ l. Ok l) (sym same)
 
 -- if a list is read, the text spells it
 pub text_found : {X : Type 0} (g : TextRules X) (text : List ℕ) (result : Result (List X) ReadFault)
     → Answered g text result
     → IfOk result (λ list. SpellsByRules g list text)
-text_found g text (Ok list) h = subst (TextSays g text) h (text_says g text)
+text_found g text (Ok list) h = subst (TextSays g text) (held_read list (text_read g text) h) (text_says g text)
 text_found g text (Err fault) h = tt
 
 -- a text that is refused has the fault, or memory ran out
@@ -172,7 +177,8 @@ pub only_list : {X : Type 0} (g : TextRules X) (text : List ℕ) (result : Resul
     → Answered g text result
     → (list : List X) → SpellsByRules g list text
     → MatchResult result (λ read. read ≡ list) (λ fault. fault ≡ no_memory_left)
-only_list g text (Ok read) h list is = let e = answer_read g text (Ok list) is in cc
+only_list g text (Ok read) h list is =
+    let e = answer_read g text (Ok list) is in let was = held_read read (text_read g text) h in cc
 only_list g text (Err fault) (inl none) list is = none
 only_list g text (Err fault) (inr read) list is = let e = answer_read g text (Ok list) is in absurd cc
 
@@ -181,7 +187,8 @@ pub only_fault : {X : Type 0} (g : TextRules X) (text : List ℕ) (result : Resu
     → Answered g text result
     → (wrong : ReadFault) → IsFaultByRules g text wrong
     → MatchResult result (λ _. ⊥) (λ fault. (fault ≡ no_memory_left) ⊎ (fault ≡ wrong))
-only_fault g text (Ok read) h wrong is = let e = answer_read g text (Err wrong) is in cc
+only_fault g text (Ok read) h wrong is =
+    let e = answer_read g text (Err wrong) is in let was = held_read read (text_read g text) h in cc
 only_fault g text (Err fault) (inl none) wrong is = inl none
 only_fault g text (Err fault) (inr read) wrong is = inr (let e = answer_read g text (Err wrong) is in cc)
 

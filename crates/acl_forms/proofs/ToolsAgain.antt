@@ -29,7 +29,7 @@ use Rattle.acl_nfs4.specs.Within.{IsWithin}
 use Rattle.acl_forms.specs.Letters.{flag_letters, letters_from, right_letters, single_letters}
 use Rattle.acl_forms.specs.Texts.{cut_entries, line_items}
 use Rattle.acl_forms.specs.ToolsRules.{is_break, tools_rules, SpellsTools}
-use Rattle.acl_forms.specs.ToolsText.{tools_ace, Fields, entry_fields_of, four, kind_read, tools_entry, unless_refused, with_group_flag}
+use Rattle.acl_forms.specs.ToolsText.{tools_ace, Fields, entry_fields_of, fields_read, four, kind_read, tools_entry, unless_refused, with_group_flag}
 use Rattle.acl_forms.specs.ToolsWritten.{as_written, fault_or, flags_written, is_no_file_ace, is_separator, kind_letter, letters_of, longest_tools_text, longest_tools_who, meets, tools_ace_fault, tools_entry_text, tools_fault, tools_fault_from, tools_line, tools_text, IsSameButGroup}
 use Rattle.acl_forms.specs.declared.fault.FormFault.{FormFault}
 use Rattle.acl_forms.specs.declared.fault.FormReason.{FormReason}
@@ -306,6 +306,12 @@ ace_again object a column h is =
     ∙ ap (λ (r : Result ℕ ReadFault). r >>= λ m. Ok (ace_with a.kind (with_group_flag a.who (flags_written a)) m a.who)) mask
     ∙ ap (λ (f : ℕ). Ok (ace_with a.kind f a.mask a.who)) (group_twice a.who a.flags)
 
+-- the four fields of an entry are read if the list has room
+found_again : (count : ℕ) (entry : Span) (fields : Fields) → entry_fields_of entry ≡ Some fields → count < most_aces
+    → fields_read count entry ≡ Ok fields
+found_again count entry fields e room =
+    let r : nat_le most_aces count ≡ false = grind (arith, nat_tests) in rw (e, r) refl
+
 -- the entry of an ACE is read as the ACE
 entry_again : (object : ObjectKind) (list : List Ace) (a : Ace) (column : ℕ) → IsHeld object a → IsAce full a
     → length list < most_aces → weight list + count_ones a.mask ≤ most_weight
@@ -313,7 +319,8 @@ entry_again : (object : ObjectKind) (list : List Ace) (a : Ace) (column : ℕ) �
 entry_again object list a column h is room light =
     let fields = fields_at column a in
     good_fields object list (part_at column (tools_entry_text a)) fields (as_written a)
-    (fields_again a column is.who h.apart) room (ace_again object a column h is)
+    (found_again (length list) (part_at column (tools_entry_text a)) fields (fields_again a column is.who h.apart) room)
+    (ace_again object a column h is)
     ∙ ap (unless_refused (as_written a) fields.rights.column fields.who.column)
     (not_refused list (as_written a) room light is.who)
 

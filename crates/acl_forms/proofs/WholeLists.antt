@@ -42,7 +42,7 @@ pub record IsKnown (who : List ℕ) : Type 0 where
   pub known : is_unknown_special who ≡ false
 
 -- what the four checks of a who found
-is_known : (who : List ℕ) → IsWho who → IsKnown who
+pub is_known : (who : List ℕ) → IsWho who → IsKnown who
 is_known who is = by (is_no_who_len (length who)) (is_utf8 who) (list_all is_plain who) refl refl refl
   where
     by : (len utf8 plain : Bool) → is_no_who_len (length who) ≡ len → is_utf8 who ≡ utf8 → list_all is_plain who ≡ plain
@@ -58,12 +58,12 @@ for_access Allow = refl
 for_access Deny = refl
 
 -- a kind is that of its number
-kind_same : (k : Kind) → kind_of_type (kind_number k) ≡ k
+pub kind_same : (k : Kind) → kind_of_type (kind_number k) ≡ k
 kind_same Allow = refl
 kind_same Deny = refl
 
 -- an ALLOW or a DENY of a name that somebody knows is kept as it is
-kept_same : (a : Ace) → is_unknown_special a.who ≡ false
+pub kept_same : (a : Ace) → is_unknown_special a.who ≡ false
     → (reason_of (any_of a) ≡ None) × (kept_ace (any_of a) ≡ a)
 kept_same a known = (
   rw (for_access a.kind, known) refl,

@@ -17,8 +17,8 @@ use Rattle.acl_forms.specs.declared.form.Form.TheVariants.{NfsTools, NfsText, Nf
 -- ---- what a value of a form is
 
 -- a text spells a list, and there are no flags
-pub record IsTextWithoutFlags (Spells : List Ace → List ℕ → Type 0) (flags : ℕ) (list : List Ace) (text : List ℕ)
-    : Type 0 where
+pub record IsTextWithoutFlags {X : Type 0} (Spells : List X → List ℕ → Type 0) (flags : ℕ) (list : List X)
+    (text : List ℕ) : Type 0 where
   pub none : flags ≡ 0
   pub spelled : Spells list text
 

@@ -19,7 +19,9 @@ pub mod PosixRules
 pub mod TextReading
 pub mod ToolsWritten
 pub mod NfsWritten
+pub mod PosixNames
 pub mod PosixWritten
 pub mod Forms
 pub mod Ids
+pub mod PartTexts
 pub mod PartForms

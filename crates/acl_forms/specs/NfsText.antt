@@ -1,7 +1,7 @@
 -- The entry of a text of an NFSv4 list on FreeBSD, in ZFS and in archives (setfacl(1) of FreeBSD, "NFSv4 ACL ENTRIES",
 -- and archive_acl_from_text in the source of libarchive 3.6.2): `principal:permissions:flags:type`, with an id at its
 -- end where a user or a group has one. Which of the name and the id counts is this library's own.
-use Rattle.std.specs.Prelude.{◌==◌, ◌&&◌, ◌||◌, ℕ, Bool, not, List, [], ◌∷◌, codes, length, map, nat_le, bit_or, Option, None, Some, ok_or, Result, Ok, Err, if◌then◌else◌}
+use Rattle.std.specs.Prelude.{◌==◌, ◌&&◌, ℕ, Bool, not, List, [], ◌∷◌, codes, length, map, nat_le, bit_or, Option, None, Some, ok_or, Result, Ok, Err, if◌then◌else◌}
 use Rattle.std.specs.Fmt.{decimal}
 use Rattle.std.specs.Str.{bytes_eq}
 use Rattle.std.specs.Str.Parse.{digits_value}
@@ -9,7 +9,6 @@ use Rattle.acl_perm.specs.Ascii.{colon}
 use Rattle.acl_perm.specs.Bits.{identifier_group_alone}
 use Rattle.acl_perm.specs.Lines.{Span, cut_at, is_all_blank, start_of, trimmed}
 use Rattle.acl_perm.specs.declared.kind.Kind.{Kind}
-use Rattle.acl_perm.specs.declared.kind.Kind.TheVariants.{Deny, Allow}
 use Rattle.acl_perm.specs.internal.Steps.{◌>>=◌}
 use Rattle.acl_posix.specs.Fields.{id_of}
 use Rattle.acl_posix.specs.Names.{is_number}
@@ -19,7 +18,7 @@ use Rattle.acl_nfs4.specs.Who.{everyone_name, group_name, is_special, owner_name
 use Rattle.acl_nfs4.specs.declared.xdr.fault.Reason.TheVariants as list
 use Rattle.acl_forms.specs.Letters.{letters_from, nfs_flag_letters, nfs_right_letters, no_letter}
 use Rattle.acl_forms.specs.ReadFaults.{read_fault_at}
-use Rattle.acl_forms.specs.ToolsText.{taken}
+use Rattle.acl_forms.specs.ToolsText.{kind_at, taken}
 use Rattle.acl_forms.specs.declared.fault.ReadFault.{ReadFault}
 use Rattle.acl_forms.specs.declared.fault.ReadReason.TheVariants as reasons
 use Rattle.acl_forms.specs.declared.nfs_text.fields.NfsTag.{NfsTag}
@@ -120,22 +119,26 @@ fields_of_parts start (word ∷ parts) = fields_with_tag start word parts
 unfoldable pub nfs_fields_of : Span → Result NfsFields ReadFault
 nfs_fields_of entry = fields_of_parts entry.column (map trimmed_span (cut_at colon entry))
 
--- the fields of an entry, if it is not blank and the list can take one more ACE
-abbrev pub nfs_fields_read : List Ace → Span → Result NfsFields ReadFault
-nfs_fields_read aces entry =
+-- the fields of an entry, if it is not blank and a list of this many ACEs can take one more
+abbrev pub nfs_fields_read : ℕ → Span → Result NfsFields ReadFault
+nfs_fields_read count entry =
     if is_all_blank entry.bytes then Err (read_fault_at entry.column reasons.EmptyEntry)
-    else (if nat_le most_aces (length aces) then Err (read_fault_at entry.column (reasons.List list.TooManyAces))
+    else (if nat_le most_aces count then Err (read_fault_at entry.column (reasons.List list.TooManyAces))
     else nfs_fields_of entry)
 
 -- ---- the ACE of the fields
 
--- the kind of the word `allow` or `deny`; `audit` and `alarm` are kinds that no list has
+-- the number of the type of a word
+abbrev pub nfs_type : Span → Result ℕ ReadFault
+nfs_type field = if bytes_eq field.bytes (codes "allow") then Ok 0
+    else (if bytes_eq field.bytes (codes "deny") then Ok 1
+    else (if bytes_eq field.bytes (codes "audit") then Ok 2
+    else (if bytes_eq field.bytes (codes "alarm") then Ok 3
+    else Err (read_fault_at field.column (reasons.List list.AceType)))))
+
+-- the kind of a word
 abbrev pub nfs_kind : Span → Result Kind ReadFault
-nfs_kind field = if bytes_eq field.bytes (codes "allow") then Ok Allow
-    else (if bytes_eq field.bytes (codes "deny") then Ok Deny
-    else (if bytes_eq field.bytes (codes "audit") || bytes_eq field.bytes (codes "alarm")
-    then Err (read_fault_at field.column (reasons.List list.AuditOrAlarm))
-    else Err (read_fault_at field.column (reasons.List list.AceType))))
+nfs_kind field = nfs_type field >>= λ number. kind_at field.column number
 
 -- the id that digits alone spell, at most 4294967294
 abbrev pub id_alone : List ℕ → Option ℕ
@@ -187,6 +190,6 @@ nfs_ace source fields = do
 -- permissions in the list, and the who
 unfoldable pub nfs_entry : WhoField → List Ace → Span → Result Ace ReadFault
 nfs_entry source aces entry = do
-  fields ← nfs_fields_read aces entry
+  fields ← nfs_fields_read (length aces) entry
   a ← nfs_ace source fields
   taken aces a fields.rights.column fields.who.column

@@ -9,36 +9,16 @@ use Rattle.acl_perm.specs.Ascii.{colon, comma, line_feed}
 use Rattle.acl_perm.specs.Lines.{trimmed}
 use Rattle.acl_perm.specs.Shown.{perm_text}
 use Rattle.acl_posix.specs.Entries.{Entries}
-use Rattle.acl_posix.specs.Names.{is_number}
 use Rattle.acl_posix.specs.Tag.{Tag, user_obj, user, group_obj, group, mask, other}
 use Rattle.acl_posix.specs.Texts.{long_word, qualifier_text}
 use Rattle.acl_forms.specs.NfsWritten.{greatest_kept_id}
+use Rattle.acl_forms.specs.PosixNames.{NamesOfIds, tag_name}
 use Rattle.acl_forms.specs.ToolsWritten.{fault_or, is_separator}
 use Rattle.acl_forms.specs.declared.fault.FormFault.{FormFault}
 use Rattle.acl_forms.specs.declared.fault.FormReason.{FormReason}
 use Rattle.acl_forms.specs.declared.fault.FormReason.TheVariants.{Id, Separator, TooLong}
-use Rattle.acl_forms.specs.declared.posix_text.names.IdNames.{IdNames}
-use Rattle.acl_forms.specs.declared.posix_text.names.NamedId.{NamedId}
 use Rattle.acl_forms.specs.declared.posix_text.style.TarStyle.{TarStyle}
 use Rattle.acl_forms.specs.declared.posix_text.style.TarStyle.TheVariants.{Star, Gnu}
-
--- ---- names of ids
-
--- a name that is written in place of its id: digits alone would be read as an id, and no bytes as no qualifier
-abbrev pub is_shown : List ℕ → Bool
-is_shown name = not (length name == 0 || is_number name)
-
--- the name of an id: that of the first row with the id, if it is written in place of the id
-abbrev pub shown_name : List NamedId → ℕ → Option (List ℕ)
-shown_name [] id = None
-shown_name (row ∷ rows) id =
-    if row.id.value == id then (if is_shown row.name.now then Some row.name.now else None) else shown_name rows id
-
--- the name of the qualifier of a tag, if there is one
-abbrev pub tag_name : IdNames → Tag → Option (List ℕ)
-tag_name names (user id) = shown_name names.users.now id
-tag_name names (group id) = shown_name names.groups.now id
-tag_name names tag = None
 
 -- ---- the text
 
@@ -68,7 +48,7 @@ styled Star e name = comma_before e.0 ++ (three_fields e name ++ id_field e.0 na
 styled Gnu e name = three_fields e name ++ line_feed ∷ []
 
 -- the piece of the text that is an entry
-unfoldable pub posix_piece : IdNames → TarStyle → Tag × ℕ → List ℕ
+unfoldable pub posix_piece : NamesOfIds → TarStyle → Tag × ℕ → List ℕ
 posix_piece names style e = styled style e (tag_name names e.0)
 
 -- USER_OBJ, GROUP_OBJ and OTHER
@@ -81,18 +61,18 @@ is_base mask = false
 is_base other = true
 
 -- the pieces of the entries that a test chooses
-abbrev pub pieces_if : IdNames → TarStyle → (Tag → Bool) → List (Tag × ℕ) → List ℕ
+abbrev pub pieces_if : NamesOfIds → TarStyle → (Tag → Bool) → List (Tag × ℕ) → List ℕ
 pieces_if names style chosen entries =
     flat_map (λ e. if chosen e.0 then posix_piece names style e else []) entries
 
 -- the text of entries in canonical order: for star the three base entries come first
-abbrev pub entries_text : IdNames → TarStyle → List (Tag × ℕ) → List ℕ
+abbrev pub entries_text : NamesOfIds → TarStyle → List (Tag × ℕ) → List ℕ
 entries_text names Star entries =
     pieces_if names Star is_base entries ++ pieces_if names Star (λ tag. not (is_base tag)) entries
 entries_text names Gnu entries = pieces_if names Gnu (λ tag. true) entries
 
 -- the text of an ACL
-abbrev pub posix_text : IdNames → TarStyle → Entries → List ℕ
+abbrev pub posix_text : NamesOfIds → TarStyle → Entries → List ℕ
 posix_text names style acl = entries_text names style (set.entries acl)
 
 -- ---- the ACLs that the text cannot hold
@@ -127,11 +107,11 @@ named_reason style tag None = id_reason_of style tag
 named_reason style tag (Some name) = option_or (name_reason name) (id_reason_of style tag)
 
 -- the first entry from a place on that the text cannot hold
-abbrev pub posix_fault_from : IdNames → TarStyle → ℕ → List (Tag × ℕ) → Option FormFault
+abbrev pub posix_fault_from : NamesOfIds → TarStyle → ℕ → List (Tag × ℕ) → Option FormFault
 posix_fault_from names style place [] = None
 posix_fault_from names style place (e ∷ entries) =
     fault_or place (named_reason style e.0 (tag_name names e.0)) (posix_fault_from names style (place + 1) entries)
 
 -- the first entry in canonical order that the text cannot hold
-abbrev pub posix_text_fault : IdNames → TarStyle → Entries → Option FormFault
+abbrev pub posix_text_fault : NamesOfIds → TarStyle → Entries → Option FormFault
 posix_text_fault names style acl = posix_fault_from names style 0 (set.entries acl)

@@ -66,20 +66,25 @@ text_read rules text = unless_nul rules text (position (λ b. b == 0) text)
 abbrev pub FailsAsRead : {Y : Type 0} → ReadFault → Result Y ReadFault → Type 0
 FailsAsRead fault read = (fault ≡ no_memory_left) ⊎ (read ≡ Err fault)
 
--- the result of adding items to a list
-abbrev pub AddsItems : {X : Type 0} → TextRules X → List (Result Span ReadFault) → List X → List X
+-- what is read is held
+abbrev pub IsHeld : {X : Type 0} → Result (List X) ReadFault → (List X → Type 0) → Type 0
+IsHeld {X} read Held = (all : List X) × (read ≡ Ok all) × Held all
+
+-- the result of adding items to a list that holds these
+abbrev pub AddsItems : {X : Type 0} → TextRules X → List (Result Span ReadFault) → List X → (List X → Type 0)
     → Result (Unit {0}) ReadFault → Type 0
-AddsItems rules items old new result = MatchResult result (λ _. read_items rules old items ≡ Ok new)
-    (λ fault. FailsAsRead fault (read_items rules old items))
+AddsItems rules items list Held result = MatchResult result (λ _. IsHeld (read_items rules list items) Held)
+    (λ fault. FailsAsRead fault (read_items rules list items))
 
 -- the items of one part of a line
 abbrev pub part_items : {X : Type 0} → TextRules X → Span → List (Result Span ReadFault)
 part_items rules part = if rules.is_part_skipped part.bytes then [] else items_of (part ∷ [])
 
--- the result of adding what is read
-abbrev pub AddsOne : {X : Type 0} → Result X ReadFault → List X → List X → Result (Unit {0}) ReadFault → Type 0
-AddsOne {X} read old new (Ok _) = (x : X) × (read ≡ Ok x) × (new ≡ old ++ x ∷ [])
-AddsOne read old new (Err fault) = FailsAsRead fault read
+-- the result of adding what is read to a list that holds these
+abbrev pub AddsOne : {X : Type 0} → Result X ReadFault → List X → (List X → Type 0) → Result (Unit {0}) ReadFault
+    → Type 0
+AddsOne {X} read list Held (Ok _) = (x : X) × (read ≡ Ok x) × Held (list ++ x ∷ [])
+AddsOne read list Held (Err fault) = FailsAsRead fault read
 
 -- the answer of a test is the fault for which it looks
 abbrev pub JudgesComment : Result (Unit {0}) ReadFault → Option ReadFault → Type 0

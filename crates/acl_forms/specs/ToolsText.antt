@@ -1,12 +1,12 @@
 -- The entry of a text of nfs4-acl-tools (nfs4_acl(5), "ACL FORMAT"): `type:flags:principal:permissions`.
-use Rattle.std.specs.Prelude.{ℕ, List, [], ◌∷◌, length, nat_le, bit_or, Option, None, Some, ok_or, Result, Ok, Err, if◌then◌else◌}
+use Rattle.std.specs.Prelude.{ℕ, List, [], ◌∷◌, length, nat_le, nat_lt, bit_or, Option, None, Some, ok_or, Result, Ok, Err, if◌then◌else◌}
 use Rattle.std.specs.Str.{bytes_eq}
 use Rattle.acl_perm.specs.Ascii.{colon}
 use Rattle.acl_perm.specs.Bits.{identifier_group_alone}
 use Rattle.acl_perm.specs.Lines.{Span, cut_at}
 use Rattle.acl_perm.specs.declared.kind.Kind.{Kind}
-use Rattle.acl_perm.specs.declared.kind.Kind.TheVariants.{Deny, Allow}
 use Rattle.acl_perm.specs.internal.Steps.{◌>>=◌}
+use Rattle.acl_nfs4.specs.AccessPart.{kind_of_type}
 use Rattle.acl_nfs4.specs.Ace.{Ace}
 use Rattle.acl_nfs4.specs.Limits.{most_aces}
 use Rattle.acl_nfs4.specs.Push.{push_refusal}
@@ -37,13 +37,22 @@ four _ = None
 unfoldable pub entry_fields_of : Span → Option Fields
 entry_fields_of entry = four (cut_at colon entry)
 
--- the kind of the letters `A` and `D`; `U` is AUDIT, and `L` is ALARM
-abbrev pub kind_read : Span → Result Kind ReadFault
-kind_read field = if bytes_eq field.bytes (0x41 ∷ []) then Ok Allow
-    else (if bytes_eq field.bytes (0x44 ∷ []) then Ok Deny
-    else (if bytes_eq field.bytes (0x55 ∷ []) then Err (read_fault_at field.column (reasons.List list.AuditOrAlarm))
-    else (if bytes_eq field.bytes (0x4c ∷ []) then Err (read_fault_at field.column (reasons.List list.AuditOrAlarm))
+-- the number of the type of a letter: `A` is ALLOW, `D` is DENY, `U` is AUDIT, and `L` is ALARM
+abbrev pub type_read : Span → Result ℕ ReadFault
+type_read field = if bytes_eq field.bytes (0x41 ∷ []) then Ok 0
+    else (if bytes_eq field.bytes (0x44 ∷ []) then Ok 1
+    else (if bytes_eq field.bytes (0x55 ∷ []) then Ok 2
+    else (if bytes_eq field.bytes (0x4c ∷ []) then Ok 3
     else Err (read_fault_at field.column (reasons.List list.AceType)))))
+
+-- the kind of a type at this place; AUDIT and ALARM are no kinds
+abbrev pub kind_at : ℕ → ℕ → Result Kind ReadFault
+kind_at at number = if nat_lt number 2 then Ok (kind_of_type number)
+    else Err (read_fault_at at (reasons.List list.AuditOrAlarm))
+
+-- the kind of a letter
+abbrev pub kind_read : Span → Result Kind ReadFault
+kind_read field = type_read field >>= λ number. kind_at field.column number
 
 -- the flags of an ACE with this who: the tool sets IDENTIFIER_GROUP on `GROUP@`, whatever the text says
 abbrev pub with_group_flag : List ℕ → ℕ → ℕ
@@ -68,10 +77,10 @@ unless_refused a mask who (Some fault) = Err (refused_at mask who fault)
 abbrev pub taken : List Ace → Ace → ℕ → ℕ → Result Ace ReadFault
 taken aces a mask who = unless_refused a mask who (push_refusal aces a)
 
--- the fields of an entry, if the list can take one more ACE
-abbrev pub fields_read : List Ace → Span → Result Fields ReadFault
-fields_read aces entry = ok_or (entry_fields_of entry) (read_fault_at entry.column reasons.Fields) >>= λ fields.
-    if nat_le most_aces (length aces) then Err (read_fault_at entry.column (reasons.List list.TooManyAces))
+-- the fields of an entry, if a list of this many ACEs can take one more
+abbrev pub fields_read : ℕ → Span → Result Fields ReadFault
+fields_read count entry = ok_or (entry_fields_of entry) (read_fault_at entry.column reasons.Fields) >>= λ fields.
+    if nat_le most_aces count then Err (read_fault_at entry.column (reasons.List list.TooManyAces))
     else Ok fields
 
 -- the ACE of fields, or the first fault: in the type, the flags or the permissions
@@ -86,6 +95,6 @@ tools_ace object fields = do
 -- number of ACEs, the type, the flags, the permissions, their number in the list, and the who
 unfoldable pub tools_entry : ObjectKind → List Ace → Span → Result Ace ReadFault
 tools_entry object aces entry = do
-  fields ← fields_read aces entry
+  fields ← fields_read (length aces) entry
   a ← tools_ace object fields
   taken aces a fields.rights.column fields.who.column

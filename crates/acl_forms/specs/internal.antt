@@ -6,6 +6,8 @@ pub mod Cursor
 pub mod IdAces
 -- ACEs of any type while they are read
 pub mod AnyAces
+-- texts of ACEs of any type while they are read
+pub mod AnyTexts
 -- entries of an attribute while they are read and written
 pub mod AttributeEntries
 -- the fields of an entry of a text of FreeBSD, ZFS and archives
@@ -14,6 +16,8 @@ pub mod NfsReading
 pub mod PosixReading
 -- how the text of a POSIX ACL is written, pass by pass
 pub mod PosixWriting
+-- the names of ids in the maps of the code
+pub mod NamesOfIds
 -- the rows of a table of names and ids
 pub mod IdEntries
 -- how a text of entries is written

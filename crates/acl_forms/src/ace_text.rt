@@ -1,4 +1,5 @@
 //! The forms of text whose entries are ACEs.
+ghost use Rattle.std.specs.Prelude.{◌≡◌};
 ghost use Rattle.acl_nfs4.specs.Ace.{Ace};
 ghost use Rattle.acl_forms.specs.TextReading.{ace_rules};
 
@@ -29,7 +30,7 @@ impl TextForm for AceText {
 
     ghost Item = { Ace };
 
-    ghost items = { λ list. list };
+    ghost Holds = { λ list all. list ≡ all };
 
     ghost rules = { ace_rules };
 

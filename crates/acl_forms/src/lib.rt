@@ -49,8 +49,7 @@ pub use object::ObjectKind;
 pub use part::left_out::{LeftOut, LeftOutReason};
 pub use part::{Part, read_part};
 pub use posix_text::{
-    IdNames, NamedId, TarStyle, posix_text_fault, read_default_text, read_posix_text,
-    write_posix_text,
+    IdNames, TarStyle, posix_text_fault, read_default_text, read_posix_text, write_posix_text,
 };
 pub use style::{EntrySeparator, LetterStyle, Style};
 pub use tools::{read_tools, tools_fault, write_tools};

@@ -1,7 +1,7 @@
 //! Lists without the ACEs that access does not read, of values that have such ACEs.
 ghost use Rattle.std.specs.Prelude.{[], ◌≡◌, ◌⊎◌, ℕ, IfErr, IfOk, List};
 ghost use Rattle.acl_nfs4.specs.Ace.{Ace};
-ghost use Rattle.acl_forms.specs.Forms.{IsFormFaultAt, SpellsForm};
+ghost use Rattle.acl_forms.specs.Forms.{SpellsForm};
 ghost use Rattle.acl_forms.specs.Part.{IsReadAsPart, RefusesPart};
 ghost use Rattle.acl_forms.specs.PartForms.{IsPartFaultAt, SpellsPartOf};
 ghost use Rattle.acl_forms.specs.ReadFaults.{no_memory_left};
@@ -9,13 +9,17 @@ ghost use Rattle.acl_forms.specs.declared.fault.ReadFault.{ReadFault};
 ghost use Rattle.acl_forms.specs.declared.part.left_out.LeftOut.{LeftOut};
 
 pub(crate) mod any_ace;
+pub(crate) mod any_entry;
 pub(crate) mod left_out;
+pub(crate) mod texts;
 pub(crate) mod words;
 
+use crate::ace_text::AceText;
 use crate::acl_flags::AclFlags;
 use crate::fault::ReadFault;
-use crate::form::{Form, read};
+use crate::form::Form;
 use crate::part::left_out::LeftOut;
+use crate::part::texts::read_text_part;
 use crate::part::words::{Layout, read_words};
 use acl_nfs4::Acl;
 use std::alloc::Global;
@@ -33,10 +37,10 @@ pub struct Part {
 
 /// Returns the flags, the ACEs that access can read, and where the other ACEs are, of all of the bytes in the form, as
 /// `read` reads them. AUDIT and ALARM ACEs are left out, and ALLOW ACEs of a special identifier other than `OWNER@`,
-/// `GROUP@` and `EVERYONE@`: in nfsacl41 of another who that ends in `@`, such as `AUTHENTICATED@`, and in nfsacl41i of
-/// another number than 1, 2 and 3. What `read` accepts is read as a whole list. Fails as `read` does: also for what an
-/// ACE that is left out has wrong, and with SpecialWho for a DENY of such a special identifier, without which more might
-/// be granted. The limits of a list count all ACEs. Of a text nothing is left out: it is read as `read` reads it. Time
+/// `GROUP@` and `EVERYONE@`: in nfsacl41i of another number than 1, 2 and 3, and in the other forms of another who that
+/// ends in `@`, such as `AUTHENTICATED@`. What `read` accepts is read as a whole list. Fails as `read` does: also for
+/// what an ACE that is left out has wrong, and with SpecialWho for a DENY of such a special identifier, without which
+/// more might be granted. The limits of a list count all ACEs. The place of an ACE of a text is that of its entry. Time
 /// linear in the bytes, and two growing lists.
 ///
 /// ```rust
@@ -58,24 +62,9 @@ pub fn read_part(alloc: Global, form: Form, bytes: &[u8]) -> Result<Part, ReadFa
     ensures refused { (wrong : ReadFault) → IsPartFaultAt form bytes.now wrong → RefusesPart result wrong }
 {
     match form {
-        Form::NfsTools(_) | Form::NfsText(_, _) => read_whole(alloc, form, bytes),
+        Form::NfsTools(object) => read_text_part(alloc, bytes, AceText::Tools(object)),
+        Form::NfsText(source, _) => read_text_part(alloc, bytes, AceText::Nfs(source)),
         Form::NfsAcl41 => read_words(alloc, bytes, Layout::ByName),
         Form::NfsAcl41Ids => read_words(alloc, bytes, Layout::ByNumber),
     }
-}
-
-// Returns what `read` returns, as a part of which nothing is left out.
-fn read_whole(alloc: Global, form: Form, bytes: &[u8]) -> Result<Part, ReadFault>
-    ensures found { IfOk result (λ part. SpellsForm form part.flags.bits part.list bytes.now
-        × (part.left_out.items ≡ [])) }
-    ensures only { (set : ℕ) (list : List Ace) → SpellsForm form set list bytes.now → IsReadAsPart result set list [] }
-    ensures fault { IfErr result (λ fault. (fault ≡ no_memory_left) ⊎ IsFormFaultAt form bytes.now fault) }
-    ensures refused { (wrong : ReadFault) → IsFormFaultAt form bytes.now wrong → RefusesPart result wrong }
-{
-    let (flags, list) = read(alloc, form, bytes)?;
-    Ok(Part {
-        flags,
-        list,
-        left_out: Vec::new(alloc),
-    })
 }

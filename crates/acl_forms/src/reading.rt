@@ -1,8 +1,8 @@
 //! Reads texts of entries, line by line and entry by entry.
-ghost use Rattle.std.specs.Prelude.{◌≡◌, ◌==◌, [], ◌≤◌, MatchResult, Ok, length, position};
+ghost use Rattle.std.specs.Prelude.{◌≡◌, ◌==◌, [], ◌≤◌, List, MatchResult, length, position};
 ghost use Rattle.acl_perm.specs.Ascii.{hash};
 ghost use Rattle.acl_perm.specs.Lines.{span_of, ColumnsFit};
-ghost use Rattle.acl_forms.specs.TextReading.{text_read, read_items, AddsItems, FailsAsRead, IsEntryCut, JudgesComment, part_items};
+ghost use Rattle.acl_forms.specs.TextReading.{text_read, read_items, AddsItems, IsHeld, FailsAsRead, IsEntryCut, JudgesComment, part_items};
 ghost use Rattle.acl_forms.specs.Texts.{comment_fault, cut_entries, entries_among, entries_of, items_in, items_of, line_items};
 
 use crate::fault::{ReadFault, ReadReason};
@@ -17,7 +17,7 @@ pub(crate) fn read_text<F: TextForm>(
     text: &[u8],
     form: F,
 ) -> Result<F::List, ReadFault>
-    ensures { MatchResult result (λ list. text_read (F.rules form) text.now ≡ Ok (F.items list))
+    ensures { MatchResult result (λ list. IsHeld (text_read (F.rules form) text.now) (F.Holds list))
         (λ fault. FailsAsRead fault (text_read (F.rules form) text.now)) }
 {
     if let Some(place) = place_of(text, 0) {
@@ -33,7 +33,7 @@ pub(crate) fn read_text<F: TextForm>(
 // Returns the list of the lines of a text.
 fn read_lines<F: TextForm>(alloc: Global, text: &[u8], form: F) -> Result<F::List, ReadFault>
     ensures { MatchResult result
-        (λ list. read_items (F.rules form) [] (items_in (F.rules form) text.now) ≡ Ok (F.items list))
+        (λ list. IsHeld (read_items (F.rules form) [] (items_in (F.rules form) text.now)) (F.Holds list))
         (λ fault. FailsAsRead fault (read_items (F.rules form) [] (items_in (F.rules form) text.now))) }
 {
     let mut list = form.new_list(alloc);
@@ -53,9 +53,10 @@ fn read_lines<F: TextForm>(alloc: Global, text: &[u8], form: F) -> Result<F::Lis
 // Adds the entries of a line.
 #[tactic(auto, unfolding(crate::specs::Texts::line_items))]
 fn read_line<F: TextForm>(list: &mut F::List, line: Piece<'_>, form: F) -> Result<(), ReadFault>
-    requires { ColumnsFit line }
-    ensures { AddsItems (F.rules form) (line_items (F.rules form) (span_of line.entry)) (F.items list.old)
-        (F.items list.new) result }
+    requires fits { ColumnsFit line }
+    requires held { (all : List F.Item) × F.Holds list.old all }
+    ensures { (all : List F.Item) → F.Holds list.old all
+        → AddsItems (F.rules form) (line_items (F.rules form) (span_of line.entry)) all (F.Holds list.new) result }
 {
     let Some(place) = mark_in(line.bytes) else {
         return read_entries(list, line, form);
@@ -92,9 +93,11 @@ fn judge_comment<F: TextForm>(line: Piece<'_>, place: usize, form: F) -> Result<
 
 // Adds the entries of a line without its comment.
 fn read_entries<F: TextForm>(list: &mut F::List, line: Piece<'_>, form: F) -> Result<(), ReadFault>
-    requires { ColumnsFit line }
-    ensures { AddsItems (F.rules form) (items_of (entries_of (F.rules form) (span_of line.entry))) (F.items list.old)
-        (F.items list.new) result }
+    requires fits { ColumnsFit line }
+    requires held { (all : List F.Item) × F.Holds list.old all }
+    ensures { (all : List F.Item) → F.Holds list.old all
+        → AddsItems (F.rules form) (items_of (entries_of (F.rules form) (span_of line.entry))) all
+        (F.Holds list.new) result }
 {
     if form.is_line_skipped(line.bytes) {
         return Ok(());
@@ -104,10 +107,11 @@ fn read_entries<F: TextForm>(list: &mut F::List, line: Piece<'_>, form: F) -> Re
 
 // Adds the entries among the parts of a line.
 fn read_parts<F: TextForm>(list: &mut F::List, line: Piece<'_>, form: F) -> Result<(), ReadFault>
-    requires { ColumnsFit line }
-    ensures { AddsItems (F.rules form)
-        (items_of (entries_among (F.rules form) (cut_entries (F.rules form) (span_of line.entry)))) (F.items list.old)
-        (F.items list.new) result }
+    requires fits { ColumnsFit line }
+    requires held { (all : List F.Item) × F.Holds list.old all }
+    ensures { (all : List F.Item) → F.Holds list.old all → AddsItems (F.rules form)
+        (items_of (entries_among (F.rules form) (cut_entries (F.rules form) (span_of line.entry)))) all
+        (F.Holds list.new) result }
 {
     let mut rest = Some(line);
     while let Some(left) = rest {
@@ -147,9 +151,10 @@ fn first_end<F: TextForm>(bytes: &[u8], form: F) -> Option<usize>
 
 // Adds the entry of a part of a line, unless the part is no entry.
 fn add_part<F: TextForm>(list: &mut F::List, part: Piece<'_>, form: F) -> Result<(), ReadFault>
-    requires { ColumnsFit part }
-    ensures { AddsItems (F.rules form) (part_items (F.rules form) (span_of part.entry)) (F.items list.old)
-        (F.items list.new) result }
+    requires fits { ColumnsFit part }
+    requires held { (all : List F.Item) × F.Holds list.old all }
+    ensures { (all : List F.Item) → F.Holds list.old all
+        → AddsItems (F.rules form) (part_items (F.rules form) (span_of part.entry)) all (F.Holds list.new) result }
 {
     if form.is_part_skipped(part.bytes) {
         return Ok(());

@@ -16,19 +16,19 @@ pub(crate) trait TextForm: Copy {
     // What an entry spells.
     ghost Item: { Type 0 };
 
-    // What is in a list.
-    ghost items: { Self.List → List Item };
+    // A list holds what these entries spell.
+    ghost Holds: { Self.List → List Item → Type 0 };
 
     // The rules of the form.
     ghost rules: { Self → TextRules Item };
 
     /// Returns the list without entries.
     fn new_list(self, alloc: Global) -> Self::List
-        ensures { items result ≡ [] };
+        ensures { Holds result [] };
 
     /// Returns how many entries a list has.
     fn len_of(self, list: &Self::List) -> usize
-        ensures { result ≡ length (items list.now) };
+        ensures { (all : List Item) → Holds list.now all → result ≡ length all };
 
     /// Returns whether the byte ends an entry within its line.
     fn ends_entry(self, b: u8) -> bool
@@ -52,7 +52,8 @@ pub(crate) trait TextForm: Copy {
 
     /// Adds what an entry spells to a list.
     fn add_entry(self, list: &mut Self::List, entry: Piece<'_>) -> Result<(), ReadFault>
-        requires { ColumnsFit entry }
-        ensures { AddsOne ((rules self).entry (items list.old) (span_of entry.entry)) (items list.old)
-            (items list.new) result };
+        requires fits { ColumnsFit entry }
+        requires held { (all : List Item) × Holds list.old all }
+        ensures { (all : List Item) → Holds list.old all
+            → AddsOne ((rules self).entry all (span_of entry.entry)) all (Holds list.new) result };
 }

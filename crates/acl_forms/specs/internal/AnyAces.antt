@@ -1,6 +1,7 @@
 -- An ACE of any type as the code holds it (this library's own). No public clause cites it.
-use Rattle.std.specs.Prelude.{◌≡◌, ◌⊎◌, ℕ, List, Result, Ok, Err, true}
+use Rattle.std.specs.Prelude.{◌≡◌, ◌⊎◌, ◌+◌, ◌<◌, ◌≤◌, ℕ, List, Result, Ok, Err, count_ones, true}
 use Rattle.acl_nfs4.specs.AccessPart.{AnyAce, IsAnyWho}
+use Rattle.acl_nfs4.specs.Limits.{most_aces, most_weight}
 use Rattle.acl_nfs4.specs.Who.{is_unknown_special}
 use Rattle.acl_forms.specs.Part.{IsPartWith, PlacedAce, kept, left_out}
 use Rattle.acl_forms.specs.PartWords.{AceReader, ace_by_name, ace_by_number, special_name}
@@ -11,9 +12,11 @@ use Rattle.acl_forms.specs.declared.part.Part.{Part}
 use Rattle.acl_forms.specs.declared.part.any_ace.AnyAceRef.{AnyAceRef}
 use Rattle.acl_forms.specs.declared.part.any_ace.AnyWho.{AnyWho}
 use Rattle.acl_forms.specs.declared.part.any_ace.AnyWho.TheVariants.{Known, Name, Special}
+use Rattle.acl_forms.specs.declared.part.any_entry.AnyEntry.{AnyEntry}
 use Rattle.acl_forms.specs.declared.part.words.Layout.{Layout}
 use Rattle.acl_forms.specs.declared.part.words.Layout.TheVariants.{ByName, ByNumber}
 use Rattle.acl_forms.specs.internal.IdAces.{whom_name}
+use Rattle.acl_forms.specs.internal.NfsReading.{entry_name}
 
 -- the name of a who
 abbrev pub any_name : AnyWho → List ℕ
@@ -31,6 +34,17 @@ abbrev pub HasAnyName : AnyWho → Type 0
 HasAnyName (Name name) = IsAnyWho name.now
 HasAnyName (Known whom) = Unit {0}
 HasAnyName (Special n) = is_unknown_special (special_name n) ≡ true
+
+-- the ACE of an `AnyEntry`
+abbrev pub any_entry : AnyEntry → AnyAce
+any_entry a =
+    record { type_number = a.type_number; flags = a.flags.bits; mask = a.mask.bits; who = entry_name a.who }
+
+-- a list of this many ACEs of this weight can take one more, which has a name
+pub record IsWithinLimits (count weight : ℕ) (a : AnyAceRef) : Type 0 where
+  pub room : count < most_aces
+  pub light : weight + count_ones a.mask.bits ≤ most_weight
+  pub named : HasAnyName a.who
 
 -- what reads an ACE in a layout
 abbrev pub reader_of : Layout → AceReader

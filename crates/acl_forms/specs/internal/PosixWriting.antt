@@ -1,8 +1,8 @@
 -- How the code writes the text of a POSIX ACL, pass by pass (this library's own). No public clause cites it.
 use Rattle.std.specs.Prelude.{◌≤◌, ℕ, Bool, true, not, List, [], length, Option, None, Some, if◌then◌else◌}
 use Rattle.acl_posix.specs.Tag.{Tag}
+use Rattle.acl_forms.specs.PosixNames.{NamesOfIds}
 use Rattle.acl_forms.specs.PosixWritten.{is_base, longest_name, posix_piece}
-use Rattle.acl_forms.specs.declared.posix_text.names.IdNames.{IdNames}
 use Rattle.acl_forms.specs.declared.posix_text.style.TarStyle.{TarStyle}
 use Rattle.acl_forms.specs.declared.posix_text.writer.Pass.{Pass}
 use Rattle.acl_forms.specs.declared.posix_text.writer.Pass.TheVariants.{All, Base, Others}
@@ -14,7 +14,7 @@ chosen Base = is_base
 chosen Others = λ tag. not (is_base tag)
 
 -- the piece of an entry, or nothing if a test leaves it out
-abbrev pub piece_if : IdNames → TarStyle → (Tag → Bool) → Tag × ℕ → List ℕ
+abbrev pub piece_if : NamesOfIds → TarStyle → (Tag → Bool) → Tag × ℕ → List ℕ
 piece_if names style test e = if test e.0 then posix_piece names style e else []
 
 -- a name, if there is one, has room in a line

@@ -1,13 +1,16 @@
 //! The ACE that an entry spells, or what is wrong with it.
-ghost use Rattle.std.specs.Prelude.{◌≡◌, ◌≤◌, IfOk, option_map};
+ghost use Rattle.std.specs.Prelude.{◌≡◌, ◌<◌, ◌≤◌, IfOk, option_map};
 ghost use Rattle.acl_perm.specs.Bits.{IsMask};
 ghost use Rattle.acl_perm.specs.Lines.{span_of, ColumnsFit};
+ghost use Rattle.acl_nfs4.specs.Limits.{most_aces, most_weight};
 ghost use Rattle.acl_nfs4.specs.internal.Reading.{Gives};
 ghost use Rattle.acl_forms.specs.Letters.{letters_from, nfs_flag_letters, nfs_right_letters, no_letter};
 ghost use Rattle.acl_nfs4.specs.Who.{is_special};
-ghost use Rattle.acl_forms.specs.NfsText.{nfs_ace, nfs_entry, nfs_kind, tag_special, unless_special, who_by_tag, who_of_fields};
+ghost use Rattle.acl_forms.specs.NfsText.{nfs_ace, nfs_entry, nfs_fields_read, nfs_kind, nfs_type, tag_special, unless_special, who_by_tag, who_of_fields};
+ghost use Rattle.acl_forms.specs.PartTexts.{nfs_any_ace, nfs_any_entry};
 ghost use Rattle.acl_forms.specs.TextReading.{AddsOne};
 ghost use Rattle.acl_forms.specs.ToolsText.{taken};
+ghost use Rattle.acl_forms.specs.internal.AnyAces.{IsWithinLimits, any_ace_of, any_entry};
 ghost use Rattle.acl_forms.specs.internal.NfsReading.{entry_ace, entry_name, entry_viewed, TailFits};
 ghost use Rattle.acl_forms.specs.declared.fault.ReadReason.TheVariants as reasons;
 ghost use Rattle.acl_forms.specs.declared.object.ObjectKind.TheVariants.{Directory};
@@ -17,7 +20,9 @@ use crate::letters::{NFS_FLAG_LETTERS, NFS_RIGHT_LETTERS, read_letters};
 use crate::nfs_text::fields::{EntryParts, fields_of, is_word};
 use crate::nfs_text::id::{id_alone, is_other_number};
 use crate::object::ObjectKind;
-use crate::tools::entry::refused_at;
+use crate::part::any_ace::AnyAceRef;
+use crate::part::any_entry::{AnyEntry, judged};
+use crate::tools::entry::{kind_of, refused_at};
 use crate::who_field::WhoField;
 use acl_nfs4::internal::{EVERYONE_NAME, GROUP_NAME, OWNER_NAME};
 use acl_nfs4::{AceRef, Acl, Flags, Kind, MOST_ACES, Mask, Reason};
@@ -25,9 +30,9 @@ use acl_perm::internal::{Piece, is_all_blank};
 use acl_posix::Id;
 use itoa::Buffer;
 
-// The who of an entry: the bytes of a name, or an id.
+/// The who of an entry: the bytes of a name, or an id.
 #[derive(Clone, Copy)]
-enum EntryWho<'a> {
+pub(crate) enum EntryWho<'a> {
     Named(&'a [u8]),
     Numbered(Id),
 }
@@ -48,22 +53,51 @@ pub(crate) fn add_nfs_entry(
     source: WhoField,
 ) -> Result<(), ReadFault>
     requires { ColumnsFit entry }
-    ensures { AddsOne (nfs_entry source acl.old (span_of entry.entry)) acl.old acl.new result }
+    ensures { AddsOne (nfs_entry source acl.old (span_of entry.entry)) acl.old (λ all. acl.new ≡ all) result }
 {
-    if is_all_blank(entry.bytes) {
-        return Err(ReadFault::new(entry.column, ReadReason::EmptyEntry));
-    }
-    if acl.len() >= MOST_ACES as usize {
-        return Err(ReadFault::new(entry.column, ReadReason::List(Reason::TooManyAces)));
-    }
-    let fields = fields_of(entry)?;
+    let fields = fields_read(entry, acl.len())?;
     let item = ace_of(fields, source)?;
     push_at(acl, item, fields.tail.rights.column, fields.who.column)
 }
 
+/// Returns the ACE of any type that an entry spells, after this many ACEs of this weight.
+#[tactic(auto, unfolding(crate::specs::PartTexts::nfs_any_entry))]
+pub(crate) fn any_nfs_ace(
+    entry: Piece<'_>,
+    source: WhoField,
+    count: usize,
+    weight: u32,
+) -> Result<AnyAceRef<'_>, ReadFault>
+    requires fits { ColumnsFit entry }
+    requires weight { weight ≤ most_weight }
+    ensures exact { Gives any_ace_of result (nfs_any_entry source count weight (span_of entry.entry)) }
+    ensures within { IfOk result (IsWithinLimits count weight) }
+{
+    let fields = fields_read(entry, count)?;
+    let item = any_ace_of(fields, source)?;
+    judged(item, weight, fields.tail.rights.column, fields.who.column)
+}
+
+// Returns the fields of an entry, if it is not blank and a list of this many ACEs can take one more.
+#[inline(always)]
+fn fields_read(entry: Piece<'_>, count: usize) -> Result<EntryParts<'_>, ReadFault>
+    requires { ColumnsFit entry }
+    ensures exact { Gives entry_viewed result (nfs_fields_read count (span_of entry.entry)) }
+    ensures fits { IfOk result (λ fields. TailFits fields.tail) }
+    ensures room { IfOk result (λ _. count < most_aces) }
+{
+    if is_all_blank(entry.bytes) {
+        return Err(ReadFault::new(entry.column, ReadReason::EmptyEntry));
+    }
+    if count >= MOST_ACES as usize {
+        return Err(ReadFault::new(entry.column, ReadReason::List(Reason::TooManyAces)));
+    }
+    fields_of(entry)
+}
+
 // Adds an ACE whose mask and who are at these places.
 fn push_at(acl: &mut Acl, item: EntryAce<'_>, mask: usize, who: usize) -> Result<(), ReadFault>
-    ensures { AddsOne (taken acl.old (entry_ace item.entry) mask who) acl.old acl.new result }
+    ensures { AddsOne (taken acl.old (entry_ace item.entry) mask who) acl.old (λ all. acl.new ≡ all) result }
 {
     let mut digits = Buffer::new();
     let name = name_of(item.who, &mut digits);
@@ -110,7 +144,29 @@ fn ace_of(fields: EntryParts<'_>, source: WhoField) -> Result<EntryAce<'_>, Read
     })
 }
 
+// Returns the ACE of any type of the fields of an entry, whose who is not judged yet.
+#[tactic(auto, unfolding(crate::specs::PartTexts::nfs_any_ace))]
+fn any_ace_of(fields: EntryParts<'_>, source: WhoField) -> Result<AnyEntry<'_>, ReadFault>
+    requires { TailFits fields.tail }
+    ensures { Gives any_entry result (nfs_any_ace source (entry_viewed fields.entry)) }
+{
+    let mask = mask_at(fields.tail.rights)?;
+    let flags = flags_at(fields.tail.flags)?;
+    let type_number = type_at(fields.tail.kind)?;
+    let who = who_at(fields, source)?;
+    let flags = Flags {
+        bits: fields.tag.with_flags(flags) as u8,
+    };
+    Ok(AnyEntry {
+        type_number,
+        flags,
+        mask: Mask { bits: mask },
+        who,
+    })
+}
+
 // Returns the rights for which a field stands.
+#[inline(always)]
 fn mask_at(field: Piece<'_>) -> Result<u32, ReadFault>
     requires { ColumnsFit field }
     ensures exact { result ≡ letters_from (nfs_right_letters no_letter) Directory reasons.Mask field.entry.column 0
@@ -127,6 +183,7 @@ fn mask_at(field: Piece<'_>) -> Result<u32, ReadFault>
 }
 
 // Returns the flags for which a field stands.
+#[inline(always)]
 fn flags_at(field: Piece<'_>) -> Result<u32, ReadFault>
     requires { ColumnsFit field }
     ensures exact { result ≡ letters_from (nfs_flag_letters no_letter) Directory reasons.Flag field.entry.column 0
@@ -145,18 +202,29 @@ fn flags_at(field: Piece<'_>) -> Result<u32, ReadFault>
 fn kind_at(field: Piece<'_>) -> Result<Kind, ReadFault>
     ensures { result ≡ nfs_kind (span_of field.entry) }
 {
+    kind_of(type_at(field)?, field.column)
+}
+
+// Returns the number of the type for which a field stands.
+#[inline(always)]
+fn type_at(field: Piece<'_>) -> Result<u32, ReadFault>
+    ensures { result ≡ nfs_type (span_of field.entry) }
+{
     if is_word(field.bytes, b"allow") {
-        Ok(Kind::Allow)
+        Ok(0)
     } else if is_word(field.bytes, b"deny") {
-        Ok(Kind::Deny)
-    } else if is_word(field.bytes, b"audit") || is_word(field.bytes, b"alarm") {
-        Err(ReadFault::new(field.column, ReadReason::List(Reason::AuditOrAlarm)))
+        Ok(1)
+    } else if is_word(field.bytes, b"audit") {
+        Ok(2)
+    } else if is_word(field.bytes, b"alarm") {
+        Ok(3)
     } else {
         Err(ReadFault::new(field.column, ReadReason::List(Reason::AceType)))
     }
 }
 
 // Returns the who of the fields.
+#[inline(always)]
 fn who_at(fields: EntryParts<'_>, source: WhoField) -> Result<EntryWho<'_>, ReadFault>
     ensures { Gives entry_name result (who_by_tag source (entry_viewed fields.entry) (tag_special fields.entry.tag)) }
 {

@@ -91,6 +91,7 @@ pub(crate) fn is_word(field: &[u8], word: &[u8]) -> bool
 }
 
 /// Returns the fields of an entry, or why it has none: its tag, or their number.
+#[inline(always)]
 pub(crate) fn fields_of(entry: Piece<'_>) -> Result<EntryParts<'_>, ReadFault>
     requires { ColumnsFit entry }
     ensures exact { Gives entry_viewed result (nfs_fields_of (span_of entry.entry)) }

@@ -23,7 +23,7 @@ impl<'a> TextForm for PosixForm<'a> {
 
     ghost Item = { PlacedEntry };
 
-    ghost items = { λ list. map placed list.items };
+    ghost Holds = { λ list all. map placed list.items ≡ all };
 
     ghost rules = { λ form. posix_rules form.part form.names.now };
 

@@ -10,7 +10,8 @@ ghost use Rattle.acl_posix.specs.Entries.{pair_of, pairs};
 ghost use Rattle.acl_posix.specs.Tag.{tag_of};
 ghost use Rattle.acl_posix.specs.Texts.{long_word, qualifier_text};
 ghost use Rattle.acl_forms.specs.FormWrites.{WritesIfHeld};
-ghost use Rattle.acl_forms.specs.PosixWritten.{comma_before, entries_text, id_field, id_reason_of, is_cut_name, is_name_separator, longest_name, name_reason, named_reason, pieces_if, posix_fault_from, posix_piece, posix_text, posix_text_fault, styled, tag_name, three_fields, written_qualifier};
+ghost use Rattle.acl_forms.specs.PosixNames.{tag_name};
+ghost use Rattle.acl_forms.specs.PosixWritten.{comma_before, entries_text, id_field, id_reason_of, is_cut_name, is_name_separator, longest_name, name_reason, named_reason, pieces_if, posix_fault_from, posix_piece, posix_text, posix_text_fault, styled, three_fields, written_qualifier};
 ghost use Rattle.acl_forms.specs.internal.AttributeEntries.{most_entries};
 ghost use Rattle.acl_forms.specs.internal.PosixWriting.{chosen, piece_if, IsShortName};
 ghost use Rattle.acl_forms.specs.internal.TextWriting.{text_line_room};
@@ -45,10 +46,10 @@ pub(crate) enum Pass {
 /// Returns why a text in this style cannot hold an ACL with these names, or `None` if it can: the first entry in
 /// canonical order that it cannot hold, and the first reason in this order. Separator: its name has a comma, a colon, a
 /// `#`, a line feed or a zero byte, or a blank at an end. TooLong: its name has more than 1,024 bytes. Id: the style is
-/// that of star, and the id is above 2147483647, which libarchive does not keep. Time linear in the entries and in the
-/// names for each.
-pub fn posix_text_fault(acl: &PosixAcl, names: IdNames<'_>, style: TarStyle) -> Option<FormFault>
-    ensures { result ≡ posix_text_fault names.entry style acl.now }
+/// that of star, and the id is above 2147483647, which libarchive does not keep. It takes no memory; for each entry,
+/// time logarithmic in the names.
+pub fn posix_text_fault(acl: &PosixAcl, names: &IdNames, style: TarStyle) -> Option<FormFault>
+    ensures { result ≡ posix_text_fault names.now style acl.now }
 {
     first_fault(acl.entries(), names, style)
 }
@@ -59,20 +60,20 @@ pub fn posix_text_fault(acl: &PosixAcl, names: IdNames<'_>, style: TarStyle) -> 
 /// ```rust
 /// let text = b"user::rw-,group::r--,other::---,user:bob:rw-:1001,mask::rw-";
 /// let acl = read_posix_text(alloc, text, &Names::new(alloc))?.access;
-/// let users = [NamedId { id: Id { value: 1001 }, name: b"bob" }];
-/// let names = IdNames { users: &users, groups: &[] };
+/// let mut names = IdNames::new(alloc);
+/// names.add_user(Id { value: 1001 }, b"bob")?;
 /// let mut written = Counted::new(Vec::new(alloc));
-/// write_posix_text(&acl, names, TarStyle::Star, &mut written)?;
+/// write_posix_text(&acl, &names, TarStyle::Star, &mut written)?;
 /// assert!(rt; written.into_inner().as_slice() == text.as_slice());
 /// ```
 pub fn write_posix_text<K: Sink>(
     acl: &PosixAcl,
-    names: IdNames<'_>,
+    names: &IdNames,
     style: TarStyle,
     sink: &mut K,
 ) -> Result<(), FormWriteFault>
     ensures written { WritesIfHeld K.contents K.failure_count sink.old sink.new
-        (posix_text_fault names.entry style acl.now) (posix_text names.entry style acl.now) result }
+        (posix_text_fault names.now style acl.now) (posix_text names.now style acl.now) result }
 {
     if let Some(fault) = posix_text_fault(acl, names, style) {
         return Err(FormWriteFault::Form(fault));
@@ -82,8 +83,8 @@ pub fn write_posix_text<K: Sink>(
 }
 
 // Returns the first entry that the text cannot hold.
-fn first_fault(entries: &[Entry], names: IdNames<'_>, style: TarStyle) -> Option<FormFault>
-    ensures { result ≡ posix_fault_from names.entry style 0 (pairs entries.now) }
+fn first_fault(entries: &[Entry], names: &IdNames, style: TarStyle) -> Option<FormFault>
+    ensures { result ≡ posix_fault_from names.now style 0 (pairs entries.now) }
 {
     for (place, entry) in entries.iter().enumerate() {
         if let Some(reason) = entry_reason(entry.tag, names, style) {
@@ -94,8 +95,8 @@ fn first_fault(entries: &[Entry], names: IdNames<'_>, style: TarStyle) -> Option
 }
 
 // Returns the first reason for which the text cannot hold an entry.
-fn entry_reason(tag: Tag, names: IdNames<'_>, style: TarStyle) -> Option<FormReason>
-    ensures { result ≡ named_reason style (tag_of tag) (tag_name names.entry (tag_of tag)) }
+fn entry_reason(tag: Tag, names: &IdNames, style: TarStyle) -> Option<FormReason>
+    ensures { result ≡ named_reason style (tag_of tag) (tag_name names.now (tag_of tag)) }
 {
     match names.of_tag(tag) {
         None => id_reason(tag, style),
@@ -151,14 +152,14 @@ fn is_name_separator(b: u8) -> bool
 // Writes the text of entries, and returns how many bytes are out then.
 fn put_text<K: Sink>(
     entries: &[Entry],
-    names: IdNames<'_>,
+    names: &IdNames,
     style: TarStyle,
     sink: &mut K,
 ) -> Result<u64, WriteFault>
     requires few { length entries.now ≤ most_entries }
-    requires held { posix_fault_from names style 0 (pairs entries.now) ≡ None }
+    requires held { posix_fault_from names.now style 0 (pairs entries.now) ≡ None }
     ensures written { WritesFrom (K.contents sink.old) (K.contents sink.new) 0
-        (entries_text names.entry style (pairs entries.now)) result }
+        (entries_text names.now style (pairs entries.now)) result }
     ensures none_failed { OnOk result (K.failure_count sink.new ≡ K.failure_count sink.old) }
     ensures failed { OnErr result (K.failure_count sink.new ≡ one_more (K.failure_count sink.old)) }
 {
@@ -176,15 +177,15 @@ fn put_pass<K: Sink>(
     sink: &mut K,
     start: u64,
     entries: &[Entry],
-    names: IdNames<'_>,
+    names: &IdNames,
     style: TarStyle,
     pass: Pass,
 ) -> Result<u64, WriteFault>
     requires few { length entries.now ≤ most_entries }
     requires start { start ≤ text_line_room * most_entries }
-    requires held { posix_fault_from names style 0 (pairs entries.now) ≡ None }
+    requires held { posix_fault_from names.now style 0 (pairs entries.now) ≡ None }
     ensures written { WritesFrom (K.contents sink.old) (K.contents sink.new) start
-        (pieces_if names.entry style (chosen pass) (pairs entries.now)) result }
+        (pieces_if names.now style (chosen pass) (pairs entries.now)) result }
     ensures none_failed { OnOk result (K.failure_count sink.new ≡ K.failure_count sink.old) }
     ensures failed { OnErr result (K.failure_count sink.new ≡ one_more (K.failure_count sink.old)) }
     ensures count { IfOk result (λ done. done ≤ start + text_line_room * length entries.now) }
@@ -199,9 +200,9 @@ fn put_pass<K: Sink>(
 }
 
 // Fills the buffer with the piece of an entry, or with nothing if the pass leaves the entry out.
-fn fill(line: &mut Line, entry: Entry, names: IdNames<'_>, style: TarStyle, pass: Pass)
-    requires { IsShortName (tag_name names (tag_of entry.tag)) }
-    ensures text { line.new.items ≡ piece_if names.entry style (chosen pass) (pair_of entry) }
+fn fill(line: &mut Line, entry: Entry, names: &IdNames, style: TarStyle, pass: Pass)
+    requires { IsShortName (tag_name names.now (tag_of entry.tag)) }
+    ensures text { line.new.items ≡ piece_if names.now style (chosen pass) (pair_of entry) }
     ensures short { array_vec_len line.new ≤ text_line_room }
 {
     line.clear();
@@ -223,10 +224,10 @@ fn is_chosen(pass: Pass, tag: Tag) -> bool
 
 // Adds the piece of an entry to an empty line.
 #[tactic(auto, unfolding(crate::specs::PosixWritten::posix_piece))]
-fn add_piece(line: &mut Line, entry: Entry, names: IdNames<'_>, style: TarStyle)
+fn add_piece(line: &mut Line, entry: Entry, names: &IdNames, style: TarStyle)
     requires empty { line.old.items ≡ [] }
-    requires short { IsShortName (tag_name names (tag_of entry.tag)) }
-    ensures text { line.new.items ≡ posix_piece names.entry style (pair_of entry) }
+    requires short { IsShortName (tag_name names.now (tag_of entry.tag)) }
+    ensures text { line.new.items ≡ posix_piece names.now style (pair_of entry) }
     ensures short { array_vec_len line.new ≤ text_line_room }
 {
     let name = names.of_tag(entry.tag);

@@ -127,16 +127,24 @@ mod ample {
         let alloc = rt.alloc();
         let text = b"user::rw-,group::r--,other::---,user:bob:rw-:1001,mask::rw-";
         let acl = read_posix_text(alloc, text, &Names::new(alloc))?.access;
-        let users = [NamedId {
-            id: Id { value: 1001 },
-            name: b"bob",
-        }];
-        let names = IdNames {
-            users: &users,
-            groups: &[],
-        };
+        let mut names = IdNames::new(alloc);
+        names.add_user(Id { value: 1001 }, b"bob")?;
         let mut written = Counted::new(Vec::new(alloc));
-        write_posix_text(&acl, names, TarStyle::Star, &mut written)?;
+        write_posix_text(&acl, &names, TarStyle::Star, &mut written)?;
+        assert!(rt; written.into_inner().as_slice() == text.as_slice());
+        Ok(())
+    }
+
+    #[test]
+    fn add_user_keeps_the_first_name_of_an_id(rt: HostRuntime) -> Result<(), Fail> {
+        let alloc = rt.alloc();
+        let mut names = IdNames::new(alloc);
+        names.add_user(Id { value: 0 }, b"root")?;
+        names.add_user(Id { value: 0 }, b"toor")?;
+        let acl = read_default_text(alloc, b"u::r,u:0:r,g::r,m::r,o::-", &Names::new(alloc))?;
+        let mut written = Counted::new(Vec::new(alloc));
+        write_posix_text(&acl, &names, TarStyle::Star, &mut written)?;
+        let text = b"user::r--,group::r--,other::---,user:root:r--:0,mask::r--";
         assert!(rt; written.into_inner().as_slice() == text.as_slice());
         Ok(())
     }

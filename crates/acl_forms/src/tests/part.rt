@@ -1,5 +1,6 @@
 //! Values with ACEs that access does not read. The bytes, the places and the offsets are those of the layouts of RFC
-//! 8881, section 6.2.2, and of Samba's description; which ACEs are left out is this library's own.
+//! 8881, section 6.2.2, of Samba's description, and of the texts of nfs4-acl-tools and of FreeBSD; which ACEs are left
+//! out is this library's own.
 
 use crate::*;
 use acl_nfs4::Reason;
@@ -9,8 +10,8 @@ use std::test::Fail;
 // A form, a value, the text of the list that is kept, and the first and the last ACE that is left out. The first value
 // has the flags PROTECTED, and the ACEs AUDIT `EVERYONE@`, ALLOW `alice` READ_DATA and ALLOW `AUTHENTICATED@` READ_DATA.
 // The second has the ACEs ALLOW READ_DATA of the special identifier 9 (AUTHENTICATED@), DENY READ_DATA of the group 100,
-// and ALARM of the special identifier 11, which has no meaning.
-static PARTS: [(Form, &[u8], &str, [LeftOut; 2]); 2] = [
+// and ALARM of the special identifier 11, which has no meaning. In the fourth the id of NOW@ counts where it has one.
+static PARTS: [(Form, &[u8], &str, [LeftOut; 2]); 4] = [
     (
         Form::NfsAcl41,
         b"\0\0\0\x02\0\0\0\x03\
@@ -51,11 +52,69 @@ static PARTS: [(Form, &[u8], &str, [LeftOut; 2]); 2] = [
             },
         ],
     ),
+    (
+        Form::NfsTools(ObjectKind::File),
+        b"A::OWNER@:r\nU:S:EVERYONE@:w\nA::AUTHENTICATED@:w\nD::bob:w\n",
+        "ALLOW - READ_DATA OWNER@\nDENY - WRITE_DATA bob\n",
+        [
+            LeftOut {
+                place: 1,
+                offset: 12,
+                reason: LeftOutReason::AuditOrAlarm,
+            },
+            LeftOut {
+                place: 2,
+                offset: 28,
+                reason: LeftOutReason::SpecialWho,
+            },
+        ],
+    ),
+    (
+        Form::NfsText(WhoField::Id, Style::ARCHIVE),
+        b"owner@:r::allow,everyone@:w:S:alarm,user:NOW@:r::allow:7,user:NOW@:r::allow",
+        "ALLOW - READ_DATA OWNER@\nALLOW - READ_DATA 7\n",
+        [
+            LeftOut {
+                place: 1,
+                offset: 16,
+                reason: LeftOutReason::AuditOrAlarm,
+            },
+            LeftOut {
+                place: 3,
+                offset: 57,
+                reason: LeftOutReason::SpecialWho,
+            },
+        ],
+    ),
 ];
 
 // A form, a value, and the place and the reason of its first fault: a DENY of a special identifier that nobody knows,
-// and AUDIT and ALARM ACEs with a wrong flag, a wrong name and wrong padding.
-static FAULTS: [(Form, &[u8], u64, Reason); 5] = [
+// AUDIT and ALARM ACEs with a wrong name, a wrong flag and wrong padding, and a type that is none.
+static FAULTS: [(Form, &[u8], u64, Reason); 9] = [
+    (
+        Form::NfsTools(ObjectKind::File),
+        b"D::NOW@:r\n",
+        3,
+        Reason::SpecialWho,
+    ),
+    (
+        Form::NfsTools(ObjectKind::File),
+        b"U::NO\x01@:w",
+        3,
+        Reason::WhoControl,
+    ),
+    (
+        Form::NfsText(WhoField::Name, Style::ARCHIVE),
+        b"user:NOW@:r::deny",
+        5,
+        Reason::SpecialWho,
+    ),
+    (
+        Form::NfsText(WhoField::Name, Style::ARCHIVE),
+        b"user:x:r::alarms",
+        10,
+        Reason::AceType,
+    ),
     (
         Form::NfsAcl41,
         b"\0\0\0\0\0\0\0\x01\0\0\0\x01\0\0\0\0\0\0\0\x01\0\0\0\x04NOW@",
@@ -133,7 +192,7 @@ mod ample {
         Ok(())
     }
 
-    // Values that `read` accepts, and an AUDIT entry in a text.
+    // Values that `read` accepts.
     #[test]
     fn nothing_is_left_out_of_a_whole_list(rt: HostRuntime) -> Result<(), Fail> {
         let alloc = rt.alloc();
@@ -142,16 +201,6 @@ mod ample {
         let part = read_part(alloc, Form::NfsAcl41, b"\0\0\0\x04\0\0\0\0")?;
         assert!(rt; is_part(alloc, &part, "", &[])?);
         assert!(rt; part.flags == AclFlags::DEFAULTED);
-        let text = b"U:S:EVERYONE@:w\n";
-        assert!(rt;
-            is_refused(
-                alloc,
-                Form::NfsTools(ObjectKind::File),
-                text,
-                0,
-                Reason::AuditOrAlarm
-            )
-        );
         Ok(())
     }
 }

@@ -137,24 +137,23 @@ fn names(alloc: Global) -> Result<Names, Fail> {
     Ok(names)
 }
 
-// Returns the rows of these names.
-fn rows(
-    alloc: Global,
-    table: &'static [(&'static [u8], u32)],
-) -> Result<Vec<NamedId<'static>>, Fail> {
-    let mut rows = Vec::new(alloc);
-    for (name, id) in table {
-        let id = Id::new(*id).ok_or("no id")?;
-        rows.push(NamedId { id, name })?;
+// Returns the names of the ids.
+fn id_names(alloc: Global) -> Result<IdNames, Fail> {
+    let mut names = IdNames::new(alloc);
+    for (name, id) in USERS {
+        names.add_user(Id::new(id).ok_or("no id")?, name)?;
     }
-    Ok(rows)
+    for (name, id) in GROUPS {
+        names.add_group(Id::new(id).ok_or("no id")?, name)?;
+    }
+    Ok(names)
 }
 
 // Returns whether the ACL is written as this text.
 fn is_written_as(
     alloc: Global,
     acl: &PosixAcl,
-    names: IdNames<'_>,
+    names: &IdNames,
     style: TarStyle,
     text: &[u8],
 ) -> bool {
@@ -219,22 +218,18 @@ mod ample {
     fn an_acl_is_written_as_the_tools_write_it(rt: HostRuntime) -> Result<(), Fail> {
         let alloc = rt.alloc();
         let table = names(alloc)?;
-        let (users, groups) = (rows(alloc, &USERS)?, rows(alloc, &GROUPS)?);
-        let names = IdNames {
-            users: &users,
-            groups: &groups,
-        };
+        let names = id_names(alloc)?;
         for (text, shown) in STAR {
             let acl = read_posix_text(alloc, text, &table)?.access;
             assert!(rt;
-                is_written_as(alloc, &acl, names, TarStyle::Star, text),
+                is_written_as(alloc, &acl, &names, TarStyle::Star, text),
                 "{shown}"
             );
         }
         for (text, shown) in GNU {
             let acl = read_default_text(alloc, text, &table)?;
             assert!(rt;
-                is_written_as(alloc, &acl, names, TarStyle::Gnu, text),
+                is_written_as(alloc, &acl, &names, TarStyle::Gnu, text),
                 "{shown}"
             );
         }
@@ -242,17 +237,19 @@ mod ample {
     }
 
     // Returns whether the second entry of an ACL is refused, if its id has this name.
-    fn is_separated(acl: &PosixAcl, id: Id, name: &'static [u8]) -> bool {
-        let users = [NamedId { id, name }];
-        let names = IdNames {
-            users: &users,
-            groups: &users,
-        };
+    fn is_separated(
+        alloc: Global,
+        acl: &PosixAcl,
+        id: Id,
+        name: &[u8],
+    ) -> Result<bool, AllocError> {
+        let mut names = IdNames::new(alloc);
+        names.add_user(id, name)?;
         let fault = FormFault {
             place: 1,
             reason: FormReason::Separator,
         };
-        posix_text_fault(acl, names, TarStyle::Gnu) == Some(fault)
+        Ok(posix_text_fault(acl, &names, TarStyle::Gnu) == Some(fault))
     }
 
     #[test]
@@ -261,16 +258,13 @@ mod ample {
         let text = b"user::rw-,user:3000000000:rw-,group::r--,mask::rw-,other::---";
         let acl = read_default_text(alloc, text, &Names::new(alloc))?;
         let id = Id::new(3_000_000_000).ok_or("no id")?;
-        let none = IdNames {
-            users: &[],
-            groups: &[],
-        };
+        let none = IdNames::new(alloc);
         let kept = Some(FormFault {
             place: 1,
             reason: FormReason::Id,
         });
-        assert!(rt; posix_text_fault(&acl, none, TarStyle::Star) == kept);
-        assert!(rt; posix_text_fault(&acl, none, TarStyle::Gnu).is_none());
+        assert!(rt; posix_text_fault(&acl, &none, TarStyle::Star) == kept);
+        assert!(rt; posix_text_fault(&acl, &none, TarStyle::Gnu).is_none());
         for name in [
             b"a,b".as_slice(),
             b"a:b",
@@ -280,7 +274,7 @@ mod ample {
             b" a",
             b"a\t",
         ] {
-            assert!(rt; is_separated(&acl, id, name));
+            assert!(rt; is_separated(alloc, &acl, id, name)?);
         }
         Ok(())
     }

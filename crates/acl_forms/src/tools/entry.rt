@@ -1,17 +1,23 @@
 //! The ACE that an entry of nfs4-acl-tools spells, or what is wrong with it.
-ghost use Rattle.std.specs.Prelude.{◌≡◌, ◌≤◌, IfOk, IfSome, option_map};
+ghost use Rattle.std.specs.Prelude.{◌≡◌, ◌<◌, ◌≤◌, IfOk, IfSome, option_map};
 ghost use Rattle.acl_perm.specs.Bits.{IsMask};
 ghost use Rattle.acl_perm.specs.Lines.{span_of, ColumnsFit};
 ghost use Rattle.acl_nfs4.specs.Ace.{ace};
+ghost use Rattle.acl_nfs4.specs.Limits.{most_aces, most_weight};
 ghost use Rattle.acl_nfs4.specs.internal.Reading.{Gives};
 ghost use Rattle.acl_forms.specs.Letters.{flag_letters, letters_from, right_letters};
+ghost use Rattle.acl_forms.specs.PartTexts.{tools_any_ace, tools_any_entry};
 ghost use Rattle.acl_forms.specs.TextReading.{AddsOne, fields_viewed, EntryFieldsFit};
-ghost use Rattle.acl_forms.specs.ToolsText.{tools_ace, entry_fields_of, kind_read, refused_at, tools_entry, with_group_flag};
+ghost use Rattle.acl_forms.specs.ToolsText.{tools_ace, entry_fields_of, fields_read, kind_at, kind_read, refused_at, tools_entry, type_read, with_group_flag};
+ghost use Rattle.acl_forms.specs.internal.AnyAces.{IsWithinLimits, any_ace_of, any_entry};
 ghost use Rattle.acl_forms.specs.declared.fault.ReadReason.TheVariants as reasons;
 
 use crate::fault::{ReadFault, ReadReason};
 use crate::letters::{FLAG_LETTERS, RIGHT_LETTERS, read_letters};
+use crate::nfs_text::entry::EntryWho;
 use crate::object::ObjectKind;
+use crate::part::any_ace::AnyAceRef;
+use crate::part::any_entry::{AnyEntry, judged};
 use acl_nfs4::internal::GROUP_NAME;
 use acl_nfs4::{AceRef, Acl, Flags, Kind, MOST_ACES, Mask, PushFault, Reason};
 use acl_perm::internal::Piece;
@@ -32,19 +38,49 @@ pub(crate) fn add_tools_entry(
     object: ObjectKind,
 ) -> Result<(), ReadFault>
     requires { ColumnsFit entry }
-    ensures { AddsOne (tools_entry object acl.old (span_of entry.entry)) acl.old acl.new result }
+    ensures { AddsOne (tools_entry object acl.old (span_of entry.entry)) acl.old (λ all. acl.new ≡ all) result }
 {
-    let Some(fields) = fields_of(entry) else {
-        return Err(ReadFault::new(entry.column, ReadReason::Fields));
-    };
-    if acl.len() >= MOST_ACES as usize {
-        return Err(ReadFault::new(entry.column, ReadReason::List(Reason::TooManyAces)));
-    }
+    let fields = fields_read(entry, acl.len())?;
     let item = ace_of(fields, object)?;
     match acl.push(item) {
         Ok(()) => Ok(()),
         Err(fault) => Err(refused_at(fields.rights.column, fields.who.column, fault)),
     }
+}
+
+/// Returns the ACE of any type that an entry spells, after this many ACEs of this weight.
+#[tactic(auto, unfolding(crate::specs::PartTexts::tools_any_entry))]
+pub(crate) fn any_tools_ace(
+    entry: Piece<'_>,
+    object: ObjectKind,
+    count: usize,
+    weight: u32,
+) -> Result<AnyAceRef<'_>, ReadFault>
+    requires fits { ColumnsFit entry }
+    requires weight { weight ≤ most_weight }
+    ensures exact { Gives any_ace_of result (tools_any_entry object count weight (span_of entry.entry)) }
+    ensures within { IfOk result (IsWithinLimits count weight) }
+{
+    let fields = fields_read(entry, count)?;
+    let item = any_ace_of(fields, object)?;
+    judged(item, weight, fields.rights.column, fields.who.column)
+}
+
+// Returns the fields of an entry, if a list of this many ACEs can take one more.
+#[inline(always)]
+fn fields_read(entry: Piece<'_>, count: usize) -> Result<EntryFields<'_>, ReadFault>
+    requires { ColumnsFit entry }
+    ensures exact { Gives fields_viewed result (fields_read count (span_of entry.entry)) }
+    ensures fits { IfOk result EntryFieldsFit }
+    ensures room { IfOk result (λ _. count < most_aces) }
+{
+    let Some(fields) = fields_of(entry) else {
+        return Err(ReadFault::new(entry.column, ReadReason::Fields));
+    };
+    if count >= MOST_ACES as usize {
+        return Err(ReadFault::new(entry.column, ReadReason::List(Reason::TooManyAces)));
+    }
+    Ok(fields)
 }
 
 // Returns the ACE of the fields of an entry, which the list may still refuse.
@@ -68,7 +104,29 @@ fn ace_of(fields: EntryFields<'_>, object: ObjectKind) -> Result<AceRef<'_>, Rea
     })
 }
 
+// Returns the ACE of any type of the fields of an entry, whose who is not judged yet.
+#[tactic(auto, unfolding(crate::specs::PartTexts::tools_any_ace))]
+fn any_ace_of(fields: EntryFields<'_>, object: ObjectKind) -> Result<AnyEntry<'_>, ReadFault>
+    requires { EntryFieldsFit fields }
+    ensures { Gives any_entry result (tools_any_ace object (fields_viewed fields.entry)) }
+{
+    let type_number = type_at(fields.kind)?;
+    let flags = flags_at(fields.flags, object)?;
+    let mask = mask_at(fields.rights, object)?;
+    let who = fields.who.bytes;
+    let flags = Flags {
+        bits: with_group(who, flags) as u8,
+    };
+    Ok(AnyEntry {
+        type_number,
+        flags,
+        mask: Mask { bits: mask },
+        who: EntryWho::Named(who),
+    })
+}
+
 // Returns the fields of an entry, if there are four.
+#[inline(always)]
 #[tactic(auto, unfolding(crate::specs::ToolsText::entry_fields_of))]
 fn fields_of(entry: Piece<'_>) -> Option<EntryFields<'_>>
     requires { ColumnsFit entry }
@@ -97,6 +155,7 @@ fn fields_of(entry: Piece<'_>) -> Option<EntryFields<'_>>
 }
 
 // Returns the flags for which a field stands.
+#[inline(always)]
 fn flags_at(field: Piece<'_>, object: ObjectKind) -> Result<u32, ReadFault>
     requires { ColumnsFit field }
     ensures exact { result ≡ letters_from flag_letters object reasons.Flag field.entry.column 0
@@ -107,6 +166,7 @@ fn flags_at(field: Piece<'_>, object: ObjectKind) -> Result<u32, ReadFault>
 }
 
 // Returns the rights for which a field stands.
+#[inline(always)]
 fn mask_at(field: Piece<'_>, object: ObjectKind) -> Result<u32, ReadFault>
     requires { ColumnsFit field }
     ensures exact { result ≡ letters_from right_letters object reasons.Mask field.entry.column 0
@@ -120,13 +180,33 @@ fn mask_at(field: Piece<'_>, object: ObjectKind) -> Result<u32, ReadFault>
 fn kind_at(field: Piece<'_>) -> Result<Kind, ReadFault>
     ensures { result ≡ kind_read (span_of field.entry) }
 {
-    let reason = match field.bytes {
-        b"A" => return Ok(Kind::Allow),
-        b"D" => return Ok(Kind::Deny),
-        b"U" | b"L" => Reason::AuditOrAlarm,
-        _ => Reason::AceType,
-    };
-    Err(ReadFault::new(field.column, ReadReason::List(reason)))
+    kind_of(type_at(field)?, field.column)
+}
+
+// Returns the number of the type for which a field stands.
+#[inline(always)]
+fn type_at(field: Piece<'_>) -> Result<u32, ReadFault>
+    ensures { result ≡ type_read (span_of field.entry) }
+{
+    match field.bytes {
+        b"A" => Ok(0),
+        b"D" => Ok(1),
+        b"U" => Ok(2),
+        b"L" => Ok(3),
+        _ => Err(ReadFault::new(field.column, ReadReason::List(Reason::AceType))),
+    }
+}
+
+/// Returns the kind of the type at a place, unless the type is AUDIT or ALARM.
+#[inline(always)]
+pub(crate) fn kind_of(type_number: u32, place: usize) -> Result<Kind, ReadFault>
+    ensures { result ≡ kind_at place type_number }
+{
+    match type_number {
+        0 => Ok(Kind::Allow),
+        1 => Ok(Kind::Deny),
+        _ => Err(ReadFault::new(place, ReadReason::List(Reason::AuditOrAlarm))),
+    }
 }
 
 // Returns the flags of an ACE with this who.

@@ -10,5 +10,5 @@ returns-in_ok-done-in-Star-clause-written g c =
     let (count, put) = c.in_ok-done-in-Star.ensures.written in
     subst (λ (t : List ℕ). WritesFrom (g.K.Sink.contents c.args.sink.now)
     (g.K.Sink.contents c.put_pass-in-Star-2.new.sink) 0 t c.put_pass-in-Star-2.result)
-    (star_text c.args.names c.args.style (pairs c.args.entries.now) c.in-Star.is)
+    (star_text c.args.names.now c.args.style (pairs c.args.entries.now) c.in-Star.is)
     (written_both _ _ _ 0 c.in_ok-done-in-Star.done _ _ _ count put c.put_pass-in-Star-2.ensures.written)
