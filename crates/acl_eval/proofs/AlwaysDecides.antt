@@ -167,7 +167,7 @@ not_same : (k n : ℕ) → n < k → (k == n) ≡ false
 not_same k n lt = grind (arith, nat_tests)
 
 -- a list of fewer numbers than a bound lacks a number below the bound
-free_below : (k : ℕ) (xs : List ℕ) → length xs < k → (n : ℕ) × (n < k) × (is_member n xs ≡ false)
+pub free_below : (k : ℕ) (xs : List ℕ) → length xs < k → (n : ℕ) × (n < k) × (is_member n xs ≡ false)
 free_below zero xs lt = absurd (omega (arith, lt))
 free_below (suc k) xs lt = by (free_below k) (is_member k xs) refl
   where
@@ -184,7 +184,7 @@ pub turned : (m n : ℕ) → (m == n) ≡ (n == m)
 turned m n = grind (arith, nat_tests)
 
 -- a number that is not in a list differs from each number that is
-apart : (n m : ℕ) (xs : List ℕ) → is_member n xs ≡ false → is_member m xs ≡ true → (n == m) ≡ false
+pub apart : (n m : ℕ) (xs : List ℕ) → is_member n xs ≡ false → is_member m xs ≡ true → (n == m) ≡ false
 apart n m [] lacking has = absurd cc
 apart n m (x ∷ xs) lacking has =
     let two = or_none (x == n) (is_member n xs) lacking in by (apart n m xs two.1) two.0 (x == m) refl has
@@ -551,7 +551,7 @@ entry_id shape mask h there = tt
 entry_id shape other h there = tt
 
 -- the tag of the code has an id, if it has a qualifier
-code_id : (t : TagOfCode) → IsTag (tag_of t)
+pub code_id : (t : TagOfCode) → IsTag (tag_of t)
 code_id code.UserObj = tt
 code_id (code.User id) = id.within
 code_id code.GroupObj = tt

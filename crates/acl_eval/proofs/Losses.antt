@@ -3,27 +3,25 @@ use Rattle.std.proofs.Common.{◌≡◌, ℕ, Bool, true, false, List, [], ◌�
 use Rattle.std.proofs.lemmas.Bool.{cases_Bool, eq-eqb, eqb-true, false≢true, not-true, or_cases, true≢false}
 use Rattle.std.proofs.lemmas.List.Folds.{list_any-append}
 use Rattle.std.proofs.lemmas.Option.{same_Some}
-use Rattle.std.specs.Prelude.{◌⊎◌, ◌↔◌, ◌==◌, ◌&&◌, ◌||◌, filter, if◌then◌else◌, not}
+use Rattle.std.specs.Prelude.{◌⊎◌, ◌↔◌, ◌==◌, ◌||◌, if◌then◌else◌, not}
 use Rattle.std.specs.List.{list_any}
 use Rattle.std.specs.Ordering.{eq_by_cmp}
 use Rattle.acl_perm.proofs.Bools.{and_true, or_false_right, or_true_right}
 use Rattle.acl_perm.specs.Bits.{IsPerm}
 use Rattle.acl_perm.specs.declared.kind.Kind.TheVariants.{Allow}
 use Rattle.acl_posix.specs.Check.{Object, Requester, is_member}
-use Rattle.acl_posix.specs.Id.{IsId}
 use Rattle.acl_posix.specs.Tag.{Tag, user_obj, user, group_obj, group, mask, other, IsTag, is_named, tag_cmp}
 use Rattle.acl_posix.proofs.Exports.{same_tag}
 use Rattle.acl_nfs4.specs.Ace.{Ace}
-use Rattle.acl_eval.specs.BridgeLaws.{IsAsked}
 use Rattle.acl_eval.specs.Pruning.{IsNameOf, KeepsEntries, LosesNothing, ShapeGrants, shape_without, is_shared, taken_out}
 use Rattle.acl_eval.specs.ToPosix.{AlwaysHas, EntryShape, is_in_class, is_in_shape, looks_at}
 use Rattle.acl_eval.specs.internal.ShapeBody.{TagColumn, may_match}
-use Rattle.acl_eval.proofs.AlwaysDecides.{AreFree, HasIds, IsExtra, IsTagged, asked_by_tags, asker, entry_id, extra_groups, free_ids, group_besides, group_in, groups_in, is_extra, looks, none_there, object_at, or_none, own_meets, owning_besides, owning_in, owns, requester_at, same_itself}
+use Rattle.acl_eval.proofs.AlwaysDecides.{AreFree, HasIds, IsExtra, asked_by_tags, asker, entry_id, extra_groups, free_ids, group_besides, group_in, groups_in, is_extra, looks, none_there, object_at, or_none, owning_besides, owning_in, requester_at, same_itself}
 use Rattle.acl_eval.proofs.ShapeChecks.{class_parts, some_member}
 
 -- ---- numbers without one of them
 
-but_lacks : (id : ℕ) (xs : List ℕ) → is_member id (shape_without id xs) ≡ false
+pub but_lacks : (id : ℕ) (xs : List ℕ) → is_member id (shape_without id xs) ≡ false
 but_lacks id [] = refl
 but_lacks id (x ∷ xs) = by (but_lacks id xs) (x == id) refl
   where
@@ -32,7 +30,7 @@ but_lacks id (x ∷ xs) = by (but_lacks id xs) (x == id) refl
     by rest true e = rest
     by rest false e = rw (e, rest) refl
 
-member_but : (n id : ℕ) (xs : List ℕ) → is_member n (shape_without id xs) ≡ true
+pub member_but : (n id : ℕ) (xs : List ℕ) → is_member n (shape_without id xs) ≡ true
     → (is_member n xs ≡ true) × ((n == id) ≡ false)
 member_but n id [] h = absurd cc
 member_but n id (x ∷ xs) h = by (member_but n id xs) (x == id) refl h
@@ -51,7 +49,7 @@ member_but n id (x ∷ xs) h = by (member_but n id xs) (x == id) refl h
           (ap (λ (b : Bool). (x == n) || b) two.0 ∙ or_true_right (x == n), two.1)
     ]
 
-but_keeps : (n id : ℕ) (xs : List ℕ) → is_member n xs ≡ true → (n == id) ≡ false → is_member n (shape_without id xs) ≡ true
+pub but_keeps : (n id : ℕ) (xs : List ℕ) → is_member n xs ≡ true → (n == id) ≡ false → is_member n (shape_without id xs) ≡ true
 but_keeps n id [] h differ = absurd cc
 but_keeps n id (x ∷ xs) h differ = by (λ g. but_keeps n id xs g differ) (x == id) refl
     (or_cases (x == n) (is_member n xs) h)
@@ -67,11 +65,11 @@ but_keeps n id (x ∷ xs) h differ = by (λ g. but_keeps n id xs g differ) (x ==
 -- ---- a part of a shape
 
 -- the second shape has no user and no group that the first lacks
-record IsWithin (whole part : EntryShape) : Type 0 where
-  users : (id : ℕ) → is_member id part.users ≡ true → is_member id whole.users ≡ true
-  groups : (id : ℕ) → is_member id part.groups ≡ true → is_member id whole.groups ≡ true
+pub record IsWithin (whole part : EntryShape) : Type 0 where
+  pub users : (id : ℕ) → is_member id part.users ≡ true → is_member id whole.users ≡ true
+  pub groups : (id : ℕ) → is_member id part.groups ≡ true → is_member id whole.groups ≡ true
 
-out_within : (name : Tag) (shape : EntryShape) → IsWithin shape (taken_out name shape)
+pub out_within : (name : Tag) (shape : EntryShape) → IsWithin shape (taken_out name shape)
 out_within user_obj shape = record { users = λ id h. h; groups = λ id h. h }
 out_within (user u) shape = record { users = λ id h. (member_but id u shape.users h).0; groups = λ id h. h }
 out_within group_obj shape = record { users = λ id h. h; groups = λ id h. h }
@@ -88,14 +86,14 @@ lacks_part id whole part within lacking = elim (cases_Bool (is_member id part)) 
 ]
 
 -- a requester without an entry in a shape has none in a part of it
-class_part : (whole part : EntryShape) (object : Object) (requester : Requester) → IsWithin whole part
+pub class_part : (whole part : EntryShape) (object : Object) (requester : Requester) → IsWithin whole part
     → is_in_class whole object requester ≡ true → is_in_class part object requester ≡ true
 class_part whole part object requester w h =
     let two = class_parts whole object requester h in
     rw (two.0, lacks_part requester.user whole.users part.users (w.users requester.user) two.1) refl
 
 -- an entry of a part is an entry of the shape
-part_there : (whole part : EntryShape) (t : Tag) → IsWithin whole part → is_in_shape part t ≡ true → is_in_shape whole t ≡ true
+pub part_there : (whole part : EntryShape) (t : Tag) → IsWithin whole part → is_in_shape part t ≡ true → is_in_shape whole t ≡ true
 part_there whole part user_obj w h = h
 part_there whole part (user id) w h = w.users id h
 part_there whole part group_obj w h = h
@@ -156,7 +154,7 @@ again list shape name object requester want keeps few class has =
     record { entry = s.entry; looks = s.looks; has = keeps s.entry s.shared s.there want few (inr has) }
 
 -- fewer numbers pass a test of membership
-none_less : (own : ℕ) (whole part gs : List ℕ) → ((id : ℕ) → is_member id part ≡ true → is_member id whole ≡ true)
+pub none_less : (own : ℕ) (whole part gs : List ℕ) → ((id : ℕ) → is_member id part ≡ true → is_member id whole ≡ true)
     → list_any (λ id. id == own || is_member id whole) gs ≡ false
     → list_any (λ id. id == own || is_member id part) gs ≡ false
 none_less own whole part [] within h = refl
@@ -191,7 +189,7 @@ user_stays list shape u v object requester want differ l has =
           has o r asked (rw (not-true _ a.0, b.0, (member_but v u shape.users b.1).0) refl);
     }
 
-nothing_lost : (list : List Ace) (shape : EntryShape) (name : Tag) → is_named name ≡ true → KeepsEntries list shape name
+pub nothing_lost : (list : List Ace) (shape : EntryShape) (name : Tag) → is_named name ≡ true → KeepsEntries list shape name
     → LosesNothing list shape (taken_out name shape)
 nothing_lost list shape name named keeps object requester asked want few g = by name named keeps g.entry g.looks g.has
   where

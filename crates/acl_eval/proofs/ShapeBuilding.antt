@@ -168,11 +168,11 @@ more_groups users groups i id lt at mask = refl
 more_groups users groups i id lt at other = refl
 
 -- the id at a place
-id_at : (list : List Id) (i : ℕ) (id : Id) → i < length list → id ≡ get_or list i id → get_or (ids list) i 0 ≡ id.value
+pub id_at : (list : List Id) (i : ℕ) (id : Id) → i < length list → id ≡ get_or list i id → get_or (ids list) i 0 ≡ id.value
 id_at list i id lt at = get_or-map (λ (x : Id). x.value) list i id 0 lt ∙ ap (λ (x : Id). x.value) (sym at)
 
 -- there are as many numbers
-as_many : (list : List Id) → length (ids list) ≡ length list
+pub as_many : (list : List Id) → length (ids list) ≡ length list
 as_many list = length-map list (λ (x : Id). x.value)
 
 -- an id of the code is one of the numbers

@@ -24,7 +24,7 @@ use Rattle.acl_eval.proofs.ValidChecks.{Complete, class_plain, contains_none, co
 -- ---- members
 
 -- some member of a list passes a test
-any_member : (p : ℕ → Bool) (xs : List ℕ) (n : ℕ) → is_member n xs ≡ true → p n ≡ true → list_any p xs ≡ true
+pub any_member : (p : ℕ → Bool) (xs : List ℕ) (n : ℕ) → is_member n xs ≡ true → p n ≡ true → list_any p xs ≡ true
 any_member p [] n has h = absurd cc
 any_member p (x ∷ xs) n has h = by (λ g. any_member p xs n g h) (x == n) refl has
   where
@@ -71,7 +71,7 @@ held E mask want h = absurd (false≢true h)
 held E other want h = h
 
 -- what is contained holds, if MASK contains the request where it limits the entry
-holding : (E : Entries) (t : Tag) (want : ℕ) → (t ≡ mask → ⊥) → entry_contains E t want ≡ true
+pub holding : (E : Entries) (t : Tag) (want : ℕ) → (t ≡ mask → ⊥) → entry_contains E t want ≡ true
     → (is_masked t ≡ true → mask_contains E want ≡ true) → holds E t want ≡ true
 holding E user_obj want some h m = h
 holding E (user id) want some h m = rw (h, m refl) refl
@@ -281,7 +281,7 @@ mask_keeps (Some m) p want kept whole h = (subset_test m want).1 (λ k hk.
     (sym (has_bit-and p m k) ∙ ap (λ (n : ℕ). has_bit n k) kept ∙ (subset_test p want).0 h k hk)).1)
 
 -- an entry of an ACL of a shape that contains a request holds it
-best_holds : (list : List Ace) (shape : EntryShape) (E : Entries) (t : Tag) (want : ℕ) → IsBest list shape E
+pub best_holds : (list : List Ace) (shape : EntryShape) (E : Entries) (t : Tag) (want : ℕ) → IsBest list shape E
     → is_in_shape shape t ≡ true → contains 7 want ≡ true → entry_contains E t want ≡ true → holds E t want ≡ true
 best_holds list shape E t want best there whole h =
     holding E t want (λ e. false≢true (sym (ap (is_in_shape shape) e) ∙ there)) h (by (fin.get E t) refl h)
@@ -303,3 +303,11 @@ best_greatest list shape E best one acl shaped sound request few object requeste
     (granted shape one o r request at.entry acl.valid shaped whole looks at.holds)) in
     granted shape E object requester request at.entry best.valid.valid best.shaped whole at.looks
     (best_holds list shape E at.entry request best at.there whole has)
+
+-- nor does one of any shape that the ACL has
+pub best_greatest_of_shape : (list : List Ace) (shape : EntryShape) (E : Entries) → IsBest list shape E
+    → (same : EntryShape) → HasShape same E → IsGreatest list same E
+best_greatest_of_shape list shape E best same had one acl shaped sound = best_greatest list shape E best one acl (record {
+  users = λ id. shaped.users id ∙ (sym (had.users id) ∙ best.shaped.users id);
+  groups = λ id. shaped.groups id ∙ (sym (had.groups id) ∙ best.shaped.groups id);
+}) sound

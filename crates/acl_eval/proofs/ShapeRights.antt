@@ -13,15 +13,11 @@ use Rattle.acl_posix.specs.declared.id.Id.{Id}
 use Rattle.acl_nfs4.specs.Ace.{Ace}
 use Rattle.acl_eval.specs.ToPosix.{EntryShape, is_in_shape, entry_shape_of}
 use Rattle.acl_eval.specs.declared.posix_shape.PosixShape.{PosixShape}
-use Rattle.acl_eval.specs.internal.ShapeBody.{AreColumns, HasJust, always, is_certain, may_match, keys_of, most_names}
+use Rattle.acl_eval.specs.internal.ShapeBody.{AreColumns, HasJust, answer, most_names}
 use Rattle.acl_eval.specs.declared.tag_column.Columns.{Columns}
 use Rattle.acl_eval.specs.declared.tag_column.TagKey.{TagKey}
 use Rattle.acl_eval.proofs.AlwaysDecides.{HasIds, decides_right}
 use Rattle.acl_eval.proofs.Images.{image_right, rights, small_bit}
-
--- the answer of the pass over one column
-abbrev pub answer : EntryShape → Tag → List TagKey → Bool
-answer shape entry keys = always (is_certain entry) (may_match shape entry) (keys_of keys)
 
 -- both of two answers
 both : (a b : Bool) → a ≡ true → b ≡ true → (a && b) ≡ true

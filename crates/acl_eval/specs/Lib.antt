@@ -23,6 +23,9 @@ pub mod BridgeNames
 pub mod ToPosix
 pub mod NoGreatest
 pub mod Pruning
+pub mod PruningLaws
 pub mod ListNames
+pub mod PosixOfList
+pub mod LostGrants
 pub mod Programs
 pub mod internal

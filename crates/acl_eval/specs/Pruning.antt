@@ -61,3 +61,15 @@ pub record IsNameOf (shape : EntryShape) (name : Tag) : Type 0 where
 abbrev pub EntriesDecideLoss : Type 0
 EntriesDecideLoss = (list : List Ace) (shape : EntryShape) (name : Tag) → IsNameOf shape name
     → LosesNothing list shape (taken_out name shape) ↔ KeepsEntries list shape name
+
+-- names are taken out one after the other, and each time nothing is lost
+pub data Prunes (list : List Ace) : EntryShape → EntryShape → Type 0 where
+  none : (shape : EntryShape) → Prunes list shape shape
+  next : (one two : EntryShape) (name : Tag) → is_named name ≡ true → is_in_shape one name ≡ true
+      → LosesNothing list one (taken_out name one) → Prunes list (taken_out name one) two → Prunes list one two
+
+-- names are taken out until none can be taken out without loss
+pub record PrunesTo (list : List Ace) (one two : EntryShape) : Type 0 where
+  pub steps : Prunes list one two
+  pub last : (name : Tag) → is_named name ≡ true → is_in_shape two name ≡ true
+      → LosesNothing list two (taken_out name two) → ⊥

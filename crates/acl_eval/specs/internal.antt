@@ -27,3 +27,7 @@ pub mod UnknownBody
 pub mod RequestBody
 -- how the POSIX ACL of a shape is made
 pub mod ShapeBody
+-- how users and groups are taken out of the shape of a POSIX ACL
+pub mod PruningBody
+-- how a lost grant is searched
+pub mod LossBody

@@ -8,6 +8,7 @@ ghost use Rattle.acl_eval.specs.Memberships.{IsApart, joining};
 ghost use Rattle.acl_eval.specs.Unknown.{Assignment, GrantsUnder, answer_under};
 ghost use Rattle.acl_posix.specs.Check.{ids};
 ghost use Rattle.acl_posix.specs.Entries.{Entries};
+ghost use Rattle.acl_eval.specs.LostGrants.{IsExact, KeepsSingles};
 ghost use Rattle.acl_eval.specs.NoGreatest.{HaveNoneAbove, all_but_the_user, denied_user, members_alone, members_read, others_write, two_groups, two_permissions, user_writes};
 ghost use Rattle.acl_eval.specs.Pruning.{EntriesDecideLoss};
 ghost use Rattle.acl_eval.specs.ToPosix.{IsBest, IsGreatest, IsSound, EntryShape};
@@ -267,4 +268,11 @@ pub fn no_greatest()
 /// other GROUP_OBJ, GROUP and OTHER entries has what it had before and what the entry had that was taken out.
 pub fn entries_decide_loss()
     ensures { EntriesDecideLoss }
+{}
+
+/// If a POSIX ACL grants no more than a list, both agree about read, write and execute, each alone, in every situation
+/// if and only if the ACL grants each of these wherever the list does.
+pub fn exact_if_nothing_is_lost()
+    ensures { (list : List Ace) (entries : Entries) → IsSound list entries
+        → KeepsSingles list entries ↔ IsExact list entries }
 {}

@@ -55,13 +55,28 @@ pub fn named_ids(alloc: Global, list: &AclView<'_>, names: &Names) -> Result<Nam
     if let Some(place) = first_unknown(list, names) {
         return Err(IdsFault::UnknownName { place });
     }
+    Ok(known_names(alloc, list, names)?)
+}
+
+/// Returns the users and the groups that a list names in ACEs that count. Fails only if memory runs out.
+pub(crate) fn known_names(
+    alloc: Global,
+    list: &AclView<'_>,
+    names: &Names,
+) -> Result<NamedIds, AllocError>
+    ensures { IfOk result (λ named. AreNamesOf names.now list.now (named_shape named)) }
+{
     let users = users_of(alloc, list, names)?;
     let groups = groups_of(alloc, list, names)?;
     Ok(NamedIds { users, groups })
 }
 
-// Returns the users that the list names in ACEs that count.
-fn users_of(alloc: Global, list: &AclView<'_>, names: &Names) -> Result<Vec<Id>, AllocError>
+/// Returns the users that the list names in ACEs that count.
+pub(crate) fn users_of(
+    alloc: Global,
+    list: &AclView<'_>,
+    names: &Names,
+) -> Result<Vec<Id>, AllocError>
     ensures named { IfOk result (λ users. (id : ℕ)
         → is_member id (ids users.items) ≡ names_user names.now list.now id) }
     ensures once { IfOk result (λ users. AreOnce (ids users.items)) }
@@ -73,8 +88,12 @@ fn users_of(alloc: Global, list: &AclView<'_>, names: &Names) -> Result<Vec<Id>,
     Ok(users)
 }
 
-// Returns the groups that the list names in ACEs that count.
-fn groups_of(alloc: Global, list: &AclView<'_>, names: &Names) -> Result<Vec<Id>, AllocError>
+/// Returns the groups that the list names in ACEs that count.
+pub(crate) fn groups_of(
+    alloc: Global,
+    list: &AclView<'_>,
+    names: &Names,
+) -> Result<Vec<Id>, AllocError>
     ensures named { IfOk result (λ groups. (id : ℕ)
         → is_member id (ids groups.items) ≡ names_group names.now list.now id) }
     ensures once { IfOk result (λ groups. AreOnce (ids groups.items)) }

@@ -9,7 +9,7 @@ ghost use Rattle.acl_nfs4.specs.Ace.{Ace};
 ghost use Rattle.acl_eval.specs.Ids.{HaveIds, with_ids};
 ghost use Rattle.acl_eval.specs.Permissions.{execute, read, write};
 ghost use Rattle.acl_eval.specs.ToPosix.{IsBest, IsGreatest, IsShapeFault, IsSound, is_in_shape, entry_shape_of, size_of};
-ghost use Rattle.acl_eval.specs.internal.ShapeBody.{AreColumns, HasJust, HasThree, IsEntryPut, always, is_certain, may_match, keys_of, may_be_user, most_names, empty_shape, users_of};
+ghost use Rattle.acl_eval.specs.internal.ShapeBody.{AreColumns, HasPassAnswers, HasJust, HasThree, IsEntryPut, always, is_certain, may_match, keys_of, may_be_user, most_names, empty_shape, users_of};
 ghost use Rattle.acl_eval.specs.declared.posix_shape.ShapeFault.TheVariants.{Memory};
 
 use crate::prepared_ids::first_unknown;
@@ -101,8 +101,8 @@ pub fn posix_of_shape(
     Ok(best_of_shape(alloc, list, shape, names)?)
 }
 
-// Returns whether the shape has at most this many users and groups.
-fn is_within(shape: &PosixShape<'_>, most: u16) -> bool
+/// Returns whether the shape has at most this many users and groups.
+pub(crate) fn is_within(shape: &PosixShape<'_>, most: u16) -> bool
     ensures { IsTrue result ↔ (size_of (entry_shape_of shape.now) ≤ most) }
 {
     let most = usize::from(most);
@@ -121,11 +121,23 @@ fn best_of_shape(
     ensures { IfOk result (IsBest (with_ids names.now list.now) (entry_shape_of shape.now)) }
 {
     let columns = columns_of(alloc, list, names)?;
-    let acl = three_entries(alloc, &columns, shape)?;
+    best_of_columns(alloc, &columns, shape)
+}
+
+/// Returns the ACL of a shape for the list of which these are the columns. Fails only if memory runs out.
+pub(crate) fn best_of_columns(
+    alloc: Global,
+    columns: &Columns,
+    shape: &PosixShape<'_>,
+) -> Result<PosixAcl, AllocError>
+    requires few { size_of (entry_shape_of shape.now) ≤ most_names }
+    ensures { (list : List Ace) → AreColumns list columns.now → IfOk result (IsBest list (entry_shape_of shape.now)) }
+{
+    let acl = three_entries(alloc, columns, shape)?;
     if is_within(shape, 0) {
         return Ok(acl);
     }
-    with_named(acl, &columns, shape)
+    with_named(acl, columns, shape)
 }
 
 // Returns the ACL with USER_OBJ, GROUP_OBJ and OTHER.
@@ -215,11 +227,12 @@ fn put(acl: &mut PosixAcl, tag: Tag, perm: Perm) -> Result<(), AllocError>
     }
 }
 
-// Returns the permissions of an entry of the shape.
-fn entry_perm(columns: &Columns, shape: &PosixShape<'_>, entry: Tag) -> Perm
+/// Returns the permissions of an entry of the shape.
+pub(crate) fn entry_perm(columns: &Columns, shape: &PosixShape<'_>, entry: Tag) -> Perm
     requires few { size_of (entry_shape_of shape.now) ≤ most_names }
     requires there { IsTrue (is_in_shape (entry_shape_of shape.now) (tag_of entry)) }
-    ensures { (list : List Ace) → AreColumns list columns.now
+    ensures answers { HasPassAnswers columns.now (entry_shape_of shape.now) (tag_of entry) result.bits }
+    ensures just { (list : List Ace) → AreColumns list columns.now
         → HasJust list (entry_shape_of shape.now) (tag_of entry) result.bits }
 {
     let may_read = is_always_allowed(&columns.read, shape, entry);
@@ -257,8 +270,8 @@ fn is_always_allowed(keys: &[TagKey], shape: &PosixShape<'_>, entry: Tag) -> boo
     false
 }
 
-// Returns whether the principal of a tag matches in every situation in which the check looks at the entry.
-fn is_certain(entry: Tag, whom: Tag) -> bool
+/// Returns whether the principal of a tag matches in every situation in which the check looks at the entry.
+pub(crate) fn is_certain(entry: Tag, whom: Tag) -> bool
     ensures { result ≡ is_certain (tag_of entry) (tag_of whom) }
 {
     is_same(whom, Tag::Other) || is_same(whom, entry)

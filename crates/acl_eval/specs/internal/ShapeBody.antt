@@ -1,6 +1,6 @@
 -- How the ACL of a shape is made: the columns of a list by tags, and the pass that decides whether an entry has a right.
 -- This library's own.
-use Rattle.std.specs.Prelude.{◌≡◌, ◌≤◌, ◌↔◌, ⊤, ℕ, ◌==◌, ◌||◌, not, Bool, false, true, IsTrue, List, [], ◌∷◌, length, Option, Some, option_map, filter, map, if◌then◌else◌}
+use Rattle.std.specs.Prelude.{◌≡◌, ◌≤◌, ◌↔◌, ⊤, ℕ, ◌==◌, ◌&&◌, ◌||◌, not, Bool, false, true, IsTrue, List, [], ◌∷◌, length, Option, Some, option_map, filter, map, if◌then◌else◌}
 use Rattle.std.specs.List.{list_any}
 use Rattle.std.specs.FinMap as set
 use Rattle.std.specs.Ordering.{eq_by_cmp}
@@ -18,7 +18,7 @@ use Rattle.acl_nfs4.specs.Limits.{most_aces}
 use Rattle.acl_eval.specs.BridgeLaws.{IsAsked, by_name}
 use Rattle.acl_eval.specs.Grant.{grants_bit}
 use Rattle.acl_eval.specs.Ids.{id_of_name}
-use Rattle.acl_eval.specs.Permissions.{append_data, execute_right, read_data, write_data}
+use Rattle.acl_eval.specs.Permissions.{append_data, execute, execute_right, read, read_data, write, write_data}
 use Rattle.acl_eval.specs.ToPosix.{AlwaysHas, EntryShape, is_in_shape}
 use Rattle.acl_eval.specs.declared.tag_column.Columns.{Columns}
 use Rattle.acl_eval.specs.declared.tag_column.TagKey.{TagKey}
@@ -105,6 +105,17 @@ abbrev pub always : (Tag → Bool) → (Tag → Bool) → TagColumn → Bool
 always certain possible [] = false
 always certain possible ((t, kind) ∷ keys) = if certain t then is_allow kind
     else (if is_allow kind || not (possible t) then always certain possible keys else false)
+
+-- the answer of the pass of an entry over one column
+abbrev pub answer : EntryShape → Tag → List TagKey → Bool
+answer shape entry keys = always (is_certain entry) (may_match shape entry) (keys_of keys)
+
+-- the permissions of an entry are the answers of the pass
+pub record HasPassAnswers (columns : Columns) (shape : EntryShape) (entry : Tag) (perm : ℕ) : Type 0 where
+  pub of_read : has_bit perm read ≡ answer shape entry columns.read.items
+  pub of_write : has_bit perm write
+      ≡ (answer shape entry columns.write.items && answer shape entry columns.append.items)
+  pub of_execute : has_bit perm execute ≡ answer shape entry columns.execute.items
 
 -- ---- what is known while the ACL is made
 

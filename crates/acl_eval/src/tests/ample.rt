@@ -1,7 +1,9 @@
 //! The tables of this crate in ample memory, where a check may not answer that memory ran out, as it may in the file of
 //! its subject. The module `ample` of such a file has the other tests that need ample memory.
 
-use super::{bridging, creation, granting, ids, mode_changes, modes, naming, shapes};
+use super::{
+    bridging, creation, granting, ids, losses, mode_changes, modes, naming, pruning, shapes,
+};
 use acl_nfs4::PushFault;
 
 #[test]
@@ -12,9 +14,11 @@ fn every_row_holds_with_enough_memory(rt: HostRuntime) -> Result<(), PushFault> 
     ids::check_unknown(&rt, alloc)?;
     bridging::check_lists(&rt, alloc)?;
     creation::check_creations(&rt, alloc)?;
+    losses::check_losses(&rt, alloc)?;
     mode_changes::check_mode_changes(&rt, alloc)?;
     mode_changes::check_second_change(&rt, alloc)?;
     modes::check_modes(&rt, alloc)?;
+    pruning::check_conversions(&rt, alloc)?;
     shapes::check_named(&rt, alloc)?;
     shapes::check_shapes(&rt, alloc)?;
     naming::check_sorted_groups(&rt, alloc)

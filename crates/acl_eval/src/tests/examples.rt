@@ -3,7 +3,7 @@
 use crate::*;
 use acl_nfs4::parse_text;
 use acl_perm::{Mask, Mode, Perm, Right};
-use acl_posix::{Id, Names, Tag, parse};
+use acl_posix::{Id, Names, PosixAcl, Tag, parse};
 use std::test::Fail;
 
 // The examples of `grants`, `granted`, `decided` and `deciding_ace`.
@@ -76,11 +76,36 @@ fn a_denied_user_may_only_read(rt: HostRuntime) -> Result<(), Fail> {
 }
 
 #[test]
+fn a_denial_that_nothing_needs_is_left_out(rt: HostRuntime) -> Result<(), Fail> {
+    let alloc = rt.alloc();
+    let list = parse_text(
+        alloc,
+        b"ALLOW - READ_DATA OWNER@\nALLOW - READ_DATA GROUP@\nDENY - READ_DATA 1000",
+    )?;
+    let acl = to_posix(alloc, &list.view(), &Names::new(alloc), 256)?;
+    assert!(rt; acl.get(Tag::GroupObj) == Some(Perm::READ));
+    Ok(())
+}
+
+#[test]
 fn a_user_and_a_group_are_named(rt: HostRuntime) -> Result<(), Fail> {
     let alloc = rt.alloc();
     let list = parse_text(alloc, b"DENY - WRITE_DATA 1000\nALLOW GROUP READ_DATA 50")?;
     let named = named_ids(alloc, &list.view(), &Names::new(alloc))?;
     assert!(rt; named.users.len() == 1 && named.groups.len() == 1);
+    Ok(())
+}
+
+#[test]
+fn a_member_of_two_groups_loses_write(rt: HostRuntime) -> Result<(), Fail> {
+    let alloc = rt.alloc();
+    let list = parse_text(
+        alloc,
+        b"ALLOW GROUP WRITE_DATA 5\nALLOW GROUP APPEND_DATA 7",
+    )?;
+    let acl = PosixAcl::of_mode(alloc, Mode { bits: 0 })?;
+    let lost = lost_grant(alloc, &list.view(), &acl, &Names::new(alloc), 256)?;
+    assert!(rt; lost.is_some_and(|lost| lost.perm == Perm::WRITE && lost.groups.len() == 2));
     Ok(())
 }
 

@@ -57,7 +57,8 @@ static ROWS: [(&[u8], &[u8]); 5] = [
     (NO_NAMES, b"u::r-x,g::r-x,o::---"),
 ];
 
-fn acl_of(alloc: Global, text: &[u8]) -> Result<PosixAcl, PushFault> {
+/// Returns the ACL of a short text.
+pub fn acl_of(alloc: Global, text: &[u8]) -> Result<PosixAcl, PushFault> {
     let PosixFile { access, .. } = kept(parse(alloc, text, &Names::new(alloc)))?;
     Ok(access)
 }

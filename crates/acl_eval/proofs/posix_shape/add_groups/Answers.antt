@@ -10,7 +10,7 @@ pub loop-group-preserved : goal.loop-group-preserved
 loop-group-preserved c = λ list columns before. group_put list (entry_shape_of c.args.shape.now)
     (entry_shape_of c.args.shape.now).users c.args.shape.now.groups.now c.loop-group.group-index c.group-item.result
     c.entry_perm.result.bits c.loop-group.acl c.put.new.acl c.loop-group-test.true c.group-item.is
-    (c.entry_perm.ensures list columns) c.in_ok-put.ensures (c.loop-group.invariant list columns before)
+    (c.entry_perm.ensures.just list columns) c.in_ok-put.ensures (c.loop-group.invariant list columns before)
 
 pub returns : goal.returns
 returns c = λ list columns before. groups_done list (entry_shape_of c.args.shape.now) (entry_shape_of c.args.shape.now).users

@@ -6,5 +6,5 @@ pub returns-clause-three : goal.returns-clause-three
 returns-clause-three c = λ list columns. three list (entry_shape_of c.args.shape.now) c.in_ok-acl.acl c.from_parts.result.bits
     c.entry_perm-owner.result.bits c.entry_perm-group.result.bits c.entry_perm-others.result.bits c.in_ok-acl.ensures
     c.from_parts.ensures c.entry_perm-owner.result.within c.entry_perm-group.result.within
-    c.entry_perm-others.result.within (c.entry_perm-owner.ensures list columns) (c.entry_perm-group.ensures list columns)
-    (c.entry_perm-others.ensures list columns)
+    c.entry_perm-others.result.within (c.entry_perm-owner.ensures.just list columns) (c.entry_perm-group.ensures.just list columns)
+    (c.entry_perm-others.ensures.just list columns)

@@ -1,0 +1,109 @@
+-- Ids that no column and no entry has.
+use Rattle.std.proofs.Common.{◌≡◌, ◌≤◌, ◌<◌, ◌+◌, ℕ, suc, Bool, true, false, List, [], ◌∷◌, ◌++◌, refl, sym, ap, subst, ◌∙◌, arith, inl, inr, drop, get_or, length}
+use Rattle.std.proofs.lemmas.Bool.{eq-eqb, eqb-true, false≢true, or_cases, true≢false}
+use Rattle.std.proofs.lemmas.List.{append_assoc, at_drop_all, at_drop_more, length-map, map-append}
+use Rattle.std.proofs.lemmas.List.Folds.{list_any-append}
+use Rattle.std.proofs.lemmas.Bool.{cases_lt}
+use Rattle.std.specs.Prelude.{◌↔◌, ◌==◌, ◌||◌, IsTrue, map}
+use Rattle.std.specs.FinMap as fin
+use Rattle.std.specs.List.{AllByRecursion}
+use Rattle.std.specs.Ordering.{eq_by_cmp}
+use Rattle.acl_perm.proofs.Bools.{or_true_right}
+use Rattle.acl_posix.specs.Check.{ids, is_member}
+use Rattle.acl_posix.specs.Tag.{Tag, qualifier, tag_cmp}
+use Rattle.acl_posix.specs.Entries.{Entries, pair_of, pairs}
+use Rattle.acl_posix.specs.declared.entry.Entry.{Entry}
+use Rattle.acl_posix.specs.declared.id.Id.{Id}
+use Rattle.acl_posix.proofs.Exports.{same_tag}
+use Rattle.acl_eval.specs.internal.LossBody.{entry_numbers, key_numbers}
+use Rattle.acl_eval.specs.internal.ShapeBody.{TagColumn, has_tag}
+use Rattle.acl_eval.proofs.AlwaysDecides.{free_below, or_none}
+
+-- if all numbers below a bound are members of a list, the list is as long as the bound
+pub below_length : (xs : List ℕ) (k : ℕ) → ((n : ℕ) → n < k → is_member n xs ≡ true) → k ≤ length xs
+below_length xs k all = elim (cases_lt (length xs) k) [
+  | inl short ↦
+      let (n, below, lacking) = free_below k xs short in absurd (true≢false (sym (all n below) ∙ lacking))
+  | inr long ↦ long
+]
+
+-- one more number below the next bound
+pub one_more : (xs : List ℕ) (k : ℕ) → ((n : ℕ) → n < k → is_member n xs ≡ true) → is_member k xs ≡ true
+    → (n : ℕ) → n < k + 1 → is_member n xs ≡ true
+one_more xs k all here n below = elim (cases_lt n k) [
+  | inl less ↦ all n less
+  | inr more ↦ subst (λ (m : ℕ). is_member m xs ≡ true) (omega (arith, more, below)) here
+]
+
+-- the number of the tag of a key is among those of the keys
+pub key_number : (t : Tag) (keys : TagColumn) → has_tag t keys ≡ true → is_member (qualifier t) (key_numbers keys) ≡ true
+key_number t [] h = absurd (false≢true h)
+key_number t ((u, k) ∷ keys) h = elim (or_cases (eq_by_cmp tag_cmp t u) (has_tag t keys) h) [
+  | inl same ↦ ap (λ (b : Bool). b || is_member (qualifier t) (key_numbers keys))
+      (eq-eqb (qualifier u) (qualifier t) (ap qualifier (sym (same_tag t u same))))
+  | inr more ↦ ap (λ (b : Bool). (qualifier u == qualifier t) || b) (key_number t keys more)
+      ∙ or_true_right (qualifier u == qualifier t)
+]
+
+-- the number of each entry is among more numbers than those of the entries
+pub entries_named : (es : List (Tag × ℕ)) (used : List ℕ)
+    → ((n : ℕ) → is_member n (entry_numbers es) ≡ true → is_member n used ≡ true)
+    → AllByRecursion (λ entry. is_member (qualifier entry.0) used ≡ true) es
+entries_named [] used more = tt
+entries_named (e ∷ es) used more = (
+  more (qualifier e.0) (ap (λ (b : Bool). b || is_member (qualifier e.0) (entry_numbers es))
+      (eq-eqb (qualifier e.0) (qualifier e.0) refl)),
+  entries_named es used (λ n h. more n (ap (λ (b : Bool). (qualifier e.0 == n) || b) h ∙ or_true_right (qualifier e.0 == n))),
+)
+
+-- what is not a member of a list with one more element
+pub not_with : (n m : ℕ) (xs ys : List ℕ) → ys ≡ xs ++ m ∷ [] → is_member n ys ≡ false
+    → (is_member n xs ≡ false) × ((m == n) ≡ false)
+not_with n m xs ys is h =
+    let two = or_none (is_member n xs) (is_member n (m ∷ []))
+    (sym (list_any-append (λ (x : ℕ). x == n) xs (m ∷ [])) ∙ (ap (is_member n) (sym is) ∙ h)) in
+    (two.0, (or_none (m == n) false two.1).0)
+
+-- ---- loops over keys and over entries
+
+-- a fact about each element that is left, from one more element
+pub all_more_left : {X Y : Type 0} (f : X → Y) (Q : Y → Type 0) (xs : List X) (i : ℕ) (x : X) → i < length xs
+    → x ≡ get_or xs i x → Q (f x) → AllByRecursion Q (map f (drop (i + 1) xs)) → AllByRecursion Q (map f (drop i xs))
+all_more_left f Q xs i x lt is q rest =
+    subst (λ ys. AllByRecursion Q (map f ys)) (sym (at_drop_more (λ ys. ys) xs i x lt))
+    (subst (λ y. Q (f y)) is q, rest)
+
+-- nothing is left at the end
+pub all_at_end : {X Y : Type 0} (f : X → Y) (Q : Y → Type 0) (xs : List X) (i : ℕ) → length xs ≤ i
+    → AllByRecursion Q (map f (drop i xs))
+all_at_end f Q xs i end = subst (λ ys. AllByRecursion Q (map f ys)) (sym (at_drop_all (λ ys. ys) xs i end)) tt
+
+-- one more id
+pub id_added : (old new : List Id) (x : Id) (n : ℕ) (rest : List ℕ) → new ≡ old ++ x ∷ [] → x.value ≡ n
+    → ids new ++ rest ≡ ids old ++ n ∷ rest
+id_added old new x n rest is number =
+    ap (λ (xs : List Id). ids xs ++ rest) is
+    ∙ (ap (λ (ys : List ℕ). ys ++ rest) (map-append (λ (id : Id). id.value) old (x ∷ []))
+    ∙ (append_assoc (ids old) (x.value ∷ []) rest ∙ ap (λ (m : ℕ). ids old ++ m ∷ rest) number))
+
+-- the same for ids
+pub below_ids : (used : List Id) (k : ℕ) → ((n : ℕ) → n < k → is_member n (ids used) ≡ true) → k ≤ length used
+below_ids used k all =
+    let long = length-map used (λ (id : Id). id.value) in
+    let le = below_length (ids used) k all in omega (arith, le, long)
+
+-- ---- the bound
+
+pub bounded : (users groups us gs : List Id) (es : List Entry) (E : Entries) (most : ℕ) (few : Bool)
+    → pairs es ≡ fin.entries E → us ≡ users → gs ≡ groups
+    → (IsTrue few ↔ (length us + length gs + length es ≤ most))
+    → (IsTrue few ↔ (length (ids users) + length (ids groups) + length (fin.entries E) ≤ most))
+bounded users groups us gs es E most few same u g h =
+    let one = length-map users (λ (id : Id). id.value) in
+    let two = length-map groups (λ (id : Id). id.value) in
+    let three : length (fin.entries E) ≡ length es = ap (λ xs. length xs) (sym same) ∙ length-map es pair_of in
+    let four : length us ≡ length users = ap (λ (xs : List Id). length xs) u in
+    let five : length gs ≡ length groups = ap (λ (xs : List Id). length xs) g in (
+      λ few_enough. let le = h.0 few_enough in omega (arith, le, one, two, three, four, five),
+      λ le. h.1 (omega (arith, le, one, two, three, four, five)),
+    )

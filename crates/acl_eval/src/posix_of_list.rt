@@ -1,0 +1,76 @@
+//! The POSIX ACL of an NFSv4 list.
+ghost use Rattle.std.specs.Prelude.{◌≤◌, IfErr, IfOk};
+ghost use Rattle.acl_eval.specs.Ids.{HaveIds, with_ids};
+ghost use Rattle.acl_eval.specs.ListNames.{AreNamesOf, named_shape};
+ghost use Rattle.acl_eval.specs.PosixOfList.{IsGreatestOfShape, IsPosixOf, IsToPosixFault};
+ghost use Rattle.acl_eval.specs.ToPosix.{IsSound, size_of};
+ghost use Rattle.acl_eval.specs.internal.ShapeBody.{most_names};
+ghost use Rattle.acl_eval.specs.declared.posix_shape.ShapeFault.TheVariants.{Memory};
+
+use crate::list_names::{NamedIds, known_names};
+use crate::posix_shape::{ShapeFault, best_of_columns, is_within};
+use crate::prepared_ids::first_unknown;
+use crate::pruning::pruned;
+use crate::tag_column::columns_of;
+use acl_nfs4::AclView;
+use acl_posix::{Names, PosixAcl};
+use std::alloc::{AllocError, Global};
+
+/// Returns the POSIX ACL of an NFSv4 list. It never grants more than the list: read only if the list grants READ_DATA,
+/// write only if it grants WRITE_DATA and APPEND_DATA, and execute only if it grants EXECUTE. ACEs with INHERIT_ONLY do
+/// not count. The id of a name is that of the table, and otherwise the number whose decimal digits the name is.
+///
+/// The rule starts with the users and the groups that the list names (`named_ids`), and takes out those whose entries
+/// can go without loss (`laws::entries_decide_loss`), until none can. The ACL is that of the users and the groups that
+/// are left (`posix_of_shape`). No rule grants most for every list (`laws::no_greatest`).
+///
+/// Fails with `NoId` for the first ACE whose user or group has no id, also if the ACE takes no part, then with
+/// `TooManyNames` if the list names more than `most` users and groups, and with `Memory` if memory runs out. The time is
+/// at most proportional to the number of ACEs times the number of users and groups that the list names, plus the cube of
+/// the number of users and groups, besides the look-ups of names.
+///
+/// ```rust
+/// let list = parse_text(alloc, b"ALLOW - READ_DATA OWNER@\nALLOW - READ_DATA GROUP@\nDENY - READ_DATA 1000")?;
+/// let acl = to_posix(alloc, &list.view(), &Names::new(alloc), 256)?;
+/// assert!(rt; acl.get(Tag::GroupObj) == Some(Perm::READ));
+/// ```
+pub fn to_posix(
+    alloc: Global,
+    list: &AclView<'_>,
+    names: &Names,
+    most: u16,
+) -> Result<PosixAcl, ShapeFault>
+    // Whatever the ACL grants, the list grants.
+    ensures sound { IfOk result (IsSound (with_ids names.now list.now)) }
+    // Which users and groups have entries, and what each entry has.
+    ensures rule { IfOk result (IsPosixOf names.now list.now) }
+    // No sound ACL with entries for the same users and groups grants more.
+    ensures greatest { IfOk result (IsGreatestOfShape (with_ids names.now list.now)) }
+    ensures fault { IfErr result (IsToPosixFault names.now list.now most) }
+{
+    if let Some(place) = first_unknown(list, names) {
+        return Err(ShapeFault::NoId(place));
+    }
+    let named = known_names(alloc, list, names)?;
+    if !is_within(&named.shape(), most) {
+        return Err(ShapeFault::TooManyNames);
+    }
+    Ok(acl_of_names(alloc, list, names, &named)?)
+}
+
+// Returns the ACL of a list in which each name has an id, and that names these users and groups. Fails only if memory
+// runs out.
+fn acl_of_names(
+    alloc: Global,
+    list: &AclView<'_>,
+    names: &Names,
+    named: &NamedIds,
+) -> Result<PosixAcl, AllocError>
+    requires known { HaveIds names.now list.now }
+    requires few { size_of (named_shape named.now) ≤ most_names }
+    ensures { AreNamesOf names.now list.now (named_shape named.now) → IfOk result (IsPosixOf names.now list.now) }
+{
+    let columns = columns_of(alloc, list, names)?;
+    let rest = pruned(alloc, &columns, &named.shape())?;
+    best_of_columns(alloc, &columns, &rest.shape())
+}
