@@ -210,7 +210,8 @@ enum aclck_posix_form {
     ACLCK_POSIX_ATTRIBUTE = 1,       /* the attributes system.posix_acl_access and system.posix_acl_default of Linux */
     ACLCK_POSIX_TEXT = 2,            /* the access ACL of a text SCHILY.acl.access of an archive */
     ACLCK_POSIX_DEFAULT_OF_TEXT = 3, /* the default ACL of such a text, which need not have one */
-    ACLCK_POSIX_DEFAULT_TEXT = 4     /* the ACL of a text SCHILY.acl.default of an archive */
+    ACLCK_POSIX_DEFAULT_TEXT = 4,    /* the ACL of a text SCHILY.acl.default of an archive */
+    ACLCK_POSIX_GNU_STYLE = 16       /* may be added to 2 and 4: as GNU tar writes the text, and not as star does */
 };
 
 /* What is certain of a request, where a list has names that nobody knows. */
@@ -407,6 +408,8 @@ typedef struct aclck_creation {
    - A value of a form that aclck_read_form() refuses: `offset` is the place of the first byte that is refused, from 0.
    - A list that aclck_write_form() cannot write in a form (reasons 35, 36 and 40 to 45): `offset` is the place of the
      ACE, from 0.
+   - Entries that aclck_entries_to_form() cannot write in a form (reasons 21, 40 and 44): `offset` is the place of the
+     entry in canonical order, from 0. At 21 its id is above 2147483647, and not 4294967295.
    - Entries and attributes of POSIX ACLs: at 19, 21, 23 and 31 `offset` is the place of an entry, from 0. At 29 and 30
      the whole attribute is refused. No place. */
 typedef struct aclck_fault {
@@ -692,9 +695,9 @@ enum aclck_status aclck_read_form(aclck_bytes value, enum aclck_form form, aclck
 
 /* The same without the ACEs that access does not read: AUDIT and ALARM ACEs, and ALLOW ACEs of a special name other
    than OWNER@, GROUP@ and EVERYONE@. They are at the front of `left`, in order; without them the list grants no more.
-   A DENY of such a name is refused with ACLCK_SPECIAL_WHO. A text is read as aclck_read_form() reads it. A value of n
-   bytes has fewer than n / 20 + 1 ACEs that are left out. ACLCK_DONE (`out`, `left`, *part), ACLCK_SHORT where `out` or
-   `left` has no room (*part). */
+   A DENY of such a name is refused with ACLCK_SPECIAL_WHO. A value of n bytes has fewer than n / 5 + 1 ACEs that are
+   left out, and at most 65,536. ACLCK_DONE (`out`, `left`, *part), ACLCK_SHORT where `out` or `left` has no room
+   (*part). */
 ACLCK_CALL ACLCK_WRITES(3) ACLCK_WRITES(6)
 enum aclck_status aclck_read_part(aclck_bytes value, enum aclck_form form, aclck_list_part *part, aclck_buffer out,
                                   aclck_left_outs left, aclck_fault *fault);
@@ -878,14 +881,26 @@ ACLCK_CALL ACLCK_WRITES(3) ACLCK_WRITES(4)
 enum aclck_status aclck_entries_from_attribute(aclck_bytes attribute, aclck_entry_buffer out, size_t *needed,
                                                aclck_fault *fault);
 
-/* The entries of the ACL that value->text spells in the form. No entries (*needed is 0) mean that the text has no default
-   ACL. In a text, a user or group is an id, a name with an id at the end of its entry, or one of value->names. An
-   attribute may have the ids of users and of groups in any order, but no id where none belongs, and it has entries.
-   ACLCK_REFUSED with the reasons of aclck_read_form(), and fault->offset is the place of a byte. ACLCK_BAD_ARGUMENT also
-   where the names make no table. */
+/* The entries of the ACL that value->text spells in the form. No entries (*needed is 0) mean that the text has no
+   default ACL. In a text, a user or group is an id, a name with an id at the end of its entry, or one of value->names.
+   ACLCK_POSIX_GNU_STYLE has no effect. An attribute may have the ids of users and of groups in any order, but no id
+   where none belongs, and it has entries. ACLCK_REFUSED with the reasons of aclck_read_form(), and fault->offset is the
+   place of a byte. ACLCK_BAD_ARGUMENT also where the names make no table. */
 ACLCK_CALL ACLCK_READS(1) ACLCK_WRITES(4) ACLCK_WRITES(5)
 enum aclck_status aclck_entries_from_form(const aclck_posix_text *value, enum aclck_posix_form form,
                                           aclck_entry_buffer out, size_t *needed, aclck_fault *fault);
+
+/* The value of the entries in the form. In a text, the first row of `names` with an id has the name that is written,
+   and an id without a row is written as a number. The texts of both ACLs are written alike: for star and bsdtar with
+   commas, the three base entries first, and the id after the permissions where a name is written; with
+   ACLCK_POSIX_GNU_STYLE with a line for each entry, in canonical order, and names without ids.
+   aclck_entries_from_form() reads the value as the same entries, for GNU tar with the same names. ACLCK_REFUSED also
+   where a text cannot hold an entry: ACLCK_SEPARATOR and ACLCK_TOO_LONG for its name, and for star ACLCK_ID where
+   libarchive does not keep its id. ACLCK_BAD_ARGUMENT also for ACLCK_POSIX_DEFAULT_OF_TEXT, and where the names make no
+   table. */
+ACLCK_CALL ACLCK_READS(2) ACLCK_WRITES(5) ACLCK_WRITES(6)
+enum aclck_status aclck_entries_to_form(aclck_entries entries, const aclck_names *names, enum aclck_posix_form form,
+                                        aclck_buffer out, size_t *needed, aclck_fault *fault);
 
 /* The bytes of the extended attribute with these entries. */
 ACLCK_CALL ACLCK_WRITES(3) ACLCK_WRITES(4)

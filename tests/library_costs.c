@@ -3,7 +3,8 @@
  *
  *     library_costs CALL INPUT GROUPS [shuffled]
  *
- * The requester has GROUPS groups, named h00000 and so on, in this order or in no order. INPUT is a file: a list, two
+ * The requester has GROUPS groups, named h00000 and so on, in this order or in no order; `entries_to_form` has as many
+ * names of users. INPUT is a file: a list, two
  * lists of equal length for `same` and `compare`, a text, or an attribute for the calls over entries. What a call is
  * given is prepared or read before it is counted. The program is linked with --wrap for malloc and realloc.
  */
@@ -13,7 +14,7 @@
 #include <stdlib.h>
 #include <string.h>
 
-enum { MOST_GROUPS = 1000, REQUESTERS = 100, ROOM = 1 << 22, STACK = 1 << 20, PAINT = 0xa5 };
+enum { MOST_GROUPS = 65536, REQUESTERS = 100, ROOM = 1 << 22, STACK = 1 << 20, PAINT = 0xa5 };
 
 static unsigned long requests, bytes;
 
@@ -39,6 +40,7 @@ static char names[MOST_GROUPS][8];
 static aclck_bytes groups[MOST_GROUPS];
 static aclck_requester who[REQUESTERS];
 static uint32_t ids[MOST_GROUPS], granted[REQUESTERS];
+static aclck_name users[MOST_GROUPS];
 static aclck_decided decided_of_all[REQUESTERS];
 static uint32_t masks[ROOM / 32];
 
@@ -47,6 +49,8 @@ static void name_groups(size_t count, int is_shuffled) {
         ids[i] = (uint32_t)(is_shuffled ? i * 389 % count : i);
         snprintf(names[i], sizeof names[i], "h%05u", ids[i]);
         groups[i] = aclck_string(names[i]);
+        users[i].name = groups[i];
+        users[i].id = ids[i];
     }
     for (size_t i = 0; i < REQUESTERS; i++) {
         who[i].user = aclck_string("x");
@@ -152,6 +156,7 @@ static uint32_t invoke_entries(const char *call, size_t len, size_t count) {
     const aclck_entry_buffer all = {entries, sizeof entries / sizeof *entries};
     const aclck_entry_buffer room = {changed, sizeof changed / sizeof *changed};
     const aclck_posix_text value = {LIST, {NULL, 0}};
+    const aclck_names named = {users, count};
     aclck_entries given = {entries, 0};
     aclck_posix_decision decision;
     aclck_posix_difference difference;
@@ -182,6 +187,8 @@ static uint32_t invoke_entries(const char *call, size_t len, size_t count) {
         return aclck_entries_create(given, &creation, room, &needed, &fault);
     if (IS("entries_bridge"))
         return aclck_entries_bridge(given, OUT);
+    if (IS("entries_to_form"))
+        return aclck_entries_to_form(given, &named, ACLCK_POSIX_TEXT, OUT);
     if (IS("entries_to_attribute"))
         return aclck_entries_to_attribute(given, OUT);
     return 99;

@@ -48,6 +48,8 @@ WRITER(create, aclck_entries_create(g->entries, &g->creation, out, needed, fault
 WRITER(bridge, aclck_entries_bridge(g->entries, BYTES, needed, fault))
 WRITER(read_attribute, aclck_entries_from_attribute(g->attribute, out, needed, fault))
 WRITER(read_form, aclck_entries_from_form(&g->value, (enum aclck_posix_form)g->number, out, needed, fault))
+WRITER(write_form, aclck_entries_to_form(g->entries, &g->value.names, (enum aclck_posix_form)g->number, BYTES, needed,
+                                         fault))
 WRITER(write_attribute, aclck_entries_to_attribute(g->entries, BYTES, needed, fault))
 
 static given with_entries(const list *l, uint32_t number) {
@@ -439,7 +441,8 @@ static void are_values_read(void) {
                        A_OTHER("\1")),
          {{U(7), USER(7, 6), USER(9, 5), G(5), M(4), O(1)}, 6}},
         {ACLCK_POSIX_TEXT, TEXT(BASE_OF_STAR), {{U(6), G(4), O(0)}, 3}},
-        {ACLCK_POSIX_TEXT, TEXT("user::rw-\ngroup::r--\nother::---\n"), {{U(6), G(4), O(0)}, 3}},
+        {ACLCK_POSIX_TEXT + ACLCK_POSIX_GNU_STYLE, TEXT("user::rw-\ngroup::r--\nother::---\n"),
+         {{U(6), G(4), O(0)}, 3}},
         {ACLCK_POSIX_TEXT, TEXT(BASE_OF_STAR ",user:ann:rw-:7,mask::rw-"), {{U(6), USER(7, 6), G(4), M(6), O(0)}, 5}},
         {ACLCK_POSIX_TEXT, TEXT(BASE_OF_STAR ",user:bob:rw-:7,mask::rw-"), {{U(6), USER(7, 6), G(4), M(6), O(0)}, 5}},
         {ACLCK_POSIX_TEXT, TEXT(BASE_OF_STAR ",user:bob:r--,group:bob:-w-,mask::rw-"),
@@ -481,7 +484,7 @@ static void are_values_refused(void) {
 
 /* Numbers that are no form, and a name that is no name. */
 static void are_bad_forms_refused(void) {
-    static const uint32_t forms[] = {0, 5, 16, 18, 4294967295u};
+    static const uint32_t forms[] = {0, 5, 16, 17, 19, 4294967295u};
     static const aclck_name none = {TEXT(""), 7, 0};
     for (size_t i = 0; i < sizeof forms / sizeof *forms; i++) {
         given g = with_value((aclck_bytes)TEXT(BASE_OF_STAR), forms[i]);
@@ -491,6 +494,79 @@ static void are_bad_forms_refused(void) {
     g.value.names.at = &none;
     g.value.names.len = 1;
     is_bad(read_form, &g, sizeof(aclck_entry));
+}
+
+/* The entries of bob, of ann and of two groups, out of order, with the names that the other rows have. */
+static const list OF_BOB = {{O(0), GROUP(50, 1), GROUP(30, 2), M(6), G(4), USER(1001, 6), USER(7, 4), U(6)}, 8};
+
+static given with_form(const list *l, uint32_t form) {
+    given g = with_value(aclck_string(""), form);
+    g.entries.at = l->at;
+    g.entries.len = l->len;
+    return g;
+}
+
+static void are_values_written(void) {
+    static const struct {
+        uint32_t form;
+        aclck_bytes value;
+    } rows[] = {
+        {ACLCK_POSIX_ATTRIBUTE,
+         ATTRIBUTE(HEAD A_USER_OBJ("\6") A_USER("\7", "\4") "\2\0\6\0\xe9\3\0\0" A_GROUP_OBJ("\4")
+                       A_GROUP("\x1e", "\2") A_GROUP("\x32", "\1") A_MASK("\6") A_OTHER("\0"))},
+        {ACLCK_POSIX_TEXT, TEXT(BASE_OF_STAR ",user:7:r--,user:bob:rw-:1001,group:bob:-w-:30,group:50:--x,mask::rw-")},
+        {ACLCK_POSIX_DEFAULT_TEXT,
+         TEXT(BASE_OF_STAR ",user:7:r--,user:bob:rw-:1001,group:bob:-w-:30,group:50:--x,mask::rw-")},
+        {ACLCK_POSIX_TEXT + ACLCK_POSIX_GNU_STYLE,
+         TEXT("user::rw-\nuser:7:r--\nuser:bob:rw-\ngroup::r--\ngroup:bob:-w-\ngroup:50:--x\nmask::rw-\nother::---\n")},
+        {ACLCK_POSIX_DEFAULT_TEXT + ACLCK_POSIX_GNU_STYLE,
+         TEXT("user::rw-\nuser:7:r--\nuser:bob:rw-\ngroup::r--\ngroup:bob:-w-\ngroup:50:--x\nmask::rw-\nother::---\n")},
+    };
+    for (size_t i = 0; i < sizeof rows / sizeof *rows; i++) {
+        given g = with_form(&OF_BOB, rows[i].form);
+        writes(write_form, &g, 1, rows[i].value.at, rows[i].value.len);
+    }
+}
+
+/* Entries that are no ACL, and entries that a text cannot hold: the place is then that in canonical order. */
+static void are_entries_kept_out_of_forms(void) {
+    static const list repeated = {{U(6), G(4), O(0), U(6)}, 4};
+    static const list high = {{U(6), G(4), O(0), M(6), USER(2147483648u, 6)}, 5};
+    static const list none = {{U(6), G(4), O(0), M(6), USER(NONE, 6)}, 5};
+    static const struct {
+        const list *l;
+        uint32_t form, reason, place;
+        aclck_name name;
+    } rows[] = {
+        {&repeated, ACLCK_POSIX_TEXT, ACLCK_MULTI, 3, {TEXT("bob"), 1001, 0}},
+        {&none, ACLCK_POSIX_TEXT, ACLCK_ID, 4, {TEXT("bob"), 1001, 0}},
+        {&high, ACLCK_POSIX_TEXT, ACLCK_ID, 1, {TEXT("bob"), 1001, 0}},
+        {&OF_BOB, ACLCK_POSIX_TEXT, ACLCK_SEPARATOR, 2, {TEXT("bo,b"), 1001, 0}},
+        {&OF_BOB, ACLCK_POSIX_TEXT + ACLCK_POSIX_GNU_STYLE, ACLCK_SEPARATOR, 5, {TEXT(" bob"), 50, 1}},
+    };
+    for (size_t i = 0; i < sizeof rows / sizeof *rows; i++) {
+        given g = with_form(rows[i].l, rows[i].form);
+        g.value.names.at = &rows[i].name;
+        g.value.names.len = 1;
+        refuses(write_form, &g, 1, fault_at(rows[i].place, rows[i].reason, 0));
+    }
+}
+
+/* Numbers of no form that is written, and names that are no table: a name of two users, and an id that is none. */
+static void are_bad_forms_not_written(void) {
+    static const uint32_t forms[] = {0, ACLCK_POSIX_DEFAULT_OF_TEXT, 5, 16, 17, 19, 32, 4294967295u};
+    static const aclck_name twice[] = {{TEXT("bob"), 7, 0}, {TEXT("bob"), 8, 0}};
+    static const aclck_name none = {TEXT("bob"), NONE, 0}, neither = {TEXT("bob"), 7, 2};
+    const aclck_names tables[] = {{twice, 2}, {&none, 1}, {&neither, 1}};
+    for (size_t i = 0; i < sizeof forms / sizeof *forms; i++) {
+        given g = with_form(&OF_BOB, forms[i]);
+        is_bad(write_form, &g, 1);
+    }
+    for (size_t i = 0; i < sizeof tables / sizeof *tables; i++) {
+        given g = with_form(&OF_BOB, ACLCK_POSIX_ATTRIBUTE);
+        g.value.names = tables[i];
+        is_bad(write_form, &g, 1);
+    }
 }
 
 /* Writes an attribute in which some bytes are others, and returns its length. */
@@ -553,7 +629,8 @@ int main(int argc, char **argv) {
         TEST(are_two_acls_judged), TEST(are_faults_reported),
         TEST(are_repeats_reported), TEST(is_order_judged), TEST(are_entries_changed), TEST(are_modes_read),
         TEST(are_bad_numbers_refused), TEST(is_limit_kept), TEST(are_attributes_read), TEST(are_attributes_refused),
-        TEST(are_values_read), TEST(are_values_refused), TEST(are_bad_forms_refused)};
+        TEST(are_values_read), TEST(are_values_refused), TEST(are_bad_forms_refused), TEST(are_values_written),
+        TEST(are_entries_kept_out_of_forms), TEST(are_bad_forms_not_written)};
     for (size_t i = 0; i < sizeof tests / sizeof *tests; i++) {
         about = tests[i].name;
         tests[i].run();

@@ -33,6 +33,7 @@ void f(aclck_bytes acl, aclck_object object, aclck_requester who, aclck_question
     use(aclck_next(acl, ACLCK_FULL, &offset, &ace, &fault));
     use(aclck_entries_check(entries, &read, &granted, &fault));
     use(aclck_entries_sorted(entries, ACLCK_ADD_MASK, room, &needed, &fault));
+    use(aclck_entries_to_form(entries, &names, ACLCK_POSIX_TEXT, out, &needed, &fault));
     use(everybody.len > 1);
     use(aclck_read_form(prepared, ACLCK_NFS_ACL41, out, &needed, &granted, &fault));
     use(aclck_write_form(acl, ACLCK_NFS_TOOLS_FILE, ACLCK_PROTECTED, out, &needed, &fault));
@@ -125,6 +126,10 @@ void f(aclck_bytes acl, aclck_object object, aclck_requester who, aclck_question
 /* misuse: a form of NFSv4 lists as one of POSIX ACLs */
     const aclck_posix_text value = {acl, {NULL, 0}};
     use(aclck_entries_from_form(&value, ACLCK_NFS_TEXT, room, &needed, &fault));
+/* misuse: one name in place of a table of names */
+    use(aclck_entries_to_form(entries, &row, ACLCK_POSIX_TEXT, out, &needed, &fault));
+/* misuse: a form of NFSv4 lists for POSIX entries */
+    use(aclck_entries_to_form(entries, &names, ACLCK_NFS_TEXT, out, &needed, &fault));
 /* misuse: room for entries in place of room for bytes */
     use(aclck_entries_to_attribute(entries, room, &needed, &fault));
 /* misuse: an attribute in place of entries */

@@ -160,7 +160,7 @@ fn changed(
     Ok(found.into_iter().map(entry).collect())
 }
 
-fn raw_entries(entries: &[Entry]) -> Vec<raw::Entry> {
+pub(crate) fn raw_entries(entries: &[Entry]) -> Vec<raw::Entry> {
     entries.iter().map(raw_entry).collect()
 }
 

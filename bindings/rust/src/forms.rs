@@ -5,6 +5,9 @@ use crate::raw::{self, Buffer, Bytes, LeftOut, Part};
 use crate::Error;
 use std::ops::BitOr;
 
+/// The greatest number of ACEs of a list.
+const MOST_ACES: usize = 65_536;
+
 /// A form in which another system keeps or prints a list.
 #[derive(Clone, Copy, Debug, PartialEq, Eq)]
 pub enum ListForm {
@@ -100,8 +103,8 @@ pub fn read_form(value: &[u8], form: ListForm) -> Result<(Vec<u8>, ListFlags), E
 /// ALARM ACEs, and ALLOW ACEs of a special name other than `OWNER@`, `GROUP@` and `EVERYONE@`. The list grants no more
 /// than the whole list. A DENY of such a name is refused.
 pub fn read_part(value: &[u8], form: ListForm) -> Result<(Vec<u8>, ListFlags, Vec<LeftOut>), Error> {
-    // No ACE that is left out has fewer than 20 bytes.
-    let mut left = vec![LeftOut::default(); value.len() / 20 + 1];
+    // No ACE that is left out has fewer than 5 bytes.
+    let mut left = vec![LeftOut::default(); (value.len() / 5 + 1).min(MOST_ACES)];
     let mut part = Part::default();
     let list = made(2 * value.len() + 64, |out, needed, fault| unsafe {
         let room = Buffer::of(&mut left);

@@ -32,8 +32,8 @@ pub use entries::{
 };
 pub use forms::{read_form, read_part, write_form, ListFlags, ListForm, TextStyle};
 pub use posix::{
-    entries_from_form, posix_bridge, posix_calc_mask, posix_check, posix_chmod, posix_create, posix_show, Name, PosixForm,
-    PosixQuestion, PosixText,
+    entries_from_form, entries_to_text, posix_bridge, posix_calc_mask, posix_check, posix_chmod, posix_create,
+    posix_show, Name, PosixForm, PosixQuestion, PosixText, Tar,
 };
 pub use prepared::{
     decide_ids, decide_prepared, decide_prepared_many, prepare, prepare_ids, IdObject, IdRequester,

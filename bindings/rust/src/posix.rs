@@ -1,9 +1,9 @@
 //! POSIX ACLs by their texts (acl(5); docs/formats.md).
 
 use crate::answers::{answered, made};
-use crate::entries::{entry, Entry};
+use crate::entries::{entry, raw_entries, Entry};
 use crate::nfs4::DIRECTORY;
-use crate::raw::{self, Bytes};
+use crate::raw::{self, Array, Bytes};
 use crate::{Error, Form, Kind};
 
 /// The number of each option in `aclck.h`.
@@ -91,6 +91,18 @@ pub enum PosixForm {
     DefaultText,
 }
 
+/// The program whose text of a POSIX ACL is written.
+#[derive(Clone, Copy, Debug, PartialEq, Eq)]
+pub enum Tar {
+    /// star and bsdtar.
+    Star,
+    /// GNU tar.
+    Gnu,
+}
+
+/// The bit of `enum aclck_posix_form` for the style of GNU tar.
+const GNU_STYLE: u32 = 16;
+
 impl PosixForm {
     /// Returns the number of the form in `enum aclck_posix_form`.
     fn number(self) -> u32 {
@@ -110,6 +122,17 @@ pub fn entries_from_form(value: PosixText, form: PosixForm) -> Result<Vec<Entry>
         raw::aclck_entries_from_form(&raw_text(value, &names), form.number(), out, needed, fault)
     })?;
     Ok(found.into_iter().map(entry).collect())
+}
+
+/// Returns the text of entries, in any order, as an archive keeps it: for `Tar::Star` with the id after each name, and
+/// for `Tar::Gnu` with names alone. The first of `names` with an id is written in its place.
+pub fn entries_to_text(entries: &[Entry], names: &[Name], tar: Tar) -> Result<Vec<u8>, Error> {
+    let (entries, rows) = (raw_entries(entries), raw_names(names));
+    let form = PosixForm::Text.number() + if tar == Tar::Gnu { GNU_STYLE } else { 0 };
+    let longest = names.iter().map(|row| row.name.len()).max().unwrap_or(0);
+    made(entries.len() * (32 + longest), |out, needed, fault| unsafe {
+        raw::aclck_entries_to_form(Array::of(&entries), &Array::of(&rows), form, out, needed, fault)
+    })
 }
 
 /// Makes a call on a text. The first buffer has room for some bytes for each byte of the text.

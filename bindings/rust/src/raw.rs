@@ -411,6 +411,10 @@ extern "C" {
     pub fn aclck_entries_from_form(
         value: *const PosixText, form: u32, out: Buffer<Entry>, needed: *mut usize, fault: *mut Fault,
     ) -> u32;
+    pub fn aclck_entries_to_form(
+        entries: Array<Entry>, names: *const Array<Name>, form: u32, out: Buffer<u8>, needed: *mut usize,
+        fault: *mut Fault,
+    ) -> u32;
     pub fn aclck_entries_to_attribute(
         entries: Array<Entry>, out: Buffer<u8>, needed: *mut usize, fault: *mut Fault,
     ) -> u32;

@@ -283,6 +283,10 @@ fn posix_entries_are_asked_and_changed() {
     let value = |text| PosixText { text, names: &[] };
     assert_eq!(entries_from_form(value(star), PosixForm::Text).map(|found| found[1]), Ok(bob));
     assert_eq!(entries_from_form(value(star), PosixForm::DefaultOfText), Ok(vec![]));
+    let names = [Name { name: b"bob", id: 5, is_group: false }];
+    assert_eq!(entries_to_text(&list, &names, Tar::Star), Ok(star.to_vec()));
+    let gnu = b"user::rw-\nuser:bob:rw-\ngroup::r--\nmask::rw-\nother::---\n";
+    assert_eq!(entries_to_text(&list, &names, Tar::Gnu), Ok(gnu.to_vec()));
     let fault = entries_from_form(value(b"user::rw-"), PosixForm::DefaultText);
     assert!(matches!(fault, Err(Error::Refused(Fault { reason: 27, offset: 9, .. }))));
     assert!(show(&entries_bridge(&list).unwrap(), Profile::Full).unwrap().starts_with(b"ALLOW - READ_DATA"));

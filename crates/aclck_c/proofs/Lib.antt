@@ -14,6 +14,8 @@ pub mod Endings
 pub mod EntriesFailures
 -- failures of values of POSIX forms
 pub mod PosixForms
+-- failures of values of entries
+pub mod PosixWriting
 -- failures of names and of texts
 pub mod FileFailures
 -- values of forms

@@ -9,7 +9,11 @@ use Rattle.acl_eval.specs.Grant.{SameGrants}
 use Rattle.acl_eval.specs.GroupSearch.{AreRisingNames}
 use Rattle.acl_eval.specs.Unknown.{Assignment, GrantsUnder}
 use Rattle.acl_forms.specs.Part.{PlacedAce, is_unknown_deny, kept}
+use Rattle.acl_forms.specs.PartTexts.{nfs_any_rules, tools_any_rules}
 use Rattle.acl_forms.specs.PartWords.{SpellsById, SpellsByName, SpellsWhole}
+use Rattle.acl_forms.specs.Texts.{SpellsByRules}
+use Rattle.acl_forms.specs.declared.object.ObjectKind.{ObjectKind}
+use Rattle.acl_forms.specs.declared.who_field.WhoField.{WhoField}
 use Rattle.acl_normal.specs.NormalForm.{Normalizes}
 use Rattle.aclck_c.specs.Options.{profile_from}
 use Rattle.aclck_c.specs.Out.{HandsOut}
@@ -44,8 +48,12 @@ RisingGroupsDecideAlike =
 abbrev pub HasNoUnknownDeny : List PlacedAce → Type 0
 HasNoUnknownDeny whole = AllByRecursion (λ p. is_unknown_deny p.ace.type_number p.ace.who ≡ false) whole
 
--- no value of nfsacl41 or nfsacl41i of which a part is read spells such a DENY
+-- no value of a form of which a part is read spells such a DENY
 pub record FormsHaveNoUnknownDeny : Type 0 where
+  pub in_tools : (object : ObjectKind) (whole : List PlacedAce) (text : List ℕ)
+      → SpellsByRules (tools_any_rules object) whole text → HasNoUnknownDeny whole
+  pub in_text : (source : WhoField) (whole : List PlacedAce) (text : List ℕ)
+      → SpellsByRules (nfs_any_rules source) whole text → HasNoUnknownDeny whole
   pub by_name : (set : ℕ) (whole : List PlacedAce) (value : List ℕ) → SpellsWhole SpellsByName set whole value
       → HasNoUnknownDeny whole
   pub by_id : (set : ℕ) (whole : List PlacedAce) (value : List ℕ) → SpellsWhole SpellsById set whole value

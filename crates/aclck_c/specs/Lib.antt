@@ -23,6 +23,7 @@ pub mod Options
 pub mod Out
 pub mod Posix
 pub mod PosixForms
+pub mod PosixWriting
 pub mod Prepared
 pub mod Refusal
 pub mod Renaming

@@ -1,6 +1,6 @@
 -- Values of forms of POSIX ACLs in calls from C (this library's own, over the definitions of the forms): which form a
 -- number means, the entries of a value, and why it is refused.
-use Rattle.std.specs.Prelude.{◌≡◌, ◌==◌, ℕ, List, None, Option, Some, if◌then◌else◌}
+use Rattle.std.specs.Prelude.{◌≡◌, ◌==◌, ◌||◌, ℕ, List, None, Option, Some, if◌then◌else◌}
 use Rattle.acl_posix.specs.Entries.{Entries}
 use Rattle.acl_posix.specs.Names.{Table}
 use Rattle.acl_posix.specs.declared.raw_entry.RawEntry.{RawEntry}
@@ -17,13 +17,13 @@ use Rattle.aclck_c.specs.declared.refusal.Refusal.{Refusal}
 
 -- ---- the numbers of `enum aclck_posix_form`
 
--- the form of a number
+-- the form of a number; 16 more is the style of GNU tar, which has no effect where a text is read
 abbrev pub posix_form_of_number : ℕ → Option PosixForm
 posix_form_of_number number =
     if number == 1 then Some Attribute
-    else (if number == 2 then Some Text
+    else (if number == 2 || number == 18 then Some Text
     else (if number == 3 then Some DefaultOfText
-    else (if number == 4 then Some DefaultText else None)))
+    else (if number == 4 || number == 20 then Some DefaultText else None)))
 
 -- the number is that of a form, and this holds of the form
 pub record HoldsOfPosixForm (number : ℕ) (Holds : PosixForm → Type 0) : Type 0 where

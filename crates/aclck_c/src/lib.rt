@@ -63,6 +63,7 @@ pub use posix::texts::{
     aclck_posix_bridge, aclck_posix_calc_mask, aclck_posix_chmod, aclck_posix_create,
     aclck_posix_show,
 };
+pub use posix::written::aclck_entries_to_form;
 pub use refusal::Refusal;
 pub use version::aclck_version;
 pub use words::{aclck_read_mask, aclck_reason_text};

@@ -11,3 +11,4 @@ pub(crate) mod forms;
 pub(crate) mod names;
 pub(crate) mod text_fault;
 pub(crate) mod texts;
+pub(crate) mod written;

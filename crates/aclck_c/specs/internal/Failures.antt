@@ -1,5 +1,5 @@
 -- Why calls fail (this library's own; only the code needs it).
-use Rattle.std.specs.Prelude.{◌≡◌, ⊤, ℕ, Bool, true, List, None, Option, Some, Result, Ok, Err}
+use Rattle.std.specs.Prelude.{◌≡◌, ⊤, ℕ, Bool, true, IsSome, List, None, Option, Some, Result, Ok, Err}
 use Rattle.acl_perm.specs.Profile.{Profile}
 use Rattle.acl_nfs4.specs.declared.xdr.fault.Fault.{Fault}
 use Rattle.acl_nfs4.specs.declared.xdr.fault.Reason.{Reason}
@@ -13,6 +13,7 @@ use Rattle.acl_eval.specs.declared.mode_change.ChmodFault.TheVariants as chmod
 use Rattle.acl_eval.specs.declared.resolving.ResolveFault.{ResolveFault}
 use Rattle.acl_eval.specs.declared.resolving.ResolveFault.TheVariants as resolve
 use Rattle.acl_posix.specs.Names.{Table}
+use Rattle.acl_forms.specs.PosixNames.{NamesOfIds}
 use Rattle.acl_posix.specs.declared.names.NameFault.{NameFault}
 use Rattle.acl_posix.specs.declared.names.NameFault.TheVariants as names
 use Rattle.acl_posix.specs.declared.text_fault.TextFault.{TextFault}
@@ -145,6 +146,13 @@ ReadsTable expected (Ok table) = expected ≡ Some table
 ReadsTable expected (Err failure.BadArgument) = expected ≡ None
 ReadsTable expected (Err (failure.Refused shown)) = ⊥
 ReadsTable expected (Err failure.Memory) = ⊤
+
+-- the names of ids that a call reads from names that make the expected table: these names, or bad names if there is none
+abbrev pub ReadsIdNames : Option Table → NamesOfIds → Result NamesOfIds Failure → Type 0
+ReadsIdNames expected names (Ok ids) = IsSome expected × (ids ≡ names)
+ReadsIdNames expected names (Err failure.BadArgument) = expected ≡ None
+ReadsIdNames expected names (Err (failure.Refused shown)) = ⊥
+ReadsIdNames expected names (Err failure.Memory) = ⊤
 
 -- the table after a call that adds a name to it: the expected table, or a bad name if there is none
 abbrev pub AddsFileName : Option Table → Table → Result (Unit {0}) Failure → Type 0

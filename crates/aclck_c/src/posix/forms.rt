@@ -30,7 +30,7 @@ pub enum PosixForm {
 }
 
 /// Writes the entries of the ACL that a value of a form spells, in canonical order, and none if the text has no default
-/// ACL. `form` is a number of `enum aclck_posix_form`, and the value is the text of `value`, whose names may stand in a
+/// ACL. `form` is a number of `enum aclck_posix_form`, in which the style of GNU tar has no effect, and the value is the text of `value`, whose names may stand in a
 /// text. Returns 0 if the entries are at the front of `out`; 2 if the value is refused, with the reason and the place of
 /// a byte in `fault`; 3 if no form has the number or the names make no table; 4 if memory ran out; 5 if `out` is too
 /// short. At 0 and 5 `needed` is the number of entries.
@@ -59,9 +59,9 @@ fn posix_form_of_number(number: u32) -> Option<PosixForm>
 {
     match number {
         1 => Some(PosixForm::Attribute),
-        2 => Some(PosixForm::Text),
+        2 | 18 => Some(PosixForm::Text),
         3 => Some(PosixForm::DefaultOfText),
-        4 => Some(PosixForm::DefaultText),
+        4 | 20 => Some(PosixForm::DefaultText),
         _ => None,
     }
 }

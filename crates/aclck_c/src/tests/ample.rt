@@ -1,5 +1,6 @@
 //! Calls that take memory, with enough of it: they do what they promise, and do not report that memory ran out. What a
 //! text grants is by acl(5), "ACCESS CHECK ALGORITHM", and the numbers of statuses and reasons are those of `aclck.h`.
+mod archives;
 mod building;
 mod exceeding;
 mod forms;
