@@ -1,6 +1,7 @@
 # Completion of aclck-form for fish.
 
 complete -c aclck-form -f -a 'xdr text nfs4-tools nfs-text nfs-text-ids nfs41 nfs41-ids posix posix-access posix-default'
+complete -c aclck-form -f -a 'posix-archive posix-archive-default posix-gnu-tar posix-gnu-tar-default'
 complete -c aclck-form -l file -d 'It is the list of a file'
 complete -c aclck-form -l directory -d 'It is the list of a directory'
 complete -c aclck-form -l bridge -d 'From a POSIX form to an NFSv4 form'

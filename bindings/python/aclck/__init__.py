@@ -42,6 +42,7 @@ from .rights import (
     mask_text,
     read_mask,
 )
+from .tar_texts import TarStyle
 from .unknown import Possible, Request
 
 __all__ = [
@@ -82,6 +83,7 @@ __all__ = [
     "Requesters",
     "SYNCHRONIZE",
     "TableRow",
+    "TarStyle",
     "TextStyle",
     "VERSION",
     "WRITE_ACL",

@@ -231,8 +231,7 @@ _fault, _words = ctypes.POINTER(Fault), ctypes.POINTER(Word)
 _asked = [Bytes, ctypes.POINTER(Object), ctypes.POINTER(Requester), ctypes.POINTER(Question)]
 _asked_by_ids = [ctypes.POINTER(IdObject), ctypes.POINTER(IdRequester), ctypes.POINTER(Question)]
 _posix, _out = ctypes.POINTER(PosixText), [Buffer, ctypes.POINTER(_size)]
-_entries = [EntryBuffer, ctypes.POINTER(_size), _fault]
-_posix_asked = [Entries, ctypes.POINTER(PosixQuestion)]
+_entries, _posix_asked = [EntryBuffer, ctypes.POINTER(_size), _fault], [Entries, ctypes.POINTER(PosixQuestion)]
 _CALLS: "List[Tuple[str, List[Any]]]" = [
     ("decide", [*_asked, ctypes.POINTER(Decided), _fault]),
     ("check granted", [*_asked, _words, _fault]),
@@ -274,6 +273,7 @@ _CALLS: "List[Tuple[str, List[Any]]]" = [
     ("entries_bridge entries_to_attribute", [Entries, *_out, _fault]),
     ("entries_from_attribute", [Bytes, *_entries]),
     ("entries_from_form", [_posix, Word, *_entries]),
+    ("entries_to_form", [Entries, ctypes.POINTER(Names), Word, *_out, _fault]),
     ("version", []),
 ]
 """The names of calls, and the types of their arguments."""

@@ -4,10 +4,14 @@ from __future__ import annotations
 
 import ctypes
 import enum
+import operator
 from typing import List, NamedTuple, Tuple
 
 from . import _library as c
 from .faults import Refused
+
+_MOST_ACES = 65536
+"""The greatest number of ACEs of a list."""
 
 
 class ListForm(enum.Enum):
@@ -63,7 +67,7 @@ class LeftOut(NamedTuple):
     """The number of the ACE among all ACEs of the value, from 0."""
 
     offset: int
-    """The place of the ACE's first byte, from 0."""
+    """The place of the ACE's first byte, or of the first byte of its entry in a text, from 0."""
 
     reason: str
     """`AuditOrAlarm`, or `SpecialWho` for a special name other than `OWNER@`, `GROUP@` and `EVERYONE@`."""
@@ -82,7 +86,7 @@ def read(value: bytes, form: ListForm) -> Tuple[bytes, ListFlag]:
 def read_part(value: bytes, form: ListForm) -> Tuple[bytes, ListFlag, List[LeftOut]]:
     """Returns the bytes of the list without the ACEs that access does not read, the flags of the list, and the ACEs
     that are left out. Raises Refused with the offset."""
-    most = len(value) // 20 + 1  # no ACE that is left out has fewer than 20 bytes
+    most = min(len(value) // 5 + 1, _MOST_ACES)  # no ACE that is left out has fewer than 5 bytes
     part, left, room, status = c.Part(), (c.LeftOut * most)(), 4 * len(value) + 64, c.SHORT
     while status == c.SHORT:
         out, fault = ctypes.create_string_buffer(room), c.Fault()
@@ -95,9 +99,12 @@ def read_part(value: bytes, form: ListForm) -> Tuple[bytes, ListFlag, List[LeftO
 
 
 def written(acl: c.Bytes, form: ListForm, flags: int, style: int) -> bytes:
-    """Returns the value of flags and of a list. Raises Refused with the place of an ACE if the form cannot hold it."""
+    """Returns the value of flags and of a list. Raises Refused with the place of an ACE if the form cannot hold it, and
+    ValueError for a style that is none, which would be the number of another form."""
+    if operator.index(style) & ~int(TextStyle.COMMAS | TextStyle.FULL):
+        raise ValueError(f"no style: {style}")
     try:
-        return c.bytes_of("write_form", (acl, _number(form) | TextStyle(style), c.word(flags)), 2 * acl.len + 64)
+        return c.bytes_of("write_form", (acl, _number(form) | style, c.word(flags)), 2 * acl.len + 64)
     except Refused as refused:
         raise Refused(refused.reason, ace=refused.offset) from None
 

@@ -105,7 +105,7 @@ class NfsAcl:
     def from_form_part(cls, value: Name, form: ListForm) -> Tuple[NfsAcl, ListFlag, List[LeftOut]]:
         """Reads a value as `from_form` does, but leaves out the ACEs that access does not read, and returns them too:
         AUDIT and ALARM ACEs, and ALLOW ACEs of a special name other than `OWNER@`, `GROUP@` and `EVERYONE@`. The list
-        grants no more than the whole list. Nothing is left out of a text.
+        grants no more than the whole list.
 
         Raises Refused, with the offset in the value, also for a DENY of such a name, and TypeError as `from_form` does.
         """

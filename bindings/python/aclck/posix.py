@@ -11,8 +11,9 @@ from typing import Iterable, Iterator, List, Mapping, Match, NamedTuple, Optiona
 
 from . import _library as c
 from ._library import File, Name
-from .faults import Refused, in_text, of_part
+from .faults import Refused, of_part
 from .nfs import NfsAcl
+from .tar_texts import DEFAULT_OF_TEXT, DEFAULT_TEXT, TEXT, TarStyle, entries_in, text_of
 
 _TAGS = ("", "user", "user", "group", "group", "mask", "other")
 """The word of each tag of C. A user and a group have a tag without an id and another one with an id."""
@@ -23,7 +24,6 @@ _ID = re.compile(r"\b(u|user|g|group):(\d+):")
 _NAME = re.compile(r"(?!\d+$)[^\s:,#\\]+")
 _ACCESS, _DEFAULT = "system.posix_acl_access", "system.posix_acl_default"
 _CANONICAL = 0
-_TEXT, _DEFAULT_OF_TEXT, _DEFAULT_TEXT = 2, 3, 4  # forms of texts in archives (enum aclck_posix_form)
 _FORMS = {"canonical": _CANONICAL, "shown": c.SHOWN, "short": c.FORM_SHORT}
 
 T = TypeVar("T", c.Word, c.PosixDecision, c.PosixDifference)
@@ -130,12 +130,12 @@ class PosixAcl:
         table = _table(names)
         first, second = (None if text is None else c.PosixText(c.in_c(c.encoded(text)), table)
                          for text in (access, default))
-        parts = [_mode_entries(c.word(mode)) if first is None else _in_text(first, _TEXT),
-                 _held([]) if first is None else _in_text(first, _DEFAULT_OF_TEXT)]
+        parts = [_mode_entries(c.word(mode)) if first is None else _held(entries_in(first, TEXT)),
+                 _held([] if first is None else entries_in(first, DEFAULT_OF_TEXT))]
         if second is not None:
             if parts[1].len:
                 raise ValueError("both texts have a default ACL")
-            parts[1] = _in_text(second, _DEFAULT_TEXT)
+            parts[1] = _held(entries_in(second, DEFAULT_TEXT))
         return cls._of(*parts)
 
     @classmethod
@@ -166,6 +166,20 @@ class PosixAcl:
         access, default = (c.bytes_of("entries_to_attribute", (part,), 4 + 8 * part.len) if part.len else None
                            for part in (self._access, self._default))
         return access or b"", default
+
+    def to_archive(self, style: TarStyle = TarStyle.STAR,
+                   names: Iterable[Tuple[str, int, bool]] = ()) -> Tuple[str, Optional[str]]:
+        """Returns the texts of `SCHILY.acl.access` and of `SCHILY.acl.default`, which is None if the list has no default
+        entries. An id is written as its first name in `names` (name, id, whether it is a group), or as a number.
+        `from_archive` reads the texts back, those of GNU tar with the same names.
+
+        Raises Refused with the part and the place of the entry in it, from 0: for Separator and TooLong if its name
+        would not be read back, and in the style of star for Id if its id is above 2147483647, which bsdtar loses.
+        Raises ValueError for names as the constructor does.
+        """
+        table, default = _table(names), self._default
+        access = c.decoded(text_of(self._access, table, style, False))
+        return access, c.decoded(text_of(default, table, style, True)) if default.len else None
 
     def to_file(self, file: File) -> None:
         """Gives a file both lists, and removes the default list of a directory if there are no default entries. If the
@@ -315,14 +329,6 @@ def _made(call: str, part: Union[c.Entries, c.Bytes], *args: object, default: bo
         return _held(c.entries_of(call, (part, *args), part.len + 3))
     except Refused as refused:
         raise of_part(refused, default) from None
-
-
-def _in_text(text: c.PosixText, form: int) -> c.Entries:
-    """Returns the entries of an ACL in a text of an archive. Raises Refused with the place of a byte."""
-    try:
-        return _held(c.entries_of("entries_from_form", (text, form), text.text.len // 5 + 3))
-    except Refused as refused:
-        raise in_text(refused, text.text.len, form == _DEFAULT_TEXT) from None
 
 
 def _question(user: int, groups: Iterable[int], owner: int, group: int, want: int) -> c.PosixQuestion:

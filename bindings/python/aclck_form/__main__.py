@@ -14,15 +14,18 @@ from aclck_tree import VERSION
 from aclck_tree.errors import DEVICE, REFUSED, YES, DeviceError, TreeError, UsageError
 from aclck_tree.text import quoted_line
 
-from .accounts import System, Table, exchanged
-from .values import (NFS, POSIX, TOOLS, WITH_FLAGS, WITH_IDS, read_nfs, read_part, read_posix, written_nfs,
-                     written_posix)
+from .accounts import System, Table, exchanged, ids_of_names, names_of_ids
+from .values import (NFS, OF_DEFAULT, POSIX, TOOLS, WITH_FLAGS, WITH_IDS, WITH_NAMES, WITH_PARTS, read_nfs, read_part,
+                     read_posix, written_nfs, written_posix)
 
 if TYPE_CHECKING:
     from _typeshed import SupportsWrite
 
 LONGEST = 1 << 27
 """How many bytes are read at most. Each value that the program writes is shorter: a list has at most 65,536 ACEs."""
+
+SHORTER = 1 << 24
+"""How many bytes a POSIX list, and a file of names, may have: each of them takes up to 50 times as much memory."""
 
 _EPILOG = """forms of NFSv4 lists:
   xdr            the attribute system.nfs4_acl
@@ -36,6 +39,10 @@ forms of POSIX lists:
   posix          the text of getfacl -n
   posix-access   the attribute system.posix_acl_access
   posix-default  the attribute system.posix_acl_default
+  posix-archive          SCHILY.acl.access in archives, as star and bsdtar write it
+  posix-archive-default  SCHILY.acl.default, as they write it
+  posix-gnu-tar          SCHILY.acl.access in archives, as GNU tar writes it
+  posix-gnu-tar-default  SCHILY.acl.default, as GNU tar writes it
 
 example: nfs4_getfacl plan.odt | aclck-form --file nfs4-tools xdr > plan.xdr
 
@@ -78,7 +85,8 @@ def parser_of() -> argparse.ArgumentParser:
                            help=f"with nfs4-tools: it is the list of a {kind}")
     parser.add_argument("--bridge", action="store_true", help="make an NFSv4 list that grants r, w and x each as the "
                         "POSIX list does")
-    parser.add_argument("--mode", metavar="OCT", type=_mode, help="with FROM posix-default: the mode of the directory")
+    parser.add_argument("--mode", metavar="OCT", type=_mode, help="with FROM posix-default, or "
+                        "another one of default entries: the mode of the directory")
     names = parser.add_mutually_exclusive_group()
     names.add_argument("--names", metavar="FILE", help="exchange names and ids: lines u:NAME=ID and g:NAME=ID")
     names.add_argument("--system", action="store_true", help="exchange names and ids, as this system has them")
@@ -87,8 +95,8 @@ def parser_of() -> argparse.ArgumentParser:
                         "names with | between")
     parser.add_argument("--drop", choices=("flags", "access", "default"), help="leave out the flags of the list, the "
                         "access entries or the default entries, which TO cannot hold")
-    parser.add_argument("--leave-out", action="store_true", help="with FROM nfs41 or nfs41-ids: leave out the ACEs "
-                        "that access does not read, and report them")
+    parser.add_argument("--leave-out", action="store_true", help="leave out the ACEs that access does not read, of a "
+                        "value of nfs4-tools, nfs-text, nfs-text-ids, nfs41 or nfs41-ids, and report them")
     return parser
 
 
@@ -96,41 +104,52 @@ def _judge(args: argparse.Namespace) -> None:
     """Raises UsageError if options do not go with the forms."""
     args.crosses, args.to_ids = args.source in POSIX and args.target in NFS, args.target in WITH_IDS
     args.exchanges = args.names is not None or args.system
+    args.named = args.source in WITH_NAMES or args.target in WITH_NAMES
     for is_wrong, line in (
             (args.source in NFS and args.target in POSIX, "no POSIX form holds an NFSv4 list"),
             (args.crosses != args.bridge, "--bridge goes from a POSIX form to an NFSv4 form, and nothing else does"),
             ((TOOLS in (args.source, args.target)) != bool(args.kind), "--file or --directory goes with nfs4-tools"),
-            ((args.source == "posix-default") != (args.mode is not None), "--mode goes with FROM posix-default"),
+            ((args.source in OF_DEFAULT) != (args.mode is not None), "--mode goes with FROM posix-default, and with "
+             "FROM of the default entries of an archive"),
             (args.flags is not None and args.target not in WITH_FLAGS, "--flags goes with TO nfs41 or nfs41-ids"),
-            (args.leave_out and args.source not in WITH_FLAGS, "--leave-out goes with FROM nfs41 or nfs41-ids"),
-            (args.exchanges and args.to_ids == (args.crosses or args.source in WITH_IDS),
+            (args.leave_out and args.source not in WITH_PARTS, "--leave-out goes with a FROM of another system"),
+            (args.exchanges and not args.named and args.to_ids == (args.crosses or args.source in WITH_IDS),
              "--names and --system go from a form with names to one with ids, or back"),
-            (args.domain is not None and not (args.domain and args.exchanges),
+            (args.domain is not None and not (args.domain and _renames(args)),
              "--domain is not empty, and goes with --names or --system")):
         if is_wrong:
             raise UsageError(line)
 
 
+def _renames(args: argparse.Namespace) -> bool:
+    """Whether the names and the ids of an NFSv4 list are exchanged. A bridge makes a list with ids."""
+    return args.exchanges and args.target in NFS and not (args.crosses and args.to_ids)
+
+
 def _converted(args: argparse.Namespace, data: bytes) -> bytes:
     """Returns the value in the form TO. Raises Refused and TreeError."""
+    accounts = None if not args.exchanges else System() if args.system else Table(_names(args.names))
     if args.source in POSIX:
-        posix = read_posix(args.source, data, args.mode)
-        if args.target not in ("posix", "posix-default") and any(entry.default for entry in posix):
+        data = _short(data)
+        names = ids_of_names(data, accounts) if accounts and args.source in WITH_NAMES else ()
+        posix = read_posix(args.source, data, args.mode, names)
+        if args.target not in ("posix", *OF_DEFAULT) and any(entry.default for entry in posix):
             _drop(args, "default", "the default entries")
-        if args.target == "posix-default":
+        if args.target in OF_DEFAULT:
             _drop(args, "access", "the access entries")
         if args.target in POSIX:
-            return written_posix(args.target, posix)
+            entries = [entry for entry in posix if entry.default == (args.target in OF_DEFAULT)]
+            return written_posix(args.target, posix, names_of_ids(entries, accounts) if accounts else ())
         acl, flags = posix.bridge(), ListFlag(0)
     elif args.leave_out:
-        acl, flags, left_out = read_part(args.source, data)
+        acl, flags, left_out = read_part(args.source, data, args.kind)
         for ace in left_out:
             _tell(f"left out: {ace}")
     else:
         acl, flags = read_nfs(args.source, data, args.kind)
-    if args.exchanges:
+    if accounts and _renames(args):
         suffix = b"" if args.domain is None else b"@" + os.fsencode(args.domain)
-        acl = exchanged(acl, System() if args.system else Table(_names(args.names)), args.to_ids, suffix)
+        acl = exchanged(acl, accounts, args.to_ids, suffix)
     return written_nfs(args.target, acl, _placed(args, flags), args.kind)
 
 
@@ -163,7 +182,14 @@ def _read(handle: int) -> bytes:
 
 def _names(path: str) -> bytes:
     with open(path, "rb", buffering=0) as file:
-        return _read(file.fileno())
+        return _short(_read(file.fileno()))
+
+
+def _short(data: bytes) -> bytes:
+    """Returns a POSIX list, or a file of names. Raises TreeError if it is longer than any that is used."""
+    if len(data) > SHORTER:
+        raise TreeError(f"more than {SHORTER} bytes")
+    return data
 
 
 def _write(data: bytes) -> None:
@@ -195,7 +221,7 @@ def main(words: Optional[List[str]] = None) -> int:
     except TreeError as error:
         line, status = str(error), error.status
     except OSError as error:
-        line, status = f"{error.filename}: {error.strerror}" if error.filename else "read failed", DEVICE
+        line, status = f"{error.filename}: {error.strerror}" if error.filename is not None else "read failed", DEVICE
     except MemoryError:
         line, status = "out of memory", DEVICE
     except Exception as error:  # a fault of this program; Python would exit with 1, which means `denied`

@@ -7,10 +7,13 @@ import grp
 import os
 import pwd
 import re
-from typing import Dict, Optional, Tuple, Union
+from typing import Dict, Iterable, Iterator, Optional, Tuple, Union
 
-from aclck import ALLOW, Ace, AceFlag, NfsAcl, Refused
+from aclck import ALLOW, Ace, AceFlag, Entry, NfsAcl, Refused
 from aclck_tree.errors import TreeError
+from aclck_tree.headers import accounts_in
+
+from .values import NamedId
 
 _ID = re.compile(rb"[0-9]+")
 _NO_ACCOUNT = re.compile(rb"[0-9]+|.*@", re.DOTALL)  # an id, or a special name
@@ -25,7 +28,7 @@ class System:
 
     def number_of(self, is_group: bool, name: bytes) -> Optional[int]:
         """Returns the id of a name, or None."""
-        with contextlib.suppress(KeyError):
+        with contextlib.suppress(KeyError, ValueError):  # a name with a zero byte is no name
             spelled = os.fsdecode(name)
             return grp.getgrnam(spelled).gr_gid if is_group else pwd.getpwnam(spelled).pw_uid
         return None
@@ -81,6 +84,27 @@ def exchanged(acl: NfsAcl, accounts: System, to_ids: bool, suffix: bytes) -> Nfs
             raise TreeError(f"the id {number} has two names at ACE {place}")
         table[who] = b"%d" % number if to_ids else _judged(name + suffix, place)
     return acl.renamed(*tables)
+
+
+def ids_of_names(text: bytes, accounts: System) -> Iterator[NamedId]:
+    """Yields the names that a text of a POSIX list has and the accounts know. Raises TreeError if a name and an id are
+    not each other's only one."""
+    for name, number, is_group in accounts_in(text, accounts):
+        if accounts.name_of(is_group, number) != os.fsencode(name):
+            raise TreeError(f"the id {number} has two names")
+        yield name, number, is_group
+
+
+def names_of_ids(entries: Iterable[Entry], accounts: System) -> Iterator[NamedId]:
+    """Yields the names that the accounts have for the ids of entries, but for those of digits alone. Raises TreeError if
+    a name and an id are not each other's only one."""
+    for is_group, number in sorted({(entry.tag == "group", entry.id) for entry in entries if entry.id is not None}):
+        name = accounts.name_of(is_group, number)
+        if name is None or _ID.fullmatch(name):
+            continue
+        if accounts.number_of(is_group, name) != number:
+            raise TreeError(f"the id {number} has two names")
+        yield os.fsdecode(name), number, is_group
 
 
 def _judged(name: bytes, place: int) -> bytes:

@@ -2,18 +2,30 @@
 
 from __future__ import annotations
 
-from typing import List, Optional, Tuple
+from typing import Iterable, List, Optional, Tuple
 
-from aclck import LeftOut, ListFlag, ListForm, NfsAcl, PosixAcl
+from aclck import LeftOut, ListFlag, ListForm, NfsAcl, PosixAcl, TarStyle
 from aclck_tree.errors import TreeError
 
 NFS = ("xdr", "text", "nfs4-tools", "nfs-text", "nfs-text-ids", "nfs41", "nfs41-ids")
-POSIX = ("posix", "posix-access", "posix-default")
+_STAR, _STAR_DEFAULT = "posix-archive", "posix-archive-default"
+_GNU, _GNU_DEFAULT = "posix-gnu-tar", "posix-gnu-tar-default"
+POSIX = ("posix", "posix-access", "posix-default", _STAR, _STAR_DEFAULT, _GNU, _GNU_DEFAULT)
+OF_DEFAULT = ("posix-default", _STAR_DEFAULT, _GNU_DEFAULT)
+"""The forms that have the default entries, and no others."""
+WITH_NAMES = (_STAR, _STAR_DEFAULT, _GNU, _GNU_DEFAULT)
+"""The forms of POSIX lists in which users and groups may have names."""
 TOOLS = "nfs4-tools"
 WITH_FLAGS = ("nfs41", "nfs41-ids")
 """The forms that have flags of the whole list."""
 WITH_IDS = ("nfs-text-ids", "nfs41-ids")
 """The forms in which users and groups are ids."""
+
+WITH_PARTS = (TOOLS, "nfs-text", "nfs-text-ids", *WITH_FLAGS)
+"""The forms of other systems, whose values can have ACEs that access does not read."""
+
+NamedId = Tuple[str, int, bool]
+"""A name, its id, and whether it is that of a group."""
 
 _OF_LIBRARY = {"nfs-text": ListForm.NFS_TEXT, "nfs-text-ids": ListForm.NFS_TEXT_IDS, "nfs41": ListForm.NFS_ACL41,
                "nfs41-ids": ListForm.NFS_ACL41_IDS}
@@ -34,10 +46,10 @@ def read_nfs(form: str, data: bytes, kind: Optional[str]) -> Tuple[NfsAcl, ListF
     return NfsAcl.from_form(data, _form_of_library(form, kind))
 
 
-def read_part(form: str, data: bytes) -> Tuple[NfsAcl, ListFlag, List[LeftOut]]:
+def read_part(form: str, data: bytes, kind: Optional[str]) -> Tuple[NfsAcl, ListFlag, List[LeftOut]]:
     """Returns the list without the ACEs that access does not read, the flags of the list, and the ACEs that are left
-    out, of a value with flags. Raises Refused with the place in the value."""
-    return NfsAcl.from_form_part(data, _form_of_library(form, None))
+    out, of a value in one of `WITH_PARTS`. Raises Refused with the place in the value."""
+    return NfsAcl.from_form_part(data, _form_of_library(form, kind))
 
 
 def written_nfs(form: str, acl: NfsAcl, flags: ListFlag, kind: Optional[str]) -> bytes:
@@ -50,18 +62,28 @@ def written_nfs(form: str, acl: NfsAcl, flags: ListFlag, kind: Optional[str]) ->
     return acl.to_form(_form_of_library(form, kind), flags)
 
 
-def read_posix(form: str, data: bytes, mode: Optional[int]) -> PosixAcl:
-    """Returns the list that a value spells. The access entries of a default attribute are those of the mode. Raises
-    Refused."""
+def read_posix(form: str, data: bytes, mode: Optional[int], names: Iterable[NamedId] = ()) -> PosixAcl:
+    """Returns the list that a value spells; the text of an archive may have the names. The access entries of a value
+    with default entries alone are those of the mode. Raises Refused."""
     if form == "posix":
         return PosixAcl(data)
+    if form in WITH_NAMES:
+        access, default = (None, data) if form in OF_DEFAULT else (data, None)
+        return PosixAcl.from_archive(access, default, names, mode or 0)
     return PosixAcl.from_attributes(data) if form == "posix-access" else PosixAcl.from_attributes(None, data, mode or 0)
 
 
-def written_posix(form: str, acl: PosixAcl) -> bytes:
-    """Returns the value of the entries for which the form has a place. Raises TreeError if there are none."""
-    access, default = acl.to_attributes()
-    value = {"posix": str(acl).encode(), "posix-access": access, "posix-default": default}[form]
+def written_posix(form: str, acl: PosixAcl, names: Iterable[NamedId] = ()) -> bytes:
+    """Returns the value of the entries for which the form has a place, with the names in the text of an archive. Raises
+    Refused if the text cannot hold an entry, and TreeError if there are none."""
+    if form == "posix":
+        return str(acl).encode()
+    if form in WITH_NAMES:
+        texts = acl.to_archive(TarStyle.GNU if form in (_GNU, _GNU_DEFAULT) else TarStyle.STAR, names)
+        parts = [text if text is None else text.encode("utf-8", "surrogateescape") for text in texts]
+    else:
+        parts = [*acl.to_attributes()]
+    value = parts[form in OF_DEFAULT]
     if value is None:
         raise TreeError("there are no default entries")
     return value
