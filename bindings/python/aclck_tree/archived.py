@@ -11,8 +11,9 @@ import sqlite3
 from typing import Any, Dict, Iterator, List, NamedTuple, Optional, Sequence, Set, Tuple
 
 from . import VERSION, accounts, headers
-from .archives import SHOWN, Damaged, Member, members, opened_archive
-from .errors import TreeError
+from .archives import SHOWN, Member, members
+from .compressed import opened_archive
+from .errors import Damaged, TreeError
 from .listed import LONGEST_PATH, names_in
 from .people import HIGHEST_ID
 from .progress import Progress
@@ -25,18 +26,20 @@ AT_ONCE = 1000
 """How many objects are written at once."""
 
 _CACHE = 1 << 16  # kilobytes
+_KEPT = 64  # lists, of which each can have as many bytes as the headers of a member
 _FAULT = "!"
 """The kind of a member that cannot be read."""
 
-_ROW = "key, kind, mode, uid, gid, user, grp, headers, fault, was_other"
-_PUT = (f"INSERT INTO members ({_ROW}) VALUES (?, ?, ?, ?, ?, ?, ?, ?, ?, ?) ON CONFLICT (key) DO UPDATE SET "
+_ROW = "key, kind, mode, uid, gid, user, grp, headers, fault, was_other, was_directory"
+_PUT = (f"INSERT INTO members ({_ROW}) VALUES (?, ?, ?, ?, ?, ?, ?, ?, ?, ?, ?) ON CONFLICT (key) DO UPDATE SET "
         "kind = excluded.kind, mode = excluded.mode, uid = excluded.uid, gid = excluded.gid, user = excluded.user, "
         "grp = excluded.grp, headers = excluded.headers, fault = excluded.fault, "
-        "was_other = was_other OR excluded.was_other")
+        "was_other = was_other OR excluded.was_other, was_directory = was_directory OR excluded.was_directory")
 
 
 class _Row(NamedTuple):
-    """What is known of a path. `was_other` says that a member of this path was no directory."""
+    """What is known of a path. `was_other` says that a member of this path was no directory, and `was_directory` that
+    one was."""
 
     key: bytes
     kind: str
@@ -48,6 +51,7 @@ class _Row(NamedTuple):
     headers: int = 0
     fault: str = ""
     was_other: bool = True
+    was_directory: bool = False
 
 
 class Names(accounts.System):
@@ -106,7 +110,8 @@ class _Gathered:
         self._db = sqlite3.connect("", isolation_level=None)
         for line in ("PRAGMA journal_mode = OFF", "PRAGMA synchronous = OFF", f"PRAGMA cache_size = -{_CACHE}", "BEGIN",
                      "CREATE TABLE members (key BLOB PRIMARY KEY, kind TEXT, mode INTEGER, uid INTEGER, gid INTEGER, "
-                     "user BLOB, grp BLOB, headers INTEGER, fault TEXT, was_other INTEGER) WITHOUT ROWID",
+                     "user BLOB, grp BLOB, headers INTEGER, fault TEXT, was_other INTEGER, was_directory INTEGER) "
+                     "WITHOUT ROWID",
                      "CREATE TABLE headers (number INTEGER, name TEXT, value BLOB)",
                      "CREATE INDEX headers_by_number ON headers (number)",
                      "CREATE TABLE faults (fault TEXT PRIMARY KEY) WITHOUT ROWID"):
@@ -138,8 +143,12 @@ class _Gathered:
             fault = "the name of its owner or of its group has a zero byte"
         if fault:
             return _Row(key, _FAULT, fault=fault)
+        earlier = self.row(key) if member.kind == "d" else None
+        if earlier and not earlier.was_other and self.headers(earlier.headers).keys() - member.headers.keys():
+            fault = "an earlier member of its path has a list where this one has none, and programs may restore it"
+            return earlier._replace(kind=_FAULT, fault=fault)
         return _Row(key, member.kind, member.mode, member.uid, member.gid, member.user, member.group,
-                    self._number(member.headers), "", member.kind != "d")
+                    self._number(member.headers), "", member.kind != "d", member.kind == "d")
 
     def _linked(self, key: bytes, target: bytes) -> _Row:
         """Returns what a hard link is: what its target was when the link was made."""
@@ -148,7 +157,7 @@ class _Gathered:
         except ValueError:
             found = None
         if found and found.kind not in ("d", _FAULT):
-            return found._replace(key=key, was_other=True)
+            return found._replace(key=key, was_other=True, was_directory=False)
         return _Row(key, _FAULT, fault=f"it is a hard link to {quoted_path(target[:SHOWN])}, and no file is there")
 
     def row(self, key: bytes) -> Optional[_Row]:
@@ -217,7 +226,7 @@ class ArchiveScan:
         self._names = Names()
         self._gathered = _Gathered()
         self._stack.callback(self._gathered.close)
-        self._stored = functools.lru_cache(4096)(self._list)
+        self._stored = functools.lru_cache(_KEPT)(self._list)
         self._links = 0
         self.errors = 0
         below = root.strip(b"/")
@@ -252,6 +261,7 @@ class ArchiveScan:
 
     def _gather(self) -> None:
         count = 0
+        began = os.fstat(self._file.fileno())
         try:
             for count, member in enumerate(members(self._file), 1):
                 self._gathered.add(member)
@@ -260,6 +270,9 @@ class ArchiveScan:
             if not count:
                 raise TreeError(f"{quoted_path(self._place)}: not a tar archive: {error}") from None
             self._fail(b"", f"the archive is damaged behind its first {count:,} members: {error}")
+        ended = os.fstat(self._file.fileno())
+        if (began.st_size, began.st_mtime_ns) != (ended.st_size, ended.st_mtime_ns):
+            self._fail(b"", "the archive changed while it was read")
         if self._root and not any(True for _ in self._gathered.rows(self._root)):
             raise TreeError(f"{quoted_path(self._place)}: the archive has no {quoted_path(self._typed)}")
 
@@ -302,10 +315,12 @@ class ArchiveScan:
 
     def _found(self, path: bytes, row: _Row) -> Optional[Found]:
         """Returns the object of a path, or None if it is a link or cannot be read."""
-        if row.kind == "l":
+        fault = row.fault
+        if row.was_other and row.was_directory:
+            fault = "members of its path are a directory and something else, and programs may restore both"
+        elif row.kind == "l":
             self._links += 1
             return None
-        fault = row.fault
         for is_group, number, name in ((False, row.uid, row.user), (True, row.gid, row.group)):
             if not fault and accounts.is_name(name) and not self._names.fits(is_group, number, name):
                 word = "group" if is_group else "owner"

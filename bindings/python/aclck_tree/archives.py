@@ -2,24 +2,21 @@
 read, and nothing is unpacked.
 
 An archive can come from anybody. tarfile reads the headers, and what it reads is judged first: so no header makes it
-read much, go back, or take something for a number that is none.
+read much, go back, or take something for a number that is none. What GNU tar and bsdtar read in two ways, or what
+tarfile reads in a way of its own, is refused: the tree that is restored would be another one.
 """
 
 from __future__ import annotations
 
 import base64
-import bz2
-import contextlib
 import errno
-import gzip
-import lzma
-import os
 import re
-import stat
 import tarfile
-from typing import BinaryIO, Callable, Dict, Iterator, NamedTuple, Optional, Type, Union, cast
+from typing import BinaryIO, Dict, Iterator, List, NamedTuple, Optional, Tuple, Type, Union, cast
 
-from .errors import DeviceError, TreeError
+from .compressed import read_to_end
+from .errors import Damaged, DeviceError
+from .records import CODED, IN_CONTENT, NUMBER, XATTR, kept, stored_bytes
 from .text import quoted
 
 LONGEST_HEADERS = 1 << 22
@@ -31,41 +28,26 @@ TEXTS = ("SCHILY.acl.ace", "SCHILY.acl.access", "SCHILY.acl.default")
 SHOWN = 200
 """How many characters of a path are shown."""
 
-XATTR = "SCHILY.xattr."
-"""What is in front of the name of an attribute in a pax header."""
-
-_CODED = "LIBARCHIVE.xattr."
-"""The same, if the value is in base64."""
-
 _KINDS = {tarfile.REGTYPE: "f", tarfile.AREGTYPE: "f", tarfile.CONTTYPE: "f", tarfile.GNUTYPE_SPARSE: "f",
           tarfile.DIRTYPE: "d", b"D": "d", tarfile.FIFOTYPE: "p", tarfile.CHRTYPE: "c", tarfile.BLKTYPE: "b",
           tarfile.SYMTYPE: "l", tarfile.LNKTYPE: "h"}
 _WITHOUT_CONTENT = (tarfile.DIRTYPE, tarfile.FIFOTYPE, tarfile.CHRTYPE, tarfile.BLKTYPE, tarfile.SYMTYPE,
                     tarfile.LNKTYPE)
 _LABEL = b"V"  # the name of a volume of GNU tar, and no member
+_SOLARIS_LIST = b"A"
 _EXTENDED, _GLOBAL = (tarfile.XHDTYPE, tarfile.SOLARIS_XHDTYPE), tarfile.XGLTYPE
 _LONG_NAMES = (tarfile.GNUTYPE_LONGNAME, tarfile.GNUTYPE_LONGLINK)
 
-_RECORD = re.compile(rb"([1-9][0-9]{0,9}) ")
-_OF_ALL = re.compile(rb"uid|gid|uname|gname|hdrcharset")
-_OF_ONE = re.compile(rb"path|linkpath|size|GNU\.sparse\.name|SCHILY\.acl\.(ace|access|default)|"
-                     rb"(SCHILY|LIBARCHIVE)\.xattr\.(system\.nfs4_acl|system\.nfs4_dacl|security\.nfs4acl_xdr|"
-                     rb"system\.nfs4_acl_xdr|system\.posix_acl_access|system\.posix_acl_default)")
-_NUMBER = re.compile(rb"[0-9]{1,20}")
-_LONG_NUMBER = re.compile(rb"[0-9]{256}")
 _OCTAL = re.compile(rb" *[0-7]+ *")
-_NUMBERS = (("mode", 100, 108), ("owner", 108, 116), ("group", 116, 124), ("size", 124, 136))
+_NUMBERS = (("mode", 100, 108), ("owner", 108, 116), ("group", 116, 124), ("size", 124, 136), ("checksum", 148, 156))
 """The numbers of a header, and where in it they are."""
 
-_DECOMPRESSORS: Dict[bytes, Callable[[BinaryIO], object]] = {
-    b"\x1f\x8b": lambda file: gzip.GzipFile(fileobj=file), b"BZh": bz2.BZ2File, b"\xfd7zXZ": lzma.LZMAFile,
-    b"\x5d\0\0": lzma.LZMAFile}
-_ZSTD = b"\x28\xb5\x2f\xfd"
-
-
-class Damaged(Exception):
-    """An archive is damaged, or was made to do harm, and is not read on."""
-
+_GNU = b"ustar  \0"
+_WITH_PARTS = (tarfile.REGTYPE, tarfile.AREGTYPE, tarfile.CONTTYPE, tarfile.GNUTYPE_SPARSE)
+_PARTS = slice(386, 482, 12)
+_PARTS_BEHIND = slice(0, 504, 12)
+"""Where the numbers of the parts of a sparse file begin in its header, and in the blocks behind it. The byte behind
+them says that there is one more block."""
 
 class Member(NamedTuple):
     """A member: its path as the archive has it; its kind, which is `l` for a symbolic link, `h` for a hard link, and
@@ -88,14 +70,15 @@ class _Judged:
     def __init__(self, file: BinaryIO) -> None:
         self._file = file
         self._at = 0
-        self._left = LONGEST_HEADERS
-        self._pax = b""
-        self.has_slash = False
-        self.is_ended = False
+        self._is_ended = False
+        self.next_member()
 
     def next_member(self) -> None:
         """Allows the headers of one more member."""
         self._left = LONGEST_HEADERS
+        self._before = b""  # the kinds of the headers in front of the member
+        self._kind, self._length = b"", 0  # of the header whose content is read next
+        self._stored: Optional[int] = None  # how many bytes of a sparse file a pax header has
         self.has_slash = False
 
     def tell(self) -> int:
@@ -122,52 +105,104 @@ class _Judged:
         self._left -= size
         data = self._file.read(size)
         self._at += len(data)
-        self.is_ended = data == bytes(tarfile.BLOCKSIZE)
-        if self._pax:
-            if len(data) < size:
-                raise Damaged("it ends in a header")
-            found = _kept(data, self._pax == _GLOBAL)
+        self._is_ended = data == bytes(tarfile.BLOCKSIZE)
+        kind, self._kind = self._kind, b""
+        if kind and len(data) < size:
+            raise Damaged("it ends in a header")
+        return self._content(kind, data) if kind else data
+
+    def _content(self, kind: bytes, data: bytes) -> bytes:
+        """Returns what counts of the content of a header, in as many bytes."""
+        if kind == tarfile.GNUTYPE_SPARSE:
+            self._judge_parts(data, _PARTS_BEHIND)
+            return data
+        counts = data[:self._length]
+        if kind not in _LONG_NAMES:
+            found = kept(counts, kind == _GLOBAL)
+            stored = stored_bytes(counts, kind == _GLOBAL)
+            self._stored = self._stored if kind == _GLOBAL else stored
             self.has_slash |= found.get(b"path", b"").endswith(b"/\n")
-            data, self._pax = b"".join(found.values()).ljust(len(data), b"\0"), b""
-        return data
+            counts = b"".join(found.values())
+        elif b"\0" not in counts and any(data[self._length:]):
+            raise Damaged("a long name has another length than its header says")
+        return counts.ljust(len(data), b"\0")
+
+    def end(self) -> None:
+        """Judges the end of the archive, and reads a compressed file to its end, where its checksum is."""
+        if not self._is_ended:  # tarfile also ends at a header that is none
+            raise Damaged("a header is damaged, or the end of the archive is absent")
+        read_to_end(self._file)
 
     def judge(self, header: bytes) -> None:
         """Judges the block of a header."""
-        kind = header[156:157]
+        kind, magic = header[156:157], header[257:265]
         if len(header) < tarfile.BLOCKSIZE or not any(header):
             return
         is_member = kind not in (*_EXTENDED, _GLOBAL, *_LONG_NAMES)
         for name, start, end in _NUMBERS:
             number = header[start:end]
-            if number[0] not in (0x80, 0xFF) and not _OCTAL.fullmatch(number.partition(b"\0")[0]) and (
-                    is_member or name == "size"):
+            is_used = name == "checksum" or kind != _LABEL and (is_member or name == "size")
+            if is_used and (number[0] not in (0x80, 0xFF) or name == "checksum") and not _OCTAL.fullmatch(
+                    number.partition(b"\0")[0]):
                 raise Damaged(f"the {name} of a member is not a number")
-        self._pax = kind if kind in (*_EXTENDED, _GLOBAL) else b""
+        if magic.startswith(b"ustar") and magic != _GNU and magic[5]:
+            raise Damaged("a header is of a format that is not known")
+        if kind == _SOLARIS_LIST:
+            raise Damaged("it has lists in the form of Solaris, which are not read")
+        if kind == tarfile.GNUTYPE_SPARSE and magic == _GNU:
+            self._judge_parts(header, _PARTS)
+        elif kind == tarfile.GNUTYPE_SPARSE or magic == _GNU and header[_PARTS.start]:
+            raise Damaged("a header has the parts of a sparse file, and is not that of one")
 
+    def _judge_parts(self, data: bytes, places: slice) -> None:
+        """Judges a block with parts of a sparse file. If one more block follows, programs look for it in different
+        ways unless this block is full."""
+        if data[places.stop]:
+            if not all(data[places]):
+                raise Damaged("a sparse file has less parts than it says")
+            self._kind = tarfile.GNUTYPE_SPARSE
 
-def _kept(data: bytes, is_global: bool) -> Dict[bytes, bytes]:
-    """Returns the records of a pax header that are used, by their keywords. Raises Damaged if one is not of the form of
-    POSIX.1-2017, pax, "Extended Header", or has a value that tarfile would take for another one."""
-    found: Dict[bytes, bytes] = {}
-    at = 0
-    while at < len(data) and data[at]:
-        record = _RECORD.match(data, at)
-        end = at + int(record[1]) if record else 0
-        if not record or not record.end() < end <= len(data) or data[end - 1] != 0x0A:
-            raise Damaged("a pax header has something else than records")
-        word, equals, value = data[record.end():end - 1].partition(b"=")
-        is_used = _OF_ONE.fullmatch(word) or _OF_ALL.fullmatch(word)
-        if is_used and (word in found or is_global and not _OF_ALL.fullmatch(word)):
-            raise Damaged(f"a pax header has {word.decode()} twice, or for all members")
-        if not equals or word in (b"uid", b"gid", b"size") and value and not _NUMBER.fullmatch(value) or (
-                is_used and _LONG_NUMBER.search(value)):
-            raise Damaged("a pax header has a number that is none")
-        if is_used:
-            found[word] = data[at:end] if value or word.startswith(XATTR.encode()) else b""
-        at = end
-    if b"GNU.sparse.name" in found:  # whatever the order is
-        found.pop(b"path", None)
-    return found
+    def expect(self, kind: bytes, length: int) -> None:
+        """Judges the place of a header, whose content has a length."""
+        if kind == _LABEL and (length or self._before):
+            raise Damaged("the label of a volume has headers or content")
+        if kind == _GLOBAL or kind in (*_EXTENDED, *_LONG_NAMES):
+            self._kind, self._length = kind, length
+        if kind in (*_EXTENDED, *_LONG_NAMES):
+            one = tarfile.XHDTYPE if kind in _EXTENDED else kind
+            if self._before and (one in self._before or tarfile.XHDTYPE in self._before + one):
+                raise Damaged("a member has two headers for one thing")
+            self._before += one
+        if kind == tarfile.GNUTYPE_SPARSE:
+            self._length = length
+
+    def judge_sparse(self, found: tarfile.TarInfo) -> None:
+        """Judges whether the parts of a sparse file have as many bytes as its content. bsdtar adds up the parts to find
+        the next header, and other programs do not."""
+        size, stored = found.size, self._stored
+        if found.type == tarfile.GNUTYPE_SPARSE:
+            parts = cast(List[Tuple[int, int]], found.sparse or [])
+            size, stored = self._length, sum(abs(length) for _, length in parts)
+        elif stored == IN_CONTENT:
+            stored = self._listed_bytes(found.offset_data)
+        if stored is not None and (stored != size or found.type not in _WITH_PARTS or (
+                found.type == tarfile.GNUTYPE_SPARSE and tarfile.XHDTYPE in self._before)):
+            raise Damaged("a sparse file has other parts than its content")
+
+    def _listed_bytes(self, start: int) -> int:
+        """Returns how many bytes the list of the parts at the beginning of the content has, together with the parts."""
+        numbers: List[int] = []
+        rest = b""
+        self.seek(start)
+        while not numbers or len(numbers) <= 2 * numbers[0]:
+            block = self.read(tarfile.BLOCKSIZE)
+            *lines, rest = (rest + block).split(b"\n")
+            if len(block) < tarfile.BLOCKSIZE or not lines or not all(NUMBER.fullmatch(line) for line in lines):
+                raise Damaged("the list of the parts of a sparse file has a number that is none")
+            numbers += map(int, lines)
+        if len(numbers) != 2 * numbers[0] + 1:
+            raise Damaged("the list of the parts of a sparse file is too long")
+        return self._at - start + sum(numbers[2::2])
 
 
 def _type_of(judged: _Judged) -> Type[tarfile.TarInfo]:
@@ -178,6 +213,7 @@ def _type_of(judged: _Judged) -> Type[tarfile.TarInfo]:
         def frombuf(cls, buf: Union[bytes, bytearray], encoding: str, errors: str) -> Header:
             judged.judge(bytes(buf))
             found = super().frombuf(buf, encoding, errors)
+            judged.expect(found.type, found.size)
             if buf[257:263] != b"ustar\0":  # in other formats, there are times where ustar has the beginning of a name
                 found.name = bytes(buf[:100]).partition(b"\0")[0].decode(encoding, errors)
                 found.name = found.name.rstrip("/") if found.isdir() else found.name
@@ -198,11 +234,24 @@ def _member(found: tarfile.TarInfo) -> Member:
     headers = {name: _encoded(value) for name, value in found.pax_headers.items()
                if name in TEXTS or name.startswith(XATTR)}
     for name, value in found.pax_headers.items():
-        if name.startswith(_CODED):
-            padded = value + "=" * (-len(value) % 4)
-            headers.setdefault(XATTR + name[len(_CODED):], base64.b64decode(padded, validate=True))
+        if name.startswith(CODED):
+            decoded = base64.b64decode(value + "=" * (-len(value) % 4), validate=True)
+            if headers.setdefault(XATTR + name[len(CODED):], decoded) != decoded:
+                raise Damaged(f"{quoted(found.name[:SHOWN])} has two values of {name[len(CODED):]}")
     return Member(_encoded(found.name), _KINDS.get(found.type, ""), found.mode & 0o7777, found.uid, found.gid,
                   _encoded(found.uname), _encoded(found.gname), _encoded(found.linkname), headers)
+
+
+def _certain(member: Member, found: tarfile.TarInfo, has_slash: bool) -> Member:
+    """Returns a member, whose kind is not known if programs do not agree about it. Raises Damaged if they would not
+    agree either about where the next header is."""
+    if member.kind in ("f", "") and (has_slash or member.path.endswith(b"/")):  # a directory for GNU tar and bsdtar
+        if found.size or found.issparse():
+            raise Damaged(f"{quoted(found.name[:SHOWN])} is a directory by its name, and has content")
+        return member._replace(kind="")
+    if member.kind == "l" and not member.target:  # a file for bsdtar
+        return member._replace(kind="")
+    return member
 
 
 def members(file: BinaryIO) -> Iterator[Member]:
@@ -217,9 +266,11 @@ def members(file: BinaryIO) -> Iterator[Member]:
                                           errors="surrogateescape")
             found = archive.next()
             setattr(archive, "members", [])  # where tarfile keeps all
-            member = _member(found) if found and found.type != _LABEL else None
-            if member and member.kind == "f" and (judged.has_slash or member.path.endswith(b"/")):
-                member = member._replace(kind="")  # which is a directory for GNU tar
+            if found:
+                judged.judge_sparse(found)
+            else:
+                judged.end()
+            member = _certain(_member(found), found, judged.has_slash) if found and found.type != _LABEL else None
         except (Damaged, MemoryError):
             raise
         except Exception as error:  # tarfile and the decompressors raise many kinds
@@ -230,24 +281,3 @@ def members(file: BinaryIO) -> Iterator[Member]:
             break
         if member:
             yield member
-    if not judged.is_ended:  # tarfile also ends at a header that is none
-        raise Damaged("a header is damaged, or the end of the archive is absent")
-
-
-@contextlib.contextmanager
-def opened_archive(place: bytes) -> Iterator[BinaryIO]:
-    """Opens an archive, which may be compressed by gzip, bzip2 or xz. Raises TreeError if it is not a file."""
-    name = quoted(os.fsdecode(place))
-    try:
-        handle = os.open(place, os.O_RDONLY | os.O_NONBLOCK | os.O_NOCTTY)
-    except (OSError, ValueError) as error:
-        raise TreeError(f"{name}: {getattr(error, 'strerror', None) or error}") from None
-    if not stat.S_ISREG(os.fstat(handle).st_mode):
-        os.close(handle)
-        raise TreeError(f"{name}: an archive is a file")
-    with open(handle, "rb") as file:
-        first = file.peek(8)
-        if first.startswith(_ZSTD):
-            raise TreeError(f"{name}: it is compressed by zstd, which is not read: decompress it first")
-        make = next((make for magic, make in _DECOMPRESSORS.items() if first.startswith(magic)), None)
-        yield cast(BinaryIO, make(file)) if make else file

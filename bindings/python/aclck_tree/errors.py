@@ -28,6 +28,10 @@ class DeviceError(TreeError):
     status = DEVICE
 
 
+class Damaged(Exception):
+    """An archive is damaged, or was made to do harm, and is not read on. It ends no run."""
+
+
 def tell(line: str) -> None:
     """Writes a line to standard error."""
     sys.stderr.write(f"aclck-tree: {quoted_line(line)}\n")

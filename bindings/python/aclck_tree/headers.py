@@ -4,15 +4,15 @@ an NFSv4 list (of bsdtar), and attributes."""
 from __future__ import annotations
 
 import re
-from typing import Dict, Iterator, List, Mapping, NamedTuple, Tuple
+from typing import Iterator, List, Mapping, Optional, Protocol, Tuple
 
 from aclck import ListForm, NfsAcl, PosixAcl, Refused
 
 from . import snapshot
 from .accounts import System
-from .archives import XATTR
-from .lists import decoded, joined, pieces
+from .lists import AceType, Piece, decoded, joined, pieces
 from .people import HIGHEST_ID
+from .records import XATTR
 from .scan import ATTRIBUTES
 from .snapshot import StoredList
 from .values import named, read_value, refused_value
@@ -22,13 +22,18 @@ _BLANKS = b" \t"
 _NAMED = {b"user": False, b"u": False, b"group": True, b"g": True}
 _PREFIXES = (b"default", b"d")
 _DIGITS = re.compile(rb"[0-9]+")
-_TYPES = {b"audit": 2, b"alarm": 3}
-"""The types of ACEs that the library refuses (RFC 8881, section 6.2.1.1)."""
+_TWO_NUMBERS = re.compile(rb"0[0-9]+|[-+][0-9]+|[-+]?0[xX][0-9A-Fa-f]+")  # for GNU tar, which reads them as C does
+_MOST_ENTRIES = 1 << 17
+_ENTRY = re.compile(rb"[^,\n#]*")
+_TYPES = {b"allow": AceType.ALLOW, b"audit": AceType.AUDIT, b"alarm": AceType.ALARM}
+"""The types of ACEs that the library leaves out."""
 
 
 def read_headers(headers: Mapping[str, bytes], is_directory: bool, mode: int, accounts: System) -> StoredList:
     """Returns the list of a member. An NFSv4 list counts first, as for a file."""
     if _ACE in headers:
+        if _ACCESS in headers or _DEFAULT in headers:  # programs restore one or the other
+            return refused_value(_ACE, headers[_ACE], "the member also has the text of a POSIX list")
         return _read_ace(headers[_ACE], accounts)
     for attribute in ATTRIBUTES:
         if XATTR + attribute in headers:
@@ -40,6 +45,9 @@ def _read_posix(headers: Mapping[str, bytes], is_directory: bool, mode: int, acc
     access = headers.get(f"{XATTR}system.posix_acl_access")
     default = headers.get(f"{XATTR}system.posix_acl_default") if is_directory else None
     texts = [headers.get(_ACCESS), headers.get(_DEFAULT) if is_directory else None]
+    for name, text in zip((_ACCESS, _DEFAULT), texts):
+        if text is not None and any(_TWO_NUMBERS.fullmatch(data[1]) for data in _named_in(text)):
+            return refused_value(name, text, "programs read an id in different ways")
     name = _ACCESS
     try:
         if texts[0] is not None:
@@ -59,23 +67,37 @@ def _read_posix(headers: Mapping[str, bytes], is_directory: bool, mode: int, acc
 
 
 def _read_ace(text: bytes, accounts: System) -> StoredList:
-    """Returns the list of a text, with names in place of ids."""
-    hidden: Dict[int, int] = {}
-    shown = bytearray(text)
-    for place, fields in enumerate(entry for entry in _entries(text) if entry[0].data or len(entry) > 1):
-        kind = fields[3 if fields[0].data.endswith(b"@") else 4:][:1]
-        if kind and kind[0].data in _TYPES:  # which decides nothing; the library judges the rest of it
-            hidden[place] = _TYPES[kind[0].data]
-            shown[kind[0].start:kind[0].end] = b"allow"
+    """Returns the list of a text, with names in place of ids, and with the ACEs that the library leaves out."""
     try:
-        found = pieces(bytes(NfsAcl.from_form(bytes(shown), ListForm.NFS_TEXT)[0]))
+        acl, _, left_out = NfsAcl.from_form_part(text, ListForm.NFS_TEXT)
     except Refused as refused:
         return refused_value(_ACE, text, str(refused))
-    data = joined([piece._replace(kind=hidden.get(place, piece.kind)) for place, piece in enumerate(found)])
+    kept, others = pieces(bytes(acl)), {ace.ace: _left_out(text, ace.offset) for ace in left_out}
+    in_order = iter(kept)
+    data = joined([others[place] if place in others else next(in_order) for place in range(len(kept) + len(others))])
     return StoredList(snapshot.ListForm.ACCOUNTS, 0, named(data, accounts), None)
 
 
-def accounts_in(text: bytes, accounts: System) -> Iterator[Tuple[str, int, bool]]:
+def _left_out(text: bytes, offset: int) -> Piece:
+    """Returns an ACE that the library left out, whose entry begins here. The library judged the entry, and reads it now
+    as an ALLOW of a name that it takes."""
+    data = _fields(next(_ENTRY.finditer(text, offset)).group())
+    place, who = 3, None
+    if not data[0].endswith(b"@"):
+        place, who, data[1] = 4, data[1], b"name"
+    kind, data[place] = _TYPES[data[place]], b"allow"
+    piece, = pieces(bytes(NfsAcl.from_form(b":".join(data), ListForm.NFS_TEXT)[0]))
+    return piece._replace(kind=kind, who=piece.who if who is None else who)
+
+
+class Accounts(Protocol):
+    """What knows the ids of names."""
+
+    def number_of(self, is_group: bool, name: bytes) -> Optional[int]:
+        """Returns the id of a name, or None."""
+
+
+def accounts_in(text: bytes, accounts: Accounts) -> Iterator[Tuple[str, int, bool]]:
     """Yields the accounts whose names a text of a POSIX list has: the name, the id, and whether it is a group."""
     for is_group, name in sorted({key for key, _ in _names_in(text)}):
         number = accounts.number_of(is_group, name)
@@ -93,40 +115,30 @@ def ids_in(text: bytes) -> Iterator[Tuple[bool, int, bytes]]:
 def _names_in(text: bytes) -> Iterator[Tuple[Tuple[bool, bytes], bytes]]:
     """Yields the names of a text of a POSIX list, each with whether it is a group and with the field behind its
     permissions, or with no bytes. Whether the text is right is for the library to say."""
-    for fields in _entries(text):
-        data = [field.data for field in fields]
-        if data[0] in _PREFIXES:
-            del data[0]
-        if 3 <= len(data) <= 4 and data[0] in _NAMED and data[1] and not _DIGITS.fullmatch(data[1]):
+    for data in _named_in(text):
+        if not _DIGITS.fullmatch(data[1]):
             yield (_NAMED[data[0]], data[1]), data[3] if len(data) == 4 else b""
 
 
-class _Field(NamedTuple):
-    """A field without the blanks around it, and where it begins in its text."""
-
-    data: bytes
-    start: int
-
-    @property
-    def end(self) -> int:
-        """Where it ends in its text."""
-        return self.start + len(self.data)
+def _named_in(text: bytes) -> Iterator[List[bytes]]:
+    """Yields the fields of each entry for a user or a group of a text of a POSIX list."""
+    for data in _entries(text):
+        if data[0] in _PREFIXES:
+            del data[0]
+        if 3 <= len(data) <= 4 and data[0] in _NAMED and data[1]:
+            yield data
 
 
-def _fields(piece: bytes, start: int) -> List[_Field]:
-    found: List[_Field] = []
-    for field in piece.split(b":"):
-        found.append(_Field(field.strip(_BLANKS), start + len(field) - len(field.lstrip(_BLANKS))))
-        start += len(field) + 1
-    return found
-
-
-def _entries(text: bytes) -> Iterator[List[_Field]]:
-    """Yields the fields of each entry."""
-    start = 0
+def _entries(text: bytes) -> Iterator[List[bytes]]:
+    """Yields the fields of each entry that has any, but of no more entries than any file system keeps."""
+    left = _MOST_ENTRIES
     for line in text.split(b"\n"):
-        at = start
-        for piece in line.partition(b"#")[0].split(b","):
-            yield _fields(piece, at)
-            at += len(piece) + 1
-        start += len(line) + 1
+        for piece in line.partition(b"#")[0].split(b",") if line else ():
+            if piece and left:
+                left -= 1
+                yield _fields(piece)
+
+
+def _fields(entry: bytes) -> List[bytes]:
+    """Returns the fields of an entry, without the blanks around them."""
+    return [field.strip(_BLANKS) for field in entry.split(b":")]

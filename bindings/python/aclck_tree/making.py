@@ -118,6 +118,10 @@ def _cut(args: argparse.Namespace, options: Options) -> None:
                          "--attribute and --one-file-system")
     if args.root is not None and not args.archive:
         raise UsageError("--root goes with --archive")
+    for place in args.archive or ():
+        with contextlib.suppress(OSError):
+            if os.path.samefile(place, args.output):
+                raise UsageError("-o names an archive, which the snapshot would replace")
     if args.list is not None and (args.shard is not None or len(args.tree) > 1):
         raise UsageError("--from takes one tree, and no --shard")
     if args.lines and args.list is None:
