@@ -1,8 +1,8 @@
 -- The bytes of the extended attributes `system.posix_acl_access` and `system.posix_acl_default` of Linux
 -- (include/uapi/linux/posix_acl_xattr.h, version 2): the entries of a valid ACL (acl(5), "VALID ACLs") with their tag
--- types in canonical order (POSIX.1e draft 17, section 23.1.2), as posix_acl_valid of fs/posix_acl.c wants them, and the
--- ids of users and of groups in any order. An entry without a qualifier has ACL_UNDEFINED_ID. The kernel also takes an
--- id twice, and any id where none belongs. The order in which faults are judged is this library's own.
+-- types in canonical order (POSIX.1e draft 17, section 23.1.2), as posix_acl_valid of fs/posix_acl.c wants them, and
+-- the ids of users and of groups in any order. An entry without a qualifier has ACL_UNDEFINED_ID. The kernel also takes
+-- an id twice, and any id where none belongs. The order in which faults are judged is this library's own.
 use Rattle.std.specs.Prelude.{ℕ, ◌≡◌, ◌==◌, ◌+◌, ◌*◌, ◌<◌, ◌++◌, List, length, Option, Some, None, option_map, nat_lt, if◌then◌else◌}
 use Rattle.std.specs.List.{All, flat_map}
 use Rattle.byteorder.specs.Endian.{little_bytes, little_number}

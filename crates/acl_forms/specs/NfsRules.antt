@@ -1,5 +1,5 @@
 -- What texts of FreeBSD, ZFS and archives spell (setfacl(1) of FreeBSD, "NFSv4 ACL ENTRIES", and archive_acl_from_text
--- in the source of libarchive 3.6.2).
+-- in the source of libarchive 3.6.2). Which fault of a text is its first is this library's own.
 use Rattle.std.specs.Prelude.{◌==◌, ℕ, false, List}
 use Rattle.acl_perm.specs.Ascii.{comma}
 use Rattle.acl_perm.specs.Lines.{is_all_blank}

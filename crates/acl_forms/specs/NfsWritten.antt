@@ -1,6 +1,6 @@
 -- The text of a list as libarchive prints it with ids, in four styles, but with a line feed after the last entry too
--- where no comma separates the entries (archive_acl_to_text in the source of libarchive 3.6.2), and the lists that this
--- text cannot hold, with the reason for each.
+-- where no comma separates the entries (archive_acl_to_text in the source of libarchive 3.6.2); and the lists that this
+-- text cannot hold. The reasons, and their order, are this library's own.
 use Rattle.std.specs.Prelude.{◌≡◌, ◌||◌, ◌+◌, ℕ, Bool, false, not, List, [], ◌∷◌, ◌++◌, codes, map, nat_lt, bit_and, ◌==◌, Option, None, Some, if◌then◌else◌}
 use Rattle.std.specs.List.{flat_map, list_any}
 use Rattle.std.specs.Str.{bytes_eq}

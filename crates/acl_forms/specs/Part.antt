@@ -1,7 +1,7 @@
 -- The part of a list of ACEs of any type that access can read (RFC 8881, section 6.2.1): AUDIT and ALARM ACEs grant and
 -- deny nothing, and nobody knows whom a special identifier other than `OWNER@`, `GROUP@` and `EVERYONE@` names (section
--- 6.2.1.5). An ALLOW of such a name is left out, so that no more is granted; without a DENY of it more may be granted, so
--- that is refused: this library's own.
+-- 6.2.1.5). An ALLOW of such a name is left out, so that no more is granted; without a DENY of it more may be granted,
+-- so that is refused: this library's own.
 use Rattle.std.specs.Prelude.{◌≡◌, ◌==◌, ◌&&◌, ◌+◌, ◌++◌, ℕ, Bool, not, count_ones, if◌then◌else◌, List, [], ◌∷◌, Option, Some, None, Result, MatchResult, ◌⊎◌, sum_by}
 use Rattle.std.specs.List.{filter_map}
 use Rattle.acl_nfs4.specs.AccessPart.{AnyAce, is_for_access, kept_ace}

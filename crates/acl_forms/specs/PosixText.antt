@@ -1,6 +1,6 @@
 -- The entries of a text of a POSIX ACL in an archive (acl(5), "LONG TEXT FORM" and "SHORT TEXT FORM"; star(1) and
--- archive_acl_from_text in the source of libarchive 3.6.2): `tag:qualifier:permissions`, with an id at the end where the
--- qualifier names a user or a group. The places and the order of the faults are this library's own.
+-- archive_acl_from_text in the source of libarchive 3.6.2): `tag:qualifier:permissions`, with an id at the end where
+-- the qualifier names a user or a group. The places and the order of the faults are this library's own.
 use Rattle.std.specs.Prelude.{◌==◌, ℕ, Bool, true, false, List, [], ◌∷◌, length, Option, None, Some, ok_or, Result, Ok, Err, if◌then◌else◌}
 use Rattle.acl_perm.specs.Ascii.{colon}
 use Rattle.acl_perm.specs.Lines.{Span, cut_at, is_all_blank, start_of, trimmed}

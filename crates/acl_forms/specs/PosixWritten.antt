@@ -1,5 +1,5 @@
--- The text of a POSIX ACL in an archive as bsdtar writes it (archive_acl_to_text in the source of libarchive 3.6.2), which
--- is the form of star, and as GNU tar does (acl_to_text(3)); and the ACLs that the text cannot hold.
+-- The text of a POSIX ACL in an archive as bsdtar writes it (archive_acl_to_text in the source of libarchive 3.6.2),
+-- which is the form of star, and as GNU tar does (acl_to_text(3)); and the ACLs that the text cannot hold.
 use Rattle.std.specs.Prelude.{◌==◌, ◌||◌, ◌+◌, ℕ, Bool, true, false, not, List, [], ◌∷◌, ◌++◌, length, nat_lt, Option, None, Some, if◌then◌else◌}
 use Rattle.std.specs.FinMap as set
 use Rattle.std.specs.List.{flat_map, list_any}

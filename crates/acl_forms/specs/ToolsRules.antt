@@ -1,5 +1,5 @@
 -- What texts of nfs4-acl-tools spell (nfs4_setfacl(1), "ACL FORMAT" and the options that read a file, and the source of
--- version 0.4.2 where the page says nothing).
+-- version 0.4.2 where the page says nothing). Which fault of a text is its first is this library's own.
 use Rattle.std.specs.Prelude.{◌==◌, ◌||◌, ℕ, Bool, false, List, length, nat_lt}
 use Rattle.acl_perm.specs.Ascii.{comma, tab}
 use Rattle.acl_nfs4.specs.Ace.{Ace}

@@ -1,5 +1,6 @@
--- The text of a list that nfs4_getfacl prints, without the line before it (nfs4_acl(5), and the source of nfs4-acl-tools
--- 0.4.2 for the order of the letters), and the lists that this text cannot hold, with the reason for each.
+-- The text of a list that nfs4_getfacl prints, without the line before it (nfs4_acl(5), and the source of
+-- nfs4-acl-tools 0.4.2 for the order of the letters), and the lists that this text cannot hold, with the reason for
+-- each.
 use Rattle.std.specs.Prelude.{◌≡◌, ◌==◌, ◌||◌, ◌+◌, ℕ, Bool, false, not, List, [], ◌∷◌, ◌++◌, length, nat_lt, bit_and, filter, map, Option, None, Some, if◌then◌else◌}
 use Rattle.std.specs.List.{flat_map, list_any}
 use Rattle.acl_perm.specs.Ascii.{colon, comma, hash, line_feed}
