@@ -166,7 +166,7 @@ impl<'a, 'b> Compared<'a, 'b> {
         let mentioned = self.mentioned;
         let here = firsts(alloc, mentioned, self.first, self.first_whoms, right)?;
         let there = firsts(alloc, mentioned, self.second, self.second_whoms, right)?;
-        let mut placings = Vec::new(alloc);
+        let mut placings = Vec::with_capacity(alloc, mentioned.len())?;
         for (i, p) in mentioned.iter().enumerate() {
             placings.push(Placing {
                 here: here[i],

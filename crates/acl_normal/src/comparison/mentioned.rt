@@ -125,7 +125,7 @@ fn numbers_of<'a>(alloc: Global, table: &[Option<Principal<'a>>]) -> Result<Numb
     ensures { IfOk result (λ n. AreMentionedNumbers table.now (length table.now)
         (principals n.whole.items) n.by_row.items) }
 {
-    let mut whole = Vec::new(alloc);
+    let mut whole = Vec::with_capacity(alloc, table.len())?;
     let mut by_row = Vec::with_capacity(alloc, table.len())?;
     for found in table {
         by_row.push(whole.len())?;
