@@ -120,7 +120,7 @@ always_complete certain possible ((t, k) ∷ keys) first h =
     by rest false false false ce pe ae h = lift (rest h) ce
 
 -- two tests that agree on the tags of the keys decide alike
-decided_same : (test one : Tag → Bool) (keys : TagColumn) (rest : Bool)
+pub decided_same : (test one : Tag → Bool) (keys : TagColumn) (rest : Bool)
     → ((t : Tag) → has_tag t keys ≡ true → test t ≡ one t) → column_decided_by test keys rest ≡ column_decided_by one keys rest
 decided_same test one [] rest same = refl
 decided_same test one ((t, k) ∷ keys) rest same =
@@ -203,11 +203,11 @@ in_second n xs ys h = list_any-append (λ (x : ℕ). x == n) xs ys ∙ ap (λ (b
     ∙ or_true_right (is_member n xs)
 
 -- the numbers of the tags of keys
-abbrev numbers : TagColumn → List ℕ
+abbrev pub numbers : TagColumn → List ℕ
 numbers keys = map (λ key. qualifier key.0) keys
 
 -- the number of the tag of a key is among them
-tag_number : (t : Tag) (keys : TagColumn) → has_tag t keys ≡ true → is_member (qualifier t) (numbers keys) ≡ true
+pub tag_number : (t : Tag) (keys : TagColumn) → has_tag t keys ≡ true → is_member (qualifier t) (numbers keys) ≡ true
 tag_number t [] h = absurd cc
 tag_number t ((u, k) ∷ keys) h = by (tag_number t keys) (eq_by_cmp tag_cmp t u) refl h
   where
@@ -234,7 +234,7 @@ pub record AreFree (shape : EntryShape) (keys : TagColumn) (free next own : ℕ)
 
 -- there are such ids, since no list has so many ACEs
 pub free_ids : (shape : EntryShape) (keys : TagColumn) → length shape.users + length shape.groups ≤ most_names
-    → length keys ≤ most_aces → (free : ℕ) × (next : ℕ) × (own : ℕ) × AreFree shape keys free next own
+    → length keys ≤ most_aces + 1 → (free : ℕ) × (next : ℕ) × (own : ℕ) × AreFree shape keys free next own
 free_ids shape keys small few =
     let ns = numbers keys in
     let all = shape.users ++ (shape.groups ++ ns) in
@@ -560,7 +560,7 @@ code_id code.Mask = tt
 code_id code.Other = tt
 
 -- so does the tag of a key
-key_id : (t : Tag) (keys : List TagKey) → has_tag t (keys_of keys) ≡ true → IsTag t
+pub key_id : (t : Tag) (keys : List TagKey) → has_tag t (keys_of keys) ≡ true → IsTag t
 key_id t [] h = absurd cc
 key_id t (k ∷ keys) h = by (key_id t keys) (eq_by_cmp tag_cmp t (tag_of k.whom)) refl h
   where

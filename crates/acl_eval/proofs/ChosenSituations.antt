@@ -9,10 +9,9 @@ use Rattle.acl_perm.proofs.Bools.{and_true, or_true_right}
 use Rattle.acl_posix.specs.Check.{Object, Requester, contains, grants, is_member}
 use Rattle.acl_posix.specs.Tag.{Tag, user_obj, user, group_obj, group, mask, other, qualifier}
 use Rattle.acl_posix.specs.Valid.{IsValid}
-use Rattle.acl_eval.specs.internal.LossBody.{AreKept, AreKeptWithOne, AreKeptWithTwo, IsKeptWith, LossSearch, chosen_object, chosen_requester, chosen_user, groups_for, is_lost, is_owner_tag, user_or}
+use Rattle.acl_eval.specs.internal.LossBody.{AreKept, IsKeptFor, IsKeptWith, LossSearch, are_two_users, chosen_object, chosen_requester, chosen_user, groups_for, is_owner_tag, user_or}
 use Rattle.acl_eval.specs.internal.ShapeBody.{column_decided_by, has_tag, tag_meets}
-use Rattle.acl_eval.proofs.AlwaysDecides.{or_none, turned}
-use Rattle.acl_eval.proofs.LostGrants.{IsWithin, denier, first_allow}
+use Rattle.acl_eval.proofs.LostGrants.{IsWithin, denier, first_allow, first_allows}
 use Rattle.acl_eval.proofs.ShapeChecks.{choice, choice_is}
 use Rattle.acl_eval.proofs.ValidChecks.{valid_is_complete}
 
@@ -256,8 +255,24 @@ pub record IsNamed (s : LossSearch) (used : List ℕ) : Type 0 where
   pub next_free : is_member s.next used ≡ false
   pub differ : (s.one == s.next) ≡ false
 
+-- two users who both match are one
+one_user : (object : Object) (requester : Requester) (a b : Tag) → tag_meets object requester a ≡ true
+    → tag_meets object requester b ≡ true → are_two_users a b ≡ false
+one_user object requester user_obj b m n = refl
+one_user object requester (user id) user_obj m n = refl
+one_user object requester (user id) (user one) m n =
+    ap (λ (x : Bool). not x) (eq-eqb id one (sym (eqb-true requester.user id m) ∙ eqb-true requester.user one n))
+one_user object requester (user id) group_obj m n = refl
+one_user object requester (user id) (group one) m n = refl
+one_user object requester (user id) mask m n = refl
+one_user object requester (user id) other m n = refl
+one_user object requester group_obj b m n = refl
+one_user object requester (group id) b m n = refl
+one_user object requester mask b m n = refl
+one_user object requester other b m n = refl
+
 pub nothing_lost : (s : LossSearch) (used : List ℕ) → IsValid s.entries → contains 7 s.want ≡ true → IsNamed s used
-    → AreKept s s.first → (object : Object) (requester : Requester)
+    → AreKept s (fin.entries s.entries) → (object : Object) (requester : Requester)
     → column_decided_by (tag_meets object requester) s.first false ≡ true
     → column_decided_by (tag_meets object requester) s.second false ≡ true
     → grants s.entries object requester s.want ≡ true
@@ -265,10 +280,26 @@ nothing_lost s used valid whole named kept object requester g h =
     elim (cases_Bool (choice s.entries object requester s.want)) [
       | inl granted ↦ sym (choice_is s.entries object requester s.want valid whole) ∙ granted
       | inr denied ↦
-          let a = first_allow (tag_meets object requester) s.first (λ t. AreKeptWithOne s t s.second) kept g in
-          let b = first_allow (tag_meets object requester) s.second (λ t. AreKeptWithTwo s a.tag t (fin.entries s.entries)) a.has h in
-          let c = denier s.entries used object requester s.want (IsKeptWith s a.tag b.tag)
-          (valid_is_complete s.entries valid) named.entries b.has denied in
+          let a = first_allow (tag_meets object requester) s.first refl g in
+          let b = first_allow (tag_meets object requester) s.second refl h in
+          let c = denier s.entries used object requester s.want (IsKeptFor s)
+          (valid_is_complete s.entries valid) whole named.entries kept denied in
+          let kept_here : IsKeptWith s a.tag b.tag c.tag = c.has a.tag b.tag (record {
+            first = a.there;
+            first_allows = first_allows (tag_meets object requester) s.first refl a;
+            second = b.there;
+            second_allows = first_allows (tag_meets object requester) s.second refl b;
+            lacking = c.lacking;
+            first_denied = a.before c.tag c.meets;
+            second_denied = b.before c.tag c.meets;
+            first_second = a.before b.tag b.meets;
+            second_first = b.before a.tag a.meets;
+            passed_first = c.passed a.tag a.meets;
+            passed_second = c.passed b.tag b.meets;
+            one_user = one_user object requester a.tag b.tag a.meets b.meets;
+            one_user_first = one_user object requester a.tag c.tag a.meets c.meets;
+            one_user_second = one_user object requester b.tag c.tag b.meets c.meets;
+          }) in
           let i : IsChoice used object requester s.one s.next a.tag b.tag c.tag = record {
             first = a.meets;
             second = b.meets;
@@ -294,7 +325,7 @@ nothing_lost s used valid whole named kept object requester g h =
           let three = sym (choice_is s.entries there who s.want valid whole)
           ∙ c.stays there who within (chosen_meets object requester s.one s.next a.tag b.tag c.tag c.tag
           (third_in used object requester s.one s.next a.tag b.tag c.tag i) c.meets) in
-          absurd (true≢false (sym (all_three _ _ _ one two three) ∙ c.has))
+          absurd (true≢false (sym (all_three _ _ _ one two three) ∙ kept_here))
     ]
   where
     all_three : (x y z : Bool) → x ≡ true → y ≡ true → z ≡ false → (x && (y && not z)) ≡ true

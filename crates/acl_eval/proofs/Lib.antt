@@ -25,6 +25,7 @@ pub mod IdGroups
 pub mod IdDigits
 pub mod IdBytes
 pub mod IdNames
+pub mod EntryCounts
 pub mod EntryRuns
 pub mod Agree
 pub mod BridgeLaws
@@ -60,9 +61,17 @@ pub mod PruningOrder
 pub mod PruningLists
 pub mod PruningGroups
 pub mod PruningSets
+pub mod PruningStarts
+pub mod PruningGrants
 pub mod PruningBack
 pub mod PruningNames
+pub mod PosixOfLists
+pub mod OwnerKeys
+pub mod OwnerLists
+pub mod OwnerShapes
+pub mod OwnerEnds
 pub mod LostGrants
 pub mod ChosenSituations
+pub mod LossTags
 pub mod UnusedIds
 pub mod LossAnswers

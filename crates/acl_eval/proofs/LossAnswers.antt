@@ -24,7 +24,7 @@ use Rattle.acl_eval.specs.Grant.{Grant, grants_bit}
 use Rattle.acl_eval.specs.LostGrants.{AreMoreThan, IsExact, IsLossOf, KeepsSingles, lost_object, lost_requester}
 use Rattle.acl_eval.specs.ToPosix.{IsSound, size_of}
 use Rattle.acl_eval.specs.internal.LossBody.{AreKept, AreSmall, AreUnused, IsBounded, IsFound, IsFoundOr, IsKeptWith, LossSearch, chosen_object, chosen_requester, entry_numbers, is_lost, key_numbers, most_used, search_of, used_numbers}
-use Rattle.acl_eval.specs.internal.ShapeBody.{IsColumnOf, has_tag, keys_of}
+use Rattle.acl_eval.specs.internal.ShapeBody.{AreColumns, IsColumnOf, has_tag, keys_of}
 use Rattle.acl_eval.specs.declared.losing.LostGrant.{LostGrant}
 use Rattle.acl_eval.specs.declared.losing.Unused.{Unused}
 use Rattle.acl_eval.specs.declared.losing.Wanted.{Wanted}
@@ -111,6 +111,7 @@ pub record IsRefused (list : List Ace) (E : Entries) (bit second want : ℕ) (lo
   pub one : grants_bit list (by_name (lost_object lost) (lost_requester lost)) bit ≡ true
   pub two : grants_bit list (by_name (lost_object lost) (lost_requester lost)) second ≡ true
   pub denied : grants E (lost_object lost) (lost_requester lost) lost.perm.bits ≡ false
+  pub few : length lost.groups.items ≤ 3
 
 pub found : (list : List Ace) (E : Entries) (bit second want : ℕ) (wanted : Wanted) (unused : Unused) (lost : LostGrant)
     → IsSearchOf list E bit second want wanted → IsFound (search_of wanted E unused) lost
@@ -125,6 +126,7 @@ found list E bit second want wanted unused lost is f =
       one = is.one.decides (lost_object lost) (lost_requester lost) asked ∙ more.0;
       two = is.two.decides (lost_object lost) (lost_requester lost) asked ∙ last.0;
       denied = ap (grants E (lost_object lost) (lost_requester lost)) f.perm ∙ not_false _ last.1;
+      few = f.few;
     }
 
 pub found_read : (list : List Ace) (E : Entries) (lost : LostGrant) → IsRefused list E 0 0 4 lost → IsLossOf list E lost
@@ -133,6 +135,7 @@ found_read list E lost r = record {
   single = inl r.perm;
   granted = rw r.perm (grant_read list (by_name (lost_object lost) (lost_requester lost)) r.one);
   denied = r.denied;
+  few = r.few;
 }
 
 pub found_write : (list : List Ace) (E : Entries) (lost : LostGrant) → IsRefused list E 1 2 2 lost → IsLossOf list E lost
@@ -141,6 +144,7 @@ found_write list E lost r = record {
   single = inr (inl r.perm);
   granted = rw r.perm (grant_write list (by_name (lost_object lost) (lost_requester lost)) r.one r.two);
   denied = r.denied;
+  few = r.few;
 }
 
 pub found_execute : (list : List Ace) (E : Entries) (lost : LostGrant) → IsRefused list E 5 5 1 lost → IsLossOf list E lost
@@ -149,6 +153,7 @@ found_execute list E lost r = record {
   single = inr (inr r.perm);
   granted = rw r.perm (grant_execute list (by_name (lost_object lost) (lost_requester lost)) r.one);
   denied = r.denied;
+  few = r.few;
 }
 
 -- without an answer, the ACL grants the permission wherever the list grants both rights
@@ -157,7 +162,7 @@ pub kept : (list : List Ace) (E : Entries) (bit second want : ℕ) (wanted : Wan
     → ((t : Tag) → has_tag t (keys_of wanted.first.now) ≡ true → is_member (qualifier t) used ≡ true)
     → ((t : Tag) → has_tag t (keys_of wanted.second.now) ≡ true → is_member (qualifier t) used ≡ true)
     → AllByRecursion (λ entry. is_member (qualifier entry.0) used ≡ true) (fin.entries E)
-    → AreKept (search_of wanted E unused) (keys_of wanted.first.now)
+    → AreKept (search_of wanted E unused) (fin.entries E)
     → (object : Object) (requester : Requester) → IsAsked object requester
     → grants_bit list (by_name object requester) bit ≡ true → grants_bit list (by_name object requester) second ≡ true
     → grants E object requester want ≡ true
@@ -187,6 +192,18 @@ sound_is_exact list E sound = (
       (keeps object requester want asked single, sound object requester asked want (single_perm want single)),
   λ exact object requester want asked single. (exact object requester want asked single).0,
 )
+
+-- a loss of a sound ACL is found if and only if the two are not exact
+pub exact_of : (list : List Ace) (E : Entries) (lost : Option LostGrant) → IsSound list E
+    → IfSome lost (IsLossOf list E) → (lost ≡ None → KeepsSingles list E) → lost ≡ None ↔ IsExact list E
+exact_of list E lost sound found kept =
+    (λ none. (sound_is_exact list E sound).0 (kept none), λ exact. by exact lost found)
+  where
+    by : IsExact list E → (lost : Option LostGrant) → IfSome lost (IsLossOf list E) → lost ≡ None
+    by exact None found = refl
+    by exact (Some l) found =
+        let granted = (exact (lost_object l) (lost_requester l) l.perm.bits found.asked found.single).0 found.granted in
+        absurd (true≢false (sym granted ∙ found.denied))
 
 -- ---- the numbers of the columns and of the entries
 
@@ -259,7 +276,7 @@ found_at list E bit second want wanted unused lost answer K is e h =
     found list E bit second want wanted unused lost is (subst (IsFoundOr (search_of wanted E unused) K) e h)
 
 -- no answer
-none_at : (s : LossSearch) (K : Type 0) (answer : Option LostGrant) → ((lost : LostGrant) → answer ≡ Some lost → ⊥)
+pub none_at : (s : LossSearch) (K : Type 0) (answer : Option LostGrant) → ((lost : LostGrant) → answer ≡ Some lost → ⊥)
     → IsFoundOr s K answer → K
 none_at s K None lacking h = h
 none_at s K (Some lost) lacking h = absurd (lacking lost refl)
@@ -306,13 +323,13 @@ pub answer_kept : (list : List Ace) (E : Entries) (columns : Columns) (unused : 
     → IsSearchOf list E 0 0 4 read → IsSearchOf list E 1 2 2 write → IsSearchOf list E 5 5 1 execute
     → AreUnused (used_numbers columns E) unused
     → (one : Option LostGrant)
-    → IsFoundOr (search_of read E unused) (AreKept (search_of read E unused) (keys_of read.first.now)) one
+    → IsFoundOr (search_of read E unused) (AreKept (search_of read E unused) (fin.entries E)) one
     → ((lost : LostGrant) → one ≡ Some lost → ⊥)
     → (two : Option LostGrant)
-    → IsFoundOr (search_of write E unused) (AreKept (search_of write E unused) (keys_of write.first.now)) two
+    → IsFoundOr (search_of write E unused) (AreKept (search_of write E unused) (fin.entries E)) two
     → ((lost : LostGrant) → two ≡ Some lost → ⊥)
     → (r : Result (Option LostGrant) AllocError)
-    → IfOk r (IsFoundOr (search_of execute E unused) (AreKept (search_of execute E unused) (keys_of execute.first.now)))
+    → IfOk r (IsFoundOr (search_of execute E unused) (AreKept (search_of execute E unused) (fin.entries E)))
     → IfOk r (λ lost. lost ≡ None → KeepsSingles list E)
 answer_kept list E columns unused read write execute rf rs wf ws xf xs isr isw isx u one h p two g q (Ok None) k =
     λ e. let t = tags_used columns E in
@@ -342,9 +359,16 @@ more_than most table list E few b e = record {
   ];
 }
 
-pub few_entries : (most : ℕ) (table : Table) (list : List Ace) (E : Entries) (few : Bool) → IsBounded most table list E few
-    → few ≡ true → most ≤ 65535 → length (fin.entries E) ≤ 65535
-few_entries most table list E few b e small = let le = b.bounded.0 e in omega (arith, le, small)
+-- the columns of a list and an ACL within the bound are small
+pub few_entries : (most : ℕ) (table : Table) (list given : List Ace) (E : Entries) (few : Bool) (columns : Columns)
+    → IsBounded most table list E few → few ≡ true → most ≤ 65535 → AreColumns given columns → AreSmall columns E
+few_entries most table list given E few columns b e small are = record {
+  read = are.read.few;
+  write = are.write.few;
+  append = are.append.few;
+  execute = are.execute.few;
+  listed = let le = b.bounded.0 e in omega (arith, le, small);
+}
 
 -- ---- two unused ids
 

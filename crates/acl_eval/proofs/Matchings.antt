@@ -81,11 +81,11 @@ abbrev pub also : Tag → Matching → Matching
 also x m = λ t. m t || eq_by_cmp tag_cmp t x
 
 -- two users of one tag are the same user
-one_user : (u v : ℕ) (x : Tag) → eq_by_cmp tag_cmp (user u) x ≡ true → eq_by_cmp tag_cmp (user v) x ≡ true → u ≡ v
+pub one_user : (u v : ℕ) (x : Tag) → eq_by_cmp tag_cmp (user u) x ≡ true → eq_by_cmp tag_cmp (user v) x ≡ true → u ≡ v
 one_user u v x h g = ap qualifier (same_tag (user u) x h ∙ sym (same_tag (user v) x g))
 
 -- a tag that equals a tag with an id has an id
-same_id : (t d : Tag) → IsTag d → eq_by_cmp tag_cmp t d ≡ true → IsTag t
+pub same_id : (t d : Tag) → IsTag d → eq_by_cmp tag_cmp t d ≡ true → IsTag t
 same_id t d is h = subst IsTag (sym (same_tag t d h)) is
 
 pub no_users_matching : (m : Matching) → IsMatching m → IsMatching (no_users m)

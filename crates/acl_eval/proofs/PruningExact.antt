@@ -35,7 +35,7 @@ use Rattle.acl_eval.proofs.Images.{image_right, rights}
 use Rattle.acl_eval.proofs.Matchings.{IsMatching, IsRest, Looks, Matching}
 use Rattle.acl_eval.proofs.PruningEnds.{part_above}
 use Rattle.acl_eval.proofs.PruningMaximal.{last_within}
-use Rattle.acl_eval.proofs.PruningSituations.{IsSmall, agree_gives, all_ids, among_part, among_shape, asked_matching, best_grants, gives_from, gives_of, granted_is, ids_of_list, ids_of_second, is_granted, is_small, real_for, shape_among, shorter, sound_entry, steps_of}
+use Rattle.acl_eval.proofs.PruningSituations.{IsSmall, agree_gives, all_ids, among_part, among_shape, asked_matching, best_grants, gives_from, gives_of, granted_is, ids_of_list, ids_of_second, is_granted, is_small, listed, real_for, shape_among, shorter, sound_entry, steps_of, most_listed}
 use Rattle.acl_eval.proofs.PruningSteps.{Gives}
 use Rattle.acl_eval.proofs.RealMatchings.{AgreeAt, agree_back, agree_granted, column_of, filter_member, put_agrees, with_bit}
 use Rattle.acl_eval.proofs.ShapeChecks.{best_sound}
@@ -44,7 +44,7 @@ use Rattle.acl_eval.proofs.TagMatchings.{IsFound, digits_tag, found_id, granted_
 -- ---- matchings without other names
 
 -- the matching without users and groups that a shape does not have
-abbrev seen : EntryShape → Matching → Matching
+abbrev pub seen : EntryShape → Matching → Matching
 seen s m tag.user_obj = m tag.user_obj
 seen s m (tag.user id) = m (tag.user id) && is_member id s.users
 seen s m tag.group_obj = m tag.group_obj
@@ -152,12 +152,12 @@ seen_bit s m (x ∷ list) want bit names small right =
         (named_alike s m (principal_of x) (names.0 (counts x want bit small right e))) rest
     by rest false e = rest
 
-seen_granted : (s : EntryShape) (m : Matching) (list : List Ace) (want : ℕ) → HasNamesOf s list → IsPerm want
+pub seen_granted : (s : EntryShape) (m : Matching) (list : List Ace) (want : ℕ) → HasNamesOf s list → IsPerm want
     → granted_to list want m → granted_to list want (seen s m)
 seen_granted s m list want names small granted bit right =
     sym (seen_bit s m list want bit names small right) ∙ granted bit right
 
-granted_seen : (s : EntryShape) (m : Matching) (list : List Ace) (want : ℕ) → HasNamesOf s list → IsPerm want
+pub granted_seen : (s : EntryShape) (m : Matching) (list : List Ace) (want : ℕ) → HasNamesOf s list → IsPerm want
     → granted_to list want (seen s m) → granted_to list want m
 granted_seen s m list want names small granted bit right =
     seen_bit s m list want bit names small right ∙ granted bit right
@@ -301,7 +301,7 @@ single_small want is = elim is [
 ]
 
 -- the entries of the ACL for names of the list give all that the list grants
-exact_gives : (list : List Ace) (one : EntryShape) (acl : Entries) (m : Matching) (want : ℕ) → length list ≤ most_aces
+exact_gives : (list : List Ace) (one : EntryShape) (acl : Entries) (m : Matching) (want : ℕ) → length list ≤ most_listed
     → HasFewIds one → HasNamesOf one list → IsAcl acl → length (fin.entries acl) ≤ 65535 → IsExactFor list acl
     → IsMatching m → IsSingle want → granted_to list want m → Gives (granted_to list) (shape_among one acl) m want
 exact_gives list one acl m want short f names valid few agrees ok single granted =
@@ -331,10 +331,10 @@ exact_gives list one acl m want short f names valid few agrees ok single granted
           ∙ ap (λ (b : Bool). is_member id one.groups && b) ((own_shaped acl).groups id);
     }
 
-pub end_agrees : (list : List Ace) (one two : EntryShape) (best : Entries) → length list ≤ most_aces → HasFewIds one
+pub longer_agrees : (list : List Ace) (one two : EntryShape) (best : Entries) → length list ≤ most_listed → HasFewIds one
     → HasNamesOf one list → PrunesTo list one two → IsBest list two best → (acl : Entries) → IsAcl acl
     → length (fin.entries acl) ≤ 65535 → IsExactFor list acl → IsExactFor list best
-end_agrees list one two best short f names p is acl valid few agrees object requester want asked single = (
+longer_agrees list one two best short f names p is acl valid few agrees object requester want asked single = (
   λ yes. best_sound list two best is object requester asked want (single_small want single) yes,
   λ granted.
       let t = shape_among one acl in
@@ -350,3 +350,8 @@ end_agrees list one two best short f names p is acl valid few agrees object requ
       (part_above (granted_to list) one two t (record { users = f.users; groups = f.groups })
       (steps_of list one two p.steps short (is_small one f)) part within m want ok small given)),
 )
+
+pub end_agrees : (list : List Ace) (one two : EntryShape) (best : Entries) → length list ≤ most_aces → HasFewIds one
+    → HasNamesOf one list → PrunesTo list one two → IsBest list two best → (acl : Entries) → IsAcl acl
+    → length (fin.entries acl) ≤ 65535 → IsExactFor list acl → IsExactFor list best
+end_agrees list one two best short = longer_agrees list one two best (listed list short)

@@ -12,14 +12,14 @@ use Rattle.acl_eval.specs.Pruning.{LosesNothing, Prunes, PrunesTo, ShapeGrants, 
 use Rattle.acl_eval.specs.PruningLaws.{EndsAlike, GrantSamePermissions, HasFewIds}
 use Rattle.acl_eval.specs.ToPosix.{AlwaysHas, EntryShape, IsBest}
 use Rattle.acl_eval.proofs.PruningOrder.{one_end}
-use Rattle.acl_eval.proofs.PruningSituations.{IsSmall, best_grants, is_small, loses_of, small_at_end, sound_entry, steps_of}
+use Rattle.acl_eval.proofs.PruningSituations.{IsSmall, best_grants, is_small, listed, loses_of, most_listed, small_at_end, sound_entry, steps_of}
 use Rattle.acl_eval.proofs.PruningSteps.{IsPruned}
 use Rattle.acl_eval.proofs.ShapeChecks.{best_sound}
 use Rattle.acl_eval.proofs.TagMatchings.{granted_to, one_group_denies}
 
 -- ---- one end
 
-pruned_of : (list : List Ace) (s t : EntryShape) → length list ≤ most_aces → IsSmall t → PrunesTo list s t
+pub pruned_of : (list : List Ace) (s t : EntryShape) → length list ≤ most_listed → IsSmall t → PrunesTo list s t
     → IsPruned (granted_to list) t
 pruned_of list s t short f p name n there below = p.last name n there (loses_of list t (taken_out name t) short f below)
 
@@ -27,19 +27,20 @@ pub has_one_end : (list : List Ace) (one two three : EntryShape) → length list
     → PrunesTo list one two → PrunesTo list one three → two ≡ three
 has_one_end list one two three short f p q =
     let s = is_small one f in
-    one_end (granted_to list) one two (steps_of list one two p.steps short s) three (one_group_denies list)
+    let long = listed list short in
+    one_end (granted_to list) one two (steps_of list one two p.steps long s) three (one_group_denies list)
     (record { users = f.users; groups = f.groups })
-    (pruned_of list one two short (small_at_end list one two p.steps s) p)
-    (steps_of list one three q.steps short s)
-    (pruned_of list one three short (small_at_end list one three q.steps s) q)
+    (pruned_of list one two long (small_at_end list one two p.steps s) p)
+    (steps_of list one three q.steps long s)
+    (pruned_of list one three long (small_at_end list one three q.steps s) q)
 
 -- ---- lists that grant the same
 
-alike_back : (list second : List Ace) → GrantSamePermissions list second → GrantSamePermissions second list
+pub alike_back : (list second : List Ace) → GrantSamePermissions list second → GrantSamePermissions second list
 alike_back list second a object requester want asked small =
     ((a object requester want asked small).1, (a object requester want asked small).0)
 
-alike_always : (list second : List Ace) (s : EntryShape) (e : Tag) (want : ℕ) → GrantSamePermissions list second → IsPerm want
+pub alike_always : (list second : List Ace) (s : EntryShape) (e : Tag) (want : ℕ) → GrantSamePermissions list second → IsPerm want
     → AlwaysHas list s e want → AlwaysHas second s e want
 alike_always list second s e want a small has object requester asked l =
     (a object requester want asked small).0 (has object requester asked l)
@@ -66,7 +67,7 @@ alike_prunes list second x y (next s t name n there loses rest) a =
     next s t name n there (alike_loses list second s (taken_out name s) a loses)
     (alike_prunes list second (taken_out name s) t rest a)
 
-alike_prunes_to : (list second : List Ace) (s t : EntryShape) → GrantSamePermissions list second → PrunesTo list s t
+pub alike_prunes_to : (list second : List Ace) (s t : EntryShape) → GrantSamePermissions list second → PrunesTo list s t
     → PrunesTo second s t
 alike_prunes_to list second s t a p = record {
   steps = alike_prunes list second s t p.steps a;

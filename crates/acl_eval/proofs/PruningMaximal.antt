@@ -13,12 +13,12 @@ use Rattle.acl_eval.specs.ToPosix.{EntryShape, IsBest, IsSound}
 use Rattle.acl_eval.proofs.Matchings.{IsMatching, IsPart, Matching}
 use Rattle.acl_eval.proofs.PruningEnds.{end_part, part_above}
 use Rattle.acl_eval.proofs.PruningSingles.{below_singles, pruned_singles, singles_deny, granted_single, steps_singles}
-use Rattle.acl_eval.proofs.PruningSituations.{among_part, among_shape, among_small, below_at, best_grants, gives_from, gives_of, grants_no_more, is_small, shape_among, small_at_end, sound_entry, steps_of}
+use Rattle.acl_eval.proofs.PruningSituations.{among_part, among_shape, among_small, below_at, best_grants, gives_from, gives_of, grants_no_more, is_small, listed, shape_among, small_at_end, sound_entry, steps_of, most_listed}
 use Rattle.acl_eval.proofs.PruningSteps.{Gives}
 use Rattle.acl_eval.proofs.TagMatchings.{granted_to}
 
 -- a shape with names of the start, which gives each single permission that the last shape gives, has all its names
-pub last_within : (list : List Ace) (one two t : EntryShape) → length list ≤ most_aces → HasFewIds one
+pub last_within : (list : List Ace) (one two t : EntryShape) → length list ≤ most_listed → HasFewIds one
     → PrunesTo list one two → IsPart one t
     → ((m : Matching) (want : ℕ) → IsMatching m → IsPerm want → IsSingle want → Gives (granted_to list) two m want
     → Gives (granted_to list) t m want)
@@ -30,10 +30,10 @@ last_within list one two t short f p names above = end_part (granted_single list
   above = below_singles list two t above;
 }) (pruned_singles list one two short (small_at_end list one two p.steps (is_small one f)) p)
 
-pub end_is_maximal : (list : List Ace) (one two : EntryShape) (best : Entries) → length list ≤ most_aces
+pub longer_is_maximal : (list : List Ace) (one two : EntryShape) (best : Entries) → length list ≤ most_listed
     → HasFewIds one → PrunesTo list one two → IsBest list two best → (acl : Entries) → IsAcl acl → IsAmong one acl
     → IsSound list acl → ((want : ℕ) → IsSingle want → GrantsNothingMoreOf best acl want) → GrantsNothingMore acl best
-end_is_maximal list one two best short f p is acl valid among sound less =
+longer_is_maximal list one two best short f p is acl valid among sound less =
     let t = shape_among one acl in
     let s = is_small one f in
     let g = among_small one acl s in
@@ -50,3 +50,8 @@ end_is_maximal list one two best short f p is acl valid among sound less =
     grants_no_more list two t best acl short e g is valid shaped sound
     (part_above (granted_to list) one two t (record { users = f.users; groups = f.groups })
     (steps_of list one two p.steps short s) names within)
+
+pub end_is_maximal : (list : List Ace) (one two : EntryShape) (best : Entries) → length list ≤ most_aces
+    → HasFewIds one → PrunesTo list one two → IsBest list two best → (acl : Entries) → IsAcl acl → IsAmong one acl
+    → IsSound list acl → ((want : ℕ) → IsSingle want → GrantsNothingMoreOf best acl want) → GrantsNothingMore acl best
+end_is_maximal list one two best short = longer_is_maximal list one two best (listed list short)

@@ -75,7 +75,7 @@ turned x y differ = elim (cases_Bool (eq_by_cmp tag_cmp y x)) [
 
 -- ---- nothing is lost, by the entries
 
-below_by_entries : (f : Granting) (s : EntryShape) (x : Tag) → is_named x ≡ true → is_in_shape s x ≡ true
+pub below_by_entries : (f : Granting) (s : EntryShape) (x : Tag) → is_named x ≡ true → is_in_shape s x ≡ true
     → ((e : Tag) (want : ℕ) → is_shared e ≡ true → is_in_shape (taken_out x s) e ≡ true → IsPerm want
     → HasAlways f s e want ⊎ HasAlways f s x want → HasAlways f (taken_out x s) e want)
     → Below f s (taken_out x s)
@@ -144,7 +144,7 @@ wider x y s e stays = part_has (taken_out x s) (taken_out y (taken_out x s)) e (
     (subst (λ (r : EntryShape). is_in_shape r e ≡ true) (out_commutes x y s) stays)
 
 -- if the check looks at an entry without a name that does not match, it looks at it with the name
-looks_one : (x : Tag) (s : EntryShape) (m : Matching) (e : Tag) → is_named x ≡ true → is_shared e ≡ true
+pub looks_one : (x : Tag) (s : EntryShape) (m : Matching) (e : Tag) → is_named x ≡ true → is_shared e ≡ true
     → is_in_shape s e ≡ true → m x ≡ false → Looks (taken_out x s) m e → Looks s m e
 looks_one x s m user_obj n h there outside l = absurd (false≢true h)
 looks_one x s m (user v) n h there outside l = absurd (false≢true h)

@@ -28,7 +28,7 @@ use Rattle.acl_eval.proofs.PruningGroups.{with_all_groups, with_fewer_groups}
 use Rattle.acl_eval.proofs.PruningKept.{looks_from, looks_of}
 use Rattle.acl_eval.proofs.PruningMaximal.{last_within}
 use Rattle.acl_eval.proofs.PruningSingles.{execute_within, read_within, single_right, write_within}
-use Rattle.acl_eval.proofs.PruningSituations.{IsSmall, all_ids, agree_gives, among_part, among_shape, among_small, asked_matching, gives_of, ids_of_first, ids_of_list, is_granted, is_small, only_asked, real_for, shape_among, small_at_end, sound_entry, with_ids_only}
+use Rattle.acl_eval.proofs.PruningSituations.{IsSmall, all_ids, agree_gives, among_part, among_shape, among_small, asked_matching, gives_of, ids_of_first, ids_of_list, is_granted, is_small, only_asked, real_for, shape_among, small_at_end, sound_entry, with_ids_only, listed, most_listed}
 use Rattle.acl_eval.proofs.PruningSteps.{Gives, HasAlways, alone_gives, has_part}
 use Rattle.acl_eval.proofs.RealMatchings.{agree_back, agree_granted, agree_looks}
 use Rattle.acl_eval.proofs.ShapeChecks.{all_contain, best_sound, granted, held, holding, holds, looked, some_member}
@@ -102,7 +102,7 @@ holds_set E e want small there plain each = holding E e want plain
 
 -- a list, a shape, and an ACL of the shape that agrees with the list
 record Agrees (list : List Ace) (t : EntryShape) (acl : Entries) : Type 0 where
-  short : length list ≤ most_aces
+  short : length list ≤ most_listed
   small : IsSmall t
   valid : IsAcl acl
   shaped : HasShape t acl
@@ -207,7 +207,7 @@ exact_entry list t acl e one a there single few has =
     (looks_of t r.object r.requester at.entry at.looks))) at.holds
 
 -- an entry of the shape is there
-entry_there : (t : EntryShape) (acl : Entries) (e : Tag) → IsAcl acl → HasShape t acl → is_in_shape t e ≡ true
+pub entry_there : (t : EntryShape) (acl : Entries) (e : Tag) → IsAcl acl → HasShape t acl → is_in_shape t e ≡ true
     → is_some (fin.get acl e) ≡ true
 entry_there t acl user_obj valid shaped h = (valid_is_complete acl valid.valid).owner
 entry_there t acl (user id) valid shaped h = shaped.users id ∙ h
@@ -331,18 +331,18 @@ no_more_sets list one two best acl short f p is valid among exact want small obj
     let s = is_small one f in
     let t = shape_among one acl in
     let a : Agrees list t acl = record {
-      short = short;
+      short = listed list short;
       small = among_small one acl s;
       valid = valid;
       shaped = among_shape one acl among;
       exact = exact;
     } in
     let e = small_at_end list one two p.steps s in
-    let within = last_within list one two t short f p (among_part one acl) (λ m w ok few single given.
+    let within = last_within list one two t (listed list short) f p (among_part one acl) (λ m w ok few single given.
     exact_at list t acl m w a ok single few (given.has m ok given.looks)) in
     let asked = only_asked object requester parties in
     let fewer = with_fewer_groups best two object requester want is.valid is.shaped e parties small allowed in
-    let given = gives_of list two object (with_ids_only requester) want short e
+    let given = gives_of list two object (with_ids_only requester) want (listed list short) e
     (sound_entry list two best object (with_ids_only requester) want is.valid is.shaped small
     (λ o r fine yes. best_sound list two best is o r fine want small yes) fewer) in
     with_all_groups acl t object requester want valid a.shaped a.small parties small

@@ -7,7 +7,6 @@ use Rattle.std.specs.List.{list_any}
 use Rattle.acl_perm.specs.Bits.{IsPerm, has_bit}
 use Rattle.acl_posix.specs.Tag.{Tag, user_obj, user, is_named}
 use Rattle.acl_nfs4.specs.Ace.{Ace}
-use Rattle.acl_nfs4.specs.Limits.{most_aces}
 use Rattle.acl_eval.specs.Bridge.{image}
 use Rattle.acl_eval.specs.BridgeLaws.{IsSingle}
 use Rattle.acl_eval.specs.Pruning.{LosesNothing, PrunesTo, taken_out}
@@ -17,7 +16,7 @@ use Rattle.acl_eval.proofs.Images.{image_right, rights}
 use Rattle.acl_eval.proofs.Losses.{nothing_lost}
 use Rattle.acl_eval.proofs.Matchings.{IsMatching, Looks, Matching, none_passes, rest_looks}
 use Rattle.acl_eval.proofs.PruningEnds.{OneGroupDenies}
-use Rattle.acl_eval.proofs.PruningSituations.{IsSmall, always_has, has_always}
+use Rattle.acl_eval.proofs.PruningSituations.{IsSmall, always_has, has_always, most_listed}
 use Rattle.acl_eval.proofs.PruningSteps.{Below, Gives, Granting, IsPruned, Steps, no_step, one_more, step_leaves, step_stays}
 use Rattle.acl_eval.proofs.ShapeChecks.{some_member}
 use Rattle.acl_eval.proofs.TagMatchings.{granted_to, one_group_denies}
@@ -211,7 +210,7 @@ pub has_one : (list : List Ace) (s : EntryShape) (e : Tag) (want one : ℕ)
 has_one list s e want one within has object requester asked l bit is = has object requester asked l bit (within bit is)
 
 -- if no single permission is lost when a name is taken out, nothing is lost
-singles_suffice : (list : List Ace) (s : EntryShape) (name : Tag) → length list ≤ most_aces → IsSmall s
+singles_suffice : (list : List Ace) (s : EntryShape) (name : Tag) → length list ≤ most_listed → IsSmall s
     → is_named name ≡ true → is_in_shape s name ≡ true → Below (granted_single list) s (taken_out name s)
     → LosesNothing list s (taken_out name s)
 singles_suffice list s name short f n there below =
@@ -230,7 +229,7 @@ singles_suffice list s name short f n there below =
     ids = record { users = f.users; groups = f.groups }
 
 -- where a pruning ends, no name can be taken out without loss of a single permission
-pub pruned_singles : (list : List Ace) (s t : EntryShape) → length list ≤ most_aces → IsSmall t → PrunesTo list s t
+pub pruned_singles : (list : List Ace) (s t : EntryShape) → length list ≤ most_listed → IsSmall t → PrunesTo list s t
     → IsPruned (granted_single list) t
 pruned_singles list s t short f p name n there below =
     p.last name n there (singles_suffice list t name short f n there below)

@@ -34,6 +34,13 @@ use Rattle.acl_eval.proofs.TagMatchings.{bit_by_tags, granted_to}
 
 -- ---- ids
 
+-- the most ACEs of the lists here: as many as a list can have, and four more
+abbrev pub most_listed : ℕ
+most_listed = most_aces + 4
+
+pub listed : (list : List Ace) → length list ≤ most_aces → length list ≤ most_listed
+listed list short = omega (arith, short)
+
 -- the users and the groups of a shape are ids, and fewer than there are ids by far
 pub record IsSmall (shape : EntryShape) : Type 0 where
   pub users : (id : ℕ) → is_member id shape.users ≡ true → IsId id
@@ -57,10 +64,10 @@ out_small name shape f =
 abbrev pub all_ids : List Ace → EntryShape → EntryShape → List ℕ
 all_ids list s t = list_ids list ++ (s.users ++ (s.groups ++ (t.users ++ t.groups)))
 
-first_member : (id : ℕ) (xs ys : List ℕ) → is_member id xs ≡ true → is_member id (xs ++ ys) ≡ true
+pub first_member : (id : ℕ) (xs ys : List ℕ) → is_member id xs ≡ true → is_member id (xs ++ ys) ≡ true
 first_member id xs ys h = list_any-append (λ (x : ℕ). x == id) xs ys ∙ ap (λ (b : Bool). b || is_member id ys) h
 
-second_member : (id : ℕ) (xs ys : List ℕ) → is_member id ys ≡ true → is_member id (xs ++ ys) ≡ true
+pub second_member : (id : ℕ) (xs ys : List ℕ) → is_member id ys ≡ true → is_member id (xs ++ ys) ≡ true
 second_member id xs ys h = list_any-append (λ (x : ℕ). x == id) xs ys
     ∙ ap (λ (b : Bool). is_member id xs || b) h ∙ or_true_right (is_member id xs)
 
@@ -86,7 +93,7 @@ ids_of_second list s t = record {
     rest id h = second_member id (list_ids list) (s.users ++ (s.groups ++ (t.users ++ t.groups)))
         (second_member id s.users (s.groups ++ (t.users ++ t.groups)) (second_member id s.groups (t.users ++ t.groups) h))
 
-pub ids_few : (list : List Ace) (s t : EntryShape) → length list ≤ most_aces → IsSmall s → IsSmall t
+pub ids_few : (list : List Ace) (s t : EntryShape) → length list ≤ most_listed → IsSmall s → IsSmall t
     → length (all_ids list s t) < greatest_id - 1
 ids_few list s t short f g =
     let a = length-append (list_ids list) (s.users ++ (s.groups ++ (t.users ++ t.groups))) in
@@ -97,7 +104,7 @@ ids_few list s t short f g =
     omega (arith, a, b, c, d, e, short, f.few, g.few)
 
 -- a matching and a situation for a list and two shapes
-pub real_for : (list : List Ace) (s t : EntryShape) (m : Matching) → length list ≤ most_aces → IsSmall s → IsSmall t
+pub real_for : (list : List Ace) (s t : EntryShape) (m : Matching) → length list ≤ most_listed → IsSmall s → IsSmall t
     → IsMatching m → IsReal (all_ids list s t) m
 real_for list s t m short f g ok = real (all_ids list s t) m ok (ids_few list s t short f g)
 
@@ -140,7 +147,7 @@ is_granted list object requester want asked g bit has = bit_by_tags list object 
 
 -- ---- what an entry has
 
-pub has_always : (list : List Ace) (s : EntryShape) (e : Tag) (want : ℕ) → length list ≤ most_aces → IsSmall s
+pub has_always : (list : List Ace) (s : EntryShape) (e : Tag) (want : ℕ) → length list ≤ most_listed → IsSmall s
     → AlwaysHas list s e want → HasAlways (granted_to list) s e want
 has_always list s e want short f has m ok l =
     let r = real_for list s s m short f f ok in
@@ -158,7 +165,7 @@ always_has list s e want has object requester asked l =
 
 -- what a shape gives
 pub gives_of : (list : List Ace) (s : EntryShape) (object : Object) (requester : Requester) (want : ℕ)
-    → length list ≤ most_aces → IsSmall s → ShapeGrants list s object requester want
+    → length list ≤ most_listed → IsSmall s → ShapeGrants list s object requester want
     → Gives (granted_to list) s (tag_meets object requester) want
 gives_of list s object requester want short f g = record {
   entry = g.entry;
@@ -183,7 +190,7 @@ agree_gives list ns m n s want a w g =
 -- ---- losses
 
 -- what holds in all situations of two shapes holds for all matchings
-pub below_at : (list : List Ace) (s t : EntryShape) (want : ℕ) → length list ≤ most_aces → IsSmall s → IsSmall t
+pub below_at : (list : List Ace) (s t : EntryShape) (want : ℕ) → length list ≤ most_listed → IsSmall s → IsSmall t
     → ((object : Object) (requester : Requester) → IsAsked object requester
     → Gives (granted_to list) s (tag_meets object requester) want
     → Gives (granted_to list) t (tag_meets object requester) want)
@@ -195,13 +202,13 @@ below_at list s t want short f g all m ok given =
     (all r.object r.requester r.asked
     (agree_gives list (all_ids list s t) m (tag_meets r.object r.requester) s want back (ids_of_first list s t) given))
 
-pub below_of : (list : List Ace) (s t : EntryShape) → length list ≤ most_aces → IsSmall s → IsSmall t
+pub below_of : (list : List Ace) (s t : EntryShape) → length list ≤ most_listed → IsSmall s → IsSmall t
     → LosesNothing list s t → Below (granted_to list) s t
 below_of list s t short f g loses m want ok small given = below_at list s t want short f g
     (λ object requester asked before. gives_of list t object requester want short g
     (loses object requester asked want small (gives_from list s object requester want before))) m ok given
 
-pub loses_of : (list : List Ace) (s t : EntryShape) → length list ≤ most_aces → IsSmall s
+pub loses_of : (list : List Ace) (s t : EntryShape) → length list ≤ most_listed → IsSmall s
     → Below (granted_to list) s t → LosesNothing list s t
 loses_of list s t short f below object requester asked want small given =
     gives_from list t object requester want (below (tag_meets object requester) want
@@ -209,7 +216,7 @@ loses_of list s t short f below object requester asked want small given =
 
 -- ---- prunings
 
-pub steps_of : (list : List Ace) (s t : EntryShape) → Prunes list s t → length list ≤ most_aces → IsSmall s
+pub steps_of : (list : List Ace) (s t : EntryShape) → Prunes list s t → length list ≤ most_listed → IsSmall s
     → Steps (granted_to list) s t
 steps_of list a b (none s) short f = no_step s
 steps_of list a b (next s t name n there loses rest) short f = one_more s t name n there
@@ -355,7 +362,7 @@ shape_within s = record {
   groups = λ id h. second_member id s.users s.groups h;
 }
 
-member_of_two : (id : ℕ) (xs ys : List ℕ) → (is_member id xs ≡ true → IsId id) → (is_member id ys ≡ true → IsId id)
+pub member_of_two : (id : ℕ) (xs ys : List ℕ) → (is_member id xs ≡ true → IsId id) → (is_member id ys ≡ true → IsId id)
     → is_member id (xs ++ ys) ≡ true → IsId id
 member_of_two id xs ys first second h = elim (cases_Bool (is_member id xs)) [
   | inl has ↦ first has
@@ -369,7 +376,7 @@ small_agree s object requester f p = only_agree object requester (s.users ++ s.g
     (λ id h. member_of_two id s.users s.groups (f.users id) (f.groups id) h)
 
 -- if a shape gives no more than another, a sound ACL of the first shape grants nothing more than the ACL of the other
-pub grants_no_more : (list : List Ace) (s t : EntryShape) (best acl : Entries) → length list ≤ most_aces → IsSmall s
+pub grants_no_more : (list : List Ace) (s t : EntryShape) (best acl : Entries) → length list ≤ most_listed → IsSmall s
     → IsSmall t → IsBest list s best → IsAcl acl → HasShape t acl → IsSound list acl → Below (granted_to list) t s
     → GrantsNothingMore acl best
 grants_no_more list s t best acl short f g is valid shaped sound below want small object requester p allowed =

@@ -169,7 +169,7 @@ tagged_first test a aces bit rest = by (has_bit a.mask.bits bit) refl
     by false e = rw e refl
 
 -- what is decided by keys, if one more is behind them
-keys_more : (test : Tag → Bool) (keys : List TagKey) (key : TagKey) (rest : Bool)
+pub keys_more : (test : Tag → Bool) (keys : List TagKey) (key : TagKey) (rest : Bool)
     → column_decided_by test (keys_of (keys ++ key ∷ [])) rest
     ≡ column_decided_by test (keys_of keys) (if test (tag_of key.whom) then is_allow key.kind else rest)
 keys_more test [] key rest = refl
@@ -191,7 +191,7 @@ settled test t ((u, k) ∷ keys) x y has passes =
         (others (sym (ap (λ (b : Bool). b || has_tag t keys) e) ∙ has))
 
 -- an ACE with a tag that is there decides nothing more
-kept : (test : Tag → Bool) (t : Tag) (keys : TagColumn) (allow rest : Bool) → has_tag t keys ≡ true
+pub kept : (test : Tag → Bool) (t : Tag) (keys : TagColumn) (allow rest : Bool) → has_tag t keys ≡ true
     → column_decided_by test keys rest ≡ column_decided_by test keys (if test t then allow else rest)
 kept test t keys allow rest has = by (test t) refl
   where
@@ -248,7 +248,7 @@ turned : (t u : Tag) → eq_by_cmp tag_cmp t u ≡ false → eq_by_cmp tag_cmp u
 turned t u e = (eq_by_cmp_equiv tags_total).symm u t ∙ e
 
 -- a key with another tag adds no tag
-apart : (key : TagKey) (t : Tag) (keys : List TagKey) → has_tag t (keys_of keys) ≡ false
+pub apart : (key : TagKey) (t : Tag) (keys : List TagKey) → has_tag t (keys_of keys) ≡ false
     → eq_by_cmp tag_cmp (tag_of key.whom) t ≡ false → has_tag t (keys_of (keys ++ key ∷ [])) ≡ false
 apart key t [] h e = rw (turned (tag_of key.whom) t e) refl
 apart key t (k ∷ keys) h e = both (λ g. apart key t keys g e) (eq_by_cmp tag_cmp t (tag_of k.whom)) h
@@ -324,6 +324,11 @@ pub tagged_end : (table : Table) (aces : List TaggedAce) (rest : List Ace) (bit 
 tagged_end table aces rest bit object requester whole none before =
     sym before ∙ ap (λ (xs : List Ace). column_decided_by (tag_meets object requester) (tagged_column aces bit)
     (grants_bit (with_ids table xs) (by_name object requester) bit)) none
+
+-- there are no more keys than ACEs
+pub few_keys : (aces given : List TaggedAce) (keys : List TagKey) → given ≡ aces → length aces ≤ most_aces
+    → length keys ≤ length given → length keys ≤ most_aces
+few_keys aces given keys same few short = omega (arith, few, short, ap (λ (xs : List TaggedAce). length xs) same)
 
 -- the keys of one right are its column
 pub column_is : (list : List Ace) (bit : ℕ) (aces given : List TaggedAce) (keys : List TagKey) → given ≡ aces

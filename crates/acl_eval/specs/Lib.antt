@@ -26,6 +26,7 @@ pub mod Pruning
 pub mod PruningLaws
 pub mod ListNames
 pub mod PosixOfList
+pub mod PosixForOwner
 pub mod LostGrants
 pub mod Programs
 pub mod internal

@@ -34,10 +34,11 @@ group_id_in table group = None
 group_id_in table (group_named name) = id_of_name table.groups name
 group_id_in table everyone = None
 
--- the id of the user whom an ACE names that counts, and that of the group
+-- the id of the user whom an ACE names that counts
 abbrev pub counted_user : Table → Ace → Option ℕ
 counted_user table a = if is_ace_counted a then user_id_in table (principal_of a) else None
 
+-- the id of the group that an ACE names that counts
 abbrev pub counted_group : Table → Ace → Option ℕ
 counted_group table a = if is_ace_counted a then group_id_in table (principal_of a) else None
 
@@ -46,10 +47,11 @@ abbrev pub is_number_of : Option ℕ → ℕ → Bool
 is_number_of None id = false
 is_number_of (Some n) id = n == id
 
--- an ACE that counts names the user, or the group
+-- an ACE that counts names the user of this id
 abbrev pub names_user : Table → List Ace → ℕ → Bool
 names_user table list id = list_any (λ a. is_number_of (counted_user table a) id) list
 
+-- an ACE that counts names the group of this id
 abbrev pub names_group : Table → List Ace → ℕ → Bool
 names_group table list id = list_any (λ a. is_number_of (counted_group table a) id) list
 

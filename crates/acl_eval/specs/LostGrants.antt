@@ -1,6 +1,6 @@
 -- What an NFSv4 list grants and a POSIX ACL does not (this library's own: neither RFC 8881 nor acl(5) compares them). The
 -- access check of acl(5), "ACCESS CHECK ALGORITHM", asks by ids, so the list is one whose names are the digits of ids.
-use Rattle.std.specs.Prelude.{◌≡◌, ◌<◌, ◌↔◌, ℕ, ◌+◌, List, IsFalse, IsTrue, Some, length}
+use Rattle.std.specs.Prelude.{◌≡◌, ◌≤◌, ◌<◌, ◌↔◌, ℕ, ◌+◌, List, IsFalse, IsTrue, Some, length}
 use Rattle.std.specs.FinMap as set
 use Rattle.acl_posix.specs.Check.{Object, Requester, grants, ids}
 use Rattle.acl_posix.specs.Entries.{Entries}
@@ -39,12 +39,13 @@ abbrev pub lost_requester : LostGrant → Requester
 lost_requester lost = record { user = lost.user.value; groups = ids lost.groups.items }
 
 -- the permission is read, write or execute alone; the list grants its rights to the requester on the object, and the
--- ACL does not grant the permission
+-- ACL does not grant the permission; the requester is in at most three groups
 pub record IsLossOf (list : List Ace) (entries : Entries) (lost : LostGrant) : Type 0 where
   pub asked : IsAsked (lost_object lost) (lost_requester lost)
   pub single : IsSingle lost.perm.bits
   pub granted : Grant list (by_name (lost_object lost) (lost_requester lost)) (image lost.perm.bits)
   pub denied : IsFalse (grants entries (lost_object lost) (lost_requester lost) lost.perm.bits)
+  pub few : length lost.groups.items ≤ 3
 
 -- the users and the groups that the list names, each once, and the entries of the ACL are together more than a bound
 pub record AreMoreThan (most : ℕ) (table : Table) (list : List Ace) (entries : Entries) : Type 0 where

@@ -1,6 +1,6 @@
--- That some lists have no greatest sound POSIX ACL (this library's own): for each of three lists there are two sound ACLs,
--- and no sound ACL grants all that both grant. The users and the groups are given by ids: a user has the id 1, and a
--- group the id 2.
+-- That some lists have no greatest sound POSIX ACL (this library's own): for each of three lists there are two sound
+-- ACLs, and no sound ACL grants all that both grant. The users and the groups are given by ids: a user has the id 1,
+-- and a group the id 2.
 use Rattle.std.specs.Prelude.{◌≡◌, ℕ, ◌==◌, false, List, [], ◌∷◌, ◌++◌}
 use Rattle.std.specs.FinMap as set
 use Rattle.acl_perm.specs.declared.kind.Kind.TheVariants.{Allow, Deny}

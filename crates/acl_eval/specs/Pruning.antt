@@ -42,8 +42,8 @@ is_shared (group id) = true
 is_shared mask = false
 is_shared other = true
 
--- after a user or a group is taken out, each GROUP_OBJ, GROUP and OTHER entry has what it had, and what the entry that was
--- taken out had
+-- after a user or a group is taken out, each GROUP_OBJ, GROUP and OTHER entry has what it had, and what the entry that
+-- was taken out had
 abbrev pub KeepsEntries : List Ace → EntryShape → Tag → Type 0
 KeepsEntries list shape name = (entry : Tag) → is_shared entry ≡ true → is_in_shape (taken_out name shape) entry ≡ true
     → (want : ℕ) → IsPerm want → AlwaysHas list shape entry want ⊎ AlwaysHas list shape name want

@@ -105,6 +105,22 @@ GrantsDecideTheEnd = (list second : List Ace) (one two three : EntryShape) (best
     → length second ≤ most_aces → HasFewIds one → GrantSamePermissions list second → PrunesTo list one two → IsBest list two best
     → PrunesTo second one three → IsBest second three one_more → EndsAlike two three best one_more
 
+-- the ACLs have the same entries other than MASK. If they have an entry for a user or a group, or if both have a MASK
+-- or neither has one, they are the same
+pub record HaveOneAcl (best one_more : Entries) : Type 0 where
+  pub entries : (entry : Tag) → (entry ≡ tag.mask → ⊥) → set.get best entry ≡ set.get one_more entry
+  pub named : (name : Tag) → tag.is_named name ≡ true → set.contains_key best name ≡ true → best ≡ one_more
+  pub whole : set.contains_key best tag.mask ≡ set.contains_key one_more tag.mask → best ≡ one_more
+
+-- if two lists grant the same, and each pruning began with all names of its list, what they grant decides the ACL,
+-- whatever users and groups the lists name
+abbrev pub GrantsGiveOneAcl : Type 0
+GrantsGiveOneAcl = (list second : List Ace) (one two three four : EntryShape) (best one_more : Entries)
+    → length list ≤ most_aces → length second ≤ most_aces → HasFewIds one → HasFewIds three
+    → HasNamesOf one list → HasNamesOf three second → GrantSamePermissions list second
+    → PrunesTo list one two → IsBest list two best → PrunesTo second three four → IsBest second four one_more
+    → HaveOneAcl best one_more
+
 -- ---- from the list of a POSIX ACL back
 
 -- from the list of a POSIX ACL, a pruning that began with its users and groups leads back to an ACL that answers alike

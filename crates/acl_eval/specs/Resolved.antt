@@ -1,5 +1,5 @@
--- A list for one object, in which the names of the object's owner and of its owning group stand for `OWNER@` and `GROUP@`
--- (this library's own, over RFC 8881, section 6.2.1.5).
+-- A list for one object, in which the names of the object's owner and of its owning group stand for `OWNER@` and
+-- `GROUP@` (this library's own, over RFC 8881, section 6.2.1.5).
 use Rattle.std.specs.Prelude.{◌≡◌, ◌↔◌, ⊤, ℕ, Bool, false, not, List, map, Option, Some, bit_or}
 use Rattle.std.specs.List.{position_from}
 use Rattle.acl_perm.specs.Bits.{IsSubset, identifier_group_alone}

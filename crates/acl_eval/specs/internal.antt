@@ -29,5 +29,7 @@ pub mod RequestBody
 pub mod ShapeBody
 -- how users and groups are taken out of the shape of a POSIX ACL
 pub mod PruningBody
+-- how the keys of a list are read for a known owner and owning group
+pub mod OwnerBody
 -- how a lost grant is searched
 pub mod LossBody

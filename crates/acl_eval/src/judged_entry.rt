@@ -87,8 +87,8 @@ fn decided_if(has: bool, keys: &[TagKey], entry: Tag) -> usize
     if has { decided_place(keys, entry) } else { 0 }
 }
 
-// Returns the place of the first key that decides whenever the check looks at the entry.
-fn decided_place(keys: &[TagKey], entry: Tag) -> usize
+/// Returns the place of the first key that decides whenever the check looks at the entry.
+pub(crate) fn decided_place(keys: &[TagKey], entry: Tag) -> usize
     ensures { result ≡ decided_place (tag_of entry) keys.now }
 {
     first_certain(keys, entry).unwrap_or(keys.len())

@@ -1,16 +1,19 @@
 //! Who loses read, write or execute when a POSIX ACL takes the place of an NFSv4 list.
-ghost use Rattle.std.specs.Prelude.{◌≡◌, ◌≤◌, ◌↔◌, ◌+◌, ◌++◌, ◌==◌, IfErr, IfOk, IfSome, IsTrue, None, OnOk, false, length};
+ghost use Rattle.std.specs.Prelude.{◌≡◌, ◌≤◌, ◌↔◌, ◌+◌, ◌++◌, ◌==◌, List, IfErr, IfOk, IfSome, IsTrue, None, OnOk, false, is_some, length, map, option_map};
+ghost use Rattle.std.specs.List.{AllByRecursion};
 ghost use Rattle.std.specs.FinMap as set;
-ghost use Rattle.acl_posix.specs.Check.{ids, is_member};
+ghost use Rattle.acl_posix.specs.Check.{entry_contains, ids, is_contained, is_member};
 ghost use Rattle.acl_posix.specs.Tag.{qualifier, tag_of};
-ghost use Rattle.acl_eval.specs.Ids.{HaveIds, with_ids};
+ghost use Rattle.acl_nfs4.specs.Ace.{Ace};
+ghost use Rattle.acl_eval.specs.Ids.{with_ids};
 ghost use Rattle.acl_eval.specs.LostGrants.{IsLossFault, IsLossOf, KeepsSingles, lost_object, lost_requester};
-ghost use Rattle.acl_eval.specs.internal.LossBody.{AreKept, AreKeptWithOne, AreKeptWithTwo, AreSmall, AreUnused, IsBounded, IsFoundOr, IsKeptWith, chosen_object, chosen_requester, entry_numbers, groups_for, is_lost, is_owner_tag, key_numbers, most_used, search_of, used_numbers, user_or};
-ghost use Rattle.acl_eval.specs.internal.ShapeBody.{column_decided_by, keys_of, tag_meets};
+ghost use Rattle.acl_eval.specs.internal.LossBody.{AreKept, AreKeptWith, AreKeptWithOne, AreSmall, AreUnused, IsBounded, IsFoundOr, IsJudgedTag, allowed_tags, are_together, are_two_users, chosen_object, chosen_requester, entry_numbers, groups_for, has_masked, is_allowed_in, is_first, is_left_by, is_lost, is_owner_tag, is_passed, is_second, is_user_but, key_numbers, lacks, level, most_used, search_of, used_numbers, user_or};
+ghost use Rattle.acl_eval.specs.internal.ShapeBody.{AreColumns, column_decided_by, keys_of, tag_meets};
 
+use crate::judged_entry::decided_place;
 use crate::list_names::{groups_of, users_of};
 use crate::permissions::{EXECUTE, READ, WRITE};
-use crate::posix_shape::{ShapeFault, is_among};
+use crate::posix_shape::{ShapeFault, is_among, is_certain};
 use crate::prepared_ids::first_unknown;
 use crate::tag_column::{Columns, TagKey, columns_of};
 use acl_nfs4::AclView;
@@ -39,6 +42,17 @@ struct Wanted<'a> {
     first: &'a [TagKey],
     second: &'a [TagKey],
     perm: Perm,
+}
+
+// A tag, the places of the keys that decide both columns wherever only its principal matches, and what the ACL has for
+// it. With these numbers, three tags are compared without a situation.
+#[derive(Clone, Copy)]
+struct JudgedTag {
+    tag: Tag,
+    first: usize,
+    second: usize,
+    level: u8,
+    lacks: bool,
 }
 
 // Two ids, for users or for groups, that neither the list nor the ACL names.
@@ -70,8 +84,8 @@ impl<'a> Wanted<'a> {
 ///
 /// Fails with `NoId` for the first ACE whose user or group has no id, also if the ACE takes no part; with `TooManyNames`
 /// if the users and groups that the list names and the entries of the ACL are together more than `most`; and with
-/// `Memory` if memory runs out. The time is at most proportional to the fourth power of this number, besides the look-ups
-/// of names and the time to read the list.
+/// `Memory` if memory runs out. The time is at most proportional to the cube of this number, besides the look-ups of
+/// names and the time to read the list.
 ///
 /// ```rust
 /// let list = parse_text(alloc, b"ALLOW GROUP WRITE_DATA 5\nALLOW GROUP APPEND_DATA 7")?;
@@ -99,7 +113,8 @@ pub fn lost_grant(
     if !are_few(alloc, list, acl, names, most)? {
         return Err(ShapeFault::TooManyNames);
     }
-    Ok(first_lost(alloc, list, acl, names)?)
+    let columns = columns_of(alloc, list, names)?;
+    Ok(first_lost(alloc, &columns, acl)?)
 }
 
 // Returns whether the users and groups that the list names and the entries of the ACL are together at most this many.
@@ -127,20 +142,19 @@ fn is_sum_within(users: &[Id], groups: &[Id], entries: &[Entry], most: u16) -> b
         && entries.len() <= most - users.len() - groups.len()
 }
 
-// Returns a loss, if there is one, for a list in which each name has an id. Fails only if memory runs out.
-fn first_lost(
+/// Returns a loss, if there is one, for the list of which these are the columns. Fails only if memory runs out.
+pub(crate) fn first_lost(
     alloc: Global,
-    list: &AclView<'_>,
+    columns: &Columns,
     acl: &PosixAcl,
-    names: &Names,
 ) -> Result<Option<LostGrant>, AllocError>
-    requires known { HaveIds names.now list.now }
-    requires few { length (set.entries acl.now) ≤ 65535 }
-    ensures found { IfOk result (λ lost. IfSome lost (IsLossOf (with_ids names.now list.now) acl.now)) }
-    ensures none { IfOk result (λ lost. lost ≡ None → KeepsSingles (with_ids names.now list.now) acl.now) }
+    requires few { AreSmall columns.now acl.now }
+    ensures found { (list : List Ace) → AreColumns list columns.now
+        → IfOk result (λ lost. IfSome lost (IsLossOf list acl.now)) }
+    ensures none { (list : List Ace) → AreColumns list columns.now
+        → IfOk result (λ lost. lost ≡ None → KeepsSingles list acl.now) }
 {
-    let columns = columns_of(alloc, list, names)?;
-    let unused = unused_ids(alloc, &columns, acl)?;
+    let unused = unused_ids(alloc, columns, acl)?;
     // Called for its clauses: the entries of an ACL are valid.
     acl.entries();
     let read = Wanted::new(&columns.read, &columns.read, READ);
@@ -165,11 +179,15 @@ fn lost_of(
     unused: Unused,
 ) -> Result<Option<LostGrant>, AllocError>
     ensures { IfOk result (IsFoundOr (search_of wanted.now acl.now unused)
-        (AreKept (search_of wanted.now acl.now unused) (keys_of wanted.now.first.now))) }
+        (AreKept (search_of wanted.now acl.now unused) (set.entries acl.now))) }
 {
-    for key in wanted.first {
-        if key.kind == Kind::Allow {
-            if let Some(lost) = lost_with_one(alloc, wanted, acl, unused, key.whom)? {
+    let firsts = allowed_tags(alloc, wanted, acl, wanted.first)?;
+    let seconds = allowed_tags(alloc, wanted, acl, wanted.second)?;
+    let entries = acl.entries();
+    for entry in entries {
+        let denied = judged_tag(wanted, acl, entry.tag);
+        if denied.lacks {
+            if let Some(lost) = lost_with(alloc, wanted, acl, unused, &denied, &firsts, &seconds)? {
                 return Ok(Some(lost));
             }
         }
@@ -177,47 +195,217 @@ fn lost_of(
     Ok(None)
 }
 
-// Returns a loss in a situation in which this principal matches, with one of the second column and one of an entry.
+// Returns the tags of those keys that can decide the column, and then allow.
+fn allowed_tags(
+    alloc: Global,
+    wanted: &Wanted<'_>,
+    acl: &PosixAcl,
+    keys: &[TagKey],
+) -> Result<Vec<JudgedTag>, AllocError>
+    ensures judged { IfOk result (λ tags. AllByRecursion (IsJudgedTag wanted.now acl.now) tags.items) }
+    ensures tags { IfOk result (λ tags. map (λ one. tag_of one.tag) tags.items
+        ≡ allowed_tags (keys_of keys.now) (keys_of keys.now)) }
+{
+    let mut tags = Vec::new(alloc);
+    for key in keys {
+        if is_allowed_in(keys, key.whom) {
+            tags.push(judged_tag(wanted, acl, key.whom))?;
+        }
+    }
+    Ok(tags)
+}
+
+// Returns what is known of a tag.
+fn judged_tag(wanted: &Wanted<'_>, acl: &PosixAcl, tag: Tag) -> JudgedTag
+    ensures judged { IsJudgedTag wanted.now acl.now result }
+    ensures tag { result.tag ≡ tag }
+{
+    let first = decided_place(wanted.first, tag);
+    let second = decided_place(wanted.second, tag);
+    let level = level(acl, tag);
+    let lacks = lacks(acl, wanted.perm, tag);
+    JudgedTag {
+        tag,
+        first,
+        second,
+        level,
+        lacks,
+    }
+}
+
+// Returns whether the first key that is certain for the tag is an ALLOW.
+fn is_allowed_in(keys: &[TagKey], whom: Tag) -> bool
+    ensures { result ≡ is_allowed_in (tag_of whom) (keys_of keys.now) }
+{
+    for key in keys {
+        if is_certain(whom, key.whom) {
+            return key.kind == Kind::Allow;
+        }
+    }
+    false
+}
+
+// Returns how early the check of acl(5) decides by the entry of a tag.
+fn level(acl: &PosixAcl, tag: Tag) -> u8
+    ensures { result ≡ level acl.now (tag_of tag) }
+{
+    match tag {
+        Tag::UserObj => 3,
+        Tag::User(_) => 2 * u8::from(has_entry(acl, tag)),
+        Tag::GroupObj => 1,
+        Tag::Group(_) => u8::from(has_entry(acl, tag)),
+        Tag::Mask | Tag::Other => 0,
+    }
+}
+
+fn has_entry(acl: &PosixAcl, tag: Tag) -> bool
+    ensures { result ≡ is_some (set.get acl.now (tag_of tag)) }
+{
+    is_there(acl.get(tag))
+}
+
+fn is_there(perm: Option<Perm>) -> bool
+    ensures { result ≡ is_some (option_map (λ p. p.bits) perm) }
+{
+    match perm {
+        Some(_) => true,
+        None => false,
+    }
+}
+
+// Returns whether the tag has no entry with the permission, or MASK takes it away. MASK itself denies nobody.
+fn lacks(acl: &PosixAcl, perm: Perm, tag: Tag) -> bool
+    ensures { result ≡ lacks acl.now perm.bits (tag_of tag) }
+{
+    match tag {
+        Tag::UserObj | Tag::Other => !has(acl, perm, tag),
+        Tag::User(_) | Tag::GroupObj | Tag::Group(_) => !has_masked(acl, perm, tag),
+        Tag::Mask => false,
+    }
+}
+
+fn has_masked(acl: &PosixAcl, perm: Perm, tag: Tag) -> bool
+    ensures { result ≡ has_masked acl.now perm.bits (tag_of tag) }
+{
+    has(acl, perm, tag) && is_left_by(acl.get(Tag::Mask), perm)
+}
+
+fn has(acl: &PosixAcl, perm: Perm, tag: Tag) -> bool
+    ensures { result ≡ entry_contains acl.now (tag_of tag) perm.bits }
+{
+    is_contained(acl.get(tag), perm)
+}
+
+fn is_contained(own: Option<Perm>, perm: Perm) -> bool
+    ensures { result ≡ is_contained (option_map (λ p. p.bits) own) perm.bits }
+{
+    match own {
+        Some(own) => own.contains(perm),
+        None => false,
+    }
+}
+
+fn is_left_by(mask: Option<Perm>, perm: Perm) -> bool
+    ensures { result ≡ is_left_by (option_map (λ p. p.bits) mask) perm.bits }
+{
+    match mask {
+        Some(mask) => mask.contains(perm),
+        None => true,
+    }
+}
+
+// Returns a loss in a situation in which the principal of this entry matches, with one of each column.
+fn lost_with(
+    alloc: Global,
+    wanted: &Wanted<'_>,
+    acl: &PosixAcl,
+    unused: Unused,
+    denied: &JudgedTag,
+    firsts: &[JudgedTag],
+    seconds: &[JudgedTag],
+) -> Result<Option<LostGrant>, AllocError>
+    ensures { IfOk result (IsFoundOr (search_of wanted.now acl.now unused)
+        (AreKeptWith (search_of wanted.now acl.now unused) denied.now firsts.now seconds.now)) }
+{
+    for one in firsts {
+        if is_first(one, denied) {
+            if let Some(lost) = lost_with_one(alloc, wanted, acl, unused, denied, one, seconds)? {
+                return Ok(Some(lost));
+            }
+        }
+    }
+    Ok(None)
+}
+
+// Returns a loss in a situation in which these two principals match, with one of the second column.
 fn lost_with_one(
     alloc: Global,
     wanted: &Wanted<'_>,
     acl: &PosixAcl,
     unused: Unused,
-    one: Tag,
+    denied: &JudgedTag,
+    one: &JudgedTag,
+    seconds: &[JudgedTag],
 ) -> Result<Option<LostGrant>, AllocError>
     ensures { IfOk result (IsFoundOr (search_of wanted.now acl.now unused)
-        (AreKeptWithOne (search_of wanted.now acl.now unused) (tag_of one) (keys_of wanted.now.second.now))) }
+        (AreKeptWithOne (search_of wanted.now acl.now unused) denied.now one.now seconds.now)) }
 {
-    for key in wanted.second {
-        if key.kind == Kind::Allow {
-            if let Some(lost) = lost_with_two(alloc, wanted, acl, unused, one, key.whom)? {
-                return Ok(Some(lost));
+    for two in seconds {
+        if is_second(two, denied) && are_together(one, two) {
+            let chosen = situation_of(alloc, unused, wanted.perm, one.tag, two.tag, denied.tag)?;
+            if is_lost(wanted, acl, &chosen) {
+                return Ok(Some(chosen));
             }
         }
     }
     Ok(None)
 }
 
-// Returns a loss in a situation in which these two principals match, with one of an entry.
-fn lost_with_two(
-    alloc: Global,
-    wanted: &Wanted<'_>,
-    acl: &PosixAcl,
-    unused: Unused,
-    one: Tag,
-    two: Tag,
-) -> Result<Option<LostGrant>, AllocError>
-    ensures { IfOk result (IsFoundOr (search_of wanted.now acl.now unused)
-        (AreKeptWithTwo (search_of wanted.now acl.now unused) (tag_of one) (tag_of two) (set.entries acl.now))) }
+// Returns whether the key of the first tag decides the first column, and the entry of the second tag denies, where both
+// match.
+fn is_first(one: &JudgedTag, denied: &JudgedTag) -> bool
+    ensures { result ≡ is_first one.now denied.now }
 {
-    let entries = acl.entries();
-    for entry in entries {
-        let chosen = situation_of(alloc, unused, wanted.perm, one, two, entry.tag)?;
-        if is_lost(wanted, acl, &chosen) {
-            return Ok(Some(chosen));
-        }
+    one.first <= denied.first && is_passed(one, denied) && !are_two_users(one.tag, denied.tag)
+}
+
+fn is_second(two: &JudgedTag, denied: &JudgedTag) -> bool
+    ensures { result ≡ is_second two.now denied.now }
+{
+    two.second <= denied.second && is_passed(two, denied) && !are_two_users(two.tag, denied.tag)
+}
+
+// Returns whether each of the two tags decides its column where both match.
+fn are_together(one: &JudgedTag, two: &JudgedTag) -> bool
+    ensures { result ≡ are_together one.now two.now }
+{
+    one.first <= two.first && two.second <= one.second && !are_two_users(one.tag, two.tag)
+}
+
+// Returns whether the check denies by the entry of the second tag, and does not grant by that of the first.
+fn is_passed(one: &JudgedTag, denied: &JudgedTag) -> bool
+    ensures { result ≡ is_passed one.now denied.now }
+{
+    one.level < denied.level || (one.level == denied.level && one.lacks)
+}
+
+// Returns whether both are users, and not the same one.
+fn are_two_users(one: Tag, two: Tag) -> bool
+    ensures { result ≡ are_two_users (tag_of one) (tag_of two) }
+{
+    match one {
+        Tag::User(id) => is_user_but(id, two),
+        Tag::UserObj | Tag::GroupObj | Tag::Group(_) | Tag::Mask | Tag::Other => false,
     }
-    Ok(None)
+}
+
+fn is_user_but(id: Id, tag: Tag) -> bool
+    ensures { result ≡ is_user_but id.value (tag_of tag) }
+{
+    match tag {
+        Tag::User(one) => id.value != one.value,
+        Tag::UserObj | Tag::GroupObj | Tag::Group(_) | Tag::Mask | Tag::Other => false,
+    }
 }
 
 // Returns the situation in which only the principals of three tags match. Fails only if memory runs out.
@@ -234,6 +422,7 @@ fn situation_of(
     ensures requester { IfOk result (λ lost. lost_requester lost
         ≡ chosen_requester unused.one.value (tag_of one) (tag_of two) (tag_of three)) }
     ensures perm { IfOk result (λ lost. lost.perm ≡ perm) }
+    ensures few { IfOk result (λ lost. length lost.groups.items ≤ 3) }
 {
     let mut groups = Vec::new(alloc);
     add_group(&mut groups, one, unused.one)?;
@@ -254,8 +443,9 @@ fn situation_of(
 
 // Adds the group of a tag, if it has one. The owning group is this one.
 fn add_group(groups: &mut Vec<Id>, tag: Tag, owning_group: Id) -> Result<(), AllocError>
-    ensures { OnOk result (ids groups.new.items
+    ensures ids { OnOk result (ids groups.new.items
         ≡ ids groups.old.items ++ groups_for owning_group.value (tag_of tag)) }
+    ensures few { OnOk result (length groups.new.items ≤ length groups.old.items + 1) }
 {
     match tag {
         Tag::GroupObj => groups.push(owning_group)?,

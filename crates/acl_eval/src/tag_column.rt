@@ -5,7 +5,7 @@ ghost use Rattle.acl_perm.specs.Principal.{principal};
 ghost use Rattle.acl_posix.specs.Tag.{Tag as TagValue, tag_cmp, tag_of};
 ghost use Rattle.acl_nfs4.specs.Limits.{most_aces};
 ghost use Rattle.acl_eval.specs.Ids.{HaveIds, with_ids};
-ghost use Rattle.acl_eval.specs.internal.ShapeBody.{AreColumns, AreFirst, DecidesColumnAs, column_decided_by, has_tag, keys_of, principal_tag, tagged_column};
+ghost use Rattle.acl_eval.specs.internal.ShapeBody.{AreColumns, AreFirst, DecidesColumnAs, HaveFewKeys, column_decided_by, has_tag, keys_of, principal_tag, tagged_column};
 
 use crate::id_names::{group_id, user_id};
 use acl_nfs4::AclView;
@@ -45,7 +45,8 @@ pub(crate) fn columns_of(
     names: &Names,
 ) -> Result<Columns, AllocError>
     requires { HaveIds names.now list.now }
-    ensures { IfOk result (AreColumns (with_ids names.now list.now)) }
+    ensures columns { IfOk result (AreColumns (with_ids names.now list.now)) }
+    ensures few { IfOk result HaveFewKeys }
 {
     let aces = tagged_aces(alloc, list, names)?;
     let read = column(alloc, &aces, READ_DATA)?;
@@ -121,8 +122,8 @@ fn column(alloc: Global, aces: &[TaggedAce], right: Right) -> Result<Vec<TagKey>
     Ok(keys)
 }
 
-// Returns whether the tag is one of those of the keys.
-fn has_tag(keys: &[TagKey], whom: Tag) -> bool
+/// Returns whether the tag is one of those of the keys.
+pub(crate) fn has_tag(keys: &[TagKey], whom: Tag) -> bool
     ensures { result ≡ has_tag (tag_of whom) (keys_of keys.now) }
 {
     for key in keys {

@@ -13,6 +13,7 @@ mod losses;
 mod mode_changes;
 mod modes;
 mod naming;
+mod owners;
 mod pruning;
 mod resolving;
 mod shapes;

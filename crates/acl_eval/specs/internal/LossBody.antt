@@ -1,17 +1,17 @@
 -- How a lost grant is searched: three tags are chosen, and only their principals match. This library's own.
-use Rattle.std.specs.Prelude.{◌≡◌, ◌≤◌, ◌↔◌, ℕ, ◌+◌, ◌==◌, ◌&&◌, ◌||◌, not, Bool, false, true, IsTrue, List, [], ◌∷◌, ◌++◌, length, map, Option, None, Some, if◌then◌else◌}
-use Rattle.std.specs.List.{AllByRecursion}
+use Rattle.std.specs.Prelude.{◌≡◌, ◌≤◌, ◌<◌, ◌↔◌, ◌⊎◌, ℕ, ◌+◌, ◌==◌, ◌&&◌, ◌||◌, not, Bool, false, true, IsTrue, List, [], ◌∷◌, ◌++◌, filter, length, map, Option, None, Some, if◌then◌else◌, is_some, nat_lt}
+use Rattle.std.specs.List.{AllByRecursion, position_or_len}
 use Rattle.std.specs.FinMap as set
-use Rattle.acl_perm.specs.Kind.{is_allow}
-use Rattle.acl_posix.specs.Check.{Object, Requester, grants, is_member}
+use Rattle.acl_posix.specs.Check.{Object, Requester, contains, entry_contains, grants, is_member}
 use Rattle.acl_posix.specs.Entries.{Entries}
 use Rattle.acl_posix.specs.Names.{Table}
-use Rattle.acl_posix.specs.Tag.{Tag, user_obj, user, group_obj, group, mask, other, qualifier}
+use Rattle.acl_posix.specs.Tag.{Tag, user_obj, user, group_obj, group, mask, other, qualifier, tag_of}
 use Rattle.acl_nfs4.specs.Ace.{Ace}
 use Rattle.acl_eval.specs.ListNames.{AreNamesOf}
 use Rattle.acl_eval.specs.LostGrants.{lost_object, lost_requester}
 use Rattle.acl_eval.specs.ToPosix.{EntryShape, size_of}
-use Rattle.acl_eval.specs.internal.ShapeBody.{TagColumn, column_decided_by, keys_of, most_keys, tag_meets}
+use Rattle.acl_eval.specs.internal.ShapeBody.{TagColumn, column_decided_by, has_tag, is_certain, keys_of, most_keys, most_names, tag_meets}
+use Rattle.acl_eval.specs.declared.losing.JudgedTag.{JudgedTag}
 use Rattle.acl_eval.specs.declared.losing.LostGrant.{LostGrant}
 use Rattle.acl_eval.specs.declared.losing.Unused.{Unused}
 use Rattle.acl_eval.specs.declared.losing.Wanted.{Wanted}
@@ -94,23 +94,138 @@ is_lost first second entries want object requester = column_decided_by (tag_meet
 abbrev pub IsKeptWith : LossSearch → Tag → Tag → Tag → Type 0
 IsKeptWith s a b c = is_lost s.first s.second s.entries s.want (chosen_object s.one s.next a b c) (chosen_requester s.one a b c) ≡ false
 
--- nor in those of two tags and the tag of any entry
-abbrev pub AreKeptWithTwo : LossSearch → Tag → Tag → List (Tag × ℕ) → Type 0
-AreKeptWithTwo s a b entries = AllByRecursion (λ entry. IsKeptWith s a b entry.0) entries
+-- ---- which three tags the search tries
 
--- nor in those of one tag, that of any ALLOW of some keys, and that of any entry
-abbrev pub AreKeptWithOne : LossSearch → Tag → TagColumn → Type 0
-AreKeptWithOne s a keys =
-    AllByRecursion (λ key. is_allow key.1 ≡ true → AreKeptWithTwo s a key.0 (set.entries s.entries)) keys
+-- the place of the first key that decides wherever only the principal of the tag matches: its own, or EVERYONE@
+abbrev pub certain_place : Tag → TagColumn → ℕ
+certain_place t keys = position_or_len (λ key. is_certain t key.0) keys
 
--- nor in those of any ALLOW of some keys, any of the second column, and any entry
-abbrev pub AreKept : LossSearch → TagColumn → Type 0
-AreKept s keys = AllByRecursion (λ key. is_allow key.1 ≡ true → AreKeptWithOne s key.0 s.second) keys
+-- this key is an ALLOW
+abbrev pub is_allowed_in : Tag → TagColumn → Bool
+is_allowed_in t keys = column_decided_by (is_certain t) keys false
 
--- the loss is one of the permission
+-- how early the check decides by the entry of a tag: USER_OBJ, then USER, then GROUP_OBJ and GROUP, and last OTHER, which
+-- also decides for a tag without an entry
+abbrev pub level : Entries → Tag → ℕ
+level entries user_obj = 3
+level entries (user id) = if is_some (set.get entries (user id)) then 2 else 0
+level entries group_obj = 1
+level entries (group id) = if is_some (set.get entries (group id)) then 1 else 0
+level entries mask = 0
+level entries other = 0
+
+-- MASK does not take the permission away
+abbrev pub is_left_by : Option ℕ → ℕ → Bool
+is_left_by None want = true
+is_left_by (Some perm) want = contains perm want
+
+-- an entry that MASK limits has the permission, and keeps it
+abbrev pub has_masked : Entries → ℕ → Tag → Bool
+has_masked entries want t = entry_contains entries t want && is_left_by (set.get entries mask) want
+
+-- the tag has no entry with the permission, or MASK takes it away; MASK itself denies nobody
+abbrev pub lacks : Entries → ℕ → Tag → Bool
+lacks entries want user_obj = not (entry_contains entries user_obj want)
+lacks entries want (user id) = not (has_masked entries want (user id))
+lacks entries want group_obj = not (has_masked entries want group_obj)
+lacks entries want (group id) = not (has_masked entries want (group id))
+lacks entries want mask = false
+lacks entries want other = not (entry_contains entries other want)
+
+-- the tag is that of a user other than this one
+abbrev pub is_user_but : ℕ → Tag → Bool
+is_user_but id user_obj = false
+is_user_but id (user one) = not (id == one)
+is_user_but id group_obj = false
+is_user_but id (group one) = false
+is_user_but id mask = false
+is_user_but id other = false
+
+-- both tags are those of users, and not of the same one: no requester is both
+abbrev pub are_two_users : Tag → Tag → Bool
+are_two_users user_obj b = false
+are_two_users (user id) b = is_user_but id b
+are_two_users group_obj b = false
+are_two_users (group id) b = false
+are_two_users mask b = false
+are_two_users other b = false
+
+-- what is known of a tag: its places in both columns, and what the ACL has for it
+pub record IsJudgedTag (wanted : Wanted) (entries : Entries) (one : JudgedTag) : Type 0 where
+  pub first : one.first ≡ certain_place (tag_of one.tag) (keys_of wanted.first.now)
+  pub second : one.second ≡ certain_place (tag_of one.tag) (keys_of wanted.second.now)
+  pub level : one.level ≡ level entries (tag_of one.tag)
+  pub lacks : one.lacks ≡ lacks entries wanted.perm.bits (tag_of one.tag)
+
+-- where both principals match, the check denies by the entry of the second, and does not grant by that of the first
+abbrev pub is_passed : JudgedTag → JudgedTag → Bool
+is_passed one denied = nat_lt one.level denied.level || ((one.level == denied.level) && one.lacks)
+
+-- where both principals match, the key of the first decides the first column
+abbrev pub is_first : JudgedTag → JudgedTag → Bool
+is_first one denied = not (nat_lt denied.first one.first)
+    && (is_passed one denied && not (are_two_users (tag_of one.tag) (tag_of denied.tag)))
+
+-- the same in the second column
+abbrev pub is_second : JudgedTag → JudgedTag → Bool
+is_second two denied = not (nat_lt denied.second two.second)
+    && (is_passed two denied && not (are_two_users (tag_of two.tag) (tag_of denied.tag)))
+
+-- where both principals match, that of the first decides the first column, and that of the second the second column
+abbrev pub are_together : JudgedTag → JudgedTag → Bool
+are_together one two = not (nat_lt two.first one.first)
+    && (not (nat_lt one.second two.second) && not (are_two_users (tag_of one.tag) (tag_of two.tag)))
+
+-- nothing is lost with any of the second tags
+abbrev pub AreKeptWithOne : LossSearch → JudgedTag → JudgedTag → List JudgedTag → Type 0
+AreKeptWithOne s denied one seconds = AllByRecursion (λ two. is_second two denied ≡ true → are_together one two ≡ true
+    → IsKeptWith s (tag_of one.tag) (tag_of two.tag) (tag_of denied.tag)) seconds
+
+-- nor with any of the first tags
+abbrev pub AreKeptWith : LossSearch → JudgedTag → List JudgedTag → List JudgedTag → Type 0
+AreKeptWith s denied firsts seconds =
+    AllByRecursion (λ one. is_first one denied ≡ true → AreKeptWithOne s denied one seconds) firsts
+
+-- the tags of those keys of a column that can decide, and then allow
+abbrev pub allowed_tags : TagColumn → TagColumn → List Tag
+allowed_tags column keys = map (λ key. key.0) (filter (λ key. is_allowed_in key.0 column) keys)
+
+-- where both principals match, the check denies by the entry of the second tag rather than grant by that of the first
+abbrev pub IsPassed : LossSearch → Tag → Tag → Type 0
+IsPassed s t c = (level s.entries t < level s.entries c)
+    ⊎ ((level s.entries t ≡ level s.entries c) × (lacks s.entries s.want t ≡ true))
+
+-- two tags of keys, and one of an entry that lacks the permission, which can all match at once, so that the two keys
+-- decide the columns and the entry denies
+pub record IsLossCandidate (s : LossSearch) (a b c : Tag) : Type 0 where
+  pub first : has_tag a s.first ≡ true
+  pub first_allows : is_allowed_in a s.first ≡ true
+  pub second : has_tag b s.second ≡ true
+  pub second_allows : is_allowed_in b s.second ≡ true
+  pub lacking : lacks s.entries s.want c ≡ true
+  pub first_denied : certain_place a s.first ≤ certain_place c s.first
+  pub second_denied : certain_place b s.second ≤ certain_place c s.second
+  pub first_second : certain_place a s.first ≤ certain_place b s.first
+  pub second_first : certain_place b s.second ≤ certain_place a s.second
+  pub passed_first : IsPassed s a c
+  pub passed_second : IsPassed s b c
+  pub one_user : are_two_users a b ≡ false
+  pub one_user_first : are_two_users a c ≡ false
+  pub one_user_second : are_two_users b c ≡ false
+
+-- nothing is lost with the tag of an entry, whatever the other two tags are
+abbrev pub IsKeptFor : LossSearch → Tag → Type 0
+IsKeptFor s c = (a b : Tag) → IsLossCandidate s a b c → IsKeptWith s a b c
+
+-- nor with that of any entry
+abbrev pub AreKept : LossSearch → List (Tag × ℕ) → Type 0
+AreKept s entries = AllByRecursion (λ entry. IsKeptFor s entry.0) entries
+
+-- the loss is one of the permission, and its requester is in at most three groups
 pub record IsFound (s : LossSearch) (lost : LostGrant) : Type 0 where
   pub perm : lost.perm.bits ≡ s.want
   pub here : is_lost s.first s.second s.entries s.want (lost_object lost) (lost_requester lost) ≡ true
+  pub few : length lost.groups.items ≤ 3
 
 -- a search has found a loss, or there is none
 abbrev pub IsFoundOr : LossSearch → Type 0 → Option LostGrant → Type 0
@@ -134,17 +249,21 @@ used_numbers columns entries = (((key_numbers (keys_of columns.read.items)
     ++ key_numbers (keys_of columns.execute.items))
     ++ entry_numbers (set.entries entries)
 
--- no column has more keys than a list can have ACEs, and there are not too many entries
+-- the most entries of an ACL: those of users and groups, and USER_OBJ, GROUP_OBJ, MASK and OTHER
+abbrev pub most_loss_entries : ℕ
+most_loss_entries = most_names + 4
+
+-- no column has more keys than a column can have, and there are not too many entries
 pub record AreSmall (columns : Columns) (entries : Entries) : Type 0 where
   pub read : length columns.read.items ≤ most_keys
   pub write : length columns.write.items ≤ most_keys
   pub append : length columns.append.items ≤ most_keys
   pub execute : length columns.execute.items ≤ most_keys
-  pub listed : length (set.entries entries) ≤ 65535
+  pub listed : length (set.entries entries) ≤ most_loss_entries
 
--- at most so many are used: five columns of ACEs or of entries
+-- at most so many are used: four columns of as many keys as a column can have, the entries, and one that is unused
 abbrev pub most_used : ℕ
-most_used = 327680
+most_used = 327688
 
 -- two ids that are not among the numbers
 pub record AreUnused (used : List ℕ) (unused : Unused) : Type 0 where

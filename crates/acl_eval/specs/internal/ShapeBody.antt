@@ -1,6 +1,6 @@
 -- How the ACL of a shape is made: the columns of a list by tags, and the pass that decides whether an entry has a right.
 -- This library's own.
-use Rattle.std.specs.Prelude.{◌≡◌, ◌≤◌, ◌↔◌, ⊤, ℕ, ◌==◌, ◌&&◌, ◌||◌, not, Bool, false, true, IsTrue, List, [], ◌∷◌, length, Option, Some, option_map, filter, map, if◌then◌else◌}
+use Rattle.std.specs.Prelude.{◌≡◌, ◌≤◌, ◌↔◌, ⊤, ℕ, ◌+◌, ◌==◌, ◌&&◌, ◌||◌, not, Bool, false, true, IsTrue, List, [], ◌∷◌, length, Option, Some, option_map, filter, map, if◌then◌else◌}
 use Rattle.std.specs.List.{list_any}
 use Rattle.std.specs.FinMap as set
 use Rattle.std.specs.Ordering.{eq_by_cmp}
@@ -124,9 +124,9 @@ abbrev pub DecidesColumnAs : List Ace → ℕ → TagColumn → Type 0
 DecidesColumnAs list bit column = (object : Object) (requester : Requester) → IsAsked object requester
     → grants_bit list (by_name object requester) bit ≡ column_decided_by (tag_meets object requester) column false
 
--- the most keys of a column: as many as a list can have ACEs
+-- the most keys of a column: as many as a list can have ACEs, and one more
 abbrev pub most_keys : ℕ
-most_keys = most_aces
+most_keys = most_aces + 1
 
 -- the keys of one bit of the list, each tag once
 pub record IsColumnOf (list : List Ace) (bit : ℕ) (keys : List TagKey) : Type 0 where
@@ -140,6 +140,13 @@ pub record AreColumns (list : List Ace) (columns : Columns) : Type 0 where
   pub write : IsColumnOf list write_data columns.write.items
   pub append : IsColumnOf list append_data columns.append.items
   pub execute : IsColumnOf list execute_right columns.execute.items
+
+-- the columns have at most as many keys as a list can have ACEs
+pub record HaveFewKeys (columns : Columns) : Type 0 where
+  pub read : length columns.read.items ≤ most_aces
+  pub write : length columns.write.items ≤ most_aces
+  pub append : length columns.append.items ≤ most_aces
+  pub execute : length columns.execute.items ≤ most_aces
 
 -- the permissions are those of which the list grants the rights in every situation in which the check looks at the entry
 abbrev pub HasJust : List Ace → EntryShape → Tag → ℕ → Type 0

@@ -2,7 +2,7 @@
 //! its subject. The module `ample` of such a file has the other tests that need ample memory.
 
 use super::{
-    bridging, creation, granting, ids, losses, mode_changes, modes, naming, pruning, shapes,
+    bridging, creation, granting, ids, losses, mode_changes, modes, naming, owners, pruning, shapes,
 };
 use acl_nfs4::PushFault;
 
@@ -18,6 +18,7 @@ fn every_row_holds_with_enough_memory(rt: HostRuntime) -> Result<(), PushFault> 
     mode_changes::check_mode_changes(&rt, alloc)?;
     mode_changes::check_second_change(&rt, alloc)?;
     modes::check_modes(&rt, alloc)?;
+    owners::check_owners(&rt, alloc)?;
     pruning::check_conversions(&rt, alloc)?;
     shapes::check_named(&rt, alloc)?;
     shapes::check_shapes(&rt, alloc)?;

@@ -82,8 +82,21 @@ fn a_denial_that_nothing_needs_is_left_out(rt: HostRuntime) -> Result<(), Fail> 
         alloc,
         b"ALLOW - READ_DATA OWNER@\nALLOW - READ_DATA GROUP@\nDENY - READ_DATA 1000",
     )?;
-    let acl = to_posix(alloc, &list.view(), &Names::new(alloc), 256)?;
-    assert!(rt; acl.get(Tag::GroupObj) == Some(Perm::READ));
+    let made = to_posix(alloc, &list.view(), &Names::new(alloc), 256)?;
+    assert!(rt; made.exact() && made.acl.get(Tag::GroupObj) == Some(Perm::READ));
+    Ok(())
+}
+
+#[test]
+fn another_user_takes_nothing_away_from_a_known_owner(rt: HostRuntime) -> Result<(), Fail> {
+    let alloc = rt.alloc();
+    let list = parse_text(
+        alloc,
+        b"DENY - WRITE_DATA 1000\nALLOW - READ_DATA|WRITE_DATA|APPEND_DATA OWNER@",
+    )?;
+    let (alice, staff) = (Id::new(1001).ok_or("no id")?, Id::new(2001).ok_or("no id")?);
+    let acl = to_posix_for(alloc, &list.view(), &Names::new(alloc), alice, staff, 256)?;
+    assert!(rt; acl.get(Tag::UserObj) == Some(Perm::READ.union(Perm::WRITE)));
     Ok(())
 }
 

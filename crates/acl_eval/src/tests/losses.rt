@@ -1,6 +1,6 @@
 //! Permissions that a list grants and an ACL does not. The first rows are from `formal/to_posix.jsonl`, where another
-//! program tried every situation of the names of a list. The last rows are worked by hand from RFC 8881, section 6.2.1:
-//! each of two groups has one of the two rights of write, and a third group is denied only by its own entry.
+//! program tried every situation of the names of a list. The last rows are worked by hand from RFC 8881, section 6.2.1,
+//! and acl(5), "ACCESS CHECK ALGORITHM".
 
 use super::harness::{kept, passes};
 use crate::{LostGrant, ShapeFault, lost_grant};
@@ -13,7 +13,7 @@ use std::process::Abort;
 const NOTHING: &[u8] = b"u::---,g::---,o::---";
 
 // A list, an ACL, the permission that is lost, or none, and the groups of the requester that it takes.
-static ROWS: [(&[u8], &[u8], u8, &[u32]); 12] = [
+static ROWS: [(&[u8], &[u8], u8, &[u32]); 16] = [
     (
         b"DENY - WRITE_DATA 1002\nALLOW - READ_DATA|EXECUTE OWNER@\nALLOW - READ_DATA|EXECUTE GROUP@",
         b"u::r-x,g::r-x,o::---",
@@ -68,6 +68,34 @@ static ROWS: [(&[u8], &[u8], u8, &[u32]); 12] = [
         b"u::-w-,g::-w-,o::-w-",
         0,
         &[],
+    ),
+    // MASK takes write away.
+    (
+        b"ALLOW GROUP WRITE_DATA|APPEND_DATA 5",
+        b"u::-w-,g::-w-,g:5:-w-,m::r--,o::-w-",
+        2,
+        &[5],
+    ),
+    // An ALLOW after a DENY of EVERYONE@ allows nobody.
+    (
+        b"DENY - READ_DATA EVERYONE@\nALLOW - READ_DATA 5\nALLOW GROUP READ_DATA 7",
+        NOTHING,
+        0,
+        &[],
+    ),
+    // No requester is two users: each of them has one right.
+    (
+        b"ALLOW - WRITE_DATA 5\nALLOW - APPEND_DATA 6",
+        NOTHING,
+        0,
+        &[],
+    ),
+    // The user is in the group 7, whose ALLOW is before the DENY of the user.
+    (
+        b"ALLOW GROUP READ_DATA 7\nDENY - READ_DATA 5",
+        b"u::r--,u:5:---,g::r--,g:7:r--,m::r--,o::r--",
+        4,
+        &[7],
     ),
     // Whom nothing names is a stranger, and 0 is the id of a user who is named.
     (

@@ -3,9 +3,9 @@
 
 use super::harness::{kept, passes};
 use super::shapes::acl_of;
-use crate::{ShapeFault, to_posix};
+use crate::{ShapeFault, ToPosix, to_posix};
 use acl_nfs4::{PushFault, parse_text};
-use acl_posix::{Names, PosixAcl};
+use acl_posix::Names;
 use std::alloc::Global;
 use std::process::Abort;
 
@@ -57,23 +57,29 @@ ALLOW GROUP WRITE_DATA|APPEND_DATA|EXECUTE 2002
 DENY - READ_DATA GROUP@
 ";
 
-// A list, and its ACL.
-static ROWS: [(&[u8], &[u8]); 6] = [
-    (NEEDLESS, b"u::r--,g::r--,o::---"),
-    (ALL_GO, b"u::---,g::---,o::---"),
-    (EVERYONE_HAS_ALL, b"u::rwx,g::rwx,o::rwx"),
-    (A_GROUP_STAYS, b"u::---,g::---,g:2001:-wx,m::-wx,o::---"),
+// A list, its ACL, and whether the two agree in every situation of their names.
+static ROWS: [(&[u8], &[u8], bool); 6] = [
+    (NEEDLESS, b"u::r--,g::r--,o::---", true),
+    (ALL_GO, b"u::---,g::---,o::---", false),
+    (EVERYONE_HAS_ALL, b"u::rwx,g::rwx,o::rwx", true),
+    (
+        A_GROUP_STAYS,
+        b"u::---,g::---,g:2001:-wx,m::-wx,o::---",
+        false,
+    ),
     (
         OTHERS_WOULD_LOSE,
         b"u::r--,u:1001:r-x,g::r--,g:2002:r--,m::r-x,o::rw-",
+        false,
     ),
     (
         A_GROUP_WOULD_LOSE,
         b"u::---,u:1001:---,g::---,g:2002:-wx,m::-wx,o::---",
+        false,
     ),
 ];
 
-fn converted(alloc: Global, list: &[u8], most: u16) -> Result<PosixAcl, ShapeFault> {
+fn converted(alloc: Global, list: &[u8], most: u16) -> Result<ToPosix, ShapeFault> {
     let names = Names::new(alloc);
     match parse_text(alloc, list) {
         Ok(list) => to_posix(alloc, &list.view(), &names, most),
@@ -81,16 +87,16 @@ fn converted(alloc: Global, list: &[u8], most: u16) -> Result<PosixAcl, ShapeFau
     }
 }
 
-fn has_acl(alloc: Global, list: &[u8], text: &[u8]) -> Result<bool, PushFault> {
+fn is_made(alloc: Global, list: &[u8], text: &[u8], exact: bool) -> Result<bool, PushFault> {
     let wanted = acl_of(alloc, text)?;
-    let acl = kept(converted(alloc, list, 4))?;
-    Ok(acl == wanted)
+    let made = kept(converted(alloc, list, 4))?;
+    Ok(made.acl == wanted && made.exact() == exact)
 }
 
 /// Checks that each list has the ACL of its row.
 pub fn check_conversions(rt: &impl Abort, alloc: Global) -> Result<(), PushFault> {
-    for (list, text) in ROWS {
-        assert!(rt; has_acl(alloc, list, text)?);
+    for (list, text, exact) in ROWS {
+        assert!(rt; is_made(alloc, list, text, exact)?);
     }
     Ok(())
 }
