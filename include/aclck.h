@@ -402,7 +402,8 @@ typedef struct aclck_creation {
    - A text (reasons 2 to 24 of a call that takes a text): `line` and `column`, each from 1.
    - A POSIX ACL that is not valid (reasons 25 to 27): `part` says which. At 25 and 26 `offset` is the place of an entry
      in that part, from 0. At 27 `tag` is the entry that is missing.
-   - ACLCK_LIMITS (28): the list of the whole ACL would be too long or too heavy. No place.
+   - ACLCK_LIMITS (28): the list of the whole ACL would be too long or too heavy, or aclck_to_posix() is given a list
+     that names too many users and groups. No place.
    - An array of ACEs, and a name that has no id or would become another one (22 and 32): `offset` is the place of the
      ACE, from 0. So it is for every reason of aclck_build().
    - A value of a form that aclck_read_form() refuses: `offset` is the place of the first byte that is refused, from 0.
@@ -478,6 +479,22 @@ typedef struct aclck_posix_difference {
     uint32_t first_group;
     uint32_t second_group;
 } aclck_posix_difference;
+
+/* What an NFSv4 list grants and its POSIX ACL denies. `exact` is 1 if there is nothing: the ACL grants read, write and
+   execute, each alone, exactly where the list does. Otherwise it is 0, and a user who is in `ngroups` groups, at most
+   three, is granted `want` (enum aclck_permission) on an object of this owner and group by the list, and denied it by
+   the ACL. What is not used is 0. */
+typedef struct aclck_posix_loss {
+    uint32_t exact;
+    uint32_t owner;
+    uint32_t group;
+    uint32_t user;
+    uint32_t want;
+    uint32_t ngroups;
+    uint32_t first_group;
+    uint32_t second_group;
+    uint32_t third_group;
+} aclck_posix_loss;
 
 /* Whether two lists grant everybody the same. If not, where they differ: one right, 1 if the first list grants it and
    the second does not, and 0 otherwise, and how many bytes the names are for whom they differ. */
@@ -873,6 +890,17 @@ enum aclck_status aclck_entries_create(aclck_entries dflt, const aclck_creation 
    ACLCK_LIMITS. */
 ACLCK_CALL ACLCK_WRITES(3) ACLCK_WRITES(4)
 enum aclck_status aclck_entries_bridge(aclck_entries entries, aclck_buffer out, size_t *needed, aclck_fault *fault);
+
+/* The entries of the POSIX ACL of an NFSv4 list, and what is lost with it. Whoever owns the object, the ACL never
+   grants more than the list: read only where the list grants READ_DATA, write only where it grants WRITE_DATA and
+   APPEND_DATA, execute only where it grants EXECUTE. ACEs with INHERIT_ONLY do not count. The ids of names are as for
+   aclck_prepare_ids(), and so is ACLCK_UNKNOWN_NAME. ACLCK_REFUSED also where the bytes are no list, and with
+   ACLCK_LIMITS where the list names more than `most` users and groups: the time grows with the cube of their number.
+   ACLCK_BAD_ARGUMENT where `most` is above 65535, or the names make no table. *loss is also written at ACLCK_SHORT; if
+   the call fails otherwise, all of it is 0. */
+ACLCK_CALL ACLCK_READS(2) ACLCK_WRITES(5) ACLCK_WRITES(6) ACLCK_WRITES(7)
+enum aclck_status aclck_to_posix(aclck_bytes acl, const aclck_names *names, uint32_t most, aclck_entry_buffer out,
+                                 size_t *needed, aclck_posix_loss *loss, aclck_fault *fault);
 
 /* The entries of the extended attribute system.posix_acl_access or system.posix_acl_default, in version 2. No entries
    (*needed is 0) mean that the file has no such ACL. ACLCK_REFUSED also with ACLCK_SIZE or ACLCK_VERSION_2, and with

@@ -24,6 +24,10 @@ pub mod FormParts
 pub mod PartGrants
 -- failures of lists that are prepared for ids
 pub mod IdFailures
+-- what is lost with the POSIX ACLs of lists
+pub mod PosixConversions
+-- failures of lists that have no POSIX ACL
+pub mod PosixFailures
 -- failures of groups for identifiers that nobody knows
 pub mod GroupsNamed
 -- answers for many requesters

@@ -31,6 +31,7 @@ pub mod Requests
 pub mod Resolving
 pub mod Status
 pub mod Table
+pub mod ToPosix
 pub mod Unknown
 pub mod UnknownGroups
 pub mod Version

@@ -16,6 +16,8 @@ pub mod FormFailures
 pub mod FormParts
 -- why a list is not prepared for ids
 pub mod IdFailures
+-- why a list has no POSIX ACL
+pub mod PosixFailures
 -- the first difference of two lists
 pub mod Reports
 -- names that are exchanged

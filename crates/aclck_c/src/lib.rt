@@ -44,6 +44,7 @@ pub use nfs4::same::aclck_same;
 pub use nfs4::texts::{
     aclck_child, aclck_holders, aclck_normalize, aclck_normalize_inherit, aclck_show, aclck_table,
 };
+pub use nfs4::to_posix::{RawPosixLoss, aclck_to_posix};
 pub use nfs4::unknown::{RawPossible, aclck_decide_unknown};
 pub use nfs4::with_groups::{RawSuffix, aclck_with_groups};
 pub use posix::check::{RawPosixQuestion, aclck_posix_check};

@@ -27,5 +27,6 @@ pub(crate) mod request;
 pub(crate) mod resolved;
 pub(crate) mod same;
 pub(crate) mod texts;
+pub(crate) mod to_posix;
 pub(crate) mod unknown;
 pub(crate) mod with_groups;

@@ -2,6 +2,7 @@
 //! text grants is by acl(5), "ACCESS CHECK ALGORITHM", and the numbers of statuses and reasons are those of `aclck.h`.
 mod archives;
 mod building;
+mod converting;
 mod exceeding;
 mod forms;
 mod implying;
