@@ -6,63 +6,33 @@ Names of users and groups are `str` or `bytes`. In a `str`, bytes that are not U
 `from_file`, which read attributes of one file, and `to_file`, which write them.
 """
 
+from . import rights
 from ._library import VERSION
 from .aces import ALLOW, DENY, Ace, AceFlag, AceKind
+from .entries import Entry
 from .faults import Refused
 from .forms import LeftOut, ListFlag, ListForm, TextStyle
-from .nfs import Decision, Difference, NfsAcl, TableRow
-from .posix import Entry, PosixAcl, PosixDecision, PosixDifference
+from .nfs import NfsAcl
+from .posix import PosixAcl, PosixDecision, PosixDifference, ToPosix
 from .prepared import (
     Prepared,
     PreparedIds,
 )
-from .questions import Decided, Requesters
-from .rights import (
-    ADD_FILE,
-    ADD_SUBDIRECTORY,
-    ALL,
-    APPEND_DATA,
-    DELETE,
-    DELETE_CHILD,
-    EXECUTE,
-    LIST_DIRECTORY,
-    READ_ACL,
-    READ_ATTRIBUTES,
-    READ_DATA,
-    READ_NAMED_ATTRS,
-    RIGHTS,
-    SYNCHRONIZE,
-    WRITE_ACL,
-    WRITE_ATTRIBUTES,
-    WRITE_DATA,
-    WRITE_NAMED_ATTRS,
-    WRITE_OWNER,
-    WRITE_RETENTION,
-    WRITE_RETENTION_HOLD,
-    mask_text,
-    read_mask,
-)
+from .questions import Decided, Decision, Difference, Requesters, TableRow
+from .rights import *
 from .tar_texts import TarStyle
 from .unknown import Possible, Request
 
 __all__ = [
-    "ADD_FILE",
-    "ADD_SUBDIRECTORY",
-    "ALL",
     "ALLOW",
-    "APPEND_DATA",
     "Ace",
     "AceFlag",
     "AceKind",
-    "DELETE",
-    "DELETE_CHILD",
     "DENY",
     "Decided",
     "Decision",
     "Difference",
-    "EXECUTE",
     "Entry",
-    "LIST_DIRECTORY",
     "LeftOut",
     "ListFlag",
     "ListForm",
@@ -73,26 +43,13 @@ __all__ = [
     "Possible",
     "Prepared",
     "PreparedIds",
-    "READ_ACL",
-    "READ_ATTRIBUTES",
-    "READ_DATA",
-    "READ_NAMED_ATTRS",
-    "RIGHTS",
     "Refused",
     "Request",
     "Requesters",
-    "SYNCHRONIZE",
     "TableRow",
     "TarStyle",
     "TextStyle",
+    "ToPosix",
     "VERSION",
-    "WRITE_ACL",
-    "WRITE_ATTRIBUTES",
-    "WRITE_DATA",
-    "WRITE_NAMED_ATTRS",
-    "WRITE_OWNER",
-    "WRITE_RETENTION",
-    "WRITE_RETENTION_HOLD",
-    "mask_text",
-    "read_mask",
 ]
+__all__ += rights.__all__

@@ -171,6 +171,12 @@ class PosixDifference(ctypes.Structure):
     _fields_ = [(name, Word) for name in "same owner group user want ngroups first_group second_group".split()]
 
 
+class PosixLoss(ctypes.Structure):
+    """What an NFSv4 list grants and a POSIX ACL denies. The first field says that this is nothing."""
+
+    _fields_ = [("exact", Word), *PosixDifference._fields_[1:], ("third_group", Word)]
+
+
 class Fault(ctypes.Structure):
     """Why and where something is refused."""
 
@@ -274,6 +280,7 @@ _CALLS: "List[Tuple[str, List[Any]]]" = [
     ("entries_from_attribute", [Bytes, *_entries]),
     ("entries_from_form", [_posix, Word, *_entries]),
     ("entries_to_form", [Entries, ctypes.POINTER(Names), Word, *_out, _fault]),
+    ("to_posix", [Bytes, ctypes.POINTER(Names), Word, *_entries[:-1], ctypes.POINTER(PosixLoss), _fault]),
     ("version", []),
 ]
 """The names of calls, and the types of their arguments."""
@@ -321,13 +328,6 @@ def several(groups: Iterable[T]) -> List[T]:
 def in_c(held: bytes) -> Bytes:
     """Returns some bytes for C."""
     return Bytes(held, len(held))
-
-
-def requester(user: Name, groups: Iterable[Name]) -> Requester:
-    """Returns a user and the user's groups for C, as GROUPS_IN_ORDER says: in rising order, and none twice. Raises
-    TypeError as `several` and `encoded` do."""
-    names = [in_c(name) for name in sorted(set(map(encoded, several(groups))))]
-    return Requester(in_c(encoded(user)), (Bytes * len(names))(*names), len(names))
 
 
 def found_in(spelled: Bytes) -> bytes:
@@ -378,17 +378,17 @@ def bytes_of(name: str, args: Sequence[Any], room: int, *answers: Any) -> bytes:
     return bytes(out.raw[:length])
 
 
-def entries_of(name: str, args: Sequence[Any], room: int) -> List[Entry]:
-    """Makes a call that writes entries, and returns them. The first buffer has room for `room` entries."""
+def entries_of(name: str, args: Sequence[Any], room: int, *answers: Any) -> List[Entry]:
+    """Makes a call that writes entries, and returns them, as `bytes_of` does. `room` is a number of entries."""
     def written(size: int) -> Tuple[Any, EntryBuffer]:
         out = (Entry * size)()
         return out, EntryBuffer(out, size)
-    out, length = _filled(name, args, room, written)
+    out, length = _filled(name, args, room, written, answers)
     return list(out[:length])
 
 
 def _filled(name: str, args: Sequence[Any], room: int, written: Callable[[int], Tuple[Any, Any]],
-            answers: Sequence[Any] = ()) -> Tuple[Any, int]:
+            answers: Sequence[Any]) -> Tuple[Any, int]:
     """Makes a call with a buffer that is long enough. Returns the buffer, and how much of it was written."""
     call, needed, fault = calls[name], _size(), Fault()
     while True:

@@ -4,7 +4,7 @@ from __future__ import annotations
 
 import ctypes
 import os
-from typing import Any, Iterable, Iterator, List, Mapping, NamedTuple, Optional, Tuple, TypeVar
+from typing import TYPE_CHECKING, Any, Iterable, Iterator, List, Mapping, Optional, Tuple, TypeVar
 
 from . import _library as c
 from . import aces as ace_values
@@ -13,39 +13,16 @@ from ._library import File, Name
 from .aces import Ace, AceKind
 from .faults import Refused
 from .forms import LeftOut, ListFlag, ListForm, TextStyle
-from .prepared import Prepared, PreparedIds, names_in_c
-from .questions import Decided, Requesters, decided
+from .prepared import Prepared, PreparedIds
+from .questions import Decided, Decision, Difference, Requesters, TableRow, decided, requester
 from .rights import ALL
+from .tables import NamedIds, table_in_c, tables_in_c
 from .unknown import Possible, possible
 
+if TYPE_CHECKING:
+    from .posix import ToPosix
+
 T = TypeVar("T", c.Word, c.Decided, c.Decision)
-
-
-class Decision(NamedTuple):
-    """The ACE that decides a right: its place in the list, from 0, and its kind."""
-
-    place: int
-    kind: AceKind
-
-
-class Difference(NamedTuple):
-    """A requester whom two lists treat differently, and the one right, as a mask, for which they do."""
-
-    owner: str
-    group: str
-    user: str
-    groups: Tuple[str, ...]
-    right: int
-    first_grants: bool
-
-
-class TableRow(NamedTuple):
-    """An ACE of the normal form: the place of its source in the given list, its kind, whether `who` is a group."""
-
-    source: int
-    kind: AceKind
-    is_group: bool
-    who: str
 
 
 class NfsAcl:
@@ -181,17 +158,17 @@ class NfsAcl:
         Raises ValueError if a name is empty or the mask has a bit that is not a right, and TypeError if `groups` is one
         name.
         """
-        return self._ask("check", c.requester(user, groups), c.owned(owner, group), mask, c.Word()).value == 1
+        return self._ask("check", requester(user, groups), c.owned(owner, group), mask, c.Word()).value == 1
 
     def granted(self, *, user: Name, groups: Iterable[Name] = (), owner: Name, group: Name, mask: int = ALL) -> int:
         """Returns the rights of the mask that the user is granted. Reads the list once. Raises ValueError and TypeError
         as `grants` does."""
-        return self._ask("granted", c.requester(user, groups), c.owned(owner, group), mask, c.Word()).value
+        return self._ask("granted", requester(user, groups), c.owned(owner, group), mask, c.Word()).value
 
     def decide(self, *, user: Name, groups: Iterable[Name] = (), owner: Name, group: Name, mask: int = ALL) -> Decided:
         """Returns which rights of the mask are allowed, denied, and undecided. Raises ValueError and TypeError as
         `grants` does."""
-        found = self._ask("decide", c.requester(user, groups), c.owned(owner, group), mask, c.Decided())
+        found = self._ask("decide", requester(user, groups), c.owned(owner, group), mask, c.Decided())
         return decided(found, mask)
 
     @staticmethod
@@ -204,7 +181,7 @@ class NfsAcl:
         does.
         """
         question = c.Question(c.word(mask), c.NARROW if narrow else 0)
-        return possible(memoryview(data).tobytes(), c.owned(owner, group), c.requester(user, groups), question)
+        return possible(memoryview(data).tobytes(), c.owned(owner, group), requester(user, groups), question)
 
     @classmethod
     def with_groups(cls, data: bytes, suffix: Name, *, narrow: bool = False) -> NfsAcl:
@@ -233,7 +210,7 @@ class NfsAcl:
         Raises Refused with the reason `UnknownName` and the place of the ACE if a name is neither. Raises ValueError if
         a name of a table is empty or has only digits, or an id is above 4294967294.
         """
-        names = names_in_c(users or {}, groups or {})
+        names = tables_in_c(users or {}, groups or {})
         return PreparedIds(c.bytes_of("prepare_ids", (self._list, names, self._options), 4 * len(self._bytes) + 64))
 
     def granted_many(self, requesters: Requesters, *, owner: Name, group: Name, mask: int = ALL) -> List[int]:
@@ -255,7 +232,7 @@ class NfsAcl:
         Raises ValueError if `right` is not exactly one right, or a name is empty, and TypeError if `groups` is one
         name.
         """
-        found = self._ask("deciding", c.requester(user, groups), c.owned(owner, group), right, c.Decision())
+        found = self._ask("deciding", requester(user, groups), c.owned(owner, group), right, c.Decision())
         return None if found.kind == c.UNDECIDED else Decision(found.place, ace_values.kind_of(found.kind))
 
     def normal(self) -> NfsAcl:
@@ -314,6 +291,19 @@ class NfsAcl:
         names = len(self) * (len(c.encoded(owner)) + len(c.encoded(group)))
         args = (self._list, c.owned(owner, group), self._options)
         return self._like(c.bytes_of("resolved", args, len(self._bytes) + names))
+
+    def to_posix(self, names: NamedIds = (), most: int = 256) -> ToPosix:
+        """Returns a POSIX list in place of this list, and who loses by it (docs/convert.md, "An NFSv4 list as a POSIX
+        list"). It never grants more than this list: r only if this list grants READ_DATA, w only if it grants
+        WRITE_DATA and APPEND_DATA, x only if it grants EXECUTE. ACEs with INHERIT_ONLY do not count, and there are no
+        default entries. `names` has the ids of names: name, id, whether it is a group. A name of digits is an id.
+
+        Raises Refused: with the reason `UnknownName` and the place of the ACE, from 0, if a name has no id, and with
+        the reason `Limits` if the list names more than `most` users and groups. Raises ValueError if `most` is above
+        65535, and for names as `PosixAcl` does.
+        """
+        from .posix import posix_of  # which imports this module
+        return posix_of(self._list, names, most)
 
     def table(self, right: int) -> List[TableRow]:
         """Returns the ACEs of the normal form that have one right. Raises ValueError if it is not exactly one right."""

@@ -11,36 +11,21 @@ from typing import Iterable, Iterator, List, Mapping, Match, NamedTuple, Optiona
 
 from . import _library as c
 from ._library import File, Name
+from .entries import Entry, held, part_in_c, parted, read_line, value_of
 from .faults import Refused, of_part
 from .nfs import NfsAcl
+from .tables import NamedIds, table_in_c
 from .tar_texts import DEFAULT_OF_TEXT, DEFAULT_TEXT, TEXT, TarStyle, entries_in, text_of
 
-_TAGS = ("", "user", "user", "group", "group", "mask", "other")
-"""The word of each tag of C. A user and a group have a tag without an id and another one with an id."""
-_NAMED = (2, 4)
-_NUMBERS = {(tag, number in _NAMED): number for number, tag in enumerate(_TAGS) if number}
-_ANYBODY = 0xFFFFFFFF
 _ID = re.compile(r"\b(u|user|g|group):(\d+):")
 _NAME = re.compile(r"(?!\d+$)[^\s:,#\\]+")
+_SHORTEST_ACE = 20
+"""The number of bytes of the shortest ACE that names somebody."""
 _ACCESS, _DEFAULT = "system.posix_acl_access", "system.posix_acl_default"
 _CANONICAL = 0
 _FORMS = {"canonical": _CANONICAL, "shown": c.SHOWN, "short": c.FORM_SHORT}
 
 T = TypeVar("T", c.Word, c.PosixDecision, c.PosixDifference)
-
-
-class Entry(NamedTuple):
-    """One entry: whether it is of the default part, its tag as in the canonical text, its id or None, permissions."""
-
-    default: bool
-    tag: str
-    id: Optional[int]
-    perm: int
-
-    def __str__(self) -> str:
-        """Returns the line of the entry in the canonical text."""
-        number = "" if self.id is None else self.id
-        return f"{'default:' if self.default else ''}{self.tag}:{number}:{_letters(self.perm)}"
 
 
 class PosixDecision(NamedTuple):
@@ -55,7 +40,7 @@ class PosixDecision(NamedTuple):
 
 class PosixDifference(NamedTuple):
     """A request that one list grants and another denies: the owner and the group of the object, the user, the groups of
-    the user, at most two, and the permissions, a sum of 4 (r), 2 (w) and 1 (x)."""
+    the user, at most three, and the permissions, a sum of 4 (r), 2 (w) and 1 (x)."""
 
     owner: int
     group: int
@@ -74,14 +59,14 @@ class PosixAcl:
 
     __slots__ = ("_access", "_default")
 
-    def __init__(self, text: Name, names: Iterable[Tuple[str, int, bool]] = ()) -> None:
+    def __init__(self, text: Name, names: NamedIds = ()) -> None:
         """Takes a text as getfacl(1) prints it; `names` are the names that it may use: name, id, whether it is a group.
 
         Raises Refused, with the line and the column or with the part that is not valid. Raises ValueError if a name is
         empty, has only digits, or is given twice.
         """
-        shown = _shown(c.encoded(text), _CANONICAL, _table(names))
-        self._access, self._default = map(_in_c, _parted(map(_read, shown.splitlines())))
+        shown = _shown(c.encoded(text), _CANONICAL, table_in_c(names))
+        self._access, self._default = map(part_in_c, parted(map(read_line, shown.splitlines())))
 
     @classmethod
     def _of(cls, access: c.Entries, default: c.Entries) -> PosixAcl:
@@ -101,7 +86,7 @@ class PosixAcl:
     def from_mode(cls, mode: int) -> PosixAcl:
         """Makes the list of the three entries that a mode means (acl(5), "CORRESPONDENCE .."). Bits above the nine do
         not count."""
-        return cls._of(_mode_entries(c.word(mode)), _held([]))
+        return cls._of(_mode_entries(c.word(mode)), held([]))
 
     @classmethod
     def from_attributes(cls, access: Optional[bytes], default: Optional[bytes] = None, mode: int = 0) -> PosixAcl:
@@ -112,14 +97,14 @@ class PosixAcl:
         Raises Refused with the part: if the bytes are not such an attribute or not a valid ACL, with the place of the
         entry in that part, from 0, unless the size, the version or a missing entry is the reason.
         """
-        parts = [_held([]) if data is None else _made("entries_from_attribute", c.in_c(data), default=bool(place))
+        parts = [held([]) if data is None else _made("entries_from_attribute", c.in_c(data), default=bool(place))
                  for place, data in enumerate((access, default))]
         first = _mode_entries(c.word(mode)) if access is None else _made("entries_sorted", parts[0], 0)
         return cls._of(first, parts[1])
 
     @classmethod
     def from_archive(cls, access: Optional[Name], default: Optional[Name] = None,
-                     names: Iterable[Tuple[str, int, bool]] = (), mode: int = 0) -> PosixAcl:
+                     names: NamedIds = (), mode: int = 0) -> PosixAcl:
         """Makes a list from the texts of the headers `SCHILY.acl.access` and `SCHILY.acl.default` of an archive, each
         None if the header is absent. Without the first, the entries are those of the mode. In a text, a user or a group
         is an id, a name with an id at the end of its entry, or one of `names`: name, id, whether it is a group.
@@ -127,15 +112,15 @@ class PosixAcl:
         Raises Refused with the place of a byte in the text, which is the second one for a default header. Raises
         ValueError if both texts have a default ACL, and as the constructor does for names.
         """
-        table = _table(names)
+        table = table_in_c(names)
         first, second = (None if text is None else c.PosixText(c.in_c(c.encoded(text)), table)
                          for text in (access, default))
-        parts = [_mode_entries(c.word(mode)) if first is None else _held(entries_in(first, TEXT)),
-                 _held([] if first is None else entries_in(first, DEFAULT_OF_TEXT))]
+        parts = [_mode_entries(c.word(mode)) if first is None else held(entries_in(first, TEXT)),
+                 held([] if first is None else entries_in(first, DEFAULT_OF_TEXT))]
         if second is not None:
             if parts[1].len:
                 raise ValueError("both texts have a default ACL")
-            parts[1] = _held(entries_in(second, DEFAULT_TEXT))
+            parts[1] = held(entries_in(second, DEFAULT_TEXT))
         return cls._of(*parts)
 
     @classmethod
@@ -147,7 +132,7 @@ class PosixAcl:
         Permission if the entry is none, and if the entries are not a valid ACL. Raises ValueError if a number is
         outside 32 bits.
         """
-        access, default = map(_in_c, _parted(Entry(*entry) for entry in entries))
+        access, default = map(part_in_c, parted(Entry(*entry) for entry in entries))
         options = c.ADD_MASK if mask else 0
         return cls._of(_made("entries_sorted", access, options),
                        _made("entries_sorted", default, options, default=True) if default.len else default)
@@ -168,7 +153,7 @@ class PosixAcl:
         return access or b"", default
 
     def to_archive(self, style: TarStyle = TarStyle.STAR,
-                   names: Iterable[Tuple[str, int, bool]] = ()) -> Tuple[str, Optional[str]]:
+                   names: NamedIds = ()) -> Tuple[str, Optional[str]]:
         """Returns the texts of `SCHILY.acl.access` and of `SCHILY.acl.default`, which is None if the list has no default
         entries. An id is written as its first name in `names` (name, id, whether it is a group), or as a number.
         `from_archive` reads the texts back, those of GNU tar with the same names.
@@ -177,7 +162,7 @@ class PosixAcl:
         would not be read back, and in the style of star for Id if its id is above 2147483647, which bsdtar loses.
         Raises ValueError for names as the constructor does.
         """
-        table, default = _table(names), self._default
+        table, default = table_in_c(names), self._default
         access = c.decoded(text_of(self._access, table, style, False))
         return access, c.decoded(text_of(default, table, style, True)) if default.len else None
 
@@ -228,7 +213,7 @@ class PosixAcl:
         """Yields the entries in canonical order, the access part first."""
         for default, part in enumerate((self._access, self._default)):
             for found in part.at[:part.len]:
-                yield _value(found, bool(default))
+                yield value_of(found, bool(default))
 
     def text(self, form: str = "canonical", *, users: Optional[Mapping[int, str]] = None,
              groups: Optional[Mapping[int, str]] = None) -> str:
@@ -239,7 +224,7 @@ class PosixAcl:
         def named(found: Match[str]) -> str:
             name = names[found[1][0]].get(int(found[2]), "")
             return f"{found[1]}:{name if _NAME.fullmatch(name) else found[2]}:"
-        return _ID.sub(named, _shown(str(self).encode(), _FORMS[form], _table(())).decode())
+        return _ID.sub(named, _shown(str(self).encode(), _FORMS[form], table_in_c(())).decode())
 
     @property
     def mode(self) -> int:
@@ -258,7 +243,7 @@ class PosixAcl:
     def deciding(self, *, user: int, groups: Iterable[int] = (), owner: int, group: int, want: int) -> PosixDecision:
         """Returns which entry decides about all of `want` at once. Raises ValueError and TypeError as `check` does."""
         found = self._ask("entries_deciding", c.PosixDecision(), _question(user, groups, owner, group, want))
-        entry = _value(self._access.at[found.place], False) if found.tag else None
+        entry = value_of(self._access.at[found.place], False) if found.tag else None
         return PosixDecision(found.granted == 1, entry, found.masked == 1)
 
     def _ask(self, call: str, answer: T, *args: object) -> T:
@@ -303,7 +288,7 @@ class PosixAcl:
         if not self._default.len:
             return PosixAcl.from_mode(mode & ~umask)
         access = _made("entries_create", self._default, creation)
-        return PosixAcl._of(access, self._default if directory else _held([]))
+        return PosixAcl._of(access, self._default if directory else held([]))
 
     def bridge(self) -> NfsAcl:
         """Returns an NFSv4 list that grants each single permission as the access ACL does, with ids as names.
@@ -313,9 +298,28 @@ class PosixAcl:
         return NfsAcl(c.bytes_of("entries_bridge", (self._access,), 64 * (self._access.len + 1)))
 
 
-def _table(names: Iterable[Tuple[str, int, bool]]) -> c.Names:
-    rows = [c.NamedId(c.in_c(c.encoded(name)), c.word(number), int(is_group)) for name, number, is_group in names]
-    return c.Names((c.NamedId * len(rows))(*rows), len(rows))
+class ToPosix(NamedTuple):
+    """What `NfsAcl.to_posix` makes of a list: an access ACL, and who loses by it. `lost` is None if the ACL grants each
+    of r, w and x wherever the list does. Otherwise it is a request for one of them that the list grants and the ACL
+    denies."""
+
+    acl: PosixAcl
+    lost: Optional[PosixDifference]
+
+    @property
+    def exact(self) -> bool:
+        """Whether the ACL grants each of r, w and x to the same requesters as the list, for every object."""
+        return self.lost is None
+
+
+def posix_of(acl: c.Bytes, names: NamedIds, most: int) -> ToPosix:
+    """Makes a POSIX list of an NFSv4 list. Raises Refused and ValueError as `NfsAcl.to_posix` does."""
+    loss, given = c.PosixLoss(), (acl, table_in_c(names), c.word(most))
+    room = min(most, acl.len // _SHORTEST_ACE) + 4  # USER_OBJ, GROUP_OBJ, MASK and OTHER have no name
+    entries = c.entries_of("to_posix", given, room, ctypes.byref(loss))
+    groups = (loss.first_group, loss.second_group, loss.third_group)[:loss.ngroups]
+    lost = PosixDifference(loss.owner, loss.group, loss.user, tuple(sorted(set(groups))), loss.want)
+    return ToPosix(PosixAcl._of(held(entries), held([])), None if loss.exact else lost)
 
 
 def _shown(text: bytes, form: int, names: c.Names) -> bytes:
@@ -326,7 +330,7 @@ def _shown(text: bytes, form: int, names: c.Names) -> bytes:
 def _made(call: str, part: Union[c.Entries, c.Bytes], *args: object, default: bool = False) -> c.Entries:
     """Makes a call on a part that writes entries, and returns them. Raises Refused with the part."""
     try:
-        return _held(c.entries_of(call, (part, *args), part.len + 3))
+        return held(c.entries_of(call, (part, *args), part.len + 3))
     except Refused as refused:
         raise of_part(refused, default) from None
 
@@ -337,37 +341,6 @@ def _question(user: int, groups: Iterable[int], owner: int, group: int, want: in
                            len(members))
 
 
-def _held(entries: Sequence[c.Entry]) -> c.Entries:
-    return c.Entries((c.Entry * len(entries))(*entries), len(entries))
-
-
-def _in_c(part: Iterable[Entry]) -> c.Entries:
-    """Returns the entries of a part for C. The tag 0 is that of no entry."""
-    return _held([c.Entry(_NUMBERS.get((entry.tag, entry.id is not None), 0),
-                          c.word(_ANYBODY if entry.id is None else entry.id), c.word(entry.perm)) for entry in part])
-
-
-def _value(found: c.Entry, default: bool) -> Entry:
-    """Returns an entry that C has."""
-    return Entry(default, _TAGS[found.tag], found.id if found.tag in _NAMED else None, found.perm)
-
-
-def _parted(entries: Iterable[Entry]) -> Tuple[List[Entry], List[Entry]]:
-    """Returns the entries of the access part, and those of the default part."""
-    parts: Tuple[List[Entry], List[Entry]] = ([], [])
-    for entry in entries:
-        parts[bool(entry.default)].append(entry)
-    return parts
-
-
-def _read(line: bytes) -> Entry:
-    """Returns the entry of a line of the canonical text."""
-    fields = line.decode().split(":")
-    tag, number, perm = fields[-3:]
-    return Entry(len(fields) == 4, tag, int(number) if number else None,
-                 sum(bit for letter, bit in zip("rwx", (4, 2, 1)) if letter in perm))
-
-
 def _nine_bits(mode: int) -> int:
     if c.word(mode) > 0o777:
         raise ValueError(f"above 0o777: {mode:#o}")
@@ -375,12 +348,8 @@ def _nine_bits(mode: int) -> int:
 
 
 def _mode_entries(mode: int) -> c.Entries:
-    return _in_c([Entry(False, tag, None, mode >> shift & 7) for tag, shift in
+    return part_in_c([Entry(False, tag, None, mode >> shift & 7) for tag, shift in
                   (("user", 6), ("group", 3), ("other", 0))])
-
-
-def _letters(perm: int) -> str:
-    return "".join(letter if perm & bit else "-" for letter, bit in zip("rwx", (4, 2, 1)))
 
 
 def _attribute(file: File, name: str) -> Optional[bytes]:

@@ -3,11 +3,11 @@
 from __future__ import annotations
 
 import ctypes
-from typing import Iterable, List, Mapping
+from typing import Iterable, List
 
 from . import _library as c
 from ._library import Name
-from .questions import Decided, Requesters, decided
+from .questions import Decided, Requesters, decided, requester
 from .rights import ALL
 
 
@@ -43,7 +43,7 @@ class Prepared(_Made):
         """Returns which rights of the mask are allowed, denied, and undecided, as `NfsAcl.decide` does. Raises
         ValueError also if the bytes are not those of a prepared list."""
         found = c.Decided()
-        c.judge(c.calls["decide_prepared"](self._list, c.owned(owner, group), c.requester(user, groups),
+        c.judge(c.calls["decide_prepared"](self._list, c.owned(owner, group), requester(user, groups),
                                            c.Question(c.word(mask), c.GROUPS_IN_ORDER), ctypes.byref(found)), c.Fault())
         return decided(found, mask)
 
@@ -60,13 +60,6 @@ class Prepared(_Made):
         return [decided(one, mask) for one in found]
 
 
-def names_in_c(users: Mapping[str, int], groups: Mapping[str, int]) -> c.Names:
-    """Returns two tables of names for C."""
-    rows = [c.NamedId(c.in_c(c.encoded(name)), c.word(number), is_group)
-            for is_group, table in enumerate((users, groups)) for name, number in table.items()]
-    return c.Names((c.NamedId * len(rows))(*rows), len(rows))
-
-
 class PreparedIds(_Made):
     """What `NfsAcl.prepare_ids` makes of a list. It is asked with ids in place of names."""
 
@@ -79,8 +72,8 @@ class PreparedIds(_Made):
         of such a list, and TypeError if `groups` is a text.
         """
         members = sorted({c.word(number) for number in c.several(groups)})
-        requester = c.IdRequester(c.word(user), (c.Word * len(members))(*members), len(members))
+        who = c.IdRequester(c.word(user), (c.Word * len(members))(*members), len(members))
         found = c.Decided()
-        c.judge(c.calls["decide_ids"](self._list, c.IdObject(c.word(owner), c.word(group)), requester,
+        c.judge(c.calls["decide_ids"](self._list, c.IdObject(c.word(owner), c.word(group)), who,
                                       c.Question(c.word(mask), 0), ctypes.byref(found)), c.Fault())
         return decided(found, mask)

@@ -6,6 +6,7 @@ from typing import Iterable, NamedTuple, Sequence, Tuple
 
 from . import _library as c
 from ._library import Name
+from .aces import AceKind
 
 
 class Decided(NamedTuple):
@@ -17,9 +18,43 @@ class Decided(NamedTuple):
     undecided: int
 
 
+class Decision(NamedTuple):
+    """The ACE that decides a right: its place in the list, from 0, and its kind."""
+
+    place: int
+    kind: AceKind
+
+
+class Difference(NamedTuple):
+    """A requester whom two lists treat differently, and the one right, as a mask, for which they do."""
+
+    owner: str
+    group: str
+    user: str
+    groups: Tuple[str, ...]
+    right: int
+    first_grants: bool
+
+
+class TableRow(NamedTuple):
+    """An ACE of the normal form: the place of its source in the given list, its kind, whether `who` is a group."""
+
+    source: int
+    kind: AceKind
+    is_group: bool
+    who: str
+
+
 def decided(found: c.Decided, mask: int) -> Decided:
     """Returns an answer of C about the rights of a mask."""
     return Decided(found.allowed, found.denied, mask & ~(found.allowed | found.denied))
+
+
+def requester(user: Name, groups: Iterable[Name]) -> c.Requester:
+    """Returns a user and the user's groups for C, as GROUPS_IN_ORDER says: in rising order, and none twice. Raises
+    TypeError as `several` and `encoded` do."""
+    names = [c.in_c(name) for name in sorted(set(map(c.encoded, c.several(groups))))]
+    return c.Requester(c.in_c(c.encoded(user)), (c.Bytes * len(names))(*names), len(names))
 
 
 class Requesters:
@@ -29,6 +64,6 @@ class Requesters:
     def __init__(self, people: Iterable[Tuple[Name, Sequence[Name]]]) -> None:
         """Takes pairs of a user and the names of the groups of that user. Raises TypeError if the groups are one
         name."""
-        rows = [c.requester(user, groups) for user, groups in people]
+        rows = [requester(user, groups) for user, groups in people]
         self.count = len(rows)
         self.array = (c.Requester * len(rows))(*rows)

@@ -7,6 +7,14 @@ from typing import Dict
 
 from ._library import Name, Word, calls, decoded, encoded, in_c, short_text, word
 
+# tools/tables writes the lists of names and numbers.
+__all__ = [
+    "ADD_FILE", "ADD_SUBDIRECTORY", "ALL", "APPEND_DATA", "DELETE", "DELETE_CHILD", "EXECUTE", "LIST_DIRECTORY",
+    "READ_ACL", "READ_ATTRIBUTES", "READ_DATA", "READ_NAMED_ATTRS", "RIGHTS", "SYNCHRONIZE", "WRITE_ACL",
+    "WRITE_ATTRIBUTES", "WRITE_DATA", "WRITE_NAMED_ATTRS", "WRITE_OWNER", "WRITE_RETENTION", "WRITE_RETENTION_HOLD",
+    "mask_text", "read_mask",
+]
+
 RIGHTS: Dict[str, int] = {
     "READ_DATA": 0x1, "WRITE_DATA": 0x2, "APPEND_DATA": 0x4, "READ_NAMED_ATTRS": 0x8, "WRITE_NAMED_ATTRS": 0x10,
     "EXECUTE": 0x20, "DELETE_CHILD": 0x40, "READ_ATTRIBUTES": 0x80, "WRITE_ATTRIBUTES": 0x100,

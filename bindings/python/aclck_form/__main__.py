@@ -7,9 +7,9 @@ import contextlib
 import os
 import re
 import sys
-from typing import TYPE_CHECKING, List, NoReturn, Optional
+from typing import TYPE_CHECKING, List, NoReturn, Optional, Tuple
 
-from aclck import ListFlag, Refused
+from aclck import AceFlag, ListFlag, NfsAcl, PosixAcl, PosixDifference, Refused
 from aclck_tree import VERSION
 from aclck_tree.errors import DEVICE, REFUSED, YES, DeviceError, TreeError, UsageError
 from aclck_tree.text import quoted_line
@@ -26,6 +26,8 @@ LONGEST = 1 << 27
 
 SHORTER = 1 << 24
 """How many bytes a POSIX list, and a file of names, may have: each of them takes up to 50 times as much memory."""
+
+_PERMISSIONS = {4: "r", 2: "w", 1: "x"}
 
 _EPILOG = """forms of NFSv4 lists:
   xdr            the attribute system.nfs4_acl
@@ -83,8 +85,10 @@ def parser_of() -> argparse.ArgumentParser:
     for kind in ("file", "directory"):
         kinds.add_argument(f"--{kind}", dest="kind", action="store_const", const=kind,
                            help=f"with nfs4-tools: it is the list of a {kind}")
-    parser.add_argument("--bridge", action="store_true", help="make an NFSv4 list that grants r, w and x each as the "
-                        "POSIX list does")
+    parser.add_argument("--bridge", action="store_true", help="make an NFSv4 list of a POSIX list, or a POSIX list of "
+                        "an NFSv4 list, and report who loses by it")
+    parser.add_argument("--exact-only", action="store_true", help="with --bridge to a POSIX form: write nothing if "
+                        "anybody loses r, w or x")
     parser.add_argument("--mode", metavar="OCT", type=_mode, help="with FROM posix-default, or "
                         "another one of default entries: the mode of the directory")
     names = parser.add_mutually_exclusive_group()
@@ -94,7 +98,7 @@ def parser_of() -> argparse.ArgumentParser:
     parser.add_argument("--flags", metavar="FLAGS", type=_flags, help="the flags that the written list has: none, or "
                         "names with | between")
     parser.add_argument("--drop", choices=("flags", "access", "default"), help="leave out the flags of the list, the "
-                        "access entries or the default entries, which TO cannot hold")
+                        "access entries, or the default entries and what new objects inherit, which TO cannot hold")
     parser.add_argument("--leave-out", action="store_true", help="leave out the ACEs that access does not read, of a "
                         "value of nfs4-tools, nfs-text, nfs-text-ids, nfs41 or nfs41-ids, and report them")
     return parser
@@ -102,18 +106,21 @@ def parser_of() -> argparse.ArgumentParser:
 
 def _judge(args: argparse.Namespace) -> None:
     """Raises UsageError if options do not go with the forms."""
-    args.crosses, args.to_ids = args.source in POSIX and args.target in NFS, args.target in WITH_IDS
+    args.crosses, args.to_posix = (args.source in POSIX) != (args.target in POSIX), args.target in POSIX
+    args.from_ids, args.to_ids = args.source in WITH_IDS, args.target in WITH_IDS
     args.exchanges = args.names is not None or args.system
     args.named = args.source in WITH_NAMES or args.target in WITH_NAMES
     for is_wrong, line in (
-            (args.source in NFS and args.target in POSIX, "no POSIX form holds an NFSv4 list"),
-            (args.crosses != args.bridge, "--bridge goes from a POSIX form to an NFSv4 form, and nothing else does"),
+            (args.crosses != args.bridge, "--bridge goes from a POSIX form to an NFSv4 form or back, and nothing else "
+             "does"),
+            (args.crosses and args.target in OF_DEFAULT, "an NFSv4 list becomes access entries"),
+            (args.exact_only and not (args.bridge and args.to_posix), "--exact-only goes with --bridge to a POSIX form"),
             ((TOOLS in (args.source, args.target)) != bool(args.kind), "--file or --directory goes with nfs4-tools"),
             ((args.source in OF_DEFAULT) != (args.mode is not None), "--mode goes with FROM posix-default, and with "
              "FROM of the default entries of an archive"),
             (args.flags is not None and args.target not in WITH_FLAGS, "--flags goes with TO nfs41 or nfs41-ids"),
             (args.leave_out and args.source not in WITH_PARTS, "--leave-out goes with a FROM of another system"),
-            (args.exchanges and not args.named and args.to_ids == (args.crosses or args.source in WITH_IDS),
+            (args.exchanges and not args.named and args.to_ids == args.from_ids,
              "--names and --system go from a form with names to one with ids, or back"),
             (args.domain is not None and not (args.domain and _renames(args)),
              "--domain is not empty, and goes with --names or --system")):
@@ -122,35 +129,75 @@ def _judge(args: argparse.Namespace) -> None:
 
 
 def _renames(args: argparse.Namespace) -> bool:
-    """Whether the names and the ids of an NFSv4 list are exchanged. A bridge makes a list with ids."""
-    return args.exchanges and args.target in NFS and not (args.crosses and args.to_ids)
+    """Whether the names and the ids of an NFSv4 list are exchanged. That of a POSIX list has ids, and so has one that
+    becomes a POSIX list."""
+    return bool(args.exchanges and args.from_ids != args.to_ids)
 
 
 def _converted(args: argparse.Namespace, data: bytes) -> bytes:
     """Returns the value in the form TO. Raises Refused and TreeError."""
     accounts = None if not args.exchanges else System() if args.system else Table(_names(args.names))
     if args.source in POSIX:
-        data = _short(data)
-        names = ids_of_names(data, accounts) if accounts and args.source in WITH_NAMES else ()
-        posix = read_posix(args.source, data, args.mode, names)
-        if args.target not in ("posix", *OF_DEFAULT) and any(entry.default for entry in posix):
-            _drop(args, "default", "the default entries")
-        if args.target in OF_DEFAULT:
-            _drop(args, "access", "the access entries")
-        if args.target in POSIX:
-            entries = [entry for entry in posix if entry.default == (args.target in OF_DEFAULT)]
-            return written_posix(args.target, posix, names_of_ids(entries, accounts) if accounts else ())
+        posix = _read_posix(args, _short(data), accounts)
+        if args.to_posix:
+            return _written_posix(args, posix, accounts)
         acl, flags = posix.bridge(), ListFlag(0)
-    elif args.leave_out:
-        acl, flags, left_out = read_part(args.source, data, args.kind)
-        for ace in left_out:
-            _tell(f"left out: {ace}")
     else:
-        acl, flags = read_nfs(args.source, data, args.kind)
+        acl, flags = _read_nfs(args, data)
     if accounts and _renames(args):
         suffix = b"" if args.domain is None else b"@" + os.fsencode(args.domain)
         acl = exchanged(acl, accounts, args.to_ids, suffix)
-    return written_nfs(args.target, acl, _placed(args, flags), args.kind)
+    kept = _placed(args, flags)
+    if args.to_posix:
+        return _written_posix(args, _posix_of(args, acl), accounts)
+    return written_nfs(args.target, acl, kept, args.kind)
+
+
+def _read_posix(args: argparse.Namespace, data: bytes, accounts: Optional[System]) -> PosixAcl:
+    """Returns the POSIX list of a value, and reports the entries for which TO has no place."""
+    names = ids_of_names(data, accounts) if accounts and args.source in WITH_NAMES else ()
+    posix = read_posix(args.source, data, args.mode, names)
+    if args.target not in ("posix", *OF_DEFAULT) and any(entry.default for entry in posix):
+        _drop(args, "default", "the default entries")
+    if args.target in OF_DEFAULT:
+        _drop(args, "access", "the access entries")
+    return posix
+
+
+def _written_posix(args: argparse.Namespace, posix: PosixAcl, accounts: Optional[System]) -> bytes:
+    """Returns the value of a POSIX list. In the text of an archive, ids have the names of the accounts."""
+    entries = [entry for entry in posix if entry.default == (args.target in OF_DEFAULT)]
+    return written_posix(args.target, posix, names_of_ids(entries, accounts) if accounts else ())
+
+
+def _read_nfs(args: argparse.Namespace, data: bytes) -> Tuple[NfsAcl, ListFlag]:
+    """Returns the NFSv4 list and the flags of a value, and reports the ACEs that are left out."""
+    if not args.leave_out:
+        return read_nfs(args.source, data, args.kind)
+    acl, flags, left_out = read_part(args.source, data, args.kind)
+    for ace in left_out:
+        _tell(f"left out: {ace}")
+    return acl, flags
+
+
+def _posix_of(args: argparse.Namespace, acl: NfsAcl) -> PosixAcl:
+    """Returns the POSIX list that an NFSv4 list with ids becomes, and reports who loses by it. Raises TreeError if
+    somebody does and `--exact-only` is given."""
+    if any(ace.flags & (AceFlag.FILE_INHERIT | AceFlag.DIRECTORY_INHERIT) for ace in acl):
+        _drop(args, "default", "what new objects inherit")
+    made = acl.to_posix()
+    line = "exact" if made.lost is None else f"not exact: {_loser(made.lost)}"
+    if args.exact_only and not made.exact:
+        raise TreeError(f"{line}, and --exact-only is given")
+    _tell(line)
+    return made.acl
+
+
+def _loser(lost: PosixDifference) -> str:
+    """Returns the words for a request that only the NFSv4 list grants."""
+    groups = f"groups {','.join(map(str, lost.groups))}" if lost.groups else "no group"
+    return (f"user {lost.user} in {groups} loses {_PERMISSIONS[lost.want]} on an object of user {lost.owner} "
+            f"and group {lost.group}")
 
 
 def _placed(args: argparse.Namespace, flags: ListFlag) -> ListFlag:

@@ -18,8 +18,8 @@ WITH_NAMES = (_STAR, _STAR_DEFAULT, _GNU, _GNU_DEFAULT)
 TOOLS = "nfs4-tools"
 WITH_FLAGS = ("nfs41", "nfs41-ids")
 """The forms that have flags of the whole list."""
-WITH_IDS = ("nfs-text-ids", "nfs41-ids")
-"""The forms in which users and groups are ids."""
+WITH_IDS = ("nfs-text-ids", "nfs41-ids", *POSIX)
+"""The forms whose lists have ids. Only the text of an archive writes names for them."""
 
 WITH_PARTS = (TOOLS, "nfs-text", "nfs-text-ids", *WITH_FLAGS)
 """The forms of other systems, whose values can have ACEs that access does not read."""

@@ -27,8 +27,8 @@ def own_form(asked: Asked) -> bytes:
 
 
 def grant_the_same(first: Asked, second: Asked) -> bool:
-    """Returns whether two lists of one kind grant everybody the same. Of POSIX lists every request is compared, also for
-    several permissions at once."""
+    """Returns whether two lists of one kind grant everybody the same. For POSIX lists every request is compared, also
+    for several permissions at once."""
     if first.posix and second.posix:
         return first.posix.means_the_same(second.posix)
     return own_form(first) == own_form(second)

@@ -78,8 +78,8 @@ def _remove_leftover(name: str) -> None:
 
 @contextlib.contextmanager
 def replaced(path: str) -> Iterator[TextIO]:
-    """Makes a text file that replaces the file at `path` when the block is done. If the block raises, the old file stays
-    as it was.
+    """Makes a text file that replaces the file at `path` when the block is done. If the block raises, the old file
+    stays as it was.
 
     Raises TreeError if something else than a file is there, and DeviceError if the file cannot be written.
     """

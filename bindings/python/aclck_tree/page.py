@@ -165,6 +165,13 @@ def _head(report: Report, column: List[int]) -> Tuple[str, str]:
 
 
 def _table(report: Report, rows: List[Shown], columns: List[List[int]], heads: List[Tuple[str, str]]) -> Iterator[str]:
+    yield from _table_head(report, heads)
+    yield from _table_rows(report, rows, [column[0] for column in columns[:MOST_COLUMNS]])
+    yield "</tbody></table></div>\n<div id=print></div>\n"
+    yield from _people(report, columns)
+
+
+def _table_head(report: Report, heads: List[Tuple[str, str]]) -> Iterator[str]:
     yield "<h2 id=title>Who has access to what</h2>\n<p>A row stands for a folder and for everything below it, except "
     yield "the rows under it: these are the exceptions. People whose access is equal in all rows share a column. A "
     yield "cell says <b>all</b> for every right (of a file: except to run it), <b>write</b> for reading and writing or "
@@ -188,9 +195,13 @@ def _table(report: Report, rows: List[Shown], columns: List[List[int]], heads: L
         yield f"<th scope=col><button type=button>{escaped(head)}</button>"
         yield f"<small>{escaped(ids)}</small>" if ids else ""
     yield "</thead><tbody>\n"
+
+
+def _table_rows(report: Report, rows: List[Shown], firsts: List[int]) -> Iterator[str]:
+    """Writes a row for each folder, with a cell for the first person of each column. Rows below `deepest_open` are
+    closed at first."""
     most = max(3, min(20, MOST_NAMED // len(rows)))
     deepest_open = 2 if len(rows) > MOST_OPEN else len(rows)
-    firsts = [column[0] for column in columns[:MOST_COLUMNS]]
     waiting: List[Shown] = []
     for one in rows:
         while waiting and waiting[-1].depth >= one.depth:
@@ -203,8 +214,6 @@ def _table(report: Report, rows: List[Shown], columns: List[List[int]], heads: L
     while waiting:
         last = waiting.pop()
         yield _rest(last, last.depth >= deepest_open)
-    yield "</tbody></table></div>\n<div id=print></div>\n"
-    yield from _people(report, columns)
 
 
 def _row(report: Report, one: Shown, most: int, is_hidden: bool) -> str:

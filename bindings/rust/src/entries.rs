@@ -1,10 +1,10 @@
-//! POSIX ACLs by their entries, and by the extended attributes of Linux.
+//! POSIX ACLs by their entries, by the extended attributes of Linux, and of NFSv4 lists.
 
 use crate::answers::{answered, made};
 use crate::nfs4::DIRECTORY;
-use crate::posix::asked;
+use crate::posix::{asked, raw_names};
 use crate::raw::{self, Array, Bytes};
-use crate::{Error, Kind, PosixQuestion};
+use crate::{Error, Kind, Name, PosixQuestion};
 
 /// The number of each option in `aclck.h`.
 const ADD_MASK: u32 = 0x4000_0000;
@@ -56,6 +56,25 @@ pub struct PosixDifference {
     pub user: u32,
     pub groups: Vec<u32>,
     pub want: u32,
+}
+
+/// A permission that a list grants and its POSIX ACL denies: the owner and the group of an object, a user, the groups
+/// of that user, at most three, and the permission (4 read, 2 write, 1 execute).
+#[derive(Clone, Debug, PartialEq, Eq)]
+pub struct PosixLoss {
+    pub owner: u32,
+    pub group: u32,
+    pub user: u32,
+    pub groups: Vec<u32>,
+    pub want: u32,
+}
+
+/// The POSIX ACL of a list: its entries, and who loses what with it. If nobody loses anything, both grant each of read,
+/// write and execute to the same requesters.
+#[derive(Clone, Debug, PartialEq, Eq)]
+pub struct ToPosix {
+    pub entries: Vec<Entry>,
+    pub lost: Option<PosixLoss>,
 }
 
 /// Returns whether the entries, which are in canonical order, grant what is asked.
@@ -132,6 +151,21 @@ pub fn entries_bridge(entries: &[Entry]) -> Result<Vec<u8>, Error> {
     made(64 * entries.len(), |out, needed, fault| unsafe {
         raw::aclck_entries_bridge(Array::of(&entries), out, needed, fault)
     })
+}
+
+/// Returns the POSIX ACL of an NFSv4 list, which never grants more than the list. The id of a name is that of the
+/// table, or the number that the name is. A list that names more than `most` users and groups is refused.
+pub fn to_posix(acl: &[u8], names: &[Name], most: u16) -> Result<ToPosix, Error> {
+    let names = raw_names(names);
+    let mut loss = raw::PosixLoss::default();
+    let found = made(acl.len() / 16 + 4, |out, needed, fault| unsafe {
+        raw::aclck_to_posix(Bytes::of(acl), &Array::of(&names), most.into(), out, needed, &mut loss, fault)
+    })?;
+    let raw::PosixLoss { owner, group, user, want, .. } = loss;
+    let groups = [loss.first_group, loss.second_group, loss.third_group];
+    let groups = groups.into_iter().take(loss.ngroups as usize).collect();
+    let lost = (loss.exact == 0).then_some(PosixLoss { owner, group, user, groups, want });
+    Ok(ToPosix { entries: found.into_iter().map(entry).collect(), lost })
 }
 
 /// Returns the entries of `system.posix_acl_access` or `system.posix_acl_default`. There are none if there is no ACL.

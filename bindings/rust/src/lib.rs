@@ -27,8 +27,8 @@ pub use nfs4::{
 };
 pub use entries::{
     entries_bridge, entries_calc_mask, entries_check, entries_chmod, entries_create, entries_deciding, entries_excess,
-    entries_from_attribute, entries_mode, entries_sorted, entries_to_attribute, Entry, MissingMask, PosixDecision,
-    PosixDifference, Tag,
+    entries_from_attribute, entries_mode, entries_sorted, entries_to_attribute, to_posix, Entry, MissingMask,
+    PosixDecision, PosixDifference, PosixLoss, Tag, ToPosix,
 };
 pub use forms::{read_form, read_part, write_form, ListFlags, ListForm, TextStyle};
 pub use posix::{

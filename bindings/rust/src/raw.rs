@@ -204,6 +204,21 @@ pub struct PosixDifference {
     pub second_group: u32,
 }
 
+/// `aclck_posix_loss`.
+#[repr(C)]
+#[derive(Default)]
+pub struct PosixLoss {
+    pub exact: u32,
+    pub owner: u32,
+    pub group: u32,
+    pub user: u32,
+    pub want: u32,
+    pub ngroups: u32,
+    pub first_group: u32,
+    pub second_group: u32,
+    pub third_group: u32,
+}
+
 /// `aclck_fault`: why and where something is refused.
 #[repr(C)]
 #[derive(Clone, Copy, Debug, Default, PartialEq, Eq)]
@@ -404,6 +419,10 @@ extern "C" {
     ) -> u32;
     pub fn aclck_entries_bridge(
         entries: Array<Entry>, out: Buffer<u8>, needed: *mut usize, fault: *mut Fault,
+    ) -> u32;
+    pub fn aclck_to_posix(
+        acl: Bytes, names: *const Array<Name>, most: u32, out: Buffer<Entry>, needed: *mut usize,
+        loss: *mut PosixLoss, fault: *mut Fault,
     ) -> u32;
     pub fn aclck_entries_from_attribute(
         attribute: Bytes, out: Buffer<Entry>, needed: *mut usize, fault: *mut Fault,

@@ -292,6 +292,26 @@ fn posix_entries_are_asked_and_changed() {
     assert!(show(&entries_bridge(&list).unwrap(), Profile::Full).unwrap().starts_with(b"ALLOW - READ_DATA"));
 }
 
+// RFC 8881, section 6.2.1, and acl(5): bob reads, and so does the owner; who is in group 6 writes, but for an owner.
+#[test]
+fn a_list_has_a_posix_acl() {
+    let bobs = encode(b"ALLOW - READ_DATA OWNER@\nALLOW - READ_DATA bob\n", Profile::Full).unwrap();
+    let writers = encode(b"ALLOW GROUP WRITE_DATA|APPEND_DATA 6\n", Profile::Full).unwrap();
+    let names = [Name { name: b"bob", id: 5, is_group: false }];
+    let entry = |tag, perm| Entry { tag, perm };
+    let [group, other] = [entry(Tag::GroupObj, 0), entry(Tag::Other, 0)];
+    let entries = vec![entry(Tag::UserObj, 4), entry(Tag::User(5), 4), group, entry(Tag::Mask, 4), other];
+    assert_eq!(to_posix(&bobs, &names, 1), Ok(ToPosix { entries, lost: None }));
+    let found = to_posix(&writers, &names, 1).unwrap();
+    let entries = vec![entry(Tag::UserObj, 0), group, entry(Tag::Group(6), 2), entry(Tag::Mask, 2), other];
+    assert_eq!(found.entries, entries);
+    let lost = found.lost.unwrap();
+    assert!(lost.want == 2 && lost.owner == lost.user && lost.groups.contains(&6), "{lost:?}");
+    let unknown = to_posix(&bobs, &[], 1);
+    assert!(matches!(unknown, Err(Error::Refused(Fault { reason: 22, offset: 1, .. }))), "{unknown:?}");
+    assert!(matches!(to_posix(&bobs, &names, 0), Err(Error::Refused(Fault { reason: 28, .. }))));
+}
+
 #[test]
 fn names_of_rights_are_read_and_written() {
     assert_eq!("READ_DATA|EXECUTE".parse(), Ok(read_and_run()));
