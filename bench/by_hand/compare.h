@@ -1,38 +1,83 @@
-/* compare: for each right and principal, the place and the type of the first ACE of a list that has both. */
+/* compare: for each right, and each principal of an ACE that has it, the place and the type of the first such ACE of
+ * each list. Places count the ACEs that have the right. All other principals are treated as everyone is. */
 
 typedef struct {
-    u32 here, there;
+    u32 here, there, turn;
     u8 here_allows, there_allows;
 } Said;
 
-static void say(const List *list, const u32 *number, u32 rows, int bit, Said *said, int is_there)
+/* The places of the ACEs that take part, by right. */
+typedef struct {
+    u32 *places, starts[COUNT + 1];
+} Rights;
+
+static Rights rights_of(const List *list)
 {
-    u32 *places = is_there ? &said->there : &said->here;
-    u8 *allows = is_there ? &said->there_allows : &said->here_allows;
-    u32 whole = list->count, step = sizeof(Said) / sizeof(u32);
-    u8 whole_allows = 0;
-    for (u32 row = 0; row < rows; row++)
-        places[row * step] = ~0u;
-    for (u32 k = 0; k < list->count; k++) {
-        const Ace *ace = &list->aces[k];
-        if (!(ace->mask >> bit & 1) || ace->flags & INHERIT_ONLY)
-            continue;
+    Rights of = { 0, { 0 } };
+    u32 next[COUNT];
+    for (u32 k = 0; k < list->count; k++)
+        if (!(list->aces[k].flags & INHERIT_ONLY))
+            for (u32 mask = list->aces[k].mask; mask; mask &= mask - 1)
+                of.starts[bit_at(mask) + 1]++;
+    for (int bit = 0; bit < COUNT; bit++) {
+        of.starts[bit + 1] += of.starts[bit];
+        next[bit] = of.starts[bit];
+    }
+    of.places = room(of.starts[COUNT], sizeof(u32));
+    for (u32 k = 0; k < list->count; k++)
+        if (!(list->aces[k].flags & INHERIT_ONLY))
+            for (u32 mask = list->aces[k].mask; mask; mask &= mask - 1)
+                of.places[next[bit_at(mask)]++] = k;
+    return of;
+}
+
+/* What both lists say of a right: the rows of its principals, what is said of each row, and what everyone is granted.
+ * What is said of a row in an earlier turn does not count. */
+typedef struct {
+    Said *said;
+    u32 *rows, count, turn, here_end, there_end;
+    u8 here_allows, there_allows;
+} Right;
+
+static void say(const List *list, const u32 *number, const Rights *of, int bit, Right *it, int is_there)
+{
+    u32 start = of->starts[bit], count = of->starts[bit + 1] - start, *end = is_there ? &it->there_end : &it->here_end;
+    u8 *end_allows = is_there ? &it->there_allows : &it->here_allows;
+    *end_allows = 0;
+    for (*end = 0; *end < count; ++*end) {
+        u32 at = of->places[start + *end], row = number[at];
+        const Ace *ace = &list->aces[at];
         if (ace->rank == EVERYONE) {
-            whole = k;
-            whole_allows = ace->kind == ALLOW;
-            break;
+            *end_allows = ace->kind == ALLOW;
+            return;
         }
-        if (places[number[k] * step] == ~0u) {
-            places[number[k] * step] = k;
-            allows[number[k] * sizeof(Said)] = ace->kind == ALLOW;
+        Said *said = &it->said[row];
+        if (said->turn != it->turn) {
+            *said = (Said){ ~0u, ~0u, it->turn, 0, 0 };
+            it->rows[it->count++] = row;
+        }
+        u32 *place = is_there ? &said->there : &said->here;
+        if (*place == ~0u) {
+            *place = *end;
+            *(is_there ? &said->there_allows : &said->here_allows) = ace->kind == ALLOW;
         }
     }
-    /* the last row is for EVERYONE@: the situation that no other mentioned principal matches */
-    for (u32 row = 0; row < rows; row++)
-        if (places[row * step] == ~0u) {
-            places[row * step] = whole;
-            allows[row * sizeof(Said)] = whole_allows;
-        }
+}
+
+/* Finds what both lists say of a right. */
+static void hear(const List *lists, const u32 *number, const Rights *of, int bit, Right *it)
+{
+    it->count = 0;
+    it->turn++;
+    say(&lists[0], number, &of[0], bit, it, 0);
+    say(&lists[1], number + lists[0].count, &of[1], bit, it, 1);
+    for (u32 k = 0; k < it->count; k++) {
+        Said *said = &it->said[it->rows[k]];
+        if (said->here == ~0u)
+            said->here = it->here_end, said->here_allows = it->here_allows;
+        if (said->there == ~0u)
+            said->there = it->there_end, said->there_allows = it->there_allows;
+    }
 }
 
 static void rise(u32 *table, u32 size)
@@ -44,41 +89,55 @@ static void rise(u32 *table, u32 size)
 
 /* Returns the first row below `limit` for which an overlapping row of the other type is before it in one of the lists
  * only. */
-static u32 first_inverting(const Said *said, const Rows *rows, u32 count, u32 size, u32 limit)
+static u32 first_inverting(const Right *right, const Rows *rows, u32 limit)
 {
-    u32 *tables[2][2][2];
-    for (int allows = 0; allows < 2; allows++)
-        for (int others = 0; others < 2; others++)
-            for (int swapped = 0; swapped < 2; swapped++)
-                tables[allows][others][swapped] = cleared(size + 2, sizeof(u32));
-    for (u32 row = 0; row < count; row++) {
-        u32 **of = tables[said[row].here_allows][rows->first[row]->rank != USER];
-        u32 here = said[row].here, there = said[row].there;
-        if (of[0][here + 1] < there + 1)
-            of[0][here + 1] = there + 1;
-        if (of[1][there + 1] < here + 1)
-            of[1][there + 1] = here + 1;
+    u32 *tables[2][2][2], size = (right->here_end > right->there_end ? right->here_end : right->there_end) + 2;
+    for (int k = 0; k < 8; k++)
+        tables[k >> 2][k >> 1 & 1][k & 1] = cleared(size, sizeof(u32));
+    for (u32 k = 0; k < right->count; k++) {
+        const Said *it = &right->said[right->rows[k]];
+        u32 **of = tables[it->here_allows][rows->first[right->rows[k]]->rank != USER];
+        if (of[0][it->here + 1] < it->there + 1)
+            of[0][it->here + 1] = it->there + 1;
+        if (of[1][it->there + 1] < it->here + 1)
+            of[1][it->there + 1] = it->here + 1;
     }
     for (int k = 0; k < 8; k++)
-        rise(tables[k >> 2][k >> 1 & 1][k & 1], size + 2);
-    u32 found = 0;
-    for (; found < limit; found++) {
-        const Said *it = &said[found];
+        rise(tables[k >> 2][k >> 1 & 1][k & 1], size);
+    for (u32 k = 0; k < right->count; k++) {
+        u32 row = right->rows[k];
+        const Said *it = &right->said[row];
         u32 **others = tables[!it->here_allows][1], **users = tables[!it->here_allows][0];
+        if (row >= limit)
+            continue;
         if (others[0][it->here] > it->there + 1 || others[1][it->there] > it->here + 1)
-            break;
-        if (rows->first[found]->rank != USER
-            && (users[0][it->here] > it->there + 1 || users[1][it->there] > it->here + 1))
-            break;
+            limit = row;
+        else if (rows->first[row]->rank != USER
+                 && (users[0][it->here] > it->there + 1 || users[1][it->there] > it->here + 1))
+            limit = row;
     }
     for (int k = 0; k < 8; k++)
         free(tables[k >> 2][k >> 1 & 1][k & 1]);
-    return found;
+    return limit;
 }
 
 static int inverts(const Said *a, const Said *b, int are_users)
 {
     return !are_users && a->here_allows != b->here_allows && (b->here < a->here) != (b->there < a->there);
+}
+
+/* Returns the first row after `row` that inverts it. */
+static u32 first_inverted(const Right *right, const Rows *rows, u32 row)
+{
+    u32 least = ~0u;
+    int is_user = rows->first[row]->rank == USER;
+    for (u32 k = 0; k < right->count; k++) {
+        u32 other = right->rows[k];
+        if (other > row && other < least
+            && inverts(&right->said[row], &right->said[other], is_user && rows->first[other]->rank == USER))
+            least = other;
+    }
+    return least;
 }
 
 static void put_strange(const char *what, u8 letter, u32 len)
@@ -149,11 +208,6 @@ static Rows rows_of_both(const List *first, const List *second)
     Headed *items = room(both, sizeof(Headed));
     u32 count = (u32)(headed(second, first->count, common, headed(first, 0, common, items)) - items);
     return numbered(sorted(items, count), count, both);
-}
-
-static int is_same_principal(const Ace *a, const Ace *b)
-{
-    return a->rank == b->rank && (!is_named(a) || (a->len == b->len && !memcmp(a->who, b->who, a->len)));
 }
 
 /* Returns the number of a principal among the rows, or the number of rows if it is in none. */
@@ -253,7 +307,6 @@ static void compare(void)
         put_text("same\n");
         finish(0);
     }
-    u32 size = (first.count > second.count ? first.count : second.count) + 1;
     Rows rows;
     if (!rows_by_finger(&first, &second, &rows))
         rows = rows_of_both(&first, &second);
@@ -261,38 +314,40 @@ static void compare(void)
     if (mentioned && rows.first[mentioned - 1]->rank == EVERYONE)
         mentioned--;
     u32 mask = rights_apart(&first, &second, rows.number, all_rights(&first) | all_rights(&second));
-    Said *said = room((size_t)rows.count + 1, sizeof(Said));
-    /* nobody or one principal matches: the row after the mentioned principals is that of EVERYONE@ */
-    u32 limit = mentioned + 1, single = limit;
+    const List lists[2] = { first, second };
+    const Rights of[2] = { rights_of(&first), rights_of(&second) };
+    Right right = { cleared(rows.count, sizeof(Said)), room(rows.count, sizeof(u32)), 0, 0, 0, 0, 0, 0 };
+    /* nobody or one principal matches; if nobody does, `single` is 0, and otherwise one more than the row */
+    u32 single = mentioned + 1;
     int bit = -1, grants = 0;
     for (u32 left = mask; left && single; left &= left - 1) {
         int b = bit_at(left);
-        say(&first, rows.number, mentioned + 1, b, said, 0);
-        say(&second, rows.number + first.count, mentioned + 1, b, said, 1);
-        if (said[mentioned].here_allows != said[mentioned].there_allows)
-            single = 0, bit = b, grants = said[mentioned].here_allows;
-        for (u32 row = 0; row + 1 < single; row++)
-            if (said[row].here_allows != said[row].there_allows)
-                single = row + 1, bit = b, grants = said[row].here_allows;
+        hear(lists, rows.number, of, b, &right);
+        if (right.here_allows != right.there_allows)
+            single = 0, bit = b, grants = right.here_allows;
+        for (u32 k = 0; k < right.count; k++) {
+            const Said *said = &right.said[right.rows[k]];
+            if (right.rows[k] + 1 < single && said->here_allows != said->there_allows)
+                single = right.rows[k] + 1, bit = b, grants = said->here_allows;
+        }
     }
     if (bit >= 0) {
         set[0] = single - 1;
         put_difference(&rows, mentioned, set, single > 0, bit, grants);
     }
+    /* what is said of a single right is still known */
     for (u32 left = mask; left; left &= left - 1) {
         int b = bit_at(left);
-        say(&first, rows.number, mentioned + 1, b, said, 0);
-        say(&second, rows.number + first.count, mentioned + 1, b, said, 1);
-        u32 most = set[0] == ~0u ? mentioned : set[0] + 1, row = first_inverting(said, &rows, mentioned, size, most);
+        if (mask & (mask - 1))
+            hear(lists, rows.number, of, b, &right);
+        u32 most = set[0] == ~0u ? mentioned : set[0] + 1, row = first_inverting(&right, &rows, most);
         if (row == most)
             continue;
-        u32 other = row + 1;
-        while (!inverts(&said[row], &said[other],
-                        rows.first[row]->rank == USER && rows.first[other]->rank == USER))
-            other++;
+        u32 other = first_inverted(&right, &rows, row);
         if (row < set[0] || other < set[1]) {
             set[0] = row, set[1] = other, bit = b;
-            grants = said[row].here < said[other].here ? said[row].here_allows : said[other].here_allows;
+            grants = right.said[row].here < right.said[other].here ? right.said[row].here_allows
+                                                                   : right.said[other].here_allows;
         }
     }
     if (bit >= 0)

@@ -43,15 +43,38 @@ static int is_utf8(const u8 *at, const u8 *last)
     return 1;
 }
 
-static inline int is_who(const u8 *who, u32 len)
+static int is_any_who(const u8 *who, u32 len)
 {
-    u8 high = 0;
-    for (u32 k = 0; k < len; k++) {
+    for (u32 k = 0; k < len; k++)
         if (who[k] < 0x20 || who[k] == 0x7f)
             return 0;
-        high |= who[k];
-    }
-    return !(high & 0x80) || is_utf8(who, who + len);
+    return is_utf8(who, who + len);
+}
+
+/* Returns whether each of eight bytes is printable ASCII. */
+static inline int are_plain(u64 bytes)
+{
+    const u64 each = 0x0101010101010101;
+    return !((bytes | (bytes - 0x20 * each) | ((bytes ^ 0x7f * each) - each)) & 0x80 * each);
+}
+
+/* Reads eight bytes. Those from `len` on count as blanks. */
+static inline u64 eight_at(const u8 *at, u32 len)
+{
+    u64 bytes;
+    memcpy(&bytes, at, 8);
+    if (len >= 8)
+        return bytes;
+    u64 mask = ~0ull << len * 8;
+    return (bytes & ~mask) | (0x2020202020202020 & mask);
+}
+
+static inline int is_who(const u8 *who, u32 len)
+{
+    for (u32 k = 0; k < len; k += 8)
+        if (!are_plain(eight_at(who + k, len - k)))
+            return is_any_who(who, len);
+    return 1;
 }
 
 /* Returns the rank of a who, or -1 if it ends in `@` and is not one of the three special names. */
@@ -134,17 +157,21 @@ typedef struct {
 
 #define NAME(bit, name, second) { bit, name, second, sizeof(name) - 1 }
 
+/* tools/tables writes both tables. */
 static const Name rights[] = {
-    NAME(1, "READ_DATA", "LIST_DIRECTORY"), NAME(2, "WRITE_DATA", "ADD_FILE"), NAME(4, "APPEND_DATA", "ADD_SUBDIRECTORY"),
-    NAME(8, "READ_NAMED_ATTRS", 0), NAME(0x10, "WRITE_NAMED_ATTRS", 0), NAME(0x20, "EXECUTE", 0), NAME(0x40, "DELETE_CHILD", 0),
-    NAME(0x80, "READ_ATTRIBUTES", 0), NAME(0x100, "WRITE_ATTRIBUTES", 0), NAME(0x200, "WRITE_RETENTION", 0),
-    NAME(0x400, "WRITE_RETENTION_HOLD", 0), NAME(0x10000, "DELETE", 0), NAME(0x20000, "READ_ACL", 0),
-    NAME(0x40000, "WRITE_ACL", 0), NAME(0x80000, "WRITE_OWNER", 0), NAME(0x100000, "SYNCHRONIZE", 0), { 0, 0, 0, 0 },
+    NAME(0x1, "READ_DATA", "LIST_DIRECTORY"), NAME(0x2, "WRITE_DATA", "ADD_FILE"),
+    NAME(0x4, "APPEND_DATA", "ADD_SUBDIRECTORY"), NAME(0x8, "READ_NAMED_ATTRS", 0), NAME(0x10, "WRITE_NAMED_ATTRS", 0),
+    NAME(0x20, "EXECUTE", 0), NAME(0x40, "DELETE_CHILD", 0), NAME(0x80, "READ_ATTRIBUTES", 0),
+    NAME(0x100, "WRITE_ATTRIBUTES", 0), NAME(0x200, "WRITE_RETENTION", 0), NAME(0x400, "WRITE_RETENTION_HOLD", 0),
+    NAME(0x10000, "DELETE", 0), NAME(0x20000, "READ_ACL", 0), NAME(0x40000, "WRITE_ACL", 0),
+    NAME(0x80000, "WRITE_OWNER", 0), NAME(0x100000, "SYNCHRONIZE", 0),
+    { 0, 0, 0, 0 },
 };
 
 static const Name flag_names[] = {
-    NAME(1, "FILE", 0), NAME(2, "DIR", 0), NAME(4, "NOPROP", 0), NAME(8, "INHERITONLY", 0), NAME(0x10, "SUCCESS", 0),
-    NAME(0x20, "FAILED", 0), NAME(0x40, "GROUP", 0), NAME(0x80, "INHERITED", 0), { 0, 0, 0, 0 },
+    NAME(0x1, "FILE", 0), NAME(0x2, "DIR", 0), NAME(0x4, "NOPROP", 0), NAME(0x8, "INHERITONLY", 0),
+    NAME(0x10, "SUCCESS", 0), NAME(0x20, "FAILED", 0), NAME(0x40, "GROUP", 0), NAME(0x80, "INHERITED", 0),
+    { 0, 0, 0, 0 },
 };
 
 static int is_name(const char *name, const u8 *at, size_t len)

@@ -17,11 +17,68 @@ static int word_order(const void *a, const void *b)
     return by_bytes(x->name, x->len, y->name, y->len);
 }
 
-static int is_member(const Word *words, size_t count, const u8 *name, size_t len)
+/* Names in order, and a number for each: its first eight bytes. */
+typedef struct {
+    Word *words;
+    u64 *heads;
+    size_t count;
+} Names;
+
+static u64 start_of(const u8 *name, size_t len)
 {
-    for (size_t low = 0, high = count; low < high;) {
+    u64 bytes = 0;
+    memcpy(&bytes, name, len < 8 ? len : 8);
+    return __builtin_bswap64(bytes);
+}
+
+/* Returns the same for a name in the input. */
+static inline u64 start_in_input(const u8 *name, u32 len)
+{
+    u64 bytes;
+    memcpy(&bytes, name, 8);
+    bytes = __builtin_bswap64(bytes);
+    return len < 8 ? bytes & ~(~0ull >> len * 8) : bytes;
+}
+
+/* Sorts words, unless they are in order. */
+static Names names_of(Word *words, size_t count)
+{
+    Names names = { words, room(count, sizeof(u64)), count };
+    for (size_t k = 1; k < count; k++)
+        if (word_order(&words[k - 1], &words[k]) > 0) {
+            qsort(words, count, sizeof(Word), word_order);
+            break;
+        }
+    for (size_t k = 0; k < count; k++)
+        names.heads[k] = start_of(words[k].name, words[k].len);
+    return names;
+}
+
+/* Returns where the first number that is not below `head` is. */
+static inline size_t first_not_below(const u64 *heads, size_t count, u64 head)
+{
+    const u64 *first = heads;
+    while (count) {
+        size_t half = count / 2;
+        int is_below = heads[half] < head;
+        heads += is_below ? half + 1 : 0;
+        count = is_below ? count - half - 1 : half;
+    }
+    return (size_t)(heads - first);
+}
+
+/* Returns whether a name is among the names. `head` is the number for it. */
+static int is_member(const Names *names, u64 head, const u8 *name, size_t len)
+{
+    size_t low = first_not_below(names->heads, names->count, head);
+    if (low == names->count || names->heads[low] != head)
+        return 0;
+    size_t high = names->count;
+    if (head != ~0ull)
+        high = low + first_not_below(names->heads + low, names->count - low, head + 1);
+    while (low < high) {
         size_t half = (low + high) / 2;
-        int order = by_bytes(name, len, words[half].name, words[half].len);
+        int order = by_bytes(name, len, names->words[half].name, names->words[half].len);
         if (!order)
             return 1;
         if (order < 0)
@@ -45,18 +102,20 @@ static void check_nfs(int argc, char **argv)
             k += argv[k][2] != 0;
         else
             words[count++] = (Word){ (const u8 *)argv[k], strlen(argv[k]) };
-    qsort(words, count, sizeof(Word), word_order);
+    Names names = names_of(words, count);
     u32 left = strcmp(mask, "none") ? set_of(rights, (const u8 *)mask, (const u8 *)mask + strlen(mask)) : 0;
     List list = read_list();
     size_t user_len = strlen(user);
-    int is_owner = !strcmp(owner, user), in_group = is_member(words, count, (const u8 *)group, strlen(group));
+    const u8 *owning = (const u8 *)group;
+    int is_owner = !strcmp(owner, user);
+    int in_group = is_member(&names, start_of(owning, strlen(group)), owning, strlen(group));
     for (const Ace *ace = list.aces, *last = ace + list.count; left && ace < last; ace++) {
         if (!(ace->mask & left) || ace->flags & INHERIT_ONLY)
             continue;
         int matches = ace->rank == USER ? ace->len == user_len && !memcmp(ace->who, user, user_len)
             : ace->rank == OWNER        ? is_owner
             : ace->rank == GROUP        ? in_group
-            : ace->rank == GROUP_NAMED  ? is_member(words, count, ace->who, ace->len)
+            : ace->rank == GROUP_NAMED  ? is_member(&names, start_in_input(ace->who, ace->len), ace->who, ace->len)
                                         : 1;
         if (matches && ace->kind == DENY)
             break;

@@ -43,23 +43,18 @@ static const Ace *first_named(const List *list)
 
 static inline u64 head_of(const Ace *ace, u32 common)
 {
-    u64 bytes = 0;
-    if (!is_named(ace))
-        return (u64)ace->rank << 56;
-    if (ace->len >= common + 8)
-        memcpy(&bytes, ace->who + common, 8);
-    else
-        memcpy(&bytes, ace->who + common, ace->len - common);
-    return (u64)ace->rank << 56 | __builtin_bswap64(bytes) >> 8;
+    u64 rank = (u64)ace->rank << 56;
+    return is_named(ace) ? rank | start_in_input(ace->who + common, ace->len - common) >> 8 : rank;
+}
+
+static inline int is_same_principal(const Ace *a, const Ace *b)
+{
+    return a->rank == b->rank && (!is_named(a) || (a->len == b->len && !memcmp(a->who, b->who, a->len)));
 }
 
 static inline int is_same(const Headed *a, const Headed *b)
 {
-    if (a->head != b->head)
-        return 0;
-    if (!is_named(a->ace))
-        return 1;
-    return a->ace->len == b->ace->len && !memcmp(a->ace->who, b->ace->who, a->ace->len);
+    return a->head == b->head && is_same_principal(a->ace, b->ace);
 }
 
 static inline int is_before(const Headed *a, const Headed *b)
@@ -114,26 +109,52 @@ static int is_in_order(const Headed *items, u32 count)
     return 1;
 }
 
-/* Sorts items by their heads, and keeps the order of items with equal heads: one pass for each byte in which heads
- * differ. */
-static Headed *by_heads(Headed *items, u32 count)
+/* Removes from heads the bits that are the same in all, at both ends of each byte. The order of the heads stays.
+ * Returns how many bits are left. */
+static int pack(Headed *items, u32 count)
 {
-    u64 any = 0, all = ~0ull;
+    u64 any = 0, all = ~0ull, masks[8];
+    int shifts[8], parts = 0, bits = 0;
     for (u32 k = 0; k < count; k++) {
         any |= items[k].head;
         all &= items[k].head;
     }
-    Headed *from = items, *to = room(count, sizeof(Headed));
-    for (int shift = 0; shift < 64; shift += 8) {
-        if (!((any & ~all) >> shift & 0xff))
+    for (int byte = 0; byte < 64; byte += 8) {
+        u64 apart = (any & ~all) >> byte & 0xff;
+        if (!apart)
             continue;
-        u32 starts[257] = { 0 };
+        int low = __builtin_ctzll(apart), wide = 64 - __builtin_clzll(apart) - low;
+        shifts[parts] = byte + low - bits;
+        masks[parts++] = ((1ull << wide) - 1) << bits;
+        bits += wide;
+    }
+    for (u32 k = 0; k < count; k++) {
+        u64 packed = 0;
+        for (int part = 0; part < parts; part++)
+            packed |= items[k].head >> shifts[part] & masks[part];
+        items[k].head = packed;
+    }
+    return bits;
+}
+
+enum { DIGIT = 11 };
+
+/* Sorts items by their heads, and keeps the order of items with equal heads: one pass for each eleven bits in which
+ * heads differ. */
+static Headed *by_heads(Headed *items, u32 count)
+{
+    static u32 starts[(1 << DIGIT) + 1];
+    const u64 most = (1 << DIGIT) - 1;
+    int bits = pack(items, count);
+    Headed *from = items, *to = room(count, sizeof(Headed));
+    for (int shift = 0; shift < bits; shift += DIGIT) {
+        memset(starts, 0, sizeof starts);
         for (u32 k = 0; k < count; k++)
-            starts[(from[k].head >> shift & 0xff) + 1]++;
-        for (int byte = 1; byte < 256; byte++)
-            starts[byte] += starts[byte - 1];
+            starts[(from[k].head >> shift & most) + 1]++;
+        for (u32 digit = 1; digit <= most; digit++)
+            starts[digit] += starts[digit - 1];
         for (u32 k = 0; k < count; k++)
-            to[starts[from[k].head >> shift & 0xff]++] = from[k];
+            to[starts[from[k].head >> shift & most]++] = from[k];
         Headed *swapped = from;
         from = to;
         to = swapped;
@@ -165,7 +186,8 @@ static Headed *headed(const List *list, u32 first, u32 common, Headed *to)
     return to;
 }
 
-/* Finds the principals of a list in order, each with an ACE that names it, and the number of the principal of each ACE. */
+/* Finds the principals of a list in order, each with an ACE that names it, and the number of the principal of each
+ * ACE. */
 typedef struct {
     const Ace **first;
     u32 *number, count;
@@ -182,8 +204,55 @@ static Rows numbered(const Headed *items, u32 count, u32 places)
     return rows;
 }
 
+enum { FEW = 256, SLOTS = 1024 };
+
+/* Returns the number of the principal of an ACE among the items, which are the principals so far, or FEW if there are
+ * too many. `slots` is a table of the principals by their heads. `tries` limits how often a search looks further. */
+static u32 number_of(const Ace *ace, Headed *items, u32 *count, u32 *slots, u32 *tries)
+{
+    u64 head = head_of(ace, 0);
+    u32 slot = (u32)(head * 0x9e3779b97f4a7c15 >> 54);
+    for (; slots[slot]; slot = (slot + 1) % SLOTS) {
+        if (is_same_principal(items[slots[slot] - 1].ace, ace))
+            return slots[slot] - 1;
+        if (!--*tries)
+            return FEW;
+    }
+    if (*count < FEW) {
+        items[*count] = (Headed){ head, ace, *count };
+        slots[slot] = *count + 1;
+    }
+    return *count < FEW ? (*count)++ : FEW;
+}
+
+/* Finds the rows of a list of few principals, of which only the principals are sorted. Returns whether there are
+ * few. */
+static int rows_of_few(const List *list, Rows *rows)
+{
+    static Headed items[FEW];
+    static u32 row_of[FEW];
+    u32 slots[SLOTS] = { 0 }, tries = list->count + SLOTS, *number = room(list->count, sizeof(u32));
+    *rows = (Rows){ room(FEW, sizeof(Ace *)), number, 0 };
+    for (u32 k = 0; k < list->count; k++)
+        if (!(list->aces[k].flags & INHERIT_ONLY)
+            && (number[k] = number_of(&list->aces[k], items, &rows->count, slots, &tries)) == FEW)
+            return 0;
+    merge(items, rows->count);
+    for (u32 row = 0; row < rows->count; row++) {
+        rows->first[row] = items[row].ace;
+        row_of[items[row].place] = row;
+    }
+    for (u32 k = 0; k < list->count; k++)
+        if (!(list->aces[k].flags & INHERIT_ONLY))
+            number[k] = row_of[number[k]];
+    return 1;
+}
+
 static Rows rows_of(const List *list)
 {
+    Rows few;
+    if (rows_of_few(list, &few))
+        return few;
     const Ace *named = first_named(list);
     u32 common = named ? common_start(named, list, named->len) : 0;
     Headed *items = room(list->count, sizeof(Headed));
