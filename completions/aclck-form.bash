@@ -4,7 +4,7 @@ _aclck_form() {
     local current=$2 previous=$3 IFS=$' \t\n'
     local forms='xdr text nfs4-tools nfs-text nfs-text-ids nfs41 nfs41-ids posix posix-access posix-default'
     forms+=' posix-archive posix-archive-default posix-gnu-tar posix-gnu-tar-default'
-    local options='--file --directory --bridge --mode --names --system --domain --flags --drop --leave-out --help --version'
+    local options='--file --directory --bridge --exact-only --mode --names --system --domain --flags --drop --leave-out --help --version'
     COMPREPLY=()
     case $previous in
         --names | '<' | '>' | '>>')

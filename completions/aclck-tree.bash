@@ -1,4 +1,5 @@
-# Completion of aclck-tree for bash: commands, options, the names of rights, and files.
+# Completion of aclck-tree for bash: commands, options, the names of rights, and files. tools/tables writes the list of
+# rights.
 
 declare -gA _aclck_tree_options=(
     [scan]='-o --one-file-system --threads --attribute --host --quiet --from --lines --archive --root --shard --key'

@@ -1,4 +1,4 @@
-# Completion of aclck-tree for fish.
+# Completion of aclck-tree for fish. tools/tables writes the list of rights.
 
 set -l words scan merge info who may why same diff policy report load
 set -l rights READ_DATA LIST_DIRECTORY WRITE_DATA ADD_FILE APPEND_DATA ADD_SUBDIRECTORY READ_NAMED_ATTRS \

@@ -1,5 +1,5 @@
 # Completion of aclck for bash: commands, their options, the values of options that have a few values, and the names of
-# files after `<`, `>` and `2>`.
+# files after `<`, `>` and `2>`. tools/tables writes the lists of options and rights.
 
 # The options of each command.
 declare -gA _aclck_options=(
@@ -95,12 +95,12 @@ _aclck() {
     if [[ " ${_aclck_options[$command]} " == *" $option "* ]]; then
         case $option in
             --profile) _aclck_offer 'full narrow' "$current" ;;
-            --form) _aclck_offer 'canonical shown short' "$current" ;;
             --kind) _aclck_offer 'file dir' "$current" ;;
+            --form) _aclck_offer 'canonical shown short' "$current" ;;
             --bit) _aclck_offer "$(_aclck_known_rights)" "$current" ;;
             --mask) _aclck_complete_mask "$current" ;;
         esac
-        [[ $option == --@(dir|inherit) ]] || return
+        [[ $option == --@(inherit|dir) ]] || return
     fi
     for word in ${_aclck_options[$command]}; do
         [[ " ${words[*]:1} " == *" $word "* ]] || unused+=("$word")

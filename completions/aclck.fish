@@ -1,4 +1,4 @@
-# Completion of aclck for fish.
+# Completion of aclck for fish. tools/tables writes the lists of commands, rights and options.
 
 set -l words check-nfs show-nfs encode child mode table normalize compare show-posix check-posix calc-mask chmod \
     create bridge
@@ -12,15 +12,15 @@ complete -c aclck -n '__fish_seen_subcommand_from check-nfs check-posix' -l owne
 complete -c aclck -n '__fish_seen_subcommand_from check-nfs check-posix' -l group -x -d 'The group of the object'
 complete -c aclck -n '__fish_seen_subcommand_from check-nfs check-posix' -l user -x -d 'Who asks'
 complete -c aclck -n '__fish_seen_subcommand_from check-nfs' -l mask -x -a "none $rights" -d 'The rights'
-complete -c aclck -n '__fish_seen_subcommand_from check-posix' -l groups -x -d 'Ids of groups'
-complete -c aclck -n '__fish_seen_subcommand_from check-posix' -l want -x -d 'Some of rwx'
+complete -c aclck -n '__fish_seen_subcommand_from check-nfs show-nfs encode child mode table normalize compare' \
+    -l profile -x -a 'full narrow' -d 'The rights and flags that are known'
 complete -c aclck -n '__fish_seen_subcommand_from child' -l kind -x -a 'file dir' -d 'What is made'
 complete -c aclck -n '__fish_seen_subcommand_from table' -l bit -x -a "$rights" -d 'The right'
 complete -c aclck -n '__fish_seen_subcommand_from normalize' -l inherit -d 'Five normal forms'
 complete -c aclck -n '__fish_seen_subcommand_from show-posix' -l form -x -a 'canonical shown short' \
     -d 'The form of the text'
+complete -c aclck -n '__fish_seen_subcommand_from check-posix' -l groups -x -d 'Ids of groups'
+complete -c aclck -n '__fish_seen_subcommand_from check-posix' -l want -x -d 'Some of rwx'
 complete -c aclck -n '__fish_seen_subcommand_from chmod create' -l mode -x -d 'Octal digits'
 complete -c aclck -n '__fish_seen_subcommand_from create' -l umask -x -d 'Octal digits'
 complete -c aclck -n '__fish_seen_subcommand_from create' -l dir -d 'A directory'
-complete -c aclck -n '__fish_seen_subcommand_from check-nfs show-nfs encode child mode table normalize compare' \
-    -l profile -x -a 'full narrow' -d 'The rights and flags that are known'
