@@ -1,5 +1,5 @@
-"""What the scripts tests/programs and tests/server share: they build programs with the library that `make library` leaves,
-or with the one next to the file that ACLCK_LIBRARY names. A test whose compiler is missing is skipped, and says so.
+"""What the scripts tests/programs and tests/server share: they build programs with the library that `make library`
+leaves, or with the one next to the file that ACLCK_LIBRARY names. A test whose compiler is missing is skipped, and says so.
 """
 import os
 import shutil

@@ -1,5 +1,5 @@
-"""What the scripts in Python share: where the tree, the library and the modules in Python are, and how a script runs its
-tests. The library is the one that ACLCK_LIBRARY names, or the one that `make library` leaves. Without it, a script
+"""What the scripts in Python share: where the tree, the library and the modules in Python are, and how a script runs
+its tests. The library is the one that ACLCK_LIBRARY names, or the one that `make library` leaves. Without it, a script
 ends.
 """
 import os

@@ -120,6 +120,17 @@ static uint32_t read_aces(size_t len, size_t *count) {
     }
 }
 
+/* Makes the POSIX ACL of a list in which each name has an id. */
+static uint32_t to_posix(size_t len) {
+    static const aclck_name rows[] = {{{"mallory", 7}, 7, 0}, {{"editors", 7}, 8, 1}};
+    const aclck_names table = {rows, 2};
+    const aclck_entry_buffer room = {changed, sizeof changed / sizeof *changed};
+    aclck_posix_loss loss;
+    aclck_fault fault;
+    size_t needed;
+    return aclck_to_posix(LIST, &table, 256, room, &needed, &loss, &fault);
+}
+
 static uint32_t invoke_list(const char *call, size_t len) {
     static const aclck_renaming rows[] = {{{"mallory", 7}, {"m", 1}, 0}, {{"editors", 7}, {"writers", 7}, 1}};
     const aclck_renamings table = {rows, 2};
@@ -142,6 +153,8 @@ static uint32_t invoke_list(const char *call, size_t len) {
         return aclck_read_form(LIST, ACLCK_NFS_TOOLS_DIRECTORY, ROOM_FOR_ALL, &needed, &flags, &fault);
     if (IS("write_form"))
         return aclck_write_form(LIST, ACLCK_NFS_TOOLS_DIRECTORY, 0, OUT);
+    if (IS("to_posix"))
+        return to_posix(len);
     if (IS("decide_unknown"))
         return aclck_decide_unknown(LIST, &object, who, &all, &possible, &fault);
     if (read_aces(len, &count) || IS("next"))

@@ -1,5 +1,6 @@
-/* Tests the calls of libaclck over POSIX entries and over the extended attributes of Linux, with rows that were worked
- * by hand from acl(5). tests/library.c compares the same calls with those over texts.
+/* Tests the calls of libaclck over POSIX entries and over the extended attributes of Linux, and the one that makes them
+ * of an NFSv4 list, with rows that were worked by hand from acl(5) and RFC 8881. tests/library.c compares the same
+ * calls with those over texts.
  *
  *     library_entries [FILE]
  *
@@ -32,6 +33,8 @@ typedef struct {
     aclck_posix_text value;
     uint32_t number;
     aclck_creation creation;
+    aclck_bytes acl;
+    aclck_posix_loss loss;
 } given;
 
 #define WRITER(name, call)                                                                                             \
@@ -569,6 +572,165 @@ static void are_bad_forms_not_written(void) {
     }
 }
 
+/* ---- NFSv4 lists as POSIX ACLs. What a list grants is by RFC 8881, section 6.2.1, and the check looks at the entry of
+   the owner first, then at that of the user, then at those of groups, and then at OTHER. */
+
+/* The call writes the loss that is given, and nothing but 0 if it makes no entries. */
+static enum aclck_status convert(const void *with, void *room, size_t cap, size_t *needed, aclck_fault *fault) {
+    static const aclck_posix_loss unknown = {0, 0, 0, 0, 0, 0, 0, 0, 0};
+    const given *g = with;
+    const aclck_entry_buffer out = {room, cap};
+    aclck_posix_loss loss;
+    memset(&loss, 0xee, sizeof loss);
+    enum aclck_status status = aclck_to_posix(g->acl, &g->value.names, g->number, out, needed, &loss, fault);
+    int is_made = status == ACLCK_DONE || status == ACLCK_SHORT;
+    EXPECT(memcmp(&loss, is_made ? &g->loss : &unknown, sizeof loss) == 0);
+    return status;
+}
+
+/* The list of a text, in which bob is the user 1002, and editors the group 30. */
+static given with_list(const char *text, uint32_t most) {
+    static const aclck_name names[] = {{TEXT("bob"), 1002, 0}, {TEXT("editors"), 30, 1}};
+    static unsigned char bytes[512];
+    const aclck_buffer room = {bytes, sizeof bytes};
+    aclck_fault fault;
+    given g;
+    memset(&g, 0, sizeof g);
+    g.acl.at = bytes;
+    EXPECT(aclck_encode(aclck_string(text), ACLCK_FULL, room, &g.acl.len, &fault) == ACLCK_DONE);
+    g.value.names.at = names;
+    g.value.names.len = 2;
+    g.number = most;
+    return g;
+}
+
+/* Puts the groups into rising order, each once, and returns how many they are. */
+static size_t put_in_order(const uint32_t *groups, size_t count, uint32_t *rising) {
+    size_t kept = 0;
+    for (size_t i = 0; i < count; i++) {
+        size_t at = kept;
+        while (at > 0 && rising[at - 1] > groups[i])
+            at--;
+        if (at > 0 && rising[at - 1] == groups[i])
+            continue;
+        memmove(rising + at + 1, rising + at, (kept - at) * sizeof *rising);
+        rising[at] = groups[i];
+        kept++;
+    }
+    return kept;
+}
+
+/* The list grants what is lost, and the entries deny it. */
+static void is_lost(const given *g, const list *acl, const aclck_posix_loss *loss) {
+    static const uint32_t rights[] = {0, ACLCK_EXECUTE, ACLCK_WRITE_DATA | ACLCK_APPEND_DATA, 0, ACLCK_READ_DATA};
+    const uint32_t groups[] = {loss->first_group, loss->second_group, loss->third_group};
+    const aclck_posix_question asked = {loss->owner, loss->group, loss->user, loss->want, groups, loss->ngroups};
+    const aclck_entries entries = {acl->at, acl->len};
+    const aclck_id_object object = {loss->owner, loss->group};
+    unsigned char bytes[512];
+    const aclck_buffer room = {bytes, sizeof bytes};
+    aclck_bytes prepared = {bytes, 0};
+    uint32_t rising[3], granted = 77;
+    aclck_decided decided = {0, 0};
+    aclck_fault fault;
+    if (!EXPECT(loss->exact == 0 && loss->ngroups <= 3 && loss->want < 5 && rights[loss->want]))
+        return;
+    const aclck_id_requester who = {loss->user, rising, put_in_order(groups, loss->ngroups, rising)};
+    const aclck_question all = {(enum aclck_right)rights[loss->want], ACLCK_FULL};
+    EXPECT(aclck_entries_check(entries, &asked, &granted, &fault) == ACLCK_DONE && granted == 0);
+    EXPECT(aclck_prepare_ids(g->acl, &g->value.names, ACLCK_FULL, room, &prepared.len, &fault) == ACLCK_DONE);
+    EXPECT(aclck_decide_ids(prepared, &object, &who, &all, &decided) == ACLCK_DONE);
+    EXPECT(decided.allowed == rights[loss->want]);
+    for (size_t i = loss->ngroups; i < 3; i++)
+        EXPECT(groups[i] == 0);
+}
+
+#define READ "READ_DATA"
+#define WRITE "WRITE_DATA|APPEND_DATA"
+#define ALL READ "|" WRITE "|EXECUTE"
+
+static void are_lists_converted(void) {
+    static const struct {
+        const char *text;
+        list acl;
+        uint32_t exact;
+    } rows[] = {
+        {"", {{U(0), G(0), O(0)}, 3}, 1},
+        {"ALLOW - " ALL " EVERYONE@\n", {{U(7), G(7), O(7)}, 3}, 1},
+        /* nobody is denied by the last line who is granted by another; bob needs no entry */
+        {"ALLOW - " READ " OWNER@\nALLOW - " READ " GROUP@\nDENY - " READ " bob\n", {{U(4), G(4), O(0)}, 3}, 1},
+        /* bob by his name and by his id */
+        {"ALLOW - " ALL " OWNER@\nALLOW - " READ " bob\nALLOW - " WRITE " 1002\n",
+         {{U(7), USER(1002, 6), G(0), M(6), O(0)}, 5}, 1},
+        /* the owner may be bob, and another owner loses write */
+        {"DENY - " WRITE " bob\nALLOW - " READ "|" WRITE " EVERYONE@\n",
+         {{U(4), USER(1002, 4), G(6), M(6), O(6)}, 5}, 0},
+        /* an owner in the group loses read and execute */
+        {"ALLOW GROUP READ_DATA|EXECUTE editors\n", {{U(0), G(0), GROUP(30, 5), M(5), O(0)}, 5}, 0},
+        /* write needs two rights; who is in both groups loses it */
+        {"ALLOW - WRITE_DATA OWNER@\nALLOW - READ_DATA|APPEND_DATA EVERYONE@\n", {{U(6), G(4), O(4)}, 3}, 1},
+        {"ALLOW GROUP WRITE_DATA 5\nALLOW GROUP APPEND_DATA 7\n", {{U(0), G(0), O(0)}, 3}, 0},
+        /* only new objects have this ACE */
+        {"ALLOW FILE|DIR|INHERITONLY " READ " EVERYONE@\n", {{U(0), G(0), O(0)}, 3}, 1},
+    };
+    for (size_t i = 0; i < sizeof rows / sizeof *rows; i++) {
+        static const aclck_posix_loss nothing = {1, 0, 0, 0, 0, 0, 0, 0, 0};
+        given g = with_list(rows[i].text, 2);
+        aclck_entry first[MOST];
+        const aclck_entry_buffer room = {first, MOST};
+        aclck_fault fault;
+        size_t needed;
+        memset(&g.loss, 0xee, sizeof g.loss);
+        EXPECT(aclck_to_posix(g.acl, &g.value.names, 2, room, &needed, &g.loss, &fault) == ACLCK_DONE);
+        if (rows[i].exact)
+            EXPECT(memcmp(&g.loss, &nothing, sizeof nothing) == 0);
+        else
+            is_lost(&g, &rows[i].acl, &g.loss);
+        gives_entries(convert, &g, &rows[i].acl);
+    }
+}
+
+/* Names without ids, also in an ACE that does not count; then too many names; and bytes that are cut short. */
+static void are_lists_not_converted(void) {
+    static const char *const groups = "ALLOW GROUP " READ " editors\nDENY GROUP " READ " 7\n";
+    static const struct {
+        const char *text;
+        uint32_t most, reason, place;
+    } rows[] = {
+        {"ALLOW - " READ " ann\n", 9, ACLCK_UNKNOWN_NAME, 0},
+        {"ALLOW - " READ " bob\nDENY GROUP " READ " bob\n", 9, ACLCK_UNKNOWN_NAME, 1},
+        {"ALLOW - " READ " bob\nALLOW - " READ " 7\nALLOW FILE|INHERITONLY " READ " ann\n", 1, ACLCK_UNKNOWN_NAME, 2},
+        {"ALLOW - " READ " bob\nALLOW - " READ " 7\n", 1, ACLCK_LIMITS, 0},
+        {"ALLOW - " READ " bob\n", 0, ACLCK_LIMITS, 0},
+    };
+    for (size_t i = 0; i < sizeof rows / sizeof *rows; i++) {
+        const given g = with_list(rows[i].text, rows[i].most);
+        refuses(convert, &g, sizeof(aclck_entry), fault_at(rows[i].place, rows[i].reason, 0));
+    }
+    for (given g = with_list(groups, 2); g.acl.len-- > 0;) {
+        aclck_fault fault = no_fault();
+        uint32_t mode;
+        EXPECT(aclck_mode(g.acl, ACLCK_FULL, &mode, &fault) == ACLCK_REFUSED);
+        refuses(convert, &g, sizeof(aclck_entry), fault);
+    }
+}
+
+/* Bounds above 65535, and names that are no table. */
+static void are_bad_bounds_refused(void) {
+    static const aclck_name twice[] = {{TEXT("bob"), 7, 0}, {TEXT("bob"), 8, 0}}, digits = {TEXT("7"), 7, 0};
+    const aclck_names tables[] = {{twice, 2}, {&digits, 1}};
+    static const uint32_t bounds[] = {65536, 65537, 131071, 4294967295u};
+    for (size_t i = 0; i < sizeof bounds / sizeof *bounds; i++) {
+        const given g = with_list("ALLOW - " READ " bob\n", bounds[i]);
+        is_bad(convert, &g, sizeof(aclck_entry));
+    }
+    for (size_t i = 0; i < sizeof tables / sizeof *tables; i++) {
+        given g = with_list("ALLOW - " READ " bob\n", 65535);
+        g.value.names = tables[i];
+        is_bad(convert, &g, sizeof(aclck_entry));
+    }
+}
+
 /* Writes an attribute in which some bytes are others, and returns its length. */
 static size_t choose_attribute(unsigned char *bytes) {
     static const aclck_bytes good = ATTRIBUTE(HEAD A_USER_OBJ("\7") A_USER("\7", "\6") A_USER("\x09", "\5")
@@ -630,7 +792,8 @@ int main(int argc, char **argv) {
         TEST(are_repeats_reported), TEST(is_order_judged), TEST(are_entries_changed), TEST(are_modes_read),
         TEST(are_bad_numbers_refused), TEST(is_limit_kept), TEST(are_attributes_read), TEST(are_attributes_refused),
         TEST(are_values_read), TEST(are_values_refused), TEST(are_bad_forms_refused), TEST(are_values_written),
-        TEST(are_entries_kept_out_of_forms), TEST(are_bad_forms_not_written)};
+        TEST(are_entries_kept_out_of_forms), TEST(are_bad_forms_not_written), TEST(are_lists_converted),
+        TEST(are_lists_not_converted), TEST(are_bad_bounds_refused)};
     for (size_t i = 0; i < sizeof tests / sizeof *tests; i++) {
         about = tests[i].name;
         tests[i].run();

@@ -14,6 +14,7 @@ void f(aclck_bytes acl, aclck_object object, aclck_requester who, aclck_question
     aclck_decided decided;
     aclck_decision decision;
     aclck_ace ace;
+    aclck_posix_loss loss;
     aclck_entry room_for_one;
     const aclck_entry_buffer room = {&room_for_one, 1};
     const aclck_entries entries = {&room_for_one, 1};
@@ -34,6 +35,7 @@ void f(aclck_bytes acl, aclck_object object, aclck_requester who, aclck_question
     use(aclck_entries_check(entries, &read, &granted, &fault));
     use(aclck_entries_sorted(entries, ACLCK_ADD_MASK, room, &needed, &fault));
     use(aclck_entries_to_form(entries, &names, ACLCK_POSIX_TEXT, out, &needed, &fault));
+    use(aclck_to_posix(acl, &names, 256, room, &needed, &loss, &fault));
     use(everybody.len > 1);
     use(aclck_read_form(prepared, ACLCK_NFS_ACL41, out, &needed, &granted, &fault));
     use(aclck_write_form(acl, ACLCK_NFS_TOOLS_FILE, ACLCK_PROTECTED, out, &needed, &fault));
@@ -130,6 +132,15 @@ void f(aclck_bytes acl, aclck_object object, aclck_requester who, aclck_question
     use(aclck_entries_to_form(entries, &row, ACLCK_POSIX_TEXT, out, &needed, &fault));
 /* misuse: a form of NFSv4 lists for POSIX entries */
     use(aclck_entries_to_form(entries, &names, ACLCK_NFS_TEXT, out, &needed, &fault));
+/* misuse: a table of names by value for the POSIX ACL of a list */
+    use(aclck_to_posix(acl, names, 256, room, &needed, &loss, &fault));
+/* misuse: a difference of two POSIX ACLs for the loss of one */
+    aclck_posix_difference posix_difference;
+    use(aclck_to_posix(acl, &names, 256, room, &needed, &posix_difference, &fault));
+/* misuse: no place for what is lost */
+    use(aclck_to_posix(acl, &names, 256, room, &needed, NULL, &fault));
+/* misuse: room for bytes in place of room for the entries of a list */
+    use(aclck_to_posix(acl, &names, 256, out, &needed, &loss, &fault));
 /* misuse: room for entries in place of room for bytes */
     use(aclck_entries_to_attribute(entries, room, &needed, &fault));
 /* misuse: an attribute in place of entries */

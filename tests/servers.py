@@ -22,8 +22,8 @@ class Missing(Exception):
 
 
 class Server:
-    """A server in a folder, with the extension. It can run under another program: `under` has the words of this, in which
-    {folder} stands for the folder."""
+    """A server in a folder, with the extension. It can run under another program: `under` has the words of that
+    program, in which {folder} stands for the folder."""
 
     def __init__(self, under=(), **settings):
         self.under, self.settings = under, settings

@@ -12,9 +12,10 @@ from cases import cases_of, options
 from encoders import ANYBODY, nfs, posix
 
 ROOT = os.path.dirname(os.path.dirname(os.path.abspath(__file__)))
-RIGHTS = """READ_DATA WRITE_DATA APPEND_DATA READ_NAMED_ATTRS WRITE_NAMED_ATTRS EXECUTE DELETE_CHILD READ_ATTRIBUTES
-    WRITE_ATTRIBUTES WRITE_RETENTION WRITE_RETENTION_HOLD - - - - - DELETE READ_ACL WRITE_ACL WRITE_OWNER
-    SYNCHRONIZE""".split()
+# tools/tables writes this list: the name of each bit.
+RIGHTS = """READ_DATA WRITE_DATA APPEND_DATA READ_NAMED_ATTRS WRITE_NAMED_ATTRS EXECUTE DELETE_CHILD
+    READ_ATTRIBUTES WRITE_ATTRIBUTES WRITE_RETENTION WRITE_RETENTION_HOLD - - - - - DELETE READ_ACL
+    WRITE_ACL WRITE_OWNER SYNCHRONIZE""".split()
 TAGS = {"u": 1, "user": 1, "g": 4, "group": 4, "m": 16, "mask": 16, "o": 32, "other": 32}
 
 

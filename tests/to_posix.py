@@ -1,5 +1,5 @@
-"""Judges POSIX ACLs that are made of NFSv4 lists, for tests/formal: what a list and an ACL grant, in each situation of
-their names, and what the NFS server of Linux makes of a list. Nothing here comes from formal/.
+"""Judges POSIX ACLs that are made of NFSv4 lists, for tests/to_posix: what a list and an ACL grant in each situation,
+and what the NFS server of Linux makes of a list. Nothing here comes from the library or from formal/.
 
 A list has ACEs (kind, flags, mask, who), with kind 0 for ALLOW and 1 for DENY. A situation is the set of the principals
 that match the requester: a special who, or ("user", name), or ("group", name). An ACL gives the letters of each
@@ -63,6 +63,11 @@ def checked(entries, situation):
     return users[0] if users else set().union(*groups) if groups else entries["EVERYONE@"]
 
 
+def is_at_most(answers, others):
+    """Returns whether in each situation the second answers have all letters of the first ones."""
+    return all(one <= other for one, other in zip(answers, others))
+
+
 # ---- the NFS server of Linux
 
 
@@ -103,18 +108,3 @@ def by_nfsd(aces):
                for principal, state in states.items()}
     limited = [letters for one, letters in entries.items() if one not in ("OWNER@", "EVERYONE@")]
     return {**entries, "mask": set().union(*limited)} if len(entries) > 3 else entries
-
-
-# ---- the comparison
-
-
-def is_at_most(answers, others):
-    return all(one <= other for one, other in zip(answers, others))
-
-
-def answers_of(data, text):
-    """Returns what a list, an ACL, and the ACL of nfsd grant, in each situation of the list."""
-    aces = read_list(data)
-    asked = situations(aces)
-    acls = read_acl(text), by_nfsd(aces)
-    return [granted(aces, one) for one in asked], *([checked(acl, one) for one in asked] for acl in acls)
