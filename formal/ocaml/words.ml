@@ -54,13 +54,15 @@ let profile given =
 
 (* ---- rights (RFC 8881, section 6.2.1.3.1) ---- *)
 
+(* tools/tables writes both tables: a name, and the number of its bit *)
 let right_names =
   [ ("READ_DATA", 0); ("WRITE_DATA", 1); ("APPEND_DATA", 2); ("READ_NAMED_ATTRS", 3);
     ("WRITE_NAMED_ATTRS", 4); ("EXECUTE", 5); ("DELETE_CHILD", 6); ("READ_ATTRIBUTES", 7);
     ("WRITE_ATTRIBUTES", 8); ("WRITE_RETENTION", 9); ("WRITE_RETENTION_HOLD", 10); ("DELETE", 16);
     ("READ_ACL", 17); ("WRITE_ACL", 18); ("WRITE_OWNER", 19); ("SYNCHRONIZE", 20) ]
 
-let names_of_directories = [ ("LIST_DIRECTORY", 0); ("ADD_FILE", 1); ("ADD_SUBDIRECTORY", 2) ]
+let names_of_directories =
+  [ ("LIST_DIRECTORY", 0); ("ADD_FILE", 1); ("ADD_SUBDIRECTORY", 2) ]
 let right_name bit = fst (List.find (fun (_, b) -> b = bit) right_names)
 
 let mask (profile : Xdr.profile) text =
