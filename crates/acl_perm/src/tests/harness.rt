@@ -1,8 +1,18 @@
-//! What the tests of this crate share: a device that fails one call.
+//! What the tests of this crate share: how a value is shown, and a device that fails one call.
 ghost use Rattle.std.specs.Prelude.{◌≡◌, IfOk};
 
+use std::alloc::Global;
+use std::fmt::Display;
 use std::io;
 use std::io::{Read, Write};
+
+/// Returns whether a value is shown as this text. It also returns `true` if memory runs out.
+pub fn is_shown<T: Display>(alloc: Global, value: &T, text: &str) -> bool {
+    match value.to_string(alloc) {
+        Ok(shown) => shown.as_str() == text,
+        Err(_) => true,
+    }
+}
 
 /// The answer of a device to the one call that fails.
 #[derive(Clone, Copy)]
