@@ -4,3 +4,4 @@ pub mod Weights
 pub mod Ordered
 pub mod FromAces
 pub mod Renamings
+pub mod Whos

@@ -25,13 +25,13 @@ abbrev Names : Type 0
 Names = Bool → List ℕ → Option (List ℕ)
 
 -- two sorts that the test finds the same are the same
-same_is : (a b : Bool) → same_sort a b ≡ true → a ≡ b
+pub same_is : (a b : Bool) → same_sort a b ≡ true → a ≡ b
 same_is true b e = sym e
 same_is false true e = absurd cc
 same_is false false e = refl
 
 -- a sort is the same as itself
-same_self : (a : Bool) → same_sort a a ≡ true
+pub same_self : (a : Bool) → same_sort a a ≡ true
 same_self true = refl
 same_self false = refl
 

@@ -102,7 +102,7 @@ all_of [] = 0
 all_of (row ∷ rows) = bit_or row.bit (all_of rows)
 
 -- the part of a set that is in a union is the union of its parts in both sets
-and_or : (a b c : ℕ) → bit_and a (bit_or b c) ≡ bit_or (bit_and a b) (bit_and a c)
+pub and_or : (a b c : ℕ) → bit_and a (bit_or b c) ≡ bit_or (bit_and a b) (bit_and a c)
 and_or a b c = same_set _ _ (λ k.
     simp (has_bit-and, has_bit-or) (and-or_distrib_left (has_bit a k) (has_bit b k) (has_bit c k)))
 
@@ -113,7 +113,7 @@ zero_and (suc zero) p lt h = let same : 1 * p ≡ p = omega arith in grind arith
 zero_and (suc (suc d)) p lt h = absurd (omega (arith, lt))
 
 -- a set has a bit, or the intersection with the bit is empty
-bit_missing : (set k : ℕ) → eqb (bit_and set (2 ^ k)) (2 ^ k) ≡ false → bit_and set (2 ^ k) ≡ 0
+pub bit_missing : (set k : ℕ) → eqb (bit_and set (2 ^ k)) (2 ^ k) ≡ false → bit_and set (2 ^ k) ≡ 0
 bit_missing set k h = rw (and_pow set k) (zero_and (bit_at set k) (2 ^ k) (bit_at-lt set k) (rw (and_pow set k) at h))
 
 -- the names of the bits of a set name the part of the set that is in the table

@@ -56,7 +56,7 @@ guard_then true x d y e = refl
 guard_then false x d y e = absurd cc
 
 -- a value, as a result of a given type
-abbrev ok : {A E : Type 0} → A → Result A E
+abbrev pub ok : {A E : Type 0} → A → Result A E
 ok x = Ok x
 
 -- equal results have equal values
@@ -218,7 +218,7 @@ pub who_again : (who : List ℕ) → IsWho who → who_of who ≡ Ok who
 who_again who is = rw is refl
 
 -- bytes that are all zero are as many zeros
-bytes_are_zeros : (bytes : List ℕ) → list_all (λ b. eqb b 0) bytes ≡ true → bytes ≡ replicate (length bytes) 0
+pub bytes_are_zeros : (bytes : List ℕ) → list_all (λ b. eqb b 0) bytes ≡ true → bytes ≡ replicate (length bytes) 0
 bytes_are_zeros [] e = refl
 bytes_are_zeros (b ∷ bytes) e =
     let h = and_true (eqb b 0) (list_all (λ b. eqb b 0) bytes) e in

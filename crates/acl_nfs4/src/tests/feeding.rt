@@ -1,7 +1,7 @@
 //! The property that a list that arrives in pieces is the list of all its bytes, with the same fault if it has one. The
 //! offsets are those of the fields in the layout of RFC 4506 over RFC 8881, section 6.2.1.
 
-use super::readers::{ONE, THREE, fault, parsed, same_list};
+use super::readers::{THREE, fault, parsed, same_list};
 use crate::*;
 use std::alloc::{AllocError, Global};
 use std::process::Abort;
@@ -24,25 +24,6 @@ fn feed_byte_by_byte(rt: &impl Abort, alloc: Global, list: &Acl) {
         assert!(rt; feed.feed(byte) == (if place < 71 { Fed::More } else { last }));
     }
     assert!(rt; feed.finish().is_ok_and(|fed| fed == *list));
-}
-
-fn feed_past_the_end(rt: &impl Abort, alloc: Global) {
-    let mut feed = Feed::new(alloc);
-    let (front, _) = ONE.split_at(30);
-    assert!(rt; feed.feed(&[]) == Fed::More);
-    assert!(rt; feed.feed(front) == Fed::More);
-    assert!(rt; feed.feed(&[0, 0, 0xff]) == Fed::Done { taken: 2 });
-    assert!(rt; feed.feed(&[1, 2]) == Fed::Done { taken: 0 });
-}
-
-// Returns a feed that has taken everything up to the padding, and one byte of the padding.
-fn fed_to_padding(rt: &impl Abort, alloc: Global) -> Feed {
-    let mut feed = Feed::new(alloc);
-    let (front, _) = ONE.split_at(29);
-    assert!(rt; feed.feed(front) == Fed::More);
-    assert!(rt; feed.feed(&[1]) == Fed::More);
-    assert!(rt; feed.feed(&[]) == Fed::More);
-    feed
 }
 
 // Feeds two pieces under the narrow profile. The first piece has `first` bytes.
@@ -103,20 +84,6 @@ mod ample {
         }
         feed_byte_by_byte(&rt, rt.alloc(), &list);
         Ok(())
-    }
-
-    #[test]
-    fn a_feed_reports_the_end_of_a_list_and_a_fault(rt: HostRuntime) {
-        feed_past_the_end(&rt, rt.alloc());
-        let found = fed_to_padding(&rt, rt.alloc()).finish().err();
-        assert!(rt; found == Some(fault(29, Reason::Truncated)));
-        let mut feed = fed_to_padding(&rt, rt.alloc());
-        let padding = fault(29, Reason::Padding);
-        assert!(rt; feed.feed(&[0, 0]) == Fed::Refused(padding));
-        assert!(rt; feed.feed(&[0, 0]) == Fed::Refused(padding));
-        assert!(rt; feed.finish().err() == Some(padding));
-        let mut feed = Feed::new(rt.alloc());
-        assert!(rt; feed.feed(&[0, 0, 0, 0]) == Fed::Done { taken: 4 });
     }
 
     #[test]
