@@ -1,11 +1,10 @@
 -- Flags and a list after them are read if and only if the bytes spell them.
-use Rattle.std.proofs.Common.{◌≡◌, ◌∙◌, ◌+◌, ◌<◌, ◌≤◌, ◌^◌, ◌++◌, [], ℕ, List, Result, Ok, Err, length, arith, refl, ap, sym, subst, length-append}
+use Rattle.std.proofs.Common.{◌≡◌, ◌∙◌, ◌+◌, ◌<◌, ◌^◌, ◌++◌, [], ℕ, List, Result, Ok, Err, length, refl, ap, sym, subst}
 use Rattle.std.specs.Result.{IsErrAnd}
 use Rattle.acl_perm.specs.Profile.{full}
 use Rattle.acl_nfs4.proofs.Exports.{one, spelling_short}
 use Rattle.acl_nfs4.specs.Ace.{Ace}
 use Rattle.acl_nfs4.specs.Fault.{IsWholeFault}
-use Rattle.acl_nfs4.specs.Fault.IsWholeFault.{behind, of_value}
 use Rattle.acl_nfs4.specs.Spelling.{IsAccepted, Xdr, spelling, word}
 use Rattle.acl_nfs4.specs.internal.Progress.{IsBytes}
 use Rattle.acl_nfs4.specs.declared.xdr.fault.Reason.{Reason}
@@ -21,13 +20,6 @@ use Rattle.acl_forms.proofs.WordLemmas.{flags_again, flags_found, ok_is, place_a
 pub exit_is : {T E : Type 0} {e : E} (r : Result T E) → IsErrAnd r (λ y. y ≡ e) → r ≡ Err e
 exit_is (Ok x) is = absurd is
 exit_is (Err y) is = ap (λ z. Err z) is
-
--- the place of a fault of a list is within the bytes
-pub fault_within : (bytes : List ℕ) (offset : ℕ) (r : Reason) → IsWholeFault full bytes offset r
-    → offset ≤ length bytes
-fault_within bytes _ _ (of_value offset r f) =
-    omega (arith, f.1.here, ap length f.1.parts, length-append f.1.front f.1.rest)
-fault_within bytes _ _ (behind list text rest x e some) = omega (arith, ap length e, length-append text rest)
 
 -- the bytes of accepted flags and an accepted list are theirs
 pub bytes_of : (flags : ℕ) (list : List Ace) → IsAclFlags flags → IsAccepted full list
@@ -75,12 +67,6 @@ one_value flags set list other bytes h k =
     (record { accepted = h.accepted; spelled = refl }) (record { accepted = k.accepted; spelled = refl })
     (ap (λ (t : List ℕ). t ++ []) same.1) in
     (same.0, lists.0)
-
--- bytes that spell flags and a list are not refused at their flags
-pub not_flags : (bytes : List ℕ) (fault : ReadFault) (set : ℕ) (list : List Ace)
-    → word_at acl_flags_of (start bytes) ≡ Err fault → IsAcl41 set list bytes → ⊥
-not_flags bytes fault set list e is =
-    let again = flags_again bytes set (spelling list) is.flags is.spelled in cc
 
 -- if flags were read, the fault of the bytes is that of the list after them
 pub after_flags : (bytes : List ℕ) (flags : ℕ) (after : WordPlace) (wrong : ReadFault)

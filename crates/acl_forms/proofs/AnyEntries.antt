@@ -115,7 +115,8 @@ tools_again object fields a e =
     let who = fields.who.bytes in
     let is = ok_is _ _ e3 in
     bind-ok _ ne ∙ (bind-ok _ fe ∙ (bind-ok _ me
-    ∙ (ap (λ (n : ℕ). Ok (any_from n (with_group_flag who flags) mask who)) (kind_type fields.kind.column number kind ae)
+    ∙ (ap (λ (n : ℕ). Ok (any_from n (with_group_flag who flags) mask who))
+    (kind_type fields.kind.column number kind ae)
     ∙ ap (λ (b : Ace). Ok (any_of b)) is)))))))
 
 -- nfs4-acl-tools
@@ -191,11 +192,13 @@ pub tools_refuse : (object : ObjectKind) → RefusesUnknown (tools_any_entry obj
 unfolding tools_any_entry
 tools_refuse object count bits entry a e =
     bind_then (fields_read count entry) _ a e (λ fields fe e1.
-    bind_then (tools_any_ace object fields) _ a e1 (λ b be e2. taken_known bits fields.rights.column fields.who.column b a e2))
+    bind_then (tools_any_ace object fields) _ a e1
+    (λ b be e2. taken_known bits fields.rights.column fields.who.column b a e2))
 
 -- FreeBSD, ZFS and archives
 pub nfs_refuse : (source : WhoField) → RefusesUnknown (nfs_any_entry source)
 unfolding nfs_any_entry
 nfs_refuse source count bits entry a e =
     bind_then (nfs_fields_read count entry) _ a e (λ fields fe e1.
-    bind_then (nfs_any_ace source fields) _ a e1 (λ b be e2. taken_known bits fields.rights.column fields.who.column b a e2))
+    bind_then (nfs_any_ace source fields) _ a e1
+    (λ b be e2. taken_known bits fields.rights.column fields.who.column b a e2))

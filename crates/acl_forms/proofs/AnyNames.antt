@@ -1,7 +1,6 @@
 -- The names of ACEs of any type: which are text, and which nobody knows.
-use Rattle.std.proofs.Common.{◌≡◌, ◌∙◌, ℕ, ◌-◌, ◌++◌, Bool, true, false, List, [], ◌∷◌, refl, sym, ap, subst, arith, length, length-append, append_assoc}
-use Rattle.std.specs.Prelude.{codes, slice_index}
-use Rattle.std.specs.Fmt.{decimal}
+use Rattle.std.proofs.Common.{◌≡◌, ◌∙◌, ℕ, ◌-◌, ◌++◌, Bool, true, false, List, [], ◌∷◌, refl, sym, ap, subst, arith, length, length-append}
+use Rattle.std.specs.Prelude.{slice_index}
 use Rattle.std.specs.Str.{is_utf8, IsUtf8}
 use Rattle.std.proofs.lemmas.Str.{is_utf8-from_IsUtf8, IsUtf8-from_is_utf8}
 use Rattle.std.proofs.lemmas.Bool.{false_from_ne_true}
@@ -39,12 +38,6 @@ last_is text b =
 unknown : (text : List ℕ) → is_unknown_special (0x73 ∷ (text ++ 0x40 ∷ [])) ≡ true
 unknown text = rw (last_is (0x73 ∷ text) 0x40) refl
 
--- nobody knows the name of a special number other than the three
-pub unknown_number : (n : ℕ) → is_unknown_special (codes "special " ++ decimal n ++ codes "@") ≡ true
-unknown_number n =
-    subst (λ (t : List ℕ). is_unknown_special (0x73 ∷ t) ≡ true)
-    (append_assoc (codes "pecial ") (decimal n) (0x40 ∷ [])) (unknown (codes "pecial " ++ decimal n))
-
 -- somebody knows whom a who names
 pub known_who : (who : List ℕ) → IsWho who → is_unknown_special who ≡ false
 known_who who is = by (is_unknown_special who) refl
@@ -68,7 +61,8 @@ is_who-any (Known whom) is known = is_who-whom whom
 is_who-any (Special n) is known = absurd cc
 
 -- somebody knows whom an ACE names, so it has no special number that nobody knows
-pub never_special : (who : AnyWho) (n : ℕ) → who ≡ Special n → HasAnyName who → is_unknown_special (any_name who) ≡ false → ⊥
+pub never_special : (who : AnyWho) (n : ℕ) → who ≡ Special n → HasAnyName who
+    → is_unknown_special (any_name who) ≡ false → ⊥
 never_special who n e is known =
     let unknown = subst HasAnyName e is in
     let not_known = subst (λ (w : AnyWho). is_unknown_special (any_name w) ≡ false) e known in cc

@@ -1,7 +1,6 @@
 -- The bytes of an entry of an attribute: what they mean, and the entry that has the bytes.
-use Rattle.std.proofs.Common.{◌≡◌, ◌∙◌, ◌+◌, ◌*◌, ◌<◌, ◌≤◌, ◌^◌, ◌++◌, ℕ, Bool, true, false, cond, eqb, List, [], ◌∷◌, Option, None, Some, Result, Ok, Err, length, drop, refl, ap, sym, subst, arith}
-use Rattle.std.specs.Prelude.{◌==◌, ◌&&◌, ◌≢◌, IfErr, IfOk, OnOk, nat_lt, option_map, unwrap_or}
-use Rattle.std.specs.Option.{option_or}
+use Rattle.std.proofs.Common.{◌≡◌, ◌∙◌, ◌+◌, ◌*◌, ◌<◌, ◌≤◌, ◌++◌, ℕ, Bool, true, false, cond, eqb, List, [], ◌∷◌, Option, None, Some, Result, Ok, Err, length, drop, refl, ap, sym, subst, arith}
+use Rattle.std.specs.Prelude.{◌==◌, IfErr, IfOk, OnOk, nat_lt, option_map, unwrap_or}
 use Rattle.std.proofs.lemmas.Bool.{eqb-true}
 use Rattle.std.proofs.lemmas.Bool.Decides.{nat_tests}
 use Rattle.byteorder.specs.Endian.{little_bytes}
@@ -12,9 +11,8 @@ unfoldable use Rattle.acl_posix.specs.Attribute.{entry_bytes, stored_raw}
 use Rattle.acl_posix.specs.Entries.{IsEntry, pair_of}
 use Rattle.acl_posix.specs.declared.entry.Entry.{Entry}
 use Rattle.acl_posix.specs.Id.{greatest_id}
-use Rattle.acl_posix.specs.RawEntries.{entry_fault, numbered_tag, perm_fault, raw_of, raw_pair, raw_tag, undefined_id}
+use Rattle.acl_posix.specs.RawEntries.{numbered_tag, raw_of, raw_pair, raw_tag, undefined_id}
 use Rattle.acl_posix.specs.Tag.{IsTag, Tag, group, group_obj, is_named, mask, other, tag_row, user, user_obj}
-use Rattle.acl_posix.specs.declared.raw_entry.EntryFault.{EntryFault}
 use Rattle.acl_posix.specs.declared.raw_entry.EntryFault.TheVariants as wrong
 use Rattle.acl_posix.specs.declared.raw_entry.RawEntry.{RawEntry}
 use Rattle.acl_nfs4.specs.internal.Progress.{IsBytes}
@@ -36,11 +34,6 @@ one_entry x y s t of_x of_y e =
     let raws : raw_of x ≡ raw_of y = sym (stored x s of_x) ∙ ap stored_raw e ∙ stored y t of_y in
     let rests : s ≡ t = ap (λ (l : List ℕ). drop 8 l) e in
     (sym (again x.0 x.1) ∙ ap raw_pair raws ∙ again y.0 y.1, rests)
-
--- the bytes of an entry are eight
-pub entry_size_is : (e : Tag × ℕ) → length (entry_bytes e) ≡ 8
-unfolding entry_bytes
-entry_size_is e = refl
 
 -- ---- no fault in the bytes of an entry
 
@@ -69,7 +62,8 @@ unfolding next_entry_fault
 nothing_wrong at text raw long is field = rw (not_below (length text) 8 long, is, field) refl
 
 -- bytes that begin with those of an entry have no fault
-pub no_next_fault : (at : ℕ) (e : Tag × ℕ) (rest : List ℕ) → IsEntry e → next_entry_fault at (entry_bytes e ++ rest) ≡ None
+pub no_next_fault : (at : ℕ) (e : Tag × ℕ) (rest : List ℕ) → IsEntry e
+    → next_entry_fault at (entry_bytes e ++ rest) ≡ None
 unfolding entry_bytes
 no_next_fault at e rest h =
     nothing_wrong at (entry_bytes e ++ rest) (raw_of e) (omega arith) (stored e rest h) (right at e.0 e.1 h.0 h.1)
@@ -169,49 +163,6 @@ fields_right at raw e =
     (option_map (read_fault_at (at + 4)) (id_reason raw)) tag.1 in
     record { tag = tag.0; id = none_mapped (at + 4) (id_reason raw) perm.1 }
 
--- of a named entry with an id that is none, the id is refused
-wrong_id : (named : Bool) (id : ℕ) (f : EntryFault) → id < 2 ^ 32
-    → option_or (cond (named && nat_lt greatest_id id) (Some wrong.Id) None) None ≡ Some f
-    → cond named (cond (eqb id undefined_id) (Some reasons.Id) None)
-    (cond (eqb id undefined_id) None (Some reasons.Qualifier)) ≡ Some reasons.Id
-wrong_id true id f fits e = grind (arith, nat_tests)
-wrong_id false id f fits e = absurd cc
-
--- numbers that are not those of an entry, with a tag and permissions that are right, have an id that is refused
-pub id_refused : (raw : RawEntry) (f : EntryFault) → 0 < raw.tag → raw.tag ≤ 6 → raw.perm ≤ 7 → raw.id < 2 ^ 32
-    → entry_fault raw ≡ Some f → id_reason raw ≡ Some reasons.Id
-id_refused raw f some known perm fits e =
-    let no_0 : eqb raw.tag 0 ≡ false = grind (arith, nat_tests) in
-    let h = rw (no_0, not_below 6 raw.tag known, not_below 7 raw.perm perm) at e in
-    wrong_id (is_named (raw_tag raw)) raw.id f fits h
-
--- of a named entry without a fault, the id is not refused
-right_id : (named : Bool) (id : ℕ) (o : Option EntryFault) → named ≡ true
-    → option_or (cond (named && nat_lt greatest_id id) (Some wrong.Id) None) o ≡ None
-    → cond named (cond (eqb id undefined_id) (Some reasons.Id) None)
-    (cond (eqb id undefined_id) None (Some reasons.Qualifier)) ≡ None
-right_id true id o is e = grind (arith, nat_tests)
-right_id false id o is e = absurd cc
-
--- the id of the numbers of a user or of a group is not refused
-pub id_accepted : (raw : RawEntry) → 0 < raw.tag → raw.tag ≤ 6 → entry_fault raw ≡ None
-    → is_named (raw_tag raw) ≡ true → id_reason raw ≡ None
-id_accepted raw some known e named =
-    let no_0 : eqb raw.tag 0 ≡ false = grind (arith, nat_tests) in
-    let h = rw (no_0, not_below 6 raw.tag known) at e in
-    right_id (is_named (raw_tag raw)) raw.id (perm_fault raw) named h
-
--- the undefined id is not refused in an entry that is of no user and no group
-pub no_id_accepted : (raw : RawEntry) → raw.id ≡ undefined_id → is_named (raw_tag raw) ≡ false → id_reason raw ≡ None
-no_id_accepted raw is named =
-    let test : eqb raw.id undefined_id ≡ true = grind (arith, nat_tests) in rw (named, test) refl
-
--- an id is refused in an entry that is of no user and no group
-pub id_not_accepted : (raw : RawEntry) → raw.id ≢ undefined_id → is_named (raw_tag raw) ≡ false
-    → id_reason raw ≡ Some reasons.Qualifier
-id_not_accepted raw is named =
-    let test : eqb raw.id undefined_id ≡ false = grind (arith, nat_tests) in rw (named, test) refl
-
 -- three parts of a list, each by itself
 three_parts : (x p y q z r : List ℕ) → x ≡ p → y ≡ q → z ≡ r → x ++ (y ++ z) ≡ p ++ (q ++ r)
 three_parts x p y q z r e f g = λ i. e i ++ (f i ++ g i)
@@ -245,7 +196,8 @@ whole_entry at (a ∷ b ∷ c ∷ d ∷ e ∷ f ∷ g ∷ h ∷ rest) long fits 
 pub entry_is : (at : ℕ) (text : List ℕ) (raw : RawEntry) (e : Tag × ℕ) → 8 ≤ length text → IsBytes text
     → raw ≡ stored_raw text → e ≡ raw_pair raw → field_fault at raw ≡ None → text ≡ entry_bytes e ++ drop 8 text
 entry_is at text raw e long fits same is right =
-    let field : field_fault at (stored_raw text) ≡ None = subst (λ (r : RawEntry). field_fault at r ≡ None) same right in
+    let field : field_fault at (stored_raw text) ≡ None =
+    subst (λ (r : RawEntry). field_fault at r ≡ None) same right in
     whole_entry at text long fits field
     ∙ ap (λ (p : Tag × ℕ). entry_bytes p ++ drop 8 text) (ap raw_pair (sym same) ∙ sym is)
 

@@ -83,8 +83,8 @@ one_end : {bytes : List ℕ} {xs ys : List (Tag × ℕ)} {s t : List ℕ} → En
 one_end {bytes} {xs} {ys} {s} {t} a b =
     let same : flat_map entry_bytes xs ++ s ≡ flat_map entry_bytes ys ++ t =
     ap (λ (l : List ℕ). drop 4 l) (sym a.is ∙ b.is) in
-    same_front xs ys s t (recursion_from_All IsEntry xs a.within) (recursion_from_All IsEntry ys b.within) a.stops b.stops
-    same
+    same_front xs ys s t (recursion_from_All IsEntry xs a.within) (recursion_from_All IsEntry ys b.within)
+    a.stops b.stops same
 
 -- bytes that are whole entries end after them
 whole_end : {bytes : List ℕ} {entries : List (Tag × ℕ)} → AreBytesOf entries bytes → EndsAt bytes entries []
@@ -145,7 +145,8 @@ pub same_absent : (ps : List (Tag × ℕ)) (s t : TagOfCode) → IsMiss ps (tag_
 same_absent ps s t a b = let same = one_list_fault ps (acl.Miss s) (acl.Miss t) refl refl a b in cc
 
 -- a list of entries has at most one fault
-one_of_list : (ps : List (Tag × ℕ)) (len : ℕ) (f g : ReadFault) → IsEntriesFault ps len f → IsEntriesFault ps len g → f ≡ g
+one_of_list : (ps : List (Tag × ℕ)) (len : ℕ) (f g : ReadFault) → IsEntriesFault ps len f → IsEntriesFault ps len g
+    → f ≡ g
 one_of_list ps len _ _ (out_of_order i a free) (out_of_order j b clear) =
     ap (λ n. read_fault_at (entry_offset n) reasons.Order) (same_fall ps i j a b)
 one_of_list ps len _ _ (out_of_order i a free) (repeated j b kept) = absurd (one_of_both ps i j a free b kept)
@@ -160,7 +161,8 @@ one_of_list ps len _ _ (absent s never miss) (absent t rises lacks) =
     ap (λ (z : TagOfCode). read_fault_at len (reasons.Miss z)) (same_absent ps s t miss lacks)
 
 -- a valid list with its tag types in order has no fault
-right_list : (ps : List (Tag × ℕ)) (len : ℕ) (f : ReadFault) → NeverFalls ps → IsValidList ps → IsEntriesFault ps len f → ⊥
+right_list : (ps : List (Tag × ℕ)) (len : ℕ) (f : ReadFault) → NeverFalls ps → IsValidList ps → IsEntriesFault ps len f
+    → ⊥
 right_list ps len _ never valid (out_of_order i a free) = never i a.in_range a.fall
 right_list ps len _ never valid (repeated i a kept) = valid.distinct i a.in_range a.repeats
 right_list ps len _ never valid (absent t rises miss) = let none = valid.complete in let some = miss.absent in cc
@@ -188,7 +190,8 @@ one_fault bytes _ _ (of_list entries f whole wrong) (of_entry before text g with
     absurd (not_empty text some (one_end (entry_end within is bad) (whole_end whole)).1)
 one_fault bytes _ _ (of_list xs f whole wrong) (of_list ys g all bad) =
     let same = one_end (whole_end whole) (whole_end all) in
-    one_of_list ys (length bytes) f g (subst (λ (l : List (Tag × ℕ)). IsEntriesFault l (length bytes) f) same.0 wrong) bad
+    one_of_list ys (length bytes) f g (subst (λ (l : List (Tag × ℕ)). IsEntriesFault l (length bytes) f) same.0 wrong)
+    bad
 
 -- bytes that spell an ACL have no fault
 pub no_fault : (acl : Entries) (bytes : List ℕ) (fault : ReadFault) → SpellsAttribute acl bytes
@@ -263,7 +266,8 @@ pub read_whole : (bytes : List ℕ) (entries : List Entry) (rest : List ℕ)
 read_whole bytes entries rest is none = record {
   within = all_entries entries;
   spelled = is
-      ∙ ap (λ (l : List ℕ). entries_bytes (pairs entries) ++ l) (nil_from_length rest (eqb-true (length rest) 0 (sym none)))
+      ∙ ap (λ (l : List ℕ). entries_bytes (pairs entries) ++ l)
+      (nil_from_length rest (eqb-true (length rest) 0 (sym none)))
       ∙ append-nil (entries_bytes (pairs entries));
 }
 
@@ -296,11 +300,6 @@ version_bytes (a ∷ b ∷ c ∷ d ∷ rest) fits e =
     let fourth : d ≡ 0 = omega (arith, is, fits 0) in
     λ i. first i ∷ second i ∷ third i ∷ fourth i ∷ rest
 
--- bytes whose version has no fault are the version, and what comes after it
-pub after_version : (bytes : List ℕ) → IsBytes bytes → None ≡ version_fault bytes
-    → bytes ≡ entries_bytes [] ++ drop 4 bytes
-after_version bytes fits e = version_bytes bytes fits e
-
 -- ---- what is wrong with the list that was read
 
 -- where the entries fall, a list in which no tag occurs twice is out of order
@@ -315,7 +314,8 @@ pub repeats : (ps : List (Tag × ℕ)) (len place : ℕ) (fall : Option ℕ) (na
     → IsEntriesFault ps len (earlier_fault fall place (cond named reasons.Duplicate reasons.Multi))
 repeats ps len place None named first is some none =
     let never = none refl in
-    subst (λ (b : Bool). IsEntriesFault ps len (read_fault_at (entry_offset place) (cond b reasons.Duplicate reasons.Multi)))
+    subst (λ (b : Bool). IsEntriesFault ps len
+    (read_fault_at (entry_offset place) (cond b reasons.Duplicate reasons.Multi)))
     is (repeated place first (λ before lt. never before (omega (arith, lt, first.in_range))))
 repeats ps len place (Some fall) named first is some none =
     elim (nat_le fall place) as (λ b. nat_le fall place ≡ b → IsEntriesFault ps len (cond b

@@ -1,8 +1,7 @@
 -- Texts of FreeBSD and of archives are read again with each separator of their entries.
-use Rattle.std.proofs.Common.{◌≡◌, ◌∙◌, ◌+◌, ◌<◌, ◌≤◌, ℕ, Bool, true, false, List, [], ◌∷◌, ◌++◌, length, Result, Ok, refl, ap, subst, sym, arith, append-nil, append_assoc, length-append}
-use Rattle.std.specs.Prelude.{◌&&◌, ◌==◌, count_ones, filter, map, not}
+use Rattle.std.proofs.Common.{◌≡◌, ◌∙◌, ◌+◌, ◌<◌, ◌≤◌, ℕ, Bool, true, false, List, [], ◌∷◌, ◌++◌, length, Ok, refl, ap, subst, arith, append-nil, append_assoc, length-append}
+use Rattle.std.specs.Prelude.{◌&&◌, ◌==◌, count_ones, map, not}
 use Rattle.std.specs.List.{AllByRecursion, flat_map, list_all, slice_split}
-use Rattle.std.proofs.lemmas.Bool.{not-true}
 use Rattle.std.proofs.lemmas.Bool.Decides.{nat_tests}
 use Rattle.std.proofs.lemmas.List.Concat.{flat_map-cons}
 use Rattle.std.proofs.lemmas.List.Folds.{list_all-append}
@@ -18,8 +17,7 @@ use Rattle.acl_nfs4.specs.Spelling.{weight}
 use Rattle.acl_forms.specs.NfsRules.{nfs_rules}
 use Rattle.acl_forms.specs.NfsText.{nfs_entry}
 use Rattle.acl_forms.specs.NfsWritten.{separated}
-use Rattle.acl_forms.specs.Texts.{AddEach, cut_entries, entries_among, entries_of, items_in, items_of, line_items}
-use Rattle.acl_forms.specs.declared.fault.ReadFault.{ReadFault}
+use Rattle.acl_forms.specs.Texts.{AddEach, cut_entries, entries_among, items_in, items_of, line_items}
 use Rattle.acl_forms.specs.declared.style.EntrySeparator.{EntrySeparator}
 use Rattle.acl_forms.specs.declared.style.EntrySeparator.TheVariants.{Commas, LineFeeds}
 use Rattle.acl_forms.specs.declared.who_field.WhoField.{WhoField}
@@ -106,9 +104,11 @@ comma_split : (by : WhoField) (entry : Ace → List ℕ) (written : Ace → Ace)
     → slice_split (λ b. b == comma) (separated Commas entry (a ∷ list)) ≡ map entry (a ∷ list)
 comma_split by entry written a [] each =
     ap (slice_split (λ b. b == comma)) (append-nil (entry a))
-    ∙ slice_split_none (λ b. b == comma) (entry a) (all_not (λ b. b == comma) (entry a) (no_end (entry a) each.0.inside))
+    ∙ slice_split_none (λ b. b == comma) (entry a)
+    (all_not (λ b. b == comma) (entry a) (no_end (entry a) each.0.inside))
 comma_split by entry written a (b ∷ list) each =
-    ap (λ (more : List ℕ). slice_split (λ b. b == comma) (entry a ++ more)) (flat_map-cons (λ b. comma ∷ entry b) b list)
+    ap (λ (more : List ℕ). slice_split (λ b. b == comma) (entry a ++ more))
+    (flat_map-cons (λ b. comma ∷ entry b) b list)
     ∙ slice_split_at (λ b. b == comma) (entry a) comma (separated Commas entry (b ∷ list))
     (all_not (λ b. b == comma) (entry a) (no_end (entry a) each.0.inside)) refl
     ∙ ap (λ (parts : List (List ℕ)). entry a ∷ parts) (comma_split by entry written b list each.1)
@@ -168,7 +168,8 @@ entries_add by entry written list (a ∷ more) column same each room light =
 line_again : (by : WhoField) (text : List ℕ) (a : Ace) → IsEntryAgain by text a → IsReadAgain (nfs_rules by) text a
 unfolding line_items cut_entries
 line_again by text a h =
-    let mark = no_place (λ b. b == hash) text (all_pass is_inside (λ b. not (b == hash)) text (λ b i. no_mark b i) h.inside) in
+    let mark =
+    no_place (λ b. b == hash) text (all_pass is_inside (λ b. not (b == hash)) text (λ b i. no_mark b i) h.inside) in
     let whole = slice_split_none (λ b. b == comma) text (all_not (λ b. b == comma) text (no_end text h.inside)) in
     record {
       in_line = all_not (λ b. b == line_feed) text (all_pass is_inside (λ b. not (b == line_feed)) text

@@ -77,7 +77,8 @@ pub mask_is : (weight n m : ℕ) → mask_of full weight n ≡ Ok m
 mask_is weight n m e = grind (arith, nat_tests)
 
 -- a mask of the standard that is light enough is accepted
-pub mask_again : (weight n : ℕ) → IsWithin all_rights n → weight + count_ones n ≤ most_weight → mask_of full weight n ≡ Ok n
+pub mask_again : (weight n : ℕ) → IsWithin all_rights n → weight + count_ones n ≤ most_weight
+    → mask_of full weight n ≡ Ok n
 mask_again weight n within light =
     rw (eq-eqb (bit_and n all_rights) n within, le-ltb most_weight (weight + count_ones n) light) refl
 
@@ -119,8 +120,8 @@ some_of : {A : Type 0} (o : Option A) (x : A) → o ≡ Some x → IsSome o
 some_of o x e = rw e refl
 
 -- if each word of an ACE was read, the ACE was read
-takes_words : (weight : ℕ) (p : WordPlace) (k : Kind × WordPlace) (f s m : ℕ × WordPlace) (w : List ℕ × WordPlace) → IsBytes p.rest
-    → word_at (λ n. listed (kind_of n)) p ≡ Ok k → word_at (λ n. listed (flags_of full n)) k.1 ≡ Ok f
+takes_words : (weight : ℕ) (p : WordPlace) (k : Kind × WordPlace) (f s m : ℕ × WordPlace) (w : List ℕ × WordPlace)
+    → IsBytes p.rest → word_at (λ n. listed (kind_of n)) p ≡ Ok k → word_at (λ n. listed (flags_of full n)) k.1 ≡ Ok f
     → word_at special_of f.1 ≡ Ok s → word_at (λ n. listed (mask_of full weight n)) s.1 ≡ Ok m
     → word_at (id_who_of s.0) m.1 ≡ Ok w
     → TakesIdAce weight p (record { kind = k.0; flags = f.0; mask = m.0; who = w.0 }) w.1
@@ -395,8 +396,8 @@ one_value flags set list other bytes h k =
     (ap (λ z. z.0) e, ap (λ z. z.1) e)
 
 -- accepted flags and an accepted list with ids are spelled by their bytes, and by no others
-pub ids_bytes : (flags : ℕ) (list : List Ace) (bytes : List ℕ) → IsAclFlags flags → IsAccepted full list → EachHasId list
-    → IsAcl41Ids flags list bytes ↔ (bytes ≡ acl41_ids_bytes flags list)
+pub ids_bytes : (flags : ℕ) (list : List Ace) (bytes : List ℕ) → IsAclFlags flags → IsAccepted full list
+    → EachHasId list → IsAcl41Ids flags list bytes ↔ (bytes ≡ acl41_ids_bytes flags list)
 ids_bytes flags list bytes is ok ids =
     (λ h. h.spelled, λ e. record { flags = is; accepted = ok; ids = ids; spelled = e })
 

@@ -1,5 +1,5 @@
 -- Tables of names and ids: what is in them once, and lists whose ids get names and whose names get ids.
-use Rattle.std.proofs.Common.{◌≡◌, ◌∙◌, ◌+◌, ◌≤◌, ℕ, Bool, true, false, cond, eqb, List, [], ◌∷◌, ◌++◌, length, Option, Some, None, refl, sym, ap, subst, arith, append-nil, append_assoc}
+use Rattle.std.proofs.Common.{◌≡◌, ◌∙◌, ◌+◌, ℕ, Bool, true, false, cond, eqb, List, [], ◌∷◌, ◌++◌, length, Option, Some, None, refl, sym, ap, subst, arith, append-nil, append_assoc}
 use Rattle.std.specs.Prelude.{◌||◌, ◌↔◌, codes, count_ones, map, not, option_map, IsSome}
 use Rattle.std.specs.Fmt.{decimal}
 use Rattle.std.specs.List.{AllByRecursion, list_any}
@@ -7,7 +7,7 @@ use Rattle.std.specs.Option.{is_none, is_some, unwrap_or}
 use Rattle.std.specs.Str.{bytes_eq}
 use Rattle.std.specs.Str.Parse.{digits_value}
 use Rattle.std.proofs.lemmas.Bool.{eq-eqb, eqb-true, not-true}
-use Rattle.std.proofs.lemmas.Fmt.{decimal_is_IsNumeral, length-decimal-le}
+use Rattle.std.proofs.lemmas.Fmt.{decimal_is_IsNumeral}
 use Rattle.std.proofs.lemmas.List.{length-map, map-append}
 use Rattle.std.proofs.lemmas.Slice.Eq.{bytes_eq-Decides}
 use Rattle.acl_perm.proofs.Bools.{and_true}
@@ -556,10 +556,6 @@ same_digits a b is_a is_b = by (eqb a b) refl
         let value : a ≡ b = sym (decimal_is_IsNumeral a (omega (arith, is_a))).1 ∙ ap (digits_value 10) same
         ∙ (decimal_is_IsNumeral b (omega (arith, is_b))).1 in
         no_both e (eq-eqb a b value))
-
--- the digits of an id are ten at most
-pub decimal_short : (n : ℕ) → IsId n → length (decimal n) ≤ 10
-decimal_short n is = length-decimal-le 10 n (omega arith) (omega (arith, is)) (omega (arith, is))
 
 -- the table of the entries with one more is a table
 pub entries_grow : (entries : List IdEntry) (entry : IdEntry) → IsIdTable (table_of entries)

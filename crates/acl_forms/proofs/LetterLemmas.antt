@@ -119,7 +119,8 @@ nfs_rights_mask object wrong at letters (Err fault) e = tt
 pub nfs_flags_small : (object : ObjectKind) (wrong : ReadReason) (at : ℕ) (letters : List ℕ) (r : Result ℕ ReadFault)
     → r ≡ letters_from (nfs_flag_letters no_letter) object wrong at 0 letters → IfOk r (λ flags. flags ≤ 255)
 nfs_flags_small object wrong at letters (Ok flags) e =
-    let inside = letters_within all_flags (nfs_flag_letters no_letter) object wrong at 0 letters flags refl refl (sym e) in
+    let inside =
+    letters_within all_flags (nfs_flag_letters no_letter) object wrong at 0 letters flags refl refl (sym e) in
     let le : bit_and flags all_flags ≤ all_flags = and_le_r flags all_flags in rw inside at le
 nfs_flags_small object wrong at letters (Err fault) e = tt
 

@@ -173,7 +173,10 @@ rights_again Directory wrong set suits = (
             λ _ at. refl,
             (
               λ _ at. refl,
-              (λ _ at. refl, (λ _ at. refl, (λ _ at. refl, (λ _ at. refl, (λ _ at. refl, (λ _ at. refl, (λ _ at. refl, tt))))))),
+              (
+                λ _ at. refl,
+                (λ _ at. refl, (λ _ at. refl, (λ _ at. refl, (λ _ at. refl, (λ _ at. refl, (λ _ at. refl, tt)))))),
+              ),
             ),
           ),
         ),

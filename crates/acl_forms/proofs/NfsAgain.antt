@@ -16,7 +16,7 @@ use Rattle.std.proofs.lemmas.List.Splits.{slice_split_at, slice_split_none}
 use Rattle.std.proofs.lemmas.Str.Parse.{digit_from_value}
 use Rattle.acl_perm.proofs.Bools.{and_true}
 use Rattle.acl_perm.proofs.Meetings.{bytes_eq_same}
-use Rattle.acl_perm.specs.Ascii.{colon, comma, hash, line_feed}
+use Rattle.acl_perm.specs.Ascii.{colon}
 use Rattle.acl_perm.specs.Bits.{has_bit, identifier_group}
 use Rattle.acl_perm.specs.Principal.{everyone, group, group_named, owner, user}
 use Rattle.acl_perm.specs.Lines.{blanks_before, cut_at, end_trimmed, is_all_blank, is_blank, spans, start_of, trimmed, Span}
@@ -36,7 +36,6 @@ use Rattle.acl_forms.specs.Letters.{letters_from, nfs_flag_letters, nfs_right_le
 use Rattle.acl_forms.specs.NfsRules.{nfs_rules, SpellsNfsText}
 use Rattle.acl_forms.specs.NfsText.{fields_of_parts, flags_by_tag, id_alone, is_other_number, nfs_ace, nfs_entry, nfs_fields_of, nfs_fields_read, nfs_kind, nfs_tag_of, tag_special, trimmed_span, who_by_tag, who_of_fields, NfsFields}
 use Rattle.acl_forms.specs.NfsWritten.{account_word, as_nfs_written, id_after, is_cut_who, is_id_cut, kept_flags, kind_word, nfs_ace_fault, nfs_entry_text, nfs_fault_from, nfs_text, nfs_text_fault, principal_text, special_word, styled_letters, IsSameButSpecialGroup}
-use Rattle.acl_forms.specs.Texts.{cut_entries, line_items}
 use Rattle.acl_forms.specs.ToolsText.{unless_refused}
 use Rattle.acl_forms.specs.ToolsWritten.{is_separator, meets}
 use Rattle.acl_forms.specs.declared.fault.FormReason.TheVariants.{Id, Retention, Separator}
@@ -339,12 +338,14 @@ abbrev tail_text : LetterStyle → Ace → List ℕ → List ℕ
 tail_text letters a last = rights_text letters a.mask ++ colon ∷ (flags_text letters a.flags ++ colon ∷ last)
 
 -- the parts of the fields after the principal
-tail_split : (letters : LetterStyle) (a : Ace) (last : List ℕ) → slice_split (λ b. b == colon) (tail_text letters a last)
+tail_split : (letters : LetterStyle) (a : Ace) (last : List ℕ)
+    → slice_split (λ b. b == colon) (tail_text letters a last)
     ≡ rights_text letters a.mask ∷ flags_text letters a.flags ∷ slice_split (λ b. b == colon) last
 tail_split letters a last =
     split_more (rights_text letters a.mask) _ (styled_pass letters is_no_colon (nfs_right_letters []) a.mask refl refl)
     ∙ ap (λ (parts : List (List ℕ)). rights_text letters a.mask ∷ parts)
-    (split_more (flags_text letters a.flags) _ (styled_pass letters is_no_colon (nfs_flag_letters []) a.flags refl refl))
+    (split_more (flags_text letters a.flags) _
+    (styled_pass letters is_no_colon (nfs_flag_letters []) a.flags refl refl))
 
 -- the fields of an entry, by the place of its first part
 abbrev parts_at : ℕ → List (List ℕ) → List Span
@@ -366,10 +367,12 @@ record AreFieldsOf (letters : LetterStyle) (a : Ace) (fields : NfsFields) : Type
 
 -- the letters of a table have no blanks
 rights_kept : (letters : LetterStyle) (mask : ℕ) → trimmed (rights_text letters mask) ≡ rights_text letters mask
-rights_kept letters mask = kept (rights_text letters mask) (styled_pass letters is_no_blank (nfs_right_letters []) mask refl refl)
+rights_kept letters mask =
+    kept (rights_text letters mask) (styled_pass letters is_no_blank (nfs_right_letters []) mask refl refl)
 
 flags_kept : (letters : LetterStyle) (flags : ℕ) → trimmed (flags_text letters flags) ≡ flags_text letters flags
-flags_kept letters flags = kept (flags_text letters flags) (styled_pass letters is_no_blank (nfs_flag_letters []) flags refl refl)
+flags_kept letters flags =
+    kept (flags_text letters flags) (styled_pass letters is_no_blank (nfs_flag_letters []) flags refl refl)
 
 kind_kept : (kind : Kind) → trimmed (kind_word kind) ≡ kind_word kind
 kind_kept kind = kept (kind_word kind) (kind_pass is_no_blank refl refl kind)
@@ -379,8 +382,8 @@ abbrev ace_with : Kind → ℕ → ℕ → List ℕ → Ace
 ace_with kind flags mask name = record { kind = kind; flags = flags; mask = mask; who = name }
 
 -- fields are read as an ACE
-read_again : (letters : LetterStyle) (by : WhoField) (a : Ace) (fields : NfsFields) → AreFieldsOf letters a fields → IsWithin 0x1f01ff a.mask
-    → who_by_tag by fields (tag_special fields.tag) ≡ Ok a.who
+read_again : (letters : LetterStyle) (by : WhoField) (a : Ace) (fields : NfsFields) → AreFieldsOf letters a fields
+    → IsWithin 0x1f01ff a.mask → who_by_tag by fields (tag_special fields.tag) ≡ Ok a.who
     → nfs_ace by fields ≡ Ok (ace_with a.kind (flags_by_tag fields.tag (bit_and a.flags 0xbf)) a.mask a.who)
 unfolding nfs_ace
 read_again letters by a fields h within name =
@@ -415,7 +418,8 @@ special_at letters column tag a word =
     }
 
 -- such an entry has these fields
-special_fields_again : (letters : LetterStyle) (column : ℕ) (tag : NfsTag) (a : Ace) (word : List ℕ) → IsSpecialWord tag a.who word
+special_fields_again : (letters : LetterStyle) (column : ℕ) (tag : NfsTag) (a : Ace) (word : List ℕ)
+    → IsSpecialWord tag a.who word
     → nfs_fields_of (part_at column (nfs_entry_text letters a)) ≡ Ok (special_at letters column tag a word)
 special_fields_again letters column tag a word h =
     let last = split_last (kind_word a.kind) (kind_pass is_no_colon refl refl a.kind) in
@@ -434,8 +438,8 @@ found_again count entry fields some room e =
     let r : nat_le most_aces count ≡ false = grind (arith, nat_tests) in rw (some, r) e
 
 -- such an entry is read as the ACE
-special_again : (letters : LetterStyle) (by : WhoField) (tag : NfsTag) (a : Ace) (word : List ℕ) (list : List Ace) (column : ℕ)
-    → IsSpecialWord tag a.who word → IsWithin 0x1f01ff a.mask → IsWho a.who → length list < most_aces
+special_again : (letters : LetterStyle) (by : WhoField) (tag : NfsTag) (a : Ace) (word : List ℕ) (list : List Ace)
+    (column : ℕ) → IsSpecialWord tag a.who word → IsWithin 0x1f01ff a.mask → IsWho a.who → length list < most_aces
     → weight list + count_ones a.mask ≤ most_weight
     → nfs_entry by list (part_at column (nfs_entry_text letters a)) ≡ Ok (as_nfs_written a)
 special_again letters by tag a word list column h within is room light =
@@ -465,7 +469,8 @@ record IsNameKept (who : List ℕ) : Type 0 where
   pub same : trimmed who ≡ who
 
 -- the text of such an entry
-account_text : (letters : LetterStyle) (tag : NfsTag) (a : Ace) (word : List ℕ) → IsAccountWord tag a.flags word → special_word a.who ≡ None
+account_text : (letters : LetterStyle) (tag : NfsTag) (a : Ace) (word : List ℕ) → IsAccountWord tag a.flags word
+    → special_word a.who ≡ None
     → nfs_entry_text letters a ≡ word ++ colon ∷ (a.who ++ colon ∷ tail_text letters a (kind_word a.kind
     ++ id_after a.who (id_of_digits a.who)))
 unfolding nfs_entry_text
@@ -485,9 +490,10 @@ last_split kind who (Some id) h = split_more (kind_word kind) who (kind_pass is_
     ∙ ap (λ (parts : List (List ℕ)). kind_word kind ∷ parts) (split_last who h)
 
 -- the parts of such an entry
-account_split : (letters : LetterStyle) (tag : NfsTag) (a : Ace) (word : List ℕ) → IsAccountWord tag a.flags word → IsNameKept a.who
-    → slice_split (λ b. b == colon) (nfs_entry_text letters a)
-    ≡ word ∷ a.who ∷ rights_text letters a.mask ∷ flags_text letters a.flags ∷ kind_word a.kind ∷ id_parts a.who (id_of_digits a.who)
+account_split : (letters : LetterStyle) (tag : NfsTag) (a : Ace) (word : List ℕ) → IsAccountWord tag a.flags word
+    → IsNameKept a.who → slice_split (λ b. b == colon) (nfs_entry_text letters a)
+    ≡ word ∷ a.who ∷ rights_text letters a.mask ∷ flags_text letters a.flags ∷ kind_word a.kind ∷ id_parts a.who
+    (id_of_digits a.who)
 account_split letters tag a word h name =
     let id = id_of_digits a.who in
     ap (slice_split (λ b. b == colon)) (account_text letters tag a word h name.no_word)
@@ -519,7 +525,8 @@ account_at letters column tag a word id =
     }
 
 -- the fields of these parts
-account_parts : (letters : LetterStyle) (column : ℕ) (tag : NfsTag) (a : Ace) (word : List ℕ) (id : Option ℕ) → IsAccountWord tag a.flags word
+account_parts : (letters : LetterStyle) (column : ℕ) (tag : NfsTag) (a : Ace) (word : List ℕ) (id : Option ℕ)
+    → IsAccountWord tag a.flags word
     → fields_of_parts column (parts_at column (word ∷ a.who ∷ rights_text letters a.mask ∷ flags_text letters a.flags
     ∷ kind_word a.kind ∷ id_parts a.who id)) ≡ Ok (account_at letters column tag a word id)
 account_parts letters column tag a word None h = rw (kept word h.word_is.no_blank, h.tag_of, h.no_name) refl
@@ -535,8 +542,8 @@ name_again source.Id who place column (Some id) h e =
     let i = id_again who id e in rw (h.same, i.0) (rw i.1 (ap (λ (n : List ℕ). Ok n) i.2))
 
 -- such an entry is read as the ACE
-account_again : (letters : LetterStyle) (by : WhoField) (tag : NfsTag) (a : Ace) (word : List ℕ) (list : List Ace) (column : ℕ)
-    → IsAccountWord tag a.flags word → IsNameKept a.who → IsWithin 0x1f01ff a.mask → IsWho a.who
+account_again : (letters : LetterStyle) (by : WhoField) (tag : NfsTag) (a : Ace) (word : List ℕ) (list : List Ace)
+    (column : ℕ) → IsAccountWord tag a.flags word → IsNameKept a.who → IsWithin 0x1f01ff a.mask → IsWho a.who
     → length list < most_aces → weight list + count_ones a.mask ≤ most_weight
     → nfs_entry by list (part_at column (nfs_entry_text letters a)) ≡ Ok (as_nfs_written a)
 account_again letters by tag a word list column h kept_name within is room light =
@@ -548,7 +555,8 @@ account_again letters by tag a word list column h kept_name within is room light
     rw h.no_name (name_again by a.who (column + length word + 1) _ id kept_name refl) in
     let same : flags_by_tag tag (bit_and a.flags 0xbf) ≡ kept_flags a.who a.flags =
     h.flags_of ∙ rw kept_name.no_special refl in
-    let some : is_all_blank (nfs_entry_text letters a) ≡ false = ap is_all_blank (account_text letters tag a word h kept_name.no_word)
+    let some : is_all_blank (nfs_entry_text letters a) ≡ false =
+    ap is_all_blank (account_text letters tag a word h kept_name.no_word)
     ∙ not_all_blank word _ h.word_is.no_blank h.word_is.some in
     good_nfs_ace by list (part_at column (nfs_entry_text letters a)) fields (as_nfs_written a)
     (found_again (length list) (part_at column (nfs_entry_text letters a)) fields some room
@@ -561,7 +569,8 @@ account_again letters by tag a word list column h kept_name within is room light
 -- ---- a text
 
 -- the bytes of an entry about a special identifier pass a test that all its pieces pass
-special_pass : (letters : LetterStyle) (test : ℕ → Bool) (tag : NfsTag) (a : Ace) (word : List ℕ) → IsSpecialWord tag a.who word
+special_pass : (letters : LetterStyle) (test : ℕ → Bool) (tag : NfsTag) (a : Ace) (word : List ℕ)
+    → IsSpecialWord tag a.who word
     → list_all test word ≡ true → test colon ≡ true → list_all test (rights_text letters a.mask) ≡ true
     → list_all test (flags_text letters a.flags) ≡ true → list_all test (kind_word a.kind) ≡ true
     → list_all test (nfs_entry_text letters a) ≡ true
@@ -575,7 +584,8 @@ id_pass test who None c h = refl
 id_pass test who (Some id) c h = rw (c, h) refl
 
 -- the bytes of an entry about a user or a group pass a test that all its pieces pass
-account_pass : (letters : LetterStyle) (test : ℕ → Bool) (tag : NfsTag) (a : Ace) (word : List ℕ) → IsAccountWord tag a.flags word
+account_pass : (letters : LetterStyle) (test : ℕ → Bool) (tag : NfsTag) (a : Ace) (word : List ℕ)
+    → IsAccountWord tag a.flags word
     → special_word a.who ≡ None → list_all test word ≡ true → list_all test a.who ≡ true → test colon ≡ true
     → list_all test (rights_text letters a.mask) ≡ true → list_all test (flags_text letters a.flags) ≡ true
     → list_all test (kind_word a.kind) ≡ true → list_all test (nfs_entry_text letters a) ≡ true
@@ -583,7 +593,8 @@ account_pass letters test tag a word h none w n c r f k = ap (list_all test) (ac
     ∙ simp (list_all-append {X = ℕ}) (rw (w, n, c, r, f, k, id_pass test a.who (id_of_digits a.who) c n) refl)
 
 -- an entry about a special identifier is read again
-read_special : (letters : LetterStyle) (by : WhoField) (tag : NfsTag) (a : Ace) (word : List ℕ) → IsSpecialWord tag a.who word
+read_special : (letters : LetterStyle) (by : WhoField) (tag : NfsTag) (a : Ace) (word : List ℕ)
+    → IsSpecialWord tag a.who word
     → IsWithin 0x1f01ff a.mask → IsWho a.who → IsEntryAgain by (nfs_entry_text letters a) (as_nfs_written a)
 read_special letters by tag a word h within is = record {
   inside = special_pass letters is_inside tag a word h h.word_is.inside refl
@@ -594,8 +605,8 @@ read_special letters by tag a word h within is = record {
 }
 
 -- an entry about a user or a group is read again
-read_account : (letters : LetterStyle) (by : WhoField) (tag : NfsTag) (a : Ace) (word : List ℕ) → IsAccountWord tag a.flags word
-    → IsNameKept a.who → IsWithin 0x1f01ff a.mask → IsWho a.who
+read_account : (letters : LetterStyle) (by : WhoField) (tag : NfsTag) (a : Ace) (word : List ℕ)
+    → IsAccountWord tag a.flags word → IsNameKept a.who → IsWithin 0x1f01ff a.mask → IsWho a.who
     → IsEntryAgain by (nfs_entry_text letters a) (as_nfs_written a)
 read_account letters by tag a word h name within is = record {
   inside = account_pass letters is_inside tag a word h name.no_word h.word_is.inside name.inside refl
@@ -658,7 +669,8 @@ read_ace letters by a is none =
       | true ↦ λ met.
           read_account letters by NamedGroup a (codes "group") (group_flags a.flags is.flags met) name within is.who
       | false ↦ λ apart_flags.
-          read_account letters by NamedUser a (codes "user") (user_flags a.flags is.flags apart_flags) name within is.who
+          read_account letters by NamedUser a (codes "user") (user_flags a.flags is.flags apart_flags)
+          name within is.who
     ] refl)
 
 -- each ACE of a list that is held is read again
@@ -715,8 +727,8 @@ nfs_written_spells by style list is none =
     record {
       no_nul = no_place (λ b. b == 0) (nfs_text style list)
           (separated_pass is_no_zero refl refl style.separator entry list (entries_no_nul style.letters list is.each));
-      each = separated_again by style.separator entry as_nfs_written list (λ a. refl) (read_each style.letters by list 0 is.each none)
-          (omega (arith, is.count)) (omega (arith, is.weight));
+      each = separated_again by style.separator entry as_nfs_written list (λ a. refl)
+          (read_each style.letters by list 0 is.each none) (omega (arith, is.count)) (omega (arith, is.weight));
       enough = omega arith;
     }
 

@@ -80,12 +80,6 @@ pub named_made : (tag : NfsTag) (whole rest name who : Span) (tail : TailFields)
 named_made tag whole rest name who tail e is some = rw (e, is)
     (sym (by_name tag name (parts_in rest) ∙ ap (option_map (with_tail tag name)) some))
 
--- a name with another number of parts after it has no fields
-pub named_none : (tag : NfsTag) (whole rest name : Span) → parts_in whole ≡ name ∷ parts_in rest
-    → tail_of_parts (parts_in rest) ≡ None → None ≡ named_fields tag (parts_in whole)
-named_none tag whole rest name e none = rw e
-    (sym (by_name tag name (parts_in rest) ∙ ap (option_map (with_tail tag name)) none))
-
 -- the fields of a special identifier, by its id
 abbrev no_id_only : NfsTag → Span → TailFields → Option Span → Option NfsFields
 no_id_only tag who tail None = Some (with_tail tag who tail)
@@ -146,7 +140,8 @@ bad_tag entry word r cut is none = rw (parts_from entry word r cut is, none) ref
 -- an entry with a tag has the fields of its parts
 pub good_tag : (entry word : Span) (r : Piece × Option Piece) (tag : NfsTag) (fields : NfsFields) → IsCut colon entry r
     → word ≡ trimmed_span (span_of r.0) → nfs_tag_of word.bytes ≡ Some tag
-    → fields_by_tag tag word.column (parts_of_rest r.1) (tag_special tag) ≡ Some fields → nfs_fields_of entry ≡ Ok fields
+    → fields_by_tag tag word.column (parts_of_rest r.1) (tag_special tag) ≡ Some fields
+    → nfs_fields_of entry ≡ Ok fields
 unfolding nfs_fields_of
 good_tag entry word r tag fields cut is some good = rw (parts_from entry word r cut is, some, good) refl
 

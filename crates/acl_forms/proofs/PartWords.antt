@@ -26,7 +26,7 @@ use Rattle.acl_nfs4.specs.declared.xdr.fault.Reason.TheVariants.{Truncated}
 use Rattle.acl_nfs4.specs.internal.Progress.{IsBytes}
 use Rattle.acl_nfs4.specs.internal.Reading.{text_fault}
 use Rattle.acl_forms.specs.Acl41Ids.{id_who, listed, nothing_after, special_of}
-use Rattle.acl_forms.specs.Part.{PlacedAce, IsReadAsPart, RefusesPart, SpellsPart, any_weight, is_unknown_deny, left_out}
+use Rattle.acl_forms.specs.Part.{PlacedAce, IsReadAsPart, SpellsPart, any_weight, is_unknown_deny, left_out}
 use Rattle.acl_forms.specs.PartWords.{AceReader, IsPartAce, Names, SpelledAce, SpellsById, SpellsByName, SpellsWhole, bytes_at, judged_bytes, special_name, unless_unknown, who_by_name, who_by_number}
 use Rattle.acl_forms.specs.PartWords.Names.{by_id, by_special}
 unfoldable use Rattle.acl_forms.specs.PartWords.{ace_by_name, ace_by_number, aces_from, placed_from, whole_in}
@@ -40,7 +40,7 @@ use Rattle.acl_forms.specs.declared.part.left_out.LeftOut.{LeftOut}
 use Rattle.acl_forms.specs.internal.AnyAces.{IsPartReadAs}
 use Rattle.acl_forms.proofs.AnyNames.{known_who}
 use Rattle.acl_forms.proofs.IdLemmas.{count_again, count_is, ended, flags_accepted, flags_are, listed_again, listed_ok, mask_again, mask_is, special_accepted, special_is, within_le}
-use Rattle.acl_forms.proofs.PartAnswers.{part_found, part_only, part_refused}
+use Rattle.acl_forms.proofs.PartAnswers.{part_found, part_only}
 use Rattle.acl_forms.proofs.WhoLemmas.{is_who-decimal}
 use Rattle.acl_forms.proofs.WordLemmas.{Takes, Takes-then, bind-ok, bind_then, flags_again, flags_found, guard_ok, ok_is, place_at, word_again, word_takes}
 
@@ -252,12 +252,6 @@ module _ {Spells : AnyAce → List ℕ → Type 0} {read : AceReader} (reader : 
       → SpellsPart (λ whole. SpellsWhole Spells set whole bytes) list out → IsReadAsPart result set list out
   words_only bytes =
       part_only (λ set whole. SpellsWhole Spells set whole bytes) (whole_in read bytes) (whole_read bytes)
-
--- bytes with a fault are refused with that fault, unless memory runs out
-pub words_refused : (read : AceReader) (bytes : List ℕ) (result : Result Part ReadFault)
-    → IsPartReadAs result (whole_in read bytes) → (wrong : ReadFault) → whole_in read bytes ≡ Err wrong
-    → RefusesPart result wrong
-words_refused read bytes = part_refused (whole_in read bytes)
 
 -- ---- an ACE with a name
 

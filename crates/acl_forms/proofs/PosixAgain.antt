@@ -2,7 +2,6 @@
 use Rattle.std.proofs.Common.{◌≡◌, ◌∙◌, ◌+◌, ◌++◌, ℕ, Bool, true, false, List, [], ◌∷◌, length, Result, Ok, refl, ap, subst, arith, append-nil, append_assoc}
 use Rattle.std.specs.Prelude.{◌&&◌, ◌==◌, map, not}
 use Rattle.std.specs.List.{AllByRecursion, flat_map, list_all, slice_split}
-unfoldable use Rattle.std.specs.List.Sorted.{IsStrictlySortedBy}
 use Rattle.std.proofs.lemmas.List.Concat.{flat_map-cons}
 use Rattle.std.proofs.lemmas.List.Folds.{list_all-append}
 use Rattle.std.proofs.lemmas.List.Splits.{slice_split_at, slice_split_none}
@@ -26,7 +25,8 @@ use Rattle.acl_forms.proofs.ToolsAgain.{all_not, all_pass, no_place}
 
 -- bytes inside an entry are no line feeds, no commas, no `#` and no zeros
 feed_free : (text : List ℕ) → list_all is_in_entry text ≡ true → list_all (λ b. not (b == line_feed)) text ≡ true
-feed_free text h = all_pass is_in_entry (λ b. not (b == line_feed)) text (λ b i. (and_true (not (b == line_feed)) _ i).0) h
+feed_free text h =
+    all_pass is_in_entry (λ b. not (b == line_feed)) text (λ b i. (and_true (not (b == line_feed)) _ i).0) h
 
 hash_free : (text : List ℕ) → list_all is_in_entry text ≡ true → list_all (λ b. not (b == hash)) text ≡ true
 hash_free text h = all_pass is_in_entry (λ b. not (b == hash)) text
@@ -34,11 +34,13 @@ hash_free text h = all_pass is_in_entry (λ b. not (b == hash)) text
 
 comma_free : (text : List ℕ) → list_all is_in_entry text ≡ true → list_all (λ b. not (b == comma)) text ≡ true
 comma_free text h = all_pass is_in_entry (λ b. not (b == comma)) text
-    (λ b i. (and_true (not (b == comma)) _ (and_true (not (b == hash)) _ (and_true (not (b == line_feed)) _ i).1).1).0) h
+    (λ b i. (and_true (not (b == comma)) _ (and_true (not (b == hash)) _ (and_true (not (b == line_feed)) _ i).1).1).0)
+    h
 
 zero_free : (text : List ℕ) → list_all is_in_entry text ≡ true → list_all (λ b. not (b == 0)) text ≡ true
 zero_free text h = all_pass is_in_entry (λ b. not (b == 0)) text
-    (λ b i. (and_true (not (b == comma)) _ (and_true (not (b == hash)) _ (and_true (not (b == line_feed)) _ i).1).1).1) h
+    (λ b i. (and_true (not (b == comma)) _ (and_true (not (b == hash)) _ (and_true (not (b == line_feed)) _ i).1).1).1)
+    h
 
 -- the texts of entries are read as these entries
 abbrev pub AreTexts : Table → (Tag × ℕ → List ℕ) → List (Tag × ℕ) → Type 0
@@ -66,7 +68,8 @@ add_texts : (table : Table) (text : Tag × ℕ → List ℕ) (part : Part) (list
     (list ++ placed_from text part column es)
 add_texts table text part list [] column each = append-nil list
 add_texts table text part list (e ∷ es) column each =
-    let rest = add_texts table text part (list ++ placed_at part column e ∷ []) es (column + length (text e) + 1) each.1 in (
+    let rest =
+    add_texts table text part (list ++ placed_at part column e ∷ []) es (column + length (text e) + 1) each.1 in (
       placed_at part column e,
       each.0.again part column,
       subst (AddEach (posix_rules part table) (list ++ placed_at part column e ∷ []) _)
@@ -149,7 +152,8 @@ comma_split : (table : Table) (text : Tag × ℕ → List ℕ) (e : Tag × ℕ) 
     → AreTexts table text (e ∷ es) → slice_split (λ b. b == comma) (joined text (e ∷ es)) ≡ map text (e ∷ es)
 comma_split table text e [] each =
     ap (slice_split (λ b. b == comma)) (append-nil (text e))
-    ∙ slice_split_none (λ b. b == comma) (text e) (all_not (λ b. b == comma) (text e) (comma_free (text e) each.0.inside))
+    ∙ slice_split_none (λ b. b == comma) (text e)
+    (all_not (λ b. b == comma) (text e) (comma_free (text e) each.0.inside))
 comma_split table text e (f ∷ es) each =
     ap (λ (more : List ℕ). slice_split (λ b. b == comma) (text e ++ more)) (flat_map-cons (λ x. comma ∷ text x) f es)
     ∙ slice_split_at (λ b. b == comma) (text e) comma (joined text (f ∷ es))

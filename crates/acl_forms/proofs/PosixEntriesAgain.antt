@@ -149,7 +149,8 @@ unfolding id_of
 id_again n is =
     let number = is_number-decimal n is in
     let value : digits_value 10 (decimal n) ≡ n = (decimal_is_IsNumeral n (omega (arith, is))).1 in
-    let low : nat_le n greatest_id ≡ true = le-leb n greatest_id is in (rw (value, low) refl, rw (number, value, low) refl)
+    let low : nat_le n greatest_id ≡ true = le-leb n greatest_id is in
+    (rw (value, low) refl, rw (number, value, low) refl)
 
 -- a qualifier that is written in place of an id is no number, and not empty
 not_digits : (name : List ℕ) → is_shown name ≡ true → (is_number name ≡ false) × ((length name == 0) ≡ false)

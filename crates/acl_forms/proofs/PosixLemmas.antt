@@ -1,4 +1,4 @@
--- A text spells at most one file or default ACL and has at most one fault, and not both; and what is read is true of it.
+-- A text spells at most one file or default ACL, or has one fault, and not both; and what is read is true of it.
 use Rattle.std.proofs.Common.{◌≡◌, ◌∙◌, ◌<◌, ℕ, Bool, cond, List, [], ◌∷◌, length, Option, None, Some, Result, Ok, Err, refl, sym, ap, subst, arith, inl, inr, get_or, suc, zero}
 use Rattle.std.specs.Prelude.{◌⊎◌, IfErr, IfOk, map}
 use Rattle.std.proofs.lemmas.List.{length-map}
@@ -71,16 +71,19 @@ offset_read (e ∷ es) zero d lt = refl
 offset_read (e ∷ es) (suc i) d lt = offset_read es i d (omega (arith, lt))
 
 -- the entries of a part have at most one fault
-one_of_part : (es : List PlacedEntry) (len : ℕ) (f g : ReadFault) → IsPlacedFault es len f → IsPlacedFault es len g → f ≡ g
+one_of_part : (es : List PlacedEntry) (len : ℕ) (f g : ReadFault) → IsPlacedFault es len f → IsPlacedFault es len g
+    → f ≡ g
 one_of_part es len _ _ (repeated i a) (repeated j b) =
-    ap (λ n. read_fault_at (offset_at es n) (repeat_reason (tag_at (placed_pairs es) n))) (same_repeat (placed_pairs es) i j a b)
+    ap (λ n. read_fault_at (offset_at es n) (repeat_reason (tag_at (placed_pairs es) n)))
+    (same_repeat (placed_pairs es) i j a b)
 one_of_part es len _ _ (repeated i a) (absent t miss) = absurd (miss.distinct i a.in_range a.repeats)
 one_of_part es len _ _ (absent t miss) (repeated j b) = absurd (miss.distinct j b.in_range b.repeats)
 one_of_part es len _ _ (absent s miss) (absent t lacks) =
     ap (λ (z : TagOfCode). read_fault_at len (reasons.Miss z)) (same_absent (placed_pairs es) s t miss lacks)
 
 -- a valid part has no fault
-right_part : (es : List PlacedEntry) (len : ℕ) (f : ReadFault) → IsValidList (placed_pairs es) → IsPlacedFault es len f → ⊥
+right_part : (es : List PlacedEntry) (len : ℕ) (f : ReadFault) → IsValidList (placed_pairs es) → IsPlacedFault es len f
+    → ⊥
 right_part es len _ valid (repeated i a) = valid.distinct i a.in_range a.repeats
 right_part es len _ valid (absent t miss) = let none = valid.complete in let some = miss.absent in cc
 
@@ -89,8 +92,8 @@ pub repeats : (es : List PlacedEntry) (len place : ℕ) (named : Bool) → IsFir
     → is_named (tag_at (placed_pairs es) place) ≡ named
     → IsPlacedFault es len (read_fault_at (offset_at es place) (cond named reasons.Duplicate reasons.Multi))
 repeats es len place named first is =
-    subst (λ (b : Bool). IsPlacedFault es len (read_fault_at (offset_at es place) (cond b reasons.Duplicate reasons.Multi)))
-    is (repeated place first)
+    subst (λ (b : Bool). IsPlacedFault es len
+    (read_fault_at (offset_at es place) (cond b reasons.Duplicate reasons.Multi))) is (repeated place first)
 
 -- a required entry that is absent is the fault of a part
 pub lacks : (es : List PlacedEntry) (len : ℕ) (t : TagOfCode) → IsMiss (placed_pairs es) (tag_of t)
@@ -148,10 +151,12 @@ valid_access len f one two e wrong valid =
 pub one_fault : (names : Table) (text : List ℕ) (f g : ReadFault) → IsPosixTextFault names text f
     → IsPosixTextFault names text g → f ≡ g
 one_fault names text _ _ (of_entries f h) (of_entries g k) = texts.one_fault (posix_rules Access names) text f g h k
-one_fault names text _ _ (of_entries f h) (of_access es g spelled wrong) = absurd (no_entry_fault Access names spelled h)
+one_fault names text _ _ (of_entries f h) (of_access es g spelled wrong) =
+    absurd (no_entry_fault Access names spelled h)
 one_fault names text _ _ (of_entries f h) (of_default es g spelled valid some wrong) =
     absurd (no_entry_fault Access names spelled h)
-one_fault names text _ _ (of_access es f spelled wrong) (of_entries g k) = absurd (no_entry_fault Access names spelled k)
+one_fault names text _ _ (of_access es f spelled wrong) (of_entries g k) =
+    absurd (no_entry_fault Access names spelled k)
 one_fault names text _ _ (of_access es f spelled wrong) (of_access xs g again bad) =
     one_of_part (of_part Access xs) (length text) f g
     (moved Access (length text) f es xs (same_entries Access names text es xs spelled again) wrong) bad

@@ -41,10 +41,11 @@ use Rattle.acl_forms.proofs.PosixWrites.{first_held}
 
 -- ---- the texts of entries
 
--- the text of an entry for star and for GNU tar, without what separates it from others
+-- the text of an entry for star, without what separates it from others
 abbrev pub star_of : NamesOfIds → Tag × ℕ → List ℕ
 star_of names e = three_fields e (tag_name names e.0) ++ id_field e.0 (tag_name names e.0)
 
+-- the text of an entry for GNU tar, without what separates it from others
 abbrev pub gnu_of : NamesOfIds → Tag × ℕ → List ℕ
 gnu_of names e = three_fields e (tag_name names e.0)
 
@@ -84,8 +85,10 @@ has_group : (table : Table) (names : NamesOfIds) (id : ℕ) (o : Option (List �
 has_group table names id None has e shown = tt
 has_group table names id (Some name) has e shown = (shown, has.groups id name e)
 
-has_of : (table : Table) (names : NamesOfIds) (tag : Tag) → HasNamesOfIds table names → HasName table tag (tag_name names tag)
-has_of table names (user id) has = has_user table names id (shown_name names.users id) has refl (shown_of names (user id))
+has_of : (table : Table) (names : NamesOfIds) (tag : Tag) → HasNamesOfIds table names
+    → HasName table tag (tag_name names tag)
+has_of table names (user id) has =
+    has_user table names id (shown_name names.users id) has refl (shown_of names (user id))
 has_of table names (group id) has =
     has_group table names id (shown_name names.groups id) has refl (shown_of names (group id))
 has_of table names user_obj has = tt
@@ -175,7 +178,8 @@ split_distinct p es sorted =
     let moved = IsPermutation-filter_both (λ (e : Tag × ℕ). p e.0) (λ (e : Tag × ℕ). not (p e.0)) (λ e. refl) es in
     apart_distinct (split_by p es)
     (IsDistinct-IsPermutation (eq_by_cmp tag_cmp) (eq_by_cmp_equiv tags_total).symm (tags es) (tags (split_by p es))
-    (IsPermutation-map (λ (e : Tag × ℕ). e.0) es (split_by p es) moved) (IsDistinct-from_sorted tag_cmp (tags es) sorted))
+    (IsPermutation-map (λ (e : Tag × ℕ). e.0) es (split_by p es) moved)
+    (IsDistinct-from_sorted tag_cmp (tags es) sorted))
 
 -- the split entries are those of the ACL
 split_acl : (p : Tag → Bool) (acl : Entries) → IsValid acl → IsAclOf (split_by p (fin.entries acl)) acl
@@ -409,13 +413,14 @@ default_spelled table text es acl whole spelled is = record {
 
 -- ---- laws
 
--- the text of star spells the access ACL, and as a default text the default ACL
+-- the text of star spells a file with the ACL as its access ACL
 pub star_file : (names : NamesOfIds) (table : Table) (acl : Entries) → IsAcl acl
     → posix_text_fault names Star acl ≡ None → SpellsPosixText table (file_of acl) (posix_text names Star acl)
 star_file names table acl h held =
     file_spelled table (star_of names) (star_order (fin.entries acl)) acl (posix_text names Star acl)
     (star_spelled names table Access acl h held) (split_acl is_base acl h.valid)
 
+-- the text of star spells the ACL as a default ACL
 pub star_default : (names : NamesOfIds) (table : Table) (acl : Entries) → IsAcl acl
     → posix_text_fault names Star acl ≡ None → SpellsDefaultText table acl (posix_text names Star acl)
 star_default names table acl h held =
@@ -432,13 +437,14 @@ gnu_spelled names table part acl has h held =
     lines_spell table (gnu_of names) part (fin.entries acl)
     (gnu_texts table names 0 (fin.entries acl) has (recursion_from_All IsEntry (fin.entries acl) h.within) held)
 
--- the text of GNU tar spells the access ACL, and as a default text the default ACL, if the table has its names
+-- if the table has its names, the text of GNU tar spells a file with the ACL as its access ACL
 pub gnu_file : (names : NamesOfIds) (table : Table) (acl : Entries) → HasNamesOfIds table names → IsAcl acl
     → posix_text_fault names Gnu acl ≡ None → SpellsPosixText table (file_of acl) (posix_text names Gnu acl)
 gnu_file names table acl has h held =
     file_spelled table (gnu_of names) (fin.entries acl) acl (posix_text names Gnu acl)
     (gnu_spelled names table Access acl has h held) (whole_acl acl h.valid)
 
+-- if the table has its names, the text of GNU tar spells the ACL as a default ACL
 pub gnu_default : (names : NamesOfIds) (table : Table) (acl : Entries) → HasNamesOfIds table names → IsAcl acl
     → posix_text_fault names Gnu acl ≡ None → SpellsDefaultText table acl (posix_text names Gnu acl)
 gnu_default names table acl has h held =

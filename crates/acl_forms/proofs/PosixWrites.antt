@@ -24,16 +24,6 @@ use Rattle.acl_forms.proofs.AttributeOrder.{few_entries}
 
 -- ---- what the text can hold
 
--- the faults of the entries from a place on are that of the entry there, or those of the entries after it
-pub fault_next : (names : NamesOfIds) (style : TarStyle) (place : ℕ) (es : List Entry) (i : ℕ) (e : Entry)
-    → i < length es → e ≡ get_or es i e
-    → posix_fault_from names style place (pairs (drop i es))
-    ≡ fault_or place (named_reason style (tag_of e.tag) (tag_name names (tag_of e.tag)))
-    (posix_fault_from names style (place + 1) (pairs (drop (i + 1) es)))
-fault_next names style place es i e lt read =
-    ap (λ (xs : List Entry). posix_fault_from names style place (pairs xs))
-    (drop_more es i e lt ∙ ap (λ (x : Entry). x ∷ drop (i + 1) es) (sym read))
-
 -- if no entry has a fault, none of them has a reason
 pub first_held : (place : ℕ) (o : Option FormReason) (others : Option FormFault) → fault_or place o others ≡ None
     → (o ≡ None) × (others ≡ None)

@@ -1,5 +1,5 @@
 -- The letters of a set in each style stand for the set.
-use Rattle.std.proofs.Common.{◌≡◌, ◌∙◌, ◌+◌, ◌^◌, ℕ, Bool, true, false, cond, eqb, List, [], ◌∷◌, Result, Ok, refl, sym, ap}
+use Rattle.std.proofs.Common.{◌≡◌, ◌∙◌, ◌+◌, ◌^◌, ℕ, Bool, true, false, cond, eqb, List, [], ◌∷◌, Result, Ok, refl, ap}
 use Rattle.std.specs.Prelude.{bit_and, bit_or, map}
 use Rattle.std.specs.List.{list_all}
 use Rattle.std.specs.Int.Bits.{and_zero_r, or_zero_r}

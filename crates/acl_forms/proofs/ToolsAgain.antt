@@ -210,7 +210,8 @@ or_twice a b = same_set _ _ (λ k. simp has_bit-or (by (has_bit a k) (has_bit b 
   by false false = refl
 
 -- the flags that are written stay as they are when they are read
-group_twice : (name : List ℕ) (flags : ℕ) → with_group_flag name (with_group_flag name flags) ≡ with_group_flag name flags
+group_twice : (name : List ℕ) (flags : ℕ)
+    → with_group_flag name (with_group_flag name flags) ≡ with_group_flag name flags
 group_twice name flags =
     elim (bytes_eq name group_name)
     as (λ t. cond t (bit_or (cond t (bit_or flags 0x40) flags) 0x40) (cond t (bit_or flags 0x40) flags)
@@ -240,8 +241,10 @@ flags_suit File name flags h =
 -- rights without those of retention are rights that have a letter
 pub rights_within : (mask : ℕ) → IsWithin 0x1f07ff mask → bit_and mask 0x600 ≡ 0 → IsWithin 0x1f01ff mask
 rights_within mask within none =
-    let parts : bit_and mask 0x1f07ff ≡ bit_or (bit_and mask 0x600) (bit_and mask 0x1f01ff) = and_or mask 0x600 0x1f01ff in
-    let zero : bit_or (bit_and mask 0x600) (bit_and mask 0x1f01ff) ≡ bit_and mask 0x1f01ff = rw none (or_zero_l (bit_and mask 0x1f01ff)) in
+    let parts : bit_and mask 0x1f07ff ≡ bit_or (bit_and mask 0x600) (bit_and mask 0x1f01ff) =
+    and_or mask 0x600 0x1f01ff in
+    let zero : bit_or (bit_and mask 0x600) (bit_and mask 0x1f01ff) ≡ bit_and mask 0x1f01ff =
+    rw none (or_zero_l (bit_and mask 0x1f01ff)) in
     sym zero ∙ sym parts ∙ within
 
 -- a list that is accepted with an ACE takes it
@@ -301,9 +304,10 @@ ace_again object a column h is =
     ap (λ (r : Result Kind ReadFault). r >>= λ k.
     letters_from flag_letters object reasons.Flag fields.flags.column 0 fields.flags.bytes >>= λ f.
     mask_read >>= λ m. Ok (ace_with k (with_group_flag a.who f) m a.who)) (kind_again a.kind column)
-    ∙ ap (λ (r : Result ℕ ReadFault). r >>= λ f. mask_read >>= λ m. Ok (ace_with a.kind (with_group_flag a.who f) m a.who))
-    flags
-    ∙ ap (λ (r : Result ℕ ReadFault). r >>= λ m. Ok (ace_with a.kind (with_group_flag a.who (flags_written a)) m a.who)) mask
+    ∙ ap (λ (r : Result ℕ ReadFault). r >>= λ f. mask_read >>= λ m.
+    Ok (ace_with a.kind (with_group_flag a.who f) m a.who)) flags
+    ∙ ap (λ (r : Result ℕ ReadFault). r >>= λ m. Ok (ace_with a.kind (with_group_flag a.who (flags_written a)) m a.who))
+    mask
     ∙ ap (λ (f : ℕ). Ok (ace_with a.kind f a.mask a.who)) (group_twice a.who a.flags)
 
 -- the four fields of an entry are read if the list has room
@@ -399,7 +403,8 @@ written_spells object [] is none = absurd (some_fault none) where
   some_fault : {f : FormFault} → Some f ≡ None → ⊥
   some_fault e = cc
 written_spells object (a ∷ list) is none = record {
-  no_nul = no_place (λ b. b == 0) (tools_text (a ∷ list)) (no_nul tools_line (a ∷ list) (lines_no_nul (a ∷ list) is.each));
+  no_nul =
+      no_place (λ b. b == 0) (tools_text (a ∷ list)) (no_nul tools_line (a ∷ list) (lines_no_nul (a ∷ list) is.each));
   each = each_again (tools_rules object) tools_entry_text as_written [] (a ∷ list) 0 (no_items object) (λ x. refl)
       (read_each object (a ∷ list) 0 0 is.each none) (omega (arith, is.count)) (omega (arith, is.weight));
   enough = omega arith;

@@ -141,7 +141,8 @@ pub record PlacedEntry : Type 0 where
 
 -- the entry that a piece of a text spells, or its first fault; without a mark it belongs to this part
 unfoldable pub posix_entry : Part → Table → Span → Result PlacedEntry ReadFault
-posix_entry part names entry = if is_all_blank entry.bytes then Err (read_fault_at entry.column reasons.EmptyEntry) else do
-  fields ← ok_or (posix_fields part entry) (read_fault_at entry.column reasons.Fields)
-  pair ← pair_read entry.column names fields
-  Ok (record { part = fields.part; at = entry.column; pair = pair })
+posix_entry part names entry =
+    if is_all_blank entry.bytes then Err (read_fault_at entry.column reasons.EmptyEntry) else do
+      fields ← ok_or (posix_fields part entry) (read_fault_at entry.column reasons.Fields)
+      pair ← pair_read entry.column names fields
+      Ok (record { part = fields.part; at = entry.column; pair = pair })

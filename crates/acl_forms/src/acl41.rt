@@ -36,9 +36,11 @@ pub fn read_acl41(alloc: Global, bytes: &[u8]) -> Result<(AclFlags, Acl), ReadFa
     // If the bytes spell flags and a list, these are returned.
     ensures only { (flags : ℕ) (list : List Ace) → IsAcl41 flags list bytes.now
         → ReadsForm result flags list }
-    ensures fault { IfErr result (λ fault. (fault ≡ no_memory_left) ⊎ IsAcl41Fault bytes.now fault) }
+    ensures fault { IfErr result (λ fault. (fault ≡ no_memory_left)
+        ⊎ IsAcl41Fault bytes.now fault) }
     // Bytes with a fault are refused with that fault.
-    ensures refused { (wrong : ReadFault) → IsAcl41Fault bytes.now wrong → RefusesForm result wrong }
+    ensures refused { (wrong : ReadFault) → IsAcl41Fault bytes.now wrong
+        → RefusesForm result wrong }
 {
     let mut cursor = start(bytes);
     let flags = acl_flags(&mut cursor)?;

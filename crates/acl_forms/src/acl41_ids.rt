@@ -59,9 +59,11 @@ pub fn read_acl41_ids(alloc: Global, bytes: &[u8]) -> Result<(AclFlags, Acl), Re
     // If the bytes spell flags and a list, these are returned.
     ensures only { (flags : ℕ) (list : List Ace) → IsAcl41Ids flags list bytes.now
         → ReadsForm result flags list }
-    ensures fault { IfErr result (λ fault. (fault ≡ no_memory_left) ⊎ IsAcl41IdsFault bytes.now fault) }
+    ensures fault { IfErr result (λ fault. (fault ≡ no_memory_left)
+        ⊎ IsAcl41IdsFault bytes.now fault) }
     // Bytes with a fault are refused with that fault.
-    ensures refused { (wrong : ReadFault) → IsAcl41IdsFault bytes.now wrong → RefusesForm result wrong }
+    ensures refused { (wrong : ReadFault) → IsAcl41IdsFault bytes.now wrong
+        → RefusesForm result wrong }
 {
     read_whole(alloc, bytes)
 }
@@ -213,7 +215,8 @@ fn flags_of(number: u32) -> Result<Flags, ReadReason>
 }
 
 pub(crate) fn special(cursor: &mut Cursor<'_>) -> Result<u32, ReadFault>
-    ensures { Gives (λ x. (x, cursor_place cursor.new)) result (word_at special_of (cursor_place cursor.old)) }
+    ensures { Gives (λ x. (x, cursor_place cursor.new)) result
+        (word_at special_of (cursor_place cursor.old)) }
 {
     let offset = offset_of(cursor);
     placed(offset, special_of(word(cursor)?))

@@ -13,6 +13,6 @@ pub fn one_attribute()
         → SpellsAttribute two bytes → one ≡ two }
     ensures fault { (bytes : List ℕ) (one two : ReadFault) → IsAttributeFault bytes one
         → IsAttributeFault bytes two → one ≡ two }
-    ensures either { (acl : Entries) (bytes : List ℕ) (fault : ReadFault) → SpellsAttribute acl bytes
-        → IsAttributeFault bytes fault → ⊥ }
+    ensures either { (acl : Entries) (bytes : List ℕ) (fault : ReadFault)
+        → SpellsAttribute acl bytes → IsAttributeFault bytes fault → ⊥ }
 {}

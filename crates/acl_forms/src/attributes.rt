@@ -41,9 +41,9 @@ const UNDEFINED_ID: u32 = u32::MAX;
 /// The faults are judged in this order. At byte 0, Truncated: the version is cut short; Version: it is not 2. For each
 /// entry, Truncated at its first byte: it is cut short; Tag at its first byte, Permission at its third byte, Id or
 /// Qualifier at its fifth byte. Then, at the first byte of the first such entry, Order: its tag type comes before that
-/// of the entry before it in canonical order; Multi or Duplicate: an earlier entry has its tag and qualifier. At the end
-/// of the bytes, Miss of the first absent of USER_OBJ, GROUP_OBJ, OTHER, and of MASK if there is a USER or GROUP entry.
-/// If memory runs out, the reason is Memory.
+/// of the entry before it in canonical order; Multi or Duplicate: an earlier entry has its tag and qualifier. At the
+/// end of the bytes, Miss of the first absent of USER_OBJ, GROUP_OBJ, OTHER, and of MASK if there is a USER or GROUP
+/// entry. If memory runs out, the reason is Memory.
 ///
 /// ```rust
 /// let bytes = b"\x02\0\0\0\x01\0\x06\0\xff\xff\xff\xff\x04\0\x04\0\xff\xff\xff\xff\x20\0\0\0\xff\xff\xff\xff";
@@ -55,7 +55,8 @@ pub fn read_attribute(alloc: Global, bytes: &[u8]) -> Result<PosixAcl, ReadFault
     // If the bytes spell an ACL, that ACL is returned.
     ensures only { (acl : Entries) → SpellsAttribute acl bytes.now
         → MatchResult result (λ read. read ≡ acl) (λ fault. fault ≡ no_memory_left) }
-    ensures fault { IfErr result (λ fault. (fault ≡ no_memory_left) ⊎ IsAttributeFault bytes.now fault) }
+    ensures fault { IfErr result (λ fault. (fault ≡ no_memory_left)
+        ⊎ IsAttributeFault bytes.now fault) }
     // Bytes with a fault are refused with that fault.
     ensures refused { (wrong : FaultValue) → IsAttributeFault bytes.now wrong
         → MatchResult result (λ _. ⊥) (λ fault. (fault ≡ no_memory_left) ⊎ (fault ≡ wrong)) }
@@ -66,7 +67,8 @@ pub fn read_attribute(alloc: Global, bytes: &[u8]) -> Result<PosixAcl, ReadFault
 // Returns the ACL of the bytes.
 fn read_acl(alloc: Global, bytes: &[u8]) -> Result<PosixAcl, ReadFault>
     ensures found { IfOk result (λ acl. SpellsAttribute acl bytes.now) }
-    ensures fault { IfErr result (λ fault. (fault ≡ no_memory_left) ⊎ IsAttributeFault bytes.now fault) }
+    ensures fault { IfErr result (λ fault. (fault ≡ no_memory_left)
+        ⊎ IsAttributeFault bytes.now fault) }
 {
     if let Some(fault) = version_fault(bytes) {
         return Err(fault);
@@ -79,7 +81,8 @@ fn read_acl(alloc: Global, bytes: &[u8]) -> Result<PosixAcl, ReadFault>
 fn read_entries(alloc: Global, bytes: &[u8]) -> Result<Vec<Entry>, ReadFault>
     requires { version_fault bytes.now ≡ None }
     ensures entries { IfOk result (λ entries. AreBytesOf (pairs entries.items) bytes.now) }
-    ensures fault { IfErr result (λ fault. (fault ≡ no_memory_left) ⊎ IsAttributeFault bytes.now fault) }
+    ensures fault { IfErr result (λ fault. (fault ≡ no_memory_left)
+        ⊎ IsAttributeFault bytes.now fault) }
 {
     let mut entries = Vec::new(alloc);
     let mut rest = &bytes[VERSION_SIZE..];
@@ -104,7 +107,8 @@ fn acl_of(alloc: Global, entries: Vec<Entry>, len: usize) -> Result<PosixAcl, Re
     ensures set { IfOk result (λ acl. acl ≡ as_set (pairs entries.items)) }
     ensures order { OnOk result (NeverFalls (pairs entries.items)) }
     ensures valid { OnOk result (IsValidList (pairs entries.items)) }
-    ensures fault { IfErr result (λ fault. (fault ≡ no_memory_left) ⊎ IsEntriesFault (pairs entries.items) len fault) }
+    ensures fault { IfErr result (λ fault. (fault ≡ no_memory_left)
+        ⊎ IsEntriesFault (pairs entries.items) len fault) }
 {
     let fall = first_fall(&entries);
     match PosixAcl::from_entries(alloc, entries) {
@@ -165,7 +169,8 @@ fn version_fault(bytes: &[u8]) -> Option<ReadFault>
 // Reads the entry with which the text at a place begins.
 fn next_entry(text: &[u8], at: u64) -> Result<Entry, ReadFault>
     requires { at + length text.now < count_limit }
-    ensures entry { IfOk result (λ entry. text.now ≡ entry_bytes (pair_of entry) ++ drop entry_size text.now) }
+    ensures entry { IfOk result
+        (λ entry. text.now ≡ entry_bytes (pair_of entry) ++ drop entry_size text.now) }
     ensures whole { OnOk result (entry_size ≤ length text.now) }
     ensures fault { IfErr result (λ fault. next_entry_fault at text.now ≡ Some fault) }
 {

@@ -73,9 +73,11 @@ pub fn read(alloc: Global, form: Form, bytes: &[u8]) -> Result<(AclFlags, Acl), 
     // If the bytes spell flags and a list, these are returned.
     ensures only { (flags : ℕ) (list : List Ace) → SpellsForm form flags list bytes.now
         → ReadsForm result flags list }
-    ensures fault { IfErr result (λ fault. (fault ≡ no_memory_left) ⊎ IsFormFaultAt form bytes.now fault) }
+    ensures fault { IfErr result (λ fault. (fault ≡ no_memory_left)
+        ⊎ IsFormFaultAt form bytes.now fault) }
     // Bytes with a fault are refused with that fault.
-    ensures refused { (wrong : ReadFault) → IsFormFaultAt form bytes.now wrong → RefusesForm result wrong }
+    ensures refused { (wrong : ReadFault) → IsFormFaultAt form bytes.now wrong
+        → RefusesForm result wrong }
 {
     match form {
         Form::NfsTools(object) => Ok((AclFlags::NONE, read_tools(alloc, bytes, object)?)),

@@ -162,13 +162,16 @@ impl<'a> Ids<'a> {
         form: Form,
         bytes: &[u8],
     ) -> Result<(AclFlags, Acl), ReadFault>
-        ensures found { IfOk result (λ read. SpellsNamed form self.now read.0.bits read.1 bytes.now) }
+        ensures found { IfOk result
+            (λ read. SpellsNamed form self.now read.0.bits read.1 bytes.now) }
         // If the bytes spell flags and a list, these are returned.
-        ensures only { (flags : ℕ) (list : List Ace) → SpellsNamed form self.now flags list bytes.now
-            → ReadsForm result flags list }
-        ensures fault { IfErr result (λ fault. (fault ≡ no_memory_left) ⊎ IsFormFaultAt form bytes.now fault) }
+        ensures only { (flags : ℕ) (list : List Ace)
+            → SpellsNamed form self.now flags list bytes.now → ReadsForm result flags list }
+        ensures fault { IfErr result (λ fault. (fault ≡ no_memory_left)
+            ⊎ IsFormFaultAt form bytes.now fault) }
         // Bytes with a fault are refused with that fault.
-        ensures refused { (wrong : ReadFault) → IsFormFaultAt form bytes.now wrong → RefusesForm result wrong }
+        ensures refused { (wrong : ReadFault) → IsFormFaultAt form bytes.now wrong
+            → RefusesForm result wrong }
     {
         let (flags, list) = read(alloc, form, bytes)?;
         if form.has_ids() {
@@ -257,7 +260,8 @@ fn rows_by_id<'a>(
     alloc: Global,
     entries: &'a [IdEntry<'_>],
 ) -> Result<Vec<Renaming<'a>>, AllocError>
-    ensures { IfOk result (λ all. map name_row all.items ≡ spec.names_for_ids (table_of entries.now)) }
+    ensures { IfOk result
+        (λ all. map name_row all.items ≡ spec.names_for_ids (table_of entries.now)) }
 {
     let mut all = Vec::with_capacity(alloc, entries.len())?;
     for entry in entries {
@@ -271,7 +275,8 @@ fn rows_by_name<'a>(
     alloc: Global,
     entries: &'a [IdEntry<'_>],
 ) -> Result<Vec<Renaming<'a>>, AllocError>
-    ensures { IfOk result (λ all. map name_row all.items ≡ spec.ids_for_names (table_of entries.now)) }
+    ensures { IfOk result
+        (λ all. map name_row all.items ≡ spec.ids_for_names (table_of entries.now)) }
 {
     let mut all = Vec::with_capacity(alloc, entries.len())?;
     for entry in entries {
@@ -332,7 +337,8 @@ fn exchanged<'a>(
 
 // Returns whether an entry has the name of a row, for users or for groups.
 fn is_named(entry: &IdEntry<'_>, row: IdName<'_>) -> bool
-    ensures { result ≡ is_row_of row.entry.is_group row.entry.name.now (id_for_name (entry_row entry.now)) }
+    ensures { result ≡ is_row_of row.entry.is_group row.entry.name.now
+        (id_for_name (entry_row entry.now)) }
 {
     entry.is_group == row.is_group && entry.name == row.name
 }

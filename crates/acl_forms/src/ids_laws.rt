@@ -12,7 +12,8 @@ ghost use Rattle.acl_forms.specs.declared.form.Form.{Form};
 /// What is written of flags and a list with the ids of a table spells, with the names of the table, these flags and the
 /// list as it is written, but with its name for each who that is the digits of an id in the table; and nothing else.
 pub fn written_names_read_back()
-    ensures { (form : Form) (table : List IdRow) (flags set : ℕ) (list other : List Ace) → IsIdTable table
+    ensures { (form : Form) (table : List IdRow) (flags set : ℕ) (list other : List Ace)
+        → IsIdTable table
         → IsAclFlags flags → IsAccepted full list → form_fault form flags (names_to_ids_in form table list) ≡ None
         → SpellsNamed form table set other (form_bytes form flags (names_to_ids_in form table list))
         ↔ ((set ≡ flags) × (other ≡ form_list form (ids_to_names_in form table list))) }
@@ -25,7 +26,9 @@ pub fn names_and_ids()
         → ids_to_names table (names_to_ids table list) ≡ ids_to_names table list }
     ensures numbered { (table : List IdRow) (list : List Ace) → IsIdTable table
         → names_to_ids table (ids_to_names table list) ≡ names_to_ids table list }
-    ensures canonical { (table : List IdRow) (flags : ℕ) (list : List Ace) (bytes : List ℕ) → IsIdTable table
+    ensures canonical { (table : List IdRow) (flags : ℕ) (list : List Ace) (bytes : List ℕ)
+        → IsIdTable table
         → IsAcl41Ids flags list bytes → acl41_ids_bytes flags (names_to_ids table (ids_to_names table list)) ≡ bytes }
-    ensures empty { (list : List Ace) → (ids_to_names [] list ≡ list) × (names_to_ids [] list ≡ list) }
+    ensures empty { (list : List Ace) → (ids_to_names [] list ≡ list)
+        × (names_to_ids [] list ≡ list) }
 {}

@@ -41,8 +41,8 @@ pub fn one_acl41_ids()
 
 /// A text of nfs4-acl-tools spells at most one list and has at most one fault, and not both.
 pub fn one_tools_text()
-    ensures list { (object : ObjectKind) (text : List ℕ) (one two : List Ace) → SpellsTools object one text
-        → SpellsTools object two text → one ≡ two }
+    ensures list { (object : ObjectKind) (text : List ℕ) (one two : List Ace)
+        → SpellsTools object one text → SpellsTools object two text → one ≡ two }
     ensures fault { (object : ObjectKind) (text : List ℕ) (one two : ReadFault)
         → IsToolsFault object text one → IsToolsFault object text two → one ≡ two }
     ensures either { (object : ObjectKind) (text : List ℕ) (list : List Ace) (fault : ReadFault)
@@ -64,8 +64,8 @@ pub fn tools_text_names_the_same()
 
 /// A text of FreeBSD or of an archive spells at most one list and has at most one fault, and not both.
 pub fn one_nfs_text()
-    ensures list { (source : WhoField) (text : List ℕ) (one two : List Ace) → SpellsNfsText source one text
-        → SpellsNfsText source two text → one ≡ two }
+    ensures list { (source : WhoField) (text : List ℕ) (one two : List Ace)
+        → SpellsNfsText source one text → SpellsNfsText source two text → one ≡ two }
     ensures fault { (source : WhoField) (text : List ℕ) (one two : ReadFault)
         → IsFaultOfNfsText source text one → IsFaultOfNfsText source text two → one ≡ two }
     ensures either { (source : WhoField) (text : List ℕ) (list : List Ace) (fault : ReadFault)

@@ -151,7 +151,8 @@ pub(crate) fn read_letters(
     field: Piece<'_>,
 ) -> Result<u32, ReadFault>
     requires { ColumnsFit field }
-    ensures { result ≡ letters_from table.now object wrong field.entry.column 0 field.entry.bytes.now }
+    ensures { result ≡ letters_from table.now object wrong field.entry.column 0
+        field.entry.bytes.now }
 {
     let mut set = 0;
     let mut at = field.column;

@@ -53,13 +53,16 @@ pub fn read_part(alloc: Global, form: Form, bytes: &[u8]) -> Result<Part, ReadFa
     ensures found { IfOk result (λ part.
         SpellsPartOf form part.flags.bits part.list part.left_out.items bytes.now) }
     // If the bytes spell flags and ACEs, their part is returned.
-    ensures only { (set : ℕ) (list : List Ace) (out : List LeftOut) → SpellsPartOf form set list out bytes.now
-        → IsReadAsPart result set list out }
+    ensures only { (set : ℕ) (list : List Ace) (out : List LeftOut)
+        → SpellsPartOf form set list out bytes.now → IsReadAsPart result set list out }
     // A whole list is returned whole.
-    ensures whole { (set : ℕ) (list : List Ace) → SpellsForm form set list bytes.now → IsReadAsPart result set list [] }
-    ensures fault { IfErr result (λ fault. (fault ≡ no_memory_left) ⊎ IsPartFaultAt form bytes.now fault) }
+    ensures whole { (set : ℕ) (list : List Ace) → SpellsForm form set list bytes.now
+        → IsReadAsPart result set list [] }
+    ensures fault { IfErr result (λ fault. (fault ≡ no_memory_left)
+        ⊎ IsPartFaultAt form bytes.now fault) }
     // Bytes with a fault are refused with that fault.
-    ensures refused { (wrong : ReadFault) → IsPartFaultAt form bytes.now wrong → RefusesPart result wrong }
+    ensures refused { (wrong : ReadFault) → IsPartFaultAt form bytes.now wrong
+        → RefusesPart result wrong }
 {
     match form {
         Form::NfsTools(object) => read_text_part(alloc, bytes, AceText::Tools(object)),

@@ -12,20 +12,20 @@ ghost use Rattle.acl_forms.specs.declared.posix_text.style.TarStyle.TheVariants.
 
 /// A text spells the ACLs of at most one file and has at most one fault, and not both.
 pub fn one_posix_text()
-    ensures file { (names : Table) (text : List ℕ) (one two : PosixFile) → SpellsPosixText names one text
-        → SpellsPosixText names two text → one ≡ two }
-    ensures fault { (names : Table) (text : List ℕ) (one two : ReadFault) → IsPosixTextFault names text one
-        → IsPosixTextFault names text two → one ≡ two }
+    ensures file { (names : Table) (text : List ℕ) (one two : PosixFile)
+        → SpellsPosixText names one text → SpellsPosixText names two text → one ≡ two }
+    ensures fault { (names : Table) (text : List ℕ) (one two : ReadFault)
+        → IsPosixTextFault names text one → IsPosixTextFault names text two → one ≡ two }
     ensures either { (names : Table) (text : List ℕ) (file : PosixFile) (fault : ReadFault)
         → SpellsPosixText names file text → IsPosixTextFault names text fault → ⊥ }
 {}
 
 /// A text spells at most one default ACL and has at most one fault, and not both.
 pub fn one_default_text()
-    ensures acl { (names : Table) (text : List ℕ) (one two : Entries) → SpellsDefaultText names one text
-        → SpellsDefaultText names two text → one ≡ two }
-    ensures fault { (names : Table) (text : List ℕ) (one two : ReadFault) → IsDefaultTextFault names text one
-        → IsDefaultTextFault names text two → one ≡ two }
+    ensures acl { (names : Table) (text : List ℕ) (one two : Entries)
+        → SpellsDefaultText names one text → SpellsDefaultText names two text → one ≡ two }
+    ensures fault { (names : Table) (text : List ℕ) (one two : ReadFault)
+        → IsDefaultTextFault names text one → IsDefaultTextFault names text two → one ≡ two }
     ensures either { (names : Table) (text : List ℕ) (acl : Entries) (fault : ReadFault)
         → SpellsDefaultText names acl text → IsDefaultTextFault names text fault → ⊥ }
 {}
@@ -39,9 +39,10 @@ pub fn written_posix_text_reads_back()
         → SpellsPosixText table (record { access = acl; default = None }) (posix_text names Star acl) }
     ensures star_default { (names : NamesOfIds) (table : Table) (acl : Entries) → IsAcl acl
         → posix_text_fault names Star acl ≡ None → SpellsDefaultText table acl (posix_text names Star acl) }
-    ensures gnu { (names : NamesOfIds) (table : Table) (acl : Entries) → HasNamesOfIds table names → IsAcl acl
-        → posix_text_fault names Gnu acl ≡ None
+    ensures gnu { (names : NamesOfIds) (table : Table) (acl : Entries) → HasNamesOfIds table names
+        → IsAcl acl → posix_text_fault names Gnu acl ≡ None
         → SpellsPosixText table (record { access = acl; default = None }) (posix_text names Gnu acl) }
-    ensures gnu_default { (names : NamesOfIds) (table : Table) (acl : Entries) → HasNamesOfIds table names → IsAcl acl
+    ensures gnu_default { (names : NamesOfIds) (table : Table) (acl : Entries)
+        → HasNamesOfIds table names → IsAcl acl
         → posix_text_fault names Gnu acl ≡ None → SpellsDefaultText table acl (posix_text names Gnu acl) }
 {}

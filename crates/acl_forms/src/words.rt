@@ -37,7 +37,8 @@ pub(crate) fn start(bytes: &[u8]) -> Cursor<'_>
 /// Reads the next word, or fails with Truncated at the place where it should begin.
 #[inline(always)]
 pub(crate) fn word(cursor: &mut Cursor<'_>) -> Result<u32, ReadFault>
-    ensures { Gives (λ x. (x, cursor_place cursor.new)) result (word_at (λ n. Ok n) (cursor_place cursor.old)) }
+    ensures { Gives (λ x. (x, cursor_place cursor.new)) result
+        (word_at (λ n. Ok n) (cursor_place cursor.old)) }
 {
     if cursor.rest.len() < 4 {
         return Err(ReadFault {

@@ -53,7 +53,8 @@ reader_of ByNumber = ace_by_number
 
 -- the result of reading ACEs is the part of those that are read, and ends at this place, unless memory runs out
 abbrev pub GivesAnyPart : ℕ → WordPlace → Result Part ReadFault → Result (List PlacedAce × WordPlace) ReadFault → Type 0
-GivesAnyPart flags at (Ok part) read = (list : List PlacedAce) × (read ≡ Ok (list, at)) × IsPartWith part flags (kept list) (left_out list)
+GivesAnyPart flags at (Ok part) read =
+    (list : List PlacedAce) × (read ≡ Ok (list, at)) × IsPartWith part flags (kept list) (left_out list)
 GivesAnyPart flags at (Err fault) read = (fault ≡ no_memory_left) ⊎ (read ≡ Err fault)
 
 -- the result of a call is the part of what is read, unless memory runs out

@@ -12,5 +12,6 @@ names_by_id entries = fin.from_entries (map (λ entry. (entry.0, entry.1.items))
 -- the names of ids as a pair
 abbrev pub coded_names : Coded NamesOfIds
 coded_names =
-    code_by (NameOfId × NameOfId) (coded× (fin.code coded_ℕ (coded_list coded_ℕ)) (fin.code coded_ℕ (coded_list coded_ℕ)))
+    code_by (NameOfId × NameOfId)
+    (coded× (fin.code coded_ℕ (coded_list coded_ℕ)) (fin.code coded_ℕ (coded_list coded_ℕ)))
     (λ names. (names.users, names.groups)) (λ pair. record { users = pair.0; groups = pair.1 }) (λ names. refl)

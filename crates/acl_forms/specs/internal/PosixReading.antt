@@ -1,4 +1,4 @@
--- The fields and the entries of a text of a POSIX ACL as code holds them (this library's own). No public clause cites it.
+-- Fields and entries of a text of a POSIX ACL as the code holds them (this library's own). No public clause cites it.
 use Rattle.std.specs.Prelude.{ℕ, ◌<◌, List, [], ◌∷◌, length, Option, None, Some, option_map}
 use Rattle.acl_perm.specs.Lines.{Span, span_of, ColumnsFit}
 use Rattle.acl_perm.specs.declared.lines.Piece.{Piece}

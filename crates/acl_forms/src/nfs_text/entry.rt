@@ -53,7 +53,8 @@ pub(crate) fn add_nfs_entry(
     source: WhoField,
 ) -> Result<(), ReadFault>
     requires { ColumnsFit entry }
-    ensures { AddsOne (nfs_entry source acl.old (span_of entry.entry)) acl.old (λ all. acl.new ≡ all) result }
+    ensures { AddsOne (nfs_entry source acl.old (span_of entry.entry)) acl.old
+        (λ all. acl.new ≡ all) result }
 {
     let fields = fields_read(entry, acl.len())?;
     let item = ace_of(fields, source)?;
@@ -70,7 +71,8 @@ pub(crate) fn any_nfs_ace(
 ) -> Result<AnyAceRef<'_>, ReadFault>
     requires fits { ColumnsFit entry }
     requires weight { weight ≤ most_weight }
-    ensures exact { Gives any_ace_of result (nfs_any_entry source count weight (span_of entry.entry)) }
+    ensures exact { Gives any_ace_of result
+        (nfs_any_entry source count weight (span_of entry.entry)) }
     ensures within { IfOk result (IsWithinLimits count weight) }
 {
     let fields = fields_read(entry, count)?;
@@ -97,7 +99,8 @@ fn fields_read(entry: Piece<'_>, count: usize) -> Result<EntryParts<'_>, ReadFau
 
 // Adds an ACE whose mask and who are at these places.
 fn push_at(acl: &mut Acl, item: EntryAce<'_>, mask: usize, who: usize) -> Result<(), ReadFault>
-    ensures { AddsOne (taken acl.old (entry_ace item.entry) mask who) acl.old (λ all. acl.new ≡ all) result }
+    ensures { AddsOne (taken acl.old (entry_ace item.entry) mask who) acl.old
+        (λ all. acl.new ≡ all) result }
 {
     let mut digits = Buffer::new();
     let name = name_of(item.who, &mut digits);
@@ -169,8 +172,8 @@ fn any_ace_of(fields: EntryParts<'_>, source: WhoField) -> Result<AnyEntry<'_>, 
 #[inline(always)]
 fn mask_at(field: Piece<'_>) -> Result<u32, ReadFault>
     requires { ColumnsFit field }
-    ensures exact { result ≡ letters_from (nfs_right_letters no_letter) Directory reasons.Mask field.entry.column 0
-        field.entry.bytes.now }
+    ensures exact { result ≡ letters_from (nfs_right_letters no_letter)
+        Directory reasons.Mask field.entry.column 0 field.entry.bytes.now }
     ensures within { IfOk result IsMask }
 {
     // The letters mean the same on files.
@@ -186,8 +189,8 @@ fn mask_at(field: Piece<'_>) -> Result<u32, ReadFault>
 #[inline(always)]
 fn flags_at(field: Piece<'_>) -> Result<u32, ReadFault>
     requires { ColumnsFit field }
-    ensures exact { result ≡ letters_from (nfs_flag_letters no_letter) Directory reasons.Flag field.entry.column 0
-        field.entry.bytes.now }
+    ensures exact { result ≡ letters_from (nfs_flag_letters no_letter)
+        Directory reasons.Flag field.entry.column 0 field.entry.bytes.now }
     ensures small { IfOk result (λ flags. flags ≤ 255) }
 {
     read_letters(
@@ -226,7 +229,8 @@ fn type_at(field: Piece<'_>) -> Result<u32, ReadFault>
 // Returns the who of the fields.
 #[inline(always)]
 fn who_at(fields: EntryParts<'_>, source: WhoField) -> Result<EntryWho<'_>, ReadFault>
-    ensures { Gives entry_name result (who_by_tag source (entry_viewed fields.entry) (tag_special fields.entry.tag)) }
+    ensures { Gives entry_name result
+        (who_by_tag source (entry_viewed fields.entry) (tag_special fields.entry.tag)) }
 {
     match fields.tag.special() {
         Some(name) => Ok(EntryWho::Named(name)),

@@ -143,7 +143,8 @@ fn special_fields<'a>(tag: NfsTag, who: Piece<'a>, rest: Piece<'a>) -> Option<En
 
 fn named_fields(tag: NfsTag, rest: Piece<'_>) -> Option<EntryParts<'_>>
     requires { ColumnsFit rest }
-    ensures value { option_map entry_viewed result ≡ named_fields tag (parts_in (span_of rest.entry)) }
+    ensures value { option_map entry_viewed result ≡ named_fields tag
+        (parts_in (span_of rest.entry)) }
     ensures fits { IfSome result (λ parts. TailFits parts.tail) }
 {
     let (name, after) = rest.cut(b':');

@@ -110,7 +110,8 @@ fn keep(list: &mut Acl, item: AnyAceRef<'_>) -> Result<(), AllocError>
     requires room { length list.old < most_aces }
     requires light { weight list.old + count_ones item.mask.bits ≤ most_weight }
     ensures kept { OnOk result (list.new ≡ list.old ++ kept_ace (any_ace_of item.entry) ∷ []) }
-    ensures good { OnOk result (IsAccepted full (list.old ++ kept_ace (any_ace_of item.entry) ∷ [])) }
+    ensures good { OnOk result
+        (IsAccepted full (list.old ++ kept_ace (any_ace_of item.entry) ∷ [])) }
 {
     let mut digits = Buffer::new();
     let who = bytes_of(item.who, &mut digits);

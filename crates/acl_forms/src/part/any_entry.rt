@@ -49,7 +49,8 @@ pub(crate) fn judged(
 
 // Returns the who at a place, in an ACE of this type.
 fn who_at(place: usize, type_number: u32, who: EntryWho<'_>) -> Result<AnyWho<'_>, ReadFault>
-    ensures exact { Gives any_name result (judged_at place (who_of_type type_number (entry_name who.entry))) }
+    ensures exact { Gives any_name result
+        (judged_at place (who_of_type type_number (entry_name who.entry))) }
     ensures named { IfOk result HasAnyName }
 {
     match who {

@@ -65,7 +65,8 @@ fn pair_at(start: usize, fields: PosixParts<'_>, names: &Names) -> Result<Entry,
 // Returns the tag and the permissions of an entry of three fields.
 fn named_pair(word: TagWord, fields: PosixParts<'_>, names: &Names) -> Result<Entry, ReadFault>
     requires { PartsFit fields }
-    ensures { (start : ℕ) → Gives pair_of result (pair_by_id start names.now word (parts_viewed fields.entry) None) }
+    ensures { (start : ℕ)
+        → Gives pair_of result (pair_by_id start names.now word (parts_viewed fields.entry) None) }
 {
     let tag = tag_at(fields.qualifier, word, names)?;
     let perm = permissions_at(fields.permissions)?;
@@ -172,7 +173,8 @@ fn named_word(start: usize, word: TagWord, field: Piece<'_>) -> Result<TagWord, 
 #[tactic(auto, unfolding(crate::specs::PosixText::last_id))]
 fn last_id(qualifier: Piece<'_>, field: Piece<'_>) -> Result<Id, ReadFault>
     requires { ColumnsFit field }
-    ensures { Gives (λ id. id.value) result (last_id (span_of qualifier.entry) (span_of field.entry)) }
+    ensures { Gives (λ id. id.value) result
+        (last_id (span_of qualifier.entry) (span_of field.entry)) }
 {
     let Some(id) = id_alone(trimmed(field.bytes)) else {
         return Err(refused(field, ReadReason::Id));

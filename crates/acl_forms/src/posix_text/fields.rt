@@ -37,7 +37,8 @@ pub(crate) fn fields_of(entry: Piece<'_>, part: Part) -> Option<PosixParts<'_>>
 // Returns the fields of an entry from here on.
 fn fields_in(rest: Piece<'_>, part: Part) -> Option<PosixParts<'_>>
     requires { ColumnsFit rest }
-    ensures value { option_map parts_viewed result ≡ fields_in part (cut_at colon (span_of rest.entry)) }
+    ensures value { option_map parts_viewed result ≡ fields_in part
+        (cut_at colon (span_of rest.entry)) }
     ensures fits { IfSome result PartsFit }
 {
     let (tag, Some(rest)) = rest.cut(b':') else {

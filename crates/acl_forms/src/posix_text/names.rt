@@ -92,7 +92,8 @@ fn keep_first(
     id: u32,
     name: &[u8],
 ) -> Result<(), AllocError>
-    ensures added { OnOk result (names_by_id names.new.entries ≡ name_kept (names_by_id names.old.entries) id name.now) }
+    ensures added { OnOk result
+        (names_by_id names.new.entries ≡ name_kept (names_by_id names.old.entries) id name.now) }
     ensures kept { OnErr result (names.new.entries ≡ names.old.entries) }
 {
     if has_name(names, id) {

@@ -18,7 +18,8 @@ pub(crate) fn of_part(
     read: &[TextEntry],
     part: Part,
 ) -> Result<Vec<TextEntry>, AllocError>
-    ensures { IfOk result (λ members. map placed members.items ≡ of_part part (map placed read.now)) }
+    ensures { IfOk result
+        (λ members. map placed members.items ≡ of_part part (map placed read.now)) }
 {
     let mut members = Vec::new(alloc);
     for one in read {
@@ -41,7 +42,8 @@ fn is_part(part: Part, other: Part) -> bool
 /// Returns the ACL of entries of a text of this length, or what is wrong with their list.
 pub(crate) fn acl_of(alloc: Global, read: &[TextEntry], len: usize) -> Result<PosixAcl, ReadFault>
     ensures acl { IfOk result (IsAclOf (placed_pairs (map placed read.now))) }
-    ensures fault { IfErr result (λ fault. (fault ≡ no_memory_left) ⊎ IsPlacedFault (map placed read.now) len fault) }
+    ensures fault { IfErr result (λ fault. (fault ≡ no_memory_left)
+        ⊎ IsPlacedFault (map placed read.now) len fault) }
 {
     let entries = entries_of(alloc.clone()?, read)?;
     match PosixAcl::from_entries(alloc, entries) {

@@ -20,9 +20,10 @@ use std::alloc::Global;
 /// Returns the ACLs that a text of `SCHILY.acl.access` spells, the header in which star, bsdtar and GNU tar keep POSIX
 /// ACLs: entries `tag:qualifier:permissions` between line feeds and commas, with blanks around fields; a `#` begins a
 /// comment up to the end of its line. `default:` before an entry says that it belongs to the default ACL. After the
-/// name of a user or a group, an id may follow the permissions; it counts then, and the name is not looked up. All other
-/// names are looked up in the table. Some texts that libarchive takes are refused: those in which it passes an entry
-/// over, or reads another list than GNU tar does. It takes time in n log n for n entries, and three lists of them.
+/// name of a user or a group, an id may follow the permissions; it counts then, and the name is not looked up. All
+/// other names are looked up in the table. Some texts that libarchive takes are refused: those in which it passes an
+/// entry over, or reads another list than GNU tar does. It takes time in n log n for n entries, and three lists of
+/// them.
 ///
 /// The faults are judged in this order. Nul: the text has a zero byte. Comment: a comment has a comma. In each entry,
 /// at its first byte, EmptyEntry: it has blanks alone; Fields: it does not have three fields, or four with a qualifier.
@@ -44,7 +45,8 @@ pub fn read_posix_text(alloc: Global, text: &[u8], names: &Names) -> Result<Posi
     // If the text spells the ACLs of a file, these are returned.
     ensures only { (file : FileValue) → SpellsPosixText names.now file text.now
         → MatchResult result (λ read. read ≡ file) (λ fault. fault ≡ no_memory_left) }
-    ensures fault { IfErr result (λ fault. (fault ≡ no_memory_left) ⊎ IsPosixTextFault names.now text.now fault) }
+    ensures fault { IfErr result (λ fault. (fault ≡ no_memory_left)
+        ⊎ IsPosixTextFault names.now text.now fault) }
     // A text with a fault is refused with that fault.
     ensures refused { (wrong : FaultValue) → IsPosixTextFault names.now text.now wrong
         → MatchResult result (λ _. ⊥) (λ fault. (fault ≡ no_memory_left) ⊎ (fault ≡ wrong)) }
@@ -52,8 +54,8 @@ pub fn read_posix_text(alloc: Global, text: &[u8], names: &Names) -> Result<Posi
     read_file(alloc, text, names)
 }
 
-/// Returns the default ACL that a text of `SCHILY.acl.default` spells. It is read as `read_posix_text` reads a text, but
-/// each entry belongs to the default ACL, with `default:` before it or without.
+/// Returns the default ACL that a text of `SCHILY.acl.default` spells. It is read as `read_posix_text` reads a text,
+/// but each entry belongs to the default ACL, with `default:` before it or without.
 ///
 /// ```rust
 /// let text = b"default:user::rw-\ngroup::r--\nd:o::---\n";
@@ -65,7 +67,8 @@ pub fn read_default_text(alloc: Global, text: &[u8], names: &Names) -> Result<Po
     // If the text spells a default ACL, that ACL is returned.
     ensures only { (acl : Entries) → SpellsDefaultText names.now acl text.now
         → MatchResult result (λ read. read ≡ acl) (λ fault. fault ≡ no_memory_left) }
-    ensures fault { IfErr result (λ fault. (fault ≡ no_memory_left) ⊎ IsDefaultTextFault names.now text.now fault) }
+    ensures fault { IfErr result (λ fault. (fault ≡ no_memory_left)
+        ⊎ IsDefaultTextFault names.now text.now fault) }
     // A text with a fault is refused with that fault.
     ensures refused { (wrong : FaultValue) → IsDefaultTextFault names.now text.now wrong
         → MatchResult result (λ _. ⊥) (λ fault. (fault ≡ no_memory_left) ⊎ (fault ≡ wrong)) }
@@ -76,7 +79,8 @@ pub fn read_default_text(alloc: Global, text: &[u8], names: &Names) -> Result<Po
 // Returns the ACLs of a text.
 fn read_file(alloc: Global, text: &[u8], names: &Names) -> Result<PosixFile, ReadFault>
     ensures found { IfOk result (λ file. SpellsPosixText names.now file text.now) }
-    ensures fault { IfErr result (λ fault. (fault ≡ no_memory_left) ⊎ IsPosixTextFault names.now text.now fault) }
+    ensures fault { IfErr result (λ fault. (fault ≡ no_memory_left)
+        ⊎ IsPosixTextFault names.now text.now fault) }
 {
     let part = Part::Access;
     let read = read_text(alloc.clone()?, text, PosixForm { part, names })?;
@@ -88,7 +92,8 @@ fn read_file(alloc: Global, text: &[u8], names: &Names) -> Result<PosixFile, Rea
 
 // Returns the default ACL of the entries of a text of this length, if one of them belongs to it.
 fn default_of(alloc: Global, read: &[TextEntry], len: usize) -> Result<Option<PosixAcl>, ReadFault>
-    ensures acl { IfOk result (IsDefaultOf (placed_pairs (of_part parts.Default (map placed read.now)))) }
+    ensures acl { IfOk result
+        (IsDefaultOf (placed_pairs (of_part parts.Default (map placed read.now)))) }
     ensures fault { IfErr result (λ fault. (fault ≡ no_memory_left)
         ⊎ IsDefaultRefused (of_part parts.Default (map placed read.now)) len fault) }
 {
@@ -102,7 +107,8 @@ fn default_of(alloc: Global, read: &[TextEntry], len: usize) -> Result<Option<Po
 // Returns the default ACL of a text.
 fn read_default(alloc: Global, text: &[u8], names: &Names) -> Result<PosixAcl, ReadFault>
     ensures found { IfOk result (λ acl. SpellsDefaultText names.now acl text.now) }
-    ensures fault { IfErr result (λ fault. (fault ≡ no_memory_left) ⊎ IsDefaultTextFault names.now text.now fault) }
+    ensures fault { IfErr result (λ fault. (fault ≡ no_memory_left)
+        ⊎ IsDefaultTextFault names.now text.now fault) }
 {
     let part = Part::Default;
     let read = read_text(alloc.clone()?, text, PosixForm { part, names })?;

@@ -54,8 +54,8 @@ pub fn posix_text_fault(acl: &PosixAcl, names: &IdNames, style: TarStyle) -> Opt
     first_fault(acl.entries(), names, style)
 }
 
-/// Writes an ACL as the value of `SCHILY.acl.access` or `SCHILY.acl.default` in this style, if `posix_text_fault` returns
-/// `None`. It ends at the first put that fails: then `written` bytes went out. It takes no memory.
+/// Writes an ACL as the value of `SCHILY.acl.access` or `SCHILY.acl.default` in this style, if `posix_text_fault`
+/// returns `None`. It ends at the first put that fails: then `written` bytes went out. It takes no memory.
 ///
 /// ```rust
 /// let text = b"user::rw-,group::r--,other::---,user:bob:rw-:1001,mask::rw-";
@@ -258,7 +258,8 @@ fn comma_before(tag: Tag) -> &'static [u8]
 fn add_fields(line: &mut Line, entry: Entry, name: Option<&[u8]>)
     requires room { array_vec_len line.old ≤ 1 }
     requires short { IsShortName (option_map (λ name. name.now) name) }
-    ensures text { line.new.items ≡ line.old.items ++ three_fields (pair_of entry) (option_map (λ name. name.now) name.entry) }
+    ensures text { line.new.items ≡ line.old.items ++ three_fields (pair_of entry)
+        (option_map (λ name. name.now) name.entry) }
     ensures len { array_vec_len line.new ≤ array_vec_len line.old + 1034 }
 {
     add(line, long_word(entry.tag));
@@ -274,7 +275,8 @@ fn add_fields(line: &mut Line, entry: Entry, name: Option<&[u8]>)
 // Adds the id after the permissions, if the qualifier is a name.
 fn add_id(line: &mut Line, tag: Tag, name: Option<&[u8]>)
     requires room { array_vec_len line.old ≤ 1060 }
-    ensures text { line.new.items ≡ line.old.items ++ id_field (tag_of tag) (option_map (λ name. name.now) name.entry) }
+    ensures text { line.new.items ≡ line.old.items ++ id_field (tag_of tag)
+        (option_map (λ name. name.now) name.entry) }
     ensures len { array_vec_len line.new ≤ array_vec_len line.old + 11 }
 {
     match name {

@@ -1,5 +1,5 @@
-//! Lists with names in forms with ids. The words of an ACE are those of Samba's nfs41acl.x: type, flags, 1 for a special
-//! who, mask, and its number or the id. The texts are those that libarchive 3.6.2 prints with ids.
+//! Lists with names in forms with ids. The words of an ACE are those of Samba's nfs41acl.x: type, flags, 1 for a
+//! special who, mask, and its number or the id. The texts are those that libarchive 3.6.2 prints with ids.
 
 use crate::*;
 use acl_nfs4::{Acl, parse_text};

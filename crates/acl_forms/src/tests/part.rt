@@ -8,9 +8,10 @@ use std::alloc::{AllocError, Global};
 use std::test::Fail;
 
 // A form, a value, the text of the list that is kept, and the first and the last ACE that is left out. The first value
-// has the flags PROTECTED, and the ACEs AUDIT `EVERYONE@`, ALLOW `alice` READ_DATA and ALLOW `AUTHENTICATED@` READ_DATA.
-// The second has the ACEs ALLOW READ_DATA of the special identifier 9 (AUTHENTICATED@), DENY READ_DATA of the group 100,
-// and ALARM of the special identifier 11, which has no meaning. In the fourth the id of NOW@ counts where it has one.
+// has the flags PROTECTED, and the ACEs AUDIT `EVERYONE@`, ALLOW `alice` READ_DATA and ALLOW `AUTHENTICATED@`
+// READ_DATA. The second has the ACEs ALLOW READ_DATA of the special identifier 9 (AUTHENTICATED@), DENY READ_DATA of
+// the group 100, and ALARM of the special identifier 11, which has no meaning. In the fourth the id of NOW@ counts
+// where it has one.
 static PARTS: [(Form, &[u8], &str, [LeftOut; 2]); 4] = [
     (
         Form::NfsAcl41,

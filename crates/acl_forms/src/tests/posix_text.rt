@@ -1,6 +1,6 @@
-//! Values of `SCHILY.acl.access` and `SCHILY.acl.default` that bsdtar 3.6.2 and GNU tar 1.34 wrote of files on ext4, with
-//! what getfacl -n printed, and texts that libarchive 3.6.2 reads. The places and the reasons of the faults are this
-//! library's own.
+//! Values of `SCHILY.acl.access` and `SCHILY.acl.default` that bsdtar 3.6.2 and GNU tar 1.34 wrote of files on ext4,
+//! with what getfacl -n printed, and texts that libarchive 3.6.2 reads. The places and the reasons of the faults are
+//! this library's own.
 
 use crate::*;
 use acl_nfs4::{Counted, Reason};

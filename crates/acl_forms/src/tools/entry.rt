@@ -38,7 +38,8 @@ pub(crate) fn add_tools_entry(
     object: ObjectKind,
 ) -> Result<(), ReadFault>
     requires { ColumnsFit entry }
-    ensures { AddsOne (tools_entry object acl.old (span_of entry.entry)) acl.old (λ all. acl.new ≡ all) result }
+    ensures { AddsOne (tools_entry object acl.old (span_of entry.entry)) acl.old
+        (λ all. acl.new ≡ all) result }
 {
     let fields = fields_read(entry, acl.len())?;
     let item = ace_of(fields, object)?;
@@ -58,7 +59,8 @@ pub(crate) fn any_tools_ace(
 ) -> Result<AnyAceRef<'_>, ReadFault>
     requires fits { ColumnsFit entry }
     requires weight { weight ≤ most_weight }
-    ensures exact { Gives any_ace_of result (tools_any_entry object count weight (span_of entry.entry)) }
+    ensures exact { Gives any_ace_of result
+        (tools_any_entry object count weight (span_of entry.entry)) }
     ensures within { IfOk result (IsWithinLimits count weight) }
 {
     let fields = fields_read(entry, count)?;

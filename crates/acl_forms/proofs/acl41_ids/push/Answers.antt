@@ -16,5 +16,6 @@ push_accepted-requires c =
 
 pub returns-clause-good : goal.returns-clause-good
 returns-clause-good c =
-    on_ok c.push_accepted.result (accepted_push c.args.list.now (ace_by_id c.args.item) c.requires.accepted c.requires.room
+    on_ok c.push_accepted.result
+    (accepted_push c.args.list.now (ace_by_id c.args.item) c.requires.accepted c.requires.room
     c.requires.light (good_ace c.args.item (omega arith)))

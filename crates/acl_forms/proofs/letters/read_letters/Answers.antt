@@ -6,8 +6,8 @@ use Rattle.acl_forms.proofs.letters.read_letters.Goals as goal
 pub returns-in_err-set : goal.returns-in_err-set
 returns-in_err-set c =
     exit_is c.from_residual.result c.from_residual.ensures.1
-    ∙ letters_fail c.args.table.now c.args.object c.args.wrong c.loop-letter.at c.loop-letter.set c.loop-letter.letter-index
-    c.args.field.bytes.now _ (omega arith) c.in_err-set.ensures
+    ∙ letters_fail c.args.table.now c.args.object c.args.wrong c.loop-letter.at c.loop-letter.set
+    c.loop-letter.letter-index c.args.field.bytes.now _ (omega arith) c.in_err-set.ensures
     ∙ c.loop-letter.invariant.reads
 
 pub loop-letter-preserved : goal.loop-letter-preserved
@@ -20,6 +20,6 @@ loop-letter-preserved c = record {
 
 pub returns : goal.returns
 returns c =
-    letters_done c.args.table.now c.args.object c.args.wrong c.loop-letter.at c.loop-letter.set c.loop-letter.letter-index
-    c.args.field.bytes.now (omega arith)
+    letters_done c.args.table.now c.args.object c.args.wrong c.loop-letter.at c.loop-letter.set
+    c.loop-letter.letter-index c.args.field.bytes.now (omega arith)
     ∙ c.loop-letter.invariant.reads

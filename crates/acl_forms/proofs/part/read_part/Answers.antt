@@ -65,26 +65,27 @@ returns-in-NfsTools-clause-whole c = rw c.in-NfsTools.is (λ set list h.
 
 pub returns-in-NfsText-clause-found : goal.returns-in-NfsText-clause-found
 returns-in-NfsText-clause-found c =
-    rw c.in-NfsText.is (texts_found (nfs_any_rules c.in-NfsText.source) c.args.bytes.now c.read_text_part-in-NfsText.result
-    c.read_text_part-in-NfsText.ensures)
+    rw c.in-NfsText.is (texts_found (nfs_any_rules c.in-NfsText.source) c.args.bytes.now
+    c.read_text_part-in-NfsText.result c.read_text_part-in-NfsText.ensures)
 
 pub returns-in-NfsText-clause-only : goal.returns-in-NfsText-clause-only
 returns-in-NfsText-clause-only c =
-    rw c.in-NfsText.is (texts_only (nfs_any_rules c.in-NfsText.source) c.args.bytes.now c.read_text_part-in-NfsText.result
-    c.read_text_part-in-NfsText.ensures)
+    rw c.in-NfsText.is (texts_only (nfs_any_rules c.in-NfsText.source) c.args.bytes.now
+    c.read_text_part-in-NfsText.result c.read_text_part-in-NfsText.ensures)
 
 pub returns-in-NfsText-clause-fault : goal.returns-in-NfsText-clause-fault
 returns-in-NfsText-clause-fault c =
-    rw c.in-NfsText.is (texts_fault (nfs_any_rules c.in-NfsText.source) c.args.bytes.now c.read_text_part-in-NfsText.result
-    c.read_text_part-in-NfsText.ensures)
+    rw c.in-NfsText.is (texts_fault (nfs_any_rules c.in-NfsText.source) c.args.bytes.now
+    c.read_text_part-in-NfsText.result c.read_text_part-in-NfsText.ensures)
 
 pub returns-in-NfsText-clause-refused : goal.returns-in-NfsText-clause-refused
 returns-in-NfsText-clause-refused c =
-    rw c.in-NfsText.is (texts_refused (nfs_any_rules c.in-NfsText.source) c.args.bytes.now c.read_text_part-in-NfsText.result
-    c.read_text_part-in-NfsText.ensures)
+    rw c.in-NfsText.is (texts_refused (nfs_any_rules c.in-NfsText.source) c.args.bytes.now
+    c.read_text_part-in-NfsText.result c.read_text_part-in-NfsText.ensures)
 
 pub returns-in-NfsText-clause-whole : goal.returns-in-NfsText-clause-whole
 returns-in-NfsText-clause-whole c = rw c.in-NfsText.is (λ set list h.
-    texts_only (nfs_any_rules c.in-NfsText.source) c.args.bytes.now c.read_text_part-in-NfsText.result c.read_text_part-in-NfsText.ensures
+    texts_only (nfs_any_rules c.in-NfsText.source) c.args.bytes.now c.read_text_part-in-NfsText.result
+    c.read_text_part-in-NfsText.ensures
     set list [] (text_whole (nfs_rules c.in-NfsText.source) (nfs_any_entry c.in-NfsText.source)
     (nfs_follow c.in-NfsText.source) set list c.args.bytes.now h))

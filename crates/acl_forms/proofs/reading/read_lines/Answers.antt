@@ -34,8 +34,8 @@ loop-rest-preserved g c =
     let fits = subst RestFits c.in-Some.is c.loop-rest.invariant.fits in record {
       reads =
           let reads = c.loop-rest.invariant.reads in
-          goes_on rules _ _ [] _ (line_items rules (span_of r.0)) (flat_map (line_items rules) (lines_left r.1)) _ reads left
-          (c.in_ok-read_line.ensures reads.now reads.held);
+          goes_on rules _ _ [] _ (line_items rules (span_of r.0)) (flat_map (line_items rules) (lines_left r.1))
+          _ reads left (c.in_ok-read_line.ensures reads.now reads.held);
       fits = (line_fits c.in-Some.left r fits c.cut.ensures.parts).1;
     }
 

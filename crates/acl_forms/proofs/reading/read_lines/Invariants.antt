@@ -8,7 +8,8 @@ use Rattle.acl_forms.proofs.reading.read_lines.Given as goal
 -- what is left gives what the whole text gives
 abbrev pub invariant-loop-rest : goal.invariant-loop-rest
 invariant-loop-rest g l = record {
-  reads : ReadsTo (g.F.TextForm.rules l.form) (g.F.TextForm.Holds l.list) [] (items_in (g.F.TextForm.rules l.form) l.text)
+  reads : ReadsTo (g.F.TextForm.rules l.form)
+      (g.F.TextForm.Holds l.list) [] (items_in (g.F.TextForm.rules l.form) l.text)
       (flat_map (line_items (g.F.TextForm.rules l.form)) (lines_left l.rest));
   fits : RestFits l.rest;
 }

@@ -28,8 +28,8 @@ loop-rest-preserved g c =
     let fits = subst RestFits c.in-Some.is c.loop-rest.invariant.fits in record {
       reads = λ all held.
           let reads = c.loop-rest.invariant.reads all held in
-          goes_on rules _ _ all _ (part_items rules (span_of r.0)) (items_in_parts rules (parts_left rules r.1)) _ reads left
-          (c.in_ok-add_part.ensures reads.now reads.held);
+          goes_on rules _ _ all _ (part_items rules (span_of r.0)) (items_in_parts rules (parts_left rules r.1))
+          _ reads left (c.in_ok-add_part.ensures reads.now reads.held);
       fits = (part_fits rules c.in-Some.left r fits c.cut_entry.ensures.parts).1;
     }
 
@@ -40,7 +40,8 @@ returns g c all held =
     (no_parts (g.F.TextForm.rules c.args.form) c.loop-rest.rest c.in_default.not-Some))
 
 pub loop-rest-init : goal.loop-rest-init
-loop-rest-init g c = record { reads = λ all held. record { now = all; held = held; same = refl }; fits = c.requires.fits }
+loop-rest-init g c =
+    record { reads = λ all held. record { now = all; held = held; same = refl }; fits = c.requires.fits }
 
 pub add_part-requires-clause-held : goal.add_part-requires-clause-held
 add_part-requires-clause-held g c =

@@ -43,7 +43,8 @@ loop-ace-preserved g c =
       tt,
       tt,
       out_more 0 c.loop-ace.done _ _ _ _ _ _ _ _ out
-          (next ∙ ap (λ (b : List ℕ). c.deref.result.now ++ entries_left c.args.form b c.next.new.self) (sym before)) count put,
+          (next ∙ ap (λ (b : List ℕ). c.deref.result.now ++ entries_left c.args.form b c.next.new.self) (sym before))
+          count put,
       c.in_ok-done.ensures.none_failed ∙ none_failed,
       omega (
         arith,

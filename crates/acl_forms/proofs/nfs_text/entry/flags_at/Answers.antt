@@ -5,4 +5,5 @@ use Rattle.acl_forms.proofs.nfs_text.entry.flags_at.Goals as goal
 
 pub returns-clause-small : goal.returns-clause-small
 returns-clause-small c =
-    nfs_flags_small Directory Flag c.args.field.column c.args.field.bytes.now c.read_letters.result c.read_letters.ensures
+    nfs_flags_small Directory Flag c.args.field.column c.args.field.bytes.now c.read_letters.result
+    c.read_letters.ensures

@@ -14,15 +14,16 @@ overflow_mul-value c = omega (
 
 pub overflow_sub-digit : goal.overflow_sub-digit
 overflow_sub-digit c =
-    (digit_range _ (digit_at c.args.digits.now c.loop-digit.digit-index (omega (arith, c.loop-digit-test.true)) c.requires)).0
+    (digit_range _ (digit_at c.args.digits.now c.loop-digit.digit-index (omega (arith, c.loop-digit-test.true))
+    c.requires)).0
 
 pub loop-digit-preserved : goal.loop-digit-preserved
 loop-digit-preserved c =
     let i = c.loop-digit.digit-index in
     let inside : i < length c.args.digits.now = omega (arith, c.loop-digit-test.true) in
     c.min-value.ensures ∙ ap (λ (k : ℕ). min (c.loop-digit.value * 10 + k) 4294967295) c.from.ensures
-    ∙ capped_next c.args.digits.now i 4294967295 c.loop-digit.value inside (digit_at c.args.digits.now i inside c.requires)
-    c.loop-digit.invariant
+    ∙ capped_next c.args.digits.now i 4294967295 c.loop-digit.value inside
+    (digit_at c.args.digits.now i inside c.requires) c.loop-digit.invariant
 
 pub returns : goal.returns
 returns c = capped_all c.args.digits.now c.loop-digit.digit-index 4294967295 c.loop-digit.value

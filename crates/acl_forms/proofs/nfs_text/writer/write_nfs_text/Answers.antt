@@ -7,12 +7,14 @@ use Rattle.acl_forms.proofs.nfs_text.writer.write_nfs_text.Goals as goal
 
 pub returns-in-Some : goal.returns-in-Some
 returns-in-Some g c = record {
-  written = refused_written g.S.Sink.contents g.S.Sink.failure_count c.args.sink.now _ _ c.in-Some.fault c.in-Some.ensures;
+  written =
+      refused_written g.S.Sink.contents g.S.Sink.failure_count c.args.sink.now _ _ c.in-Some.fault c.in-Some.ensures;
 }
 
 pub returns-in_err-put_entries : goal.returns-in_err-put_entries
 returns-in_err-put_entries g c =
-    let text = ap (entries_left (Nfs c.args.style) []) c.aces.ensures.same ∙ nfs_entries c.args.style.separator c.args.style.letters c.args.list.now in
+    let text = ap (entries_left (Nfs c.args.style) []) c.aces.ensures.same
+    ∙ nfs_entries c.args.style.separator c.args.style.letters c.args.list.now in
     rw (exit_is c.from_residual.result c.from_residual.ensures.1) (record {
       written = part_written g.S.Sink.contents g.S.Sink.failure_count c.args.sink.now c.put_entries.new.sink _ _ _
           c.in_err-put_entries.field-0.0 c.in_default.ensures text c.in_err-put_entries.ensures.written
@@ -21,7 +23,8 @@ returns-in_err-put_entries g c =
 
 pub returns : goal.returns
 returns g c =
-    let text = ap (entries_left (Nfs c.args.style) []) c.aces.ensures.same ∙ nfs_entries c.args.style.separator c.args.style.letters c.args.list.now in
+    let text = ap (entries_left (Nfs c.args.style) []) c.aces.ensures.same
+    ∙ nfs_entries c.args.style.separator c.args.style.letters c.args.list.now in
     record {
       written = done_written g.S.Sink.contents g.S.Sink.failure_count c.args.sink.now c.put_entries.new.sink _ _ _
           _ c.in_default.ensures text c.in_ok-put_entries.ensures.written

@@ -26,7 +26,8 @@ returns-in_err-ace c =
 pub loop-place-preserved : goal.loop-place-preserved
 loop-place-preserved c =
     let lt : c.loop-place.place < c.args.count = (let h = c.loop-place-test.true in omega arith) in
-    let more = sofar_more (reader_of c.args.layout) c.args.count c.loop-place.place c.loop-place.weight c.loop-place.list
+    let more =
+    sofar_more (reader_of c.args.layout) c.args.count c.loop-place.place c.loop-place.weight c.loop-place.list
     c.loop-place.left_out.items (cursor_place c.args.cursor.now) (cursor_place c.loop-place.cursor)
     (any_ace_of c.in_ok-ace.ace, cursor_place c.next_ace.new.cursor) c.loop-place.invariant.sofar lt
     c.in_ok-ace.ensures.exact in

@@ -12,7 +12,8 @@ fill-requires g c =
 
 pub returns-in_err-done-clause-written : goal.returns-in_err-done-clause-written
 returns-in_err-done-clause-written g c =
-    let next = piece_next c.args.names.now c.args.style (chosen c.args.pass) c.args.entries.now _ _ c.loop-entry-test.true
+    let next =
+    piece_next c.args.names.now c.args.style (chosen c.args.pass) c.args.entries.now _ _ c.loop-entry-test.true
     c.entry-item.is c.fill.ensures.text c.deref.ensures.0 in
     let (low, high, put) = c.in_err-done.ensures.written in
     rw (exit_is c.from_residual.result c.from_residual.ensures.1)
@@ -20,7 +21,8 @@ returns-in_err-done-clause-written g c =
 
 pub loop-entry-preserved : goal.loop-entry-preserved
 loop-entry-preserved g c =
-    let next = piece_next c.args.names.now c.args.style (chosen c.args.pass) c.args.entries.now _ _ c.loop-entry-test.true
+    let next =
+    piece_next c.args.names.now c.args.style (chosen c.args.pass) c.args.entries.now _ _ c.loop-entry-test.true
     c.entry-item.is c.fill.ensures.text c.deref.ensures.0 in
     let (count, put) = c.in_ok-done.ensures.written in
     let size = ap length c.deref.ensures.0 in

@@ -24,5 +24,6 @@ returns-clause-text c =
       c.bits.ensures,
       c.bits-2.ensures.value,
     )
-    (joined c.args.line.now.items (kind_letter item.kind) (letters_of flag_letters (with_group_flag item.who.now item.flags.bits)) item.who.now
+    (joined c.args.line.now.items (kind_letter item.kind)
+    (letters_of flag_letters (with_group_flag item.who.now item.flags.bits)) item.who.now
     (letters_of (single_letters []) item.mask.bits))))

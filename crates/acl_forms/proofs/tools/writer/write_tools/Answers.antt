@@ -7,7 +7,8 @@ use Rattle.acl_forms.proofs.tools.writer.write_tools.Goals as goal
 
 pub returns-in-Some : goal.returns-in-Some
 returns-in-Some g c = record {
-  written = refused_written g.S.Sink.contents g.S.Sink.failure_count c.args.sink.now _ _ c.in-Some.fault c.in-Some.ensures;
+  written =
+      refused_written g.S.Sink.contents g.S.Sink.failure_count c.args.sink.now _ _ c.in-Some.fault c.in-Some.ensures;
 }
 
 pub returns-in_err-put_entries : goal.returns-in_err-put_entries
