@@ -1,31 +1,23 @@
 -- Each ACE of the list of a POSIX ACL may be in a list, so only the limits can refuse that list.
-use Rattle.std.proofs.Common.{◌∙◌, ◌≡◌, ℕ, zero, suc, ◌-◌, ◌<◌, ◌≤◌, Bool, true, false, cond, eqb, ltb, leb, List, [], ◌∷◌, ◌++◌, length, get_or, refl, ap, arith}
-use Rattle.std.specs.Prelude.{count_ones, ◌&&◌, ◌||◌, not, slice_index}
-use Rattle.std.specs.List.{AllByRecursion, filter, flat_map, list_all}
-use Rattle.std.specs.Fmt.{decimal}
+use Rattle.std.proofs.Common.{◌∙◌, ◌≡◌, ℕ, ◌-◌, ◌<◌, ◌≤◌, Bool, true, false, cond, eqb, List, [], ◌∷◌, ◌++◌, length, refl, ap, arith}
+use Rattle.std.specs.Prelude.{count_ones, ◌||◌}
+use Rattle.std.specs.List.{AllByRecursion, filter, flat_map}
 use Rattle.std.specs.FinMap as fin
-use Rattle.std.specs.Str.{is_utf8, IsAscii}
-use Rattle.std.specs.Str.Parse.{AllDigits}
 use Rattle.std.proofs.lemmas.List.Elements.{recursion_from_All}
-use Rattle.std.proofs.lemmas.Fmt.{decimal_is_IsNumeral, decimal_injective, decimal_nonempty, length-decimal-le, IsAscii-decimal}
-use Rattle.std.proofs.lemmas.Str.{is_utf8-from_IsUtf8, IsUtf8-from_ascii}
-use Rattle.std.proofs.lemmas.Str.Parse.{digit_from_value}
-use Rattle.std.proofs.lemmas.Bool.{ltb-true}
+use Rattle.std.proofs.lemmas.Fmt.{decimal_injective}
 use Rattle.acl_perm.specs.Bits.{all_flags}
 use Rattle.acl_perm.specs.Profile.{full}
 use Rattle.acl_nfs4.specs.Within.{IsWithin}
-use Rattle.acl_perm.proofs.Bools.{and_true, or_true_right}
+use Rattle.acl_perm.proofs.Bools.{or_true_right}
 use Rattle.acl_perm.specs.declared.kind.Kind.{Kind}
 use Rattle.acl_perm.specs.declared.kind.Kind.TheVariants.{Allow, Deny}
-use Rattle.acl_posix.specs.Id.{IsId}
 use Rattle.acl_posix.specs.Tag.{Tag, IsTag, user_obj, user, group_obj, group, mask, other}
 use Rattle.acl_posix.specs.Entries.{Entries, IsEntry}
 use Rattle.acl_posix.specs.Mask.{effective_of}
 use Rattle.acl_nfs4.specs.Ace.{Ace}
-use Rattle.acl_nfs4.specs.Limits.{longest_who}
-use Rattle.acl_nfs4.specs.Who.{IsWho, is_no_who_len, is_plain, is_special, is_unknown_special, ends_in_at, owner_name, group_name, everyone_name}
+use Rattle.acl_nfs4.specs.Who.{IsWho}
 use Rattle.acl_nfs4.specs.Spelling.{IsAce, weight}
-use Rattle.acl_nfs4.proofs.Exports.{weight-cons}
+use Rattle.acl_nfs4.proofs.Exports.{is_who-decimal, is_who-everyone, is_who-group, is_who-owner, weight-cons}
 use Rattle.acl_eval.specs.Bridge.{image, bridged_who, bridged_flags, ace_of, each, is_user_tag, is_group_tag, is_other_tag, allow_of, deny_of, decide_of, bridge_list}
 use Rattle.acl_eval.specs.BridgeNames.{NamesDiffer, NamesAreValid, OnlyLimitsRefuse}
 use Rattle.acl_eval.proofs.Images.{image_mask, image_some}
@@ -38,73 +30,9 @@ use Rattle.acl_eval.proofs.BridgeNames.{not_owner, not_group, not_everyone}
 pub names_differ : NamesDiffer
 names_differ m n p q e = decimal_injective m n (omega arith) (omega arith) e
 
--- decimal digits are plain bytes
-digits_plain : (ds : List ℕ) → AllDigits 10 ds → list_all is_plain ds ≡ true
-digits_plain [] d = refl
-digits_plain (c ∷ cs) d = let r = digit_from_value c d.0 in plain c (omega (arith, r)) (omega (arith, r))
-    (digits_plain cs d.1)
-  where
-    plain : (c : ℕ) → 48 ≤ c → c ≤ 57 → list_all is_plain cs ≡ true → (is_plain c && list_all is_plain cs) ≡ true
-    plain c low high rest = let a : leb 32 c ≡ true = grind arith in let b : eqb c 127 ≡ false = grind arith in
-        rw (a, b) rest
-
--- each byte of decimal digits is below 58
-digits_below : (ds : List ℕ) (i : ℕ) → AllDigits 10 ds → get_or ds i 0 < 58
-digits_below [] i d = omega arith
-digits_below (c ∷ cs) zero d = omega (arith, digit_from_value c d.0)
-digits_below (c ∷ cs) (suc i) d = digits_below cs i d.1
-
--- a byte below 58 is not `@`
-no_at : (b : ℕ) → b < 58 → eqb b 64 ≡ false
-no_at b lt = grind arith
-
--- a name in which each of the four checks of a who finds nothing is valid as a who
-no_fault : (who : List ℕ) → is_no_who_len (length who) ≡ false → is_utf8 who ≡ true → list_all is_plain who ≡ true
-    → is_unknown_special who ≡ false → IsWho who
-no_fault who some utf8 plain known = rw (some, utf8, plain, known) refl
-
--- a length from 1 to that of the longest who is the length of a who
-some_len : (n : ℕ) → 0 < n → n ≤ longest_who → is_no_who_len n ≡ false
-some_len n some short = grind arith
-
--- the decimal digits of an id are valid as a who
-is_who-decimal : (n : ℕ) → IsId n → IsWho (decimal n)
-is_who-decimal n lt =
-    let digits : AllDigits 10 (decimal n) = (decimal_is_IsNumeral n (omega arith)).0.1 in
-    let at : ends_in_at (decimal n) ≡ false =
-    no_at (slice_index (decimal n) (length (decimal n) - 1)) (digits_below (decimal n) (length (decimal n) - 1) digits)
-    in
-    let len : length (decimal n) ≤ 10 = length-decimal-le 10 n (omega arith) (omega arith) (omega arith) in
-    no_fault (decimal n) (some_len (length (decimal n)) (decimal_nonempty n (omega arith)) (omega (arith, len)))
-    (is_utf8-from_IsUtf8 (decimal n) (IsUtf8-from_ascii (decimal n) (IsAscii-decimal n (omega arith))))
-    (digits_plain (decimal n) digits)
-    (ap (λ (b : Bool). b && not (is_special (decimal n))) at)
-
 -- each name is a valid who, and none is a special identifier
 pub names_valid : NamesAreValid
-names_valid n lt = (is_who-decimal n lt, rw (not_owner n lt, not_group n lt, not_everyone n lt) refl)
-
--- bytes that are all below 128 are ASCII
-IsAscii-below_128 : (bs : List ℕ) → list_all (λ b. ltb b 128) bs ≡ true → IsAscii bs
-IsAscii-below_128 [] h i = omega arith
-IsAscii-below_128 (b ∷ bs) h zero = ltb-true b 128 (and_true (ltb b 128) (list_all (λ c. ltb c 128) bs) h).0
-IsAscii-below_128 (b ∷ bs) h (suc i) = IsAscii-below_128 bs (and_true (ltb b 128) (list_all (λ c. ltb c 128) bs) h).1 i
-
--- bytes that are all below 128 are UTF-8
-is_utf8-below_128 : (bs : List ℕ) → list_all (λ b. ltb b 128) bs ≡ true → is_utf8 bs ≡ true
-is_utf8-below_128 bs h = is_utf8-from_IsUtf8 bs (IsUtf8-from_ascii bs (IsAscii-below_128 bs h))
-
--- `OWNER@` is valid as a who
-is_who-owner : IsWho owner_name
-is_who-owner = no_fault owner_name refl (is_utf8-below_128 owner_name refl) refl refl
-
--- `GROUP@` is valid as a who
-is_who-group : IsWho group_name
-is_who-group = no_fault group_name refl (is_utf8-below_128 group_name refl) refl refl
-
--- `EVERYONE@` is valid as a who
-is_who-everyone : IsWho everyone_name
-is_who-everyone = no_fault everyone_name refl (is_utf8-below_128 everyone_name refl) refl refl
+names_valid n lt = (is_who-decimal n (omega (arith, lt)), rw (not_owner n lt, not_group n lt, not_everyone n lt) refl)
 
 -- ---- ACEs
 
@@ -131,9 +59,9 @@ has_aces l = is_user_tag l || is_group_tag l || is_other_tag l
 -- an ACE of a tag that has ACEs may be in a list
 each_ace : (k : Kind) (l : Tag) (p : ℕ) → p < 8 → IsTag l → has_aces l ≡ true → AllByRecursion Good (ace_of k l p)
 each_ace k user_obj p lt is h = with_who k user_obj p lt refl is_who-owner
-each_ace k (user id) p lt is h = with_who k (user id) p lt refl (is_who-decimal id is)
+each_ace k (user id) p lt is h = with_who k (user id) p lt refl (is_who-decimal id (omega (arith, is)))
 each_ace k group_obj p lt is h = with_who k group_obj p lt refl is_who-group
-each_ace k (group id) p lt is h = with_who k (group id) p lt refl (is_who-decimal id is)
+each_ace k (group id) p lt is h = with_who k (group id) p lt refl (is_who-decimal id (omega (arith, is)))
 each_ace k mask p lt is h = absurd cc
 each_ace k other p lt is h = with_who k other p lt refl is_who-everyone
 

@@ -1,4 +1,4 @@
--- Whether a right is granted in every situation in which the check looks at an entry: one pass over its keys decides it.
+-- Whether a right is granted in every situation in which the check looks at an entry: one pass over its keys says so.
 use Rattle.std.proofs.Common.{◌≡◌, ◌≤◌, ◌<◌, ◌+◌, ℕ, zero, suc, Bool, true, false, List, [], ◌∷◌, ◌++◌, Option, None, Some, refl, sym, ap, subst, ◌∙◌, arith, inl, inr, length}
 use Rattle.std.proofs.lemmas.Bool.{eq-eqb, eqb-true, false≢true, not-true, or_cases, true≢false}
 use Rattle.std.proofs.lemmas.Bool.Decides.{nat_tests}
@@ -41,7 +41,8 @@ pub always_sound : (certain possible test : Tag → Bool) (keys : TagColumn)
     → always certain possible keys ≡ true → column_decided_by test keys false ≡ true
 always_sound certain possible test [] sure may h = absurd cc
 always_sound certain possible test ((t, k) ∷ keys) sure may h =
-    by (always_sound certain possible test keys sure may) (certain t) (test t) (possible t) (is_allow k) (sure t) (may t) h
+    by (always_sound certain possible test keys sure may) (certain t) (test t) (possible t) (is_allow k)
+    (sure t) (may t) h
   where
     by : (always certain possible keys ≡ true → column_decided_by test keys false ≡ true) → (c m p a : Bool)
         → (c ≡ true → m ≡ true) → (m ≡ true → c ≡ false → p ≡ true)
@@ -121,7 +122,8 @@ always_complete certain possible ((t, k) ∷ keys) first h =
 
 -- two tests that agree on the tags of the keys decide alike
 pub decided_same : (test one : Tag → Bool) (keys : TagColumn) (rest : Bool)
-    → ((t : Tag) → has_tag t keys ≡ true → test t ≡ one t) → column_decided_by test keys rest ≡ column_decided_by one keys rest
+    → ((t : Tag) → has_tag t keys ≡ true → test t ≡ one t)
+    → column_decided_by test keys rest ≡ column_decided_by one keys rest
 decided_same test one [] rest same = refl
 decided_same test one ((t, k) ∷ keys) rest same =
     ap (λ (b : Bool). if b then is_allow k else column_decided_by test keys rest)
@@ -284,7 +286,7 @@ abbrev extra_user : Option Tag → Option ℕ
 extra_user None = None
 extra_user (Some x) = user_in x
 
--- the group of a tag, and that of a tag that may be absent
+-- the group of a tag
 abbrev pub groups_in : ℕ → Tag → List ℕ
 groups_in own user_obj = []
 groups_in own (user id) = []
@@ -293,6 +295,7 @@ groups_in own (group id) = id ∷ []
 groups_in own mask = []
 groups_in own other = []
 
+-- the group of a tag that may be absent
 abbrev pub extra_groups : ℕ → Option Tag → List ℕ
 extra_groups own None = []
 extra_groups own (Some x) = groups_in own x
@@ -310,10 +313,12 @@ is_owned other = false
 abbrev pub asker : Tag → Option Tag → ℕ → ℕ
 asker entry extra free = unwrap_or (option_or (extra_user extra) (user_in entry)) free
 
+-- the object of the situation that is made for an entry and one more tag
 abbrev pub object_at : Tag → Option Tag → ℕ → ℕ → ℕ → Object
 object_at entry extra free next own =
     record { user = if is_owned entry then asker entry extra free else next; group = own }
 
+-- the requester of that situation
 abbrev pub requester_at : Tag → Option Tag → ℕ → ℕ → Requester
 requester_at entry extra free own =
     record { user = asker entry extra free; groups = groups_in own entry ++ extra_groups own extra }
@@ -359,6 +364,7 @@ owning_in own (group id) h = ap (λ (b : Bool). b || false) (turned id own ∙ h
 owning_in own mask h = refl
 owning_in own other h = refl
 
+-- a group other than the owning group is among the groups of a tag if and only if the tag is that of the group
 pub group_in : (own w : ℕ) (t : Tag) → (own == w) ≡ false
     → is_member w (groups_in own t) ≡ eq_by_cmp tag_cmp (group w) t
 group_in own w user_obj h = refl
@@ -374,6 +380,7 @@ pub owning_besides : (own : ℕ) (extra : Option Tag) → ((id : ℕ) → extra 
 owning_besides own None h = refl
 owning_besides own (Some x) h = owning_in own x (λ id e. h id (ap (λ (t : Tag). Some t) e))
 
+-- the same for the tag that may be absent
 pub group_besides : (own w : ℕ) (extra : Option Tag) → (own == w) ≡ false
     → is_member w (extra_groups own extra) ≡ is_extra extra (group w)
 group_besides own w None h = refl
@@ -405,7 +412,8 @@ record IsOutside (shape : EntryShape) (next n : ℕ) : Type 0 where
   apart : (n == next) ≡ false
   unnamed : is_member n shape.users ≡ false
 
-outside : (shape : EntryShape) (keys : TagColumn) (extra : Option Tag) (free next own : ℕ) → AreFree shape keys free next own
+outside : (shape : EntryShape) (keys : TagColumn) (extra : Option Tag) (free next own : ℕ)
+    → AreFree shape keys free next own
     → ((id : ℕ) → extra ≡ Some (user id) → (not (is_member id shape.users) ≡ true) × (has_tag (user id) keys ≡ true))
     → IsOutside shape next (unwrap_or (option_or (extra_user extra) None) free)
 outside shape keys None free next own f h = record { apart = f.differ; unnamed = f.free_user }
@@ -443,6 +451,7 @@ none_for_other shape keys own (Some (group id)) f is = rw (turned id own ∙ f i
 none_for_other shape keys own (Some mask) f is = refl
 none_for_other shape keys own (Some other) f is = refl
 
+-- in the situation that is made for an entry of the shape, the check looks at this entry
 pub looks : (shape : EntryShape) (keys : TagColumn) (entry : Tag) (extra : Option Tag) (free next own : ℕ)
     → AreFree shape keys free next own → is_in_shape shape entry ≡ true → IsExtra (may_match shape entry) keys extra
     → looks_at shape (object_at entry extra free next own) (requester_at entry extra free own) entry ≡ true
@@ -494,7 +503,8 @@ one_user shape keys mask extra is m n e i = absurd cc
 one_user shape keys other extra is m n e i = absurd cc
 
 -- the group of an entry is not the owning group
-own_of_entry : (shape : EntryShape) (keys : TagColumn) (entry : Tag) (free next own : ℕ) → AreFree shape keys free next own
+own_of_entry : (shape : EntryShape) (keys : TagColumn) (entry : Tag) (free next own : ℕ)
+    → AreFree shape keys free next own
     → is_in_shape shape entry ≡ true → (id : ℕ) → entry ≡ group id → (own == id) ≡ false
 own_of_entry shape keys entry free next own f there id e = f.own_group id (sym (ap (is_in_shape shape) e) ∙ there)
 
@@ -644,8 +654,8 @@ asked_by_tags entry extra free next own e x f n o =
       groups = All-from_recursion IsId _ (group_ids own entry (extra_groups own extra) e o (besides_ids own extra x o));
     }
 
-asked_at : (shape : EntryShape) (keys : List TagKey) (entry : Tag) (extra : Option Tag) (free next own : ℕ) → HasIds shape
-    → AreFree shape (keys_of keys) free next own → is_in_shape shape entry ≡ true
+asked_at : (shape : EntryShape) (keys : List TagKey) (entry : Tag) (extra : Option Tag) (free next own : ℕ)
+    → HasIds shape → AreFree shape (keys_of keys) free next own → is_in_shape shape entry ≡ true
     → IsExtra (may_match shape entry) (keys_of keys) extra
     → IsAsked (object_at entry extra free next own) (requester_at entry extra free own)
 asked_at shape keys entry extra free next own ids f there is = asked_by_tags entry extra free next own
@@ -727,7 +737,8 @@ may_user shape object requester user_obj id h m c = refl
 may_user shape object requester (user u) id h m c =
     let own : (requester.user == u) ≡ true = own_meets shape object requester (user u) h in
     let same : id ≡ u = sym (eqb-true requester.user id m) ∙ eqb-true requester.user u own in
-    absurd (true≢false (sym (same_itself (user u)) ∙ (ap (λ (n : ℕ). eq_by_cmp tag_cmp (user n) (user u)) (sym same) ∙ c)))
+    absurd (true≢false (sym (same_itself (user u))
+    ∙ (ap (λ (n : ℕ). eq_by_cmp tag_cmp (user n) (user u)) (sym same) ∙ c)))
 may_user shape object requester group_obj id h m c =
     class_user shape object requester id (and_true (is_in_class shape object requester) _ h).0 m
 may_user shape object requester (group g) id h m c =
@@ -736,6 +747,7 @@ may_user shape object requester mask id h m c = absurd (false≢true h)
 may_user shape object requester other id h m c =
     class_user shape object requester id (and_true (is_in_class shape object requester) _ h).0 m
 
+-- if the check looks at an entry, a principal that matches and is not certain is a possible one
 pub may : (shape : EntryShape) (object : Object) (requester : Requester) (entry : Tag)
     → looks_at shape object requester entry ≡ true → (t : Tag) → tag_meets object requester t ≡ true
     → is_certain entry t ≡ false → may_match shape entry t ≡ true
@@ -788,7 +800,8 @@ decides_right list bit keys shape entry column ids small there = (
         let object = object_at entry d.extra free next own in
         let requester = requester_at entry d.extra free own in
         let asked = asked_at shape keys entry d.extra free next own ids f there d.is in
-        let granted = all object requester asked (looks shape (keys_of keys) entry d.extra free next own f there d.is) in
+        let granted =
+        all object requester asked (looks shape (keys_of keys) entry d.extra free next own f there d.is) in
         absurd (true≢false (sym granted ∙ (column.decides object requester asked
-        ∙ (decided_same (tag_meets object requester) (λ t. is_certain entry t || is_extra d.extra t) (keys_of keys) false
-        (meets_at shape (keys_of keys) entry d.extra free next own f there d.is) ∙ d.denied))))
+        ∙ (decided_same (tag_meets object requester) (λ t. is_certain entry t || is_extra d.extra t)
+        (keys_of keys) false (meets_at shape (keys_of keys) entry d.extra free next own f there d.is) ∙ d.denied))))

@@ -89,8 +89,8 @@ bit_granted E object requester want j b access a right =
     sym (run_grants (bridge_list E) (by_name object requester) b) ∙ agrees E object requester want j b access a right
 
 -- the list grants the rights of one permission if and only if the check grants the permission
-image_granted : (E : Entries) (object : Object) (requester : Requester) (want j b : ℕ) → IsAcl E → IsAsked object requester
-    → IsRight want j b → want < 8 → has_bit (image want) b ≡ true
+image_granted : (E : Entries) (object : Object) (requester : Requester) (want j b : ℕ) → IsAcl E
+    → IsAsked object requester → IsRight want j b → want < 8 → has_bit (image want) b ≡ true
     → Grant (bridge_list E) (by_name object requester) (image want) ↔ (grants E object requester want ≡ true)
 image_granted E object requester want j b access a right lt has = (
   λ g. sym (bit_granted E object requester want j b access a right) ∙ g b has,
@@ -111,11 +111,14 @@ image_granted E object requester want j b access a right lt has = (
 pub grants_singles : GrantsSingles
 unfolding image
 grants_singles entries object requester want access a (inl r) = rw r
-    (image_granted entries object requester 4 2 0 access a (right_at 2 0 (omega arith) rights.read_data) (omega arith) refl)
+    (image_granted entries object requester 4 2 0 access a (right_at 2 0 (omega arith) rights.read_data)
+    (omega arith) refl)
 grants_singles entries object requester want access a (inr (inl w)) = rw w
-    (image_granted entries object requester 2 1 1 access a (right_at 1 1 (omega arith) rights.write_data) (omega arith) refl)
+    (image_granted entries object requester 2 1 1 access a (right_at 1 1 (omega arith) rights.write_data)
+    (omega arith) refl)
 grants_singles entries object requester want access a (inr (inr x)) = rw x
-    (image_granted entries object requester 1 0 5 access a (right_at 0 5 (omega arith) rights.execute) (omega arith) refl)
+    (image_granted entries object requester 1 0 5 access a (right_at 0 5 (omega arith) rights.execute)
+    (omega arith) refl)
 
 -- a set that has one of the bits of permissions contains the permission of that bit
 contains_bit : (want j : ℕ) → j < 3 → has_bit want j ≡ true → contains want (2 ^ j) ≡ true

@@ -25,7 +25,8 @@ use Rattle.std.specs.Prelude.{◌-◌}
 -- ---- one list after the other
 
 -- the child of two lists has what it has from the first and then from the second
-children-append : (kind : ChildKind) (xs ys : List Ace) → children kind (xs ++ ys) ≡ children kind xs ++ children kind ys
+children-append : (kind : ChildKind) (xs ys : List Ace)
+    → children kind (xs ++ ys) ≡ children kind xs ++ children kind ys
 children-append kind [] ys = refl
 children-append kind (a ∷ xs) ys = by (children-append kind xs ys) (child_flags kind a.flags) refl
   where
@@ -85,7 +86,8 @@ waits_alike kind flags =
     let g : goes_on (bit_or flags 8) ≡ goes_on flags = outside flags 8 0x77 refl in
     by kind f d n e g
   where
-    by : (kind : ChildKind) → has_bit (bit_or flags 8) 0 ≡ has_bit flags 0 → has_bit (bit_or flags 8) 1 ≡ has_bit flags 1
+    by : (kind : ChildKind) → has_bit (bit_or flags 8) 0 ≡ has_bit flags 0
+        → has_bit (bit_or flags 8) 1 ≡ has_bit flags 1
         → has_bit (bit_or flags 8) 2 ≡ has_bit flags 2 → ends (bit_or flags 8) ≡ ends flags
         → goes_on (bit_or flags 8) ≡ goes_on flags → child_flags kind (bit_or flags 8) ≡ child_flags kind flags
     by File f d n e g = rw (f, e) refl
@@ -168,7 +170,8 @@ inherited_as_before kind mode list =
     let g : ℕ = group_part mode in
     let first : children kind (owner_aces mode) ≡ [] =
     children-append kind (class_ace Allow owner_name u) (class_ace Deny owner_name (7 - u))
-    ∙ ap (λ (l : List Ace). l ++ children kind (class_ace Deny owner_name (7 - u))) (class_nothing kind Allow owner_name u)
+    ∙ ap (λ (l : List Ace). l ++ children kind (class_ace Deny owner_name (7 - u)))
+    (class_nothing kind Allow owner_name u)
     ∙ class_nothing kind Deny owner_name (7 - u) in
     let others : List Ace = class_ace Allow everyone_name (others_part mode) in
     let last : children kind (other_aces mode) ≡ [] =

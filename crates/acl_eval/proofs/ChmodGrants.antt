@@ -39,10 +39,12 @@ run_by-append : (test : Principal → Bool) (xs ys : List Ace) (b : ℕ) (r : Bo
     → run_by test (xs ++ ys) b r ≡ run_by test xs b (run_by test ys b r)
 run_by-append test [] ys b r = refl
 run_by-append test (a ∷ xs) ys b r = ap (λ (z : Bool).
-    cond (has_bit a.mask b && (takes_part a && test (principal_of a))) (is_allow a.kind) z) (run_by-append test xs ys b r)
+    cond (has_bit a.mask b && (takes_part a && test (principal_of a))) (is_allow a.kind) z)
+    (run_by-append test xs ys b r)
 
 -- if no ACE answers, the bit is denied
-run_by_granted : (test : Principal → Bool) (list : List Ace) (b : ℕ) → run_by test list b false ≡ is_granted_by test list b
+run_by_granted : (test : Principal → Bool) (list : List Ace) (b : ℕ)
+    → run_by test list b false ≡ is_granted_by test list b
 run_by_granted test [] b = refl
 run_by_granted test (a ∷ list) b =
     by (run_by_granted test list b) (has_bit a.mask b) (takes_part a) (test (principal_of a)) refl refl refl
@@ -82,7 +84,8 @@ not_in_image b p lt e = by (has_bit (image p) b) refl
     by false h = h
     by true h =
         let permitted : Permits p b = image_bit p b lt h in
-        let has : has_bit 7 permitted.j ≡ true = same_below 3 (has_bit 7) (λ k. true) refl permitted.j permitted.small in
+        let has : has_bit 7 permitted.j ≡ true =
+        same_below 3 (has_bit 7) (λ k. true) refl permitted.j permitted.small in
         absurd (true≢false (sym has ∙ sym (permitted.belongs.same 7 (omega arith))
         ∙ ap (λ (n : ℕ). has_bit n b) all_rights_of_modes ∙ e))
 
@@ -135,8 +138,8 @@ here : (test : Principal → Bool) (a : Ace) (kind : Kind) (mask b : ℕ) (r : B
     → run_by test (unless_empty (for_this_object a kind mask)) b r
     ≡ cond (has_bit mask b && test (principal_of a)) (is_allow kind) r
 here test a kind mask b r = run_by-unless_empty test (for_this_object a kind mask) b r
-    ∙ ap (λ (t : Bool). cond (has_bit mask b && (t && test (principal_of (for_this_object a kind mask)))) (is_allow kind) r)
-    (takes_part_here a kind mask)
+    ∙ ap (λ (t : Bool). cond (has_bit mask b && (t && test (principal_of (for_this_object a kind mask))))
+    (is_allow kind) r) (takes_part_here a kind mask)
     ∙ ap (λ (p : Principal). cond (has_bit mask b && test p) (is_allow kind) r) (same_name a kind mask)
 
 -- an ACE for new objects alone does not answer
@@ -296,7 +299,8 @@ answer_of_mode test mode a b r e = by (takes_part a) (eqb (lost_rights mode a) 0
     by : (t z : Bool) → takes_part a ≡ t → eqb (lost_rights mode a) 0 ≡ z
         → run_by test (after_chmod mode a) b r ≡ of_mode u h (takes_part a && m) k g o r
     by false z p q =
-        ap (λ (l : List Ace). run_by test l b r) (stays mode a (ap (λ (t : Bool). not t || eqb (lost_rights mode a) 0) p))
+        ap (λ (l : List Ace). run_by test l b r)
+        (stays mode a (ap (λ (t : Bool). not t || eqb (lost_rights mode a) 0) p))
         ∙ ap (λ (t : Bool). cond (h && (t && m)) k r) p ∙ ap (λ (t : Bool). cond t k r) (and_false_right h)
         ∙ sym (ap (λ (t : Bool). of_mode u h (t && m) k g o r) p ∙ of_none u h k g o r)
     by true true p q =
@@ -415,8 +419,8 @@ others_answer test mode b all e =
     class_answer test Allow everyone_name (others_part mode) b false everyone refl
     ∙ one_way (has_bit (image (others_part mode)) b) (test everyone) all in
     run_by-append test (class_ace Allow group_name perm) (class_ace Deny group_name (7 - perm) ++ last) b false
-    ∙ class_answer test Allow group_name perm b (run_by test (class_ace Deny group_name (7 - perm) ++ last) b false) group
-    refl
+    ∙ class_answer test Allow group_name perm b
+    (run_by test (class_ace Deny group_name (7 - perm) ++ last) b false) group refl
     ∙ ap (cond (has_bit (image perm) b && test group) true)
     (run_by-append test (class_ace Deny group_name (7 - perm)) last b false
     ∙ class_answer test Deny group_name (7 - perm) b (run_by test last b false) group refl
@@ -482,7 +486,8 @@ answer_as_before test mode a b r e = by (takes_part a) (eqb (lost_rights mode a)
     by : (t z : Bool) → takes_part a ≡ t → eqb (lost_rights mode a) 0 ≡ z
         → run_by test (after_chmod mode a) b r ≡ run_by test (a ∷ []) b r
     by false z p q =
-        ap (λ (l : List Ace). run_by test l b r) (stays mode a (ap (λ (t : Bool). not t || eqb (lost_rights mode a) 0) p))
+        ap (λ (l : List Ace). run_by test l b r)
+        (stays mode a (ap (λ (t : Bool). not t || eqb (lost_rights mode a) 0) p))
     by true true p q = ap (λ (l : List Ace). run_by test l b r)
         (stays mode a (ap (λ (t : Bool). not t || eqb (lost_rights mode a) 0) p ∙ q))
     by true false p q =
@@ -512,7 +517,8 @@ class_silent : (test : Principal → Bool) (kind : Kind) (who : List ℕ) (perm 
 class_silent test kind who perm b r lt e =
     let a : Ace = record { kind = kind; flags = 0; mask = image perm; who = who } in
     run_by-unless_empty test a b r
-    ∙ ap (λ (t : Bool). cond (t && (takes_part a && test (principal_of a))) (is_allow kind) r) (not_in_image b perm lt e)
+    ∙ ap (λ (t : Bool). cond (t && (takes_part a && test (principal_of a))) (is_allow kind) r)
+    (not_in_image b perm lt e)
 
 -- another right is granted as before
 pub granted_as_before : (test : Principal → Bool) (mode : ℕ) (list : List Ace) (b : ℕ) → mode ≤ all_mode_bits

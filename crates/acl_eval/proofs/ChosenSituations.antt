@@ -1,18 +1,18 @@
 -- The situation of three tags, in which only their principals match; and that a loss is found in one of these.
-use Rattle.std.proofs.Common.{◌≡◌, ◌≤◌, ◌<◌, ◌+◌, ℕ, suc, Bool, true, false, List, [], ◌∷◌, ◌++◌, refl, sym, ap, subst, ◌∙◌, arith, inl, inr, length}
+use Rattle.std.proofs.Common.{◌≡◌, ◌+◌, ℕ, Bool, true, false, List, ◌++◌, refl, sym, ap, subst, ◌∙◌, inl, inr}
 use Rattle.std.proofs.lemmas.Bool.{cases_Bool, eq-eqb, eqb-true, false≢true, or_cases, true≢false}
 use Rattle.std.proofs.lemmas.List.Folds.{list_any-append}
 use Rattle.std.specs.Prelude.{◌⊎◌, ◌==◌, ◌&&◌, ◌||◌, if◌then◌else◌, not}
-use Rattle.std.specs.List.{AllByRecursion, list_any}
+use Rattle.std.specs.List.{AllByRecursion}
 use Rattle.std.specs.FinMap as fin
-use Rattle.acl_perm.proofs.Bools.{and_true, or_true_right}
+use Rattle.acl_perm.proofs.Bools.{or_true_right}
 use Rattle.acl_posix.specs.Check.{Object, Requester, contains, grants, is_member}
 use Rattle.acl_posix.specs.Tag.{Tag, user_obj, user, group_obj, group, mask, other, qualifier}
 use Rattle.acl_posix.specs.Valid.{IsValid}
 use Rattle.acl_eval.specs.internal.LossBody.{AreKept, IsKeptFor, IsKeptWith, LossSearch, are_two_users, chosen_object, chosen_requester, chosen_user, groups_for, is_owner_tag, user_or}
 use Rattle.acl_eval.specs.internal.ShapeBody.{column_decided_by, has_tag, tag_meets}
 use Rattle.acl_eval.proofs.LostGrants.{IsWithin, denier, first_allow, first_allows}
-use Rattle.acl_eval.proofs.ShapeChecks.{choice, choice_is}
+use Rattle.acl_eval.proofs.ShapeChecks.{choice, choice_is, first_member, second_member}
 use Rattle.acl_eval.proofs.ValidChecks.{valid_is_complete}
 
 -- three tags whose principals match, and whose numbers are used, while two other numbers are not
@@ -73,8 +73,8 @@ one_of false true c h = inr (inl refl)
 one_of false false true h = inr (inr refl)
 one_of false false false h = absurd (false≢true h)
 
-owner_meets : (object : Object) (requester : Requester) (t : Tag) → is_owner_tag t ≡ true → tag_meets object requester t ≡ true
-    → (requester.user == object.user) ≡ true
+owner_meets : (object : Object) (requester : Requester) (t : Tag) → is_owner_tag t ≡ true
+    → tag_meets object requester t ≡ true → (requester.user == object.user) ≡ true
 owner_meets object requester user_obj h m = m
 owner_meets object requester (user id) h m = absurd (false≢true h)
 owner_meets object requester group_obj h m = absurd (false≢true h)
@@ -85,7 +85,8 @@ owner_meets object requester other h m = absurd (false≢true h)
 -- the owner requests only if one of the tags is that of OWNER@
 owner_within : (used : List ℕ) (object : Object) (requester : Requester) (one next : ℕ) (a b c : Tag)
     → IsChoice used object requester one next a b c
-    → (chosen_user one a b c == (if is_owner_tag a || is_owner_tag b || is_owner_tag c then chosen_user one a b c else next)) ≡ true
+    → (chosen_user one a b c
+    == (if is_owner_tag a || is_owner_tag b || is_owner_tag c then chosen_user one a b c else next)) ≡ true
     → (requester.user == object.user) ≡ true
 owner_within used object requester one next a b c i h =
     by (is_owner_tag a || is_owner_tag b || is_owner_tag c) refl h
@@ -108,7 +109,8 @@ owner_within used object requester one next a b c i h =
         ]
 
 -- a member of the groups of one tag
-of_tag : (object : Object) (requester : Requester) (used : List ℕ) (one n : ℕ) (t : Tag) → tag_meets object requester t ≡ true
+of_tag : (object : Object) (requester : Requester) (used : List ℕ) (one n : ℕ) (t : Tag)
+    → tag_meets object requester t ≡ true
     → is_member (qualifier t) used ≡ true → is_member one used ≡ false → is_member n used ≡ true
     → is_member n (groups_for one t) ≡ true → is_member n requester.groups ≡ true
 of_tag object requester used one n user_obj m u f v h = absurd (false≢true h)
@@ -125,8 +127,8 @@ of_tag object requester used one n mask m u f v h = absurd (false≢true h)
 of_tag object requester used one n other m u f v h = absurd (false≢true h)
 
 -- the owning group among them
-own_of_tag : (object : Object) (requester : Requester) (used : List ℕ) (one : ℕ) (t : Tag) → tag_meets object requester t ≡ true
-    → is_member (qualifier t) used ≡ true → is_member one used ≡ false
+own_of_tag : (object : Object) (requester : Requester) (used : List ℕ) (one : ℕ) (t : Tag)
+    → tag_meets object requester t ≡ true → is_member (qualifier t) used ≡ true → is_member one used ≡ false
     → is_member one (groups_for one t) ≡ true → is_member object.group requester.groups ≡ true
 own_of_tag object requester used one user_obj m u f h = absurd (false≢true h)
 own_of_tag object requester used one (user id) m u f h = absurd (false≢true h)
@@ -142,26 +144,22 @@ own_of_tag object requester used one other m u f h = absurd (false≢true h)
 of_three : (n : ℕ) (xs ys zs : List ℕ) → is_member n ((xs ++ ys) ++ zs) ≡ true
     → (is_member n xs ≡ true) ⊎ ((is_member n ys ≡ true) ⊎ (is_member n zs ≡ true))
 of_three n xs ys zs h =
-    elim (or_cases (is_member n (xs ++ ys)) (is_member n zs) (sym (list_any-append (λ (x : ℕ). x == n) (xs ++ ys) zs) ∙ h)) [
-      | inl two ↦ elim (or_cases (is_member n xs) (is_member n ys) (sym (list_any-append (λ (x : ℕ). x == n) xs ys) ∙ two)) [
-        | inl here ↦ inl here
-        | inr here ↦ inr (inl here)
-      ]
+    elim (or_cases (is_member n (xs ++ ys)) (is_member n zs)
+    (sym (list_any-append (λ (x : ℕ). x == n) (xs ++ ys) zs) ∙ h)) [
+      | inl two ↦
+          elim (or_cases (is_member n xs) (is_member n ys) (sym (list_any-append (λ (x : ℕ). x == n) xs ys) ∙ two)) [
+            | inl here ↦ inl here
+            | inr here ↦ inr (inl here)
+          ]
       | inr here ↦ inr (inr here)
     ]
-
-pub in_left : (n : ℕ) (xs ys : List ℕ) → is_member n xs ≡ true → is_member n (xs ++ ys) ≡ true
-in_left n xs ys h = list_any-append (λ (x : ℕ). x == n) xs ys ∙ ap (λ (b : Bool). b || is_member n ys) h
-
-pub in_right : (n : ℕ) (xs ys : List ℕ) → is_member n ys ≡ true → is_member n (xs ++ ys) ≡ true
-in_right n xs ys h = list_any-append (λ (x : ℕ). x == n) xs ys ∙ ap (λ (b : Bool). is_member n xs || b) h
-    ∙ or_true_right (is_member n xs)
 
 -- of the tags whose numbers are used, only such match in the situation as match in the first one
 chosen_within : (used : List ℕ) (object : Object) (requester : Requester) (one next : ℕ) (a b c : Tag)
     → IsChoice used object requester one next a b c
     → IsWithin used object requester (chosen_object one next a b c) (chosen_requester one a b c)
-chosen_within used object requester one next a b c i user_obj u h = owner_within used object requester one next a b c i h
+chosen_within used object requester one next a b c i user_obj u h =
+    owner_within used object requester one next a b c i h
 chosen_within used object requester one next a b c i (user w) u h =
     let same : chosen_user one a b c ≡ w = eqb-true (chosen_user one a b c) w h in
     elim (chosen_asker used object requester one next a b c i) [
@@ -196,8 +194,8 @@ record IsIn (object : Object) (requester : Requester) (one : ℕ) (a b c t : Tag
   groups : (n : ℕ) → is_member n (groups_for one t) ≡ true
       → is_member n ((groups_for one a ++ groups_for one b) ++ groups_for one c) ≡ true
 
-chosen_meets : (object : Object) (requester : Requester) (one next : ℕ) (a b c t : Tag) → IsIn object requester one a b c t
-    → tag_meets object requester t ≡ true
+chosen_meets : (object : Object) (requester : Requester) (one next : ℕ) (a b c t : Tag)
+    → IsIn object requester one a b c t → tag_meets object requester t ≡ true
     → tag_meets (chosen_object one next a b c) (chosen_requester one a b c) t ≡ true
 chosen_meets object requester one next a b c user_obj i m =
     ap (λ (o : Bool). chosen_user one a b c == (if o then chosen_user one a b c else next)) (i.owner refl)
@@ -211,8 +209,8 @@ chosen_meets object requester one next a b c (group id) i m =
 chosen_meets object requester one next a b c mask i m = absurd (false≢true m)
 chosen_meets object requester one next a b c other i m = refl
 
-user_is : (object : Object) (requester : Requester) (t : Tag) (id rest : ℕ) → t ≡ user id → tag_meets object requester t ≡ true
-    → user_or t rest ≡ requester.user
+user_is : (object : Object) (requester : Requester) (t : Tag) (id rest : ℕ) → t ≡ user id
+    → tag_meets object requester t ≡ true → user_or t rest ≡ requester.user
 user_is object requester t id rest e m =
     ap (λ (u : Tag). user_or u rest) e
     ∙ sym (eqb-true requester.user id (ap (tag_meets object requester) (sym e) ∙ m))
@@ -222,7 +220,7 @@ first_in : (used : List ℕ) (object : Object) (requester : Requester) (one next
 first_in used object requester one next a b c i = record {
   owner = λ h. ap (λ (x : Bool). x || is_owner_tag b || is_owner_tag c) h;
   user = λ id e. user_is object requester a id _ e i.first;
-  groups = λ n h. in_left n _ (groups_for one c) (in_left n (groups_for one a) (groups_for one b) h);
+  groups = λ n h. first_member n _ (groups_for one c) (first_member n (groups_for one a) (groups_for one b) h);
 }
 
 second_in : (used : List ℕ) (object : Object) (requester : Requester) (one next : ℕ) (a b c : Tag)
@@ -231,7 +229,7 @@ second_in used object requester one next a b c i = record {
   owner = λ h. ap (λ (x : Bool). (is_owner_tag a || x) || is_owner_tag c) h
       ∙ ap (λ (x : Bool). x || is_owner_tag c) (or_true_right (is_owner_tag a));
   user = λ id e. keeps_asker object requester a _ i.first (user_is object requester b id _ e i.second);
-  groups = λ n h. in_left n _ (groups_for one c) (in_right n (groups_for one a) (groups_for one b) h);
+  groups = λ n h. first_member n _ (groups_for one c) (second_member n (groups_for one a) (groups_for one b) h);
 }
 
 third_in : (used : List ℕ) (object : Object) (requester : Requester) (one next : ℕ) (a b c : Tag)
@@ -241,7 +239,7 @@ third_in used object requester one next a b c i = record {
       ∙ or_true_right (is_owner_tag a || is_owner_tag b);
   user = λ id e. keeps_asker object requester a _ i.first (keeps_asker object requester b _ i.second
       (user_is object requester c id _ e i.third));
-  groups = λ n h. in_right n (groups_for one a ++ groups_for one b) (groups_for one c) h;
+  groups = λ n h. second_member n (groups_for one a ++ groups_for one b) (groups_for one c) h;
 }
 
 -- ---- a loss is found
@@ -271,6 +269,7 @@ one_user object requester (group id) b m n = refl
 one_user object requester mask b m n = refl
 one_user object requester other b m n = refl
 
+-- if no situation of three tags is a loss, the ACL grants the permission wherever both columns grant
 pub nothing_lost : (s : LossSearch) (used : List ℕ) → IsValid s.entries → contains 7 s.want ≡ true → IsNamed s used
     → AreKept s (fin.entries s.entries) → (object : Object) (requester : Requester)
     → column_decided_by (tag_meets object requester) s.first false ≡ true

@@ -58,7 +58,8 @@ run_deny : (E : Entries) (e : Tag × ℕ) (s : Situation) (j b : ℕ) (r : Bool)
     → run (deny_of E e) s b r ≡ cond (not (has_bit (effective_of E e) j) && tag_applies s e.0) false r
 run_deny E e s j b r st js lt =
     run_ace Deny e.0 (7 - effective_of E e) s j b r st (omega arith)
-    ∙ ap (λ (h : Bool). cond (h && tag_applies s e.0) false r) (complement j (effective_of E e) js (effective_lt E e lt))
+    ∙ ap (λ (h : Bool). cond (h && tag_applies s e.0) false r)
+    (complement j (effective_of E e) js (effective_lt E e lt))
 
 -- what an entry allows and denies together decides every bit, if the entry matches the requester
 run_decide : (E : Entries) (e : Tag × ℕ) (s : Situation) (j b : ℕ) (r : Bool) → Belongs j b → j < 3 → e.1 < 8
@@ -146,7 +147,8 @@ run_bridge E s j b st js all =
     each_weaker IsEntry (λ e. (t : Bool) → run (allow_of E e) s b t ≡ cond (bit_of E j e && tag_applies s e.0) true t)
     (λ e is t. run_allow E e s j b t st is.1) es all in
     let denies =
-    each_weaker IsEntry (λ e. (t : Bool) → run (deny_of E e) s b t ≡ cond (not (bit_of E j e) && tag_applies s e.0) false
+    each_weaker IsEntry (λ e. (t : Bool)
+    → run (deny_of E e) s b t ≡ cond (not (bit_of E j e) && tag_applies s e.0) false
     t) (λ e is t. run_deny E e s j b t st js is.1) es all in
     let decides = each_weaker IsEntry (λ e. (t : Bool) → run (decide_of E e) s b t ≡ cond (tag_applies s e.0)
     (bit_of E j e) t) (λ e is t. run_decide E e s j b t st js is.1) es all in

@@ -74,7 +74,8 @@ waiting_by_flag flags n d =
       success = stays successful_access refl refl;
       failed = stays failed_access refl refl;
       group = stays identifier_group refl refl;
-      not_inherited = with_bits on inherit_only_alone inherited refl ∙ has_bit-and_cleared flags kept_on_the_way inherited refl;
+      not_inherited =
+          with_bits on inherit_only_alone inherited refl ∙ has_bit-and_cleared flags kept_on_the_way inherited refl;
     }
 
 -- an ACE in a new file has the flags of the law, by which it is not passed on

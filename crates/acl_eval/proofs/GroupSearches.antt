@@ -19,7 +19,7 @@ use Rattle.std.specs.declared.cmp.Ordering.{Ordering}
 use Rattle.std.specs.declared.cmp.Ordering.TheVariants.{Less, Equal, Greater}
 use Rattle.acl_eval.specs.GroupSearch.{AreAmong, AreRisingNames, AreSameGroups, found_around, found_groups, found_in_steps, groups_that_count, is_before}
 use Rattle.acl_eval.specs.declared.groups.Order.{Order}
-use Rattle.acl_eval.specs.declared.groups.Order.TheVariants.{Known, Said, Unknown}
+use Rattle.acl_eval.specs.declared.groups.Order.TheVariants.{Copied, Known, Said, Unknown}
 use Rattle.acl_eval.proofs.Members.{eq_as_cmp}
 
 -- ---- a list around its middle
@@ -225,6 +225,7 @@ found_among (suc steps) (x ∷ xs) name h =
 pub counted_among : (order : Order) (names : List (List ℕ)) → AreAmong (groups_that_count order names) names
 counted_among Unknown names name h = h
 counted_among Known names name h = h
+counted_among (Copied copy) names name h = h
 counted_among Said names name h = found_among (length names) names name h
 
 -- ---- names in order

@@ -1,13 +1,12 @@
 -- The id that digits spell, digit by digit.
-use Rattle.std.proofs.Common.{◌≡◌, ℕ, ◌+◌, ◌-◌, ◌*◌, ◌<◌, ◌≤◌, Bool, true, false, cond, List, [], ◌∷◌, Option, Some, None, refl, sym, ap, ◌∙◌, arith, length, take, get_or}
+use Rattle.std.proofs.Common.{◌≡◌, ℕ, ◌+◌, ◌-◌, ◌*◌, ◌<◌, ◌≤◌, Bool, true, false, List, Option, Some, None, ap, ◌∙◌, arith, length, take, get_or}
 use Rattle.std.proofs.lemmas.Bool.Decides.{nat_tests}
 use Rattle.std.proofs.lemmas.Int.Digits.{digits_value_more}
 use Rattle.std.proofs.lemmas.List.Elements.{All-get_or}
 use Rattle.std.proofs.lemmas.List.Sums.{AllPass-from_list_all}
 use Rattle.std.proofs.lemmas.Str.Parse.{digits_value-take-le}
-use Rattle.std.specs.Prelude.{◌&&◌, IfSome, IsSome, nat_le, option_map}
+use Rattle.std.specs.Prelude.{◌&&◌, IfSome, IsSome, option_map}
 use Rattle.std.specs.Char.{digit_value, is_ascii_digit}
-use Rattle.std.specs.List.{list_all}
 use Rattle.std.specs.Str.Parse.{digits_value}
 use Rattle.acl_posix.specs.Fields.{id_of}
 use Rattle.acl_posix.specs.Id.{IsId, greatest_id}

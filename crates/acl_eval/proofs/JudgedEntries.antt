@@ -59,7 +59,8 @@ other_there u v (x ∷ xs) differ = by (other_there u v xs differ) (x == u) refl
   where
     by : is_member v (shape_without u xs) ≡ is_member v xs → (b : Bool) → (x == u) ≡ b
         → is_member v (if not b then x ∷ shape_without u xs else shape_without u xs) ≡ is_member v (x ∷ xs)
-    by rest true e = rest ∙ sym (ap (λ (b : Bool). b || is_member v xs) (ap (λ (n : ℕ). n == v) (eqb-true x u e) ∙ differ))
+    by rest true e =
+        rest ∙ sym (ap (λ (b : Bool). b || is_member v xs) (ap (λ (n : ℕ). n == v) (eqb-true x u e) ∙ differ))
     by rest false e = ap (λ (b : Bool). (x == v) || b) rest
 
 -- a number is missing if it was missing, or is the one that was taken out
@@ -117,8 +118,8 @@ out_matches shape mask entry n s t = absurd (false≢true n)
 out_matches shape other entry n s t = absurd (false≢true n)
 
 -- the answer without the name: if the check looks at the entry in more situations, the name must not deny
-asked_answer : (shape : EntryShape) (name entry : Tag) (keys : List TagKey) → is_named name ≡ true → is_shared entry ≡ true
-    → is_asked_more entry name ≡ true → answer (taken_out name shape) entry keys
+asked_answer : (shape : EntryShape) (name entry : Tag) (keys : List TagKey) → is_named name ≡ true
+    → is_shared entry ≡ true → is_asked_more entry name ≡ true → answer (taken_out name shape) entry keys
     ≡ (answer shape entry keys && always (is_certain entry) (λ t. eq_by_cmp tag_cmp t name) (keys_of keys))
 asked_answer shape name entry keys n s more =
     always_same (is_certain entry) (may_match (taken_out name shape) entry)
@@ -128,7 +129,8 @@ asked_answer shape name entry keys n s more =
     ∙ always_either (is_certain entry) (may_match shape entry) (λ t. eq_by_cmp tag_cmp t name) (keys_of keys)
 
 -- otherwise the answer stays the same
-same_answer : (shape : EntryShape) (name entry : Tag) (keys : List TagKey) → is_named name ≡ true → is_shared entry ≡ true
+same_answer : (shape : EntryShape) (name entry : Tag) (keys : List TagKey) → is_named name ≡ true
+    → is_shared entry ≡ true
     → is_asked_more entry name ≡ false → answer (taken_out name shape) entry keys ≡ answer shape entry keys
 same_answer shape name entry keys n s more =
     always_same (is_certain entry) (may_match (taken_out name shape) entry) (may_match shape entry) (keys_of keys)
@@ -158,8 +160,10 @@ next_below m n = by (nat_lt (1 + m) (1 + n)) (nat_lt m n) refl refl
   where
     by : (a b : Bool) → nat_lt (1 + m) (1 + n) ≡ a → nat_lt m n ≡ b → a ≡ b
     by true true p q = refl
-    by true false p q = let lt = ltb-true (1 + m) (1 + n) p in let le = ltb-false m n q in absurd (omega (arith, lt, le))
-    by false true p q = let le = ltb-false (1 + m) (1 + n) p in let lt = ltb-true m n q in absurd (omega (arith, lt, le))
+    by true false p q =
+        let lt = ltb-true (1 + m) (1 + n) p in let le = ltb-false m n q in absurd (omega (arith, lt, le))
+    by false true p q =
+        let le = ltb-false (1 + m) (1 + n) p in let lt = ltb-true m n q in absurd (omega (arith, lt, le))
     by false false p q = refl
 
 -- a right that an entry has stays granted if and only if the name is not denied before the place where it is decided
@@ -177,7 +181,8 @@ places_decide name entry possible (x ∷ keys) h =
         ≡ not (nat_lt (denied_place name keys) (decided_place entry keys)))
         → (c a e p : Bool)
         → (if c then a else (if a || not p then always (is_certain entry) possible (keys_of keys) else false)) ≡ true
-        → (if c then a else (if a || not e then always (is_certain entry) (λ t. eq_by_cmp tag_cmp t name) (keys_of keys) else false))
+        → (if c then a else (if a || not e then always (is_certain entry) (λ t. eq_by_cmp tag_cmp t name)
+        (keys_of keys) else false))
         ≡ not (nat_lt (if not (e && not a) then 1 + denied_place name keys else 0)
         (if not c then 1 + decided_place entry keys else 0))
     by rest true true e p h = ap (λ (b : Bool). not b) (sym (none_below _))
@@ -211,8 +216,8 @@ keeps_right shape name entry keys has decided denied n s answers at deny before 
     by false e = same_answer shape name entry keys n s e ∙ yes
 
 -- what is granted without the name was granted with it
-less_answer : (shape : EntryShape) (name entry : Tag) (keys : List TagKey) → is_named name ≡ true → is_shared entry ≡ true
-    → answer (taken_out name shape) entry keys ≡ true → answer shape entry keys ≡ true
+less_answer : (shape : EntryShape) (name entry : Tag) (keys : List TagKey) → is_named name ≡ true
+    → is_shared entry ≡ true → answer (taken_out name shape) entry keys ≡ true → answer shape entry keys ≡ true
 less_answer shape name entry keys n s h = by (is_asked_more entry name) refl
   where
     by : (m : Bool) → is_asked_more entry name ≡ m → answer shape entry keys ≡ true
@@ -264,11 +269,11 @@ same_permissions columns shape name entry perm decided denied n s has at deny be
       of_write = same_answers _ _
           (λ h. both (answer out entry columns.write.items) (answer out entry columns.append.items)
           (keeps_right shape name entry columns.write.items (has_bit perm write) decided.write denied.write n s
-          (λ g. (and_true (answer shape entry columns.write.items) _ (sym has.of_write ∙ g)).0) at.of_write deny.of_write
-          (λ more. (part more).of_write) h)
+          (λ g. (and_true (answer shape entry columns.write.items) _ (sym has.of_write ∙ g)).0)
+          at.of_write deny.of_write (λ more. (part more).of_write) h)
           (keeps_right shape name entry columns.append.items (has_bit perm write) decided.append denied.append n s
-          (λ g. (and_true (answer shape entry columns.write.items) _ (sym has.of_write ∙ g)).1) at.of_append deny.of_append
-          (λ more. (part more).of_append) h))
+          (λ g. (and_true (answer shape entry columns.write.items) _ (sym has.of_write ∙ g)).1)
+          at.of_append deny.of_append (λ more. (part more).of_append) h))
           (λ h. let two = and_true (answer out entry columns.write.items) _ h in
           has.of_write ∙ both (answer shape entry columns.write.items) (answer shape entry columns.append.items)
           (less_answer shape name entry columns.write.items n s two.0)
@@ -307,6 +312,7 @@ not_shared shape name mask s mask = refl
 not_shared shape name mask s other = refl
 not_shared shape name other s t = absurd (true≢false s)
 
+-- an entry that is not shared keeps its permissions when a name is taken out
 pub own_permissions : (columns : Columns) (shape : EntryShape) (name entry : Tag) (perm : ℕ) → is_shared entry ≡ false
     → HasPassAnswers columns shape entry perm → HasPassAnswers columns (taken_out name shape) entry perm
 own_permissions columns shape name entry perm s has = record {
@@ -316,7 +322,8 @@ own_permissions columns shape name entry perm s has = record {
 }
   where
     same : (keys : List TagKey) → answer (taken_out name shape) entry keys ≡ answer shape entry keys
-    same keys = always_same (is_certain entry) (may_match (taken_out name shape) entry) (may_match shape entry) (keys_of keys)
+    same keys =
+        always_same (is_certain entry) (may_match (taken_out name shape) entry) (may_match shape entry) (keys_of keys)
         (not_shared shape name entry s)
 
 -- if an entry has its permissions without the name too, each right of them is decided before it is denied to the name
@@ -355,18 +362,20 @@ place_or_len p xs o n found is = is ∙ ap (λ (o : Option ℕ). unwrap_or o (le
         let least = ltb-false (position_or_len p xs) (length xs) e in
         omega (arith, most, least)
 
--- the tests of permissions as bits
+-- the test of r is its bit
 pub read_bit : (p : ℕ) → p < 8 → (bit_and p 4 == 4) ≡ has_bit p read
 read_bit = same_below 8 (λ p. bit_and p 4 == 4) (λ p. has_bit p 2) refl
 
+-- the same for w
 pub write_bit : (p : ℕ) → p < 8 → (bit_and p 2 == 2) ≡ has_bit p write
 write_bit = same_below 8 (λ p. bit_and p 2 == 2) (λ p. has_bit p 1) refl
 
+-- the same for x
 pub execute_bit : (p : ℕ) → p < 8 → (bit_and p 1 == 1) ≡ has_bit p execute
 execute_bit = same_below 8 (λ p. bit_and p 1 == 1) (λ p. has_bit p 0) refl
 
 -- a place that was found in the keys that were given
-pub place_in : (entry : Tag) (place : ℕ) (has bit : Bool) (given keys : List TagKey) → place ≡ decided_if has entry given
-    → has ≡ bit → given ≡ keys → place ≡ decided_if bit entry keys
+pub place_in : (entry : Tag) (place : ℕ) (has bit : Bool) (given keys : List TagKey)
+    → place ≡ decided_if has entry given → has ≡ bit → given ≡ keys → place ≡ decided_if bit entry keys
 place_in entry place has bit given keys is same at =
     is ∙ ap (λ (b : Bool). decided_if b entry given) same ∙ ap (decided_if bit entry) at

@@ -82,7 +82,8 @@ keys_more marks new names i key name lt is added old other h =
 
     by : (t : Bool) → list_any (λ g. bytes_eq other g.now) (take i names) ≡ t
         → (is_marked marks (name_key other) || eqb (name_key other) key) ≡ true
-    by true e = ap (λ (b : Bool). b || eqb (name_key other) key) (old other (any_now (bytes_eq other) (take i names) ∙ e))
+    by true e =
+        ap (λ (b : Bool). b || eqb (name_key other) key) (old other (any_now (bytes_eq other) (take i names) ∙ e))
     by false e =
         let found : bytes_eq other (get_or names i name).now ≡ true = rw e at some in
         let same : name_key other ≡ key =

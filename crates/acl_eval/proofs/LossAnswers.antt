@@ -3,7 +3,7 @@ use Rattle.std.proofs.Common.{◌≡◌, ◌≤◌, ◌<◌, ◌+◌, ℕ, Bool,
 use Rattle.std.proofs.lemmas.Bool.{cases_lt, false≢true, true≢false}
 use Rattle.std.proofs.lemmas.List.{length-append, length-map, map-append}
 use Rattle.std.proofs.lemmas.List.Elements.{All-from_recursion}
-use Rattle.std.specs.Prelude.{◌⊎◌, ◌↔◌, ◌&&◌, Err, IfOk, IfSome, Ok, Result, map, not}
+use Rattle.std.specs.Prelude.{◌↔◌, Err, IfOk, IfSome, Ok, Result, not}
 use Rattle.std.specs.List.{AllByRecursion}
 use Rattle.std.specs.FinMap as fin
 use Rattle.acl_perm.proofs.Bools.{and_true}
@@ -26,14 +26,14 @@ use Rattle.acl_eval.specs.ToPosix.{IsSound, size_of}
 use Rattle.acl_eval.specs.internal.LossBody.{AreKept, AreSmall, AreUnused, IsBounded, IsFound, IsFoundOr, IsKeptWith, LossSearch, chosen_object, chosen_requester, entry_numbers, is_lost, key_numbers, most_used, search_of, used_numbers}
 use Rattle.acl_eval.specs.internal.ShapeBody.{AreColumns, IsColumnOf, has_tag, keys_of}
 use Rattle.acl_eval.specs.declared.losing.LostGrant.{LostGrant}
-use Rattle.acl_eval.specs.declared.losing.Unused.{Unused}
+use Rattle.acl_eval.specs.declared.losing.unused.Unused.{Unused}
 use Rattle.acl_eval.specs.declared.losing.Wanted.{Wanted}
 use Rattle.std.specs.declared.alloc.AllocError.{AllocError}
 use Rattle.acl_eval.specs.declared.tag_column.Columns.{Columns}
 use Rattle.acl_eval.specs.declared.tag_column.TagKey.{TagKey}
-use Rattle.acl_eval.proofs.ChosenSituations.{in_left, in_right, nothing_lost}
+use Rattle.acl_eval.proofs.ChosenSituations.{nothing_lost}
 use Rattle.acl_eval.proofs.Images.{image_right, rights}
-use Rattle.acl_eval.proofs.ShapeChecks.{all_contain}
+use Rattle.acl_eval.proofs.ShapeChecks.{all_contain, first_member, second_member}
 use Rattle.acl_eval.proofs.UnusedIds.{entries_named, key_number, not_with}
 
 -- ---- the rights of a permission
@@ -55,27 +55,35 @@ grant_of list s want few r w x bit has = elim (image_right want bit few has) [
   ]
 ]
 
+-- if READ_DATA is granted, the rights of r are granted
 pub grant_read : (list : List Ace) (s : Situation) → grants_bit list s 0 ≡ true → Grant list s (image 4)
-grant_read list s h = grant_of list s 4 (omega arith) (λ has. h) (λ has. absurd (false≢true has)) (λ has. absurd (false≢true has))
+grant_read list s h =
+    grant_of list s 4 (omega arith) (λ has. h) (λ has. absurd (false≢true has)) (λ has. absurd (false≢true has))
 
+-- if WRITE_DATA and APPEND_DATA are granted, the rights of w are granted
 pub grant_write : (list : List Ace) (s : Situation) → grants_bit list s 1 ≡ true → grants_bit list s 2 ≡ true
     → Grant list s (image 2)
 grant_write list s h g =
     grant_of list s 2 (omega arith) (λ has. absurd (false≢true has)) (λ has. (h, g)) (λ has. absurd (false≢true has))
 
+-- if EXECUTE is granted, the rights of x are granted
 pub grant_execute : (list : List Ace) (s : Situation) → grants_bit list s 5 ≡ true → Grant list s (image 1)
 grant_execute list s h =
     grant_of list s 1 (omega arith) (λ has. absurd (false≢true has)) (λ has. absurd (false≢true has)) (λ has. h)
 
+-- if the rights of r are granted, READ_DATA is granted
 pub read_granted : (list : List Ace) (s : Situation) → Grant list s (image 4) → grants_bit list s 0 ≡ true
 read_granted list s g = g 0 (rights.read_data.same 4 (omega arith))
 
+-- if the rights of w are granted, WRITE_DATA is granted
 pub write_granted : (list : List Ace) (s : Situation) → Grant list s (image 2) → grants_bit list s 1 ≡ true
 write_granted list s g = g 1 (rights.write_data.same 2 (omega arith))
 
+-- if the rights of w are granted, APPEND_DATA is granted
 pub append_granted : (list : List Ace) (s : Situation) → Grant list s (image 2) → grants_bit list s 2 ≡ true
 append_granted list s g = g 2 (rights.append_data.same 2 (omega arith))
 
+-- if the rights of x are granted, EXECUTE is granted
 pub execute_granted : (list : List Ace) (s : Situation) → Grant list s (image 1) → grants_bit list s 5 ≡ true
 execute_granted list s g = g 5 (rights.execute.same 1 (omega arith))
 
@@ -113,6 +121,7 @@ pub record IsRefused (list : List Ace) (E : Entries) (bit second want : ℕ) (lo
   pub denied : grants E (lost_object lost) (lost_requester lost) lost.perm.bits ≡ false
   pub few : length lost.groups.items ≤ 3
 
+-- what a search finds is a situation in which the list grants both rights and the ACL denies the permission
 pub found : (list : List Ace) (E : Entries) (bit second want : ℕ) (wanted : Wanted) (unused : Unused) (lost : LostGrant)
     → IsSearchOf list E bit second want wanted → IsFound (search_of wanted E unused) lost
     → IsRefused list E bit second want lost
@@ -129,6 +138,7 @@ found list E bit second want wanted unused lost is f =
       few = f.few;
     }
 
+-- such a situation for READ_DATA and r is a loss
 pub found_read : (list : List Ace) (E : Entries) (lost : LostGrant) → IsRefused list E 0 0 4 lost → IsLossOf list E lost
 found_read list E lost r = record {
   asked = r.asked;
@@ -138,7 +148,9 @@ found_read list E lost r = record {
   few = r.few;
 }
 
-pub found_write : (list : List Ace) (E : Entries) (lost : LostGrant) → IsRefused list E 1 2 2 lost → IsLossOf list E lost
+-- such a situation for WRITE_DATA, APPEND_DATA and w is a loss
+pub found_write : (list : List Ace) (E : Entries) (lost : LostGrant) → IsRefused list E 1 2 2 lost
+    → IsLossOf list E lost
 found_write list E lost r = record {
   asked = r.asked;
   single = inr (inl r.perm);
@@ -147,7 +159,9 @@ found_write list E lost r = record {
   few = r.few;
 }
 
-pub found_execute : (list : List Ace) (E : Entries) (lost : LostGrant) → IsRefused list E 5 5 1 lost → IsLossOf list E lost
+-- such a situation for EXECUTE and x is a loss
+pub found_execute : (list : List Ace) (E : Entries) (lost : LostGrant) → IsRefused list E 5 5 1 lost
+    → IsLossOf list E lost
 found_execute list E lost r = record {
   asked = r.asked;
   single = inr (inr r.perm);
@@ -186,6 +200,7 @@ single_perm want (inl e) = omega (arith, e)
 single_perm want (inr (inl e)) = omega (arith, e)
 single_perm want (inr (inr e)) = omega (arith, e)
 
+-- a sound ACL is exact if and only if it grants each single permission that the list grants
 pub sound_is_exact : (list : List Ace) (E : Entries) → IsSound list E → KeepsSingles list E ↔ IsExact list E
 sound_is_exact list E sound = (
   λ keeps object requester want asked single.
@@ -217,23 +232,28 @@ record AreParts (r w a x e : List ℕ) : Type 0 where
 
 parts : (r w a x e : List ℕ) → AreParts r w a x e
 parts r w a x e = record {
-  read = λ n h. in_left n (((r ++ w) ++ a) ++ x) e (in_left n ((r ++ w) ++ a) x (in_left n (r ++ w) a (in_left n r w h)));
-  write = λ n h. in_left n (((r ++ w) ++ a) ++ x) e (in_left n ((r ++ w) ++ a) x (in_left n (r ++ w) a (in_right n r w h)));
-  append = λ n h. in_left n (((r ++ w) ++ a) ++ x) e (in_left n ((r ++ w) ++ a) x (in_right n (r ++ w) a h));
-  execute = λ n h. in_left n (((r ++ w) ++ a) ++ x) e (in_right n ((r ++ w) ++ a) x h);
-  entries = λ n h. in_right n (((r ++ w) ++ a) ++ x) e h;
+  read =
+      λ n h. first_member n (((r ++ w) ++ a) ++ x) e (first_member n ((r ++ w) ++ a) x (first_member n (r ++ w) a (first_member n r w h)));
+  write =
+      λ n h. first_member n (((r ++ w) ++ a) ++ x) e (first_member n ((r ++ w) ++ a) x (first_member n (r ++ w) a (second_member n r w h)));
+  append = λ n h. first_member n (((r ++ w) ++ a) ++ x) e (first_member n ((r ++ w) ++ a) x (second_member n (r ++ w) a h));
+  execute = λ n h. first_member n (((r ++ w) ++ a) ++ x) e (second_member n ((r ++ w) ++ a) x h);
+  entries = λ n h. second_member n (((r ++ w) ++ a) ++ x) e h;
 }
 
 -- the tags of the columns and of the entries have these numbers
 pub record AreTagsOf (columns : Columns) (E : Entries) : Type 0 where
-  pub read : (t : Tag) → has_tag t (keys_of columns.read.items) ≡ true → is_member (qualifier t) (used_numbers columns E) ≡ true
-  pub write : (t : Tag) → has_tag t (keys_of columns.write.items) ≡ true → is_member (qualifier t) (used_numbers columns E) ≡ true
+  pub read : (t : Tag) → has_tag t (keys_of columns.read.items) ≡ true
+      → is_member (qualifier t) (used_numbers columns E) ≡ true
+  pub write : (t : Tag) → has_tag t (keys_of columns.write.items) ≡ true
+      → is_member (qualifier t) (used_numbers columns E) ≡ true
   pub append : (t : Tag) → has_tag t (keys_of columns.append.items) ≡ true
       → is_member (qualifier t) (used_numbers columns E) ≡ true
   pub execute : (t : Tag) → has_tag t (keys_of columns.execute.items) ≡ true
       → is_member (qualifier t) (used_numbers columns E) ≡ true
   pub entries : AllByRecursion (λ entry. is_member (qualifier entry.0) (used_numbers columns E) ≡ true) (fin.entries E)
 
+-- the tags of the columns and of the entries have used numbers
 pub tags_used : (columns : Columns) (E : Entries) → AreTagsOf columns E
 tags_used columns E =
     let p = parts (key_numbers (keys_of columns.read.items)) (key_numbers (keys_of columns.write.items))
@@ -259,6 +279,7 @@ kept_with s a b c lost r object requester is denied =
     ∙ (ap (λ (q : Requester). is_lost s.first s.second s.entries s.want (lost_object lost) q) (sym requester)
     ∙ (sym is ∙ denied))
 
+-- what is wanted is a search of the list if its columns are those of the two rights
 pub search_is : (list : List Ace) (E : Entries) (bit second want : ℕ) (one two : List TagKey) (wanted : Wanted)
     → IsColumnOf list bit one → IsColumnOf list second two → wanted.first.now ≡ one → wanted.second.now ≡ two
     → wanted.perm.bits ≡ want → IsValid E → IsSearchOf list E bit second want wanted
@@ -269,7 +290,9 @@ search_is list E bit second want one two wanted first next f n perm valid = reco
   valid = valid;
 }
 
-pub found_at : (list : List Ace) (E : Entries) (bit second want : ℕ) (wanted : Wanted) (unused : Unused) (lost : LostGrant)
+-- an answer of a search is a situation in which the ACL denies what the list grants
+pub found_at : (list : List Ace) (E : Entries) (bit second want : ℕ) (wanted : Wanted) (unused : Unused)
+    (lost : LostGrant)
     (answer : Option LostGrant) (K : Type 0) → IsSearchOf list E bit second want wanted → answer ≡ Some lost
     → IsFoundOr (search_of wanted E unused) K answer → IsRefused list E bit second want lost
 found_at list E bit second want wanted unused lost answer K is e h =
@@ -281,6 +304,7 @@ pub none_at : (s : LossSearch) (K : Type 0) (answer : Option LostGrant) → ((lo
 none_at s K None lacking h = h
 none_at s K (Some lost) lacking h = absurd (lacking lost refl)
 
+-- an answer of the search for x is a loss
 pub answer_lost : (list : List Ace) (E : Entries) (wanted : Wanted) (unused : Unused) (K : Type 0)
     → IsSearchOf list E 5 5 1 wanted → (r : Result (Option LostGrant) AllocError)
     → IfOk r (IsFoundOr (search_of wanted E unused) K) → IfOk r (λ lost. IfSome lost (IsLossOf list E))
@@ -301,14 +325,18 @@ all_kept list E read write execute object requester want asked single granted = 
   where
     by : (want : ℕ) → IsSingle want → Grant list (by_name object requester) (image want)
         → grants E object requester want ≡ true
-    by want (inl e) g = subst (λ (w : ℕ). Grant list (by_name object requester) (image w) → grants E object requester w ≡ true)
-        (sym e) (λ h. read object requester asked (read_granted list (by_name object requester) h) (read_granted list (by_name object requester) h)) g
+    by want (inl e) g =
+        subst (λ (w : ℕ). Grant list (by_name object requester) (image w) → grants E object requester w ≡ true)
+        (sym e) (λ h. read object requester asked (read_granted list (by_name object requester) h)
+        (read_granted list (by_name object requester) h)) g
     by want (inr (inl e)) g =
         subst (λ (w : ℕ). Grant list (by_name object requester) (image w) → grants E object requester w ≡ true)
-        (sym e) (λ h. write object requester asked (write_granted list (by_name object requester) h) (append_granted list (by_name object requester) h)) g
+        (sym e) (λ h. write object requester asked (write_granted list (by_name object requester) h)
+        (append_granted list (by_name object requester) h)) g
     by want (inr (inr e)) g =
         subst (λ (w : ℕ). Grant list (by_name object requester) (image w) → grants E object requester w ≡ true)
-        (sym e) (λ h. execute object requester asked (execute_granted list (by_name object requester) h) (execute_granted list (by_name object requester) h)) g
+        (sym e) (λ h. execute object requester asked (execute_granted list (by_name object requester) h)
+        (execute_granted list (by_name object requester) h)) g
 
 -- the keys of a search are those of a column whose tags have used numbers
 named_keys : (keys given : List TagKey) (used : List ℕ) → given ≡ keys
@@ -316,6 +344,7 @@ named_keys : (keys given : List TagKey) (used : List ℕ) → given ≡ keys
     → (t : Tag) → has_tag t (keys_of given) ≡ true → is_member (qualifier t) used ≡ true
 named_keys keys given used is named t h = named t (ap (λ (ks : List TagKey). has_tag t (keys_of ks)) (sym is) ∙ h)
 
+-- if the searches for r, w and x find nothing, the ACL grants each single permission that the list grants
 pub answer_kept : (list : List Ace) (E : Entries) (columns : Columns) (unused : Unused) (read write execute : Wanted)
     → read.first.now ≡ columns.read.items → read.second.now ≡ columns.read.items
     → write.first.now ≡ columns.write.items → write.second.now ≡ columns.append.items
@@ -336,20 +365,23 @@ answer_kept list E columns unused read write execute rf rs wf ws xf xs isr isw i
     let used = used_numbers columns E in
     all_kept list E
     (kept list E 0 0 4 read unused used isr u (named_keys columns.read.items read.first.now used rf t.read)
-    (named_keys columns.read.items read.second.now used rs t.read) t.entries (none_at (search_of read E unused) _ one p h))
+    (named_keys columns.read.items read.second.now used rs t.read) t.entries
+    (none_at (search_of read E unused) _ one p h))
     (kept list E 1 2 2 write unused used isw u (named_keys columns.write.items write.first.now used wf t.write)
     (named_keys columns.append.items write.second.now used ws t.append) t.entries
     (none_at (search_of write E unused) _ two q g))
     (kept list E 5 5 1 execute unused used isx u (named_keys columns.execute.items execute.first.now used xf t.execute)
     (named_keys columns.execute.items execute.second.now used xs t.execute) t.entries k)
-answer_kept list E columns unused read write execute rf rs wf ws xf xs isr isw isx u one h p two g q (Ok (Some lost)) k =
+answer_kept list E columns unused read write execute rf rs wf ws xf xs isr isw isx u one h p two g q
+    (Ok (Some lost)) k =
     λ e. absurd cc
 answer_kept list E columns unused read write execute rf rs wf ws xf xs isr isw isx u one h p two g q (Err e) k = tt
 
 -- ---- the bound
 
-pub more_than : (most : ℕ) (table : Table) (list : List Ace) (E : Entries) (few : Bool) → IsBounded most table list E few
-    → few ≡ false → AreMoreThan most table list E
+-- if the names and the entries are not at most as many as the bound, they are more
+pub more_than : (most : ℕ) (table : Table) (list : List Ace) (E : Entries) (few : Bool)
+    → IsBounded most table list E few → few ≡ false → AreMoreThan most table list E
 more_than most table list E few b e = record {
   named = b.named;
   names = b.names;
@@ -385,8 +417,9 @@ key_count : (keys : List TagKey) → length (key_numbers (keys_of keys)) ≡ len
 key_count keys = length-map (keys_of keys) (λ key. qualifier key.0)
     ∙ length-map {B = Tag × Kind} keys (λ key. (tag_of key.whom, key.kind))
 
-pub few_used : (columns : Columns) (E : Entries) (used : List Id) → AreSmall columns E → ids used ≡ used_numbers columns E
-    → length used < most_used
+-- the used numbers are fewer than there may be
+pub few_used : (columns : Columns) (E : Entries) (used : List Id) → AreSmall columns E
+    → ids used ≡ used_numbers columns E → length used < most_used
 few_used columns E used small is =
     let r = key_count columns.read.items in
     let w = key_count columns.write.items in

@@ -1,5 +1,5 @@
 -- The tags that a search of a loss tries are enough.
-use Rattle.std.proofs.Common.{◌≡◌, ◌≤◌, ◌<◌, ◌+◌, ℕ, Bool, true, false, cond, List, [], ◌∷◌, ◌++◌, refl, sym, ap, subst, ◌∙◌, arith, inl, inr, drop, get_or, length}
+use Rattle.std.proofs.Common.{◌≡◌, ◌<◌, ◌+◌, ℕ, Bool, true, false, cond, List, [], ◌∷◌, ◌++◌, refl, sym, ap, subst, ◌∙◌, arith, inl, inr, drop, get_or, length}
 use Rattle.std.proofs.lemmas.Bool.{eq-eqb, false≢true, le-ltb, lt-ltb, or_cases}
 use Rattle.std.proofs.lemmas.List.{append_assoc, at_drop_more, map-append}
 use Rattle.std.specs.Prelude.{◌&&◌, ◌||◌, ◌==◌, filter, if◌then◌else◌, map, nat_lt, not}
@@ -13,8 +13,8 @@ use Rattle.acl_posix.proofs.Exports.{same_tag}
 use Rattle.acl_eval.specs.internal.LossBody.{AreKeptWith, AreKeptWithOne, IsLossCandidate, IsJudgedTag, IsKeptFor, IsKeptWith, IsPassed, allowed_tags, are_together, are_two_users, is_allowed_in, is_first, is_passed, is_second, certain_place, search_of}
 use Rattle.acl_eval.specs.internal.PruningBody.{decided_place}
 use Rattle.acl_eval.specs.internal.ShapeBody.{TagColumn, has_tag, is_certain, keys_of}
-use Rattle.acl_eval.specs.declared.losing.JudgedTag.{JudgedTag}
-use Rattle.acl_eval.specs.declared.losing.Unused.{Unused}
+use Rattle.acl_eval.specs.declared.losing.tags.JudgedTag.{JudgedTag}
+use Rattle.acl_eval.specs.declared.losing.unused.Unused.{Unused}
 use Rattle.acl_eval.specs.declared.losing.Wanted.{Wanted}
 use Rattle.acl_eval.specs.declared.tag_column.TagKey.{TagKey}
 
@@ -32,6 +32,7 @@ all_and_one : {X : Type 0} (Q : X → Type 0) (xs : List X) (x : X) → AllByRec
 all_and_one Q [] x all q = (q, tt)
 all_and_one Q (y ∷ xs) x all q = (all.0, all_and_one Q xs x all.1 q)
 
+-- if each tag of a list is judged, and one more tag is, each of all is
 pub judged_more : (wanted : Wanted) (E : Entries) (old new : List JudgedTag) (x : JudgedTag) → new ≡ old ++ x ∷ []
     → AllByRecursion (IsJudgedTag wanted E) old → IsJudgedTag wanted E x → AllByRecursion (IsJudgedTag wanted E) new
 judged_more wanted E old new x is all one =
@@ -73,7 +74,8 @@ left_is column keys i key lt is =
 
 -- a key that allows adds its tag
 pub tag_added : (column : TagColumn) (keys : List TagKey) (i : ℕ) (key : TagKey) (old new : List JudgedTag)
-    (x : JudgedTag) (whole : List Tag) → i < length keys → key ≡ get_or keys i key → is_allowed_in (tag_of key.whom) column ≡ true
+    (x : JudgedTag) (whole : List Tag) → i < length keys → key ≡ get_or keys i key
+    → is_allowed_in (tag_of key.whom) column ≡ true
     → new ≡ old ++ x ∷ [] → x.tag ≡ key.whom
     → map (λ one. tag_of one.tag) old ++ allowed_tags column (keys_of (drop i keys)) ≡ whole
     → map (λ one. tag_of one.tag) new ++ allowed_tags column (keys_of (drop (i + 1) keys)) ≡ whole
@@ -221,6 +223,7 @@ kept_by_all wanted E unused has c judged is h a b candidate =
 
 -- ---- places
 
+-- the place of the first certain key is the same in the keys of the code
 pub place_is : (t : Tag) (keys : List TagKey) → decided_place t keys ≡ certain_place t (keys_of keys)
 place_is t [] = refl
 place_is t (k ∷ keys) =

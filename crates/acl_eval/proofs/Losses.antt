@@ -1,9 +1,10 @@
 -- What is lost if a user or a group gets no entry: the other entries decide it.
-use Rattle.std.proofs.Common.{◌≡◌, ℕ, Bool, true, false, List, [], ◌∷◌, ◌++◌, Option, None, Some, refl, sym, ap, subst, ◌∙◌, arith, inl, inr}
+use Rattle.std.proofs.Common.{◌≡◌, ◌≤◌, ℕ, Bool, true, false, List, [], ◌∷◌, ◌++◌, length, Option, None, Some, refl, sym, ap, subst, ◌∙◌, arith, inl, inr}
 use Rattle.std.proofs.lemmas.Bool.{cases_Bool, eq-eqb, eqb-true, false≢true, not-true, or_cases, true≢false}
 use Rattle.std.proofs.lemmas.List.Folds.{list_any-append}
+use Rattle.std.proofs.lemmas.List.Sums.{count_by-le-length, length-filter}
 use Rattle.std.proofs.lemmas.Option.{same_Some}
-use Rattle.std.specs.Prelude.{◌⊎◌, ◌↔◌, ◌==◌, ◌||◌, if◌then◌else◌, not}
+use Rattle.std.specs.Prelude.{◌⊎◌, ◌↔◌, ◌==◌, ◌||◌, filter, if◌then◌else◌, not}
 use Rattle.std.specs.List.{list_any}
 use Rattle.std.specs.Ordering.{eq_by_cmp}
 use Rattle.acl_perm.proofs.Bools.{and_true, or_false_right, or_true_right}
@@ -14,13 +15,14 @@ use Rattle.acl_posix.specs.Tag.{Tag, user_obj, user, group_obj, group, mask, oth
 use Rattle.acl_posix.proofs.Exports.{same_tag}
 use Rattle.acl_nfs4.specs.Ace.{Ace}
 use Rattle.acl_eval.specs.Pruning.{IsNameOf, KeepsEntries, LosesNothing, ShapeGrants, shape_without, is_shared, taken_out}
-use Rattle.acl_eval.specs.ToPosix.{AlwaysHas, EntryShape, is_in_class, is_in_shape, looks_at}
+use Rattle.acl_eval.specs.ToPosix.{AlwaysHas, EntryShape, is_in_class, is_in_shape, looks_at, size_of}
 use Rattle.acl_eval.specs.internal.ShapeBody.{TagColumn, may_match}
 use Rattle.acl_eval.proofs.AlwaysDecides.{AreFree, HasIds, IsExtra, asked_by_tags, asker, entry_id, extra_groups, free_ids, group_besides, group_in, groups_in, is_extra, looks, none_there, object_at, or_none, owning_besides, owning_in, requester_at, same_itself}
 use Rattle.acl_eval.proofs.ShapeChecks.{class_parts, some_member}
 
 -- ---- numbers without one of them
 
+-- numbers without one of them do not have it
 pub but_lacks : (id : ℕ) (xs : List ℕ) → is_member id (shape_without id xs) ≡ false
 but_lacks id [] = refl
 but_lacks id (x ∷ xs) = by (but_lacks id xs) (x == id) refl
@@ -30,6 +32,7 @@ but_lacks id (x ∷ xs) = by (but_lacks id xs) (x == id) refl
     by rest true e = rest
     by rest false e = rw (e, rest) refl
 
+-- what numbers without one of them have, all of them have, and it differs from that one
 pub member_but : (n id : ℕ) (xs : List ℕ) → is_member n (shape_without id xs) ≡ true
     → (is_member n xs ≡ true) × ((n == id) ≡ false)
 member_but n id [] h = absurd cc
@@ -49,7 +52,9 @@ member_but n id (x ∷ xs) h = by (member_but n id xs) (x == id) refl h
           (ap (λ (b : Bool). (x == n) || b) two.0 ∙ or_true_right (x == n), two.1)
     ]
 
-pub but_keeps : (n id : ℕ) (xs : List ℕ) → is_member n xs ≡ true → (n == id) ≡ false → is_member n (shape_without id xs) ≡ true
+-- numbers without one of them have each other one
+pub but_keeps : (n id : ℕ) (xs : List ℕ) → is_member n xs ≡ true → (n == id) ≡ false
+    → is_member n (shape_without id xs) ≡ true
 but_keeps n id [] h differ = absurd cc
 but_keeps n id (x ∷ xs) h differ = by (λ g. but_keeps n id xs g differ) (x == id) refl
     (or_cases (x == n) (is_member n xs) h)
@@ -62,20 +67,39 @@ but_keeps n id (x ∷ xs) h differ = by (λ g. but_keeps n id xs g differ) (x ==
     by rest false e (inl same) = ap (λ (b : Bool). b || is_member n (shape_without id xs)) same
     by rest false e (inr more) = ap (λ (b : Bool). (x == n) || b) (rest more) ∙ or_true_right (x == n)
 
+-- a list is not longer without some of its elements
+pub no_longer : {X : Type 0} (keep : X → Bool) (xs : List X) → length (filter keep xs) ≤ length xs
+no_longer keep xs = omega (arith, length-filter keep xs, count_by-le-length keep xs)
+
 -- ---- a part of a shape
 
 -- the second shape has no user and no group that the first lacks
-pub record IsWithin (whole part : EntryShape) : Type 0 where
+pub record IsPart (whole part : EntryShape) : Type 0 where
   pub users : (id : ℕ) → is_member id part.users ≡ true → is_member id whole.users ≡ true
   pub groups : (id : ℕ) → is_member id part.groups ≡ true → is_member id whole.groups ≡ true
 
-pub out_within : (name : Tag) (shape : EntryShape) → IsWithin shape (taken_out name shape)
-out_within user_obj shape = record { users = λ id h. h; groups = λ id h. h }
-out_within (user u) shape = record { users = λ id h. (member_but id u shape.users h).0; groups = λ id h. h }
-out_within group_obj shape = record { users = λ id h. h; groups = λ id h. h }
-out_within (group g) shape = record { users = λ id h. h; groups = λ id h. (member_but id g shape.groups h).0 }
-out_within mask shape = record { users = λ id h. h; groups = λ id h. h }
-out_within other shape = record { users = λ id h. h; groups = λ id h. h }
+-- a shape without a name is a part of the shape
+pub out_part : (name : Tag) (shape : EntryShape) → IsPart shape (taken_out name shape)
+out_part user_obj shape = record { users = λ id h. h; groups = λ id h. h }
+out_part (user u) shape = record { users = λ id h. (member_but id u shape.users h).0; groups = λ id h. h }
+out_part group_obj shape = record { users = λ id h. h; groups = λ id h. h }
+out_part (group g) shape = record { users = λ id h. h; groups = λ id h. (member_but id g shape.groups h).0 }
+out_part mask shape = record { users = λ id h. h; groups = λ id h. h }
+out_part other shape = record { users = λ id h. h; groups = λ id h. h }
+
+-- a shape without a name is no larger
+pub out_size : (name : Tag) (shape : EntryShape) → size_of (taken_out name shape) ≤ size_of shape
+out_size user_obj shape = omega arith
+out_size (user u) shape = omega (arith, no_longer (λ n. not (n == u)) shape.users)
+out_size group_obj shape = omega arith
+out_size (group g) shape = omega (arith, no_longer (λ n. not (n == g)) shape.groups)
+out_size mask shape = omega arith
+out_size other shape = omega arith
+
+-- if the users and groups of a shape are ids, so are those of a part
+pub part_ids : (whole part : EntryShape) → IsPart whole part → HasIds whole → HasIds part
+part_ids whole part p ids =
+    record { users = λ id h. ids.users id (p.users id h); groups = λ id h. ids.groups id (p.groups id h) }
 
 -- a member of neither list
 lacks_part : (id : ℕ) (whole part : List ℕ) → (is_member id part ≡ true → is_member id whole ≡ true)
@@ -86,23 +110,24 @@ lacks_part id whole part within lacking = elim (cases_Bool (is_member id part)) 
 ]
 
 -- a requester without an entry in a shape has none in a part of it
-pub class_part : (whole part : EntryShape) (object : Object) (requester : Requester) → IsWithin whole part
+pub class_part : (whole part : EntryShape) (object : Object) (requester : Requester) → IsPart whole part
     → is_in_class whole object requester ≡ true → is_in_class part object requester ≡ true
 class_part whole part object requester w h =
     let two = class_parts whole object requester h in
     rw (two.0, lacks_part requester.user whole.users part.users (w.users requester.user) two.1) refl
 
 -- an entry of a part is an entry of the shape
-pub part_there : (whole part : EntryShape) (t : Tag) → IsWithin whole part → is_in_shape part t ≡ true → is_in_shape whole t ≡ true
-part_there whole part user_obj w h = h
-part_there whole part (user id) w h = w.users id h
-part_there whole part group_obj w h = h
-part_there whole part (group id) w h = w.groups id h
-part_there whole part mask w h = h
-part_there whole part other w h = h
+pub part_has : (whole part : EntryShape) (t : Tag) → IsPart whole part → is_in_shape part t ≡ true
+    → is_in_shape whole t ≡ true
+part_has whole part user_obj w h = h
+part_has whole part (user id) w h = w.users id h
+part_has whole part group_obj w h = h
+part_has whole part (group id) w h = w.groups id h
+part_has whole part mask w h = h
+part_has whole part other w h = h
 
 -- ids that a shape does not have are not in a part of it
-free_part : (whole part : EntryShape) (keys : TagColumn) (free next own : ℕ) → IsWithin whole part
+free_part : (whole part : EntryShape) (keys : TagColumn) (free next own : ℕ) → IsPart whole part
     → AreFree whole keys free next own → AreFree part keys free next own
 free_part whole part keys free next own w f = record {
   free_id = f.free_id;
@@ -170,7 +195,8 @@ out_class shape u object requester l =
     let one = and_true (not (requester.user == object.user)) _ l in
     let two = and_true (requester.user == u) (is_member u shape.users) one.1 in
     let lacking : is_member requester.user (shape_without u shape.users) ≡ false =
-    ap (λ (n : ℕ). is_member n (shape_without u shape.users)) (eqb-true requester.user u two.0) ∙ but_lacks u shape.users in
+    ap (λ (n : ℕ). is_member n (shape_without u shape.users)) (eqb-true requester.user u two.0)
+    ∙ but_lacks u shape.users in
     rw (not-true _ one.0, lacking) refl
 
 -- a user who stays
@@ -189,13 +215,14 @@ user_stays list shape u v object requester want differ l has =
           has o r asked (rw (not-true _ a.0, b.0, (member_but v u shape.users b.1).0) refl);
     }
 
-pub nothing_lost : (list : List Ace) (shape : EntryShape) (name : Tag) → is_named name ≡ true → KeepsEntries list shape name
-    → LosesNothing list shape (taken_out name shape)
+-- if the entries that stay have what they had, and what the name had, nothing is lost
+pub nothing_lost : (list : List Ace) (shape : EntryShape) (name : Tag) → is_named name ≡ true
+    → KeepsEntries list shape name → LosesNothing list shape (taken_out name shape)
 nothing_lost list shape name named keeps object requester asked want few g = by name named keeps g.entry g.looks g.has
   where
     class : (n : Tag) → is_in_class shape object requester ≡ true
         → is_in_class (taken_out n shape) object requester ≡ true
-    class n h = class_part shape (taken_out n shape) object requester (out_within n shape) h
+    class n h = class_part shape (taken_out n shape) object requester (out_part n shape) h
 
     by : (n : Tag) → is_named n ≡ true → KeepsEntries list shape n → (e : Tag)
         → looks_at shape object requester e ≡ true → AlwaysHas list shape e want
@@ -216,7 +243,11 @@ nothing_lost list shape name named keeps object requester asked want few g = by 
     ]
     by (user u) d k group_obj l h =
         let two = and_true (is_in_class shape object requester) _ l in
-        record { entry = group_obj; looks = rw (class (user u) two.0, two.1) refl; has = k group_obj refl refl want few (inl h) }
+        record {
+          entry = group_obj;
+          looks = rw (class (user u) two.0, two.1) refl;
+          has = k group_obj refl refl want few (inl h);
+        }
     by (user u) d k (group v) l h =
         let two = and_true (is_in_class shape object requester) _ l in
         let one = and_true (is_member v requester.groups) (is_member v shape.groups) two.1 in
@@ -228,12 +259,20 @@ nothing_lost list shape name named keeps object requester asked want few g = by 
     by (user u) d k mask l h = absurd (false≢true l)
     by (user u) d k other l h =
         let two = and_true (is_in_class shape object requester) _ l in
-        record { entry = other; looks = rw (class (user u) two.0, not-true _ two.1) refl; has = k other refl refl want few (inl h) }
+        record {
+          entry = other;
+          looks = rw (class (user u) two.0, not-true _ two.1) refl;
+          has = k other refl refl want few (inl h);
+        }
     by (group u) d k user_obj l h = record { entry = user_obj; looks = l; has = h }
     by (group u) d k (user v) l h = record { entry = user v; looks = l; has = h }
     by (group u) d k group_obj l h =
         let two = and_true (is_in_class shape object requester) _ l in
-        record { entry = group_obj; looks = rw (class (group u) two.0, two.1) refl; has = k group_obj refl refl want few (inl h) }
+        record {
+          entry = group_obj;
+          looks = rw (class (group u) two.0, two.1) refl;
+          has = k group_obj refl refl want few (inl h);
+        }
     by (group u) d k (group v) l h =
         let two = and_true (is_in_class shape object requester) _ l in
         let one = and_true (is_member v requester.groups) (is_member v shape.groups) two.1 in
@@ -281,7 +320,8 @@ only : (t : EntryShape) (e : Tag) (extra : Option Tag) (free next own : ℕ) →
     → is_in_class t (object_at e extra free next own) (requester_at e extra free own) ≡ true
     → (x : Tag) → looks_at t (object_at e extra free next own) (requester_at e extra free own) x ≡ true → x ≡ e
 only t e extra free next own s there o1 o2 n1 n2 class user_obj l =
-    absurd (true≢false (sym l ∙ (class_parts t (object_at e extra free next own) (requester_at e extra free own) class).0))
+    absurd (true≢false (sym l
+    ∙ (class_parts t (object_at e extra free next own) (requester_at e extra free own) class).0))
 only t e extra free next own s there o1 o2 n1 n2 class (user v) l =
     let one = and_true (not (asker e extra free == (object_at e extra free next own).user)) _ l in
     let two = and_true (asker e extra free == v) (is_member v t.users) one.1 in
@@ -330,7 +370,8 @@ may_be_out shape (user u) (group v) n s = ap (λ (b : Bool). not b) (but_lacks u
 may_be_out shape (user u) mask n s = absurd (false≢true s)
 may_be_out shape (user u) other n s = ap (λ (b : Bool). not b) (but_lacks u shape.users)
 may_be_out shape group_obj e n s = absurd (false≢true n)
-may_be_out shape (group g) e n s = ap (λ (b : Bool). not (eq_by_cmp tag_cmp e other) || not b) (but_lacks g shape.groups)
+may_be_out shape (group g) e n s =
+    ap (λ (b : Bool). not (eq_by_cmp tag_cmp e other) || not b) (but_lacks g shape.groups)
     ∙ or_true_right (not (eq_by_cmp tag_cmp e other))
 may_be_out shape mask e n s = absurd (false≢true n)
 may_be_out shape other e n s = absurd (false≢true n)
@@ -372,8 +413,8 @@ owned mask extra free next own s = absurd (false≢true s)
 owned other extra free next own s = refl
 
 -- before it was taken out, the check looked at its entry
-looked_out : (shape : EntryShape) (name e : Tag) (free next own : ℕ) (keys : TagColumn) → AreFree shape keys free next own
-    → is_named name ≡ true → is_in_shape shape name ≡ true → is_shared e ≡ true
+looked_out : (shape : EntryShape) (name e : Tag) (free next own : ℕ) (keys : TagColumn)
+    → AreFree shape keys free next own → is_named name ≡ true → is_in_shape shape name ≡ true → is_shared e ≡ true
     → looks_at shape (object_at e (Some name) free next own) (requester_at e (Some name) free own) name ≡ true
 looked_out shape user_obj e free next own keys f n there s = absurd (false≢true n)
 looked_out shape (user u) e free next own keys f n there s =
@@ -401,9 +442,9 @@ entries_kept list shape name is loses e shared there want few has =
     let t : EntryShape = taken_out name shape in
     let keys : TagColumn = (name, Allow) ∷ [] in
     let (free, next, own, f) = free_ids shape keys is.few (omega arith) in
-    let w = out_within name shape in
+    let w = out_part name shape in
     let ft = free_part shape t keys free next own w f in
-    let whole = part_there shape t e w there in
+    let whole = part_has shape t e w there in
     let ids : HasIds shape = record { users = is.users; groups = is.groups } in
     let tag : IsTag e = entry_id shape e ids whole in
     let known : IsTag name = entry_id shape name ids is.there in
@@ -438,6 +479,7 @@ entries_kept list shape name is loses e shared there want few has =
           }))
     ]
 
+-- nothing is lost without a name if and only if the entries that stay keep what they and the name had
 pub entries_decide : (list : List Ace) (shape : EntryShape) (name : Tag) → IsNameOf shape name
     → LosesNothing list shape (taken_out name shape) ↔ KeepsEntries list shape name
 entries_decide list shape name is =

@@ -53,6 +53,7 @@ pub record IsFirst (test : Tag → Bool) (keys : TagColumn) : Type 0 where
   pub stays : (fewer : Tag → Bool) → fewer tag ≡ true
       → ((t : Tag) → has_tag t keys ≡ true → fewer t ≡ true → test t ≡ true) → column_decided_by fewer keys false ≡ true
 
+-- a column that grants has a key that decides that it does
 pub first_allow : (test : Tag → Bool) (keys : TagColumn) → test other ≡ true → column_decided_by test keys false ≡ true
     → IsFirst test keys
 first_allow test [] all h = absurd (false≢true h)
@@ -134,10 +135,11 @@ entry_has E t has all there = by (fin.entries E) all (sym (fin.contains_key-keys
     by : (es : List (Tag × ℕ)) → AllByRecursion (λ entry. has entry.0) es
         → list_any (eq_by_cmp tag_cmp t) (map (λ entry. entry.0) es) ≡ true → has t
     by [] all h = absurd (false≢true h)
-    by (e ∷ es) all h = elim (or_cases (eq_by_cmp tag_cmp t e.0) (list_any (eq_by_cmp tag_cmp t) (map (λ entry. entry.0) es)) h) [
-      | inl same ↦ subst has (sym (same_tag t e.0 same)) all.0
-      | inr more ↦ by es all.1 more
-    ]
+    by (e ∷ es) all h =
+        elim (or_cases (eq_by_cmp tag_cmp t e.0) (list_any (eq_by_cmp tag_cmp t) (map (λ entry. entry.0) es)) h) [
+          | inl same ↦ subst has (sym (same_tag t e.0 same)) all.0
+          | inr more ↦ by es all.1 more
+        ]
 
 -- a test of the tags of entries
 keys_any : (es : List (Tag × ℕ)) (t : Tag)
@@ -146,8 +148,8 @@ keys_any [] t = refl
 keys_any (e ∷ es) t = ap (λ (b : Bool). eq_by_cmp tag_cmp t e.0 || b) (keys_any es t)
 
 -- if each entry that passes one test passes another, then some entry passes the second if some passes the first
-any_more : (one two : Tag × ℕ → Bool) (es : List (Tag × ℕ)) → AllByRecursion (λ entry. one entry ≡ true → two entry ≡ true) es
-    → list_any one es ≡ true → list_any two es ≡ true
+any_more : (one two : Tag × ℕ → Bool) (es : List (Tag × ℕ))
+    → AllByRecursion (λ entry. one entry ≡ true → two entry ≡ true) es → list_any one es ≡ true → list_any two es ≡ true
 any_more one two [] all h = h
 any_more one two (e ∷ es) all h = elim (or_cases (one e) (list_any one es) h) [
   | inl here ↦ ap (λ (b : Bool). b || list_any two es) (all.0 here)
@@ -188,7 +190,8 @@ matches_within used object requester object' requester' w mask u h = absurd (fal
 matches_within used object requester object' requester' w other u h = absurd (false≢true h)
 
 -- a tag of an entry that denies: it has what each entry has
-pub record IsDenier (E : Entries) (used : List ℕ) (object : Object) (requester : Requester) (want : ℕ) (fact : Tag → Type 0)
+pub record IsDenier (E : Entries) (used : List ℕ) (object : Object) (requester : Requester) (want : ℕ)
+    (fact : Tag → Type 0)
     : Type 0 where
   pub tag : Tag
   pub meets : tag_meets object requester tag ≡ true
@@ -222,15 +225,15 @@ less_both true false c f h = absurd (false≢true (f refl))
 less_both false b c f h = refl
 
 -- facts about the second situation
-not_owner : (E : Entries) (used : List ℕ) (object : Object) (requester : Requester) (object' : Object) (requester' : Requester)
-    → is_member (qualifier user_obj) used ≡ true
+not_owner : (E : Entries) (used : List ℕ) (object : Object) (requester : Requester) (object' : Object)
+    (requester' : Requester) → is_member (qualifier user_obj) used ≡ true
     → IsWithin used object requester object' requester' → (requester.user == object.user) ≡ false
     → (requester'.user == object'.user) ≡ false
 not_owner E used object requester object' requester' u w h =
     less_false (requester'.user == object'.user) (requester.user == object.user) (w user_obj u) h
 
-no_entry : (E : Entries) (used : List ℕ) (object : Object) (requester : Requester) (object' : Object) (requester' : Requester)
-    → ((t : Tag) → fin.contains_key E t ≡ true → is_member (qualifier t) used ≡ true)
+no_entry : (E : Entries) (used : List ℕ) (object : Object) (requester : Requester) (object' : Object)
+    (requester' : Requester) → ((t : Tag) → fin.contains_key E t ≡ true → is_member (qualifier t) used ≡ true)
     → IsWithin used object requester object' requester' → fin.contains_key E (user requester.user) ≡ false
     → fin.contains_key E (user requester'.user) ≡ false
 no_entry E used object requester object' requester' known w h =
@@ -357,14 +360,15 @@ passed_class E want object requester c (user id) whole oe ue one h m =
     let zero = level_none E requester id ue m in inl (omega (arith, one, zero))
 passed_class E want object requester c group_obj whole oe ue one h m =
     inr (sym one, lacks_class E object.group want requester.groups group_obj whole m h)
-passed_class E want object requester c (group id) whole oe ue one h m = elim (cases_Bool (is_some (fin.get E (group id)))) [
-  | inl there ↦ inr (
-    level_class E object.group requester.groups (group id) m there ∙ sym one,
-    lacks_class E object.group want requester.groups (group id) whole m h,
-  )
-  | inr none ↦ let zero : level E (group id) ≡ 0 = ap (λ (b : Bool). if b then 1 else 0) none in
-      inl (omega (arith, one, zero))
-]
+passed_class E want object requester c (group id) whole oe ue one h m =
+    elim (cases_Bool (is_some (fin.get E (group id)))) [
+      | inl there ↦ inr (
+        level_class E object.group requester.groups (group id) m there ∙ sym one,
+        lacks_class E object.group want requester.groups (group id) whole m h,
+      )
+      | inr none ↦ let zero : level E (group id) ≡ 0 = ap (λ (b : Bool). if b then 1 else 0) none in
+          inl (omega (arith, one, zero))
+    ]
 passed_class E want object requester c mask whole oe ue one h m = absurd (false≢true m)
 passed_class E want object requester c other whole oe ue one h m = inl (omega (arith, one))
 
@@ -392,6 +396,7 @@ passed_others E want object requester (group id) complete oe ue me h m =
 passed_others E want object requester mask complete oe ue me h m = absurd (false≢true m)
 passed_others E want object requester other complete oe ue me h m = inr (refl, ap (λ (b : Bool). not b) h)
 
+-- if the check denies a permission, there is an entry that denies it
 pub denier : (E : Entries) (used : List ℕ) (object : Object) (requester : Requester) (want : ℕ) (has : Tag → Type 0)
     → Complete E → contains 7 want ≡ true
     → AllByRecursion (λ entry. is_member (qualifier entry.0) used ≡ true) (fin.entries E)
@@ -438,7 +443,8 @@ denier E used object requester want has complete whole named all h =
               (all_more (λ entry. is_member (qualifier entry.0) used ≡ true)
               (λ entry. (tag_matches object'.group requester'.groups entry.0 && contains entry.1 want) ≡ true
               → (tag_matches object.group requester.groups entry.0 && contains entry.1 want) ≡ true) (fin.entries E)
-              (λ entry u g. let two = and_true (tag_matches object'.group requester'.groups entry.0) (contains entry.1 want) g in
+              (λ entry u g. let two = and_true (tag_matches object'.group requester'.groups entry.0)
+              (contains entry.1 want) g in
               rw (matches_within used object requester object' requester' w entry.0 u two.0, two.1) refl) named))
               class_denies;
         }

@@ -48,8 +48,8 @@ flagged_accepted more list small ok = record {
 }
 
 -- one more ACE that the child has
-pub one_more_flagged : (more : ℕ) (kind : ChildKind) (done : List Ace) (a : Ace) (f flags : ℕ) (left rest whole : List Ace)
-    → left ≡ a ∷ rest → child_flags kind a.flags ≡ Some f → flags ≡ bit_or f more
+pub one_more_flagged : (more : ℕ) (kind : ChildKind) (done : List Ace) (a : Ace) (f flags : ℕ)
+    (left rest whole : List Ace) → left ≡ a ∷ rest → child_flags kind a.flags ≡ Some f → flags ≡ bit_or f more
     → done ++ map (flagged more) (children kind left) ≡ whole
     → (done ++ with_flags a flags ∷ []) ++ map (flagged more) (children kind rest) ≡ whole
 one_more_flagged more kind done a f flags left rest whole next has is so_far =

@@ -1,6 +1,6 @@
 -- Which principals match, as a function of their tags, and the entries at which the check looks then. In place of
 -- situations such functions are changed freely: without groups, with another user, with one group alone.
-use Rattle.std.proofs.Common.{◌≡◌, ℕ, Bool, true, false, List, [], refl, sym, ap, subst, ◌∙◌, inl, inr}
+use Rattle.std.proofs.Common.{◌≡◌, ℕ, Bool, true, false, List, refl, sym, ap, subst, ◌∙◌, inl, inr}
 use Rattle.std.proofs.lemmas.Bool.{cases_Bool, eqb-true, false≢true, or_cases, true≢false}
 use Rattle.std.specs.Prelude.{◌==◌, ◌||◌}
 use Rattle.std.specs.List.{list_any}
@@ -11,8 +11,8 @@ use Rattle.acl_posix.specs.Tag.{Tag, user_obj, user, group_obj, group, mask, oth
 use Rattle.acl_posix.proofs.Exports.{same_tag}
 use Rattle.acl_eval.specs.Pruning.{is_shared, shape_without, taken_out}
 use Rattle.acl_eval.specs.ToPosix.{EntryShape, is_in_shape}
-use Rattle.acl_eval.proofs.AlwaysDecides.{HasIds, same_itself}
-use Rattle.acl_eval.proofs.Losses.{but_keeps, but_lacks, member_but}
+use Rattle.acl_eval.proofs.AlwaysDecides.{same_itself}
+use Rattle.acl_eval.proofs.Losses.{IsPart, but_keeps, but_lacks}
 use Rattle.acl_eval.proofs.ShapeChecks.{any_member, some_member}
 
 -- ---- matchings
@@ -88,6 +88,7 @@ one_user u v x h g = ap qualifier (same_tag (user u) x h ∙ sym (same_tag (user
 pub same_id : (t d : Tag) → IsTag d → eq_by_cmp tag_cmp t d ≡ true → IsTag t
 same_id t d is h = subst IsTag (sym (same_tag t d h)) is
 
+-- a matching without its users is a matching
 pub no_users_matching : (m : Matching) → IsMatching m → IsMatching (no_users m)
 no_users_matching m ok = record { everyone = ok.everyone; one = λ u v h g. absurd (false≢true h); ids = by }
   where
@@ -99,6 +100,7 @@ no_users_matching m ok = record { everyone = ok.everyone; one = λ u v h g. absu
     by mask h = tt
     by other h = tt
 
+-- a matching with another user is a matching
 pub with_user_matching : (u : ℕ) (m : Matching) → IsId u → IsMatching m → IsMatching (with_user u m)
 with_user_matching u m is ok = record {
   everyone = ok.everyone;
@@ -114,6 +116,7 @@ with_user_matching u m is ok = record {
     by mask h = tt
     by other h = tt
 
+-- a matching without its groups is a matching
 pub no_groups_matching : (m : Matching) → IsMatching m → IsMatching (no_groups m)
 no_groups_matching m ok = record { everyone = ok.everyone; one = ok.one; ids = by }
   where
@@ -125,6 +128,7 @@ no_groups_matching m ok = record { everyone = ok.everyone; one = ok.one; ids = b
     by mask h = tt
     by other h = tt
 
+-- a matching with one group in place of its groups is a matching
 pub with_group_matching : (d : Tag) (m : Matching) → IsTag d → IsMatching m → IsMatching (with_group d m)
 with_group_matching d m is ok = record { everyone = ok.everyone; one = ok.one; ids = by }
   where
@@ -136,6 +140,7 @@ with_group_matching d m is ok = record { everyone = ok.everyone; one = ok.one; i
     by mask h = tt
     by other h = tt
 
+-- a stranger in no group is a matching
 pub nobody_matching : IsMatching nobody
 nobody_matching = record { everyone = refl; one = λ u v h g. absurd (false≢true h); ids = by }
   where
@@ -147,9 +152,11 @@ nobody_matching = record { everyone = refl; one = λ u v h g. absurd (false≢tr
     by mask h = tt
     by other h = tt
 
+-- a stranger in one group alone is a matching
 pub alone_matching : (d : Tag) → IsTag d → IsMatching (alone d)
 alone_matching d is = with_group_matching d nobody is nobody_matching
 
+-- a stranger in one group, with one more tag, is a matching
 pub also_matching : (x e : Tag) → IsTag x → IsTag e → IsMatching (also x (alone e))
 also_matching x e is there = record {
   everyone = refl;
@@ -162,41 +169,18 @@ also_matching x e is there = record {
 
 -- ---- shapes
 
--- the second shape has no user and no group that the first lacks
-pub record IsPart (whole part : EntryShape) : Type 0 where
-  pub users : (id : ℕ) → is_member id part.users ≡ true → is_member id whole.users ≡ true
-  pub groups : (id : ℕ) → is_member id part.groups ≡ true → is_member id whole.groups ≡ true
-
+-- a shape is a part of itself
 pub part_itself : (shape : EntryShape) → IsPart shape shape
 part_itself shape = record { users = λ id h. h; groups = λ id h. h }
 
+-- a part of a part is a part
 pub part_of_part : (one two three : EntryShape) → IsPart one two → IsPart two three → IsPart one three
 part_of_part one two three p q =
     record { users = λ id h. p.users id (q.users id h); groups = λ id h. p.groups id (q.groups id h) }
 
-pub out_part : (name : Tag) (shape : EntryShape) → IsPart shape (taken_out name shape)
-out_part user_obj shape = record { users = λ id h. h; groups = λ id h. h }
-out_part (user u) shape = record { users = λ id h. (member_but id u shape.users h).0; groups = λ id h. h }
-out_part group_obj shape = record { users = λ id h. h; groups = λ id h. h }
-out_part (group g) shape = record { users = λ id h. h; groups = λ id h. (member_but id g shape.groups h).0 }
-out_part mask shape = record { users = λ id h. h; groups = λ id h. h }
-out_part other shape = record { users = λ id h. h; groups = λ id h. h }
-
-pub part_ids : (whole part : EntryShape) → IsPart whole part → HasIds whole → HasIds part
-part_ids whole part p ids =
-    record { users = λ id h. ids.users id (p.users id h); groups = λ id h. ids.groups id (p.groups id h) }
-
-pub part_has : (whole part : EntryShape) (t : Tag) → IsPart whole part → is_in_shape part t ≡ true
-    → is_in_shape whole t ≡ true
-part_has whole part user_obj p h = h
-part_has whole part (user id) p h = p.users id h
-part_has whole part group_obj p h = h
-part_has whole part (group id) p h = p.groups id h
-part_has whole part mask p h = h
-part_has whole part other p h = h
-
 -- a name that was taken out is gone
-pub out_lacks : (name : Tag) (shape : EntryShape) → is_named name ≡ true → is_in_shape (taken_out name shape) name ≡ false
+pub out_lacks : (name : Tag) (shape : EntryShape) → is_named name ≡ true
+    → is_in_shape (taken_out name shape) name ≡ false
 out_lacks user_obj shape n = absurd (false≢true n)
 out_lacks (user u) shape n = but_lacks u shape.users
 out_lacks group_obj shape n = absurd (false≢true n)
@@ -220,6 +204,7 @@ gone_from n id xs there gone = elim (cases_Bool (n == id)) [
   | inr differ ↦ absurd (true≢false (sym (but_keeps n id xs there differ) ∙ gone))
 ]
 
+-- a tag that a shape has, and does not have without a name, is this name
 pub gone : (x y : Tag) (shape : EntryShape) → is_in_shape shape x ≡ true → is_in_shape (taken_out y shape) x ≡ false
     → x ≡ y
 gone (user u) (user v) shape h g = ap user (gone_from u v shape.users h g)
@@ -284,7 +269,8 @@ rest_shared s m mask r l = absurd l
 rest_shared s m other r l = refl
 
 -- the rest of a shape are among the rest of a part of it
-pub rest_part : (whole part : EntryShape) (m : Matching) → IsPart whole part → IsRest whole.users m → IsRest part.users m
+pub rest_part : (whole part : EntryShape) (m : Matching) → IsPart whole part → IsRest whole.users m
+    → IsRest part.users m
 rest_part whole part m p r = record { owner = r.owner; others = λ id h. r.others id (p.users id h) }
 
 -- with fewer names, the check looks at an entry that stays in no fewer cases
@@ -327,6 +313,7 @@ none_passes p xs none n has = elim (cases_Bool (p n)) [
   | inr fails ↦ fails
 ]
 
+-- for a requester who is neither the owner nor a user of the shape, the check looks at a shared entry
 pub rest_looks : (s : EntryShape) (m : Matching) → IsRest s.users m → SomeShared s m
 rest_looks s m r = elim (cases_Bool (m group_obj)) [
   | inl owning ↦ record { entry = group_obj; shared = refl; looks = (r, owning) }
@@ -344,6 +331,7 @@ rest_looks s m r = elim (cases_Bool (m group_obj)) [
 
 -- ---- strangers in one group alone
 
+-- a stranger in one group is neither the owner nor a user
 pub alone_rest : (users : List ℕ) (e : Tag) → IsRest users (alone e)
 alone_rest users e = record { owner = refl; others = λ id h. refl }
 
@@ -357,7 +345,8 @@ alone_looks s mask h there = absurd (false≢true h)
 alone_looks s other h there = (alone_rest s.users other, refl, λ id i. refl)
 
 -- and at no other
-pub alone_only : (s : EntryShape) (e x : Tag) → is_shared e ≡ true → is_in_shape s e ≡ true → Looks s (alone e) x → x ≡ e
+pub alone_only : (s : EntryShape) (e x : Tag) → is_shared e ≡ true → is_in_shape s e ≡ true → Looks s (alone e) x
+    → x ≡ e
 alone_only s e user_obj h there l = absurd (false≢true l)
 alone_only s e (user id) h there l = absurd (false≢true l.2)
 alone_only s e mask h there l = absurd l

@@ -15,6 +15,9 @@ use Rattle.std.specs.Str.{bytes_eq}
 use Rattle.std.specs.declared.cmp.Ordering.{Ordering}
 use Rattle.std.specs.declared.cmp.Ordering.TheVariants.{Less, Equal, Greater}
 use Rattle.acl_eval.specs.GroupSearch.{AreSameGroups}
+use Rattle.acl_eval.specs.Situation.{groups_of, named_situation, owner_of, owning_group_of, situation, user_of}
+use Rattle.acl_eval.specs.declared.situation.Object.{Object}
+use Rattle.acl_eval.specs.declared.situation.Requester.{Requester}
 use Rattle.acl_eval.specs.internal.GroupOrder.{AreInOrder}
 
 -- a test of the values behind references
@@ -87,3 +90,10 @@ halves names name (Err i) order lt at =
         → bytes_eq name.now (slice_index_or names k d).now ≡ false
     apart k d l (inl low) = eq_as_cmp name.now _ Less (split.0 k d (omega arith) low)
     apart k d l (inr high) = eq_as_cmp name.now _ Greater (split.1 k d high l)
+
+-- the situation of a requester depends on the user and the groups alone
+pub same_situation : (object : Object) (one other : Requester) → user_of one ≡ user_of other
+    → groups_of one ≡ groups_of other → situation object one ≡ situation object other
+same_situation object one other user groups =
+    ap (λ (name : List ℕ). named_situation (owner_of object) (owning_group_of object) name (groups_of one)) user
+    ∙ ap (named_situation (owner_of object) (owning_group_of object) (user_of other)) groups

@@ -115,7 +115,8 @@ module _ (suffix : List ℕ) (list : List Ace) (v : Assignment) (s : Situation) 
   new_is name = any_of_map (λ a. is_unknown_special a.who && v a.who) (λ a. a.who ++ suffix) name list
 
   -- a name that stands for no identifier is not among the groups that match
-  not_new : (name : List ℕ) → is_stand_in suffix list name ≡ false → is_one_of name (matched_groups v suffix list) ≡ false
+  not_new : (name : List ℕ) → is_stand_in suffix list name ≡ false
+      → is_one_of name (matched_groups v suffix list) ≡ false
   not_new name free = new_is name ∙ is_false (list_any (gives name) list) (λ e.
       true≢false (sym (any_implies (gives name) (λ a. is_unknown_special a.who && bytes_eq (a.who ++ suffix) name) list
       (λ a h. let both = and_parts _ _ h in
@@ -136,7 +137,8 @@ module _ (suffix : List ℕ) (list : List Ace) (v : Assignment) (s : Situation) 
       (λ g h. ap (is_stand_in suffix list) (sym (bytes_eq_same name g h)) ∙ stands) e) ∙ apart.groups))
 
   -- it is one after if and only if the assignment matches the identifier
-  now_is : (a : Ace) → AlwaysHas list a → is_unknown_special a.who ≡ true → is_one_of (a.who ++ suffix) after.groups ≡ v a.who
+  now_is : (a : Ace) → AlwaysHas list a → is_unknown_special a.who ≡ true
+      → is_one_of (a.who ++ suffix) after.groups ≡ v a.who
   now_is a has unknown = list_any-append (bytes_eq name) s.groups (matched_groups v suffix list)
       ∙ ap (λ (t : Bool). t || is_one_of name (matched_groups v suffix list)) (not_before name stands)
       ∙ new_is name ∙ by (v a.who) refl
@@ -227,8 +229,8 @@ module _ (suffix : List ℕ) (list : List Ace) (v : Assignment) (s : Situation) 
       by false u = rw u refl
 
   -- it decides a bit if and only if the ACE does under the assignment
-  same_decides : (a : Ace) (bit : ℕ) → AlwaysHas list a → is_misnamed suffix a ≡ false → has_taken_name suffix list a ≡ false
-      → decides after bit (with_stand_in suffix a) ≡ decides_under v s bit a
+  same_decides : (a : Ace) (bit : ℕ) → AlwaysHas list a → is_misnamed suffix a ≡ false
+      → has_taken_name suffix list a ≡ false → decides after bit (with_stand_in suffix a) ≡ decides_under v s bit a
   same_decides a bit has named free =
       ap (λ (t : Bool). has_bit a.mask bit && (takes_part (with_stand_in suffix a) && t)) (same_match a has named free)
       ∙ ap (λ (t : Bool). has_bit a.mask bit && (t && matches_under v s a)) (same_part a)
@@ -240,7 +242,8 @@ module _ (suffix : List ℕ) (list : List Ace) (v : Assignment) (s : Situation) 
 
   -- so does the first ACE that decides
   same_kind : (part : List Ace) (bit : ℕ) → AllByRecursion (AlwaysHas list) part
-      → AllByRecursion (λ a. is_misnamed suffix a ≡ false) part → AllByRecursion (λ a. has_taken_name suffix list a ≡ false) part
+      → AllByRecursion (λ a. is_misnamed suffix a ≡ false) part
+      → AllByRecursion (λ a. has_taken_name suffix list a ≡ false) part
       → option_map (λ a. a.kind) (find (decides after bit) (with_groups suffix part)) ≡ answer_under v part s bit
   same_kind [] bit has named free = refl
   same_kind (a ∷ part) bit has named free = by (same_kind part bit has.1 named.1 free.1) (decides_under v s bit a) refl
@@ -301,7 +304,8 @@ same_under rights suffix list other free same v s apart is request within = (
   has : AllByRecursion (AlwaysHas whole) list × AllByRecursion (AlwaysHas whole) other
   has = each_half (AlwaysHas whole) list other (has_each [] whole whole refl)
 
-  named : AllByRecursion (λ a. is_misnamed suffix a ≡ false) list × AllByRecursion (λ a. is_misnamed suffix a ≡ false) other
+  named : AllByRecursion (λ a. is_misnamed suffix a ≡ false) list
+      × AllByRecursion (λ a. is_misnamed suffix a ≡ false) other
   named = each_half (λ a. is_misnamed suffix a ≡ false) list other (none_each (is_misnamed suffix) whole free.named)
 
   unmerged : AllByRecursion (λ a. has_taken_name suffix whole a ≡ false) list

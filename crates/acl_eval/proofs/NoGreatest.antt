@@ -345,12 +345,14 @@ full_each : (rules : List Rule) (o u g n m r : ℕ) → o < 8 → u < 8 → g < 
     → Passes rules user_and_group user_obj o → Passes rules user_and_group (user 1) u
     → Passes rules user_and_group group_obj g → Passes rules user_and_group (group 2) n
     → Passes rules user_and_group other r → Each rules user_and_group (as_set (full_set o u g n m r))
-full_each rules o u g n m r lo lu lg ln lr po pu pg pn pr user_obj h = (o, lo, found (full_set o u g n m r) user_obj, po)
+full_each rules o u g n m r lo lu lg ln lr po pu pg pn pr user_obj h =
+    (o, lo, found (full_set o u g n m r) user_obj, po)
 full_each rules o u g n m r lo lu lg ln lr po pu pg pn pr (user id) h = subst
     (λ (i : ℕ). (p : ℕ) × (p < 8) × (fin.get (as_set (full_set o u g n m r)) (user i) ≡ Some p)
     × Passes rules user_and_group (user i) p) (one_member 1 id h)
     (u, lu, found (full_set o u g n m r) (user 1), pu)
-full_each rules o u g n m r lo lu lg ln lr po pu pg pn pr group_obj h = (g, lg, found (full_set o u g n m r) group_obj, pg)
+full_each rules o u g n m r lo lu lg ln lr po pu pg pn pr group_obj h =
+    (g, lg, found (full_set o u g n m r) group_obj, pg)
 full_each rules o u g n m r lo lu lg ln lr po pu pg pn pr (group id) h = subst
     (λ (i : ℕ). (p : ℕ) × (p < 8) × (fin.get (as_set (full_set o u g n m r)) (group i) ≡ Some p)
     × Passes rules user_and_group (group i) p) (one_member 2 id h)
@@ -459,8 +461,8 @@ second_1 = sound_by_passes rules_1 group_alone (as_set (group_set 0 0 4 4 0)) ar
     (none_passes rules_1 group_alone user_obj) (none_passes rules_1 group_alone group_obj)
     (read_passes rules_1 group_alone (group 2) refl) (none_passes rules_1 group_alone other))
 
-none_1 : (A : Entries) → IsAcl A → LeavesSomeOut A → IsSound (rules_list rules_1) A → GrantsNothingMore all_but_the_user A
-    → GrantsNothingMore members_alone A → ⊥
+none_1 : (A : Entries) → IsAcl A → LeavesSomeOut A → IsSound (rules_list rules_1) A
+    → GrantsNothingMore all_but_the_user A → GrantsNothingMore members_alone A → ⊥
 unfolding image all_but_the_user members_alone
 none_1 A acl out sound first second =
     let (owner, o) = some_owner out.free in
@@ -476,6 +478,7 @@ none_1 A acl out sound first second =
     ] in
     false≢true (decided_so rules_1 A out.free owner 1 [] 4 0 are_1 sound o (omega arith) tt (omega arith) refl alone)
 
+-- for the list that denies a user, no ACL is above both
 pub user_case : HaveNoneAbove denied_user all_but_the_user members_alone
 user_case = subst (λ (l : List Ace). HaveNoneAbove l all_but_the_user members_alone) list_1
     (record { first_sound = first_1; second_sound = second_1; none = none_1 })
@@ -525,13 +528,15 @@ none_2 A acl out sound first second =
     lifted user_writes A out.free owner 1 [] 2 first o (omega arith) (omega arith)
     (user_has 0 2 0 4 6 0 owner 2 (omega arith) o.not_user refl refl) in
     elim (cases_Bool (fin.contains_key A (user 1))) [
-      | inl named ↦ false≢true (decided_so rules_2 A out.free owner 1 [] 4 0 are_2 sound o (omega arith) tt (omega arith)
+      | inl named ↦
+          false≢true (decided_so rules_2 A out.free owner 1 [] 4 0 are_2 sound o (omega arith) tt (omega arith)
           refl (own_entry A owner 1 (2 ∷ []) [] 4 acl.valid refl o.not_user named reads))
       | inr nameless ↦ false≢true (sym (stranger_writes owner out.free out.another)
           ∙ decided_so rules_2 A out.free owner out.free [] 2 1 are_2 sound o out.is_id tt (omega arith) refl
           (no_entry A owner 1 out.free [] 2 acl.valid refl o.not_user o.not_free nameless out.unnamed writes))
     ]
 
+-- for the list with two permissions, no ACL is above both
 pub permissions_case : HaveNoneAbove two_permissions user_writes members_alone
 permissions_case = subst (λ (l : List Ace). HaveNoneAbove l user_writes members_alone) list_2
     (record { first_sound = first_2; second_sound = second_2; none = none_2 })
@@ -618,6 +623,7 @@ none_3 A acl out sound first second =
           (at [] 4 refl ∙ rw (matches_none A) others))
     ]
 
+-- for the list with two groups, no ACL is above both
 pub groups_case : HaveNoneAbove two_groups members_read others_write
 groups_case = subst (λ (l : List Ace). HaveNoneAbove l members_read others_write) list_3
     (record { first_sound = first_3; second_sound = second_3; none = none_3 })

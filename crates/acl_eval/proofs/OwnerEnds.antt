@@ -1,13 +1,14 @@
--- Where the rule for an object whose owner and owning group are known ends, the ACL is the greatest of its shape, and maximal.
-use Rattle.std.proofs.Common.{◌≡◌, ◌≤◌, ℕ, Bool, true, false, List, [], Option, None, Some, refl, sym, ap, subst, ◌∙◌, arith}
+-- Where the rule for an object whose owner and owning group are known ends, the ACL is the greatest of its shape, and
+-- maximal.
+use Rattle.std.proofs.Common.{◌≡◌, ℕ, Bool, true, false, List, [], Option, None, Some, refl, sym, ap, subst, ◌∙◌, arith}
 use Rattle.std.proofs.lemmas.Bool.{eq-eqb, false≢true}
 use Rattle.std.proofs.lemmas.List.Elements.{All-from_recursion}
 use Rattle.std.specs.Prelude.{◌==◌, bit_and, unwrap_or}
 use Rattle.std.specs.FinMap as fin
 use Rattle.acl_perm.specs.Bits.{IsPerm}
-use Rattle.acl_posix.specs.Check.{Object, Requester, contains, entry_contains, grants, is_contained, is_member}
+use Rattle.acl_posix.specs.Check.{Requester, contains, entry_contains, grants, is_contained}
 use Rattle.acl_posix.specs.Entries.{Entries}
-use Rattle.acl_posix.specs.Excess.{AreParties, GrantsNothingMoreOf}
+use Rattle.acl_posix.specs.Excess.{GrantsNothingMoreOf}
 use Rattle.acl_posix.specs.Id.{IsId}
 use Rattle.acl_posix.specs.Mask.{effective_of}
 use Rattle.acl_posix.specs.Names.{Table}
@@ -15,7 +16,7 @@ use Rattle.acl_posix.specs.Tag as tag
 use Rattle.acl_posix.specs.Tag.{Tag, is_masked}
 use Rattle.acl_posix.specs.Texts.{IsAcl}
 use Rattle.acl_nfs4.specs.Ace.{Ace}
-use Rattle.acl_eval.specs.BridgeLaws.{IsAsked, IsSingle}
+use Rattle.acl_eval.specs.BridgeLaws.{IsAsked}
 use Rattle.acl_eval.specs.Ids.{with_ids}
 use Rattle.acl_eval.specs.ListNames.{AreNamesOf}
 use Rattle.acl_eval.specs.PosixForOwner.{GrantsNothingMoreOfFor, IsBestFor, IsGreatestFor, IsMaximalFor, IsSoundFor, object_for, others_of}
@@ -49,6 +50,7 @@ best_holds_for o g list shape E t want best there whole h =
         unmasked : is_masked t ≡ true → effective_of E (t, p) ≡ p → bit_and p (unwrap_or (fin.get E tag.mask) p) ≡ p
         unmasked m kept = rw m at kept
 
+-- the ACL of a shape for such an object is the greatest of its shape
 pub greatest_for : (o g : ℕ) (list : List Ace) (s : EntryShape) (acl : Entries) → IsBestFor o g list s acl
     → IsGreatestFor o g list acl
 greatest_for o g list s acl best shape had one valid shaped sound want small requester asked allowed =
@@ -73,7 +75,8 @@ sound_all o g r list t one c lacks small_t valid shaped sound object requester a
     let whole = all_contain want small in
     let at = looked t one object requester want valid.valid shaped whole allowed in
     always_all o g r list t at.entry want c lacks small_t small (λ q fine looks. sound q fine want small
-    (granted t one (object_for o g) q want at.entry valid.valid shaped whole looks at.holds)) object requester asked at.looks
+    (granted t one (object_for o g) q want at.entry valid.valid shaped whole looks at.holds))
+    object requester asked at.looks
 
 -- what one ACL grants on such an object, the other grants there; so it does on each object
 less_all : (o g : ℕ) (r : OwnerRights) (list : List Ace) (s t : EntryShape) (acl one : Entries) (want : ℕ)
@@ -114,7 +117,8 @@ less_all o g r list s t acl one want c lacks lacks_t small_s small_t valid shape
     by false is =
         let at = looked s acl object q want valid.valid shaped whole fewer in
         let v = to_known o g r list s t object q c small_s small_t asked is in
-        let there = less v.requester v.asked (granted s acl (object_for o g) v.requester want at.entry valid.valid shaped
+        let there =
+        less v.requester v.asked (granted s acl (object_for o g) v.requester want at.entry valid.valid shaped
         whole (looks_moved o g list s t object q at.entry lacks v at.looks) at.holds) in
         let after = looked t one (object_for o g) v.requester want valid_one.valid shaped_one whole there in
         granted t one object q want after.entry valid_one.valid shaped_one whole
@@ -133,10 +137,12 @@ same_names table list o g names more one named also among = record {
       but_keeps id g names.groups (named.groups id ∙ sym (also.groups id) ∙ two.0) two.1;
 }
 
+-- where the rule ends, the ACL is maximal for such an object
 pub maximal_for : (table : Table) (o g : ℕ) (list : List Ace) (known : Columns) (names end : EntryShape) (acl : Entries)
     → AreNamesOf table list names → RuleFor o g (with_ids table list) known (others_of o g names) end acl
     → IsMaximalFor table o g list acl
-maximal_for table o g list known names end acl named rule more also one valid among sound less want small requester asked
+maximal_for table o g list known names end acl named rule more also one valid among sound less want small
+    requester asked
     allowed =
     let read = with_ids table list in
     let start = others_of o g names in
@@ -152,9 +158,9 @@ maximal_for table o g list known names end acl named rule more also one valid am
     let small_s = small_at_end (list_for o g r read) start end rule.pruned.steps first in
     let long = list_for_length o g r read in
     let short = c.short in
-    longer_is_maximal (list_for o g r read) start end acl (omega (arith, long, short)) rule.few rule.pruned rule.best one valid
-    part (sound_all o g r read t one c lacks_t small_t valid shaped sound)
-    (λ w single. less_all o g r read end t acl one w c lacks lacks_t small_s small_t rule.best.valid rule.best.shaped valid
-    shaped (single_small w single) (less w single))
+    longer_is_maximal (list_for o g r read) start end acl (omega (arith, long, short)) rule.few rule.pruned
+    rule.best one valid part (sound_all o g r read t one c lacks_t small_t valid shaped sound)
+    (λ w single. less_all o g r read end t acl one w c lacks lacks_t small_s small_t rule.best.valid
+    rule.best.shaped valid shaped (single_small w single) (less w single))
     want small (object_for o g) requester
     (record { owner = asked.owner; group = asked.owning_group; user = asked.asker }) allowed

@@ -8,7 +8,7 @@ use Rattle.std.specs.List.{AllByRecursion}
 use Rattle.std.specs.Ordering.{eq_by_cmp}
 use Rattle.acl_perm.proofs.Bools.{or_false_right}
 use Rattle.acl_perm.specs.Kind.{is_allow}
-use Rattle.acl_posix.specs.Check.{Object, Requester, is_member}
+use Rattle.acl_posix.specs.Check.{Requester, is_member}
 use Rattle.acl_posix.specs.Id.{IsId}
 use Rattle.acl_posix.specs.Tag as tag
 use Rattle.acl_posix.specs.Tag.{Tag, qualifier, tag_cmp, tag_of}
@@ -83,7 +83,8 @@ known_meets o g requester tag.group_obj = refl
 known_meets o g requester (tag.group id) = by (id == g) refl
   where
     by : (b : Bool) → (id == g) ≡ b
-        → tag_meets (object_for o g) requester (if b then tag.group_obj else tag.group id) ≡ is_member id requester.groups
+        → tag_meets (object_for o g) requester (if b then tag.group_obj else tag.group id)
+        ≡ is_member id requester.groups
     by true e = ap (λ (n : ℕ). is_member n requester.groups) (sym (eqb-true id g e))
     by false e = refl
 known_meets o g requester tag.mask = refl
@@ -161,7 +162,8 @@ owner_test test tag.mask = false
 owner_test test tag.other = true
 
 -- no key has the owner's id
-other_user : (o g id : ℕ) (keys : TagColumn) → IsOutside o g keys → has_tag (tag.user id) keys ≡ true → (o == id) ≡ false
+other_user : (o g id : ℕ) (keys : TagColumn) → IsOutside o g keys → has_tag (tag.user id) keys ≡ true
+    → (o == id) ≡ false
 other_user o g id keys out has = elim (cases_Bool (o == id)) [
   | inl same ↦ absurd (true≢false (sym has
       ∙ (ap (λ (n : ℕ). has_tag (tag.user n) keys) (sym (eqb-true o id same)) ∙ out.no_owner)))

@@ -1,11 +1,11 @@
--- A list read for an object whose owner and owning group are known: the list in which the owner's own id is `OWNER@`, and
--- that of the owning group is `GROUP@`, after ACEs that decide the four rights for the owner. In every situation it
+-- A list read for an object whose owner and owning group are known: the list in which the owner's own id is `OWNER@`,
+-- and that of the owning group is `GROUP@`, after ACEs that decide the four rights for the owner. In every situation it
 -- grants as the keys for such an object do.
-use Rattle.std.proofs.Common.{◌≡◌, ◌≤◌, ◌+◌, ◌<◌, ◌-◌, ℕ, Bool, true, false, List, [], ◌∷◌, ◌++◌, Option, None, Some, refl, sym, ap, subst, ◌∙◌, length, arith, inl, inr}
+use Rattle.std.proofs.Common.{◌≡◌, ◌+◌, ◌<◌, ◌-◌, ℕ, Bool, true, false, List, [], ◌∷◌, Option, None, Some, refl, sym, ap, ◌∙◌, length, arith, inl, inr}
 use Rattle.std.proofs.lemmas.Bool.{cases_Bool, eq-eqb, eqb-true, true≢false}
-use Rattle.std.proofs.lemmas.List.{length-append, length-map}
+use Rattle.std.proofs.lemmas.List.{length-map}
 use Rattle.std.proofs.lemmas.List.Elements.{All-from_recursion, recursion_from_All}
-use Rattle.std.specs.Prelude.{◌↔◌, ◌==◌, ◌&&◌, ◌||◌, ◌^◌, filter, if◌then◌else◌, map, not, option_map}
+use Rattle.std.specs.Prelude.{◌==◌, ◌&&◌, ◌||◌, ◌^◌, filter, if◌then◌else◌, map, not, option_map}
 use Rattle.std.specs.List.{AllByRecursion}
 use Rattle.acl_perm.specs.Bits.{has_bit}
 use Rattle.acl_perm.specs.Kind.{is_allow}
@@ -14,17 +14,17 @@ use Rattle.acl_perm.specs.declared.kind.Kind.TheVariants.{Allow, Deny}
 use Rattle.acl_posix.specs.Check.{Object, Requester, is_member}
 use Rattle.acl_posix.specs.Id.{IsId, greatest_id}
 use Rattle.acl_posix.specs.Tag as tag
-use Rattle.acl_posix.specs.Tag.{Tag, qualifier, tag_of}
+use Rattle.acl_posix.specs.Tag.{Tag}
 use Rattle.acl_nfs4.specs.Ace.{Ace}
 use Rattle.acl_nfs4.specs.Who.{group_name, owner_name, principal_of}
 use Rattle.acl_eval.specs.BridgeLaws.{IsAsked}
 use Rattle.acl_eval.specs.Column.{column, takes_part}
 use Rattle.acl_eval.specs.PosixForOwner.{object_for}
-use Rattle.acl_eval.specs.internal.OwnerBody.{known_tag, owner_in}
-use Rattle.acl_eval.specs.internal.ShapeBody.{TagColumn, column_decided_by, keys_of, tag_meets}
+use Rattle.acl_eval.specs.internal.OwnerBody.{known_tag}
+use Rattle.acl_eval.specs.internal.ShapeBody.{TagColumn, column_decided_by, tag_meets}
 use Rattle.acl_eval.proofs.AlwaysDecides.{apart, free_below}
 use Rattle.acl_eval.proofs.Matchings.{Matching}
-use Rattle.acl_eval.proofs.RealMatchings.{Agree, AgreeAt, agree_bit, column_of, filter_member, put_agrees, with_bit}
+use Rattle.acl_eval.proofs.RealMatchings.{Agree, column_of, filter_member, with_bit}
 use Rattle.acl_eval.proofs.TagMatchings.{digits_tag, put, tag_keys, tags_grant}
 
 -- ---- the list
@@ -41,6 +41,7 @@ known_as o g (Some (tag.group id)) a =
 known_as o g (Some tag.mask) a = a
 known_as o g (Some tag.other) a = a
 
+-- an ACE read for such an object
 abbrev pub known_ace : ℕ → ℕ → Ace → Ace
 known_ace o g a = known_as o g (digits_tag (principal_of a)) a
 
@@ -55,10 +56,12 @@ pub record OwnerRights : Type 0 where
   pub append : Bool
   pub execute : Bool
 
+-- the list read for such an object: four ACEs that decide the rights of the owner, then the ACEs of the list
 abbrev pub list_for : ℕ → ℕ → OwnerRights → List Ace → List Ace
 list_for o g r list = owner_ace r.read 0 ∷ (owner_ace r.write 1 ∷ (owner_ace r.append 2 ∷ (owner_ace r.execute 5
     ∷ map (known_ace o g) list)))
 
+-- this list has four ACEs more
 pub list_for_length : (o g : ℕ) (r : OwnerRights) (list : List Ace) → length (list_for o g r list) ≡ length list + 4
 list_for_length o g r list = let same = length-map list (known_ace o g) in omega (arith, same)
 
@@ -144,7 +147,8 @@ known_grants o g m (x ∷ list) bit =
     rest_is : SameRest x (known_ace o g x)
     rest_is = known_rest o g (digits_tag (principal_of x)) x
 
-    counted : (has_bit (known_ace o g x).mask bit && takes_part (known_ace o g x)) ≡ (has_bit x.mask bit && takes_part x)
+    counted : (has_bit (known_ace o g x).mask bit && takes_part (known_ace o g x))
+        ≡ (has_bit x.mask bit && takes_part x)
     counted = rw (rest_is.mask, rest_is.flags) refl
 
     by : tags_grant known m bit ≡ tags_grant list (known_matching o g m) bit → (b : Bool)
@@ -153,7 +157,8 @@ known_grants o g m (x ∷ list) bit =
         ≡ column_decided_by (known_matching o g m) (tag_keys (column_of (if b then x ∷ with_bit list bit
         else with_bit list bit))) false
     by others true = rw (known_digits o g x, rest_is.kind)
-        (known_key o g m (digits_tag (principal_of x)) x.kind (tag_keys (column known bit)) (tag_keys (column list bit)) others)
+        (known_key o g m (digits_tag (principal_of x)) x.kind (tag_keys (column known bit))
+        (tag_keys (column list bit)) others)
     by others false = others
 
 -- the first ACEs decide for the owner
@@ -171,6 +176,7 @@ pub data IsRight : ℕ → Type 0 where
   append_is : IsRight 2
   execute_is : IsRight 5
 
+-- the owner has the rights that were given, and to others the list read so grants what its keys grant
 pub for_grants : (o g : ℕ) (r : OwnerRights) (m : Matching) (list : List Ace) (bit : ℕ) → IsRight bit
     → tags_grant (list_for o g r list) m bit
     ≡ (if m tag.user_obj then right_of r bit else tags_grant list (known_matching o g m) bit)
@@ -296,7 +302,8 @@ pub moved : (o g : ℕ) (ns : List ℕ) (object : Object) (requester : Requester
 moved o g ns object requester is_o is_g few asked outside = by (requester.user == o) refl
   where
     by : (b : Bool) → (requester.user == o) ≡ b → IsMoved o g ns (tag_meets object requester)
-    by false e = moved_to o g ns object requester requester.user is_o is_g asked outside asked.asker e (λ id has d. refl)
+    by false e =
+        moved_to o g ns object requester requester.user is_o is_g asked outside asked.asker e (λ id has d. refl)
     by true e =
         let (free, below, lacks) = free_below greatest_id (o ∷ ns) (omega (arith, few)) in
         moved_to o g ns object requester free is_o is_g asked outside (omega (arith, below))

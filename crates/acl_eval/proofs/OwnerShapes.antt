@@ -1,17 +1,16 @@
--- The list for an object whose owner and owning group are known, in all situations, and the list itself in the situations
--- with this owner and this owning group: what they always grant to the requesters of an entry is the same.
+-- The list for an object whose owner and owning group are known, in all situations, and the list itself in the
+-- situations with this owner and this owning group: what they always grant to the requesters of an entry is the same.
 use Rattle.std.proofs.Common.{◌≡◌, ◌≤◌, ◌+◌, ℕ, suc, Bool, true, false, List, [], ◌∷◌, ◌++◌, refl, sym, ap, subst, ◌∙◌, length, arith, inl, inr}
 use Rattle.std.proofs.lemmas.Bool.{cases_Bool, eq-eqb, eqb-true, false≢true, or_cases, true≢false}
-use Rattle.std.proofs.lemmas.List.{length-append, length-map}
-use Rattle.std.specs.Prelude.{◌↔◌, ◌==◌, All, filter, if◌then◌else◌, map, not}
+use Rattle.std.proofs.lemmas.List.{length-append}
+use Rattle.std.specs.Prelude.{◌↔◌, ◌==◌, All, filter, if◌then◌else◌, not}
 use Rattle.acl_perm.specs.Bits.{IsPerm, has_bit}
-use Rattle.acl_posix.specs.Check.{Object, Requester, grants, ids, is_member}
+use Rattle.acl_posix.specs.Check.{Object, Requester, ids, is_member}
 use Rattle.acl_posix.specs.Entries.{Entries}
-use Rattle.acl_posix.specs.Id.{IsId, greatest_id}
+use Rattle.acl_posix.specs.Id.{IsId}
 use Rattle.acl_posix.specs.Names.{Table}
 use Rattle.acl_posix.specs.Tag as tag
-use Rattle.acl_posix.specs.Tag.{Tag, is_named, qualifier, tag_of}
-use Rattle.acl_posix.specs.Texts.{IsAcl}
+use Rattle.acl_posix.specs.Tag.{Tag, qualifier}
 use Rattle.acl_posix.specs.declared.id.Id.{Id}
 use Rattle.acl_nfs4.specs.Ace.{Ace}
 use Rattle.acl_nfs4.specs.Limits.{most_aces}
@@ -20,27 +19,27 @@ use Rattle.acl_eval.specs.BridgeLaws.{IsAsked, by_name}
 use Rattle.acl_eval.specs.Grant.{Grant, grants_bit}
 use Rattle.acl_eval.specs.Ids.{with_ids}
 use Rattle.acl_eval.specs.ListNames.{AreNamesOf, named_shape}
-use Rattle.acl_eval.specs.PosixForOwner.{AlwaysHasFor, GrantsNothingMoreFor, IsBestFor, IsPosixFor, IsSoundFor, LosesNothingFor, PrunesFor, PrunesToFor, ShapeGrantsFor, object_for, others_of}
+use Rattle.acl_eval.specs.PosixForOwner.{AlwaysHasFor, IsBestFor, IsPosixFor, IsSoundFor, LosesNothingFor, PrunesFor, PrunesToFor, object_for, others_of}
 use Rattle.acl_eval.specs.PosixForOwner as for_owner
 use Rattle.acl_eval.specs.Pruning.{LosesNothing, Prunes, PrunesTo, ShapeGrants, none, next, shape_without, taken_out}
 use Rattle.acl_eval.specs.PruningLaws.{HasFewIds}
-use Rattle.acl_eval.specs.ToPosix.{AlwaysHas, EntryShape, HasShape, IsBest, looks_at, size_of}
-use Rattle.acl_eval.specs.internal.OwnerBody.{AreKnownColumns, IsAlwaysOwned, IsKnownColumn, known_tag, owner_in}
-use Rattle.acl_eval.specs.internal.ShapeBody.{AreColumns, HaveFewKeys, IsColumnOf, column_decided_by, has_tag, keys_of, tag_meets}
+use Rattle.acl_eval.specs.ToPosix.{AlwaysHas, EntryShape, IsBest, looks_at, size_of}
+use Rattle.acl_eval.specs.internal.OwnerBody.{AreKnownColumns, IsKnownColumn, owner_in}
+use Rattle.acl_eval.specs.internal.ShapeBody.{AreColumns, HaveFewKeys, IsColumnOf, column_decided_by, keys_of, tag_meets}
 use Rattle.acl_eval.specs.declared.list_names.NamedIds.{NamedIds}
 use Rattle.acl_eval.specs.declared.tag_column.Columns.{Columns}
 use Rattle.acl_eval.specs.declared.tag_column.TagKey.{TagKey}
 use Rattle.acl_eval.proofs.AlwaysDecides.{apart, decided_same, numbers, tag_number, turned}
 use Rattle.acl_eval.proofs.Images.{image_right}
-use Rattle.acl_eval.proofs.Losses.{but_lacks}
-use Rattle.acl_eval.proofs.Matchings.{IsPart, IsRest, Looks, Matching, out_part}
+use Rattle.acl_eval.proofs.Losses.{IsPart, but_lacks, out_part, out_size}
+use Rattle.acl_eval.proofs.Matchings.{IsRest, Looks, Matching}
 use Rattle.acl_eval.proofs.OwnerKeys.{known_meets}
 use Rattle.acl_eval.proofs.OwnerLists.{IsMoved, IsRight, OwnerRights, append_is, execute_is, for_grants, known_matching, list_for, moved, read_is, right_of, write_is}
-use Rattle.acl_eval.proofs.PruningKept.{looks_from, looks_of, out_few, out_size}
-use Rattle.acl_eval.proofs.PruningSituations.{IsSmall, all_ids, granted_is, first_member, ids_few, ids_of_first, ids_of_list, ids_of_second, is_granted, is_small, most_listed, out_small, second_member, small_at_end}
+use Rattle.acl_eval.proofs.PruningKept.{looks_from, looks_of, out_few}
+use Rattle.acl_eval.proofs.PruningSituations.{IsSmall, all_ids, granted_is, ids_few, ids_of_first, ids_of_list, ids_of_second, is_granted, is_small, out_small, small_at_end}
 use Rattle.acl_eval.proofs.RealMatchings.{Agree, agree_back, agree_bit, agree_granted, agree_looks, list_ids, list_ids_few}
-use Rattle.acl_eval.proofs.ShapeChecks.{all_contain, granted, held, looked}
-use Rattle.acl_eval.proofs.TagMatchings.{bit_by_tags, granted_to, tags_grant}
+use Rattle.acl_eval.proofs.ShapeChecks.{all_contain, first_member, held, looked, second_member}
+use Rattle.acl_eval.proofs.TagMatchings.{bit_by_tags, tags_grant}
 
 -- the ids of a list of the code without one of them
 ids_kept : (n : ℕ) (list : List Id) → ids (filter (λ id. not (id.value == n)) list) ≡ shape_without n (ids list)
@@ -53,6 +52,7 @@ ids_kept n (x ∷ list) = by (ids_kept n list) (x.value == n)
     by rest true = rest
     by rest false = ap (λ (ns : List ℕ). x.value ∷ ns) rest
 
+-- the ids that the code keeps are those without one of them
 pub ids_without : (n : ℕ) (left list : List Id) → left ≡ filter (λ id. not (id.value == n)) list
     → ids left ≡ shape_without n (ids list)
 ids_without n left list is = ap ids is ∙ ids_kept n list
@@ -69,6 +69,7 @@ abbrev pub OwnerGets : ℕ → ℕ → List Ace → ℕ → Type 0
 OwnerGets o g list bit = (groups : List ℕ) → All IsId groups
     → grants_bit list (by_name (object_for o g) (owner_in o groups)) bit ≡ true
 
+-- the owner and the owning group are ids, the list is short, and the rights are those that it grants to the owner
 pub record IsFor (o g : ℕ) (r : OwnerRights) (list : List Ace) : Type 0 where
   pub owner : IsId o
   pub owning : IsId g
@@ -125,11 +126,13 @@ at_known o g r list requester want c small asked grant bit has =
         (eqb-true requester.user o e)
         ∙ (c.rights bit right).0 (rw e at h) requester.groups asked.groups
     by false e h = bit_by_tags list (object_for o g) requester bit asked
-        ∙ sym (agree_bit (list_ids list) (known_matching o g m) m list bit (same_there o g requester (list_ids list)) (λ id i. i))
+        ∙ sym (agree_bit (list_ids list) (known_matching o g m) m list bit (same_there o g requester (list_ids list))
+        (λ id i. i))
         ∙ rw e at h
 
 -- ---- shapes without the owner and the owning group
 
+-- the shape has no entry for the owner and none for the owning group
 pub record Lacks (o g : ℕ) (s : EntryShape) : Type 0 where
   pub no_owner : is_member o s.users ≡ false
   pub no_group : is_member g s.groups ≡ false
@@ -179,7 +182,8 @@ known_on o g s m lacks = record {
     group_is id false e = refl
 
 -- a requester who is not the owner, moved to such an object
-pub to_known : (o g : ℕ) (r : OwnerRights) (list : List Ace) (s t : EntryShape) (object : Object) (requester : Requester)
+pub to_known : (o g : ℕ) (r : OwnerRights) (list : List Ace) (s t : EntryShape) (object : Object)
+    (requester : Requester)
     → IsFor o g r list → IsSmall s → IsSmall t → IsAsked object requester → (requester.user == object.user) ≡ false
     → IsMoved o g (all_ids list s t) (tag_meets object requester)
 to_known o g r list s t object requester c small_s small_t asked outside =
@@ -199,6 +203,7 @@ looks_moved o g list s t object requester e lacks v l =
     (ids_of_first list s t)
     (same_looks s m (known_matching o g m) e (known_on o g s m lacks) (looks_of s object requester e l)))
 
+-- if the check looks at an entry after the move, it looked at it before
 pub looks_home : (o g : ℕ) (list : List Ace) (s t : EntryShape) (object : Object) (requester : Requester) (e : Tag)
     → Lacks o g t → (v : IsMoved o g (all_ids list s t) (tag_meets object requester))
     → looks_at t (object_for o g) v.requester e ≡ true → looks_at t object requester e ≡ true
@@ -216,7 +221,8 @@ grant_home : (o g : ℕ) (r : OwnerRights) (list : List Ace) (s t : EntryShape) 
     → Grant (list_for o g r list) (by_name object requester) (image want)
 grant_home o g r list s t object requester want small asked outside v grant =
     let m : Matching = tag_meets object requester in
-    let there = agree_granted (all_ids list s t) (tag_meets (object_for o g) v.requester) (known_matching o g m) list want
+    let there =
+    agree_granted (all_ids list s t) (tag_meets (object_for o g) v.requester) (known_matching o g m) list want
     v.agree (ids_of_list list s t) (granted_is list (object_for o g) v.requester want v.asked grant) in
     is_granted (list_for o g r list) object requester want asked (λ bit has.
     for_grants o g r m list bit (is_right want bit small has) ∙ rw outside (there bit has))
@@ -231,6 +237,7 @@ owner_looks s object requester (tag.group id) is l = absurd (true≢false (sym i
 owner_looks s object requester tag.mask is l = absurd l
 owner_looks s object requester tag.other is l = absurd (true≢false (sym is ∙ l.0.owner))
 
+-- what an entry has in the situations with this owner and group, it has in all situations of the list read so
 pub always_all : (o g : ℕ) (r : OwnerRights) (list : List Ace) (s : EntryShape) (e : Tag) (want : ℕ) → IsFor o g r list
     → Lacks o g s → IsSmall s → IsPerm want → AlwaysHasFor o g list s e want
     → AlwaysHas (list_for o g r list) s e want
@@ -241,7 +248,8 @@ always_all o g r list s e want c lacks small_s small has object requester asked 
         → OwnerGets o g list bit
     owner_has is bit right groups all =
         has (owner_in o groups) (asked_owner o g groups c.owner c.owning all)
-        (subst (λ (t : Tag). looks_at s (object_for o g) (owner_in o groups) t ≡ true) (sym is) (eq-eqb o o refl)) bit right
+        (subst (λ (t : Tag). looks_at s (object_for o g) (owner_in o groups) t ≡ true) (sym is) (eq-eqb o o refl))
+        bit right
 
     by : (b : Bool) → (requester.user == object.user) ≡ b
         → Grant (list_for o g r list) (by_name object requester) (image want)
@@ -254,13 +262,15 @@ always_all o g r list s e want c lacks small_s small has object requester asked 
         grant_home o g r list s s object requester want small asked is v
         (has v.requester v.asked (looks_moved o g list s s object requester e lacks v l))
 
-pub always_known : (o g : ℕ) (r : OwnerRights) (list : List Ace) (s : EntryShape) (e : Tag) (want : ℕ) → IsFor o g r list
-    → IsPerm want → AlwaysHas (list_for o g r list) s e want → AlwaysHasFor o g list s e want
+-- what an entry has in all situations of the list read so, it has in those with this owner and group
+pub always_known : (o g : ℕ) (r : OwnerRights) (list : List Ace) (s : EntryShape) (e : Tag) (want : ℕ)
+    → IsFor o g r list → IsPerm want → AlwaysHas (list_for o g r list) s e want → AlwaysHasFor o g list s e want
 always_known o g r list s e want c small has requester asked l =
     at_known o g r list requester want c small asked (has (object_for o g) requester asked l)
 
 -- ---- losses and prunings
 
+-- if nothing is lost in any situation of the list read so, nothing is lost on such an object
 pub loses_known : (o g : ℕ) (r : OwnerRights) (list : List Ace) (s t : EntryShape) → IsFor o g r list → Lacks o g s
     → IsSmall s → LosesNothing (list_for o g r list) s t → LosesNothingFor o g list s t
 loses_known o g r list s t c lacks small_s loses requester asked want small given =
@@ -274,6 +284,7 @@ loses_known o g r list s t c lacks small_s loses requester asked want small give
       has = always_known o g r list t after.entry want c small after.has;
     }
 
+-- if nothing is lost on such an object, nothing is lost in any situation of the list read so
 pub loses_all : (o g : ℕ) (r : OwnerRights) (list : List Ace) (s t : EntryShape) → IsFor o g r list → Lacks o g s
     → Lacks o g t → IsSmall s → IsSmall t → LosesNothingFor o g list s t → LosesNothing (list_for o g r list) s t
 loses_all o g r list s t c lacks lacks_t small_s small_t loses object requester asked want small given =
@@ -300,6 +311,7 @@ loses_all o g r list s t c lacks lacks_t small_s small_t loses object requester 
           has = always_all o g r list t after.entry want c lacks_t small_t small after.has;
         }
 
+-- a part of a shape without the owner and the owning group lacks them, too
 pub part_lacks : (o g : ℕ) (whole part : EntryShape) → IsPart whole part → Lacks o g whole → Lacks o g part
 part_lacks o g whole part p lacks = record {
   no_owner = elim (cases_Bool (is_member o part.users)) [
@@ -312,6 +324,7 @@ part_lacks o g whole part p lacks = record {
   ];
 }
 
+-- such a shape without a name lacks them, too
 pub out_lacks_too : (o g : ℕ) (name : Tag) (s : EntryShape) → Lacks o g s → Lacks o g (taken_out name s)
 out_lacks_too o g name s lacks = part_lacks o g s (taken_out name s) (out_part name s) lacks
 
@@ -328,6 +341,7 @@ lacks_at_end o g list a b (none s) lacks = lacks
 lacks_at_end o g list a b (next s t name n there loses rest) lacks =
     lacks_at_end o g list (taken_out name s) t rest (out_lacks_too o g name s lacks)
 
+-- a pruning for the list read so is a pruning for such an object
 pub prunes_known : (o g : ℕ) (r : OwnerRights) (list : List Ace) (s t : EntryShape) → IsFor o g r list → Lacks o g s
     → IsSmall s → Lacks o g t → IsSmall t → PrunesTo (list_for o g r list) s t → PrunesToFor o g list s t
 prunes_known o g r list s t c lacks small lacks_t small_t p = record {
@@ -336,6 +350,7 @@ prunes_known o g r list s t c lacks small lacks_t small_t p = record {
       (out_lacks_too o g name t lacks_t) small_t (out_small name t small_t) loses);
 }
 
+-- the ACL of a shape for the list read so is its ACL for such an object
 pub best_known : (o g : ℕ) (r : OwnerRights) (list : List Ace) (s : EntryShape) (acl : Entries) → IsFor o g r list
     → Lacks o g s → IsSmall s → IsBest (list_for o g r list) s acl → IsBestFor o g list s acl
 best_known o g r list s acl c lacks small best = record {
@@ -351,10 +366,12 @@ best_known o g r list s acl c lacks small best = record {
 
 -- ---- the ACL
 
+-- the ACL of a shape for such an object is sound for it
 pub sound_for : (o g : ℕ) (list : List Ace) (s : EntryShape) (acl : Entries) → IsBestFor o g list s acl
     → IsSoundFor o g list acl
 sound_for o g list s acl best requester asked want small allowed =
-    let at = looked s acl (object_for o g) requester want best.valid.valid best.shaped (all_contain want small) allowed in
+    let at =
+    looked s acl (object_for o g) requester want best.valid.valid best.shaped (all_contain want small) allowed in
     (best.each at.entry at.there want small).0 (held acl at.entry want at.holds) requester asked at.looks
 
 -- ---- the columns
@@ -426,7 +443,8 @@ owned_gets o g list bit keys known is_o is_g column k = (
   λ h groups all. column.decides (object_for o g) (owner_in o groups) (asked_owner o g groups is_o is_g all)
       ∙ k.always.0 h groups all,
   λ gets. k.always.1 (λ groups all.
-      sym (column.decides (object_for o g) (owner_in o groups) (asked_owner o g groups is_o is_g all)) ∙ gets groups all),
+      sym (column.decides (object_for o g) (owner_in o groups) (asked_owner o g groups is_o is_g all))
+      ∙ gets groups all),
 )
 
 -- the columns of the list for such an object
@@ -435,6 +453,7 @@ pub record ForColumns (o g : ℕ) (list : List Ace) (known : Columns) : Type 0 w
   pub is : IsFor o g rights list
   pub columns : AreColumns (list_for o g rights list) known
 
+-- the columns that are made for such an object are those of the list read so
 pub for_columns : (o g : ℕ) (list : List Ace) (columns known : Columns) → IsId o → IsId g → length list ≤ most_aces
     → AreColumns list columns → HaveFewKeys columns → AreKnownColumns o g columns known → ForColumns o g list known
 for_columns o g list columns known is_o is_g short are few k = record {
@@ -443,7 +462,8 @@ for_columns o g list columns known is_o is_g short are few k = record {
   columns = record {
     read = for_column o g r list 0 columns.read.items known.read.items c read_is are.read few.read k.read refl;
     write = for_column o g r list 1 columns.write.items known.write.items c write_is are.write few.write k.write refl;
-    append = for_column o g r list 2 columns.append.items known.append.items c append_is are.append few.append k.append refl;
+    append =
+        for_column o g r list 2 columns.append.items known.append.items c append_is are.append few.append k.append refl;
     execute = for_column o g r list 5 columns.execute.items known.execute.items c execute_is are.execute few.execute
         k.execute refl;
   };
@@ -474,6 +494,7 @@ pub others_lack : (o g : ℕ) (names : EntryShape) → Lacks o g (others_of o g 
 others_lack o g names =
     record { no_owner = but_lacks o names.users; no_group = but_lacks g names.groups }
 
+-- the other names are no more than all names
 pub others_few : (o g : ℕ) (names : EntryShape) → size_of (others_of o g names) ≤ size_of names
 others_few o g names =
     let one = out_size (tag.user o) (taken_out (tag.group g) names) in
@@ -488,6 +509,7 @@ code_ids (x ∷ list) id h = elim (or_cases (x.value == id) (is_member id (ids l
   | inr more ↦ code_ids list id more
 ]
 
+-- the names that the code holds are ids, and few, if they are at most 65,535
 pub code_few : (named : NamedIds) → size_of (named_shape named) ≤ 65535 → HasFewIds (named_shape named)
 code_few named few = record {
   users = λ id h. code_ids named.users.items id h;
@@ -495,6 +517,7 @@ code_few named few = record {
   few = few;
 }
 
+-- the other names are ids, and few, if all names are
 pub others_ids : (o g : ℕ) (names : EntryShape) → HasFewIds names → HasFewIds (others_of o g names)
 others_ids o g names few = out_few (tag.user o) (taken_out (tag.group g) names) (out_few (tag.group g) names few)
 
@@ -506,6 +529,7 @@ pub record RuleFor (o g : ℕ) (list : List Ace) (known : Columns) (start end : 
   pub pruned : PrunesTo (list_for o g columns.rights list) start end
   pub best : IsBest (list_for o g columns.rights list) end acl
 
+-- where the rule ends for the list read so, the ACL is the one for such an object
 pub rule_for : (table : Table) (o g : ℕ) (list : List Ace) (known : Columns) (names end : EntryShape) (acl : Entries)
     → AreNamesOf table list names
     → RuleFor o g (with_ids table list) known (others_of o g names) end acl → IsPosixFor table o g list acl

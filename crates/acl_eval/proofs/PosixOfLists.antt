@@ -1,5 +1,5 @@
--- The ACL of a list is maximal, and exact if any POSIX ACL is.
-use Rattle.std.proofs.Common.{◌≡◌, ◌≤◌, ℕ, true, List, [], ◌∷◌, sym, subst, ◌∙◌, arith, inl, inr, length}
+-- The ACL of a list is maximal, exact if any POSIX ACL is, and decided by what the list grants.
+use Rattle.std.proofs.Common.{◌≡◌, ◌≤◌, ℕ, true, List, [], ◌∷◌, subst, ◌∙◌, arith, inl, inr, length}
 use Rattle.std.proofs.lemmas.Bool.{eqb-true, false≢true, or_cases}
 use Rattle.std.proofs.lemmas.List.{length-map}
 use Rattle.std.specs.Prelude.{◌==◌}
@@ -12,12 +12,13 @@ use Rattle.acl_nfs4.specs.Ace.{Ace}
 use Rattle.acl_nfs4.specs.Limits.{most_aces}
 use Rattle.acl_eval.specs.Ids.{HaveIds, with_id, with_ids}
 use Rattle.acl_eval.specs.ListNames.{AreNamesOf, named_shape}
-use Rattle.acl_eval.specs.PosixOfList.{IsExactIfAny, IsMaximal}
+use Rattle.acl_eval.specs.PosixOfList.{GrantsDecidePosix, IsExactIfAny, IsMaximal}
 use Rattle.acl_eval.specs.Pruning.{PrunesTo}
 use Rattle.acl_eval.specs.PruningLaws.{HasFewIds}
 use Rattle.acl_eval.specs.ToPosix.{EntryShape, IsBest, size_of}
 use Rattle.acl_eval.specs.declared.list_names.NamedIds.{NamedIds}
 use Rattle.acl_eval.proofs.PruningExact.{end_agrees}
+use Rattle.acl_eval.proofs.PruningGrants.{grants_give_one}
 use Rattle.acl_eval.proofs.PruningMaximal.{end_is_maximal}
 use Rattle.acl_eval.proofs.PruningNames.{all_names}
 
@@ -29,7 +30,8 @@ member_is (x ∷ xs) id h = elim (or_cases (x.value == id) (is_member id (ids xs
   | inr more ↦ member_is xs id more
 ]
 
-few_ids : (named : NamedIds) → size_of (named_shape named) ≤ 65535 → HasFewIds (named_shape named)
+-- the shape of users and groups of the code has ids, and not too many
+pub few_ids : (named : NamedIds) → size_of (named_shape named) ≤ 65535 → HasFewIds (named_shape named)
 few_ids named few = record {
   users = λ id h. member_is named.users.items id h;
   groups = λ id h. member_is named.groups.items id h;
@@ -40,17 +42,19 @@ few_ids named few = record {
 short_list : (table : Table) (list : List Ace) → length list ≤ most_aces → length (with_ids table list) ≤ most_aces
 short_list table list short = let same = length-map list (with_id table) in omega (arith, same, short)
 
+-- the ACL of the last shape is maximal
 pub maximal_of : (table : Table) (list : List Ace) (named : NamedIds) (end : EntryShape) (best : Entries)
     → length list ≤ most_aces → size_of (named_shape named) ≤ 65535 → AreNamesOf table list (named_shape named)
     → PrunesTo (with_ids table list) (named_shape named) end → IsBest (with_ids table list) end best
     → IsMaximal table list best
 maximal_of table list named end best short few names p is acl valid only sound singles =
-    end_is_maximal (with_ids table list) (named_shape named) end best (short_list table list short) (few_ids named few) p
-    is acl valid (record {
+    end_is_maximal (with_ids table list) (named_shape named) end best (short_list table list short)
+    (few_ids named few) p is acl valid (record {
       users = λ id h. names.users id ∙ only.users id h;
       groups = λ id h. names.groups id ∙ only.groups id h;
     }) sound singles
 
+-- the ACL of the last shape is exact if any POSIX ACL is
 pub exact_if_any : (table : Table) (list : List Ace) (named : NamedIds) (end : EntryShape) (best : Entries)
     → length list ≤ most_aces → size_of (named_shape named) ≤ 65535 → HaveIds table list
     → AreNamesOf table list (named_shape named) → PrunesTo (with_ids table list) (named_shape named) end
@@ -61,3 +65,12 @@ exact_if_any table list named end best short few known names p is acl valid smal
     (few_ids named few) (all_names table list (named_shape named) known names) p is acl valid small
     (λ o q w parties one. let both = agrees o q w parties one in (both.1, both.0)) object requester want asked single in
     (two.1, two.0)
+
+-- lists that grant the same have one ACL
+pub grants_decide : GrantsDecidePosix
+grants_decide table other list second entries one_more short brief same is other_is =
+    grants_give_one (with_ids table list) (with_ids other second) is.start is.end other_is.start other_is.end entries
+    one_more (short_list table list short) (short_list other second brief) is.few other_is.few
+    (all_names table list is.start is.known is.names)
+    (all_names other second other_is.start other_is.known other_is.names) same is.pruned is.best other_is.pruned
+    other_is.best

@@ -67,7 +67,8 @@ kind_below Deny = omega arith
 kind_below Allow = omega arith
 
 -- the number of an ACE has the numbers of which it is made
-read_number : (a : Ace) → IsAce full a → AreIn (from_le_bytes w64 (to_le_bytes w64 (ace_number (principal_of a) a.kind a.mask)))
+read_number : (a : Ace) → IsAce full a
+    → AreIn (from_le_bytes w64 (to_le_bytes w64 (ace_number (principal_of a) a.kind a.mask)))
     a.mask (sort_number (principal_of a) a.kind) (name_key (principal_name (principal_of a)))
     (length (principal_name (principal_of a)))
 read_number a is =

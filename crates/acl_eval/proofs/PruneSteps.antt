@@ -4,7 +4,7 @@ use Rattle.std.proofs.lemmas.Bool.{cases_Bool, eq-eqb, false≢true, true≢fals
 use Rattle.std.proofs.lemmas.List.{take_more}
 use Rattle.std.proofs.lemmas.List.Folds.{list_any-append}
 use Rattle.std.proofs.lemmas.Option.{same_Some}
-use Rattle.std.specs.Prelude.{◌⊎◌, ◌==◌, ◌&&◌, ◌||◌, not, filter, if◌then◌else◌, bit_and}
+use Rattle.std.specs.Prelude.{◌⊎◌, ◌==◌, ◌&&◌, ◌||◌, not, filter, bit_and}
 use Rattle.std.specs.Int.Bits.{and_self}
 use Rattle.std.specs.List.{AllByRecursion, find, list_all, list_any}
 use Rattle.std.specs.Ordering.{eq_by_cmp}
@@ -26,15 +26,15 @@ use Rattle.acl_eval.specs.declared.tag_column.Columns.{Columns}
 use Rattle.acl_eval.proofs.AlwaysDecides.{HasIds, code_id, decides_right, same_itself, same_number, turned}
 use Rattle.acl_eval.proofs.Images.{rights}
 use Rattle.acl_eval.proofs.JudgedEntries.{before_all, own_permissions, same_permissions}
-use Rattle.acl_eval.proofs.Losses.{IsWithin, but_keeps, but_lacks, class_part, entries_decide, none_less, out_within, part_there}
+use Rattle.acl_eval.proofs.Losses.{IsPart, but_keeps, but_lacks, class_part, entries_decide, no_longer, none_less, out_part, out_size, part_has, part_ids}
 use Rattle.acl_eval.proofs.ShapeBuilding.{as_many, id_at}
 use Rattle.acl_eval.proofs.ShapeRights.{just}
 
 -- ---- lists
 
 -- an element that passes one test passes another that all pass, and is what all are
-picked : {X : Type 0} (p test : X → Bool) (P : X → Type 0) (xs : List X) → list_any p xs ≡ true → list_all test xs ≡ true
-    → AllByRecursion P xs → (x : X) × (p x ≡ true) × (test x ≡ true) × P x
+picked : {X : Type 0} (p test : X → Bool) (P : X → Type 0) (xs : List X) → list_any p xs ≡ true
+    → list_all test xs ≡ true → AllByRecursion P xs → (x : X) × (p x ≡ true) × (test x ≡ true) × P x
 picked p test P [] h g a = absurd (false≢true h)
 picked p test P (x ∷ xs) h g a =
     let two = and_true (test x) (list_all test xs) g in
@@ -83,23 +83,15 @@ none_found test (y ∷ xs) h = by (none_found test xs) (test y) h
     by rest true h = absurd cc
     by rest false h = rest h
 
--- a list is not longer without some of its elements, and is shorter without one that was found
-no_longer : {X : Type 0} (keep : X → Bool) (xs : List X) → length (filter keep xs) ≤ length xs
-no_longer keep [] = omega arith
-no_longer keep (x ∷ xs) = by (no_longer keep xs) (keep x)
-  where
-    by : length (filter keep xs) ≤ length xs → (b : Bool)
-        → length (cond b (x ∷ filter keep xs) (filter keep xs)) ≤ length (x ∷ xs)
-    by rest true = omega (arith, rest)
-    by rest false = omega (arith, rest)
-
+-- a list is shorter without an element that was found
 pub shorter : {X : Type 0} (test keep : X → Bool) (xs : List X) (x : X) → find test xs ≡ Some x → keep x ≡ false
     → length (filter keep xs) < length xs
 shorter test keep [] x h k = absurd cc
 shorter {X} test keep (y ∷ xs) x h k = by (shorter test keep xs x) (test y) (keep y) refl h
   where
     by : (find test xs ≡ Some x → keep x ≡ false → length (filter keep xs) < length xs) → (b c : Bool) → keep y ≡ c
-        → cond b (Some y) (find test xs) ≡ Some x → length (cond c (y ∷ filter keep xs) (filter keep xs)) < length (y ∷ xs)
+        → cond b (Some y) (find test xs) ≡ Some x
+        → length (cond c (y ∷ filter keep xs) (filter keep xs)) < length (y ∷ xs)
     by rest true true e h = absurd (true≢false (sym e ∙ (ap keep (same_Some y x h) ∙ k)))
     by rest true false e h = let le = no_longer keep xs in omega (arith, le)
     by rest false true e h = let lt = rest h k in omega (arith, lt)
@@ -251,6 +243,7 @@ tag_there t (e ∷ left) h = elim (or_cases (eq_by_cmp tag_cmp (tag_of e.tag) t)
   | inr more ↦ tag_there t left more
 ]
 
+-- the users and groups of the entries that are left are ids
 pub left_ids : (left : List JudgedEntry) → HasIds (shape_left left)
 left_ids left = record {
   users = λ id h. tag_there (user id) left (sym (user_member id left) ∙ h);
@@ -273,7 +266,8 @@ entry_there columns left other j s h = j.0.others
 rest_differs : (shape : EntryShape) (name t : Tag) → is_named name ≡ true → is_in_shape (taken_out name shape) t ≡ true
     → eq_by_cmp tag_cmp t name ≡ false
 rest_differs shape name t n h = elim (cases_Bool (eq_by_cmp tag_cmp t name)) [
-  | inl same ↦ absurd (by name n (subst (λ (x : Tag). is_in_shape (taken_out name shape) x ≡ true) (same_tag t name same) h))
+  | inl same ↦
+      absurd (by name n (subst (λ (x : Tag). is_in_shape (taken_out name shape) x ≡ true) (same_tag t name same) h))
   | inr differ ↦ differ
 ]
   where
@@ -306,7 +300,7 @@ still_there shape mask t n h d = absurd (false≢true n)
 still_there shape other t n h d = absurd (false≢true n)
 
 -- wherever the check looked at a shared entry of the rest, it still does
-still_looks : (whole part : EntryShape) (t : Tag) (object : Object) (requester : Requester) → IsWithin whole part
+still_looks : (whole part : EntryShape) (t : Tag) (object : Object) (requester : Requester) → IsPart whole part
     → is_shared t ≡ true → is_in_shape part t ≡ true → looks_at whole object requester t ≡ true
     → looks_at part object requester t ≡ true
 still_looks whole part user_obj object requester w s h l = absurd (false≢true s)
@@ -326,21 +320,9 @@ still_looks whole part other object requester w s h l =
       none_less object.group whole.groups part.groups requester.groups w.groups (not-true _ two.1),
     ) refl
 
--- there are not more users and groups
-not_more : (name : Tag) (shape : EntryShape) → size_of (taken_out name shape) ≤ size_of shape
-not_more user_obj shape = omega arith
-not_more (user u) shape = let le = no_longer (λ n. not (n == u)) shape.users in omega (arith, le)
-not_more group_obj shape = omega arith
-not_more (group g) shape = let le = no_longer (λ n. not (n == g)) shape.groups in omega (arith, le)
-not_more mask shape = omega arith
-not_more other shape = omega arith
-
 -- the ids of the rest are ids
 out_ids : (name : Tag) (shape : EntryShape) → HasIds shape → HasIds (taken_out name shape)
-out_ids name shape ids = let w = out_within name shape in record {
-  users = λ id h. ids.users id (w.users id h);
-  groups = λ id h. ids.groups id (w.groups id h);
-}
+out_ids name shape = part_ids shape (taken_out name shape) (out_part name shape)
 
 -- ---- the permissions that an entry has
 
@@ -424,7 +406,7 @@ entries_stand list columns left name cs js jn n stand t shared there want few ha
     let shape = shape_left left in
     let out = taken_out (tag_of name.tag) shape in
     let ids = left_ids left in
-    let inside = part_there shape out t (out_within (tag_of name.tag) shape) there in
+    let inside = part_has shape out t (out_part (tag_of name.tag) shape) there in
     let (e, same, stands, j) = picked (λ e. eq_by_cmp tag_cmp (tag_of e.tag) t) (stands_without name)
     (IsJudged columns shape) left (entry_there columns left t js (rw shared refl) inside) stand js.0.each in
     let is : tag_of e.tag ≡ t = same_tag (tag_of e.tag) t same in
@@ -432,7 +414,7 @@ entries_stand list columns left name cs js jn n stand t shared there want few ha
     let differ : eq_by_cmp tag_cmp (tag_of e.tag) (tag_of name.tag) ≡ false =
     ap (λ (x : Tag). eq_by_cmp tag_cmp x (tag_of name.tag)) is ∙ rest_differs shape (tag_of name.tag) t n there in
     let after = judged_out columns shape name e n jn (ap (λ (b : Bool). not b) differ) stands j in
-    let small : size_of out ≤ most_names = let le = not_more (tag_of name.tag) shape in omega (arith, le, js.1) in
+    let small : size_of out ≤ most_names = let le = out_size (tag_of name.tag) shape in omega (arith, le, js.1) in
     let now = judged_just list columns out (tag_of e.tag) e.perm.bits cs (out_ids (tag_of name.tag) shape ids) small
     after.there after.answers in
     let before = judged_just list columns shape (tag_of e.tag) e.perm.bits cs ids js.1 j.there j.answers in
@@ -458,7 +440,7 @@ stands_if list columns left name cs js jn n keeps e j =
     out = taken_out (tag_of name.tag) shape
 
     small : size_of out ≤ most_names
-    small = let le = not_more (tag_of name.tag) shape in omega (arith, le, js.1)
+    small = let le = out_size (tag_of name.tag) shape in omega (arith, le, js.1)
 
     kept : is_shared (tag_of e.tag) ≡ true → is_in_shape out (tag_of e.tag) ≡ true → keeps_without name e ≡ true
     kept s there =
@@ -472,7 +454,7 @@ stands_if list columns left name cs js jn n keeps e j =
         keeps (tag_of e.tag) s there e.perm.bits e.perm.within
         (inl ((before e.perm.bits e.perm.within).0 (contains_itself e.perm.bits))) in
         let part = (before name.perm.bits name.perm.within).1 (λ o r asked l. gains o r asked
-        (still_looks shape out (tag_of e.tag) o r (out_within (tag_of name.tag) shape) s there l)) in
+        (still_looks shape out (tag_of e.tag) o r (out_part (tag_of name.tag) shape) s there l)) in
         let answers = answers_of list columns out (tag_of e.tag) e.perm.bits cs (out_ids (tag_of name.tag) shape ids)
         small there e.perm.within stays in
         rw part (asked (is_asked_more (tag_of e.tag) (tag_of name.tag)) (λ more. before_all columns shape
@@ -534,7 +516,9 @@ not_name t name f n = elim (cases_Bool (eq_by_cmp tag_cmp t name)) [
   | inr differ ↦ differ
 ]
 
-pub goes : (list : List Ace) (columns : Columns) (left : List JudgedEntry) (name : JudgedEntry) → AreColumns list columns
+-- the first entry that can go is that of a name without which nothing is lost
+pub goes : (list : List Ace) (columns : Columns) (left : List JudgedEntry) (name : JudgedEntry)
+    → AreColumns list columns
     → AreJudged columns left → find (can_go left) left ≡ Some name → Goes list columns left (tag_of name.tag)
 goes list columns left name cs js found =
     let shape = shape_left left in
@@ -545,7 +529,7 @@ goes list columns left name cs js found =
     filtered (is_kept tag) (stands_without name) (IsJudged columns shape) (IsJudged columns (taken_out tag shape)) left
     two.1 js.0.each (λ e kept stands j. judged_out columns shape name e two.0 jn kept stands j) in
     let is = out_shape tag left two.0 in
-    let le = not_more tag shape in
+    let le = out_size tag shape in
     record {
       named = two.0;
       there = jn.there;
@@ -553,7 +537,8 @@ goes list columns left name cs js found =
           (entries_stand list columns left name cs js jn two.0 two.1);
       rest = (
         record {
-          each = subst (λ (s : EntryShape). AllByRecursion (IsJudged columns s) (filter (is_kept tag) left)) (sym is) more;
+          each =
+              subst (λ (s : EntryShape). AllByRecursion (IsJudged columns s) (filter (is_kept tag) left)) (sym is) more;
           named = refl;
           owning = unnamed_left group_obj tag left (not_name group_obj tag refl two.0) js.0.owning;
           others = unnamed_left other tag left (not_name other tag refl two.0) js.0.others;
@@ -563,8 +548,8 @@ goes list columns left name cs js found =
     }
 
 -- one more step in front of those that follow
-pub step_before : (list : List Ace) (columns : Columns) (left : List JudgedEntry) (name : JudgedEntry) (two : EntryShape)
-    → AreColumns list columns → AreJudged columns left → find (can_go left) left ≡ Some name
+pub step_before : (list : List Ace) (columns : Columns) (left : List JudgedEntry) (name : JudgedEntry)
+    (two : EntryShape) → AreColumns list columns → AreJudged columns left → find (can_go left) left ≡ Some name
     → Prunes list (shape_left (filter (is_kept (tag_of name.tag)) left)) two → Prunes list (shape_left left) two
 step_before list columns left name two cs js found rest =
     let g = goes list columns left name cs js found in
@@ -611,7 +596,7 @@ pub fewer : (left : List JudgedEntry) (name : JudgedEntry) → find (can_go left
 fewer left name found =
     let n = (and_true (is_named (tag_of name.tag)) _ (found_passes (can_go left) left name found)).0 in
     subst (λ (s : EntryShape). size_of s ≤ size_of (shape_left left)) (sym (out_shape (tag_of name.tag) left n))
-    (not_more (tag_of name.tag) (shape_left left))
+    (out_size (tag_of name.tag) (shape_left left))
 
 -- ---- the entries at the start
 
@@ -645,11 +630,13 @@ groups_behind (x ∷ left) e = ap (group_before (tag_of x.tag)) (groups_behind l
     by other xs ys = refl
 
 -- all, if one more is behind them
-all_behind : {X : Type 0} (P : X → Type 0) (xs : List X) (x : X) → AllByRecursion P xs → P x → AllByRecursion P (xs ++ x ∷ [])
+all_behind : {X : Type 0} (P : X → Type 0) (xs : List X) (x : X) → AllByRecursion P xs → P x
+    → AllByRecursion P (xs ++ x ∷ [])
 all_behind P [] x a h = (h, tt)
 all_behind P (y ∷ xs) x a h = (a.0, all_behind P xs x a.1 h)
 
-some_behind : {X : Type 0} (p : X → Bool) (xs : List X) (x : X) → list_any p xs ≡ true → list_any p (xs ++ x ∷ []) ≡ true
+some_behind : {X : Type 0} (p : X → Bool) (xs : List X) (x : X) → list_any p xs ≡ true
+    → list_any p (xs ++ x ∷ []) ≡ true
 some_behind p xs x h = list_any-append p xs (x ∷ []) ∙ ap (λ (b : Bool). b || list_any p (x ∷ [])) h
 
 -- one more entry
@@ -685,8 +672,8 @@ pub user_behind : (columns : Columns) (shape : EntryShape) (list : List Id) (i :
     → AreJudgedFor columns shape (shape_with (take i (ids list)) []) left
     → AreJudgedFor columns shape (shape_with (take (i + 1) (ids list)) []) pushed
 user_behind columns shape list i id left pushed e lt at j tag is a =
-    entry_behind columns shape (shape_with (take i (ids list)) []) (shape_with (take (i + 1) (ids list)) []) left pushed e
-    a j is (same_shape _ _ _ _
+    entry_behind columns shape (shape_with (take i (ids list)) []) (shape_with (take (i + 1) (ids list)) [])
+    left pushed e a j is (same_shape _ _ _ _
     (ap (λ (t : Tag). take i (ids list) ++ user_before t []) tag ∙ one_number list i id lt at)
     (ap (λ (t : Tag). group_before t []) tag))
 

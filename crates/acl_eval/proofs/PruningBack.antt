@@ -38,6 +38,7 @@ bridge_exact : (entries : Entries) → IsAcl entries → IsExactFor (bridge_list
 bridge_exact entries valid object requester want asked single =
     let both = grants_singles entries object requester want valid asked single in (both.1, both.0)
 
+-- a pruning of the list of an ACL ends in an ACL that answers as the ACL does
 pub leads_back : (entries : Entries) (one two : EntryShape) (back : Entries) → IsAcl entries
     → length (bridge_list entries) ≤ most_aces → HasFewIds one → IsAmong one entries
     → PrunesTo (bridge_list entries) one two → IsBest (bridge_list entries) two back → AnswerAlike entries back

@@ -1,5 +1,5 @@
 -- Where the names that are taken out end: no shape with names of the start gives more.
-use Rattle.std.proofs.Common.{◌≡◌, ℕ, Bool, true, false, List, [], refl, sym, ap, subst, ◌∙◌, inl, inr}
+use Rattle.std.proofs.Common.{◌≡◌, ℕ, Bool, true, false, List, refl, sym, ap, subst, ◌∙◌, inl, inr}
 use Rattle.std.proofs.lemmas.Bool.{cases_Bool, eq-eqb, eqb-true, false≢true, true≢false}
 use Rattle.std.specs.Prelude.{◌⊎◌, ◌==◌, ◌||◌}
 use Rattle.std.specs.Ordering.{eq_by_cmp}
@@ -12,8 +12,8 @@ use Rattle.acl_eval.specs.Bridge.{is_group_tag}
 use Rattle.acl_eval.specs.Pruning.{is_shared, shape_without, taken_out}
 use Rattle.acl_eval.specs.ToPosix.{EntryShape, is_in_shape}
 use Rattle.acl_eval.proofs.AlwaysDecides.{HasIds, entry_id, same_itself}
-use Rattle.acl_eval.proofs.Losses.{but_keeps, but_lacks, member_but}
-use Rattle.acl_eval.proofs.Matchings.{IsMatching, IsPart, IsRest, Looks, Matching, also, also_matching, alone, alone_looks, alone_matching, alone_only, looks_part, looks_rest, looks_there, moved, no_groups, no_groups_matching, no_users, no_users_matching, out_part, part_has, part_ids, rest_looks, rest_part, rest_shared, with_group, with_group_matching, with_user, with_user_matching}
+use Rattle.acl_eval.proofs.Losses.{IsPart, but_keeps, but_lacks, member_but, out_part, part_has, part_ids}
+use Rattle.acl_eval.proofs.Matchings.{IsMatching, IsRest, Looks, Matching, also, also_matching, alone, alone_looks, alone_matching, alone_only, looks_part, looks_rest, looks_there, moved, no_groups, no_groups_matching, no_users, no_users_matching, rest_looks, rest_part, rest_shared, with_group, with_group_matching, with_user, with_user_matching}
 use Rattle.acl_eval.proofs.PruningSteps.{Below, Gives, Granting, HasAlways, IsPruned, Steps, also_same, has_part, steps_leave, steps_part, steps_stay}
 
 -- one of the groups of somebody is enough to deny some permissions, and to deny them to strangers in this group alone
@@ -78,7 +78,8 @@ user_gets : (f : Granting) (start s t : EntryShape) (u want : ℕ) → IsAbove f
 user_gets f start s t u want a small lacks e shared there has m ok l is =
     let rest = looks_rest (taken_out (user u) s) m e shared l in
     let stranger = moved (taken_out (user u) s) s m (no_users m) e shared there
-    (record { owner = rest.owner; others = λ id h. refl }) (record { owning = refl; named = λ id h. refl }) (λ id h. h) l in
+    (record { owner = rest.owner; others = λ id h. refl }) (record { owning = refl; named = λ id h. refl })
+    (λ id h. h) l in
     let g = a.above (no_users m) want (no_users_matching m ok) small
     (record { entry = e; looks = stranger; has = has }) in
     g.has m ok (moved t t (no_users m) m g.entry
@@ -287,7 +288,8 @@ all_stay : (f : Granting) (s : EntryShape) (g want : ℕ) → is_member g s.grou
     → is_in_shape (taken_out (group g) s) e ≡ true → HasAlways f (taken_out (group g) s) e want
 all_stay f s g want has_g own all user_obj shared there = absurd (false≢true shared)
 all_stay f s g want has_g own all (user u) shared there = absurd (false≢true shared)
-all_stay f s g want has_g own all group_obj shared there = group_stays f s g want group_obj refl refl (all group_obj refl refl)
+all_stay f s g want has_g own all group_obj shared there =
+    group_stays f s g want group_obj refl refl (all group_obj refl refl)
 all_stay f s g want has_g own all (group h) shared there =
     group_stays f s g want (group h) refl refl (all (group h) refl (member_but h g s.groups there).0)
 all_stay f s g want has_g own all mask shared there = absurd (false≢true shared)
@@ -307,8 +309,8 @@ group_goes f start s t g denies a has_g lacks m want ok small given = by given.e
         record {
           entry = some.entry;
           looks = some.looks;
-          has = all_stay f s g want has_g has (group_all f start s t g want a small has_g lacks has) some.entry some.shared
-              (looks_there (taken_out (group g) s) m some.entry some.looks);
+          has = all_stay f s g want has_g has (group_all f start s t g want a small has_g lacks has)
+              some.entry some.shared (looks_there (taken_out (group g) s) m some.entry some.looks);
         }
 
     by : (e : Tag) → Looks s m e → HasAlways f s e want → Gives f (taken_out (group g) s) m want
@@ -335,7 +337,8 @@ group_goes f start s t g denies a has_g lacks m want ok small given = by given.e
 -- ---- the end
 
 -- if no name can be taken out, the second shape has only names of the third
-pub end_part : (f : Granting) (start s t : EntryShape) → OneGroupDenies f → IsAbove f start s t → IsPruned f s → IsPart t s
+pub end_part : (f : Granting) (start s t : EntryShape) → OneGroupDenies f → IsAbove f start s t → IsPruned f s
+    → IsPart t s
 end_part f start s t denies a last = record {
   users = λ id h. elim (cases_Bool (is_member id t.users)) [
     | inl has ↦ has

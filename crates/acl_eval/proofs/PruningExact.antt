@@ -32,10 +32,11 @@ use Rattle.acl_eval.specs.PruningLaws.{IsExactFor, HasFewIds, HasNamesOf, IsName
 use Rattle.acl_eval.specs.ToPosix.{EntryShape, HasShape, IsBest}
 use Rattle.acl_eval.specs.internal.ShapeBody.{column_decided_by, tag_meets}
 use Rattle.acl_eval.proofs.Images.{image_right, rights}
+use Rattle.acl_eval.proofs.Losses.{no_longer}
 use Rattle.acl_eval.proofs.Matchings.{IsMatching, IsRest, Looks, Matching}
 use Rattle.acl_eval.proofs.PruningEnds.{part_above}
 use Rattle.acl_eval.proofs.PruningMaximal.{last_within}
-use Rattle.acl_eval.proofs.PruningSituations.{IsSmall, agree_gives, all_ids, among_part, among_shape, asked_matching, best_grants, gives_from, gives_of, granted_is, ids_of_list, ids_of_second, is_granted, is_small, listed, real_for, shape_among, shorter, sound_entry, steps_of, most_listed}
+use Rattle.acl_eval.proofs.PruningSituations.{IsSmall, agree_gives, all_ids, among_part, among_shape, asked_matching, best_grants, gives_from, gives_of, granted_is, ids_of_list, ids_of_second, is_granted, is_small, listed, real_for, shape_among, sound_entry, steps_of, most_listed}
 use Rattle.acl_eval.proofs.PruningSteps.{Gives}
 use Rattle.acl_eval.proofs.RealMatchings.{AgreeAt, agree_back, agree_granted, column_of, filter_member, put_agrees, with_bit}
 use Rattle.acl_eval.proofs.ShapeChecks.{best_sound}
@@ -152,11 +153,13 @@ seen_bit s m (x ∷ list) want bit names small right =
         (named_alike s m (principal_of x) (names.0 (counts x want bit small right e))) rest
     by rest false e = rest
 
+-- what a list grants, it grants without users and groups that the shape does not have
 pub seen_granted : (s : EntryShape) (m : Matching) (list : List Ace) (want : ℕ) → HasNamesOf s list → IsPerm want
     → granted_to list want m → granted_to list want (seen s m)
 seen_granted s m list want names small granted bit right =
     sym (seen_bit s m list want bit names small right) ∙ granted bit right
 
+-- what a list grants without users and groups that the shape does not have, it grants with them
 pub granted_seen : (s : EntryShape) (m : Matching) (list : List Ace) (want : ℕ) → HasNamesOf s list → IsPerm want
     → granted_to list want (seen s m) → granted_to list want m
 granted_seen s m list want names small granted bit right =
@@ -278,8 +281,8 @@ own_small acl valid few =
     let all = recursion_from_All IsEntry (fin.entries acl) valid.within in
     let long : length (numbers_of acl) ≡ length (fin.entries acl) =
     length-map (fin.entries acl) (λ e. qualifier e.0) in
-    let u = shorter (λ id. fin.contains_key acl (tag.user id)) (numbers_of acl) in
-    let g = shorter (λ id. fin.contains_key acl (tag.group id)) (numbers_of acl) in
+    let u = no_longer (λ id. fin.contains_key acl (tag.user id)) (numbers_of acl) in
+    let g = no_longer (λ id. fin.contains_key acl (tag.group id)) (numbers_of acl) in
     record {
       users = λ id h. entry_tag (tag.user id) (fin.entries acl) all
           (sym (fin.contains_key-keys acl (tag.user id)) ∙ (shaped.users id ∙ h));
@@ -321,7 +324,8 @@ exact_gives list one acl m want short f names valid few agrees ok single granted
     (λ o q asked yes. (agrees o q want asked single).0 yes) allowed) in
     let b = among_both in
     both_gives list one t (shape_among one acl) m want b names small
-    (agree_gives list (all_ids list t t) (tag_meets r.object r.requester) n t want r.agree (ids_of_second list t t) given)
+    (agree_gives list (all_ids list t t) (tag_meets r.object r.requester) n t want r.agree
+    (ids_of_second list t t) given)
   where
     among_both : AreBoth one (own_shape acl) (shape_among one acl)
     among_both = record {
@@ -331,8 +335,9 @@ exact_gives list one acl m want short f names valid few agrees ok single granted
           ∙ ap (λ (b : Bool). is_member id one.groups && b) ((own_shaped acl).groups id);
     }
 
-pub longer_agrees : (list : List Ace) (one two : EntryShape) (best : Entries) → length list ≤ most_listed → HasFewIds one
-    → HasNamesOf one list → PrunesTo list one two → IsBest list two best → (acl : Entries) → IsAcl acl
+-- if some ACL agrees with a list that may have four ACEs more than most_aces, the ACL of the pruning does
+pub longer_agrees : (list : List Ace) (one two : EntryShape) (best : Entries) → length list ≤ most_listed
+    → HasFewIds one → HasNamesOf one list → PrunesTo list one two → IsBest list two best → (acl : Entries) → IsAcl acl
     → length (fin.entries acl) ≤ 65535 → IsExactFor list acl → IsExactFor list best
 longer_agrees list one two best short f names p is acl valid few agrees object requester want asked single = (
   λ yes. best_sound list two best is object requester asked want (single_small want single) yes,
@@ -351,6 +356,7 @@ longer_agrees list one two best short f names p is acl valid few agrees object r
       (steps_of list one two p.steps short (is_small one f)) part within m want ok small given)),
 )
 
+-- if some ACL agrees with a list, the ACL of the pruning does
 pub end_agrees : (list : List Ace) (one two : EntryShape) (best : Entries) → length list ≤ most_aces → HasFewIds one
     → HasNamesOf one list → PrunesTo list one two → IsBest list two best → (acl : Entries) → IsAcl acl
     → length (fin.entries acl) ≤ 65535 → IsExactFor list acl → IsExactFor list best

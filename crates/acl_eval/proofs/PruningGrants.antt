@@ -1,4 +1,4 @@
--- Lists that grant the same give ACLs with the same entries, whatever users and groups they name.
+-- Lists that grant the same give one ACL, whatever users and groups they name.
 use Rattle.std.proofs.Common.{◌≡◌, ◌≤◌, ◌<◌, ◌-◌, ℕ, Bool, true, false, cond, List, [], ◌∷◌, ◌++◌, Option, None, Some, Equal, refl, sym, ap, subst, ◌∙◌, arith, inl, inr, length}
 use Rattle.std.proofs.lemmas.Bool.{cases_Bool, eq-eqb, eqb-true, false≢true, true≢false}
 use Rattle.std.proofs.lemmas.List.{length-append}
@@ -6,7 +6,7 @@ use Rattle.std.proofs.lemmas.List.Elements.{recursion_from_All}
 use Rattle.std.proofs.lemmas.Nat.{and_comm}
 use Rattle.std.proofs.lemmas.Option.{same_Some}
 use Rattle.std.specs.Int.Bits.{and_self}
-use Rattle.std.specs.Prelude.{◌⊎◌, ◌&&◌, bit_and, bit_or, filter, is_some}
+use Rattle.std.specs.Prelude.{◌⊎◌, ◌==◌, ◌&&◌, ◌||◌, bit_and, bit_or, filter, is_some}
 use Rattle.std.specs.FinMap as fin
 use Rattle.std.specs.FinMap.Entries.{find-where_key, is_sorted-where_key, same_entries}
 use Rattle.std.specs.List.{AllByRecursion, fold}
@@ -17,27 +17,29 @@ use Rattle.acl_posix.specs.Entries.{Entries, IsEntry}
 use Rattle.acl_posix.specs.Id.{greatest_id}
 use Rattle.acl_posix.specs.Mask.{class_union, with_mask}
 use Rattle.acl_posix.specs.Tag as tag
-use Rattle.acl_posix.specs.Tag.{Tag, is_masked, tag_cmp}
+use Rattle.acl_posix.specs.Tag.{Tag, is_masked, is_named, tag_cmp}
 use Rattle.acl_posix.specs.Texts.{IsAcl}
 use Rattle.acl_posix.specs.internal.TagCode.{tags_total}
 use Rattle.acl_posix.proofs.Exports.{same_tag}
 use Rattle.acl_nfs4.specs.Ace.{Ace}
 use Rattle.acl_nfs4.specs.Limits.{most_aces}
 use Rattle.acl_eval.specs.Pruning.{PrunesTo}
-use Rattle.acl_eval.specs.PruningLaws.{GrantSamePermissions, HasFewIds, HasNamesOf, HaveOneAcl}
-use Rattle.acl_eval.specs.ToPosix.{EntryShape, HasShape, IsBest, is_in_shape}
+use Rattle.acl_eval.specs.PruningLaws.{GrantSamePermissions, HasFewIds, HasNamesOf}
+use Rattle.acl_eval.specs.ToPosix.{EntryShape, HasShape, IsBest, is_in_shape, size_of}
 use Rattle.acl_eval.specs.internal.ShapeBody.{tag_meets}
 use Rattle.acl_eval.proofs.AlwaysDecides.{same_itself}
-use Rattle.acl_eval.proofs.Matchings.{IsMatching, Matching, part_has}
+use Rattle.acl_eval.proofs.Losses.{part_has}
+use Rattle.acl_eval.proofs.Matchings.{IsMatching, Matching}
 use Rattle.acl_eval.proofs.PruningExact.{granted_seen, seen, seen_granted}
 use Rattle.acl_eval.proofs.PruningKept.{part_keeps}
 use Rattle.acl_eval.proofs.PruningLists.{alike_always, alike_back, alike_prunes_to, pruned_of}
 use Rattle.acl_eval.proofs.PruningSets.{entry_there}
-use Rattle.acl_eval.proofs.PruningSituations.{first_member, granted_is, is_granted, is_small, listed, most_listed, second_member, small_at_end, steps_of}
+use Rattle.acl_eval.proofs.PruningSituations.{granted_is, is_granted, is_small, listed, most_listed, small_at_end, steps_of}
 use Rattle.acl_eval.proofs.PruningStarts.{AlikeFor, NamesDecide, SameNames, same_turned, two_starts}
 use Rattle.acl_eval.proofs.RealMatchings.{Agree, agree_back, agree_granted, list_ids, list_ids_few, real}
+use Rattle.acl_eval.proofs.ShapeBuilding.{none_named}
+use Rattle.acl_eval.proofs.ShapeChecks.{first_member, second_member}
 use Rattle.acl_eval.proofs.TagMatchings.{granted_to, one_group_denies}
-use Rattle.acl_eval.proofs.ValidChecks.{has_mask, valid_is_complete}
 
 -- ---- the names of a list decide what it grants
 
@@ -170,8 +172,8 @@ lacks_all (Some n) h = absurd (true≢false h)
 
 -- the same entries, MASK aside
 same_entries_of : (list second : List Ace) (s t : EntryShape) (best one_more : Entries)
-    → GrantSamePermissions list second → SameNames s t → IsBest list s best → IsBest second t one_more → (e : Tag) → (e ≡ tag.mask → ⊥)
-    → fin.get best e ≡ fin.get one_more e
+    → GrantSamePermissions list second → SameNames s t → IsBest list s best → IsBest second t one_more → (e : Tag)
+    → (e ≡ tag.mask → ⊥) → fin.get best e ≡ fin.get one_more e
 same_entries_of list second s t best one_more same names is other_is e plain = elim (cases_Bool (is_in_shape s e)) [
   | inl there ↦
       let also_there = part_has t s e names.whole there in
@@ -217,58 +219,72 @@ same_class best one_more same = same_entries tag_cmp tags_total exact _ _
       | inr plain ↦ rw plain refl
     ]
 
--- a MASK is the union of these
-mask_is : (acl : Entries) → (fin.get acl tag.mask ≡ None) ⊎ (with_mask acl ≡ acl) → fin.contains_key acl tag.mask ≡ true
-    → fin.get acl tag.mask ≡ Some (class_union (fin.entries acl))
-mask_is acl (inl none) there = absurd (false≢true (sym (ap (λ (o : Option ℕ). is_some o) none) ∙ there))
-mask_is acl (inr same) there = sym (ap (λ (a : Entries). fin.get a tag.mask) same)
+-- a shape that is not empty has a user or a group
+some_name : (s : EntryShape) → 0 < size_of s → (name : Tag) × ((is_named name ≡ true) × (is_in_shape s name ≡ true))
+some_name s some = by s.users s.groups refl refl
+  where
+    or_first : (a b : Bool) → a ≡ true → (a || b) ≡ true
+    or_first true b h = refl
+    or_first false b h = absurd (false≢true h)
+
+    by : (us gs : List ℕ) → s.users ≡ us → s.groups ≡ gs
+        → (name : Tag) × ((is_named name ≡ true) × (is_in_shape s name ≡ true))
+    by (u ∷ us) gs e f = (tag.user u, (refl, rw e (or_first (u == u) (is_member u us) (eq-eqb u u refl))))
+    by [] (g ∷ gs) e f = (tag.group g, (refl, rw f (or_first (g == g) (is_member g gs) (eq-eqb g g refl))))
+    by [] [] e f = absurd (omega (arith, some, ap (λ (xs : List ℕ). length xs) e, ap (λ (xs : List ℕ). length xs) f))
+
+-- shapes with the same names are both empty or both not
+some_too : (s t : EntryShape) → SameNames s t → 0 < size_of s → size_of t ≡ 0 → ⊥
+some_too s t names some none =
+    let name = some_name s some in
+    true≢false (sym (part_has t s name.0 names.whole name.1.1)
+    ∙ none_named t name.0 none name.1.0)
+
+-- the calculated MASK
+mask_is : (acl : Entries) → with_mask acl ≡ acl → fin.get acl tag.mask ≡ Some (class_union (fin.entries acl))
+mask_is acl same = sym (ap (λ (a : Entries). fin.get a tag.mask) same)
     ∙ fin.get-insert tags_total acl tag.mask (class_union (fin.entries acl)) tag.mask
 
--- so if both ACLs have a MASK, it is the same
-same_mask : (list second : List Ace) (s t : EntryShape) (best one_more : Entries) → IsBest list s best
+-- both ACLs have the same MASK, or none
+same_mask : (list second : List Ace) (s t : EntryShape) (best one_more : Entries) → SameNames s t → IsBest list s best
     → IsBest second t one_more → ((e : Tag) → (e ≡ tag.mask → ⊥) → fin.get best e ≡ fin.get one_more e)
-    → fin.contains_key best tag.mask ≡ fin.contains_key one_more tag.mask
     → fin.get best tag.mask ≡ fin.get one_more tag.mask
-same_mask list second s t best one_more is other_is same both = elim (cases_Bool (fin.contains_key best tag.mask)) [
-  | inl has ↦ mask_is best is.mask has ∙ (ap (λ (es : List (Tag × ℕ)). Some (union es)) (same_class best one_more same)
-      ∙ sym (mask_is one_more other_is.mask (sym both ∙ has)))
-  | inr lacks ↦ lacks_all (fin.get best tag.mask) lacks ∙ sym (lacks_all (fin.get one_more tag.mask) (sym both ∙ lacks))
-]
+same_mask list second s t best one_more names is other_is same = by is.mask other_is.mask
   where
     union : List (Tag × ℕ) → ℕ
     union es = fold (λ n entry. bit_or n entry.1) 0 es
 
+    by : ((size_of s ≡ 0) × (fin.get best tag.mask ≡ None)) ⊎ ((0 < size_of s) × (with_mask best ≡ best))
+        → ((size_of t ≡ 0) × (fin.get one_more tag.mask ≡ None)) ⊎ ((0 < size_of t) × (with_mask one_more ≡ one_more))
+        → fin.get best tag.mask ≡ fin.get one_more tag.mask
+    by (inl none) (inl none_too) = none.1 ∙ sym none_too.1
+    by (inl none) (inr some) = absurd (some_too t s (same_turned s t names) some.0 none.0)
+    by (inr some) (inl none) = absurd (some_too s t names some.0 none.0)
+    by (inr is_mask) (inr is_mask_too) = mask_is best is_mask.1
+        ∙ (ap (λ (es : List (Tag × ℕ)). Some (union es)) (same_class best one_more same)
+        ∙ sym (mask_is one_more is_mask_too.1))
+
 -- ---- the law
 
--- ACLs with the same names have the same entries, if the lists grant the same
+-- ACLs with the same names are the same, if the lists grant the same
 one_acl : (list second : List Ace) (s t : EntryShape) (best one_more : Entries) → GrantSamePermissions list second
-    → SameNames s t → IsBest list s best → IsBest second t one_more → HaveOneAcl best one_more
-one_acl list second s t best one_more same names is other_is = record {
-  entries = entries;
-  named = λ name n has. all (has_mask best name (valid_is_complete best is.valid.valid) n has
-      ∙ sym (has_mask one_more name (valid_is_complete one_more other_is.valid.valid) n
-      (ap (λ (o : Option ℕ). is_some o) (sym (entries name (not_mask name n))) ∙ has)));
-  whole = all;
-}
+    → SameNames s t → IsBest list s best → IsBest second t one_more → best ≡ one_more
+one_acl list second s t best one_more same names is other_is =
+    fin.same_map tags_total exact best one_more (λ e. elim (cases_Bool (eq_by_cmp tag_cmp e tag.mask)) [
+      | inl masked ↦ subst (λ (x : Tag). fin.get best x ≡ fin.get one_more x) (sym (same_tag e tag.mask masked))
+          (same_mask list second s t best one_more names is other_is entries)
+      | inr plain ↦ entries e (λ m. true≢false
+          (sym (same_itself tag.mask) ∙ (ap (λ (x : Tag). eq_by_cmp tag_cmp x tag.mask) (sym m) ∙ plain)))
+    ])
   where
     entries : (e : Tag) → (e ≡ tag.mask → ⊥) → fin.get best e ≡ fin.get one_more e
     entries = same_entries_of list second s t best one_more same names is other_is
 
-    not_mask : (name : Tag) → tag.is_named name ≡ true → name ≡ tag.mask → ⊥
-    not_mask name n e = false≢true (sym (ap tag.is_named e) ∙ n)
-
-    all : fin.contains_key best tag.mask ≡ fin.contains_key one_more tag.mask → best ≡ one_more
-    all both = fin.same_map tags_total exact best one_more (λ e. elim (cases_Bool (eq_by_cmp tag_cmp e tag.mask)) [
-      | inl masked ↦ subst (λ (x : Tag). fin.get best x ≡ fin.get one_more x) (sym (same_tag e tag.mask masked))
-          (same_mask list second s t best one_more is other_is entries both)
-      | inr plain ↦ entries e (λ m. true≢false
-          (sym (same_itself tag.mask) ∙ (ap (λ (x : Tag). eq_by_cmp tag_cmp x tag.mask) (sym m) ∙ plain)))
-    ])
-
+-- lists that grant the same have prunings that end in one ACL
 pub grants_give_one : (list second : List Ace) (one two three four : EntryShape) (best one_more : Entries)
     → length list ≤ most_aces → length second ≤ most_aces → HasFewIds one → HasFewIds three → HasNamesOf one list
     → HasNamesOf three second → GrantSamePermissions list second → PrunesTo list one two → IsBest list two best
-    → PrunesTo second three four → IsBest second four one_more → HaveOneAcl best one_more
+    → PrunesTo second three four → IsBest second four one_more → best ≡ one_more
 grants_give_one list second one two three four best one_more short brief f g names other same p is q other_is =
     one_acl list second two four best one_more same
     (same_names list second one two three four short brief f g names other same p q) is other_is

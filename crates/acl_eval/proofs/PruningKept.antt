@@ -1,5 +1,5 @@
 -- What a pruning keeps: what is granted, and the permissions of the entries that stay.
-use Rattle.std.proofs.Common.{◌≡◌, ◌≤◌, ℕ, Bool, true, false, List, [], ◌∷◌, refl, sym, ap, ◌∙◌, arith, length, inl, inr}
+use Rattle.std.proofs.Common.{◌≡◌, ◌≤◌, ℕ, Bool, true, false, List, [], ◌∷◌, refl, sym, ap, ◌∙◌, arith, inl, inr}
 use Rattle.std.proofs.lemmas.Bool.{cases_Bool, eq-eqb, eqb-true, false≢true, not-true, true≢false}
 use Rattle.std.specs.Prelude.{◌==◌, ◌||◌, ◌↔◌, if◌then◌else◌, not}
 use Rattle.std.specs.List.{list_any}
@@ -8,12 +8,12 @@ use Rattle.acl_perm.specs.Bits.{IsPerm}
 use Rattle.acl_posix.specs.Check.{Object, Requester, is_member}
 use Rattle.acl_posix.specs.Tag.{Tag, user_obj, user, group_obj, group, mask, other, is_named}
 use Rattle.acl_nfs4.specs.Ace.{Ace}
-use Rattle.acl_eval.specs.Pruning.{IsNameOf, LosesNothing, Prunes, none, next, shape_without, taken_out}
+use Rattle.acl_eval.specs.Pruning.{IsNameOf, LosesNothing, Prunes, none, next, taken_out}
 use Rattle.acl_eval.specs.PruningLaws.{HasFewIds}
-use Rattle.acl_eval.specs.ToPosix.{AlwaysHas, EntryShape, is_in_class, is_in_shape, looks_at, size_of}
+use Rattle.acl_eval.specs.ToPosix.{AlwaysHas, EntryShape, is_in_class, is_in_shape, looks_at}
 use Rattle.acl_eval.specs.internal.ShapeBody.{tag_meets}
-use Rattle.acl_eval.proofs.Losses.{entries_decide}
-use Rattle.acl_eval.proofs.Matchings.{IsPart, IsRest, Looks, looks_part, out_part, part_has, part_itself, part_of_part}
+use Rattle.acl_eval.proofs.Losses.{IsPart, entries_decide, out_part, out_size, part_has}
+use Rattle.acl_eval.proofs.Matchings.{IsRest, Looks, looks_part, part_itself, part_of_part}
 use Rattle.acl_eval.proofs.ShapeChecks.{any_member, class_parts, some_member}
 
 -- ---- the tests of the check, and the entries at which it looks
@@ -31,6 +31,7 @@ class_rest s object requester h =
       ];
     }
 
+-- those who are neither the owner nor a user with an entry are in the group class
 pub rest_class : (s : EntryShape) (object : Object) (requester : Requester)
     → IsRest s.users (tag_meets object requester) → is_in_class s object requester ≡ true
 rest_class s object requester r = rw (r.owner, absent) refl
@@ -60,10 +61,12 @@ no_group own named groups outside apart = elim (cases_Bool (list_any (λ id. id 
 outside_all : (own : ℕ) (named groups : List ℕ) → list_any (λ id. id == own || is_member id named) groups ≡ false
     → (id : ℕ) → (id == own || is_member id named) ≡ true → is_member id groups ≡ false
 outside_all own named groups nothing id passes = elim (cases_Bool (is_member id groups)) [
-  | inl has ↦ absurd (true≢false (sym (any_member (λ id. id == own || is_member id named) groups id has passes) ∙ nothing))
+  | inl has ↦
+      absurd (true≢false (sym (any_member (λ id. id == own || is_member id named) groups id has passes) ∙ nothing))
   | inr lacks ↦ lacks
 ]
 
+-- if the check looks at an entry in a situation, it does under the matching of the situation
 pub looks_of : (s : EntryShape) (object : Object) (requester : Requester) (e : Tag)
     → looks_at s object requester e ≡ true → Looks s (tag_meets object requester) e
 looks_of s object requester user_obj l = l
@@ -83,7 +86,8 @@ looks_of s object requester other l =
     let one = and_true (is_in_class s object requester) _ l in
     let lacks = outside_all object.group s.groups requester.groups (not-true _ one.1) in (
       class_rest s object requester one.0,
-      lacks object.group (ap (λ (b : Bool). b || is_member object.group s.groups) (eq-eqb object.group object.group refl)),
+      lacks object.group (ap (λ (b : Bool). b || is_member object.group s.groups)
+          (eq-eqb object.group object.group refl)),
       λ id has. lacks id (rw has (or_right (id == object.group))),
     )
   where
@@ -91,6 +95,7 @@ looks_of s object requester other l =
     or_right true = refl
     or_right false = refl
 
+-- if the check looks at an entry under the matching of a situation, it does in the situation
 pub looks_from : (s : EntryShape) (object : Object) (requester : Requester) (e : Tag)
     → Looks s (tag_meets object requester) e → looks_at s object requester e ≡ true
 looks_from s object requester user_obj l = l
@@ -103,24 +108,7 @@ looks_from s object requester other l =
 
 -- ---- one step
 
--- the shape without a name has few ids, too
-shorter : (id : ℕ) (xs : List ℕ) → length (shape_without id xs) ≤ length xs
-shorter id [] = omega arith
-shorter id (x ∷ xs) = by (shorter id xs) (x == id)
-  where
-    by : length (shape_without id xs) ≤ length xs → (b : Bool)
-        → length (if not b then x ∷ shape_without id xs else shape_without id xs) ≤ length (x ∷ xs)
-    by less true = omega (arith, less)
-    by less false = omega (arith, less)
-
-pub out_size : (name : Tag) (shape : EntryShape) → size_of (taken_out name shape) ≤ size_of shape
-out_size user_obj shape = omega arith
-out_size (user u) shape = omega (arith, shorter u shape.users)
-out_size group_obj shape = omega arith
-out_size (group g) shape = omega (arith, shorter g shape.groups)
-out_size mask shape = omega arith
-out_size other shape = omega arith
-
+-- a shape without a name has few ids, too
 pub out_few : (name : Tag) (shape : EntryShape) → HasFewIds shape → HasFewIds (taken_out name shape)
 out_few name shape f =
     let p = out_part name shape in
@@ -155,12 +143,15 @@ step_keeps list shape name entry want f n there loses stays small has = by entry
         has object requester asked
         (looks_from shape object requester (user v) (at.0, (out_part name shape).users v at.1, at.2))
     by group_obj stays has =
-        (entries_decide list shape name (name_of_few shape name f n there)).0 loses group_obj refl stays want small (inl has)
+        (entries_decide list shape name (name_of_few shape name f n there)).0 loses group_obj refl stays want
+        small (inl has)
     by (group g) stays has =
-        (entries_decide list shape name (name_of_few shape name f n there)).0 loses (group g) refl stays want small (inl has)
+        (entries_decide list shape name (name_of_few shape name f n there)).0 loses (group g) refl stays want
+        small (inl has)
     by mask stays has = absurd (false≢true (part_has shape (taken_out name shape) mask (out_part name shape) stays))
     by other stays has =
-        (entries_decide list shape name (name_of_few shape name f n there)).0 loses other refl stays want small (inl has)
+        (entries_decide list shape name (name_of_few shape name f n there)).0 loses other refl stays want
+        small (inl has)
 
 -- with fewer names an entry has no more
 pub part_keeps : (list : List Ace) (whole part : EntryShape) (entry : Tag) (want : ℕ) → IsPart whole part
@@ -171,11 +162,13 @@ part_keeps list whole part entry want p stays has object requester asked l = has
 
 -- ---- all steps
 
+-- the shape at the end of a pruning is a part of the first
 pub pruned_part : (list : List Ace) (one two : EntryShape) → Prunes list one two → IsPart one two
 pruned_part list a b (none shape) = part_itself shape
 pruned_part list a b (next one two name n there loses rest) =
     part_of_part one (taken_out name one) two (out_part name one) (pruned_part list (taken_out name one) two rest)
 
+-- a pruning loses nothing
 pub pruning_loses_nothing : (list : List Ace) (one two : EntryShape) → Prunes list one two → LosesNothing list one two
 pruning_loses_nothing list a b (none shape) = λ object requester asked want small g. g
 pruning_loses_nothing list a b (next one two name n there loses rest) = λ object requester asked want small g.
@@ -191,6 +184,7 @@ entries_stay list a b (next one two name n there loses rest) f entry stays want 
     (step_keeps list one name entry want f n there loses
     (part_has (taken_out name one) two entry (pruned_part list (taken_out name one) two rest) stays) small has)
 
+-- an entry that a pruning keeps has the same permissions before and after
 pub pruning_keeps_entries : (list : List Ace) (one two : EntryShape) → HasFewIds one → Prunes list one two
     → (entry : Tag) → is_in_shape two entry ≡ true → (want : ℕ) → IsPerm want
     → AlwaysHas list one entry want ↔ AlwaysHas list two entry want

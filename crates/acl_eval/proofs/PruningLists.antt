@@ -19,10 +19,12 @@ use Rattle.acl_eval.proofs.TagMatchings.{granted_to, one_group_denies}
 
 -- ---- one end
 
+-- where a pruning of a list ends, no name can be taken out under matchings, either
 pub pruned_of : (list : List Ace) (s t : EntryShape) → length list ≤ most_listed → IsSmall t → PrunesTo list s t
     → IsPruned (granted_to list) t
 pruned_of list s t short f p name n there below = p.last name n there (loses_of list t (taken_out name t) short f below)
 
+-- all prunings of a list from one shape end in one shape
 pub has_one_end : (list : List Ace) (one two three : EntryShape) → length list ≤ most_aces → HasFewIds one
     → PrunesTo list one two → PrunesTo list one three → two ≡ three
 has_one_end list one two three short f p q =
@@ -36,12 +38,14 @@ has_one_end list one two three short f p q =
 
 -- ---- lists that grant the same
 
+-- if two lists grant the same permissions, so they do in the other order
 pub alike_back : (list second : List Ace) → GrantSamePermissions list second → GrantSamePermissions second list
 alike_back list second a object requester want asked small =
     ((a object requester want asked small).1, (a object requester want asked small).0)
 
-pub alike_always : (list second : List Ace) (s : EntryShape) (e : Tag) (want : ℕ) → GrantSamePermissions list second → IsPerm want
-    → AlwaysHas list s e want → AlwaysHas second s e want
+-- if two lists grant the same permissions, an entry always has the same for both
+pub alike_always : (list second : List Ace) (s : EntryShape) (e : Tag) (want : ℕ) → GrantSamePermissions list second
+    → IsPerm want → AlwaysHas list s e want → AlwaysHas second s e want
 alike_always list second s e want a small has object requester asked l =
     (a object requester want asked small).0 (has object requester asked l)
 
@@ -67,6 +71,7 @@ alike_prunes list second x y (next s t name n there loses rest) a =
     next s t name n there (alike_loses list second s (taken_out name s) a loses)
     (alike_prunes list second (taken_out name s) t rest a)
 
+-- if two lists grant the same permissions, a pruning of one is a pruning of the other
 pub alike_prunes_to : (list second : List Ace) (s t : EntryShape) → GrantSamePermissions list second → PrunesTo list s t
     → PrunesTo second s t
 alike_prunes_to list second s t a p = record {
@@ -91,8 +96,10 @@ alike_answers list second s best one_more a is other_is want small object reques
     (alike_grants list second s best one_more object requester want a small is other_is)
     (alike_grants second list s one_more best object requester want (alike_back list second a) small other_is is)
 
+-- prunings from one shape for lists that grant the same permissions end alike
 pub grants_decide : (list second : List Ace) (one two three : EntryShape) (best one_more : Entries)
-    → length second ≤ most_aces → HasFewIds one → GrantSamePermissions list second → PrunesTo list one two → IsBest list two best
+    → length second ≤ most_aces → HasFewIds one → GrantSamePermissions list second → PrunesTo list one two
+    → IsBest list two best
     → PrunesTo second one three → IsBest second three one_more → EndsAlike two three best one_more
 grants_decide list second one two three best one_more short f a p is q other_is =
     let same = has_one_end second one two three short f (alike_prunes_to list second one two a p) q in

@@ -10,7 +10,8 @@ use Rattle.acl_eval.specs.BridgeLaws.{IsSingle}
 use Rattle.acl_eval.specs.Pruning.{PrunesTo}
 use Rattle.acl_eval.specs.PruningLaws.{HasFewIds, IsAmong}
 use Rattle.acl_eval.specs.ToPosix.{EntryShape, IsBest, IsSound}
-use Rattle.acl_eval.proofs.Matchings.{IsMatching, IsPart, Matching}
+use Rattle.acl_eval.proofs.Losses.{IsPart}
+use Rattle.acl_eval.proofs.Matchings.{IsMatching, Matching}
 use Rattle.acl_eval.proofs.PruningEnds.{end_part, part_above}
 use Rattle.acl_eval.proofs.PruningSingles.{below_singles, pruned_singles, singles_deny, granted_single, steps_singles}
 use Rattle.acl_eval.proofs.PruningSituations.{among_part, among_shape, among_small, below_at, best_grants, gives_from, gives_of, grants_no_more, is_small, listed, shape_among, small_at_end, sound_entry, steps_of, most_listed}
@@ -23,13 +24,15 @@ pub last_within : (list : List Ace) (one two t : EntryShape) → length list ≤
     → ((m : Matching) (want : ℕ) → IsMatching m → IsPerm want → IsSingle want → Gives (granted_to list) two m want
     → Gives (granted_to list) t m want)
     → IsPart t two
-last_within list one two t short f p names above = end_part (granted_single list) one two t (singles_deny list) (record {
-  ids = record { users = f.users; groups = f.groups };
-  steps = steps_singles list one two (steps_of list one two p.steps short (is_small one f));
-  names = names;
-  above = below_singles list two t above;
-}) (pruned_singles list one two short (small_at_end list one two p.steps (is_small one f)) p)
+last_within list one two t short f p names above =
+    end_part (granted_single list) one two t (singles_deny list) (record {
+      ids = record { users = f.users; groups = f.groups };
+      steps = steps_singles list one two (steps_of list one two p.steps short (is_small one f));
+      names = names;
+      above = below_singles list two t above;
+    }) (pruned_singles list one two short (small_at_end list one two p.steps (is_small one f)) p)
 
+-- the ACL of a pruning is maximal, for a list that may have four ACEs more than most_aces
 pub longer_is_maximal : (list : List Ace) (one two : EntryShape) (best : Entries) → length list ≤ most_listed
     → HasFewIds one → PrunesTo list one two → IsBest list two best → (acl : Entries) → IsAcl acl → IsAmong one acl
     → IsSound list acl → ((want : ℕ) → IsSingle want → GrantsNothingMoreOf best acl want) → GrantsNothingMore acl best
@@ -51,6 +54,7 @@ longer_is_maximal list one two best short f p is acl valid among sound less =
     (part_above (granted_to list) one two t (record { users = f.users; groups = f.groups })
     (steps_of list one two p.steps short s) names within)
 
+-- the ACL of a pruning is maximal
 pub end_is_maximal : (list : List Ace) (one two : EntryShape) (best : Entries) → length list ≤ most_aces
     → HasFewIds one → PrunesTo list one two → IsBest list two best → (acl : Entries) → IsAcl acl → IsAmong one acl
     → IsSound list acl → ((want : ℕ) → IsSingle want → GrantsNothingMoreOf best acl want) → GrantsNothingMore acl best

@@ -74,8 +74,9 @@ names_in table (a ∷ list) shape known n = (
   }),
 )
 
-pub all_names : (table : Table) (list : List Ace) (shape : EntryShape) → HaveIds table list → AreNamesOf table list shape
-    → HasNamesOf shape (with_ids table list)
+-- a shape with the names of a list by a table has the names of the list with ids in place of names
+pub all_names : (table : Table) (list : List Ace) (shape : EntryShape) → HaveIds table list
+    → AreNamesOf table list shape → HasNamesOf shape (with_ids table list)
 all_names table list shape known names = names_in table list shape known (record {
   users = λ id h. names.users id ∙ h;
   groups = λ id h. names.groups id ∙ h;

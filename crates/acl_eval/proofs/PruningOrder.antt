@@ -12,8 +12,8 @@ use Rattle.acl_eval.specs.Bridge.{is_group_tag}
 use Rattle.acl_eval.specs.Pruning.{is_shared, shape_without, taken_out}
 use Rattle.acl_eval.specs.ToPosix.{EntryShape, is_in_shape}
 use Rattle.acl_eval.proofs.AlwaysDecides.{HasIds, same_itself}
-use Rattle.acl_eval.proofs.Losses.{but_keeps}
-use Rattle.acl_eval.proofs.Matchings.{IsMatching, IsRest, Looks, Matching, alone, alone_matching, gone, looks_part, looks_rest, looks_there, no_groups, no_groups_matching, out_differs, out_part, part_has, part_ids, rest_looks, with_group, with_group_matching}
+use Rattle.acl_eval.proofs.Losses.{but_keeps, out_part, part_has, part_ids}
+use Rattle.acl_eval.proofs.Matchings.{IsMatching, IsRest, Looks, Matching, alone, alone_matching, gone, looks_part, looks_rest, looks_there, no_groups, no_groups_matching, out_differs, rest_looks, with_group, with_group_matching}
 use Rattle.acl_eval.proofs.PruningEnds.{OneGroupDenies, looks_outside}
 use Rattle.acl_eval.proofs.PruningSteps.{Below, Granting, HasAlways, IsPruned, Steps, has_part, no_step, one_more, step_leaves, step_stays}
 
@@ -75,6 +75,7 @@ turned x y differ = elim (cases_Bool (eq_by_cmp tag_cmp y x)) [
 
 -- ---- nothing is lost, by the entries
 
+-- nothing is lost without a name if the shared entries that stay have what they and the name had
 pub below_by_entries : (f : Granting) (s : EntryShape) (x : Tag) → is_named x ≡ true → is_in_shape s x ≡ true
     → ((e : Tag) (want : ℕ) → is_shared e ≡ true → is_in_shape (taken_out x s) e ≡ true → IsPerm want
     → HasAlways f s e want ⊎ HasAlways f s x want → HasAlways f (taken_out x s) e want)
@@ -162,7 +163,7 @@ strangers_out f s g want is has = has (alone (group g)) (alone_matching (group g
   λ id h. out_differs (group g) (group id) s refl h,
 )
 
--- what OTHER has in a shape, it grants to somebody who has other groups of the shape, if strangers in each are granted it
+-- what OTHER has in a shape, it grants to somebody with other groups of the shape, if strangers in each are granted it
 other_kept : (f : Granting) (want : ℕ) (m : Matching) (b final : EntryShape) → OneGroupDenies f → IsMatching m
     → IsPerm want → Looks final m other → IsRest b.users m → HasAlways f b other want
     → ((k : ℕ) → m (group k) ≡ true → is_member k b.groups ≡ true → f want (alone (group k))) → f want m
@@ -217,10 +218,12 @@ both_match : (f : Granting) (s : EntryShape) (x y e : Tag) (want : ℕ) (m : Mat
     → is_in_shape (taken_out x (taken_out y s)) e ≡ true → m x ≡ true → m y ≡ true
     → HasAlways f s e want → HasAlways f (taken_out x s) e want → HasAlways f (taken_out y s) e want
     → Looks (taken_out x (taken_out y s)) m e → f want m
-both_match f s (user u) (user v) e want m denies ids ok small differ nx ny ix iy shared stays mx my has without_x without_y l =
+both_match f s (user u) (user v) e want m denies ids ok small differ nx ny ix iy shared stays mx my has
+    without_x without_y l =
     absurd (true≢false (sym (same_itself (user u))
     ∙ (ap (λ (n : ℕ). eq_by_cmp tag_cmp (user u) (user n)) (ok.one u v mx my) ∙ differ)))
-both_match f s (user u) (group g) e want m denies ids ok small differ nx ny ix iy shared stays mx my has without_x without_y l =
+both_match f s (user u) (group g) e want m denies ids ok small differ nx ny ix iy shared stays mx my has
+    without_x without_y l =
     kept_at f want m (taken_out (user u) s) (taken_out (user u) (taken_out (group g) s)) e denies ok small shared
     (wider (user u) (group g) s e stays) l (looks_rest (taken_out (user u) (taken_out (group g) s)) m e shared l)
     without_x (λ is k mk there. elim (cases_Bool (k == g)) [
@@ -231,7 +234,8 @@ both_match f s (user u) (group g) e want m denies ids ok small differ nx ny ix i
           ∙ (subst (λ (t : Tag). Looks (taken_out (user u) (taken_out (group g) s)) m t) is l).2 k
           (but_keeps k g s.groups there apart)))
     ])
-both_match f s (group g) (user u) e want m denies ids ok small differ nx ny ix iy shared stays mx my has without_x without_y l =
+both_match f s (group g) (user u) e want m denies ids ok small differ nx ny ix iy shared stays mx my has
+    without_x without_y l =
     kept_at f want m (taken_out (user u) s) (taken_out (group g) (taken_out (user u) s)) e denies ok small shared
     (part_has (taken_out (user u) s) (taken_out (group g) (taken_out (user u) s)) e
     (out_part (group g) (taken_out (user u) s)) stays) l
@@ -244,7 +248,8 @@ both_match f s (group g) (user u) e want m denies ids ok small differ nx ny ix i
           ∙ (subst (λ (t : Tag). Looks (taken_out (group g) (taken_out (user u) s)) m t) is l).2 k
           (but_keeps k g s.groups there apart)))
     ])
-both_match f s (group g) (group h) e want m denies ids ok small differ nx ny ix iy shared stays mx my has without_x without_y l =
+both_match f s (group g) (group h) e want m denies ids ok small differ nx ny ix iy shared stays mx my has
+    without_x without_y l =
     kept_at f want m s (taken_out (group g) (taken_out (group h) s)) e denies ok small shared
     (part_has s (taken_out (group h) s) e (out_part (group h) s)
     (part_has (taken_out (group h) s) (taken_out (group g) (taken_out (group h) s)) e
@@ -263,30 +268,18 @@ both_match f s (group g) (group h) e want m denies ids ok small differ nx ny ix 
             (but_keeps k g (shape_without h s.groups) (but_keeps k h s.groups there far) apart)))
       ]
     ])
-both_match f s user_obj y e want m denies ids ok small differ nx ny ix iy shared stays mx my has without_x without_y l =
-    absurd (false≢true nx)
-both_match f s group_obj y e want m denies ids ok small differ nx ny ix iy shared stays mx my has without_x without_y l =
-    absurd (false≢true nx)
-both_match f s mask y e want m denies ids ok small differ nx ny ix iy shared stays mx my has without_x without_y l =
-    absurd (false≢true nx)
-both_match f s other y e want m denies ids ok small differ nx ny ix iy shared stays mx my has without_x without_y l =
-    absurd (false≢true nx)
-both_match f s (user u) user_obj e want m denies ids ok small differ nx ny ix iy shared stays mx my has without_x without_y l =
-    absurd (false≢true ny)
-both_match f s (user u) group_obj e want m denies ids ok small differ nx ny ix iy shared stays mx my has without_x without_y l =
-    absurd (false≢true ny)
-both_match f s (user u) mask e want m denies ids ok small differ nx ny ix iy shared stays mx my has without_x without_y l =
-    absurd (false≢true ny)
-both_match f s (user u) other e want m denies ids ok small differ nx ny ix iy shared stays mx my has without_x without_y l =
-    absurd (false≢true ny)
-both_match f s (group g) user_obj e want m denies ids ok small differ nx ny ix iy shared stays mx my has without_x without_y l =
-    absurd (false≢true ny)
-both_match f s (group g) group_obj e want m denies ids ok small differ nx ny ix iy shared stays mx my has without_x without_y l =
-    absurd (false≢true ny)
-both_match f s (group g) mask e want m denies ids ok small differ nx ny ix iy shared stays mx my has without_x without_y l =
-    absurd (false≢true ny)
-both_match f s (group g) other e want m denies ids ok small differ nx ny ix iy shared stays mx my has without_x without_y l =
-    absurd (false≢true ny)
+both_match f s user_obj y e want m _ _ _ _ _ nx _ _ _ _ _ _ _ _ _ _ _ = absurd (false≢true nx)
+both_match f s group_obj y e want m _ _ _ _ _ nx _ _ _ _ _ _ _ _ _ _ _ = absurd (false≢true nx)
+both_match f s mask y e want m _ _ _ _ _ nx _ _ _ _ _ _ _ _ _ _ _ = absurd (false≢true nx)
+both_match f s other y e want m _ _ _ _ _ nx _ _ _ _ _ _ _ _ _ _ _ = absurd (false≢true nx)
+both_match f s (user u) user_obj e want m _ _ _ _ _ _ ny _ _ _ _ _ _ _ _ _ _ = absurd (false≢true ny)
+both_match f s (user u) group_obj e want m _ _ _ _ _ _ ny _ _ _ _ _ _ _ _ _ _ = absurd (false≢true ny)
+both_match f s (user u) mask e want m _ _ _ _ _ _ ny _ _ _ _ _ _ _ _ _ _ = absurd (false≢true ny)
+both_match f s (user u) other e want m _ _ _ _ _ _ ny _ _ _ _ _ _ _ _ _ _ = absurd (false≢true ny)
+both_match f s (group g) user_obj e want m _ _ _ _ _ _ ny _ _ _ _ _ _ _ _ _ _ = absurd (false≢true ny)
+both_match f s (group g) group_obj e want m _ _ _ _ _ _ ny _ _ _ _ _ _ _ _ _ _ = absurd (false≢true ny)
+both_match f s (group g) mask e want m _ _ _ _ _ _ ny _ _ _ _ _ _ _ _ _ _ = absurd (false≢true ny)
+both_match f s (group g) other e want m _ _ _ _ _ _ ny _ _ _ _ _ _ _ _ _ _ = absurd (false≢true ny)
 
 -- a shared entry keeps what it has without each of two names
 keeps_both : (f : Granting) (s : EntryShape) (x y e : Tag) (want : ℕ) → OneGroupDenies f → HasIds s → IsPerm want

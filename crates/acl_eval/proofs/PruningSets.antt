@@ -1,5 +1,6 @@
--- An ACL that agrees with a list on read, write and execute alone, and the ACL of a pruning, grant the same sets of them.
-use Rattle.std.proofs.Common.{◌≡◌, ◌≤◌, ℕ, true, false, List, [], Option, None, Some, refl, sym, ap, subst, ◌∙◌, arith, inl, inr, length}
+-- An ACL that agrees with a list on read, write and execute alone, and the ACL of a pruning, grant the same sets of
+-- permissions.
+use Rattle.std.proofs.Common.{◌≡◌, ◌≤◌, ℕ, true, false, List, Option, None, Some, refl, sym, ap, subst, ◌∙◌, arith, inl, inr, length}
 use Rattle.std.proofs.lemmas.Bool.{cases_Bool, eq-eqb, false≢true, true≢false}
 use Rattle.std.specs.Prelude.{is_some, unwrap_or}
 use Rattle.std.specs.FinMap as fin
@@ -22,7 +23,8 @@ use Rattle.acl_eval.specs.ToPosix.{EntryShape, HasShape, IsBest, is_in_shape}
 use Rattle.acl_eval.specs.internal.ShapeBody.{tag_meets}
 use Rattle.acl_eval.proofs.AlwaysDecides.{HasIds, entry_id}
 use Rattle.acl_eval.proofs.Images.{small_bit}
-use Rattle.acl_eval.proofs.Matchings.{IsMatching, IsPart, IsRest, Looks, Matching, alone, alone_looks, alone_matching, alone_only, looks_rest, looks_there, none_passes, nobody, with_user, with_user_matching, nobody_matching}
+use Rattle.acl_eval.proofs.Losses.{IsPart}
+use Rattle.acl_eval.proofs.Matchings.{IsMatching, IsRest, Looks, Matching, alone, alone_looks, alone_matching, alone_only, looks_rest, looks_there, none_passes, nobody, with_user, with_user_matching, nobody_matching}
 use Rattle.acl_eval.proofs.PruningEnds.{group_differs}
 use Rattle.acl_eval.proofs.PruningGroups.{with_all_groups, with_fewer_groups}
 use Rattle.acl_eval.proofs.PruningKept.{looks_from, looks_of}
@@ -116,7 +118,8 @@ exact_at list t acl m one a ok single few granted =
     let back = agree_back (all_ids list t t) (tag_meets r.object r.requester) m r.agree in
     let allowed = (a.exact r.object r.requester one r.asked single).1
     (is_granted list r.object r.requester one r.asked
-    (agree_granted (all_ids list t t) m (tag_meets r.object r.requester) list one back (ids_of_list list t t) granted)) in
+    (agree_granted (all_ids list t t) m (tag_meets r.object r.requester) list one back
+    (ids_of_list list t t) granted)) in
     agree_gives list (all_ids list t t) (tag_meets r.object r.requester) m t one r.agree (ids_of_first list t t)
     (gives_of list t r.object r.requester one a.short a.small
     (sound_entry list t acl r.object r.requester one a.valid a.shaped few
@@ -203,8 +206,8 @@ exact_entry list t acl e one a there single few has =
     (tag_meets r.object r.requester) list one back (ids_of_list list t t) (has l.matching l.ok l.looks))) in
     let at = looked t acl r.object r.requester one a.valid.valid a.shaped (all_contain one few) allowed in
     subst (λ (x : Tag). holds acl x one ≡ true) (l.only at.entry
-    (agree_looks (all_ids list t t) (tag_meets r.object r.requester) l.matching t at.entry r.agree (ids_of_first list t t)
-    (looks_of t r.object r.requester at.entry at.looks))) at.holds
+    (agree_looks (all_ids list t t) (tag_meets r.object r.requester) l.matching t at.entry r.agree
+    (ids_of_first list t t) (looks_of t r.object r.requester at.entry at.looks))) at.holds
 
 -- an entry of the shape is there
 pub entry_there : (t : EntryShape) (acl : Entries) (e : Tag) → IsAcl acl → HasShape t acl → is_in_shape t e ≡ true
@@ -240,7 +243,8 @@ user_given list t acl m v want a ok small outside there is granted = record {
   looks = (outside, there, is);
   has = always_set list t (user v) want small (λ one single few within.
       let g = exact_at list t acl m one a ok single few (λ bit b. granted bit (within bit b)) in
-      subst (λ (x : Tag). HasAlways (granted_to list) t x one) (user_only t m v ok outside is there g.entry g.looks) g.has);
+      subst (λ (x : Tag). HasAlways (granted_to list) t x one)
+      (user_only t m v ok outside is there g.entry g.looks) g.has);
 }
 
 -- so are strangers in a group with an entry, whom OTHER of the first shape grants it
@@ -253,7 +257,8 @@ group_given list s t acl m g want a small rest is there lacks has = record {
   has = always_set list t (group g) want small (λ one single few within.
       alone_gives (granted_to list) t (group g) one refl there
       (exact_at list t acl (alone (group g)) one a (alone_matching (group g) (a.small.groups g there)) single few
-      (always_one list s other want one within has (alone (group g)) (alone_matching (group g) (a.small.groups g there)) (
+      (always_one list s other want one within has (alone (group g))
+      (alone_matching (group g) (a.small.groups g there)) (
         record { owner = refl; others = λ id h. refl },
         refl,
         λ id h. group_differs g s lacks (group id) h,
@@ -261,8 +266,8 @@ group_given list s t acl m g want a small rest is there lacks has = record {
 }
 
 -- what a shared entry of a part gives to the rest of the whole, the whole gives
-rest_given : (list : List Ace) (s t : EntryShape) (acl : Entries) (m : Matching) (e : Tag) (want : ℕ) → Agrees list t acl
-    → IsPart t s → IsPerm want → is_shared e ≡ true → IsRest t.users m → Looks s m e
+rest_given : (list : List Ace) (s t : EntryShape) (acl : Entries) (m : Matching) (e : Tag) (want : ℕ)
+    → Agrees list t acl → IsPart t s → IsPerm want → is_shared e ≡ true → IsRest t.users m → Looks s m e
     → HasAlways (granted_to list) s e want → Gives (granted_to list) t m want
 rest_given list s t acl m user_obj want a p small shared rest l has = absurd (false≢true shared)
 rest_given list s t acl m (user u) want a p small shared rest l has = absurd (false≢true shared)
@@ -292,7 +297,8 @@ rest_given list s t acl m other want a p small shared rest l has =
       | inr not_there ↦ not_there
     ]
 
-shared_given : (list : List Ace) (s t : EntryShape) (acl : Entries) (m : Matching) (e : Tag) (want : ℕ) → Agrees list t acl
+shared_given : (list : List Ace) (s t : EntryShape) (acl : Entries) (m : Matching) (e : Tag) (want : ℕ)
+    → Agrees list t acl
     → IsPart t s → IsMatching m → IsPerm want → is_shared e ≡ true → Looks s m e → HasAlways (granted_to list) s e want
     → Gives (granted_to list) t m want
 shared_given list s t acl m e want a p ok small shared l has =

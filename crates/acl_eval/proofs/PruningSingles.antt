@@ -1,6 +1,6 @@
--- Read, write or execute alone: what a shape gives of these decides what it gives of any set of permissions, and where a
--- pruning ends.
-use Rattle.std.proofs.Common.{◌≡◌, ◌≤◌, ℕ, true, false, List, [], refl, sym, subst, ◌∙◌, arith, inl, inr, length}
+-- Read, write or execute alone: what a shape gives of these decides what it gives of any set of permissions, and where
+-- a pruning ends.
+use Rattle.std.proofs.Common.{◌≡◌, ◌≤◌, ℕ, true, false, List, refl, sym, subst, ◌∙◌, arith, inl, inr, length}
 use Rattle.std.proofs.lemmas.Bool.{cases_Bool, eq-eqb, eqb-true, false≢true, true≢false}
 use Rattle.std.specs.Prelude.{◌⊎◌, ◌==◌}
 use Rattle.std.specs.List.{list_any}
@@ -54,6 +54,7 @@ pub record SingleRight (want bit : ℕ) : Type 0 where
 at_place : (rights_of : ℕ) (b k : ℕ) → b ≡ k → has_bit rights_of k ≡ true → has_bit rights_of b ≡ true
 at_place rights_of b k same h = subst (λ (n : ℕ). has_bit rights_of n ≡ true) (sym same) h
 
+-- if some permissions have r, they have its rights
 pub read_within : (want : ℕ) → IsPerm want → has_bit want 2 ≡ true → (b : ℕ) → has_bit (image 4) b ≡ true
     → has_bit (image want) b ≡ true
 read_within want small has b h = elim (image_right 4 b (omega arith) h) [
@@ -67,6 +68,7 @@ read_within want small has b h = elim (image_right 4 b (omega arith) h) [
   ]
 ]
 
+-- if some permissions have w, they have its rights
 pub write_within : (want : ℕ) → IsPerm want → has_bit want 1 ≡ true → (b : ℕ) → has_bit (image 2) b ≡ true
     → has_bit (image want) b ≡ true
 write_within want small has b h = elim (image_right 2 b (omega arith) h) [
@@ -80,6 +82,7 @@ write_within want small has b h = elim (image_right 2 b (omega arith) h) [
   ]
 ]
 
+-- if some permissions have x, they have its rights
 pub execute_within : (want : ℕ) → IsPerm want → has_bit want 0 ≡ true → (b : ℕ) → has_bit (image 1) b ≡ true
     → has_bit (image want) b ≡ true
 execute_within want small has b h = elim (image_right 1 b (omega arith) h) [
@@ -136,6 +139,7 @@ single_right want bit small h = elim (image_right want bit small h) [
 abbrev pub granted_single : List Ace → Granting
 granted_single list want m = IsSingle want → granted_to list want m
 
+-- what somebody in no group is granted of one permission, he is granted in all his groups, or one group denies it
 pub singles_deny : (list : List Ace) → OneGroupDenies (granted_single list)
 singles_deny list want m ok small without = elim (decide_single want) [
   | inl is ↦ elim (one_group_denies list want m ok small (without is)) [

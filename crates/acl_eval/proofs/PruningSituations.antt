@@ -8,7 +8,7 @@ use Rattle.std.proofs.lemmas.List.Folds.{list_any-append}
 use Rattle.std.specs.Prelude.{◌==◌, ◌&&◌, ◌||◌, filter, if◌then◌else◌}
 use Rattle.std.specs.FinMap as fin
 use Rattle.std.specs.List.{AllByRecursion}
-use Rattle.acl_perm.proofs.Bools.{and_true, or_true_right}
+use Rattle.acl_perm.proofs.Bools.{and_true}
 use Rattle.acl_perm.specs.Bits.{IsPerm}
 use Rattle.acl_posix.specs.Check.{Object, Requester, grants, is_member}
 use Rattle.acl_posix.specs.Entries.{Entries}
@@ -25,11 +25,12 @@ use Rattle.acl_eval.specs.Pruning.{LosesNothing, Prunes, ShapeGrants, none, next
 use Rattle.acl_eval.specs.PruningLaws.{HasFewIds, IsAmong}
 use Rattle.acl_eval.specs.ToPosix.{AlwaysHas, EntryShape, HasShape, IsBest, IsSound, size_of}
 use Rattle.acl_eval.specs.internal.ShapeBody.{tag_meets}
-use Rattle.acl_eval.proofs.Matchings.{IsMatching, IsPart, Matching, looks_there, out_part}
-use Rattle.acl_eval.proofs.PruningKept.{looks_from, looks_of, out_size}
+use Rattle.acl_eval.proofs.Losses.{IsPart, no_longer, out_part, out_size}
+use Rattle.acl_eval.proofs.Matchings.{IsMatching, Matching, looks_there}
+use Rattle.acl_eval.proofs.PruningKept.{looks_from, looks_of}
 use Rattle.acl_eval.proofs.PruningSteps.{Below, Gives, HasAlways, Steps, no_step, one_more}
 use Rattle.acl_eval.proofs.RealMatchings.{Agree, IsReal, IsWithinIds, agree_back, agree_granted, agree_looks, filter_member, list_ids, list_ids_few, real}
-use Rattle.acl_eval.proofs.ShapeChecks.{all_contain, best_holds, granted, looked}
+use Rattle.acl_eval.proofs.ShapeChecks.{all_contain, best_holds, first_member, granted, looked, second_member}
 use Rattle.acl_eval.proofs.TagMatchings.{bit_by_tags, granted_to}
 
 -- ---- ids
@@ -38,6 +39,7 @@ use Rattle.acl_eval.proofs.TagMatchings.{bit_by_tags, granted_to}
 abbrev pub most_listed : ℕ
 most_listed = most_aces + 4
 
+-- a list of at most most_aces ACEs is short enough here
 pub listed : (list : List Ace) → length list ≤ most_aces → length list ≤ most_listed
 listed list short = omega (arith, short)
 
@@ -47,9 +49,11 @@ pub record IsSmall (shape : EntryShape) : Type 0 where
   pub groups : (id : ℕ) → is_member id shape.groups ≡ true → IsId id
   pub few : size_of shape ≤ 1000000000
 
+-- a shape with few ids is small
 pub is_small : (shape : EntryShape) → HasFewIds shape → IsSmall shape
 is_small shape f = record { users = f.users; groups = f.groups; few = omega (arith, f.few) }
 
+-- a small shape without a name is small
 pub out_small : (name : Tag) (shape : EntryShape) → IsSmall shape → IsSmall (taken_out name shape)
 out_small name shape f =
     let p = out_part name shape in
@@ -64,17 +68,12 @@ out_small name shape f =
 abbrev pub all_ids : List Ace → EntryShape → EntryShape → List ℕ
 all_ids list s t = list_ids list ++ (s.users ++ (s.groups ++ (t.users ++ t.groups)))
 
-pub first_member : (id : ℕ) (xs ys : List ℕ) → is_member id xs ≡ true → is_member id (xs ++ ys) ≡ true
-first_member id xs ys h = list_any-append (λ (x : ℕ). x == id) xs ys ∙ ap (λ (b : Bool). b || is_member id ys) h
-
-pub second_member : (id : ℕ) (xs ys : List ℕ) → is_member id ys ≡ true → is_member id (xs ++ ys) ≡ true
-second_member id xs ys h = list_any-append (λ (x : ℕ). x == id) xs ys
-    ∙ ap (λ (b : Bool). is_member id xs || b) h ∙ or_true_right (is_member id xs)
-
+-- the ids of the list are among all ids
 pub ids_of_list : (list : List Ace) (s t : EntryShape) (id : ℕ) → is_member id (list_ids list) ≡ true
     → is_member id (all_ids list s t) ≡ true
 ids_of_list list s t id h = first_member id (list_ids list) (s.users ++ (s.groups ++ (t.users ++ t.groups))) h
 
+-- the users and groups of the first shape are among all ids
 pub ids_of_first : (list : List Ace) (s t : EntryShape) → IsWithinIds (all_ids list s t) s
 ids_of_first list s t = record {
   users = λ id h. second_member id (list_ids list) (s.users ++ (s.groups ++ (t.users ++ t.groups)))
@@ -83,6 +82,7 @@ ids_of_first list s t = record {
       (second_member id s.users (s.groups ++ (t.users ++ t.groups)) (first_member id s.groups (t.users ++ t.groups) h));
 }
 
+-- the users and groups of the second shape are among all ids
 pub ids_of_second : (list : List Ace) (s t : EntryShape) → IsWithinIds (all_ids list s t) t
 ids_of_second list s t = record {
   users = λ id h. rest id (first_member id t.users t.groups h);
@@ -91,8 +91,10 @@ ids_of_second list s t = record {
   where
     rest : (id : ℕ) → is_member id (t.users ++ t.groups) ≡ true → is_member id (all_ids list s t) ≡ true
     rest id h = second_member id (list_ids list) (s.users ++ (s.groups ++ (t.users ++ t.groups)))
-        (second_member id s.users (s.groups ++ (t.users ++ t.groups)) (second_member id s.groups (t.users ++ t.groups) h))
+        (second_member id s.users (s.groups ++ (t.users ++ t.groups))
+        (second_member id s.groups (t.users ++ t.groups) h))
 
+-- all ids together are fewer than there are ids
 pub ids_few : (list : List Ace) (s t : EntryShape) → length list ≤ most_listed → IsSmall s → IsSmall t
     → length (all_ids list s t) < greatest_id - 1
 ids_few list s t short f g =
@@ -115,10 +117,12 @@ group_is_id : (groups : List ℕ) (id : ℕ) → AllByRecursion IsId groups → 
 group_is_id [] id all h = absurd (false≢true h)
 group_is_id (g ∷ groups) id all h = by (group_is_id groups id all.1) (g == id) refl h
   where
-    by : (is_member id groups ≡ true → IsId id) → (b : Bool) → (g == id) ≡ b → (b || is_member id groups) ≡ true → IsId id
+    by : (is_member id groups ≡ true → IsId id) → (b : Bool) → (g == id) ≡ b → (b || is_member id groups) ≡ true
+        → IsId id
     by rest true e h = subst IsId (eqb-true g id e) all.0
     by rest false e h = rest h
 
+-- the tags that match in a situation are a matching
 pub asked_matching : (object : Object) (requester : Requester) → IsAsked object requester
     → IsMatching (tag_meets object requester)
 asked_matching object requester asked = record {
@@ -141,12 +145,14 @@ pub granted_is : (list : List Ace) (object : Object) (requester : Requester) (wa
 granted_is list object requester want asked g bit has =
     sym (bit_by_tags list object requester bit asked) ∙ g bit has
 
+-- what a list grants under the matching of a situation, it grants in the situation
 pub is_granted : (list : List Ace) (object : Object) (requester : Requester) (want : ℕ) → IsAsked object requester
     → granted_to list want (tag_meets object requester) → Grant list (by_name object requester) (image want)
 is_granted list object requester want asked g bit has = bit_by_tags list object requester bit asked ∙ g bit has
 
 -- ---- what an entry has
 
+-- what an entry has in all situations, it has under all matchings
 pub has_always : (list : List Ace) (s : EntryShape) (e : Tag) (want : ℕ) → length list ≤ most_listed → IsSmall s
     → AlwaysHas list s e want → HasAlways (granted_to list) s e want
 has_always list s e want short f has m ok l =
@@ -157,6 +163,7 @@ has_always list s e want short f has m ok l =
     (looks_from s r.object r.requester e
     (agree_looks (all_ids list s s) m (tag_meets r.object r.requester) s e back (ids_of_first list s s) l))))
 
+-- what an entry has under all matchings, it has in all situations
 pub always_has : (list : List Ace) (s : EntryShape) (e : Tag) (want : ℕ) → HasAlways (granted_to list) s e want
     → AlwaysHas list s e want
 always_has list s e want has object requester asked l =
@@ -173,6 +180,7 @@ gives_of list s object requester want short f g = record {
   has = has_always list s g.entry want short f g.has;
 }
 
+-- what a shape gives under the matching of a situation, it grants in the situation
 pub gives_from : (list : List Ace) (s : EntryShape) (object : Object) (requester : Requester) (want : ℕ)
     → Gives (granted_to list) s (tag_meets object requester) want → ShapeGrants list s object requester want
 gives_from list s object requester want g = record {
@@ -202,12 +210,14 @@ below_at list s t want short f g all m ok given =
     (all r.object r.requester r.asked
     (agree_gives list (all_ids list s t) m (tag_meets r.object r.requester) s want back (ids_of_first list s t) given))
 
+-- if nothing is lost in any situation, nothing is lost under any matching
 pub below_of : (list : List Ace) (s t : EntryShape) → length list ≤ most_listed → IsSmall s → IsSmall t
     → LosesNothing list s t → Below (granted_to list) s t
 below_of list s t short f g loses m want ok small given = below_at list s t want short f g
     (λ object requester asked before. gives_of list t object requester want short g
     (loses object requester asked want small (gives_from list s object requester want before))) m ok given
 
+-- if nothing is lost under any matching, nothing is lost in any situation
 pub loses_of : (list : List Ace) (s t : EntryShape) → length list ≤ most_listed → IsSmall s
     → Below (granted_to list) s t → LosesNothing list s t
 loses_of list s t short f below object requester asked want small given =
@@ -216,6 +226,7 @@ loses_of list s t short f below object requester asked want small given =
 
 -- ---- prunings
 
+-- the steps of a pruning of a list are steps for what the list grants under matchings
 pub steps_of : (list : List Ace) (s t : EntryShape) → Prunes list s t → length list ≤ most_listed → IsSmall s
     → Steps (granted_to list) s t
 steps_of list a b (none s) short f = no_step s
@@ -223,9 +234,11 @@ steps_of list a b (next s t name n there loses rest) short f = one_more s t name
     (below_of list s (taken_out name s) short f (out_small name s f) loses)
     (steps_of list (taken_out name s) t rest short (out_small name s f))
 
+-- the shape at the end of a pruning is small, too
 pub small_at_end : (list : List Ace) (s t : EntryShape) → Prunes list s t → IsSmall s → IsSmall t
 small_at_end list a b (none s) f = f
-small_at_end list a b (next s t name n there loses rest) f = small_at_end list (taken_out name s) t rest (out_small name s f)
+small_at_end list a b (next s t name n there loses rest) f =
+    small_at_end list (taken_out name s) t rest (out_small name s f)
 
 -- ---- the users and groups of an ACL
 
@@ -236,16 +249,7 @@ shape_among shape entries = record {
   groups = filter (λ id. fin.contains_key entries (group id)) shape.groups;
 }
 
--- a list without some members is no longer
-pub shorter : (p : ℕ → Bool) (xs : List ℕ) → length (filter p xs) ≤ length xs
-shorter p [] = omega arith
-shorter p (x ∷ xs) = by (shorter p xs) (p x)
-  where
-    by : length (filter p xs) ≤ length xs → (b : Bool)
-        → length (if b then x ∷ filter p xs else filter p xs) ≤ length (x ∷ xs)
-    by less true = omega (arith, less)
-    by less false = omega (arith, less)
-
+-- the users and groups of a shape that have entries are a part of the shape
 pub among_part : (shape : EntryShape) (entries : Entries) → IsPart shape (shape_among shape entries)
 among_part shape entries = record {
   users = λ id h. (and_true (is_member id shape.users) (fin.contains_key entries (user id))
@@ -254,11 +258,12 @@ among_part shape entries = record {
       (sym (filter_member (λ n. fin.contains_key entries (group n)) shape.groups id) ∙ h)).0;
 }
 
+-- this part is small if the shape is
 pub among_small : (shape : EntryShape) (entries : Entries) → IsSmall shape → IsSmall (shape_among shape entries)
 among_small shape entries f =
     let p = among_part shape entries in
-    let u = shorter (λ id. fin.contains_key entries (user id)) shape.users in
-    let g = shorter (λ id. fin.contains_key entries (group id)) shape.groups in
+    let u = no_longer (λ id. fin.contains_key entries (user id)) shape.users in
+    let g = no_longer (λ id. fin.contains_key entries (group id)) shape.groups in
     record {
       users = λ id h. f.users id (p.users id h);
       groups = λ id h. f.groups id (p.groups id h);
@@ -271,6 +276,7 @@ second_decides true b h = refl
 second_decides false true h = absurd (false≢true (h refl))
 second_decides false false h = refl
 
+-- an ACL whose users and groups are among those of a shape has this part of it as its shape
 pub among_shape : (shape : EntryShape) (entries : Entries) → IsAmong shape entries
     → HasShape (shape_among shape entries) entries
 among_shape shape entries a = record {
@@ -283,8 +289,8 @@ among_shape shape entries a = record {
 -- ---- ACLs in place of shapes
 
 -- what an ACL grants, its shape gives, if the ACL grants no more than the list
-pub sound_entry : (list : List Ace) (t : EntryShape) (acl : Entries) (object : Object) (requester : Requester) (want : ℕ)
-    → IsAcl acl → HasShape t acl → IsPerm want
+pub sound_entry : (list : List Ace) (t : EntryShape) (acl : Entries) (object : Object) (requester : Requester)
+    (want : ℕ) → IsAcl acl → HasShape t acl → IsPerm want
     → ((o : Object) (r : Requester) → IsAsked o r → grants acl o r want ≡ true → Grant list (by_name o r) (image want))
     → grants acl object requester want ≡ true → ShapeGrants list t object requester want
 sound_entry list t acl object requester want valid shaped small sound allowed =
@@ -296,8 +302,8 @@ sound_entry list t acl object requester want valid shaped small sound allowed =
     }
 
 -- what the shape gives, its ACL grants, also to requesters whose groups are not ids
-pub best_grants : (list : List Ace) (s : EntryShape) (best : Entries) (object : Object) (requester : Requester) (want : ℕ)
-    → IsBest list s best → IsPerm want → ShapeGrants list s object requester want
+pub best_grants : (list : List Ace) (s : EntryShape) (best : Entries) (object : Object) (requester : Requester)
+    (want : ℕ) → IsBest list s best → IsPerm want → ShapeGrants list s object requester want
     → grants best object requester want ≡ true
 best_grants list s best object requester want is small g =
     let there = looks_there s (tag_meets object requester) g.entry (looks_of s object requester g.entry g.looks) in
@@ -325,6 +331,7 @@ only_ids (g ∷ groups) = by (only_ids groups) (ltb g (suc greatest_id)) refl
     by rest true e = (test_id g e, rest)
     by rest false e = rest
 
+-- a requester without groups that are not ids asks by ids
 pub only_asked : (object : Object) (requester : Requester) → AreParties object requester
     → IsAsked object (with_ids_only requester)
 only_asked object requester p = record {
@@ -362,6 +369,7 @@ shape_within s = record {
   groups = λ id h. second_member id s.users s.groups h;
 }
 
+-- a member of two lists is an id if each member of one of them is
 pub member_of_two : (id : ℕ) (xs ys : List ℕ) → (is_member id xs ≡ true → IsId id) → (is_member id ys ≡ true → IsId id)
     → is_member id (xs ++ ys) ≡ true → IsId id
 member_of_two id xs ys first second h = elim (cases_Bool (is_member id xs)) [
@@ -370,6 +378,7 @@ member_of_two id xs ys first second h = elim (cases_Bool (is_member id xs)) [
       ∙ sym (list_any-append (λ (x : ℕ). x == id) xs ys) ∙ h)
 ]
 
+-- without groups that are not ids, the same tags of a small shape match
 pub small_agree : (s : EntryShape) (object : Object) (requester : Requester) → IsSmall s → AreParties object requester
     → Agree (s.users ++ s.groups) (tag_meets object (with_ids_only requester)) (tag_meets object requester)
 small_agree s object requester f p = only_agree object requester (s.users ++ s.groups) p
@@ -386,7 +395,8 @@ grants_no_more list s t best acl short f g is valid shaped sound below want smal
     let given = sound_entry list t acl object requester want valid shaped small
     (λ o r a yes. sound o r a want small yes) allowed in
     let a = small_agree t object requester g p in
-    let here = agree_gives list (t.users ++ t.groups) m n t want (agree_back (t.users ++ t.groups) n m a) (shape_within t)
+    let here =
+    agree_gives list (t.users ++ t.groups) m n t want (agree_back (t.users ++ t.groups) n m a) (shape_within t)
     (gives_of list t object requester want short g given) in
     let there = below n want (asked_matching object (with_ids_only requester) asked) small here in
     best_grants list s best object requester want is small (gives_from list s object requester want

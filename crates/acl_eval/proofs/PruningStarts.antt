@@ -11,12 +11,13 @@ use Rattle.acl_posix.proofs.Exports.{same_tag}
 use Rattle.acl_eval.specs.Pruning.{is_shared, taken_out}
 use Rattle.acl_eval.specs.ToPosix.{EntryShape, is_in_shape}
 use Rattle.acl_eval.proofs.AlwaysDecides.{HasIds, entry_id, same_itself}
-use Rattle.acl_eval.proofs.Losses.{but_keeps, member_but}
-use Rattle.acl_eval.proofs.Matchings.{IsMatching, IsPart, IsRest, Looks, Matching, also, gone, looks_part, looks_rest, looks_there, moved, no_users, no_users_matching, one_user, out_differs, out_lacks, out_part, part_has, part_ids, part_of_part, rest_part, same_id}
+use Rattle.acl_eval.proofs.Losses.{IsPart, but_keeps, member_but, out_part, part_has, part_ids}
+use Rattle.acl_eval.proofs.Matchings.{IsMatching, IsRest, Looks, Matching, also, gone, looks_part, looks_rest, looks_there, moved, no_users, no_users_matching, one_user, out_differs, out_lacks, part_of_part, rest_part, same_id}
 use Rattle.acl_eval.proofs.PruningEnds.{OneGroupDenies}
 use Rattle.acl_eval.proofs.PruningOrder.{below_by_entries, looks_one, one_end}
-use Rattle.acl_eval.proofs.PruningSituations.{first_member, member_of_two, second_member}
+use Rattle.acl_eval.proofs.PruningSituations.{member_of_two}
 use Rattle.acl_eval.proofs.PruningSteps.{Below, Gives, Granting, IsPruned, Steps, has_part, no_step, not_owner, not_owning, one_more, steps_part}
+use Rattle.acl_eval.proofs.ShapeChecks.{first_member, second_member}
 
 -- ---- shapes with the same names
 
@@ -25,6 +26,7 @@ pub record SameNames (s t : EntryShape) : Type 0 where
   pub part : IsPart s t
   pub whole : IsPart t s
 
+-- if two shapes have the same users and groups, so they do in the other order
 pub same_turned : (s t : EntryShape) → SameNames s t → SameNames t s
 same_turned s t a = record { part = a.whole; whole = a.part }
 

@@ -1,6 +1,6 @@
 -- Names that are taken out, whatever is granted if certain principals match: what is granted may be any function of
 -- these. The facts of a pruning follow for each such function.
-use Rattle.std.proofs.Common.{◌≡◌, ℕ, Bool, true, false, [], refl, sym, ap, subst, ◌∙◌, inl, inr}
+use Rattle.std.proofs.Common.{◌≡◌, ℕ, Bool, true, false, refl, sym, ap, subst, ◌∙◌, inl, inr}
 use Rattle.std.proofs.lemmas.Bool.{cases_Bool, false≢true, true≢false}
 use Rattle.std.specs.Prelude.{◌||◌}
 use Rattle.std.specs.Ordering.{eq_by_cmp}
@@ -10,7 +10,8 @@ use Rattle.acl_posix.specs.Tag.{Tag, user_obj, user, group_obj, group, mask, oth
 use Rattle.acl_eval.specs.Pruning.{is_shared, taken_out}
 use Rattle.acl_eval.specs.ToPosix.{EntryShape, is_in_shape}
 use Rattle.acl_eval.proofs.AlwaysDecides.{HasIds, entry_id, same_itself}
-use Rattle.acl_eval.proofs.Matchings.{IsMatching, IsPart, IsRest, Looks, Matching, also, also_matching, alone, alone_looks, alone_matching, alone_only, gone, looks_part, looks_there, moved, out_differs, out_part, part_has, part_ids, part_itself, part_of_part, rest_shared}
+use Rattle.acl_eval.proofs.Losses.{IsPart, out_part, part_has, part_ids}
+use Rattle.acl_eval.proofs.Matchings.{IsMatching, IsRest, Looks, Matching, also, also_matching, alone, alone_looks, alone_matching, alone_only, gone, looks_part, looks_there, moved, out_differs, part_itself, part_of_part, rest_shared}
 
 -- what is granted: some permissions, if these principals match
 abbrev pub Granting : Type 1
@@ -70,9 +71,12 @@ pub step_stays : (f : Granting) (s : EntryShape) (x e : Tag) (want : ℕ) → Ha
 step_stays f s x user_obj want ids below stays small has = has
 step_stays f s x (user v) want ids below stays small has =
     λ m ok l. has m ok (l.0, (out_part x s).users v l.1, l.2)
-step_stays f s x group_obj want ids below stays small has = shared_stays f s x group_obj want ids below refl stays small has
-step_stays f s x (group g) want ids below stays small has = shared_stays f s x (group g) want ids below refl stays small has
-step_stays f s x mask want ids below stays small has = absurd (false≢true (part_has s (taken_out x s) mask (out_part x s) stays))
+step_stays f s x group_obj want ids below stays small has =
+    shared_stays f s x group_obj want ids below refl stays small has
+step_stays f s x (group g) want ids below stays small has =
+    shared_stays f s x (group g) want ids below refl stays small has
+step_stays f s x mask want ids below stays small has =
+    absurd (false≢true (part_has s (taken_out x s) mask (out_part x s) stays))
 step_stays f s x other want ids below stays small has = shared_stays f s x other want ids below refl stays small has
 
 -- the check looked at the entry that goes, for strangers in the group of another who have it too
@@ -136,6 +140,7 @@ step_leaves f s x e want ids n there below shared stays small has =
 
 -- ---- all steps
 
+-- the shape after all steps is a part of the first
 pub steps_part : (f : Granting) (s t : EntryShape) → Steps f s t → IsPart s t
 steps_part f a b (no_step s) = part_itself s
 steps_part f a b (one_more s t name n there below rest) =

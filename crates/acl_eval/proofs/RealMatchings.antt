@@ -1,5 +1,5 @@
--- Each matching is that of a situation, for a given set of ids: a user, an owner and groups with these ids or with ids that
--- are not in the set.
+-- Each matching is that of a situation, for a given set of ids: a user, an owner and groups with these ids or with ids
+-- that are not in the set.
 use Rattle.std.proofs.Common.{◌≡◌, ◌≤◌, ◌<◌, ◌-◌, ℕ, Bool, true, false, List, [], ◌∷◌, Option, None, Some, refl, sym, ap, ◌∙◌, arith, inl, inr, length}
 use Rattle.std.proofs.lemmas.Bool.{cases_Bool, eq-eqb, eqb-true, true≢false}
 use Rattle.std.proofs.lemmas.List.Elements.{All-from_recursion}
@@ -35,6 +35,7 @@ pub record Agree (ns : List ℕ) (m n : Matching) : Type 0 where
   pub groups : (id : ℕ) → is_member id ns ≡ true → m (tag.group id) ≡ n (tag.group id)
   pub everyone : m tag.other ≡ n tag.other
 
+-- two matchings agree in either order
 pub agree_back : (ns : List ℕ) (m n : Matching) → Agree ns m n → Agree ns n m
 agree_back ns m n a = record {
   owner = sym a.owner;
@@ -130,17 +131,20 @@ agree_at ns m n group a h = a.owning
 agree_at ns m n (group_named name) a h = agree_group ns m n (id_by_digits name) a h
 agree_at ns m n everyone a h = a.everyone
 
+-- columns that decide alike do so with one more key in front, if the matchings agree on its tag
 pub put_agrees : (m n : Matching) (o : Option Tag) (kind : Kind) (keys : TagColumn) → AgreeAt m n o
     → column_decided_by m keys false ≡ column_decided_by n keys false
     → column_decided_by m (put o kind keys) false ≡ column_decided_by n (put o kind keys) false
 put_agrees m n None kind keys h rest = rest
-put_agrees m n (Some t) kind keys h rest = ap (λ (b : Bool). if b then is_allow kind else column_decided_by m keys false) h
+put_agrees m n (Some t) kind keys h rest =
+    ap (λ (b : Bool). if b then is_allow kind else column_decided_by m keys false) h
     ∙ ap (λ (x : Bool). if n t then is_allow kind else x) rest
 
--- the ACEs of a list that have a bit and take part, and the column of some ACEs
+-- the ACEs of a list that have a bit and take part
 abbrev pub with_bit : List Ace → ℕ → List Ace
 with_bit list bit = filter (λ a. has_bit a.mask bit && takes_part a) list
 
+-- the column of some ACEs
 abbrev pub column_of : List Ace → Column
 column_of list = map (λ a. (principal_of a, a.kind)) list
 
@@ -160,6 +164,7 @@ agree_bit ns m n (x ∷ list) bit a w =
         (agree_at ns m n (principal_of x) a (is_first (digits_tag (principal_of x)) (list_ids list) ns w)) rest
     by rest false = rest
 
+-- a list grants the same permissions under matchings that agree on its ids
 pub agree_granted : (ns : List ℕ) (m n : Matching) (list : List Ace) (want : ℕ) → Agree ns m n
     → ((id : ℕ) → is_member id (list_ids list) ≡ true → is_member id ns ≡ true)
     → granted_to list want m → granted_to list want n
@@ -184,7 +189,8 @@ filter_member p (x ∷ xs) n = by (filter_member p xs n) (p x) (x == n) refl ref
     by rest true true e same = rw same (sym e ∙ ap p (eqb-true x n same))
     by rest true false e same = rw same rest
     by rest false true e same =
-        rw same (rest ∙ passes (is_member n xs) (p n) (ap p (sym (eqb-true x n same)) ∙ e) ∙ sym (ap p (sym (eqb-true x n same)) ∙ e))
+        rw same (rest ∙ passes (is_member n xs) (p n) (ap p (sym (eqb-true x n same)) ∙ e)
+        ∙ sym (ap p (sym (eqb-true x n same)) ∙ e))
       where
         passes : (a b : Bool) → b ≡ false → (a && b) ≡ false
         passes true b h = h
@@ -213,7 +219,8 @@ with_ids_too true own groups is rest = (is, rest)
 with_ids_too false own groups is rest = rest
 
 -- the owning group is among them if it matches
-own_with : (b : Bool) (own : ℕ) (groups : List ℕ) → is_member own groups ≡ false → is_member own (groups_with b own groups) ≡ b
+own_with : (b : Bool) (own : ℕ) (groups : List ℕ) → is_member own groups ≡ false
+    → is_member own (groups_with b own groups) ≡ b
 own_with true own groups lacks = ap (λ (c : Bool). c || is_member own groups) (eq-eqb own own refl)
 own_with false own groups lacks = lacks
 
@@ -236,7 +243,8 @@ with_asker ns m asker ok few is same =
         owner = owner_id (m tag.user_obj) next_one (omega (arith, under));
         owning_group = omega (arith, below);
         asker = is;
-        groups = All-from_recursion IsId _ (with_ids_too (m tag.group_obj) own gs (omega (arith, below)) (filter_ids m ns ok));
+        groups = All-from_recursion IsId _
+            (with_ids_too (m tag.group_obj) own gs (omega (arith, below)) (filter_ids m ns ok));
       };
       agree = record {
         owner = owns (m tag.user_obj) next_one (no_next_one next_one no_next);

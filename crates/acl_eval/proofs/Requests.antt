@@ -7,7 +7,7 @@ use Rattle.std.specs.Cmp.Lexicographic.{slice_cmp}
 use Rattle.std.specs.Ordering.{nat_cmp}
 use Rattle.std.specs.Str.{bytes_eq}
 use Rattle.std.proofs.lemmas.Bool.{cases_eq, cases_lt, true≢false}
-use Rattle.std.proofs.lemmas.List.{drop_all, get_or-set_other, get_or-set_same, map-append, take-append-drop}
+use Rattle.std.proofs.lemmas.List.{get_or-set_other, get_or-set_same, map-append, take-append-drop}
 use Rattle.acl_perm.proofs.Meetings.{bytes_eq_same, itself}
 use Rattle.acl_perm.proofs.Sets.{IsMask-lt, bits_from_mask, right_below, some_bit}
 use Rattle.acl_perm.specs.Bits.{has_bit, IsDifference, IsMask}
@@ -147,15 +147,6 @@ open_names_lt out more (b ∷ front) a rest adds is = by (open_names_lt out more
 
 -- ---- the places of the rights
 
--- past one more ACE, which does not decide the right
-pub passed_more : (aces : List AceRef) (item : AceRef) (s : Situation) (bit : ℕ) (out : List ℕ → Bool) (from to : ℕ)
-    → to < length aces → item ≡ get_or aces to item
-    → (has_bit item.mask.bits bit && applies_but out s (ace item)) ≡ false
-    → HasPassed aces s bit out from to → HasPassed aces s bit out from (to + 1)
-passed_more aces item s bit out from to lt read lacks passed v leaves =
-    passed v leaves ∙ ap (λ (list : List Ace). answer_under v list s bit) (rest_is aces to item lt read)
-    ∙ unchanged v out s (ace item) (map ace (drop (to + 1) aces)) bit leaves lacks
-
 -- after the place of one right moved
 pub passed_at : (aces : List AceRef) (s : Situation) (request right place : ℕ) (out : List ℕ → Bool)
     (places : List ℕ) → right < length places → HasPassed aces s right out (get_or places right 0) place
@@ -208,12 +199,6 @@ deny_allowed e = cc
 -- no answer is not an ALLOW
 none_allowed : None ≡ Some Allow → ⊥
 none_allowed e = cc
-
--- no ACE is left, so no assignment allows the right
-pub says_end : (aces : List AceRef) (s : Situation) (bit : ℕ) (out : List ℕ → Bool) (place : ℕ) → length aces ≤ place
-    → Says aces out (AllowsFrom aces s bit place) Denied
-says_end aces s bit out place past v leaves allows = none_allowed
-    (sym (ap (λ (xs : List AceRef). answer_under v (map ace xs) s bit) (drop_all place aces past)) ∙ allows)
 
 -- the ACE at the place decides the right
 pub says_here : (aces : List AceRef) (item : AceRef) (s : Situation) (bit : ℕ) (out : List ℕ → Bool) (place : ℕ)

@@ -221,23 +221,6 @@ resolved_fits o g list rest others whole a e so ok =
     front_accepted full (list ++ resolved_ace o g a ∷ []) (resolved_list o g others)
     (subst (IsAccepted full) (sym (resolved_more o g list rest others whole a e so)) ok)
 
--- the place of the first ACE without its name is that in the rest, if the next ACE has its name
-pub nameless_later : (o g : List ℕ) (place : ℕ) (rest others : List Ace) (a : Ace) (found : Option ℕ) → rest ≡ a ∷ others
-    → lacks_name o g (principal_of a) ≡ false
-    → position_from (λ a. lacks_name o g (principal_of a)) place rest ≡ found
-    → position_from (λ a. lacks_name o g (principal_of a)) (place + 1) others ≡ found
-nameless_later o g place rest others a found e has so =
-    sym (ap (λ (t : Bool). cond t (Some place) (position_from (λ a. lacks_name o g (principal_of a)) (place + 1) others))
-    has) ∙ sym (ap (position_from (λ a. lacks_name o g (principal_of a)) place) e) ∙ so
-
--- the next ACE is the first without its name
-pub nameless_here : (o g : List ℕ) (place : ℕ) (rest others : List Ace) (a : Ace) (found : Option ℕ) → rest ≡ a ∷ others
-    → lacks_name o g (principal_of a) ≡ true
-    → position_from (λ a. lacks_name o g (principal_of a)) place rest ≡ found → Some place ≡ found
-nameless_here o g place rest others a found e lacks so =
-    sym (ap (λ (t : Bool). cond t (Some place) (position_from (λ a. lacks_name o g (principal_of a)) (place + 1) others))
-    lacks) ∙ sym (ap (position_from (λ a. lacks_name o g (principal_of a)) place) e) ∙ so
-
 -- ---- what is granted
 
 -- the first key that matches has the same kind in both lists

@@ -97,8 +97,8 @@ grants_bit-skipped : (a : Ace) (list : List Ace) (s : Situation) (bit : ℕ) →
 grants_bit-skipped a list s bit e = bit_at_first a list s bit ∙ rw e refl
 
 -- an ACE that has the bit and matches the requester decides it by its kind
-grants_bit-decided : (a : Ace) (list : List Ace) (s : Situation) (bit : ℕ) → has_bit a.mask bit ≡ true → applies s a ≡ true
-    → grants_bit (a ∷ list) s bit ≡ is_allow a.kind
+grants_bit-decided : (a : Ace) (list : List Ace) (s : Situation) (bit : ℕ) → has_bit a.mask bit ≡ true
+    → applies s a ≡ true → grants_bit (a ∷ list) s bit ≡ is_allow a.kind
 grants_bit-decided a list s bit h e = bit_at_first a list s bit ∙ rw (h, e) refl
 
 -- two lists that grant each bit of a request alike grant the request alike
@@ -111,7 +111,8 @@ same_grant list other s m e = (λ g bit h. sym (e bit h) ∙ g bit h, λ g bit h
 grant_not_applied : (a : Ace) (list : List Ace) (s : Situation) (m : ℕ) → applies s a ≡ false
     → Grant (a ∷ list) s m ↔ Grant list s m
 grant_not_applied a list s m e =
-    same_grant (a ∷ list) list s m (λ bit h. grants_bit-skipped a list s bit (second_fails (has_bit a.mask bit) (applies s a) e))
+    same_grant (a ∷ list) list s m
+    (λ bit h. grants_bit-skipped a list s bit (second_fails (has_bit a.mask bit) (applies s a) e))
 
 -- an ACE that has no bit of a request does not change whether the request is granted
 grant_passes : (a : Ace) (list : List Ace) (s : Situation) (m : ℕ) → bit_and m a.mask ≡ 0
@@ -128,7 +129,8 @@ grant_allows : (a : Ace) (list : List Ace) (s : Situation) (m : ℕ) → applies
 grant_allows a list s m e k = (
   λ g bit h.
       let p = and_parts (has_bit m bit) (not (has_bit a.mask bit)) (sym (has_bit-without m a.mask bit) ∙ h) in
-      sym (grants_bit-skipped a list s bit (first_fails (has_bit a.mask bit) (applies s a) (not-true _ p.1))) ∙ g bit p.0,
+      sym (grants_bit-skipped a list s bit (first_fails (has_bit a.mask bit) (applies s a) (not-true _ p.1)))
+      ∙ g bit p.0,
   λ g bit h. elim (cases_Bool (has_bit a.mask bit)) [
     | inl has ↦ grants_bit-decided a list s bit has e ∙ k
     | inr hasnt ↦ grants_bit-skipped a list s bit (first_fails (has_bit a.mask bit) (applies s a) hasnt)

@@ -16,7 +16,7 @@ use Rattle.acl_posix.specs.Create.{of_mode}
 use Rattle.acl_posix.specs.Entries.{Entries}
 use Rattle.acl_posix.specs.Laws.{MaskLeavesAll, MaskStays}
 use Rattle.acl_posix.specs.Mask.{effective_of, with_mask}
-use Rattle.acl_posix.specs.Tag.{Tag, user_obj, user, group_obj, group, mask, other, is_masked, tag_cmp}
+use Rattle.acl_posix.specs.Tag.{Tag, user_obj, user, group_obj, group, mask, other, is_masked, is_named, tag_cmp}
 use Rattle.acl_posix.specs.Texts.{IsAcl}
 use Rattle.acl_posix.specs.declared.id.Id.{Id}
 use Rattle.acl_posix.specs.internal.TagCode.{tags_total}
@@ -71,7 +71,8 @@ pub three : (list : List Ace) (shape : EntryShape) (E : Entries) (mode a b c : �
     → HasJust list shape user_obj a → HasJust list shape group_obj b → HasJust list shape other c
     → HasThree list shape E
 three list shape E mode a b c is made la lb lc owner class others =
-    let ps : List (Tag × ℕ) = (user_obj, owner_part mode) ∷ (group_obj, group_part mode) ∷ (other, others_part mode) ∷ [] in
+    let ps : List (Tag × ℕ) =
+    (user_obj, owner_part mode) ∷ (group_obj, group_part mode) ∷ (other, others_part mode) ∷ [] in
     let at = λ (t : Tag). ap (λ (F : Entries). fin.get F t) is ∙ fin.get-from_entries tags_total ps t in
     record { there = some at; just = just at }
   where
@@ -168,7 +169,8 @@ more_groups users groups i id lt at mask = refl
 more_groups users groups i id lt at other = refl
 
 -- the id at a place
-pub id_at : (list : List Id) (i : ℕ) (id : Id) → i < length list → id ≡ get_or list i id → get_or (ids list) i 0 ≡ id.value
+pub id_at : (list : List Id) (i : ℕ) (id : Id) → i < length list → id ≡ get_or list i id
+    → get_or (ids list) i 0 ≡ id.value
 id_at list i id lt at = get_or-map (λ (x : Id). x.value) list i id 0 lt ∙ ap (λ (x : Id). x.value) (sym at)
 
 -- there are as many numbers
@@ -234,9 +236,9 @@ each_is list shape E t there just want few = by (fin.get E t) refl there
         (just p e want few)
 
 -- an ACL of the shape after MASK is calculated
-pub finished : (list : List Ace) (shape : EntryShape) (E F : Entries) → IsEntryPut list shape shape E → F ≡ with_mask E
-    → MaskLeavesAll → MaskStays → IsAcl F → IsBest list shape F
-finished list shape E F filled is leaves stays acl = record {
+pub finished : (list : List Ace) (shape : EntryShape) (E F : Entries) → 0 < size_of shape → IsEntryPut list shape shape E
+    → F ≡ with_mask E → MaskLeavesAll → MaskStays → IsAcl F → IsBest list shape F
+finished list shape E F some filled is leaves stays acl = record {
   valid = acl;
   shaped = record {
     users = λ id. ap (λ (o : Option ℕ). is_some o) (as_before E F mask _ is (user id) refl)
@@ -249,7 +251,7 @@ finished list shape E F filled is leaves stays acl = record {
       each_is list shape F t
       (ap (λ (o : Option ℕ). is_some o) same ∙ (filled.there t (not_mask shape t in_shape) ∙ in_shape))
       (λ perm at. filled.just t perm in_shape (sym same ∙ at)) want few;
-  mask = inr (ap with_mask is ∙ stays E ∙ sym is);
+  mask = inr (some, ap with_mask is ∙ stays E ∙ sym is);
   kept = λ entry at. subst (λ (G : Entries). effective_of G entry ≡ entry.1) (sym is)
       (leaves E entry (ap (λ (G : Entries). fin.get G entry.0) (sym is) ∙ at));
 }
@@ -278,6 +280,15 @@ in_none shape (group id) small = ap (is_member id) (empty_groups shape small)
 in_none shape mask small = refl
 in_none shape other small = refl
 
+-- so it has no user and no group
+pub none_named : (shape : EntryShape) (t : Tag) → size_of shape ≡ 0 → is_named t ≡ true → is_in_shape shape t ≡ false
+none_named shape (user id) none named = in_none shape (user id) (omega (arith, none))
+none_named shape (group id) none named = in_none shape (group id) (omega (arith, none))
+none_named shape user_obj none named = absurd (false≢true named)
+none_named shape group_obj none named = absurd (false≢true named)
+none_named shape mask none named = absurd (false≢true named)
+none_named shape other none named = absurd (false≢true named)
+
 -- without MASK an entry has its own permissions
 all_kept : (o : Option ℕ) (t : Tag) (p : ℕ) → o ≡ None → cond (is_masked t) (bit_and p (unwrap_or o p)) p ≡ p
 all_kept o t p e = rw e (by (is_masked t))
@@ -287,8 +298,8 @@ all_kept o t p e = rw e (by (is_masked t))
     by false = refl
 
 -- the three entries are the ACL of a shape without names
-pub three_best : (list : List Ace) (shape : EntryShape) (E : Entries) → HasThree list shape E → size_of shape ≤ 0 → IsAcl E
-    → IsBest list shape E
+pub three_best : (list : List Ace) (shape : EntryShape) (E : Entries) → HasThree list shape E → size_of shape ≤ 0
+    → IsAcl E → IsBest list shape E
 three_best list shape E h small acl =
     let none : fin.get E mask ≡ None = is_none (fin.get E mask) (h.there mask) in
     record {
@@ -300,6 +311,6 @@ three_best list shape E h small acl =
       each = λ t in_shape want few.
           let there : is_in_shape empty_shape t ≡ true = sym (in_none shape t small) ∙ in_shape in
           each_is list shape E t (h.there t ∙ there) (λ perm at. h.just t perm there at) want few;
-      mask = inl none;
+      mask = inl (omega (arith, small), none);
       kept = λ entry at. all_kept (fin.get E mask) entry.0 entry.1 none;
     }

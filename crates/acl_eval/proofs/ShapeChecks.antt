@@ -1,7 +1,8 @@
--- The access check grants a request if and only if one of the entries at which it looks has the request. So the ACL of a
--- shape is sound, and no sound ACL of the shape grants more.
-use Rattle.std.proofs.Common.{◌≡◌, ℕ, Bool, true, false, cond, List, [], ◌∷◌, Option, None, Some, refl, sym, ap, ◌∙◌, inl, inr}
+-- The access check grants a request if and only if one of the entries at which it looks has the request. So the ACL of
+-- a shape is sound, and no sound ACL of the shape grants more.
+use Rattle.std.proofs.Common.{◌≡◌, ℕ, Bool, true, false, cond, List, [], ◌∷◌, ◌++◌, Option, None, Some, refl, sym, ap, ◌∙◌, inl, inr}
 use Rattle.std.proofs.lemmas.Bool.{eq-eqb, eqb-true, false≢true, not-true, or_cases}
+use Rattle.std.proofs.lemmas.List.Folds.{list_any-append}
 use Rattle.std.specs.Prelude.{◌==◌, ◌&&◌, ◌||◌, bit_and, is_some, not, unwrap_or}
 use Rattle.std.specs.Int.Bits.{and_zero_r}
 use Rattle.std.specs.List.{list_any}
@@ -43,6 +44,15 @@ some_member p (x ∷ xs) h = by (some_member p xs) (p x) refl h
     by rest true e h = (x, ap (λ (b : Bool). b || is_member x xs) (eq-eqb x x refl), e)
     by rest false e h = let (n, has, passes) = rest h in
         (n, ap (λ (b : Bool). (x == n) || b) has ∙ or_true_right (x == n), passes)
+
+-- a member of the first list is a member of both together
+pub first_member : (id : ℕ) (xs ys : List ℕ) → is_member id xs ≡ true → is_member id (xs ++ ys) ≡ true
+first_member id xs ys h = list_any-append (λ (x : ℕ). x == id) xs ys ∙ ap (λ (b : Bool). b || is_member id ys) h
+
+-- a member of the second list is a member of both together
+pub second_member : (id : ℕ) (xs ys : List ℕ) → is_member id ys ≡ true → is_member id (xs ++ ys) ≡ true
+second_member id xs ys h = list_any-append (λ (x : ℕ). x == id) xs ys
+    ∙ ap (λ (b : Bool). is_member id xs || b) h ∙ or_true_right (is_member id xs)
 
 -- two tests that agree pass alike
 any_same : (p q : ℕ → Bool) (xs : List ℕ) → ((n : ℕ) → p n ≡ q n) → list_any p xs ≡ list_any q xs
@@ -90,6 +100,7 @@ choice E object requester want =
     (any_contains E object.group requester.groups want && mask_contains E want)
     (entry_contains E other want)))
 
+-- this check answers as the check of acl(5) does
 pub choice_is : (E : Entries) (object : Object) (requester : Requester) (want : ℕ) → IsValid E → contains 7 want ≡ true
     → choice E object requester want ≡ grants E object requester want
 unfolding grants
@@ -124,7 +135,8 @@ matched shape E og gs c s =
         by false e f = f
 
 -- a request that a requester is granted is held by an entry of the shape at which the check looks
-pub record IsLookedAt (shape : EntryShape) (E : Entries) (object : Object) (requester : Requester) (want : ℕ) : Type 0 where
+pub record IsLookedAt (shape : EntryShape) (E : Entries) (object : Object) (requester : Requester) (want : ℕ)
+    : Type 0 where
   pub entry : Tag
   pub there : is_in_shape shape entry ≡ true
   pub looks : looks_at shape object requester entry ≡ true
@@ -136,8 +148,8 @@ contained_there None want h = absurd (false≢true h)
 contained_there (Some n) want h = refl
 
 -- for a requester who is not the owner and has no entry, whom a group of the requester matches
-looked_class : (shape : EntryShape) (E : Entries) (object : Object) (requester : Requester) (want : ℕ) → HasShape shape E
-    → is_in_class shape object requester ≡ true
+looked_class : (shape : EntryShape) (E : Entries) (object : Object) (requester : Requester) (want : ℕ)
+    → HasShape shape E → is_in_class shape object requester ≡ true
     → (any_contains E object.group requester.groups want && mask_contains E want) ≡ true
     → IsLookedAt shape E object requester want
 looked_class shape E object requester want s outside h =
@@ -149,7 +161,8 @@ looked_class shape E object requester want s outside h =
           let two = and_true (g == object.group) (entry_contains E group_obj want) owning in record {
             entry = group_obj;
             there = refl;
-            looks = rw outside (ap (λ (n : ℕ). is_member n requester.groups) (sym (eqb-true g object.group two.0)) ∙ has);
+            looks =
+                rw outside (ap (λ (n : ℕ). is_member n requester.groups) (sym (eqb-true g object.group two.0)) ∙ has);
             holds = rw (two.1, both.1) refl;
           }
       | inr named ↦
@@ -162,13 +175,18 @@ looked_class shape E object requester want s outside h =
           }
     ]
 
+-- if a requester is granted a request, an entry at which the check looks has the request
 pub looked : (shape : EntryShape) (E : Entries) (object : Object) (requester : Requester) (want : ℕ) → IsValid E
     → HasShape shape E → contains 7 want ≡ true → grants E object requester want ≡ true
     → IsLookedAt shape E object requester want
 looked shape E object requester want valid s whole granted =
     by (requester.user == object.user) (is_member requester.user shape.users)
     (list_any (λ id. id == object.group || is_member id shape.groups) requester.groups) refl refl refl
-    (rw (sym (s.users requester.user), sym (matched shape E object.group requester.groups (valid_is_complete E valid) s))
+    (rw (
+      sym (s.users requester.user),
+      sym
+          (matched shape E object.group requester.groups (valid_is_complete E valid) s),
+    )
     (choice_is E object requester want valid whole ∙ granted))
   where
     by : (o u m : Bool) → (requester.user == object.user) ≡ o → is_member requester.user shape.users ≡ u
@@ -197,7 +215,8 @@ looked shape E object requester want valid s whole granted =
     }
 
 -- the two parts of a requester who is not the owner and has no entry
-pub class_parts : (shape : EntryShape) (object : Object) (requester : Requester) → is_in_class shape object requester ≡ true
+pub class_parts : (shape : EntryShape) (object : Object) (requester : Requester)
+    → is_in_class shape object requester ≡ true
     → ((requester.user == object.user) ≡ false) × (is_member requester.user shape.users ≡ false)
 class_parts shape object requester h =
     let two = and_true (not (requester.user == object.user)) (not (is_member requester.user shape.users)) h in
@@ -224,8 +243,8 @@ class_granted shape E object requester want g valid s whole outside has named pa
     ) refl
 
 -- a request that an entry at which the check looks holds is granted
-pub granted : (shape : EntryShape) (E : Entries) (object : Object) (requester : Requester) (want : ℕ) (t : Tag) → IsValid E
-    → HasShape shape E → contains 7 want ≡ true → looks_at shape object requester t ≡ true
+pub granted : (shape : EntryShape) (E : Entries) (object : Object) (requester : Requester) (want : ℕ) (t : Tag)
+    → IsValid E → HasShape shape E → contains 7 want ≡ true → looks_at shape object requester t ≡ true
     → holds E t want ≡ true → grants E object requester want ≡ true
 granted shape E object requester want user_obj valid s whole l h =
     sym (choice_is E object requester want valid whole) ∙ rw l h
@@ -307,7 +326,8 @@ best_greatest list shape E best one acl shaped sound request few object requeste
 -- nor does one of any shape that the ACL has
 pub best_greatest_of_shape : (list : List Ace) (shape : EntryShape) (E : Entries) → IsBest list shape E
     → (same : EntryShape) → HasShape same E → IsGreatest list same E
-best_greatest_of_shape list shape E best same had one acl shaped sound = best_greatest list shape E best one acl (record {
-  users = λ id. shaped.users id ∙ (sym (had.users id) ∙ best.shaped.users id);
-  groups = λ id. shaped.groups id ∙ (sym (had.groups id) ∙ best.shaped.groups id);
-}) sound
+best_greatest_of_shape list shape E best same had one acl shaped sound =
+    best_greatest list shape E best one acl (record {
+      users = λ id. shaped.users id ∙ (sym (had.users id) ∙ best.shaped.users id);
+      groups = λ id. shaped.groups id ∙ (sym (had.groups id) ∙ best.shaped.groups id);
+    }) sound

@@ -75,10 +75,11 @@ ids_are (x ∷ list) id h = by (ids_are list id) (x.value == id) refl h
     by rest true e h = subst IsId (eqb-true x.value id e) x.within
     by rest false e h = rest h
 
+-- the users and groups of a shape of the code are ids
 pub shape_ids : (shape : PosixShape) → HasIds (entry_shape_of shape)
 shape_ids shape = record { users = ids_are shape.users.now; groups = ids_are shape.groups.now }
 
 -- what the pass answers over the keys that were given to it, it answers over the column
-pub answered : (shape : EntryShape) (entry : Tag) (given keys : List TagKey) (found : Bool) → found ≡ answer shape entry given
-    → given ≡ keys → found ≡ answer shape entry keys
+pub answered : (shape : EntryShape) (entry : Tag) (given keys : List TagKey) (found : Bool)
+    → found ≡ answer shape entry given → given ≡ keys → found ≡ answer shape entry keys
 answered shape entry given keys found is same = is ∙ ap (answer shape entry) same

@@ -52,7 +52,8 @@ meets table a object requester t asked known is =
         → option_map (λ id. tag.group id) o ≡ Some t
         → matches (by_name object requester) (by_id table (group_named name)) ≡ tag_meets object requester t
     of_group name None e h is = absurd h
-    of_group name (Some id) e h is = rw e (is_one id requester.groups h (recursion_from_All IsId requester.groups asked.groups)
+    of_group name (Some id) e h is =
+        rw e (is_one id requester.groups h (recursion_from_All IsId requester.groups asked.groups)
         ∙ ap (tag_meets object requester) (same_Some _ _ is))
 
     by : (p : Principal) → HasId table p → principal_tag table p ≡ Some t
@@ -65,22 +66,6 @@ meets table a object requester t asked known is =
         ∙ ap (tag_meets object requester) (same_Some _ _ is)
     by (group_named name) h is = of_group name (id_of_name table.groups name) refl h is
     by everyone h is = ap (tag_meets object requester) (same_Some _ _ is)
-
--- a principal with an id has a tag
-pub has_some_tag : (table : Table) (p : Principal) → HasId table p → principal_tag table p ≡ None → ⊥
-has_some_tag table owner h e = absurd cc
-has_some_tag table (user name) h e = by (id_of_name table.users name) h e
-  where
-    by : (o : Option ℕ) → IsSomeId o → option_map (λ id. tag.user id) o ≡ None → ⊥
-    by None h e = h
-    by (Some id) h e = absurd cc
-has_some_tag table group h e = absurd cc
-has_some_tag table (group_named name) h e = by (id_of_name table.groups name) h e
-  where
-    by : (o : Option ℕ) → IsSomeId o → option_map (λ id. tag.group id) o ≡ None → ⊥
-    by None h e = h
-    by (Some id) h e = absurd cc
-has_some_tag table everyone h e = absurd cc
 
 -- ---- one more ACE
 
@@ -100,8 +85,10 @@ tagged_more test (x ∷ aces) a bit rest = by (tagged_more test aces a bit rest)
     next : Bool
     next = if has_bit a.mask.bits bit && test (tag_of a.whom) then is_allow a.kind else rest
 
-    by : column_decided_by test (tagged_column (aces ++ a ∷ []) bit) rest ≡ column_decided_by test (tagged_column aces bit) next
-        → (h : Bool) → has_bit x.mask.bits bit ≡ h → column_decided_by test (tagged_column (x ∷ aces ++ a ∷ []) bit) rest
+    by : column_decided_by test (tagged_column (aces ++ a ∷ []) bit) rest
+        ≡ column_decided_by test (tagged_column aces bit) next
+        → (h : Bool) → has_bit x.mask.bits bit ≡ h
+        → column_decided_by test (tagged_column (x ∷ aces ++ a ∷ []) bit) rest
         ≡ column_decided_by test (tagged_column (x ∷ aces) bit) next
     by others true e = rw e (ap (λ (b : Bool). if test (tag_of x.whom) then is_allow x.kind else b) others)
     by others false e = rw e others
@@ -195,7 +182,8 @@ pub kept : (test : Tag → Bool) (t : Tag) (keys : TagColumn) (allow rest : Bool
     → column_decided_by test keys rest ≡ column_decided_by test keys (if test t then allow else rest)
 kept test t keys allow rest has = by (test t) refl
   where
-    by : (e : Bool) → test t ≡ e → column_decided_by test keys rest ≡ column_decided_by test keys (if test t then allow else rest)
+    by : (e : Bool) → test t ≡ e
+        → column_decided_by test keys rest ≡ column_decided_by test keys (if test t then allow else rest)
     by true e = rw e (settled test t keys rest allow has e)
     by false e = rw e refl
 
@@ -205,7 +193,8 @@ left : (test : Tag → Bool) (keys : List TagKey) (aces : List TaggedAce) (i bit
     → column_decided_by test (keys_of keys) (column_decided_by test (tagged_column (a ∷ drop (i + 1) aces) bit) false)
     ≡ column_decided_by test (keys_of keys) (column_decided_by test (tagged_column (drop i aces) bit) false)
 left test keys aces i bit a lt at =
-    let of = λ (xs : List TaggedAce). column_decided_by test (keys_of keys) (column_decided_by test (tagged_column xs bit) false) in
+    let of = λ (xs : List TaggedAce). column_decided_by test (keys_of keys)
+    (column_decided_by test (tagged_column xs bit) false) in
     ap (λ (x : TaggedAce). of (x ∷ drop (i + 1) aces)) at ∙ sym (at_drop_more of aces i a lt)
 
 -- a key is added for an ACE that has the right, and whose tag is not there
@@ -213,7 +202,8 @@ pub key_added : (test : Tag → Bool) (keys more : List TagKey) (key : TagKey) (
     (a : TaggedAce) (whole : Bool) → i < length aces → a ≡ get_or aces i a → has_bit a.mask.bits bit ≡ true
     → more ≡ keys ++ key ∷ [] → key.whom ≡ a.whom → key.kind ≡ a.kind
     → column_decided_by test (keys_of keys) (column_decided_by test (tagged_column (drop i aces) bit) false) ≡ whole
-    → column_decided_by test (keys_of more) (column_decided_by test (tagged_column (drop (i + 1) aces) bit) false) ≡ whole
+    → column_decided_by test (keys_of more) (column_decided_by test (tagged_column (drop (i + 1) aces) bit) false)
+    ≡ whole
 key_added test keys more key aces i bit a whole lt at has pushed whom kind before =
     let rest : Bool = column_decided_by test (tagged_column (drop (i + 1) aces) bit) false in
     ap (λ (ks : List TagKey). column_decided_by test (keys_of ks) rest) pushed ∙ keys_more test keys key rest
@@ -227,7 +217,8 @@ pub key_kept : (test : Tag → Bool) (keys : List TagKey) (aces : List TaggedAce
     (a : TaggedAce) (whole : Bool) → i < length aces → a ≡ get_or aces i a
     → (has_bit a.mask.bits bit ≡ true → has_tag (tag_of a.whom) (keys_of keys) ≡ true)
     → column_decided_by test (keys_of keys) (column_decided_by test (tagged_column (drop i aces) bit) false) ≡ whole
-    → column_decided_by test (keys_of keys) (column_decided_by test (tagged_column (drop (i + 1) aces) bit) false) ≡ whole
+    → column_decided_by test (keys_of keys) (column_decided_by test (tagged_column (drop (i + 1) aces) bit) false)
+    ≡ whole
 key_kept test keys aces i bit a whole lt at there before =
     by (has_bit a.mask.bits bit) refl
     ∙ ap (column_decided_by test (keys_of keys)) (sym (tagged_first test a (drop (i + 1) aces) bit false))
@@ -333,11 +324,13 @@ few_keys aces given keys same few short = omega (arith, few, short, ap (λ (xs :
 -- the keys of one right are its column
 pub column_is : (list : List Ace) (bit : ℕ) (aces given : List TaggedAce) (keys : List TagKey) → given ≡ aces
     → ((bit : ℕ) → DecidesColumnAs list bit (tagged_column aces bit)) → length aces ≤ most_aces
-    → ((test : Tag → Bool) → column_decided_by test (keys_of keys) false ≡ column_decided_by test (tagged_column given bit) false)
+    → ((test : Tag → Bool) → column_decided_by test (keys_of keys) false ≡ column_decided_by test
+    (tagged_column given bit) false)
     → AreFirst (keys_of keys) → length keys ≤ length given → IsColumnOf list bit keys
 column_is list bit aces given keys same decides few alike first short = record {
   decides = λ object requester asked. decides bit object requester asked
-      ∙ ap (λ (xs : List TaggedAce). column_decided_by (tag_meets object requester) (tagged_column xs bit) false) (sym same)
+      ∙ ap (λ (xs : List TaggedAce). column_decided_by (tag_meets object requester) (tagged_column xs bit) false)
+      (sym same)
       ∙ sym (alike (tag_meets object requester));
   first = first;
   few = omega (arith, few, short, ap (λ (xs : List TaggedAce). length xs) same);

@@ -1,5 +1,5 @@
--- A list as a function of the tags that match: what it grants in a situation depends on these alone, and each matching is
--- that of a situation, for a given set of ids.
+-- A list as a function of the tags that match: what it grants in a situation depends on these alone, and each matching
+-- is that of a situation, for a given set of ids.
 use Rattle.std.proofs.Common.{◌≡◌, ◌<◌, ℕ, zero, suc, Bool, true, false, List, [], ◌∷◌, Option, None, Some, refl, sym, ap, subst, ◌∙◌, arith, inl, inr}
 use Rattle.std.proofs.lemmas.Bool.{cases_Bool, eqb-true, false≢true, true≢false}
 use Rattle.std.proofs.lemmas.Bool.Decides.{nat_tests}
@@ -71,6 +71,7 @@ found_below (suc k) name = by (found_below k name) (bytes_eq (decimal k) name) r
 pub id_by_digits : List ℕ → Option ℕ
 id_by_digits name = digits_below (suc greatest_id) name
 
+-- the id of a name has these digits, and if there is none, no id has them
 pub found_id : (name : List ℕ) → IsFound (suc greatest_id) name (id_by_digits name)
 unfolding id_by_digits
 found_id name = found_below (suc greatest_id) name
@@ -152,7 +153,8 @@ keys_decide object requester ((p, kind) ∷ rest) asked =
     (keys_decide object requester rest asked)
     ∙ sym (put_decides (tag_meets object requester) (digits_tag p) kind (tag_keys rest))
   where
-    by : (b : Bool) → is_allow (unwrap_or (if b then Some kind else first_kind (matches (by_name object requester)) rest) Deny)
+    by : (b : Bool)
+        → is_allow (unwrap_or (if b then Some kind else first_kind (matches (by_name object requester)) rest) Deny)
         ≡ (if b then is_allow kind else is_allow (verdict (matches (by_name object requester)) rest))
     by true = refl
     by false = refl
@@ -165,6 +167,7 @@ tags_grant list m bit = column_decided_by m (tag_keys (column list bit)) false
 abbrev pub granted_to : List Ace → Granting
 granted_to list want m = (bit : ℕ) → has_bit (image want) bit ≡ true → tags_grant list m bit ≡ true
 
+-- in a situation a list grants a bit as it does under the tags that match there
 pub bit_by_tags : (list : List Ace) (object : Object) (requester : Requester) (bit : ℕ) → IsAsked object requester
     → grants_bit list (by_name object requester) bit ≡ tags_grant list (tag_meets object requester) bit
 bit_by_tags list object requester bit asked = keys_decide object requester (column list bit) asked
@@ -300,6 +303,7 @@ all_bits list want m small read write append execute bit has = elim (image_right
         → tags_grant list m bit ≡ true
     at b is granted = subst (λ (n : ℕ). has_bit (image want) n ≡ true → tags_grant list m n ≡ true) (sym is) granted has
 
+-- what somebody in no group is granted, he is granted in all his groups, or one group denies it
 pub one_group_denies : (list : List Ace) → OneGroupDenies (granted_to list)
 one_group_denies list want m ok small without = elim (one_bit list want m 0 ok without) [
   | inl read ↦ elim (one_bit list want m 1 ok without) [

@@ -255,11 +255,13 @@ can_complete (a ∷ list) earlier s bit v p = by (counts bit a) (is_unknown_spec
     by true true m true true ce ue me te he rest = absurd (true≢false (sym te ∙ p a.who he))
     by true true m true false ce ue me te he rest =
         rw (answer_here v a list s bit ce (match_unknown v s a ue ∙ te))
-        (can_unknown earlier a list s bit (Some a.kind) ce ue ∙ first_decides (had earlier bit a.who) (is_answer (Some a.kind) (Some a.kind))
+        (can_unknown earlier a list s bit (Some a.kind) ce ue
+        ∙ first_decides (had earlier bit a.who) (is_answer (Some a.kind) (Some a.kind))
         (can_answer (noting earlier a) list s bit (Some a.kind)) he (answer_itself (Some a.kind)))
     by true true m false h ce ue me te he rest =
         rw (answer_passes v a list s bit ce (match_unknown v s a ue ∙ te))
-        (can_unknown earlier a list s bit (answer_under v list s bit) ce ue ∙ or_second (if had earlier bit a.who then false else is_answer (Some a.kind) (answer_under v list s bit))
+        (can_unknown earlier a list s bit (answer_under v list s bit) ce ue
+        ∙ or_second (if had earlier bit a.who then false else is_answer (Some a.kind) (answer_under v list s bit))
         (can_answer (noting earlier a) list s bit (answer_under v list s bit))
         (rest (passes_more v earlier a bit (λ is un. te) p)))
     by true false true t h ce ue me te he rest =
@@ -267,22 +269,14 @@ can_complete (a ∷ list) earlier s bit v p = by (counts bit a) (is_unknown_spec
         (can_match earlier a list s bit (Some a.kind) ce ue me ∙ answer_itself (Some a.kind))
     by true false false t h ce ue me te he rest =
         rw (answer_passes v a list s bit ce (match_known v s a ue ∙ me))
-        (can_pass earlier a list s bit (answer_under v list s bit) ce ue me ∙ rest (passes_more v earlier a bit (λ is un. absurd (true≢false (sym un ∙ ue))) p))
+        (can_pass earlier a list s bit (answer_under v list s bit) ce ue me
+        ∙ rest (passes_more v earlier a bit (λ is un. absurd (true≢false (sym un ∙ ue))) p))
 
 -- ---- the pass over the rights of a mask
 
 -- both tests hold
 pub both_true : {x y : Bool} → x ≡ true → y ≡ true → (x && y) ≡ true
 both_true e f = rw (e, f) refl
-
--- the first test fails
-pub first_false : {x : Bool} (y : Bool) → x ≡ false → (x && y) ≡ false
-first_false y e = rw e refl
-
--- the second test fails
-pub second_false : (x : Bool) {y : Bool} → y ≡ false → (x && y) ≡ false
-second_false true e = e
-second_false false e = refl
 
 -- no rights are noted before the first ACE
 pub noted_none : (names : BTreeMap (Bor (List ℕ)) Mask) → names.entries ≡ [] → HaveNoted names []
@@ -315,11 +309,6 @@ noted_more old new a rights earlier updates union takes noted bit who =
         flat : (h : Bool) → h ≡ (h || false)
         flat true = refl
         flat false = refl
-
--- no rights are added for another ACE
-pub noted_same : (names : BTreeMap (Bor (List ℕ)) Mask) (a : Ace) (earlier : List Ace)
-    → (is_unknown_special a.who && takes_part a) ≡ false → HaveNoted names earlier → HaveNoted names (noting earlier a)
-noted_same names a earlier lacks noted bit who = rw lacks (noted bit who)
 
 -- an ACE that does not count changes nothing
 pub after_skipped : (self : Possible) (earlier : List Ace) (a : Ace) (list : List Ace) (s : Situation) (bit : ℕ)

@@ -1,7 +1,7 @@
 -- Ids that no column and no entry has.
-use Rattle.std.proofs.Common.{◌≡◌, ◌≤◌, ◌<◌, ◌+◌, ℕ, suc, Bool, true, false, List, [], ◌∷◌, ◌++◌, refl, sym, ap, subst, ◌∙◌, arith, inl, inr, drop, get_or, length}
-use Rattle.std.proofs.lemmas.Bool.{eq-eqb, eqb-true, false≢true, or_cases, true≢false}
-use Rattle.std.proofs.lemmas.List.{append_assoc, at_drop_all, at_drop_more, length-map, map-append}
+use Rattle.std.proofs.Common.{◌≡◌, ◌≤◌, ◌<◌, ◌+◌, ℕ, Bool, true, false, List, [], ◌∷◌, ◌++◌, refl, sym, ap, subst, ◌∙◌, arith, inl, inr, drop, get_or, length}
+use Rattle.std.proofs.lemmas.Bool.{eq-eqb, false≢true, or_cases, true≢false}
+use Rattle.std.proofs.lemmas.List.{append_assoc, at_drop_more, length-map, map-append}
 use Rattle.std.proofs.lemmas.List.Folds.{list_any-append}
 use Rattle.std.proofs.lemmas.Bool.{cases_lt}
 use Rattle.std.specs.Prelude.{◌↔◌, ◌==◌, ◌||◌, IsTrue, map}
@@ -36,7 +36,8 @@ one_more xs k all here n below = elim (cases_lt n k) [
 ]
 
 -- the number of the tag of a key is among those of the keys
-pub key_number : (t : Tag) (keys : TagColumn) → has_tag t keys ≡ true → is_member (qualifier t) (key_numbers keys) ≡ true
+pub key_number : (t : Tag) (keys : TagColumn) → has_tag t keys ≡ true
+    → is_member (qualifier t) (key_numbers keys) ≡ true
 key_number t [] h = absurd (false≢true h)
 key_number t ((u, k) ∷ keys) h = elim (or_cases (eq_by_cmp tag_cmp t u) (has_tag t keys) h) [
   | inl same ↦ ap (λ (b : Bool). b || is_member (qualifier t) (key_numbers keys))
@@ -53,7 +54,8 @@ entries_named [] used more = tt
 entries_named (e ∷ es) used more = (
   more (qualifier e.0) (ap (λ (b : Bool). b || is_member (qualifier e.0) (entry_numbers es))
       (eq-eqb (qualifier e.0) (qualifier e.0) refl)),
-  entries_named es used (λ n h. more n (ap (λ (b : Bool). (qualifier e.0 == n) || b) h ∙ or_true_right (qualifier e.0 == n))),
+  entries_named es used
+      (λ n h. more n (ap (λ (b : Bool). (qualifier e.0 == n) || b) h ∙ or_true_right (qualifier e.0 == n))),
 )
 
 -- what is not a member of a list with one more element
@@ -73,11 +75,6 @@ all_more_left f Q xs i x lt is q rest =
     subst (λ ys. AllByRecursion Q (map f ys)) (sym (at_drop_more (λ ys. ys) xs i x lt))
     (subst (λ y. Q (f y)) is q, rest)
 
--- nothing is left at the end
-pub all_at_end : {X Y : Type 0} (f : X → Y) (Q : Y → Type 0) (xs : List X) (i : ℕ) → length xs ≤ i
-    → AllByRecursion Q (map f (drop i xs))
-all_at_end f Q xs i end = subst (λ ys. AllByRecursion Q (map f ys)) (sym (at_drop_all (λ ys. ys) xs i end)) tt
-
 -- one more id
 pub id_added : (old new : List Id) (x : Id) (n : ℕ) (rest : List ℕ) → new ≡ old ++ x ∷ [] → x.value ≡ n
     → ids new ++ rest ≡ ids old ++ n ∷ rest
@@ -94,6 +91,7 @@ below_ids used k all =
 
 -- ---- the bound
 
+-- the test of a bound for the lists of the code is the test for their ids and entries
 pub bounded : (users groups us gs : List Id) (es : List Entry) (E : Entries) (most : ℕ) (few : Bool)
     → pairs es ≡ fin.entries E → us ≡ users → gs ≡ groups
     → (IsTrue few ↔ (length us + length gs + length es ≤ most))

@@ -96,7 +96,8 @@ none_named E l c named no_mask = is_none (fin.get E l) (by (is_some (fin.get E l
 -- ---- the check
 
 -- an entry of the set contains a request if and only if its permissions do
-pub contains_there : (o : Option ℕ) (d want : ℕ) → is_some o ≡ true → contains (unwrap_or o d) want ≡ is_contained o want
+pub contains_there : (o : Option ℕ) (d want : ℕ) → is_some o ≡ true
+    → contains (unwrap_or o d) want ≡ is_contained o want
 contains_there None d want h = absurd cc
 contains_there (Some n) d want h = refl
 

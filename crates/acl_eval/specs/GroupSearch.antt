@@ -6,7 +6,7 @@ use Rattle.std.specs.List.Sorted.{IsSorted}
 use Rattle.std.specs.Ordering.{is_lt, nat_cmp}
 use Rattle.std.specs.Str.{bytes_eq}
 use Rattle.acl_eval.specs.declared.groups.Order.{Order}
-use Rattle.acl_eval.specs.declared.groups.Order.TheVariants.{Known, Said, Unknown}
+use Rattle.acl_eval.specs.declared.groups.Order.TheVariants.{Copied, Known, Said, Unknown}
 
 -- ---- names in order, and names of two lists
 
@@ -55,4 +55,5 @@ found_groups names = found_in_steps (length names) names
 abbrev pub groups_that_count : Order → List (List ℕ) → List (List ℕ)
 groups_that_count Unknown names = names
 groups_that_count Known names = names
+groups_that_count (Copied copy) names = names
 groups_that_count Said names = found_groups names

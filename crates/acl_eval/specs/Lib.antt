@@ -1,5 +1,6 @@
 pub mod GroupSearch
 pub mod Situation
+pub mod SortedRequester
 pub mod Column
 pub mod Grant
 pub mod Scan

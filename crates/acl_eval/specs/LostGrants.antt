@@ -1,5 +1,6 @@
--- What an NFSv4 list grants and a POSIX ACL does not (this library's own: neither RFC 8881 nor acl(5) compares them). The
--- access check of acl(5), "ACCESS CHECK ALGORITHM", asks by ids, so the list is one whose names are the digits of ids.
+-- What an NFSv4 list grants and a POSIX ACL does not (this library's own: neither RFC 8881 nor acl(5) compares them).
+-- The access check of acl(5), "ACCESS CHECK ALGORITHM", asks by ids, so the list is one whose names are the digits of
+-- ids.
 use Rattle.std.specs.Prelude.{◌≡◌, ◌≤◌, ◌<◌, ◌↔◌, ℕ, ◌+◌, List, IsFalse, IsTrue, Some, length}
 use Rattle.std.specs.FinMap as set
 use Rattle.acl_posix.specs.Check.{Object, Requester, grants, ids}
@@ -53,8 +54,8 @@ pub record AreMoreThan (most : ℕ) (table : Table) (list : List Ace) (entries :
   pub names : AreNamesOf table list named
   pub more : most < size_of named + length (set.entries entries)
 
--- what a refusal says, in the order in which it is judged: the first ACE without an id, also one that takes no part; more
--- names and entries than the bound; or memory ran out
+-- what a refusal says, in the order in which it is judged: the first ACE without an id, also one that takes no part;
+-- more names and entries than the bound; or memory ran out
 abbrev pub IsLossFault : Table → List Ace → Entries → ℕ → ShapeFault → Type 0
 IsLossFault table list entries most (faults.NoId place) = first_unknown table list ≡ Some place
 IsLossFault table list entries most faults.TooManyNames = HaveIds table list × AreMoreThan most table list entries

@@ -1,6 +1,6 @@
 -- The POSIX ACL of an NFSv4 list for objects with a known owner and a known owning group (this library's own): the rule
 -- of specs/PosixOfList.antt, in which only the situations with this owner and this owning group count.
-use Rattle.std.specs.Prelude.{◌≡◌, ◌↔◌, ◌⊎◌, ℕ, true, List, IsTrue, None, Some}
+use Rattle.std.specs.Prelude.{◌<◌, ◌≡◌, ◌↔◌, ◌⊎◌, ℕ, true, List, IsTrue, None, Some}
 use Rattle.std.specs.FinMap as set
 use Rattle.acl_perm.specs.Bits.{IsPerm}
 use Rattle.acl_posix.specs.Check.{Object, Requester, entry_contains, grants}
@@ -18,7 +18,7 @@ use Rattle.acl_eval.specs.Ids.{with_ids}
 use Rattle.acl_eval.specs.ListNames.{AreNamesOf}
 use Rattle.acl_eval.specs.Pruning.{taken_out}
 use Rattle.acl_eval.specs.PruningLaws.{IsAmong}
-use Rattle.acl_eval.specs.ToPosix.{EntryShape, HasShape, is_in_shape, looks_at}
+use Rattle.acl_eval.specs.ToPosix.{EntryShape, HasShape, is_in_shape, looks_at, size_of}
 
 -- an object with this owner and this owning group
 abbrev pub object_for : ℕ → ℕ → Object
@@ -53,13 +53,15 @@ AlwaysHasFor owner group list shape entry want = (requester : Requester) → IsA
     → Grant list (by_name (object_for owner group) requester) (image want)
 
 -- the ACL of a shape for a list and such an object: each entry has the permissions of which the list grants the rights
--- whenever the check looks at the entry; there is no MASK, or the one that is calculated, which takes nothing away
+-- whenever the check looks at the entry; without users and groups there is no MASK, and with one of them there is the
+-- MASK that is calculated, which takes nothing away
 pub record IsBestFor (owner group : ℕ) (list : List Ace) (shape : EntryShape) (entries : Entries) : Type 0 where
   pub valid : IsAcl entries
   pub shaped : HasShape shape entries
   pub each : (entry : Tag) → is_in_shape shape entry ≡ true → (want : ℕ) → IsPerm want
       → IsTrue (entry_contains entries entry want) ↔ AlwaysHasFor owner group list shape entry want
-  pub mask : (set.get entries tag.mask ≡ None) ⊎ (with_mask entries ≡ entries)
+  pub mask : ((size_of shape ≡ 0) × (set.get entries tag.mask ≡ None))
+      ⊎ ((0 < size_of shape) × (with_mask entries ≡ entries))
   pub kept : (entry : Tag × ℕ) → set.get entries entry.0 ≡ Some entry.1 → effective_of entries entry ≡ entry.1
 
 -- ---- fewer entries

@@ -8,21 +8,25 @@ use Rattle.acl_posix.specs.Names.{Table}
 use Rattle.acl_posix.specs.Tag.{user, group}
 use Rattle.acl_posix.specs.Texts.{IsAcl}
 use Rattle.acl_nfs4.specs.Ace.{Ace}
+use Rattle.acl_nfs4.specs.Limits.{most_aces}
 use Rattle.acl_eval.specs.BridgeLaws.{IsSingle}
 use Rattle.acl_eval.specs.Ids.{HaveIds, first_unknown, with_ids}
 use Rattle.acl_eval.specs.ListNames.{AreNamesOf, names_group, names_user}
 use Rattle.acl_eval.specs.LostGrants.{IsExact}
 use Rattle.acl_eval.specs.Pruning.{PrunesTo}
+use Rattle.acl_eval.specs.PruningLaws.{GrantSamePermissions, HasFewIds}
 use Rattle.acl_eval.specs.ToPosix.{EntryShape, HasShape, IsBest, IsGreatest, IsSound, size_of}
 use Rattle.acl_eval.specs.declared.posix_shape.ShapeFault.{ShapeFault}
 use Rattle.acl_eval.specs.declared.posix_shape.ShapeFault.TheVariants as faults
 
--- the rule: start with the users and groups that the list names, take out those that can go without loss, until none
--- can go, and take the ACL of the shape that is left
+-- the rule, for a list in which each name has an id: start with the users and groups that the list names, take out those
+-- that can go without loss, until none can go, and take the ACL of the shape that is left
 pub record IsPosixOf (table : Table) (list : List Ace) (entries : Entries) : Type 0 where
+  pub known : HaveIds table list
   pub start : EntryShape
   pub end : EntryShape
   pub names : AreNamesOf table list start
+  pub few : HasFewIds start
   pub pruned : PrunesTo (with_ids table list) start end
   pub best : IsBest (with_ids table list) end entries
 
@@ -45,6 +49,13 @@ IsMaximal table list entries = (acl : Entries) → IsAcl acl → HasNamesOnly ta
 abbrev pub IsExactIfAny : List Ace → Entries → Type 0
 IsExactIfAny list entries = (acl : Entries) → IsAcl acl → length (set.entries acl) ≤ 65535 → IsExact list acl
     → IsExact list entries
+
+-- if two lists grant the same, each with the ids of its own table, they have one ACL
+abbrev pub GrantsDecidePosix : Type 0
+GrantsDecidePosix = (table other : Table) (list second : List Ace) (entries one_more : Entries)
+    → length list ≤ most_aces → length second ≤ most_aces
+    → GrantSamePermissions (with_ids table list) (with_ids other second)
+    → IsPosixOf table list entries → IsPosixOf other second one_more → entries ≡ one_more
 
 -- what a refusal says, in the order in which it is judged: the first ACE without an id, also one that takes no part; a
 -- list that names more users and groups than the bound; or memory ran out

@@ -50,7 +50,8 @@ pub record IsAmong (shape : EntryShape) (entries : Entries) : Type 0 where
   pub groups : (id : ℕ) → set.contains_key entries (tag.group id) ≡ true → is_member id shape.groups ≡ true
 
 -- no sound ACL with entries for some of the users and groups with which the pruning began, and for no others, grants
--- read, write and execute alone wherever the ACL of the last shape grants them, and anything that this one does not grant
+-- read, write and execute alone wherever the ACL of the last shape grants them, and anything that this one does not
+-- grant
 abbrev pub EndIsMaximal : Type 0
 EndIsMaximal = (list : List Ace) (one two : EntryShape) (best : Entries) → length list ≤ most_aces → HasFewIds one
     → PrunesTo list one two → IsBest list two best → (acl : Entries) → IsAcl acl → IsAmong one acl → IsSound list acl
@@ -60,7 +61,8 @@ EndIsMaximal = (list : List Ace) (one two : EntryShape) (best : Entries) → len
 
 -- in every situation the ACL and the list both grant or both deny read, write and execute alone
 abbrev pub IsExactFor : List Ace → Entries → Type 0
-IsExactFor list entries = (object : Object) (requester : Requester) (want : ℕ) → IsAsked object requester → IsSingle want
+IsExactFor list entries =
+    (object : Object) (requester : Requester) (want : ℕ) → IsAsked object requester → IsSingle want
     → IsTrue (grants entries object requester want) ↔ Grant list (by_name object requester) (image want)
 
 -- if the principal is a user or a group whose name is the digits of an id, the shape has the id
@@ -75,8 +77,8 @@ IsNameIn shape everyone = ⊤
 abbrev pub HasNamesOf : EntryShape → List Ace → Type 0
 HasNamesOf shape list = AllByRecursion (λ a. is_ace_counted a ≡ true → IsNameIn shape (principal_of a)) list
 
--- if any ACL agrees with the list, with entries for any users and groups, the ACL of the last shape does, if the pruning
--- began with all names of the list
+-- if any ACL agrees with the list, with entries for any users and groups, the ACL of the last shape does, if the
+-- pruning began with all names of the list
 abbrev pub EndAgrees : Type 0
 EndAgrees = (list : List Ace) (one two : EntryShape) (best : Entries) → length list ≤ most_aces → HasFewIds one
     → HasNamesOf one list → PrunesTo list one two → IsBest list two best → (acl : Entries) → IsAcl acl
@@ -91,7 +93,8 @@ PruningHasOneEnd = (list : List Ace) (one two three : EntryShape) → length lis
 
 -- in every situation whose names are ids, both lists grant or both deny the rights of each set of permissions
 abbrev pub GrantSamePermissions : List Ace → List Ace → Type 0
-GrantSamePermissions list second = (object : Object) (requester : Requester) (want : ℕ) → IsAsked object requester → IsPerm want
+GrantSamePermissions list second =
+    (object : Object) (requester : Requester) (want : ℕ) → IsAsked object requester → IsPerm want
     → Grant list (by_name object requester) (image want) ↔ Grant second (by_name object requester) (image want)
 
 -- if two lists grant the same, prunings from one shape end in one shape, and the two ACLs of this shape answer alike
@@ -102,15 +105,9 @@ pub record EndsAlike (two three : EntryShape) (best one_more : Entries) : Type 0
 -- this holds for all lists that grant the same
 abbrev pub GrantsDecideTheEnd : Type 0
 GrantsDecideTheEnd = (list second : List Ace) (one two three : EntryShape) (best one_more : Entries)
-    → length second ≤ most_aces → HasFewIds one → GrantSamePermissions list second → PrunesTo list one two → IsBest list two best
+    → length second ≤ most_aces → HasFewIds one → GrantSamePermissions list second → PrunesTo list one two
+    → IsBest list two best
     → PrunesTo second one three → IsBest second three one_more → EndsAlike two three best one_more
-
--- the ACLs have the same entries other than MASK. If they have an entry for a user or a group, or if both have a MASK
--- or neither has one, they are the same
-pub record HaveOneAcl (best one_more : Entries) : Type 0 where
-  pub entries : (entry : Tag) → (entry ≡ tag.mask → ⊥) → set.get best entry ≡ set.get one_more entry
-  pub named : (name : Tag) → tag.is_named name ≡ true → set.contains_key best name ≡ true → best ≡ one_more
-  pub whole : set.contains_key best tag.mask ≡ set.contains_key one_more tag.mask → best ≡ one_more
 
 -- if two lists grant the same, and each pruning began with all names of its list, what they grant decides the ACL,
 -- whatever users and groups the lists name
@@ -119,7 +116,7 @@ GrantsGiveOneAcl = (list second : List Ace) (one two three four : EntryShape) (b
     → length list ≤ most_aces → length second ≤ most_aces → HasFewIds one → HasFewIds three
     → HasNamesOf one list → HasNamesOf three second → GrantSamePermissions list second
     → PrunesTo list one two → IsBest list two best → PrunesTo second three four → IsBest second four one_more
-    → HaveOneAcl best one_more
+    → best ≡ one_more
 
 -- ---- from the list of a POSIX ACL back
 

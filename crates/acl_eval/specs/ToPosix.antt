@@ -1,6 +1,6 @@
 -- Which POSIX ACLs grant no more than an NFSv4 list (this library's own: neither RFC 8881 nor acl(5) says how to make
--- one). The access check of acl(5), "ACCESS CHECK ALGORITHM", asks by ids, so the list is one whose names are the digits
--- of ids.
+-- one). The access check of acl(5), "ACCESS CHECK ALGORITHM", asks by ids, so the list is one whose names are the
+-- digits of ids.
 use Rattle.std.specs.Prelude.{◌≡◌, ◌≤◌, ◌<◌, ◌↔◌, ◌⊎◌, ℕ, ◌+◌, ◌==◌, ◌&&◌, ◌||◌, not, Bool, false, true, IsTrue, List, length, None, Some}
 use Rattle.std.specs.List.{list_any}
 use Rattle.std.specs.FinMap as set
@@ -40,6 +40,10 @@ pub record EntryShape : Type 0 where
 -- the ids that a shape of the code has
 abbrev pub entry_shape_of : PosixShape → EntryShape
 entry_shape_of s = record { users = ids s.users.now; groups = ids s.groups.now }
+
+-- how many entries a shape asks for, counted with repetitions
+abbrev pub size_of : EntryShape → ℕ
+size_of shape = length shape.users + length shape.groups
 
 -- an ACL of the shape has an entry for the tag, MASK aside
 abbrev pub is_in_shape : EntryShape → Tag → Bool
@@ -84,13 +88,15 @@ AlwaysHas list shape tag want = (object : Object) (requester : Requester) → Is
     → looks_at shape object requester tag ≡ true → Grant list (by_name object requester) (image want)
 
 -- the ACL of a shape for a list: each entry has the permissions of which the list grants the rights in every situation
--- in which the check looks at the entry; there is no MASK, or the one that is calculated, which takes nothing away
+-- in which the check looks at the entry; without users and groups there is no MASK, and with one of them there is the
+-- MASK that is calculated, which takes nothing away
 pub record IsBest (list : List Ace) (shape : EntryShape) (entries : Entries) : Type 0 where
   pub valid : IsAcl entries
   pub shaped : HasShape shape entries
   pub each : (tag : Tag) → is_in_shape shape tag ≡ true → (want : ℕ) → IsPerm want
       → IsTrue (entry_contains entries tag want) ↔ AlwaysHas list shape tag want
-  pub mask : (set.get entries mask ≡ None) ⊎ (with_mask entries ≡ entries)
+  pub mask : ((size_of shape ≡ 0) × (set.get entries mask ≡ None))
+      ⊎ ((0 < size_of shape) × (with_mask entries ≡ entries))
   pub kept : (entry : Tag × ℕ) → set.get entries entry.0 ≡ Some entry.1 → effective_of entries entry ≡ entry.1
 
 -- each sound ACL of the shape grants nothing more than the ACL
@@ -99,10 +105,6 @@ IsGreatest list shape entries = (one : Entries) → IsAcl one → HasShape shape
     → GrantsNothingMore one entries
 
 -- ---- faults
-
--- how many entries a shape asks for, counted with repetitions
-abbrev pub size_of : EntryShape → ℕ
-size_of shape = length shape.users + length shape.groups
 
 -- what a refusal says, in the order in which it is judged: the first ACE without an id, also one that takes no part; a
 -- shape of more users and groups than the bound; or memory ran out

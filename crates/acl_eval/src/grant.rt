@@ -1,13 +1,12 @@
 //! Whether a list grants a request.
 ghost use Rattle.std.specs.Prelude.{◌≡◌, ◌↔◌, IfOk, IsTrue};
-ghost use Rattle.acl_eval.specs.Situation.{groups_among, groups_of, situation};
-ghost use Rattle.acl_eval.specs.GroupSearch.{AreSameGroups};
+ghost use Rattle.acl_eval.specs.Situation.{situation};
 ghost use Rattle.acl_eval.specs.Grant.{Grant};
 ghost use Rattle.acl_eval.specs.Scan.{scan};
 ghost use Rattle.acl_eval.specs.internal.Asked.{asked_situation};
 
-use crate::groups::{Groups, sorted_names};
 use crate::situation::{Object, Requester};
+use crate::sorted_requester::SortedRequester;
 use crate::standing::Standing;
 use acl_nfs4::{Aces, AclView};
 use acl_perm::{Kind, Mask};
@@ -35,18 +34,8 @@ pub fn grants_for_many_groups(
     ensures { IfOk result (λ granted. IsTrue granted
         ↔ Grant list.now (situation object.now requester.now) mask.bits) }
 {
-    let groups = requester.groups.for_look_ups(list.len());
-    if !groups.are_worth_sorting(list.len()) {
-        return Ok(is_granted_in(list.aces(), object, requester, groups, mask));
-    }
-    let names = sorted_names(alloc, requester.groups())?;
-    Ok(is_granted_in(
-        list.aces(),
-        object,
-        requester,
-        Groups::in_order(&names),
-        mask,
-    ))
+    let sorted = SortedRequester::new(alloc, *requester, list.len())?;
+    Ok(grants(list.aces(), object, &sorted.requester(), mask))
 }
 
 /// Returns whether the list grants the requester the whole mask on the object (RFC 8881, section 6.2.1). For each right
@@ -57,7 +46,8 @@ pub fn grants_for_many_groups(
 /// The group of an ACE is looked up among the groups of the requester: by binary search if there are many groups and
 /// many ACEs and the groups are in the order of their bytes, and otherwise one by one, which takes up to a microsecond
 /// for 1,000 groups. So in the worst case the time is proportional to the number of ACEs times the number of groups.
-/// `grants_for_many_groups` is faster for many groups.
+/// `grants_for_many_groups` is faster for many groups, and so is each question about the requester of a
+/// `SortedRequester`.
 ///
 /// ```rust
 /// let list = parse_text(alloc, b"ALLOW - READ_DATA bob\nDENY - WRITE_DATA bob")?;
@@ -72,24 +62,6 @@ pub fn grants(aces: Aces<'_>, object: &Object<'_>, requester: &Requester<'_>, ma
 {
     let standing = Standing::new(*object, *requester, aces.len());
     scan(aces, &standing, mask.bits())
-}
-
-// Returns whether the list grants the request. The groups of the requester are looked up among `groups`.
-fn is_granted_in(
-    aces: Aces<'_>,
-    object: &Object<'_>,
-    requester: &Requester<'_>,
-    groups: Groups<'_>,
-    mask: Mask,
-) -> bool
-    requires { AreSameGroups (groups_among groups) (groups_of requester.now) }
-    ensures { IsTrue result ↔ Grant aces.entry (situation object.now requester.now) mask.bits }
-{
-    scan(
-        aces,
-        &Standing::with_groups(*object, *requester, groups),
-        mask.bits(),
-    )
 }
 
 // Returns whether the rights that are left of a request are granted. They are the bits of a number, as in the clause.

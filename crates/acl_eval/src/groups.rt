@@ -1,11 +1,11 @@
 //! The groups of a requester, and the look-up of one among many.
-ghost use Rattle.std.specs.Prelude.{◌≡◌, IfOk, map, true};
+ghost use Rattle.std.specs.Prelude.{◌≡◌, ℕ, IfOk, List, map, true};
+ghost use Rattle.std.specs.Borrow.{Bor};
 ghost use Rattle.std.specs.List.{list_any};
-ghost use Rattle.std.specs.List.Sorted.{IsPermutation};
 ghost use Rattle.std.specs.Str.{bytes_eq};
 ghost use Rattle.acl_eval.specs.GroupSearch.{found_groups};
-ghost use Rattle.acl_eval.specs.internal.GroupOrder.{AreInOrder};
-ghost use Rattle.acl_eval.specs.declared.groups.Order.TheVariants.{Known};
+ghost use Rattle.acl_eval.specs.internal.GroupOrder.{AreInOrder, IsSortedCopy};
+ghost use Rattle.acl_eval.specs.declared.groups.Order.TheVariants.{Copied, Known};
 
 use std::alloc::{AllocError, Global};
 use std::cmp::Ordering;
@@ -17,13 +17,19 @@ const FEW: usize = 16;
 // than this has so many look-ups, even if it ends early or is mostly about users.
 const MANY_LOOK_UPS: usize = 64;
 
+// Up to this number of comparisons, look-ups one by one take less than a millisecond. Above it, they take longer than
+// sorting the names, if there are many look-ups.
+const MANY_COMPARISONS: usize = 1 << 18;
+
 /// What is known about the order of names.
 #[derive(Clone, Copy, Debug)]
-pub(crate) enum Order {
+pub(crate) enum Order<'a> {
     /// Nothing: a name is looked up one by one.
     Unknown,
     /// The names are in the order of their bytes.
     Known,
+    /// A copy of the names is in the order of their bytes, and a name is looked up in the copy.
+    Copied(&'a [&'a [u8]]),
     /// The caller said that they are. Whether they are or not, those count that a binary search finds.
     Said,
 }
@@ -32,8 +38,9 @@ pub(crate) enum Order {
 #[derive(Clone, Copy, Debug)]
 pub(crate) struct Groups<'a> {
     names: &'a [&'a [u8]],
-    order: Order,
+    order: Order<'a>,
     ghost known: { order ≡ Known → AreInOrder names.now },
+    ghost copied: { (copy : Bor (List (Bor (List ℕ)))) → order ≡ Copied copy → IsSortedCopy names.now copy.now },
 }
 
 impl<'a> Groups<'a> {
@@ -86,6 +93,18 @@ impl<'a> Groups<'a> {
         }
     }
 
+    /// Makes the groups of these names, and looks them up in a copy that is in order.
+    pub(crate) fn copied(names: &'a [&'a [u8]], copy: &'a [&'a [u8]]) -> Self
+        requires { IsSortedCopy names.now copy.now }
+        ensures names { result.names.now ≡ names.entry.now }
+        ensures groups { groups_among result ≡ map (λ g. g.now) names.entry.now }
+    {
+        Groups {
+            names,
+            order: Order::Copied(copy),
+        }
+    }
+
     /// Returns the same groups, for this many look-ups. If there are many look-ups and many names, it finds out whether
     /// the names are in order, since each look-up then takes less time.
     pub(crate) fn for_look_ups(self, look_ups: usize) -> Self
@@ -105,18 +124,23 @@ impl<'a> Groups<'a> {
         self.names
     }
 
-    /// Returns whether this many look-ups take longer than sorting the names first. Then each name counts.
+    /// Returns whether to sort a copy of the names for this many look-ups. Then each name counts. The copy makes the time
+    /// proportional to the sum of the numbers of look-ups and names, times a logarithm, and no longer to their product.
     pub(crate) fn are_worth_sorting(&self, look_ups: usize) -> bool
         ensures { result ≡ true → groups_among self.now ≡ map (λ g. g.now) self.now.names.now }
     {
         match self.order {
-            Order::Unknown => look_ups > MANY_LOOK_UPS && self.names.len() > FEW,
-            Order::Known | Order::Said => false,
+            Order::Unknown => {
+                look_ups > MANY_LOOK_UPS
+                    && self.names.len() > FEW
+                    && look_ups.saturating_mul(self.names.len()) > MANY_COMPARISONS
+            }
+            Order::Known | Order::Copied(_) | Order::Said => false,
         }
     }
 
-    /// Returns whether one of the groups has the name: by binary search if they are in order or are said to be, and
-    /// otherwise one by one.
+    /// Returns whether one of the groups has the name: by binary search if they or a copy are in order or they are said
+    /// to be, and otherwise one by one.
     #[tactic(auto, using(crate::proofs::Members::any_now))]
     pub(crate) fn contains(&self, name: &[u8]) -> bool
         ensures { result ≡ list_any (bytes_eq name.now) (groups_among self.now) }
@@ -124,6 +148,7 @@ impl<'a> Groups<'a> {
         match self.order {
             Order::Unknown => is_met(self.names, name),
             Order::Known => is_found(self.names, name),
+            Order::Copied(copy) => is_found(copy, name),
             Order::Said => is_found_by_halves(self.names, name),
         }
     }
@@ -134,8 +159,7 @@ pub(crate) fn sorted_names<'a>(
     alloc: Global,
     names: &[&'a [u8]],
 ) -> Result<Vec<&'a [u8]>, AllocError>
-    ensures order { IfOk result (λ sorted. AreInOrder sorted.items) }
-    ensures same { IfOk result (λ sorted. IsPermutation names.now sorted.items) }
+    ensures { IfOk result (λ sorted. IsSortedCopy names.now sorted.items) }
 {
     let mut sorted = names.to_vec(alloc)?;
     sorted.sort_unstable();

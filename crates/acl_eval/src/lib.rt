@@ -36,6 +36,7 @@ pub mod pruning_laws;
 mod requesting;
 mod resolving;
 mod situation;
+mod sorted_requester;
 #[cfg(test)]
 mod speed;
 mod standing;
@@ -63,4 +64,5 @@ pub use preparing::{Prepared, prepare};
 pub use requesting::{RequestAnswer, request_answer};
 pub use resolving::{ResolveFault, resolved};
 pub use situation::{Object, Requester};
+pub use sorted_requester::SortedRequester;
 pub use unknown::{DecidedWithUnknown, decided_with_unknown};

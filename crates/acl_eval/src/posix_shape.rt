@@ -1,5 +1,5 @@
 //! The POSIX ACL that has entries for given users and groups, and grants as much of an NFSv4 list as such an ACL can.
-ghost use Rattle.std.specs.Prelude.{◌≡◌, ◌≤◌, ◌↔◌, List, IfErr, IfOk, IsTrue, OnOk};
+ghost use Rattle.std.specs.Prelude.{◌≡◌, ◌≤◌, ◌<◌, ◌↔◌, List, IfErr, IfOk, IsTrue, OnOk};
 ghost use Rattle.std.specs.FinMap as set;
 ghost use Rattle.acl_posix.specs.Check.{ids, is_member};
 ghost use Rattle.acl_posix.specs.Tag.{tag_of};
@@ -58,8 +58,9 @@ pub struct PosixShape<'a> {
 /// Returns the POSIX ACL with USER and GROUP entries for these users and groups that grants as much of the list as such
 /// an ACL can, and never more than the list: read only if the list grants READ_DATA, write only if it grants WRITE_DATA
 /// and APPEND_DATA, and execute only if it grants EXECUTE. An entry has a permission if and only if the list grants its
-/// rights in every situation in which the access check of acl(5) looks at the entry, whoever owns the file. MASK takes
-/// nothing away. The id of a name is that of the table, and otherwise the number whose decimal digits the name is.
+/// rights in every situation in which the access check of acl(5) looks at the entry, whoever owns the file. There is a
+/// MASK if and only if the shape has a user or a group, and it takes nothing away. The id of a name is that of the table,
+/// and otherwise the number whose decimal digits the name is.
 ///
 /// Which users and groups have entries is the caller's choice: no choice grants most for every list
 /// (`laws::no_greatest`). `named_ids` returns those that the list names.
@@ -167,6 +168,7 @@ fn with_named(
     shape: &PosixShape<'_>,
 ) -> Result<PosixAcl, AllocError>
     requires few { size_of (entry_shape_of shape.now) ≤ most_names }
+    requires some { 0 < size_of (entry_shape_of shape.now) }
     ensures { (list : List Ace) → AreColumns list columns.now → HasThree list (entry_shape_of shape.now) acl
         → IfOk result (IsBest list (entry_shape_of shape.now)) }
 {

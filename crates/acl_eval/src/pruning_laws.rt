@@ -1,4 +1,5 @@
 //! What holds of the ACL of a shape whose names are taken out as long as nothing is lost.
+ghost use Rattle.acl_eval.specs.PosixOfList.{GrantsDecidePosix};
 ghost use Rattle.acl_eval.specs.PruningLaws.{BridgeAndBack, EndAgrees, EndIsMaximal, GrantsDecideTheEnd, GrantsGiveOneAcl, NamesByTableAreAll, PruningHasOneEnd, PruningKeepsEntries, PruningLosesNothing};
 
 /// Along a pruning nothing is lost, and each entry that stays has the permissions that it had at the start.
@@ -28,10 +29,12 @@ pub fn pruning_has_one_end()
     ensures grants { GrantsDecideTheEnd }
 {}
 
-/// If two lists grant the same, and each pruning began with all names of its list, the two ACLs have the same entries
-/// other than MASK, whatever users and groups the lists name.
+/// If two lists grant the same, and each pruning began with all names of its list, the two ACLs are the same, whatever
+/// users and groups the lists name.
 pub fn grants_give_one_acl()
-    ensures { GrantsGiveOneAcl }
+    ensures acls { GrantsGiveOneAcl }
+    // So two lists for which `to_posix` returns an ACL and that grant the same have one ACL.
+    ensures lists { GrantsDecidePosix }
 {}
 
 /// From the list of a POSIX ACL, a pruning that began with its users and groups leads back to an ACL that answers

@@ -4,6 +4,7 @@ ghost use Rattle.std.specs.List.{list_any};
 ghost use Rattle.std.specs.Str.{bytes_eq};
 ghost use Rattle.acl_eval.specs.GroupSearch.{AreAmong, AreRisingNames, AreSameGroups, found_groups};
 ghost use Rattle.acl_eval.specs.Situation.{given_groups_of, groups_of, owner_of, owning_group_of, user_of};
+ghost use Rattle.acl_eval.specs.internal.GroupOrder.{IsSortedCopy};
 
 use crate::groups::Groups;
 
@@ -156,6 +157,20 @@ impl<'a> Requester<'a> {
         Requester {
             user: self.user,
             groups: self.groups.for_look_ups(look_ups),
+        }
+    }
+
+    /// Returns the same requester, and looks groups up in this copy of their names.
+    pub(crate) fn with_copy<'b>(&self, copy: &'b [&'a [u8]]) -> Requester<'b>
+        requires copied { IsSortedCopy self.now.groups.names.now copy.now }
+        requires counted { groups_of self.now ≡ given_groups_of self.now }
+        ensures user { user_of result ≡ user_of self.now }
+        ensures groups { groups_of result ≡ groups_of self.now }
+        ensures given { given_groups_of result ≡ given_groups_of self.now }
+    {
+        Requester {
+            user: self.user,
+            groups: Groups::copied(self.groups(), copy),
         }
     }
 

@@ -5,30 +5,25 @@ ghost use Rattle.std.specs.Str.{bytes_eq};
 ghost use Rattle.acl_perm.specs.Principal.{group, owner, principal};
 ghost use Rattle.acl_perm.specs.Situation.{matches};
 ghost use Rattle.acl_nfs4.specs.Ace.{ace};
-ghost use Rattle.acl_eval.specs.Situation.{groups_among, groups_of, situation, user_of};
-ghost use Rattle.acl_eval.specs.GroupSearch.{AreSameGroups};
+ghost use Rattle.acl_eval.specs.Situation.{groups_of, situation, user_of};
 ghost use Rattle.acl_eval.specs.internal.LastByte.{last_of};
 ghost use Rattle.acl_eval.specs.Scan.{applies};
 
-use crate::groups::Groups;
 use crate::situation::{Object, Requester};
 use acl_nfs4::AceRef;
 use acl_perm::Principal;
 
 /// A requester of an object, with the facts that are the same for each ACE: whether the requester is the owner, whether
-/// the requester is in the owning group, and the last byte of the requester's name. Groups are looked up among
-/// `groups`, which may have the names of the requester's groups in another order.
+/// the requester is in the owning group, and the last byte of the requester's name.
 #[derive(Drop)]
 pub(crate) struct Standing<'a> {
     object: Object<'a>,
     requester: Requester<'a>,
-    groups: Groups<'a>,
     is_owner: bool,
     is_in_owning_group: bool,
     last: u8,
     ghost owns: { is_owner ≡ matches (situation object requester) owner },
     ghost belongs: { is_in_owning_group ≡ matches (situation object requester) group },
-    ghost named: { AreSameGroups (groups_among groups) (groups_of requester) },
     ghost ends: { last ≡ last_of (user_of requester) },
 }
 
@@ -39,24 +34,12 @@ impl<'a> Standing<'a> {
     pub(crate) fn new(object: Object<'a>, requester: Requester<'a>, aces: usize) -> Self
         ensures { asked_situation result ≡ situation object.entry requester.entry }
     {
-        Standing::with_groups(object, requester, requester.groups.for_look_ups(aces))
-    }
-
-    /// Makes what `new` makes, and looks groups up among `groups`.
-    pub(crate) fn with_groups(
-        object: Object<'a>,
-        requester: Requester<'a>,
-        groups: Groups<'a>,
-    ) -> Self
-        requires { AreSameGroups (groups_among groups) (groups_of requester) }
-        ensures { asked_situation result ≡ situation object.entry requester.entry }
-    {
+        let requester = requester.for_look_ups(aces);
         Standing {
             object,
             requester,
-            groups,
             is_owner: requester.is_named(object.owner()),
-            is_in_owning_group: is_among(&groups, &requester, object.group()),
+            is_in_owning_group: requester.is_in(object.group()),
             last: last_byte(requester.user()),
         }
     }
@@ -85,24 +68,10 @@ impl<'a> Standing<'a> {
             Principal::Owner => self.is_owner,
             Principal::User(name) => self.requester.is_named(name),
             Principal::Group => self.is_in_owning_group,
-            Principal::GroupNamed(name) => self.is_in(name),
+            Principal::GroupNamed(name) => self.requester.is_in(name),
             Principal::Everyone => true,
         }
     }
-
-    fn is_in(&self, name: &[u8]) -> bool
-        ensures { result ≡ list_any (bytes_eq name.now) (groups_of self.now.requester) }
-    {
-        self.groups.contains(name)
-    }
-}
-
-// Returns whether the requester is in the group with this name, by a look-up among `groups`.
-fn is_among(groups: &Groups<'_>, requester: &Requester<'_>, name: &[u8]) -> bool
-    requires { AreSameGroups (groups_among groups.now) (groups_of requester.now) }
-    ensures { result ≡ list_any (bytes_eq name.now) (groups_of requester.now) }
-{
-    groups.contains(name)
 }
 
 // Returns the last byte of a name, or 0 for the empty name.

@@ -11,9 +11,9 @@ use Rattle.acl_eval.specs.ListNames.{AreNamesOf}
 use Rattle.acl_eval.specs.LostGrants.{lost_object, lost_requester}
 use Rattle.acl_eval.specs.ToPosix.{EntryShape, size_of}
 use Rattle.acl_eval.specs.internal.ShapeBody.{TagColumn, column_decided_by, has_tag, is_certain, keys_of, most_keys, most_names, tag_meets}
-use Rattle.acl_eval.specs.declared.losing.JudgedTag.{JudgedTag}
+use Rattle.acl_eval.specs.declared.losing.tags.JudgedTag.{JudgedTag}
 use Rattle.acl_eval.specs.declared.losing.LostGrant.{LostGrant}
-use Rattle.acl_eval.specs.declared.losing.Unused.{Unused}
+use Rattle.acl_eval.specs.declared.losing.unused.Unused.{Unused}
 use Rattle.acl_eval.specs.declared.losing.Wanted.{Wanted}
 use Rattle.acl_eval.specs.declared.tag_column.Columns.{Columns}
 
@@ -75,6 +75,7 @@ pub record LossSearch : Type 0 where
   pub one : ℕ
   pub next : ℕ
 
+-- the search for what is wanted, with two unused ids
 abbrev pub search_of : Wanted → Entries → Unused → LossSearch
 search_of wanted entries unused = record {
   first = keys_of wanted.first.now;
@@ -92,7 +93,8 @@ is_lost first second entries want object requester = column_decided_by (tag_meet
 
 -- nothing is lost in the situation of three tags
 abbrev pub IsKeptWith : LossSearch → Tag → Tag → Tag → Type 0
-IsKeptWith s a b c = is_lost s.first s.second s.entries s.want (chosen_object s.one s.next a b c) (chosen_requester s.one a b c) ≡ false
+IsKeptWith s a b c =
+    is_lost s.first s.second s.entries s.want (chosen_object s.one s.next a b c) (chosen_requester s.one a b c) ≡ false
 
 -- ---- which three tags the search tries
 
@@ -104,8 +106,8 @@ certain_place t keys = position_or_len (λ key. is_certain t key.0) keys
 abbrev pub is_allowed_in : Tag → TagColumn → Bool
 is_allowed_in t keys = column_decided_by (is_certain t) keys false
 
--- how early the check decides by the entry of a tag: USER_OBJ, then USER, then GROUP_OBJ and GROUP, and last OTHER, which
--- also decides for a tag without an entry
+-- how early the check decides by the entry of a tag: USER_OBJ, then USER, then GROUP_OBJ and GROUP, and last OTHER,
+-- which also decides for a tag without an entry
 abbrev pub level : Entries → Tag → ℕ
 level entries user_obj = 3
 level entries (user id) = if is_some (set.get entries (user id)) then 2 else 0
@@ -234,10 +236,11 @@ IsFoundOr s kept (Some lost) = IsFound s lost
 
 -- ---- ids that nothing names
 
--- the numbers of the tags of keys, and those of the tags of entries
+-- the numbers of the tags of keys
 abbrev pub key_numbers : TagColumn → List ℕ
 key_numbers keys = map (λ key. qualifier key.0) keys
 
+-- the numbers of the tags of entries
 abbrev pub entry_numbers : List (Tag × ℕ) → List ℕ
 entry_numbers entries = map (λ entry. qualifier entry.0) entries
 

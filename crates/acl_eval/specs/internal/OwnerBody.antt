@@ -9,7 +9,8 @@ use Rattle.acl_eval.specs.internal.ShapeBody.{AreFirst, TagColumn, column_decide
 use Rattle.acl_eval.specs.declared.tag_column.Columns.{Columns}
 use Rattle.acl_eval.specs.declared.tag_column.TagKey.{TagKey}
 
--- the tag that stands for the same requesters: USER_OBJ for the owner's own id, and GROUP_OBJ for that of the owning group
+-- the tag that stands for the same requesters: USER_OBJ for the owner's own id, and GROUP_OBJ for that of the owning
+-- group
 abbrev pub known_tag : ℕ → ℕ → Tag → Tag
 known_tag owner group tag.user_obj = tag.user_obj
 known_tag owner group (tag.user id) = if id == owner then tag.user_obj else tag.user id
@@ -40,8 +41,8 @@ abbrev pub IsAlwaysOwned : ℕ → ℕ → TagColumn → Type 0
 IsAlwaysOwned owner group keys = (groups : List ℕ) → All IsId groups
     → column_decided_by (tag_meets (object_for owner group) (owner_in owner groups)) keys false ≡ true
 
--- the keys of a right for such an object: the first key is that of the owner, to whom the right is granted only if it is
--- granted whatever the owner's groups are; the others are decided as before
+-- the keys of a right for such an object: the first key is that of the owner, to whom the right is granted only if it
+-- is granted whatever the owner's groups are; the others are decided as before
 pub record IsKnownColumn (owner group : ℕ) (keys known : List TagKey) : Type 0 where
   pub owned : Bool
   pub always : (owned ≡ true) ↔ IsAlwaysOwned owner group (keys_of keys)

@@ -84,7 +84,7 @@ can_go left name = is_named (tag_of name.tag) && list_all (stands_without name) 
 
 -- ---- the shape that is left
 
--- the ids with that of a user, or with that of a group, before them
+-- the ids with that of a user before them
 abbrev pub user_before : Tag → List ℕ → List ℕ
 user_before user_obj ids = ids
 user_before (user id) ids = id ∷ ids
@@ -93,6 +93,7 @@ user_before (group id) ids = ids
 user_before mask ids = ids
 user_before other ids = ids
 
+-- the ids with that of a group before them
 abbrev pub group_before : Tag → List ℕ → List ℕ
 group_before user_obj ids = ids
 group_before (user id) ids = ids
@@ -101,11 +102,12 @@ group_before (group id) ids = id ∷ ids
 group_before mask ids = ids
 group_before other ids = ids
 
--- the ids of the users, and those of the groups
+-- the ids of the users
 abbrev pub users_left : List JudgedEntry → List ℕ
 users_left [] = []
 users_left (e ∷ left) = user_before (tag_of e.tag) (users_left left)
 
+-- the ids of the groups
 abbrev pub groups_left : List JudgedEntry → List ℕ
 groups_left [] = []
 groups_left (e ∷ left) = group_before (tag_of e.tag) (groups_left left)

@@ -1,5 +1,5 @@
--- How the ACL of a shape is made: the columns of a list by tags, and the pass that decides whether an entry has a right.
--- This library's own.
+-- How the ACL of a shape is made: the columns of a list by tags, and the pass that decides whether an entry has a
+-- right. This library's own.
 use Rattle.std.specs.Prelude.{◌≡◌, ◌≤◌, ◌↔◌, ⊤, ℕ, ◌+◌, ◌==◌, ◌&&◌, ◌||◌, not, Bool, false, true, IsTrue, List, [], ◌∷◌, length, Option, Some, option_map, filter, map, if◌then◌else◌}
 use Rattle.std.specs.List.{list_any}
 use Rattle.std.specs.FinMap as set
@@ -148,7 +148,8 @@ pub record HaveFewKeys (columns : Columns) : Type 0 where
   pub append : length columns.append.items ≤ most_aces
   pub execute : length columns.execute.items ≤ most_aces
 
--- the permissions are those of which the list grants the rights in every situation in which the check looks at the entry
+-- the permissions are those of which the list grants the rights in every situation in which the check looks at the
+-- entry
 abbrev pub HasJust : List Ace → EntryShape → Tag → ℕ → Type 0
 HasJust list shape t perm = (want : ℕ) → IsPerm want → IsTrue (contains perm want) ↔ AlwaysHas list shape t want
 

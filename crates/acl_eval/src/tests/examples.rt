@@ -139,6 +139,9 @@ fn a_group_that_is_denied_is_found_in_the_table(rt: HostRuntime) -> Result<(), F
     let bob = Requester::new(b"bob", &[b"users", b"staff"]).ok_or("a name is empty")?;
     let may_write = grants_for_many_groups(alloc, &list.view(), &object, &bob, Mask::WRITE_DATA)?;
     assert!(rt; !may_write);
+    let sorted = SortedRequester::new(alloc, bob, list.len())?;
+    let rights = decided(list.aces(), &object, &sorted.requester(), Mask::ALL);
+    assert!(rt; rights.denied == Mask::WRITE_DATA);
     Ok(())
 }
 

@@ -1,5 +1,5 @@
 //! Whom the names of a list, of an object and of a requester mean, by RFC 8881, section 6.2.1.5. Groups are looked up
-//! in different ways, and each way has to give the same answer. That no name is empty is this library's own rule.
+//! in different ways, and each way has to give the same answer.
 
 use super::harness::passes;
 use super::lists::{GROUP_NAMED, LONG_NAMES, OWNING_GROUP, Question, THREE};
@@ -142,9 +142,10 @@ fn answers(alloc: Global, list: &Acl, groups: &[&[u8]]) -> Option<[bool; 2]> {
     Some([as_given, sorted])
 }
 
-/// Checks that the first ACE that matches the requester decides, also if the groups are sorted first.
+/// Checks that the first ACE that matches the requester decides, also if the groups are sorted first. With 70 ACEs and
+/// 4,000 groups in no order they are sorted.
 pub fn check_sorted_groups(rt: &impl Abort, alloc: Global) -> Result<(), PushFault> {
-    for count in [1usize, 40] {
+    for count in [1usize, 70] {
         let list = denials(alloc, count)?;
         for (first, last, granted) in [
             (b"guests".as_slice(), b"guests".as_slice(), false),
@@ -152,9 +153,9 @@ pub fn check_sorted_groups(rt: &impl Abort, alloc: Global) -> Result<(), PushFau
             (b"staff".as_slice(), b"guests".as_slice(), true),
             (b"staff".as_slice(), b"users".as_slice(), false),
         ] {
-            let mut groups = [b"guests".as_slice(); 40];
+            let mut groups = [b"guests".as_slice(); 4000];
             groups[0] = first;
-            groups[39] = last;
+            groups[3999] = last;
             let found = answers(alloc, &list, &groups).ok_or(PushFault::Memory)?;
             assert!(rt; found == [granted, granted]);
         }
@@ -165,15 +166,4 @@ pub fn check_sorted_groups(rt: &impl Abort, alloc: Global) -> Result<(), PushFau
 #[test]
 fn a_group_is_found_among_sorted_groups(rt: HostRuntime) {
     assert!(rt; passes(check_sorted_groups(&rt, rt.alloc())));
-}
-
-#[test]
-fn no_object_and_no_requester_has_an_empty_name(rt: HostRuntime) {
-    assert!(rt; Object::new(b"", b"staff").is_none());
-    assert!(rt; Object::new(b"alice", b"").is_none());
-    assert!(rt; Object::new(b"alice", b"staff").is_some());
-    assert!(rt; Requester::new(b"", &[]).is_none());
-    assert!(rt; Requester::new(b"alice", &[b"staff", b""]).is_none());
-    assert!(rt; Requester::new(b"alice", &[]).is_some());
-    assert!(rt; Requester::new(b"alice", &[b"staff", b"staff"]).is_some());
 }

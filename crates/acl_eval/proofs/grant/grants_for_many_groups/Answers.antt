@@ -1,17 +1,13 @@
-use Rattle.std.proofs.Common.{◌≡◌, ◌∙◌, ap, ℕ, List, map, sym}
-use Rattle.std.specs.Borrow.{Bor}
-use Rattle.std.specs.List.{list_any}
-use Rattle.std.specs.Str.{bytes_eq}
-use Rattle.acl_eval.specs.Situation.{given_groups_of, groups_of}
-use Rattle.acl_eval.proofs.Members.{same_names}
+use Rattle.std.proofs.Common.{◌↔◌, ◌∙◌, IsTrue, subst, List}
+use Rattle.acl_perm.specs.Situation.{Situation}
+use Rattle.acl_nfs4.specs.Ace.{Ace}
+use Rattle.acl_eval.specs.Grant.{Grant}
+use Rattle.acl_eval.specs.Situation.{situation}
 use Rattle.acl_eval.proofs.grant.grants_for_many_groups.Goals as goal
 
-pub is_granted_in-requires-2 : goal.is_granted_in-requires-2
-is_granted_in-requires-2 c name =
-    let now = λ (names : List (Bor (List ℕ))). map (λ g. g.now) names in
-    let counted : given_groups_of c.args.requester.now ≡ groups_of c.args.requester.now =
-    ap now (sym c.for_look_ups-groups.ensures.names) ∙ sym (c.are_worth_sorting.ensures c.if-not-are_worth_sorting.false)
-    ∙ c.for_look_ups-groups.ensures.groups in
-    ap (list_any (bytes_eq name)) (c.in_order.ensures.groups ∙ ap now c.deref.ensures.value)
-    ∙ same_names c.groups.result.now c.in_ok-names.names.items c.in_ok-names.ensures.same name
-    ∙ ap (list_any (bytes_eq name)) (c.groups.ensures ∙ counted)
+pub returns : goal.returns
+returns c =
+    subst (λ (s : Situation). IsTrue c.grants.result ↔ Grant c.args.list.now s c.args.mask.bits)
+    (c.requester.ensures.situation c.args.object.now ∙ c.in_ok-sorted.ensures.situation c.args.object.now)
+    (subst (λ (list : List Ace). IsTrue c.grants.result
+    ↔ Grant list (situation c.args.object.now c.requester.result) c.args.mask.bits) c.aces.ensures.same c.grants.ensures)

@@ -1,4 +1,4 @@
-use Rattle.std.proofs.Common.{◌≡◌, ◌∙◌, ◌<◌, ◌≤◌, ◌+◌, ap, arith}
+use Rattle.std.proofs.Common.{◌∙◌, ◌+◌, ap, arith}
 use Rattle.std.proofs.lemmas.List.{take_all}
 use Rattle.std.specs.Str.Parse.{digits_value}
 use Rattle.acl_eval.proofs.IdDigits.{above, digit_at, digit_more, id_is, no_id, spelled}

@@ -1,4 +1,4 @@
-use Rattle.std.proofs.Common.{◌∙◌, arith, refl, sym}
+use Rattle.std.proofs.Common.{arith, refl, sym}
 use Rattle.acl_posix.specs.Tag.{tag_of}
 use Rattle.acl_eval.proofs.OwnerKeys.{known_end, known_left, known_put, still_outside}
 use Rattle.acl_eval.proofs.TagColumns.{lacks, length_more, still_first, there}
@@ -17,7 +17,8 @@ loop-key-preserved c =
             c.key-item.result _ c.loop-key-test.true c.key-item.is w.in_ok-push.ensures.items
             c.known_tag-whom.ensures refl (before test),
         λ h. still_first known w.push.new.self.items _ (first h)
-            (lacks _ known _ _ c.deref.ensures.value c.has_tag.ensures w.if-not-has_tag.true) w.in_ok-push.ensures.items,
+            (lacks _ known _ _ c.deref.ensures.value c.has_tag.ensures w.if-not-has_tag.true)
+            w.in_ok-push.ensures.items,
         let more = length_more known w.push.new.self.items _ _ w.in_ok-push.ensures.items few in omega (arith, more),
         λ h. still_outside o g (tag_of c.key-item.result.whom) known w.push.new.self.items _
             w.in_ok-push.ensures.items c.known_tag-whom.ensures (outside h),

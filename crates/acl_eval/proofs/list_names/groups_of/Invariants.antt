@@ -9,5 +9,5 @@ abbrev pub invariant-loop-ace : goal.invariant-loop-ace
 invariant-loop-ace l =
     (goal.iterator-loop-ace).can_next l.ace-iterator ×
     (goal.iterator-loop-ace).is_finite l.ace-iterator ×
-    ((id : ℕ) → (is_member id (ids l.groups.items) || names_group l.names l.ace-iterator id) ≡ names_group l.names l.fn.list id) ×
-    AreOnce (ids l.groups.items)
+    ((id : ℕ) → (is_member id (ids l.groups.items) || names_group l.names l.ace-iterator id)
+    ≡ names_group l.names l.fn.list id) × AreOnce (ids l.groups.items)

@@ -19,8 +19,8 @@ returns-in-Some-2-clause-found c = λ list are.
     are.write are.append (c.new-write.ensures.first ∙ c.deref-3.ensures.value)
     (c.new-write.ensures.second ∙ c.deref-4.ensures.value) c.new-write.ensures.perm c.entries.ensures.valid in
     found_write list c.args.acl.now c.in-Some-2.lost
-    (found_at list c.args.acl.now 1 2 2 c.new-write.result c.in_ok-unused.unused c.in-Some-2.lost c.in_ok-lost-2.field-0 _
-    is c.in-Some-2.is c.in_ok-lost-2.ensures)
+    (found_at list c.args.acl.now 1 2 2 c.new-write.result c.in_ok-unused.unused c.in-Some-2.lost
+    c.in_ok-lost-2.field-0 _ is c.in-Some-2.is c.in_ok-lost-2.ensures)
 
 pub returns-clause-found : goal.returns-clause-found
 returns-clause-found c = λ list are.
@@ -29,7 +29,8 @@ returns-clause-found c = λ list are.
     are.execute are.execute
     (c.new-execute.ensures.first ∙ c.deref-5.ensures.value) (c.new-execute.ensures.second ∙ c.deref-6.ensures.value)
     c.new-execute.ensures.perm c.entries.ensures.valid in
-    answer_lost list c.args.acl.now c.new-execute.result c.in_ok-unused.unused _ is c.lost_of-3.result c.lost_of-3.ensures
+    answer_lost list c.args.acl.now c.new-execute.result c.in_ok-unused.unused _ is c.lost_of-3.result
+    c.lost_of-3.ensures
 
 pub returns-clause-none : goal.returns-clause-none
 returns-clause-none c = λ list are.

@@ -26,7 +26,8 @@ loop-ace-preserved c = (
 pub returns-in_err-push_changed : goal.returns-in_err-push_changed
 returns-in_err-push_changed c = way_fails _ c.args.mode.bits c.loop-ace.list c.push_changed.new.list
     c.push_changed.new.list c.loop-ace.ace-iterator c.args.list.now c.args.old.now (ace c.in-Some.ace) c.next.new.self
-    c.from_residual.result c.from_residual.ensures.1 c.in-Some.ensures.steps.0 c.in_err-push_changed.ensures c.loop-ace.invariant.2
+    c.from_residual.result c.from_residual.ensures.1 c.in-Some.ensures.steps.0 c.in_err-push_changed.ensures
+    c.loop-ace.invariant.2
 
 pub returns : goal.returns
 returns c = way_ends c.in-None.ensures.steps.0.0 c.loop-ace.invariant.2

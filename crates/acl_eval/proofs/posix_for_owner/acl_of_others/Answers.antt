@@ -1,14 +1,12 @@
-use Rattle.std.proofs.Common.{◌≤◌, ap, arith, length, subst, sym, ◌∙◌}
+use Rattle.std.proofs.Common.{ap, arith, subst, ◌∙◌}
 use Rattle.std.proofs.lemmas.List.{length-map}
 use Rattle.std.proofs.lemmas.Result.{IfOk-weaker}
 use Rattle.acl_posix.specs.Entries.{Entries}
-use Rattle.acl_nfs4.specs.Limits.{most_aces}
 use Rattle.acl_eval.specs.Ids.{with_id, with_ids}
 use Rattle.acl_eval.specs.ListNames.{named_shape}
 use Rattle.acl_eval.specs.PosixForOwner.{IsMaximalFor, IsPosixFor, others_of}
 use Rattle.acl_eval.specs.Pruning.{PrunesTo}
-use Rattle.acl_eval.specs.ToPosix.{EntryShape, IsBest, entry_shape_of, size_of}
-use Rattle.acl_eval.specs.internal.ShapeBody.{most_names}
+use Rattle.acl_eval.specs.ToPosix.{EntryShape, IsBest, size_of}
 use Rattle.acl_eval.proofs.OwnerLists.{list_for}
 use Rattle.acl_eval.proofs.OwnerEnds.{maximal_for}
 use Rattle.acl_eval.proofs.OwnerShapes.{ForColumns, RuleFor, code_few, for_columns, others_few, others_ids, others_lack, rule_for}
@@ -26,14 +24,15 @@ of_columns : (c : goal.After-drop-columns-5) → ForColumns c.args.owner.value c
 of_columns c =
     let few = c.aces.ensures.accepted.count in
     let same = length-map c.args.list.now (with_id c.args.names.now) in
-    for_columns c.args.owner.value c.args.group.value (with_ids c.args.names.now c.args.list.now) c.in_ok-columns.columns
-    c.in_ok-known.known c.args.owner.within c.args.group.within (omega (arith, few, same)) c.in_ok-columns.ensures.columns
-    c.in_ok-columns.ensures.few c.in_ok-known.ensures
+    for_columns c.args.owner.value c.args.group.value (with_ids c.args.names.now c.args.list.now)
+    c.in_ok-columns.columns
+    c.in_ok-known.known c.args.owner.within c.args.group.within (omega (arith, few, same))
+    c.in_ok-columns.ensures.columns c.in_ok-columns.ensures.few c.in_ok-known.ensures
 
 -- where the rule ends
 ends : (c : goal.After-drop-columns-5) (acl : Entries)
-    → IsBest (list_for c.args.owner.value c.args.group.value (of_columns c).rights (with_ids c.args.names.now c.args.list.now))
-    (named_shape c.in_ok-rest.rest) acl
+    → IsBest (list_for c.args.owner.value c.args.group.value (of_columns c).rights
+    (with_ids c.args.names.now c.args.list.now)) (named_shape c.in_ok-rest.rest) acl
     → RuleFor c.args.owner.value c.args.group.value (with_ids c.args.names.now c.args.list.now) c.in_ok-known.known
     (others_of c.args.owner.value c.args.group.value (named_shape c.args.named)) (named_shape c.in_ok-rest.rest) acl
 ends c acl best =
@@ -56,7 +55,8 @@ returns-clause-rule c = λ names.
     let list = list_for o g (of_columns c).rights (with_ids c.args.names.now c.args.list.now) in
     let rest = named_shape c.in_ok-rest.rest in
     IfOk-weaker c.best_of_columns.result _ (IsPosixFor c.args.names.now o g c.args.list.now)
-    (λ (acl : Entries) best. rule_for c.args.names.now o g c.args.list.now c.in_ok-known.known (named_shape c.args.named) rest
+    (λ (acl : Entries) best. rule_for c.args.names.now o g c.args.list.now c.in_ok-known.known
+    (named_shape c.args.named) rest
     acl names (ends c acl (subst (λ (s : EntryShape). IsBest list s acl) c.shape-2.ensures best)))
     (c.best_of_columns.ensures list (of_columns c).columns)
 
@@ -67,6 +67,7 @@ returns-clause-maximal c = λ names.
     let list = list_for o g (of_columns c).rights (with_ids c.args.names.now c.args.list.now) in
     let rest = named_shape c.in_ok-rest.rest in
     IfOk-weaker c.best_of_columns.result _ (IsMaximalFor c.args.names.now o g c.args.list.now)
-    (λ (acl : Entries) best. maximal_for c.args.names.now o g c.args.list.now c.in_ok-known.known (named_shape c.args.named)
+    (λ (acl : Entries) best. maximal_for c.args.names.now o g c.args.list.now c.in_ok-known.known
+    (named_shape c.args.named)
     rest acl names (ends c acl (subst (λ (s : EntryShape). IsBest list s acl) c.shape-2.ensures best)))
     (c.best_of_columns.ensures list (of_columns c).columns)

@@ -12,5 +12,6 @@ returns c =
     same_shape _ _ _ _
     (ids_without o c.retain.new.self.items c.args.named.users.items (filter_same _ (λ (id : Id). not (id.value == o)) _
     (λ id b h called. search rules) _ _ c.retain.ensures.filtered))
-    (ids_without g c.retain-2.new.self.items c.args.named.groups.items (filter_same _ (λ (id : Id). not (id.value == g)) _
+    (ids_without g c.retain-2.new.self.items c.args.named.groups.items
+    (filter_same _ (λ (id : Id). not (id.value == g)) _
     (λ id b h called. search rules) _ _ c.retain-2.ensures.filtered))

@@ -4,16 +4,18 @@ use Rattle.acl_eval.specs.ListNames.{named_shape}
 use Rattle.acl_eval.specs.Pruning.{PrunesTo}
 use Rattle.acl_eval.specs.ToPosix.{EntryShape, IsBest}
 use Rattle.acl_eval.proofs.EntryCounts.{small_of}
-use Rattle.acl_eval.proofs.PosixOfLists.{exact_if_any, maximal_of}
+use Rattle.acl_eval.proofs.PosixOfLists.{exact_if_any, few_ids, maximal_of}
 use Rattle.acl_eval.proofs.posix_of_list.made_of_names.Goals as goal
 
 pub returns-clause-rule : goal.returns-clause-rule
 returns-clause-rule c = λ names.
     let list = with_ids c.args.names.now c.args.list.now in
     let rest = named_shape c.in_ok-rest.rest in record {
+      known = c.requires.known;
       start = named_shape c.args.named.now;
       end = rest;
       names = names;
+      few = few_ids c.args.named.now c.requires.few;
       pruned = subst (λ (s : EntryShape). PrunesTo list s rest) c.shape.ensures
           (c.in_ok-rest.ensures.pruned list c.in_ok-columns.ensures.columns);
       best = subst (λ (s : EntryShape). IsBest list s c.in_ok-acl.acl) c.shape-2.ensures

@@ -11,7 +11,8 @@ returns-clause-sound c =
 pub returns-clause-greatest : goal.returns-clause-greatest
 returns-clause-greatest c =
     let rule = c.in_ok-made_of_names.ensures.rule c.in_ok-named.ensures in
-    best_greatest_of_shape (with_ids c.args.names.now c.args.list.now) rule.end c.in_ok-made_of_names.field-0.acl rule.best
+    best_greatest_of_shape (with_ids c.args.names.now c.args.list.now)
+    rule.end c.in_ok-made_of_names.field-0.acl rule.best
 
 pub returns-clause-exact : goal.returns-clause-exact
 returns-clause-exact c =

@@ -13,6 +13,7 @@ loop-group-preserved c = λ list columns before. group_put list (entry_shape_of 
     (c.entry_perm.ensures.just list columns) c.in_ok-put.ensures (c.loop-group.invariant list columns before)
 
 pub returns : goal.returns
-returns c = λ list columns before. groups_done list (entry_shape_of c.args.shape.now) (entry_shape_of c.args.shape.now).users
+returns c =
+    λ list columns before. groups_done list (entry_shape_of c.args.shape.now) (entry_shape_of c.args.shape.now).users
     c.args.shape.now.groups.now c.loop-group.group-index c.loop-group.acl c.loop-group-test.false
     (c.loop-group.invariant list columns before)

@@ -9,4 +9,5 @@ abbrev pub invariant-loop-group : goal.invariant-loop-group
 invariant-loop-group l = (list : List Ace) → AreColumns list l.columns
     → IsEntryPut list (entry_shape_of l.shape) (users_of (entry_shape_of l.shape)) l.fn.acl
     → IsEntryPut list (entry_shape_of l.shape)
-    (record { users = (entry_shape_of l.shape).users; groups = take l.group-index (entry_shape_of l.shape).groups }) l.acl
+    (record { users = (entry_shape_of l.shape).users; groups = take l.group-index (entry_shape_of l.shape).groups })
+    l.acl

@@ -7,7 +7,8 @@ entry_perm-requires-clause-there c = member_at c.args.shape.now.users.now c.loop
     c.loop-user-test.true c.user-item.is
 
 pub loop-user-preserved : goal.loop-user-preserved
-loop-user-preserved c = λ list columns before. user_put list (entry_shape_of c.args.shape.now) c.args.shape.now.users.now
+loop-user-preserved c =
+    λ list columns before. user_put list (entry_shape_of c.args.shape.now) c.args.shape.now.users.now
     c.loop-user.user-index c.user-item.result c.entry_perm.result.bits c.loop-user.acl c.put.new.acl
     c.loop-user-test.true c.user-item.is (c.entry_perm.ensures.just list columns) c.in_ok-put.ensures
     (c.loop-user.invariant list columns before)

@@ -8,4 +8,5 @@ use Rattle.acl_eval.proofs.posix_shape.add_users.Given as goal
 abbrev pub invariant-loop-user : goal.invariant-loop-user
 invariant-loop-user l = (list : List Ace) → AreColumns list l.columns
     → IsEntryPut list (entry_shape_of l.shape) empty_shape l.fn.acl
-    → IsEntryPut list (entry_shape_of l.shape) (record { users = take l.user-index (entry_shape_of l.shape).users; groups = [] }) l.acl
+    → IsEntryPut list (entry_shape_of l.shape)
+    (record { users = take l.user-index (entry_shape_of l.shape).users; groups = [] }) l.acl

@@ -11,5 +11,6 @@ invariant-loop-ace l =
     (goal.iterator-loop-ace).can_next l.ace-iterator ×
     (goal.iterator-loop-ace).is_finite l.ace-iterator ×
     (l.place + length l.ace-iterator ≡ length l.fn.aces) ×
-    (position_from (λ a. lacks_name (owner_of l.object) (owning_group_of l.object) (principal_of a)) l.place l.ace-iterator
+    (position_from (λ a. lacks_name (owner_of l.object) (owning_group_of l.object) (principal_of a))
+    l.place l.ace-iterator
     ≡ first_nameless (owner_of l.object) (owning_group_of l.object) l.fn.aces)

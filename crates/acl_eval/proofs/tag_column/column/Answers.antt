@@ -11,13 +11,15 @@ loop-ace-preserved c = let (before, first, few) = c.loop-ace.invariant in elim c
         c.args.right.bit c.ace-item.result _ c.loop-ace-test.true c.ace-item.is (sym c.has.ensures ∙ w.if-has.true)
         w.in_ok-push.ensures.items refl refl (before test),
     still_first c.loop-ace.keys.items w.push.new.self.items _ first
-        (lacks _ c.loop-ace.keys.items _ _ w.deref.ensures.value w.has_tag.ensures w.if-not-has_tag.true) w.in_ok-push.ensures.items,
+        (lacks _ c.loop-ace.keys.items _ _ w.deref.ensures.value w.has_tag.ensures w.if-not-has_tag.true)
+        w.in_ok-push.ensures.items,
     length_more c.loop-ace.keys.items w.push.new.self.items _ c.loop-ace.ace-index w.in_ok-push.ensures.items few,
   )
   | else-has w ↦ rw w.keys-is (
     λ test. key_kept test c.loop-ace.keys.items c.args.aces.now c.loop-ace.ace-index c.args.right.bit
         c.ace-item.result _ c.loop-ace-test.true c.ace-item.is (elim w.else-has.branch [
-          | else-has-via-then-has+else-not-has_tag v ↦ λ h. there _ c.loop-ace.keys.items _ _ v.deref.ensures.value v.has_tag.ensures
+          | else-has-via-then-has+else-not-has_tag v ↦
+              λ h. there _ c.loop-ace.keys.items _ _ v.deref.ensures.value v.has_tag.ensures
               v.if-not-has_tag.false
           | else-has-via-else-has v ↦ λ h. absurd (true≢false (sym h ∙ (sym c.has.ensures ∙ v.if-has.false)))
         ]) (before test),

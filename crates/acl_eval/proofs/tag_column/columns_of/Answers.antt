@@ -26,7 +26,8 @@ returns-clause-few c =
     let few = c.in_ok-aces.ensures.few in record {
       read = few_keys c.in_ok-aces.aces.items c.deref.result.now c.in_ok-read.read.items c.deref.ensures.value few
           c.in_ok-read.ensures.few;
-      write = few_keys c.in_ok-aces.aces.items c.deref-2.result.now c.in_ok-write.write.items c.deref-2.ensures.value few
+      write =
+          few_keys c.in_ok-aces.aces.items c.deref-2.result.now c.in_ok-write.write.items c.deref-2.ensures.value few
           c.in_ok-write.ensures.few;
       append = few_keys c.in_ok-aces.aces.items c.deref-3.result.now c.in_ok-append.append.items c.deref-3.ensures.value
           few c.in_ok-append.ensures.few;

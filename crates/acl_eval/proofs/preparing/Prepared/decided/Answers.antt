@@ -14,7 +14,8 @@ use Rattle.acl_eval.proofs.preparing.Prepared.decided.Goals as goal
 
 pub returns-in_err-so_far-clause-answer : goal.returns-in_err-so_far-clause-answer
 returns-in_err-so_far-clause-answer c = λ list from.
-    absurd (false≢true (c.in_err-so_far.ensures (filter takes_part list) (all_parts list from.accepted.each) from.aces).0)
+    absurd (false≢true (c.in_err-so_far.ensures (filter takes_part list) (all_parts list from.accepted.each)
+    from.aces).0)
 
 pub returns-clause-allowed : goal.returns-clause-allowed
 returns-clause-allowed c = λ list from.

@@ -25,8 +25,8 @@ returns-then-is_unknown c = λ earlier list bit answer noted.
     (situation c.args.standing.now.object c.args.standing.now.requester) bit answer
     (sym c.takes_part.ensures ∙ c.if-not-takes_part.false) (sym c.is_unknown.ensures ∙ c.if-is_unknown.true)
     c.intersection-common.ensures.meaning (c.first_rights.ensures bit
-    ∙ ap (λ t. has_bit c.intersection-common.result.bits bit && not t) (noted bit c.args.item.now.who.now)) (c.with.ensures.possible bit answer)
-    (ap (λ m. has_bit m.bits bit) c.with.ensures.left)
+    ∙ ap (λ t. has_bit c.intersection-common.result.bits bit && not t) (noted bit c.args.item.now.who.now))
+    (c.with.ensures.possible bit answer) (ap (λ m. has_bit m.bits bit) c.with.ensures.left)
 
 pub returns-then-applies : goal.returns-then-applies
 returns-then-applies c = λ earlier list bit answer noted.

@@ -2,7 +2,7 @@ use Rattle.std.proofs.Common.{◌≡◌, ◌++◌, drop}
 use Rattle.acl_posix.specs.Check.{ids}
 use Rattle.acl_eval.specs.internal.LossBody.{key_numbers}
 use Rattle.acl_eval.specs.internal.ShapeBody.{keys_of}
-use Rattle.acl_eval.proofs.losing.add_keys.Given as goal
+use Rattle.acl_eval.proofs.losing.unused.add_keys.Given as goal
 
 -- the ids so far and those of the keys that are left are all
 abbrev pub invariant-loop-key : goal.invariant-loop-key

@@ -1,8 +1,8 @@
 use Rattle.std.proofs.Common.{◌∙◌, sym}
 use Rattle.acl_eval.specs.internal.ShapeBody.{keys_of}
 use Rattle.acl_eval.proofs.LossTags.{judged_more, tag_added, tag_passed}
-use Rattle.acl_eval.proofs.losing.allowed_tags.Goals.{then-is_allowed_in+in_ok-push, else-is_allowed_in}
-use Rattle.acl_eval.proofs.losing.allowed_tags.Goals as goal
+use Rattle.acl_eval.proofs.losing.tags.allowed_tags.Goals.{then-is_allowed_in+in_ok-push, else-is_allowed_in}
+use Rattle.acl_eval.proofs.losing.tags.allowed_tags.Goals as goal
 
 pub loop-key-preserved : goal.loop-key-preserved
 loop-key-preserved c = let (judged, tags) = c.loop-key.invariant in elim c.if-is_allowed_in.branch [

@@ -1,7 +1,7 @@
 use Rattle.std.proofs.Common.{◌≡◌, drop, false}
 use Rattle.acl_posix.specs.Tag.{tag_of}
 use Rattle.acl_eval.specs.internal.ShapeBody.{column_decided_by, is_certain, keys_of}
-use Rattle.acl_eval.proofs.losing.is_allowed_in.Given as goal
+use Rattle.acl_eval.proofs.losing.tags.is_allowed_in.Given as goal
 
 -- the keys that are left decide as all keys do
 abbrev pub invariant-loop-key : goal.invariant-loop-key

@@ -4,7 +4,7 @@ use Rattle.std.specs.Prelude.{map}
 use Rattle.acl_posix.specs.Tag.{tag_of}
 use Rattle.acl_eval.specs.internal.LossBody.{IsJudgedTag, allowed_tags}
 use Rattle.acl_eval.specs.internal.ShapeBody.{keys_of}
-use Rattle.acl_eval.proofs.losing.allowed_tags.Given as goal
+use Rattle.acl_eval.proofs.losing.tags.allowed_tags.Given as goal
 
 -- the tags so far, and those of the keys that are left, are those of all keys that allow
 abbrev pub invariant-loop-key : goal.invariant-loop-key

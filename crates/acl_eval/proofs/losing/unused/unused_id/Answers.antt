@@ -1,7 +1,7 @@
 use Rattle.std.proofs.Common.{◌+◌, ◌∙◌, arith, sym}
 use Rattle.acl_posix.specs.Check.{ids}
 use Rattle.acl_eval.proofs.UnusedIds.{below_ids, one_more}
-use Rattle.acl_eval.proofs.losing.unused_id.Goals as goal
+use Rattle.acl_eval.proofs.losing.unused.unused_id.Goals as goal
 
 pub loop-value-init : goal.loop-value-init
 loop-value-init c = (λ n below. absurd (omega (arith, below)), omega arith)

@@ -1,7 +1,7 @@
 use Rattle.std.proofs.Common.{◌∙◌}
 use Rattle.acl_posix.specs.Tag.{tag_of}
 use Rattle.acl_eval.proofs.LossTags.{place_is}
-use Rattle.acl_eval.proofs.losing.judged_tag.Goals as goal
+use Rattle.acl_eval.proofs.losing.tags.judged_tag.Goals as goal
 
 pub returns-clause-judged : goal.returns-clause-judged
 returns-clause-judged c = record {

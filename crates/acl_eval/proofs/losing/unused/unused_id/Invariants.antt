@@ -1,6 +1,6 @@
 use Rattle.std.proofs.Common.{◌≡◌, ◌≤◌, ◌<◌, ◌+◌, ◌-◌, ℕ, length, true}
 use Rattle.acl_posix.specs.Check.{ids, is_member}
-use Rattle.acl_eval.proofs.losing.unused_id.Given as goal
+use Rattle.acl_eval.proofs.losing.unused.unused_id.Given as goal
 
 -- each number below this one is used, so there are as many ids
 abbrev pub invariant-loop-value : goal.invariant-loop-value

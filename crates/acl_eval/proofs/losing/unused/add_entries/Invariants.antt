@@ -2,7 +2,7 @@ use Rattle.std.proofs.Common.{◌≡◌, ◌++◌, drop}
 use Rattle.acl_posix.specs.Check.{ids}
 use Rattle.acl_posix.specs.Entries.{pairs}
 use Rattle.acl_eval.specs.internal.LossBody.{entry_numbers}
-use Rattle.acl_eval.proofs.losing.add_entries.Given as goal
+use Rattle.acl_eval.proofs.losing.unused.add_entries.Given as goal
 
 -- the ids so far and those of the entries that are left are all
 abbrev pub invariant-loop-entry : goal.invariant-loop-entry
