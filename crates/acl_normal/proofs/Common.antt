@@ -38,7 +38,7 @@ pub use Rattle.acl_normal.specs.internal.emit.Emitted.{AreInRows, emitted_ace, e
 pub use Rattle.acl_normal.specs.internal.comparison.FirstPlaces.{AgreesAt, AreFirstFrom, ArePlacings, AreWhoms, IsPlacing, IsWhom, SameAlone, first_place, inverts, inverts_any, no_ace, no_placing}
 pub use Rattle.acl_normal.specs.internal.rows.Heads.{BeginsWith}
 pub use Rattle.acl_normal.specs.internal.Needed.{default_at}
-pub use Rattle.acl_normal.specs.internal.Passes.{Best, IsLeastCandidate, KeepsProfiles, conflicts_before, is_shadowed}
+pub use Rattle.acl_normal.specs.internal.Passes.{KeepsProfiles, conflicts_before}
 pub use Rattle.acl_normal.specs.internal.comparison.PlaceTables.{is_of_camp}
 pub use Rattle.acl_normal.specs.internal.Plain.{default, has_opposite, is_needed, needed_keys, reduced, unshadowed, without_principal}
 pub use Rattle.acl_normal.specs.internal.comparison.Directions.{differ}
@@ -52,7 +52,7 @@ pub use Rattle.acl_normal.specs.internal.rows.Rows.{AreRowNumbers, IsByPrincipal
 pub use Rattle.acl_normal.specs.internal.comparison.SamePlaces.{ArePlacesOf}
 pub use Rattle.acl_normal.specs.internal.comparison.SetSearch.{FindsFirst, GrantAlikeTo, IsGrantedTo, IsRisingSet, is_granted_to, principals}
 pub use Rattle.acl_normal.specs.internal.Shown.{aces_in, aces_with, mask_numbers, with_masks}
-pub use Rattle.acl_normal.specs.internal.comparison.TwoLists.{FindSet, ArePlacingsOf, TwoLists, all_mentioned, two_lists}
+pub use Rattle.acl_normal.specs.internal.comparison.TwoLists.{FindSet, TwoLists, all_mentioned, two_lists}
 pub use Rattle.acl_perm.proofs.Bools.{and_false_right, same_answers}
 pub use Rattle.acl_perm.proofs.Orders.{key_order, principal_exact, principal_order}
 pub use Rattle.acl_perm.proofs.Sets.{IsMask-lt, bits_from_mask, has_bit-and, has_bit-or, no_bit, same_set}

@@ -34,6 +34,10 @@ pub mod PairGrants
 pub mod RowFacts
 -- tables that show which placings invert another
 pub mod TableFacts
+-- the ACEs that have a right, and principals that none of them names
+pub mod ColumnLemmas
+-- the first principals at which two lists differ, right by right
+pub mod FoundLemmas
 -- the first small set, by least numbers
 pub mod Assembly
 -- what a difference has to have, so that an object, a requester and a right can be made of it

@@ -37,3 +37,7 @@ pub mod InRemaining
 pub mod RisingKeys
 -- the numbers of the keys show whether they rise, and the list without its empty ACEs is made place by place
 pub mod Risen
+-- what comes first in a list, found ACE by ACE from the front
+pub mod FirstOf
+-- a short list: what is left of it, turn by turn
+pub mod ShortTurns

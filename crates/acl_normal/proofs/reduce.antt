@@ -8,7 +8,7 @@ pub mod LaterBits
 pub mod Unneeded
 -- a list with reduced columns is irreducible and grants the same
 pub mod Reducing
--- loops over ACEs in memory, and what they gather bit by bit
+-- lists of the ACEs of the code, place by place, and where a key is free in two columns together
 pub mod Passes
 -- the plain reduction of a column decides alike, and is settled
 pub mod Reduced

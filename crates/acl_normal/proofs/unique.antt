@@ -42,7 +42,7 @@ pub mod Normal
 pub mod Small
 -- the weight of a list, bit by bit
 pub mod Weights
--- ACEs with fewer bits stay within what the list is within
+-- sets with fewer bits stay within what a set is within
 pub mod Kept
 -- lists that fit a profile grant nothing outside it
 pub mod Profiles
@@ -58,5 +58,5 @@ pub mod Forming
 pub mod Taken
 -- the five normal forms of a list, and what they say about the list
 pub mod FiveFormLemmas
--- which ACE comes first: of those that are free somewhere, the one with the least key
+-- the order of three keys, and the flags that a principal needs
 pub mod Candidates

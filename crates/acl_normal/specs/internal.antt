@@ -16,7 +16,7 @@ pub mod Reduced
 pub mod Counts
 -- how long lists and slices are, and how great indices
 pub mod Limits
--- the plain way to the normal form, pass by pass
+-- lists that keep within a profile, and keys that come before another
 pub mod Passes
 -- the lists of the code's ACEs, as plain data
 pub mod Shown

@@ -3,11 +3,13 @@ ghost use Rattle.std.specs.Prelude.{◌<◌, ◌≤◌, All, length};
 ghost use Rattle.acl_normal.specs.OneRight.{IsOneRight};
 
 mod apart;
+pub(crate) mod columns;
 pub(crate) mod compared;
 mod comparing;
 pub(crate) mod direction;
 pub(crate) mod evaluation;
 mod exceeding;
+pub(crate) mod found;
 mod implying;
 mod inversions;
 pub(crate) mod members;

@@ -4,3 +4,4 @@ pub(crate) mod emission;
 pub(crate) mod queues;
 pub(crate) mod ready;
 pub(crate) mod rising;
+pub(crate) mod short;

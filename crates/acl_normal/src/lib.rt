@@ -16,6 +16,7 @@ pub mod plain;
 mod reduce;
 mod row_lines;
 mod rows;
+mod short_form;
 #[cfg(test)]
 mod tests;
 mod whom;

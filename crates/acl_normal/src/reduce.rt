@@ -6,13 +6,13 @@ ghost use Rattle.acl_normal.specs.internal.Limits.{list_limit};
 ghost use Rattle.acl_normal.specs.internal.rows.Remaining.{HasNumbers, reduced_aces};
 
 pub(crate) mod collected;
-mod first;
-mod needless;
+pub(crate) mod first;
+pub(crate) mod needless;
 
 use crate::reduce::collected::collect;
 use crate::reduce::first::first_masks;
 use crate::reduce::needless::drop_needless;
-use crate::rows::numbers::{RowNumbers, row_numbers};
+use crate::rows::numbers::row_numbers;
 use crate::rows::remaining::{Reduced, Remaining};
 use acl_nfs4::{AceRef, Acl, AclView};
 use acl_perm::Mask;
@@ -54,7 +54,7 @@ pub(crate) fn reduced_list<'a>(alloc: Global, list: &AclView<'a>) -> Result<Redu
 {
     let aces = collect(alloc, list)?;
     let numbers = row_numbers(alloc, &aces)?;
-    let masks = reduced_masks(alloc, &aces, &numbers)?;
+    let masks = reduced_masks(alloc, &aces, &numbers.rows)?;
     Ok(Reduced {
         aces,
         masks,
@@ -62,19 +62,20 @@ pub(crate) fn reduced_list<'a>(alloc: Global, list: &AclView<'a>) -> Result<Redu
     })
 }
 
-// By place, the masks of the ACEs without the rights that play no part.
-fn reduced_masks(
+/// Returns, by place, the masks of the ACEs without the rights that play no part. `rows` has the row of the principal,
+/// by place.
+pub(crate) fn reduced_masks(
     alloc: Global,
     aces: &[AceRef<'_>],
-    numbers: &RowNumbers,
+    rows: &[usize],
 ) -> Result<Vec<Mask>, AllocError>
     requires accepted { IsAccepted full (aces_in aces.now) }
-    requires rows { AreRowNumbers (aces_in aces.now) numbers.now.rows.items }
+    requires rows { AreRowNumbers (aces_in aces.now) rows.now }
     ensures places { IfOk result (λ masks. vec_len masks ≡ length aces.now) }
     ensures reduced { IfOk result (λ masks. IsReducedOf (aces_in aces.now)
         (aces_with aces.now masks.items)) }
 {
-    let mut masks = first_masks(alloc, aces, &numbers.rows)?;
+    let mut masks = first_masks(alloc, aces, rows)?;
     drop_needless(aces, &mut masks);
     Ok(masks)
 }

@@ -15,6 +15,6 @@ mod implications;
 mod merged_rows;
 mod names;
 mod needed_rights;
-mod plain_forms;
+mod short_forms;
 mod small_situations;
 mod tables;

@@ -1,15 +1,13 @@
 -- The least number of a principal at which two lists do not grant the same, bit by bit.
-use Rattle.acl_normal.proofs.Common.{[], Ace, AgreesAt, all_mentioned, all_rights, AllByRecursion, AllZip, ap, AreFirstFrom, ArePlacings, arith, cases_eq, cases_lt, drop, everyone, false, get_or_read, has_bit, inl, inr, inverts, inverts_any, is_allow, is_among, is_granted_to, is_user, is_users, IsPlacing, length, length-map, List, map-append, no_placing, Principal, principal, principals, refl, SameAlone, slice_index_or, Placing, subst, sym, take, take_more, true, TwoLists, verdict, ℕ, ◌++◌, ◌+◌, ◌<◌, ◌∙◌, ◌∷◌, ◌≡◌, ◌≤◌, ◌⊎◌}
-use Rattle.std.proofs.Common.{suc}
+use Rattle.acl_normal.proofs.Common.{[], Ace, AgreesAt, all_mentioned, all_rights, AllZip, ap, AreFirstFrom, ArePlacings, arith, cases_eq, cases_lt, everyone, false, get_or_read, has_bit, inl, inr, is_allow, is_among, is_granted_to, is_user, is_users, IsPlacing, length, length-map, List, map-append, no_placing, Principal, principal, principals, refl, slice_index_or, Placing, subst, sym, take, take_more, true, TwoLists, verdict, ℕ, ◌++◌, ◌+◌, ◌<◌, ◌∙◌, ◌∷◌, ◌≡◌, ◌≤◌, ◌⊎◌}
 use Rattle.acl_perm.specs.declared.principal.Principal.{Principal as PrincipalRef}
-use Rattle.acl_normal.proofs.Each.{all_at, zip_at, zip_length, zip_push, zip_drop}
+use Rattle.acl_normal.proofs.Each.{zip_at, zip_length, zip_push}
 use Rattle.acl_normal.proofs.unique.Bits.{below}
 use Rattle.acl_normal.proofs.comparison.Directions.{both_differ, differ_moved, never_itself}
 use Rattle.acl_normal.proofs.comparison.Numbers.{principal_numbered}
-use Rattle.acl_normal.proofs.comparison.PairGrants.{agrees_from_rows, inverted_differ, not_agrees_from_rows, not_inverted}
-use Rattle.acl_normal.specs.internal.comparison.FirstPlaces.{AlikeAlone, AlikeWith, AlikeWithAll, IsFirst, IsFirstBelow, IsFirstFrom, IsLeast, OnAll, is_unlike, no_first}
+use Rattle.acl_normal.specs.internal.comparison.FirstPlaces.{AlikeAlone, IsFirst, IsFirstFrom, IsLeast, OnAll, is_unlike, no_first}
 use Rattle.acl_normal.specs.internal.comparison.SetSearch.{AlikeAt}
-use Rattle.acl_normal.specs.internal.comparison.TwoLists.{AlikeToOne, AlikeToPair, AlikeToPairs, AreAlikeAlone, ArePlacingsOf, HaveSameColumn, later_than, principal_at}
+use Rattle.acl_normal.specs.internal.comparison.TwoLists.{AlikeToOne, AlikeToPairs, HaveSameColumn, principal_at}
 use Rattle.acl_normal.specs.declared.comparison.direction.Direction.{Direction}
 use Rattle.acl_normal.specs.declared.class.Class.{Class}
 use Rattle.acl_normal.specs.declared.comparison.placing.First.{First}
@@ -57,12 +55,6 @@ row_at ps xs ys b k rows lt z = zip_at (IsPlacing xs ys b) ps rows k everyone no
 pub rows_length : (ps : List Principal) {xs ys : List Ace} {b : ℕ} {rows : List Placing} → ArePlacings ps xs ys b rows
     → length rows ≡ length ps
 rows_length ps {xs} {ys} {b} {rows} h = zip_length (IsPlacing xs ys b) ps rows h.each
-
--- a limit within the principals is within their placings
-pub rows_limit : (ps : List Principal) {xs ys : List Ace} {b : ℕ} {rows shown : List Placing} {limit : ℕ}
-    → ArePlacings ps xs ys b rows → shown ≡ rows → limit ≤ length ps → limit ≤ length shown
-rows_limit ps h is within =
-    omega (arith, rows_length ps h, ap length is, within)
 
 -- the least number so far, after some bits
 pub record Least (Q : ℕ → ℕ → Type 0) (n bit least : ℕ) : Type 0 where
@@ -117,114 +109,6 @@ pub not_alone_from_row : (way : Direction) (ps : List Principal) (xs ys : List A
 not_alone_from_row way ps xs ys b k rows lt h n = let r = row_at ps xs ys b k rows lt h.each in
     both_differ way _ _ (differ_moved way (sym r.here.allows) (sym r.there.allows) n)
 
--- the search for the first single principal continues with the next bit
-pub single_step : (way : Direction) {own : Direction} {ps : List Principal} {xs ys : List Ace} {bit old new : ℕ}
-    {rows : List Placing} → own ≡ way → ArePlacings ps xs ys bit rows → has_bit all_rights bit ≡ true
-    → IsFirstBelow (is_unlike own) rows old new
-    → Least (AlikeAlone way xs ys ps) (length ps) bit old
-    → Least (AlikeAlone way xs ys ps) (length ps) (bit + 1) new
-single_step way {own} {ps} {xs} {ys} {bit} {old} {new} {rows} same h has found l =
-    let first : IsFirstBelow (is_unlike way) rows old new =
-    subst (λ v. IsFirstBelow (is_unlike v) rows old new) same found in
-    let le = first.within in
-    least_step (AlikeAlone way xs ys ps) (length ps) bit old new le
-    (λ k lt. alone_from_row way ps xs ys bit k rows (omega (arith, l.within)) h (first.before k lt))
-    (λ lt all. not_alone_from_row way ps xs ys bit new rows (omega (arith, l.within)) h (first.at lt) (all bit has)) l
-
--- if the lists do not differ for any principal alone, no placing is unlike
-pub all_alone : (way : Direction) (ps : List Principal) (xs ys : List Ace) (b : ℕ) (rows : List Placing)
-    → AllZip (IsPlacing xs ys b) ps rows
-    → ((k : ℕ) → k < length ps → AlikeAlone way xs ys ps b k) → AllByRecursion (SameAlone way) rows
-all_alone way [] xs ys b [] z h = tt
-all_alone way (p ∷ ps) xs ys b (r ∷ rows) z h = (
-  differ_moved way z.0.here.allows z.0.there.allows (h 0 (omega arith)),
-  all_alone way ps xs ys b rows z.1 (λ k lt. h (suc k) (omega arith)),
-)
-all_alone way _ xs ys b _ z h = absurd z
-
--- the search for the first member of a pair continues with the next bit
-pub member_step : (way : Direction) {own : Direction} {ps : List Principal} {xs ys : List Ace} {bit old new : ℕ}
-    {rows : List Placing} → own ≡ way → ArePlacings ps xs ys bit rows
-    → ((k : ℕ) → k < length ps → OnAll (AlikeAlone way xs ys ps) k)
-    → has_bit all_rights bit ≡ true → IsFirstBelow (λ r. inverts_any own r rows) rows old new
-    → Least (AlikeWithAll way xs ys ps) (length ps) bit old
-    → Least (AlikeWithAll way xs ys ps) (length ps) (bit + 1) new
-member_step way {own} {ps} {xs} {ys} {bit} {old} {new} {rows} is h alone has found l =
-    let first : IsFirstBelow (λ r. inverts_any way r rows) rows old new =
-    subst (λ v. IsFirstBelow (λ r. inverts_any v r rows) rows old new) is found in
-    let le = first.within in
-    let same : AllByRecursion (SameAlone way) rows =
-    all_alone way ps xs ys bit rows h.each (λ k lt. alone k lt bit has) in
-    let count : length rows ≡ length ps = rows_length ps h in
-    least_step (AlikeWithAll way xs ys ps) (length ps) bit old new le
-    (λ k lt. agrees_from_rows way xs ys bit (slice_index_or ps k everyone) (slice_index_or rows k no_placing) ps rows
-    (row_at ps xs ys bit k rows (omega (arith, l.within)) h.each)
-    (all_at (SameAlone way) rows k no_placing (omega (arith, l.within)) same) h.each (first.before k lt))
-    (λ lt all. not_agrees_from_rows way xs ys bit (slice_index_or ps new everyone)
-    (slice_index_or rows new no_placing) ps rows
-    (row_at ps xs ys bit new rows (omega (arith, l.within)) h.each) h.each (first.at lt) (all bit has)) l
-
--- the search for the first partner of a principal continues with the next bit
-pub partner_step : (way : Direction) (p : Principal) (r : Placing) (ps : List Principal) (xs ys : List Ace)
-    (bit old new : ℕ) (rows : List Placing) → IsPlacing xs ys bit p r → SameAlone way r → ArePlacings ps xs ys bit rows
-    → has_bit all_rights bit ≡ true → IsFirstBelow (inverts way r) rows old new
-    → Least (AlikeWith way xs ys p ps) (length ps) bit old → Least (AlikeWith way xs ys p ps) (length ps) (bit + 1) new
-partner_step way p r ps xs ys bit old new rows hp sp h has first l =
-    let le = first.within in
-    let count : length rows ≡ length ps = rows_length ps h in
-    least_step (AlikeWith way xs ys p ps) (length ps) bit old new le
-    (λ k lt o. not_inverted way xs ys bit p (slice_index_or ps k everyone) r (slice_index_or rows k no_placing) hp
-    (row_at ps xs ys bit k rows (omega (arith, l.within)) h.each) sp (first.before k lt) o)
-    (λ lt all. let d = inverted_differ way xs ys bit p (slice_index_or ps new everyone) r
-    (slice_index_or rows new no_placing) hp
-    (row_at ps xs ys bit new rows (omega (arith, l.within)) h.each) (first.at lt) in d.1 (all bit has d.0)) l
-
--- there are as many later placings as later principals
-pub others_length : (ps : List Principal) {xs ys : List Ace} {b : ℕ} (at : ℕ) {items slice others : List Placing}
-    → ArePlacings ps xs ys b items → slice ≡ items → others ≡ drop (at + 1) slice
-    → length others ≡ length (drop (at + 1) ps)
-others_length ps {xs} {ys} {b} at {items} h is split = ap length (split ∙ ap (drop (at + 1)) is)
-    ∙ zip_length (IsPlacing xs ys b) (drop (at + 1) ps) (drop (at + 1) items)
-    (zip_drop (IsPlacing xs ys b) (at + 1) ps items h.each)
-
--- the search for the first partner continues with the next bit, with the placings as the code holds them
-pub partner_loop : (way : Direction) {own : Direction} {ps : List Principal} {xs ys : List Ace} {bit at old new : ℕ}
-    {row : Placing} {items slice others : List Placing} → own ≡ way → at < length ps → ArePlacings ps xs ys bit items
-    → slice ≡ items
-    → others ≡ drop (at + 1) slice → row ≡ slice_index_or items at row
-    → ((k : ℕ) → k < length ps → OnAll (AlikeAlone way xs ys ps) k) → has_bit all_rights bit ≡ true
-    → IsFirstBelow (inverts own row) others old new
-    → Least (AlikeWith way xs ys (slice_index_or ps at everyone) (drop (at + 1) ps)) (length (drop (at + 1) ps)) bit old
-    → Least (AlikeWith way xs ys (slice_index_or ps at everyone) (drop (at + 1) ps)) (length (drop (at + 1) ps))
-    (bit + 1) new
-partner_loop way {own} {ps} {xs} {ys} {bit} {at} {old} {new} {row} {items} {slice} {others} oe lt h is split read alone
-    has found l =
-    let first : IsFirstBelow (inverts way row) others old new =
-    subst (λ v. IsFirstBelow (inverts v row) others old new) oe found in
-    let count : length items ≡ length ps = rows_length ps h in
-    let same : AllByRecursion (SameAlone way) items =
-    all_alone way ps xs ys bit items h.each (λ k lk. alone k lk bit has) in
-    let own : row ≡ slice_index_or items at no_placing = get_or_read items at row (omega arith) read no_placing in
-    let rest : others ≡ drop (at + 1) items = split ∙ ap (drop (at + 1)) is in
-    partner_step way (slice_index_or ps at everyone) row (drop (at + 1) ps) xs ys bit old new others
-    (subst (λ v. IsPlacing xs ys bit (slice_index_or ps at everyone) v) (sym own)
-    (row_at ps xs ys bit at items lt h.each))
-    (subst (λ v. SameAlone way v) (sym own) (all_at (SameAlone way) items at no_placing (omega arith) same))
-    (record {
-      each = subst (λ v. AllZip (IsPlacing xs ys bit) (drop (at + 1) ps) v) (sym rest)
-          (zip_drop (IsPlacing xs ys bit) (at + 1) ps items h.each);
-    }) has first l
-
--- if the lists do not differ for any principal alone, no placing that the code holds is unlike
-pub slice_alone : (both : TwoLists) {own : Direction} {bit : ℕ} {items slice : List Placing} → own ≡ both.direction
-    → slice ≡ items → AreAlikeAlone both → has_bit all_rights bit ≡ true → ArePlacingsOf both bit items
-    → AllByRecursion (SameAlone own) slice
-slice_alone both {own} {bit} {items} {slice} oe is alone has h =
-    subst (λ v. AllByRecursion (SameAlone v) slice) (sym oe)
-    (subst (AllByRecursion (SameAlone both.direction)) (sym is)
-    (all_alone both.direction (all_mentioned both) both.first both.second bit items h.each
-    (λ k lk. alone k lk bit has)))
-
 -- ---- two lists that are compared
 
 -- lists with the same column at a bit do not differ on it for any set
@@ -248,20 +132,3 @@ same_one both bit h k = same_alike both bit (principal_at both k ∷ []) h
 -- lists with the same column at a bit grant it alike to each principal with all
 pub same_pairs : (both : TwoLists) (bit : ℕ) → HaveSameColumn both bit → (k : ℕ) → AlikeToPairs both bit k
 same_pairs both bit h k = same_agree both bit (principal_at both k) (all_mentioned both) h
-
--- lists with the same column at a bit grant it alike to a principal with each one after it
-pub same_pair : (both : TwoLists) (at bit : ℕ) → HaveSameColumn both bit → (k : ℕ) → AlikeToPair both at bit k
-same_pair both at bit h k _ =
-    same_alike both bit (principal_at both at ∷ slice_index_or (later_than both at) k everyone ∷ []) h
-
--- the number, after some bits, of the first principal to whom alone the lists do not grant the same
-abbrev pub LeastSingle : TwoLists → ℕ → ℕ → Type 0
-LeastSingle both bit least = Least (AlikeToOne both) (length (all_mentioned both)) bit least
-
--- the number, after some bits, of the first principal of a pair to whom the lists do not grant the same
-abbrev pub LeastMember : TwoLists → ℕ → ℕ → Type 0
-LeastMember both bit least = Least (AlikeToPairs both) (length (all_mentioned both)) bit least
-
--- the number, after some bits, of the first later principal that differs in a pair with a principal
-abbrev pub LeastPartner : TwoLists → ℕ → ℕ → ℕ → Type 0
-LeastPartner both at bit least = Least (AlikeToPair both at) (length (later_than both at)) bit least

@@ -1,5 +1,5 @@
 -- Tables that show which placings invert another.
-use Rattle.acl_normal.proofs.Common.{Ace, AllByRecursion, AllZip, Allow, Bool, Deny, IsPlacing, List, Principal, ArePlacingsOf, Placing, SameAlone, TwoLists, [], all_mentioned, and_parts, ap, arith, cases_eq, cases_lt, cond, differ, eq-eqb, false, false≢true, first_place, get_or-replicate, get_or-set_other, get_or-set_same, get_or_default, get_or_read, inl, inr, inverts, inverts_any, is_of_camp, is_users, le-ltb, length, length-replicate, length-set, max, nat_lt, ne_eqb, no_placing, not, or_cases, refl, replicate, slice_index_or, slice_set, subst, sym, take, take_more, true, ℕ, ◌&&◌, ◌++◌, ◌+◌, ◌-◌, ◌<◌, ◌==◌, ◌||◌, ◌∙◌, ◌∷◌, ◌≡◌, ◌≤◌, ◌⊎◌}
+use Rattle.acl_normal.proofs.Common.{Ace, AllByRecursion, AllZip, Allow, Bool, Deny, IsPlacing, List, Principal, Placing, SameAlone, [], and_parts, ap, arith, cases_eq, cases_lt, cond, differ, eq-eqb, false, false≢true, first_place, get_or-replicate, get_or-set_other, get_or-set_same, get_or_default, get_or_read, inl, inr, inverts, inverts_any, is_of_camp, is_users, le-ltb, length, length-replicate, length-set, max, nat_lt, ne_eqb, no_placing, not, or_cases, refl, replicate, slice_index_or, slice_set, subst, sym, take, take_more, true, ℕ, ◌&&◌, ◌++◌, ◌+◌, ◌-◌, ◌<◌, ◌==◌, ◌||◌, ◌∙◌, ◌∷◌, ◌≡◌, ◌≤◌, ◌⊎◌}
 use borrow.Author.Count.{below_more}
 use Rattle.std.proofs.lemmas.Bool.Decides.{nat_tests}
 use Rattle.std.proofs.lemmas.List.{get_or-take, length-take-le}
@@ -7,7 +7,6 @@ use Rattle.acl_normal.proofs.Each.{all_at}
 use Rattle.acl_normal.specs.internal.comparison.Directions.{differ_in}
 use Rattle.acl_normal.specs.internal.comparison.FirstPlaces.{IsFirstBelow, earlier_allows}
 use Rattle.acl_normal.specs.internal.comparison.PlaceTables.{IsFirstOf, IsPlaceTable, IsScattered, IsPlacingWithin, Raises, camp_of, has_kind, is_counted, is_inverting, is_wanted, most_at, most_before, other_place, place_of, wants}
-use Rattle.acl_normal.specs.internal.comparison.TwoLists.{AreWithin}
 use Rattle.acl_normal.specs.declared.class.Class.{Class}
 use Rattle.acl_normal.specs.declared.class.Class.TheVariants.{Others, Users}
 use Rattle.acl_normal.specs.declared.comparison.direction.Direction.{Direction}
@@ -320,13 +319,6 @@ rows_within (p ∷ ps) xs ys b size (r ∷ rows) lx ly z = (
   rows_within ps xs ys b size rows lx ly z.1,
 )
 rows_within _ xs ys b size _ lx ly z = absurd z
-
--- the places of the placings that the code holds are within the lists
-pub slice_within : (both : TwoLists) {bit size : ℕ} {items slice : List Placing} → slice ≡ items → AreWithin both size
-    → ArePlacingsOf both bit items → AllByRecursion (IsPlacingWithin size) slice
-slice_within both {bit} {size} {items} is within h =
-    subst (AllByRecursion (IsPlacingWithin size)) (sym is)
-    (rows_within (all_mentioned both) both.first both.second bit size items within.first within.second h.each)
 
 -- a placing of the first part of a list has its place in the whole list too
 pub near_is : (rows : List Placing) {near : List Placing} {limit k : ℕ} (d : Placing) → near ≡ take limit rows

@@ -25,7 +25,7 @@ opposite_bools : (up uq k x y : Bool)
 opposite_bools up uq k x y = grind arith
 
 -- if a column lacks a principal, an opposite key is one of the other kind in a class that overlaps
-opposite_is : (d : Kind) (p : Principal) (c : Column) → first_kind (is_either p p) c ≡ None
+pub opposite_is : (d : Kind) (p : Principal) (c : Column) → first_kind (is_either p p) c ≡ None
     → has_opposite d p c ≡ (some_of (other_kind d) false c || (not (is_user p) && some_of (other_kind d) true c))
 opposite_is d p [] h = grind arith
 opposite_is d p ((q, j) ∷ c) h = go (principal_eq q p) refl (opposite_is d p c)

@@ -8,7 +8,7 @@ pub key_itself : (k : ColumnKey) → compare_keys k k ≡ Equal
 key_itself k = (key_order.equal (key_record k) (key_record k)).1 refl
 
 -- keys that are equal in the order are equal
-key_equal : (k l : ColumnKey) → compare_keys k l ≡ Equal → k ≡ l
+pub key_equal : (k l : ColumnKey) → compare_keys k l ≡ Equal → k ≡ l
 key_equal k l h = ap (λ v. (v.principal, v.kind)) ((key_order.equal (key_record k) (key_record l)).0 h)
 
 -- two keys, each at most the other, are one

@@ -1,30 +1,11 @@
 -- Lists whose columns are irreducible, and normal forms.
-use Rattle.acl_normal.proofs.Common.{[], Ace, ace_key, all_rights, ap, arith, bit_at-zero, Column, column, default, Deny, false, false≢true, first_kind, has_bit, HasMasks, HasName, HasNames, HasNoEmptyMask, HasNormalFlags, HasOnlyNeeded, HaveNames, is_either, is_inherit_only, IsAlike, IsEmission, IsIrreducible, IsIrreducibleList, IsNormal, IsQuiet, IsSubset, Kind, List, matches, None, not, Option, Principal, principal_of, reduced, refl, SameGrants, Some, subst, sym, true, unshadowed, unwrap_or, verdict, without_bit, ℕ, ◌&&◌, ◌++◌, ◌∙◌, ◌∷◌, ◌≡◌}
+use Rattle.acl_normal.proofs.Common.{[], Ace, ace_key, all_rights, ap, arith, bit_at-zero, column, false, has_bit, HasMasks, HasNoEmptyMask, HasNormalFlags, HasOnlyNeeded, is_inherit_only, IsEmission, IsIrreducible, IsIrreducibleList, IsNormal, IsQuiet, IsSubset, List, matches, not, principal_of, refl, SameGrants, subst, sym, true, verdict, without_bit, ℕ, ◌&&◌, ◌++◌, ◌∙◌, ◌∷◌, ◌≡◌}
 use mathlib.Core.Logic.Iff.{trans}
-use Rattle.acl_normal.proofs.Each.{at_split, from_splits}
-use Rattle.acl_normal.proofs.unique.Names.{overlaps_itself, either_first}
-use Rattle.acl_normal.proofs.unique.FirstKind.{alike_agree, clique_of, only_at}
-use Rattle.acl_normal.proofs.unique.ListColumns.{column_without, same_grants_from_columns, same_verdicts, names_in_column}
-use Rattle.acl_normal.proofs.unique.SameOrder.{has_once}
-use Rattle.acl_normal.proofs.unique.Shorter.{first_kind_after}
-use Rattle.acl_normal.proofs.unique.Settled.{settled_alike, settled_irreducible}
+use Rattle.acl_normal.proofs.Each.{at_split}
+use Rattle.acl_normal.proofs.unique.ListColumns.{column_without, same_grants_from_columns, same_verdicts}
 use Rattle.acl_normal.proofs.unique.Invariant.{irreducible_alike, same_by_alike}
-use Rattle.acl_normal.proofs.reduce.Reduced.{same_reduced, reduced_settled}
 use Rattle.acl_normal.proofs.unique.Columns.{column-append, no_inherit_only}
 use Rattle.acl_normal.proofs.unique.IrreducibleLists.{irreducible_column}
-
--- the principals of a column have names if those of an alike column have
-named_alike : (c d : Column) → HaveNames c → IsAlike c d → HaveNames d
-named_alike c d names a =
-    from_splits (λ e. HasName e.0) d (λ l e r is. at l e.0 e.1 r is (first_kind (is_either e.0 e.0) d) refl)
-  where
-    at : (l : Column) (p : Principal) (k : Kind) (r : Column) → d ≡ l ++ (p, k) ∷ r → (o : Option Kind)
-        → first_kind (is_either p p) d ≡ o → HasName p
-    at l p k r is None h =
-        let lacks = first_kind_after (is_either p p) l p k r (sym (ap (first_kind (is_either p p)) is) ∙ h) in
-        absurd (false≢true (sym lacks ∙ either_first p p))
-    at l p k r is (Some j) h = let has = has_once c p j (a p p (overlaps_itself p) ∙ h) in
-        only_at HasName c has.before has.after p j has.is names
 
 -- an ACE of a quiet list that takes no part has no bit
 pub quiet_at : (l : List Ace) (a : Ace) (r : List Ace) → IsQuiet (l ++ a ∷ r) → is_inherit_only a ≡ true → a.mask ≡ 0
@@ -69,28 +50,6 @@ only_needed xs masks quiet irr l a r b is has same =
 pub irreducible_list : (xs : List Ace) → HasNoEmptyMask xs → HasMasks xs → IsQuiet xs
     → ((b : ℕ) → IsIrreducible (column xs b)) → IsIrreducibleList xs
 irreducible_list xs full masks quiet irr = record { no_empty_mask = full; needed = only_needed xs masks quiet irr }
-
--- what is emitted from the reduced columns of a list is its normal form
-pub emitted_is_normal : (xs rest ns : List Ace) → ((b : ℕ) → column rest b ≡ reduced (column xs b)) → HasNames rest
-    → IsEmission rest ns → HasMasks ns → IsNormal ns × SameGrants all_rights xs ns
-emitted_is_normal xs rest ns columns names emitted masks = (
-  record {
-    irreducible = irreducible_list ns emitted.masks masks (quiet_flags ns emitted.flags) irr;
-    ordered = emitted.ordered;
-    flags = emitted.flags;
-  },
-  same_grants_from_columns xs ns (λ b inside s valid.
-      sym (same_reduced (matches s) (column xs b) (clique_of s) refl)
-      ∙ ap (verdict (matches s)) (sym (columns b))
-      ∙ ap (λ o. unwrap_or o Deny) (alike_agree (matches s) (column rest b) (column ns b) (clique_of s)
-      (emitted.alike b))),
-)
-  where
-    irr : (b : ℕ) → IsIrreducible (column ns b)
-    irr b = settled_irreducible (column ns b) (default (unshadowed [] (column xs b))) (emitted.once b)
-        (named_alike (column rest b) (column ns b) (names_in_column b rest names) (emitted.alike b))
-        (settled_alike (column rest b) (column ns b) (default (unshadowed [] (column xs b))) (emitted.alike b)
-        (rw (columns b) (reduced_settled (column xs b))))
 
 -- what is emitted from an irreducible list with the grants of another is the normal form of both
 pub emission_of_irreducible : (xs rest ns : List Ace) → IsIrreducibleList rest → SameGrants all_rights xs rest

@@ -12,3 +12,5 @@ pub mod Queues
 pub mod Ready
 -- lists whose keys rise
 pub mod Rising
+-- the emission of a short list
+pub mod Short

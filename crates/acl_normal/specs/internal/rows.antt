@@ -12,3 +12,5 @@ pub mod RowNumbers
 pub mod Rows
 -- lists of the places that wait
 pub mod Waiting
+-- rows of principals by counting
+pub mod Counted

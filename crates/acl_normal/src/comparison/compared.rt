@@ -1,19 +1,19 @@
 //! Two lists that are compared. What the search needs again and again is computed once: which principals the lists
 //! mention, which of these each ACE names, and on which rights the lists may differ.
 ghost use Rattle.std.specs.Prelude.{◌<◌, ◌≡◌};
-ghost use Rattle.acl_normal.specs.Common.{AreAlikeTo, AreMentioned, AreNumbered, IfOk, IsGrantedTo, OnFalse, OnTrue, [], aces_in, all_mentioned, all_rights, false, has_bit, length, members_of, principal, set_of, true, two_lists, ℕ};
+ghost use Rattle.acl_normal.specs.Common.{AllByRecursion, AreAlikeTo, AreMentioned, AreNumbered, IfOk, IsGrantedTo, OnFalse, OnTrue, [], aces_in, all_mentioned, all_rights, false, has_bit, length, map, members_of, principal, principals, set_of, true, two_lists, ℕ};
 ghost use Rattle.acl_normal.specs.internal.comparison.Directions.{differ_in};
-ghost use Rattle.acl_normal.specs.internal.comparison.TwoLists.{AreWithin, HaveSameColumn, ArePlacingsOf, principal_at};
-ghost use Rattle.acl_normal.specs.internal.Limits.{slice_limit};
+ghost use Rattle.acl_normal.specs.internal.comparison.TwoLists.{HaveSameColumn, principal_at};
+ghost use Rattle.acl_normal.specs.internal.comparison.Columns.{AreColumnsOf, AreRightsByNumber};
 
 use super::apart::rights_apart;
+use super::columns::{Columns, Numbers, add_rights, column_of, numbers_with};
 use super::direction::Direction;
 use super::evaluation::granted_to;
 use super::members::Members;
 use super::mentioned::Mentions;
-use super::placing::{Placing, Whom, firsts};
+use super::placing::Whom;
 use super::small_set::SmallSet;
-use crate::class::Class;
 use acl_nfs4::AceRef;
 use acl_perm::internal::Bit;
 use acl_perm::{Mask, Principal};
@@ -102,14 +102,6 @@ impl<'a, 'b> Compared<'a, 'b> {
         mentioned[number]
     }
 
-    /// Returns how many ACEs the longer list has.
-    pub(crate) fn longer(&self) -> usize
-        ensures within { AreWithin self.now result }
-        ensures small { result < slice_limit }
-    {
-        self.first.len().max(self.second.len())
-    }
-
     /// Returns false only if both lists have the same ACEs with the right, in the same order.
     pub(crate) fn may_differ(&self, right: Bit) -> bool
         ensures right { result ≡ true → has_bit all_rights right.bit ≡ true }
@@ -159,21 +151,51 @@ impl<'a, 'b> Compared<'a, 'b> {
         granted_to(self.second, self.second_whoms, members)
     }
 
-    /// Returns, for each mentioned principal, the first ACE with the right that concerns it in each list.
-    pub(crate) fn placings(&self, alloc: Global, right: Bit) -> Result<Vec<Placing>, AllocError>
-        ensures { IfOk result (λ v. ArePlacingsOf self.now right.bit v.items) }
+    /// Returns, by number, the rights of the ACEs that name each mentioned principal.
+    pub(crate) fn rights_by_number(&self, alloc: Global) -> Result<Vec<Mask>, AllocError>
+        ensures { IfOk result (λ v. AreRightsByNumber self.now v.items) }
     {
-        let mentioned = self.mentioned;
-        let here = firsts(alloc, mentioned, self.first, self.first_whoms, right)?;
-        let there = firsts(alloc, mentioned, self.second, self.second_whoms, right)?;
-        let mut placings = Vec::with_capacity(alloc, mentioned.len())?;
-        for (i, p) in mentioned.iter().enumerate() {
-            placings.push(Placing {
-                here: here[i],
-                there: there[i],
-                class: Class::of(*p),
-            })?;
+        let mut rights = vec![in alloc; Mask::NONE; self.mentioned.len()]?;
+        add_rights(&mut rights, self.first, self.first_whoms);
+        add_rights(&mut rights, self.second, self.second_whoms);
+        Ok(rights)
+    }
+
+    /// Returns the ACEs of both lists that have the right, and the principals that they name.
+    pub(crate) fn columns(
+        &self,
+        alloc: Global,
+        right: Bit,
+        rights: &[Mask],
+    ) -> Result<Columns<'a>, AllocError>
+        requires { AreRightsByNumber self.now rights.now }
+        ensures { IfOk result (AreColumnsOf self.now right.bit) }
+    {
+        let Numbers { numbers, places } = numbers_with(alloc, rights, right)?;
+        let first = column_of(alloc, self.first, self.first_whoms, &places, right)?;
+        let second = column_of(alloc, self.second, self.second_whoms, &places, right)?;
+        let principals = self.principals_at(alloc, &numbers)?;
+        Ok(Columns {
+            numbers,
+            principals,
+            first,
+            second,
+        })
+    }
+
+    // The mentioned principals with these numbers.
+    fn principals_at(
+        &self,
+        alloc: Global,
+        numbers: &[usize],
+    ) -> Result<Vec<Principal<'a>>, AllocError>
+        requires { AllByRecursion (λ k. k < length (all_mentioned self.now)) numbers.now }
+        ensures { IfOk result (λ v. principals v.items ≡ map (principal_at self.now) numbers.now) }
+    {
+        let mut found = Vec::with_capacity(alloc, numbers.len())?;
+        for number in numbers {
+            found.push(self.principal(*number))?;
         }
-        Ok(placings)
+        Ok(found)
     }
 }

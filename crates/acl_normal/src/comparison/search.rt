@@ -1,13 +1,16 @@
 //! The search for the first small set at which two lists differ in a direction. A test of each pair of principals would
 //! take time that grows with the square of their number, so the search finds one principal of the pair first, and then
 //! the other.
-ghost use Rattle.std.specs.Prelude.{◌<◌};
-ghost use Rattle.acl_normal.specs.Common.{all_mentioned, AreNumbered, FindSet, IfOk, IfSome, length, members_or_none};
-ghost use Rattle.acl_normal.specs.internal.comparison.TwoLists.{AreAlikeAlone, IsFirstMember, IsFirstPartner, IsFirstSingle};
+ghost use Rattle.std.specs.Prelude.{◌≡◌};
+ghost use Rattle.acl_normal.specs.Common.{[], all_mentioned, all_rights, AreAlikeTo, AreNumbered, FindSet, has_bit, IfOk, IfSome, members_or_none, true};
+ghost use Rattle.acl_normal.specs.internal.comparison.Columns.{AreRightsByNumber};
+ghost use Rattle.acl_normal.specs.internal.comparison.Found.{IsFoundOnAll, IsFoundOn, IsNothing};
 
 use super::compared::Compared;
+use super::found::Found;
 use super::inversions::{first_inverted, first_inverting, first_unlike};
 use super::members::Members;
+use acl_perm::Mask;
 use acl_perm::internal::Bit;
 use std::alloc::{AllocError, Global};
 
@@ -23,71 +26,72 @@ impl Compared<'_, '_> {
         if !self.grant_strangers_alike() {
             return Ok(Some(Members::Nobody));
         }
-        let single = self.least_single(alloc)?;
-        if single < self.count() {
-            return Ok(Some(Members::One(single)));
+        let found = self.found(alloc)?;
+        if found.single < self.count() {
+            return Ok(Some(Members::One(found.single)));
         }
-        let member = self.least_member(alloc)?;
-        if member == self.count() {
+        if found.member == self.count() {
             return Ok(None);
         }
-        let partner = self.least_partner(alloc, member)?;
-        Ok(Some(Members::Two(member, member + 1 + partner)))
+        Ok(Some(Members::Two(found.member, found.partner)))
     }
 
-    // The number of the first principal at which alone the lists differ, or the number of all principals if there is
-    // none.
-    #[tactic(auto, using(crate::proofs::comparison::RowFacts::least_start))]
-    fn least_single(&self, alloc: Global) -> Result<usize, AllocError>
-        ensures { IfOk result (IsFirstSingle self.now) }
+    // The first principals at which the lists differ on any right.
+    fn found(&self, alloc: Global) -> Result<Found, AllocError>
+        requires { AreAlikeTo self.now [] }
+        ensures { IfOk result (IsFoundOnAll self.now) }
     {
-        let mut least = self.count();
+        let rights = self.rights_by_number(alloc)?;
+        let mut found = self.nothing();
         for bit in 0..Bit::COUNT {
             let right = Bit { bit };
             if self.may_differ(right) {
-                let placings = self.placings(alloc, right)?;
-                least = first_unlike(self.direction, &placings, least);
+                found = found.earlier(self.found_on(alloc, right, &rights)?);
             }
         }
-        Ok(least)
+        Ok(found)
     }
 
-    // The number of the first principal in a pair at which the lists differ, or the number of all principals if there
-    // is none.
-    #[tactic(auto, using(crate::proofs::comparison::RowFacts::least_start))]
-    fn least_member(&self, alloc: Global) -> Result<usize, AllocError>
-        requires { AreAlikeAlone self.now }
-        ensures { IfOk result (IsFirstMember self.now) }
+    fn nothing(&self) -> Found
+        ensures { IsNothing self.now result }
     {
-        let size = self.longer();
-        let mut least = self.count();
-        for bit in 0..Bit::COUNT {
-            let right = Bit { bit };
-            if self.may_differ(right) {
-                let placings = self.placings(alloc, right)?;
-                least = first_inverting(alloc, self.direction, &placings, size, least)?;
-            }
+        let count = self.count();
+        Found {
+            single: count,
+            member: count,
+            partner: count,
         }
-        Ok(least)
     }
 
-    // Counted from the principal after `at`, the number of the first principal that makes a pair with `at` at which the
-    // lists differ, or the number of all later principals if there is none.
-    #[tactic(auto, using(crate::proofs::comparison::RowFacts::least_start))]
-    fn least_partner(&self, alloc: Global, at: usize) -> Result<usize, AllocError>
-        requires at { at < length (all_mentioned self.now) }
-        requires alone { AreAlikeAlone self.now }
-        ensures { IfOk result (IsFirstPartner self.now at) }
+    // The first principals at which the lists differ on a right. `rights` has the rights of each principal.
+    fn found_on(&self, alloc: Global, right: Bit, rights: &[Mask]) -> Result<Found, AllocError>
+        requires strangers { AreAlikeTo self.now [] }
+        requires right { has_bit all_rights right.bit ≡ true }
+        requires rights { AreRightsByNumber self.now rights.now }
+        ensures { IfOk result (IsFoundOn self.now right.bit) }
     {
-        let mut least = self.count() - at - 1;
-        for bit in 0..Bit::COUNT {
-            let right = Bit { bit };
-            if self.may_differ(right) {
-                let placings = self.placings(alloc, right)?;
-                let (_, others) = placings.as_slice().split_at(at + 1);
-                least = first_inverted(self.direction, placings[at], others, least);
-            }
+        let columns = self.columns(alloc, right, rights)?;
+        let placings = columns.placings(alloc, right)?;
+        let end = placings.len();
+        let count = self.count();
+        let single = first_unlike(self.direction, &placings, end);
+        if single < end {
+            return Ok(Found {
+                single: columns.number(single, count),
+                member: count,
+                partner: count,
+            });
         }
-        Ok(least)
+        let member = first_inverting(alloc, self.direction, &placings, columns.longer(), end)?;
+        if member == end {
+            return Ok(self.nothing());
+        }
+        let (_, others) = placings.as_slice().split_at(member + 1);
+        let partner = first_inverted(self.direction, placings[member], others, others.len());
+        Ok(Found {
+            single: count,
+            member: columns.number(member, count),
+            partner: columns.number(member + 1 + partner, count),
+        })
     }
 }

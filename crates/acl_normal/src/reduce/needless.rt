@@ -115,7 +115,7 @@ fn allowed_by(item: AceRef<'_>, mask: Mask) -> Mask
 }
 
 /// Returns the rights of the ACEs after the last one: none.
-fn no_later() -> Later
+pub(crate) fn no_later() -> Later
     ensures { HasNoLater result }
 {
     Later {
@@ -145,7 +145,7 @@ fn needless(at: Key<'_>, mask: Mask, allowed: Mask, opposite: Mask) -> Mask
 }
 
 /// Returns the rights of the later ACEs that may conflict with a key.
-fn opposite(later: Later, at: Key<'_>) -> Mask
+pub(crate) fn opposite(later: Later, at: Key<'_>) -> Mask
     ensures { (b : ℕ) → has_bit result.bits b ≡ opposes later (plain_key at.entry) b }
 {
     let class = Class::of(at.principal);
@@ -156,7 +156,7 @@ fn opposite(later: Later, at: Key<'_>) -> Mask
 }
 
 /// Adds the rights of one more ACE to those of the later ACEs.
-fn noted(later: Later, at: Key<'_>, mask: Mask) -> Later
+pub(crate) fn noted(later: Later, at: Key<'_>, mask: Mask) -> Later
     ensures { NotesLater (plain_key at.entry) mask.bits later result }
 {
     let class = Class::of(at.principal);

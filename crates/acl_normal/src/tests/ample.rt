@@ -3,7 +3,7 @@
 
 use super::{
     differences, excesses, five_forms, forms, holder_words, implications, names, needed_rights,
-    plain_forms, tables,
+    tables,
 };
 use acl_nfs4::PushFault;
 
@@ -21,6 +21,5 @@ fn every_row_of_the_tables_holds_if_memory_is_ample(rt: HostRuntime) -> Result<(
     implications::worked_implications(&rt, alloc)?;
     names::names(&rt, alloc)?;
     needed_rights::needed_rights(&rt, alloc)?;
-    tables::tables(&rt, alloc)?;
-    plain_forms::plain_forms(&rt, alloc)
+    tables::tables(&rt, alloc)
 }

@@ -20,24 +20,6 @@ fn bob_goes_first(rt: &impl Abort, rows: &mut MergedRows<'_>, read: Mask, write:
     assert!(rt; rows.is_free(Principal::Owner, write));
 }
 
-// Of two rights, one is enough to be free, and the lower one says who waits. Bob's ACE has no right to read.
-fn two_rights_at_once(rt: &impl Abort, rows: &mut MergedRows<'_>, read: Mask, write: Mask) {
-    let bob = Principal::User(b"bob");
-    let both = read | write;
-    assert!(rt; rows.is_free(Principal::Owner, both));
-    assert!(rt; rows.is_free(bob, both));
-    assert!(rt; rows.waiting(Kind::Deny, Class::Users, both).is_empty());
-    assert!(rt; rows.waiting(Kind::Allow, Class::Others, both).contains(&1));
-    rows.emit(Principal::Owner, read);
-    assert!(rt; rows.waiting(Kind::Allow, Class::Others, both).is_empty());
-    assert!(rt; rows.waiting(Kind::Allow, Class::Others, write).contains(&1));
-    assert!(rt; !rows.is_free(Principal::Owner, both));
-    rows.emit(bob, both);
-    assert!(rt; rows.is_free(Principal::Owner, both));
-    rows.emit(Principal::Owner, both);
-    assert!(rt; !rows.is_free(Principal::Owner, both));
-}
-
 mod ample {
     use super::*;
 
@@ -50,18 +32,6 @@ mod ample {
         let list = built(rt.alloc(), &NO_WRITE)?;
         let mut rows = MergedRows::new(rt.alloc(), &list)?;
         bob_goes_first(&rt, &mut rows, read, write);
-        Ok(())
-    }
-
-    #[test]
-    fn a_mask_of_two_rights_is_free_on_either_and_waits_with_the_lower(
-        rt: HostRuntime,
-    ) -> Result<(), Fail> {
-        let read = Mask::new(READ_DATA).ok_or("no such right")?;
-        let write = Mask::new(WRITE_DATA).ok_or("no such right")?;
-        let list = built(rt.alloc(), &NO_WRITE)?;
-        let mut rows = MergedRows::new(rt.alloc(), &list)?;
-        two_rights_at_once(&rt, &mut rows, read, write);
         Ok(())
     }
 }

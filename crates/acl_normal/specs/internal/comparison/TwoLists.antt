@@ -1,5 +1,5 @@
 -- Two lists that are compared, and questions about them, right by right (this library's own).
-use Rattle.std.specs.Prelude.{◌≡◌, ℕ, ◌<◌, ◌≤◌, ◌+◌, List, Option, drop, length, slice_index_or}
+use Rattle.std.specs.Prelude.{◌≡◌, ℕ, ◌+◌, List, Option, drop, length, slice_index_or}
 use Rattle.acl_eval.specs.Column.{column}
 use Rattle.acl_nfs4.specs.Ace.{Ace}
 use Rattle.acl_perm.specs.Principal.{Principal, everyone}
@@ -9,12 +9,11 @@ use Rattle.acl_normal.specs.Excess.{IsExcess}
 use Rattle.acl_normal.specs.internal.Tidy.{HasNames}
 use Rattle.acl_normal.specs.SmallSets.{mentioned, small_sets, strange_length}
 use Rattle.acl_normal.specs.SmallSituations.{small_situation}
-use Rattle.acl_normal.specs.internal.comparison.FirstPlaces.{AlikeAlone, AlikeWith, AlikeWithAll, ArePlacings, IsLeast, OnAll}
+use Rattle.acl_normal.specs.internal.comparison.FirstPlaces.{AlikeAlone, AlikeWith, AlikeWithAll, IsLeast, OnAll}
 use Rattle.acl_normal.specs.internal.comparison.SetSearch.{FindsSet, GrantAlikeTo, IsLowestDifference}
 use Rattle.acl_normal.specs.declared.comparison.Difference.{Difference}
 use Rattle.acl_normal.specs.declared.comparison.direction.Direction.{Direction}
 use Rattle.acl_normal.specs.declared.comparison.direction.Direction.TheVariants.{Either, Over}
-use Rattle.acl_normal.specs.declared.comparison.placing.Placing.{Placing}
 
 -- the two lists, and the direction in which they are compared
 pub record TwoLists : Type 0 where
@@ -47,15 +46,6 @@ pub record AreNamed (both : TwoLists) : Type 0 where
   pub first : HasNames both.first
   pub second : HasNames both.second
 
--- neither list is longer than this
-pub record AreWithin (both : TwoLists) (size : ℕ) : Type 0 where
-  pub first : length both.first ≤ size
-  pub second : length both.second ≤ size
-
--- the placings are those of the mentioned principals, on a right
-abbrev pub ArePlacingsOf : TwoLists → ℕ → List Placing → Type 0
-ArePlacingsOf both bit placings = ArePlacings (all_mentioned both) both.first both.second bit placings
-
 -- the lists do not differ in the direction where exactly these principals match, and everyone
 abbrev pub AreAlikeTo : TwoLists → List Principal → Type 0
 AreAlikeTo both set = GrantAlikeTo both.direction both.first both.second set
@@ -72,10 +62,6 @@ AlikeToPairs both = AlikeWithAll both.direction both.first both.second (all_ment
 -- may overlap
 abbrev pub AlikeToPair : TwoLists → ℕ → ℕ → ℕ → Type 0
 AlikeToPair both at = AlikeWith both.direction both.first both.second (principal_at both at) (later_than both at)
-
--- the lists do not differ in the direction for any mentioned principal alone
-abbrev pub AreAlikeAlone : TwoLists → Type 0
-AreAlikeAlone both = (k : ℕ) → k < length (all_mentioned both) → OnAll (AlikeToOne both) k
 
 -- the number of the first principal for whom alone the lists differ in the direction; if there is none, the number of
 -- principals

@@ -1,0 +1,33 @@
+//! The first principals at which two lists differ.
+ghost use Rattle.std.specs.Prelude.{◌≡◌};
+ghost use Rattle.acl_normal.specs.internal.comparison.Found.{earlier_of, is_found_before};
+
+/// The numbers of the first principals at which two lists differ, on some rights. If there is none, a number is that of
+/// all principals.
+#[derive(Clone, Copy)]
+pub(crate) struct Found {
+    /// The first principal for whom alone the lists differ.
+    pub(crate) single: usize,
+    /// If there is no such principal, the first principal that is in a pair for which they differ.
+    pub(crate) member: usize,
+    /// If there is such a pair, the first principal after this one that makes such a pair with it.
+    pub(crate) partner: usize,
+}
+
+impl Found {
+    /// Returns what is found on the rights of both.
+    pub(crate) fn earlier(self, other: Found) -> Found
+        ensures { result ≡ earlier_of self other }
+    {
+        if other.is_before(self) { other } else { self }
+    }
+
+    fn is_before(self, other: Found) -> bool
+        ensures { result ≡ is_found_before self other }
+    {
+        self.single < other.single
+            || (self.single == other.single
+                && (self.member < other.member
+                    || (self.member == other.member && self.partner < other.partner)))
+    }
+}

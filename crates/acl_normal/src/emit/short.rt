@@ -1,0 +1,137 @@
+//! The emission of a short list: each turn looks at all that is left, so that it needs no queues and no heap.
+ghost use Rattle.std.specs.Prelude.{◌++◌, ◌∷◌, ◌≡◌, All};
+ghost use Rattle.acl_perm.specs.Order.{kind_rank};
+ghost use Rattle.acl_normal.specs.Common.{[], Ace, IfOk, IfSome, IsEmission, List, emitted_ace, emitted_aces, nat_cmp, option_map, plain_key, principal, take_out};
+ghost use Rattle.acl_normal.specs.Keys.{compare_keys};
+ghost use Rattle.acl_normal.specs.Places.{without_bits};
+ghost use Rattle.acl_normal.specs.internal.emit.Emissions.{HasOnceColumns};
+ghost use Rattle.acl_normal.specs.internal.emit.Short.{AreFreeAfter, AreLeftOf, IsFirstLeft, IsLeftOf, lesser_of};
+
+use crate::emit::emission::Emitted;
+use crate::reduce::needless::{no_later, noted, opposite};
+use acl_perm::{Kind, Mask};
+use std::alloc::{AllocError, Global};
+use std::cmp::Ordering;
+
+/// Emits what is left of a list: at each turn the least key that is free on some right, with all rights on which it is
+/// free. It takes time that grows with the square of the number of ACEs, and leaves no rights.
+pub(crate) fn drain_short<'a>(
+    alloc: Global,
+    left: &mut [Emitted<'a>],
+) -> Result<Vec<Emitted<'a>>, AllocError>
+    requires once { HasOnceColumns (emitted_aces left.old) }
+    requires rows { (xs : List Ace) × AreLeftOf xs left.old }
+    ensures { IfOk result (λ v. IsEmission (emitted_aces left.old) (emitted_aces v.items)) }
+{
+    let mut out = Vec::with_capacity(alloc, left.len())?;
+    // The label names the loop for its proof.
+    'emitted: while let Some(next) = first_of(left) {
+        out.push(next)?;
+        take_from(left, &next);
+    }
+    Ok(out)
+}
+
+/// Returns what comes first of all that is left.
+fn first_of<'a>(left: &[Emitted<'a>]) -> Option<Emitted<'a>>
+    requires once { HasOnceColumns (emitted_aces left.now) }
+    requires rows { (xs : List Ace) × AreLeftOf xs left.now }
+    ensures first { IsFirstLeft (emitted_aces left.now) (option_map emitted_ace result) }
+    ensures row { (xs : List Ace) → AreLeftOf xs left.now → IfSome result (IsLeftOf xs) }
+{
+    let mut before = no_later();
+    let mut first: Option<Emitted<'a>> = None;
+    for item in left {
+        let free = item.mask.difference(opposite(before, item.key));
+        first = with_free(first, item, free);
+        before = noted(before, item.key, item.mask);
+    }
+    first
+}
+
+/// Returns what comes first, if one more ACE is free on these rights.
+fn with_free<'a>(first: Option<Emitted<'a>>, item: &Emitted<'a>, free: Mask) -> Option<Emitted<'a>>
+    requires { (xs : List Ace) × IfSome first (IsLeftOf xs) × IsLeftOf xs item.now }
+    ensures first { (seen : List Ace) → IsFirstLeft seen (option_map emitted_ace first.entry)
+        → AreFreeAfter seen (emitted_ace item.now) free.bits
+        → IsFirstLeft (seen ++ emitted_ace item.now ∷ []) (option_map emitted_ace result) }
+    ensures row { (xs : List Ace) → IfSome first.entry (IsLeftOf xs) → IsLeftOf xs item.now
+        → IfSome result (IsLeftOf xs) }
+{
+    if free.bits == 0 {
+        return first;
+    }
+    Some(lesser(
+        first,
+        Emitted {
+            mask: free,
+            ..*item
+        },
+    ))
+}
+
+/// Returns the one with the lesser key, or the key with the rights of both if they have one key.
+fn lesser<'a>(first: Option<Emitted<'a>>, next: Emitted<'a>) -> Emitted<'a>
+    requires { (xs : List Ace) × IfSome first (IsLeftOf xs) × IsLeftOf xs next }
+    ensures list { emitted_ace result
+        ≡ lesser_of (option_map emitted_ace first.entry) (emitted_ace next.entry) }
+    ensures row { (xs : List Ace) → IfSome first.entry (IsLeftOf xs) → IsLeftOf xs next.entry
+        → IsLeftOf xs result }
+{
+    let Some(first) = first else {
+        return next;
+    };
+    match compared(&first, &next) {
+        Ordering::Less => first,
+        Ordering::Equal => Emitted {
+            mask: first.mask.union(next.mask),
+            ..first
+        },
+        Ordering::Greater => next,
+    }
+}
+
+/// Compares two keys by the rows of their principals.
+fn compared(first: &Emitted<'_>, other: &Emitted<'_>) -> Ordering
+    requires { (xs : List Ace) × IsLeftOf xs first.now × IsLeftOf xs other.now }
+    ensures { result ≡ compare_keys (plain_key first.now.key) (plain_key other.now.key) }
+{
+    first
+        .row
+        .cmp(&other.row)
+        .then(kinds_compared(first.key.kind, other.key.kind))
+}
+
+fn kinds_compared(first: Kind, other: Kind) -> Ordering
+    ensures { result ≡ nat_cmp (kind_rank first) (kind_rank other) }
+{
+    first.cmp(&other)
+}
+
+/// Takes the rights of an emitted ACE from all that is left of its principal.
+fn take_from(left: &mut [Emitted<'_>], gone: &Emitted<'_>)
+    requires { (xs : List Ace) × AreLeftOf xs left.old × IsLeftOf xs gone.now }
+    ensures list { emitted_aces left.new
+        ≡ take_out (principal gone.now.key.principal) gone.now.mask.bits (emitted_aces left.old) }
+    ensures rows { (xs : List Ace) → AreLeftOf xs left.old → AreLeftOf xs left.new }
+{
+    for place in 0..left.len() {
+        left[place] = without(left[place], gone);
+    }
+}
+
+/// Returns what is left of one ACE without the rights of an emitted one, which both have only if they have one row.
+fn without<'a>(item: Emitted<'a>, gone: &Emitted<'_>) -> Emitted<'a>
+    requires { (xs : List Ace) × IsLeftOf xs item × IsLeftOf xs gone.now }
+    ensures list { emitted_ace result ≡ without_bits (principal gone.now.key.principal)
+        gone.now.mask.bits (emitted_ace item.entry) }
+    ensures row { (xs : List Ace) → IsLeftOf xs item.entry → IsLeftOf xs result }
+{
+    if item.row != gone.row {
+        return item;
+    }
+    Emitted {
+        mask: item.mask.difference(gone.mask),
+        ..item
+    }
+}

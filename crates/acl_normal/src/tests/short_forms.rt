@@ -1,0 +1,74 @@
+//! Checks that the way for short lists and the way for long ones find the same normal form, below and above the number
+//! of ACEs at which `normalize` takes the other way.
+
+use super::harness::{ALLOW, AceRow, DENY, Dice, GROUP, READ_DATA, WRITE_DATA, built, kept};
+use crate::normal_form::long_form;
+use crate::normalize;
+use crate::short_form::short_form;
+use acl_nfs4::{Acl, PushFault};
+use std::alloc::{AllocError, Global};
+
+// Whom the ACEs of the lists below name, and with which flags.
+static NAMED: [(&[u8], u32); 6] = [
+    (b"OWNER@", 0),
+    (b"a", 0),
+    (b"b", 0),
+    (b"GROUP@", 0),
+    (b"a", GROUP),
+    (b"EVERYONE@", 0),
+];
+
+// One of 36 ACEs with one or two rights.
+fn chosen(number: usize) -> AceRow {
+    let (who, flags) = NAMED[number % 6];
+    let kind = if number / 6 % 2 == 0 { DENY } else { ALLOW };
+    let mask = match number / 12 % 3 {
+        0 => READ_DATA,
+        1 => WRITE_DATA,
+        _ => READ_DATA | WRITE_DATA,
+    };
+    (kind, flags, mask, who)
+}
+
+fn chosen_rows(alloc: Global, count: usize, dice: &mut Dice) -> Result<Vec<AceRow>, AllocError> {
+    let mut rows = Vec::new(alloc);
+    for _place in 0..count {
+        rows.push(chosen(dice.below(36) as usize))?;
+    }
+    Ok(rows)
+}
+
+fn chosen_list(alloc: Global, count: usize, dice: &mut Dice) -> Result<Acl, PushFault> {
+    let rows = kept(chosen_rows(alloc, count, dice))?;
+    built(alloc, &rows)
+}
+
+fn is_one_form(alloc: Global, list: &Acl) -> Result<bool, AllocError> {
+    let form = normalize(alloc, list)?;
+    let short = short_form(alloc, &list.view())?;
+    let long = long_form(alloc, &list.view())?;
+    Ok(form == short && form == long)
+}
+
+mod ample {
+    use super::*;
+
+    // 2,400 lists of up to four ACEs, and some of 9, 10 and 11.
+    #[test]
+    fn both_ways_find_one_form(rt: HostRuntime) -> Result<(), PushFault> {
+        let mut dice = Dice { state: 1 };
+        for round in 0..2400usize {
+            let count = round % 4 + 1;
+            let list = chosen_list(rt.alloc(), count, &mut dice)?;
+            assert!(rt; kept(is_one_form(rt.alloc(), &list))?);
+        }
+        for count in 9..12usize {
+            for _round in 0..20usize {
+                let list = chosen_list(rt.alloc(), count, &mut dice)?;
+                assert!(rt; list.len() == count);
+                assert!(rt; kept(is_one_form(rt.alloc(), &list))?);
+            }
+        }
+        Ok(())
+    }
+}
