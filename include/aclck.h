@@ -17,7 +17,10 @@
  * - What a call writes must not overlap anything else that the call is given.
  * - Any number of threads may call at once, because calls share nothing but what their callers share.
  * - Calls marked "no memory" call no malloc. They may be called from a signal handler, and after fork() in a child of a
- *   program with threads. All other calls use malloc, realloc and free.
+ *   program with threads. Calls marked "memory for groups" are such calls too, except if a list has more than 64 ACEs and
+ *   the groups of a requester, which do not rise in the order of their bytes, are so many that ACEs times groups are more
+ *   than 262,144. Then they sort a copy of the groups, and call malloc and free. If malloc returns NULL, the answer is
+ *   the same and takes longer: they never return ACLCK_MEMORY. All other calls use malloc, realloc and free.
  *
  * The library needs an x86-64 processor with SSE4.2 and POPCNT (x86-64-v2). aclck_version() runs on every x86-64.
  */
@@ -507,7 +510,8 @@ typedef struct aclck_difference {
 
 /* ---- NFSv4 lists: questions (RFC 8881, section 6.2.1). A list is the bytes of `nfsace4<>`, as the extended attribute
    system.nfs4_acl holds them. Options: ACLCK_NARROW. Each call answers whatever it returns: if it returns no
-   ACLCK_DONE, its answer grants nothing. ACLCK_DONE, ACLCK_REFUSED (*fault), ACLCK_BAD_ARGUMENT. No memory. */
+   ACLCK_DONE, its answer grants nothing. ACLCK_DONE, ACLCK_REFUSED (*fault), ACLCK_BAD_ARGUMENT. Memory for groups, and
+   none for aclck_mode(). */
 
 /* Writes to *decided which of the rights that are asked the list allows the requester on the object, and which it
    denies. */
@@ -557,7 +561,8 @@ enum aclck_status aclck_prepare(aclck_bytes acl, enum aclck_option options, aclc
    it denies. If it fails, both are 0. Options: ACLCK_GROUPS_IN_ORDER, by which the caller says that the groups of the
    requester rise in the order of their bytes. They are then looked up by binary search, and the order is not tested: if
    they do not rise, those that the search misses do not count, and a DENY of them denies nothing. ACLCK_DONE,
-   ACLCK_BAD_ARGUMENT: also where the bytes are no prepared bytes. No memory. */
+   ACLCK_BAD_ARGUMENT: also where the bytes are no prepared bytes. Memory for groups, where an eighth of the number of
+   bytes counts as the number of ACEs. With the option, no memory. */
 ACLCK_CALL ACLCK_READS(2) ACLCK_READS(3) ACLCK_READS(4) ACLCK_WRITES(5)
 enum aclck_status aclck_decide_prepared(aclck_bytes prepared, const aclck_object *object,
                                         const aclck_requester *requester, const aclck_question *question,
@@ -565,7 +570,7 @@ enum aclck_status aclck_decide_prepared(aclck_bytes prepared, const aclck_object
 
 /* Writes to decided.at[i] what aclck_decide_prepared() writes for requesters.at[i], for every i. If it fails, all of
    them are 0. Options: ACLCK_GROUPS_IN_ORDER. ACLCK_DONE, ACLCK_BAD_ARGUMENT: also where the bytes are no prepared
-   bytes, or `decided` has another length than `requesters`. No memory. */
+   bytes, or `decided` has another length than `requesters`. Memory as for aclck_decide_prepared(). */
 ACLCK_CALL ACLCK_READS(2) ACLCK_READS(4)
 enum aclck_status aclck_decide_prepared_many(aclck_bytes prepared, const aclck_object *object,
                                              aclck_requesters requesters, const aclck_question *question,
@@ -893,7 +898,8 @@ enum aclck_status aclck_entries_bridge(aclck_entries entries, aclck_buffer out, 
 
 /* The entries of the POSIX ACL of an NFSv4 list, and what is lost with it. Whoever owns the object, the ACL never
    grants more than the list: read only where the list grants READ_DATA, write only where it grants WRITE_DATA and
-   APPEND_DATA, execute only where it grants EXECUTE. ACEs with INHERIT_ONLY do not count. The ids of names are as for
+   APPEND_DATA, execute only where it grants EXECUTE. By POSIX, write on a directory is also the right to remove what is
+   in it: DELETE_CHILD is not asked for. ACEs with INHERIT_ONLY do not count. The ids of names are as for
    aclck_prepare_ids(), and so is ACLCK_UNKNOWN_NAME. ACLCK_REFUSED also where the bytes are no list, and with
    ACLCK_LIMITS where the list names more than `most` users and groups: the time grows with the cube of their number.
    ACLCK_BAD_ARGUMENT where `most` is above 65535, or the names make no table. *loss is also written at ACLCK_SHORT; if
@@ -921,11 +927,12 @@ enum aclck_status aclck_entries_from_form(const aclck_posix_text *value, enum ac
 /* The value of the entries in the form. In a text, the first row of `names` with an id has the name that is written,
    and an id without a row is written as a number. The texts of both ACLs are written alike: for star and bsdtar with
    commas, the three base entries first, and the id after the permissions where a name is written; with
-   ACLCK_POSIX_GNU_STYLE with a line for each entry, in canonical order, and names without ids.
-   aclck_entries_from_form() reads the value as the same entries, for GNU tar with the same names. ACLCK_REFUSED also
-   where a text cannot hold an entry: ACLCK_SEPARATOR and ACLCK_TOO_LONG for its name, and for star ACLCK_ID where
-   libarchive does not keep its id. ACLCK_BAD_ARGUMENT also for ACLCK_POSIX_DEFAULT_OF_TEXT, and where the names make no
-   table. */
+   ACLCK_POSIX_GNU_STYLE with a line for each entry, in canonical order, and names without ids. GNU tar reads two
+   backslashes in a name as one, and a backslash with three octal digits as another byte, so give it names that are
+   spelled in this way. aclck_entries_from_form() reads the value as the same entries, for GNU tar with the same names.
+   ACLCK_REFUSED also where a text cannot hold an entry: ACLCK_SEPARATOR and ACLCK_TOO_LONG for its name, and for star
+   ACLCK_ID where libarchive does not keep its id. ACLCK_BAD_ARGUMENT also for ACLCK_POSIX_DEFAULT_OF_TEXT, and where
+   the names make no table. */
 ACLCK_CALL ACLCK_READS(2) ACLCK_WRITES(5) ACLCK_WRITES(6)
 enum aclck_status aclck_entries_to_form(aclck_entries entries, const aclck_names *names, enum aclck_posix_form form,
                                         aclck_buffer out, size_t *needed, aclck_fault *fault);

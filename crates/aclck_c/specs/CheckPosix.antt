@@ -9,8 +9,8 @@ abbrev pub object_of : ℕ → ℕ → Object
 object_of owner group = record { user = owner; group = group }
 
 -- who requests access
-abbrev pub requester_of : ℕ → List ℕ → Requester
-requester_of user groups = record { user = user; groups = groups }
+abbrev pub requester_with_ids : ℕ → List ℕ → Requester
+requester_with_ids user groups = record { user = user; groups = groups }
 
 -- the object that a question is about
 abbrev pub object_asked : RawPosixQuestion → Object
@@ -18,7 +18,7 @@ object_asked q = object_of q.owner q.group
 
 -- who a question is about
 abbrev pub requester_asking : RawPosixQuestion → Requester
-requester_asking q = requester_of q.user q.groups.now
+requester_asking q = requester_with_ids q.user q.groups.now
 
 -- three ids, and a set of permissions
 pub record AreNumbers (q : RawPosixQuestion) : Type 0 where

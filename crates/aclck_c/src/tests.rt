@@ -41,14 +41,28 @@ const OBJECT: RawObject<'static> = RawObject {
 };
 
 // The status of `aclck_check`, and the answer that it leaves in place of a 7.
-fn check(acl: &[u8], user: &[u8], question: &RawQuestion, fault: &mut Refusal) -> (u32, u32) {
+fn check(
+    alloc: Global,
+    acl: &[u8],
+    user: &[u8],
+    question: &RawQuestion,
+    fault: &mut Refusal,
+) -> (u32, u32) {
     let groups = [b"editors".as_slice(), b"staff".as_slice()];
     let requester = RawRequester {
         user,
         groups: &groups,
     };
     let mut granted = 7;
-    let status = aclck_check(acl, &OBJECT, &requester, question, &mut granted, fault);
+    let status = aclck_check(
+        alloc,
+        acl,
+        &OBJECT,
+        &requester,
+        question,
+        &mut granted,
+        fault,
+    );
     (status, granted)
 }
 
@@ -72,7 +86,7 @@ fn the_list_grants_bob_alone_and_what_has_no_meaning_is_refused(
     ];
     let mut fault = no_fault();
     for (user, question, expected) in rows {
-        let answer = check(LIST, user.as_bytes(), &question, &mut fault);
+        let answer = check(rt.alloc(), LIST, user.as_bytes(), &question, &mut fault);
         assert_eq!(rt; answer, expected);
     }
     Ok(())
@@ -87,25 +101,26 @@ fn a_list_that_is_cut_short_is_refused_at_its_end_and_grants_nothing(
         mask: 1,
         options: 0,
     };
-    let answer = check(&LIST[..23], b"bob", &read, &mut fault);
+    let answer = check(rt.alloc(), &LIST[..23], b"bob", &read, &mut fault);
     assert_eq!(rt; answer, (REFUSED, 0));
     assert_eq!(rt; fault.offset, 23);
     assert_eq!(rt; fault.reason, 1);
     Ok(())
 }
 
+// An offset, the status there, and then the offset and the kind of the ACE.
+static OFFSETS: [(usize, u32, usize, u32); 5] = [
+    (0, DONE, 24, 0),
+    (4, DONE, 24, 0),
+    (24, DONE, 24, 2),
+    (25, BAD_ARGUMENT, 25, 7),
+    (20, REFUSED, 20, 7),
+];
+
 #[test]
-fn the_aces_of_a_list_follow_one_another(rt: HostRuntime) -> Result<(), Fail> {
-    // An offset, the status there, and then the offset and the kind of the ACE.
-    let rows = [
-        (0, DONE, 24, 0),
-        (4, DONE, 24, 0),
-        (24, DONE, 24, 2),
-        (25, BAD_ARGUMENT, 25, 7),
-        (20, REFUSED, 20, 7),
-    ];
+fn the_aces_of_a_list_follow_one_another(rt: HostRuntime) {
     let mut fault = no_fault();
-    for (from, status, to, kind) in rows {
+    for (from, status, to, kind) in OFFSETS {
         let mut offset = from;
         let mut ace = RawAce {
             kind: 7,
@@ -113,27 +128,25 @@ fn the_aces_of_a_list_follow_one_another(rt: HostRuntime) -> Result<(), Fail> {
             mask: 7,
             who: b"",
         };
-        assert_eq!(rt;
-            aclck_next(LIST, 0, &mut offset, &mut ace, &mut fault),
-            status
-        );
-        assert_eq!(rt; (offset, ace.kind), (to, kind));
+        let found = aclck_next(LIST, 0, &mut offset, &mut ace, &mut fault);
+        assert!(rt; found == status);
+        assert!(rt; offset == to);
+        assert!(rt; ace.kind == kind);
         assert!(rt; kind != 0 || (ace.mask == 1 && ace.who == b"bob".as_slice()));
     }
-    assert_eq!(rt; (fault.offset, fault.reason), (20, 4));
-    Ok(())
+    assert!(rt; fault.offset == 20);
+    assert!(rt; fault.reason == 4);
 }
 
 #[test]
-fn a_call_does_its_work_or_reports_that_memory_ran_out(rt: HostRuntime) -> Result<(), Fail> {
+fn a_call_does_its_work_or_reports_that_memory_ran_out(rt: HostRuntime) {
     let mut out = [7u8; 24];
     let (status, needed) = normalize_into(rt.alloc(), &mut out);
     if status == MEMORY {
-        assert_eq!(rt; out, [7u8; 24]);
-        assert_eq!(rt; needed, 9);
+        assert!(rt; out == [7u8; 24]);
+        assert!(rt; needed == 9);
     } else {
-        assert_eq!(rt; status, DONE);
-        assert_eq!(rt; out, *LIST);
+        assert!(rt; status == DONE);
+        assert!(rt; out == *LIST);
     }
-    Ok(())
 }

@@ -6,21 +6,23 @@ ghost use Rattle.std.specs.Prelude.{◌≡◌, ◌<◌, ◌↔◌};
 ghost use Rattle.aclck_c.specs.Common.{All, IfSome, IsSome, IsTrue, length, profile_of, LooksAtList, profile_from, GivesAnswer};
 
 use crate::failure::Failure;
-use crate::nfs4::request::{RawObject, RawQuestion, RawRequester};
+use crate::nfs4::request::{RawObject, RawQuestion, RawRequester, with_sorted_groups};
 use crate::options::profile_from;
 use crate::refusal::Refusal;
 use crate::status::{BAD_ARGUMENT, DONE};
 use acl_eval::{Object, Requester, granted};
 use acl_nfs4::AclView;
 use acl_perm::{Mask, Profile};
+use std::alloc::Global;
 
 /// Answers which of the rights that are asked the list that the bytes spell grants each of the requesters on the object
 /// (RFC 8881, section 6.2.1), and reads the list once: they are in `rights`, one number for each requester, which are
 /// all 0 if the call fails. Returns 0 if it is answered; 2 if the bytes are refused, with the reason in `fault`; 3 if a
-/// name is empty, a number or an option has no meaning, or `rights` has another length than `requesters`. It takes no
-/// memory.
+/// name is empty, a number or an option has no meaning, or `rights` has another length than `requesters`. It takes
+/// memory only to sort many groups in no order, and does not fail if there is none.
 #[unsafe(no_mangle)]
 pub extern "C" fn aclck_check_many(
+    alloc: Global,
     acl: &[u8],
     object: &RawObject<'_>,
     requesters: &[RawRequester<'_>],
@@ -43,7 +45,7 @@ pub extern "C" fn aclck_check_many(
     }
     match AclView::parse_whole_with(acl, request.profile) {
         Ok(view) => {
-            grant_each(&view, &request, requesters, rights);
+            grant_each(alloc, &view, &request, requesters, rights);
             DONE
         }
         Err(found) => Failure::from(found).report(fault),
@@ -87,6 +89,7 @@ fn is_good(who: &RawRequester<'_>) -> bool
 
 // Writes for each requester the rights that the list grants.
 fn grant_each(
+    alloc: Global,
     view: &AclView<'_>,
     request: &Many<'_>,
     requesters: &[RawRequester<'_>],
@@ -99,18 +102,27 @@ fn grant_each(
         (owning_group_of request.now.object) requesters.now request.now.mask.bits rights.new }
 {
     for (place, who) in requesters.iter().enumerate() {
-        rights[place] = granted_to(view, request, who);
+        rights[place] = granted_to(alloc, view, request, who);
     }
 }
 
 // The rights that the list grants a requester.
-fn granted_to(view: &AclView<'_>, request: &Many<'_>, who: &RawRequester<'_>) -> u32
+fn granted_to(alloc: Global, view: &AclView<'_>, request: &Many<'_>, who: &RawRequester<'_>) -> u32
     requires { IsGoodRequester who.now }
     ensures { AreGranted view.now (asked_by (owner_of request.now.object)
         (owning_group_of request.now.object) who.now) request.now.mask.bits result }
 {
     match Requester::new(who.user, who.groups) {
-        Some(requester) => granted(view.aces(), &request.object, &requester, request.mask).bits(),
+        Some(requester) => {
+            let sorted = with_sorted_groups(alloc, requester, view.len());
+            granted(
+                view.aces(),
+                &request.object,
+                &sorted.requester(),
+                request.mask,
+            )
+            .bits()
+        }
         None => 0,
     }
 }

@@ -5,12 +5,15 @@ ghost use Rattle.std.specs.Prelude.{◌≡◌};
 ghost use Rattle.aclck_c.specs.Common.{IfErr, IfOk, IfSome, IsNone, profile_of, situation, LooksAtList, profile_from, GivesAnswer, AreGood, asked, IsViewFailure};
 
 use crate::failure::Failure;
-use crate::nfs4::request::{NfsRequest, RawObject, RawQuestion, RawRequester, asked};
+use crate::nfs4::request::{
+    NfsRequest, RawObject, RawQuestion, RawRequester, asked, with_sorted_groups,
+};
 use crate::refusal::Refusal;
 use crate::status::{BAD_ARGUMENT, DONE};
 use acl_eval::{Decision, deciding_ace};
 use acl_nfs4::AclView;
 use acl_perm::{Mask, Right};
+use std::alloc::Global;
 
 /// `struct aclck_decision`: the place of an ACE, from 0, and its kind, 0 ALLOW or 1 DENY. If there is no ACE, the place
 /// is 0 and the kind is 2.
@@ -26,9 +29,11 @@ const NO_DECISION: RawDecision = RawDecision { place: 0, kind: 2 };
 /// Answers which ACE of the list that the bytes spell decides the one right that is asked for this requester and object
 /// (RFC 8881, section 6.2.1). It is in `decision`, which has the kind 2 if no ACE decides, which denies the right, or
 /// if the call fails. Returns 0 if it is answered; 2 if the bytes are refused, with the reason in `fault`; 3 if a name
-/// is empty, not exactly one right is asked, or an option has no meaning. It takes no memory.
+/// is empty, not exactly one right is asked, or an option has no meaning. It takes memory only to sort many groups in
+/// no order, and does not fail if there is none.
 #[unsafe(no_mangle)]
 pub extern "C" fn aclck_deciding(
+    alloc: Global,
     acl: &[u8],
     object: &RawObject<'_>,
     requester: &RawRequester<'_>,
@@ -49,7 +54,7 @@ pub extern "C" fn aclck_deciding(
     let Some(bit) = right_of(request.mask) else {
         return BAD_ARGUMENT;
     };
-    match decide(acl, &request, bit) {
+    match decide(alloc, acl, &request, bit) {
         Ok(found) => {
             *decision = raw_decision(found);
             DONE
@@ -84,11 +89,17 @@ pub(crate) fn right_of(mask: Mask) -> Option<Right>
 }
 
 // Fails if the bytes are refused. `None` means that no ACE decides the right.
-fn decide(acl: &[u8], request: &NfsRequest<'_>, right: Right) -> Result<Option<Decision>, Failure>
+fn decide(
+    alloc: Global,
+    acl: &[u8],
+    request: &NfsRequest<'_>,
+    right: Right,
+) -> Result<Option<Decision>, Failure>
     ensures ok { IfOk result (Finds (profile_of request.now.profile) acl.now
         (situation request.now.object request.now.requester) right.bit) }
     ensures err { IfErr result (IsViewFailure (profile_of request.now.profile) acl.now) }
 {
     let view = AclView::parse_whole_with(acl, request.profile)?;
-    Ok(deciding_ace(view.aces(), &request.object, &request.requester, right))
+    let sorted = with_sorted_groups(alloc, request.requester, view.len());
+    Ok(deciding_ace(view.aces(), &request.object, &sorted.requester(), right))
 }

@@ -10,7 +10,7 @@ ghost use Rattle.aclck_c.specs.Common.{IfErr, IfOk, IfSome, IsSome, map, profile
 
 use crate::failure::Failure;
 use crate::nfs4::decide::{NOTHING_DECIDED, RawDecided};
-use crate::nfs4::request::{RawObject, RawQuestion, RawRequester};
+use crate::nfs4::request::{RawObject, RawQuestion, RawRequester, with_sorted_groups};
 use crate::options::{GROUPS_IN_ORDER, has_option, is_order_option, profile_from};
 use crate::out::answer;
 use crate::refusal::Refusal;
@@ -19,6 +19,9 @@ use acl_eval::{Object, Prepared, Requester, prepare};
 use acl_nfs4::AclView;
 use acl_perm::{Mask, Profile};
 use std::alloc::Global;
+
+// The number of bytes of a prepared ACE without a name.
+const SHORTEST_ACE: usize = 8;
 
 /// Writes the prepared bytes of the list that the bytes spell (this library's own, over RFC 8881, section 6.2.1). They
 /// hold no address, so they may be kept in a file, mapped, and read by many threads. Returns 0 if they are at the front
@@ -56,9 +59,10 @@ fn prepared_bytes(alloc: Global, acl: &[u8], profile: Profile) -> Result<Vec<u8>
 /// that the groups are in order, each is looked up by binary search, and a group that the search misses does not count.
 /// Returns 0 if it is answered; 3 if a name is empty, or a number or an option has no meaning. Bytes that
 /// `aclck_prepare` did not write get 3, or an answer that means nothing. Nothing is decided if the call fails. It takes
-/// no memory.
+/// memory only to sort many groups in no order, and does not fail if there is none.
 #[unsafe(no_mangle)]
 pub extern "C" fn aclck_decide_prepared(
+    alloc: Global,
     prepared: &[u8],
     object: &RawObject<'_>,
     requester: &RawRequester<'_>,
@@ -76,7 +80,7 @@ pub extern "C" fn aclck_decide_prepared(
     let Some(requester) = requester_of(&call, requester) else {
         return BAD_ARGUMENT;
     };
-    match decided_by(prepared, &call, &requester) {
+    match decided_by(alloc, prepared, &call, requester) {
         Some(found) => {
             *decided = found;
             DONE
@@ -136,16 +140,18 @@ pub(crate) fn requester_of<'a>(
 /// Returns which of the rights the list whose prepared bytes these are allows the requester, and which it denies. For
 /// other bytes it returns `None`, or an answer that means nothing.
 pub(crate) fn decided_by(
+    alloc: Global,
     prepared: &[u8],
     call: &PreparedCall<'_>,
-    requester: &Requester<'_>,
+    requester: Requester<'_>,
 ) -> Option<RawDecided>
     ensures some { (list : List Ace) → IsPrepared list prepared.now → IsSome result }
     ensures rights { (list : List Ace) → IsPrepared list prepared.now
-        → IfSome result (AreDecidedIn (situation call.now.object requester.now) call.now.mask.bits list) }
+        → IfSome result (AreDecidedIn (situation call.now.object requester.entry) call.now.mask.bits list) }
 {
     let list = Prepared::read(prepared)?;
-    let found = list.decided(&call.object, requester, call.mask)?;
+    let sorted = with_sorted_groups(alloc, requester, prepared.len() / SHORTEST_ACE);
+    let found = list.decided(&call.object, &sorted.requester(), call.mask)?;
     Some(RawDecided {
         allowed: found.allowed.bits(),
         denied: found.denied.bits(),

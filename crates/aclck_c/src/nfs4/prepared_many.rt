@@ -12,13 +12,16 @@ use crate::nfs4::decide::{NOTHING_DECIDED, RawDecided};
 use crate::nfs4::prepared::{PreparedCall, call_of, decided_by, requester_of};
 use crate::nfs4::request::{RawObject, RawQuestion, RawRequester};
 use crate::status::{BAD_ARGUMENT, DONE};
+use std::alloc::Global;
 
 /// Answers as `aclck_decide_prepared` does, for each of the requesters: the answers are in `decided`, one for each
 /// requester, and nothing is decided for any of them if the call fails. Returns 0 if it is answered; 3 if a name is
 /// empty, a number or an option has no meaning, or `decided` has another length than `requesters`. Bytes that
-/// `aclck_prepare` did not write get 3, or answers that mean nothing. It takes no memory.
+/// `aclck_prepare` did not write get 3, or answers that mean nothing. It takes memory only to sort many groups in no
+/// order, and does not fail if there is none.
 #[unsafe(no_mangle)]
 pub extern "C" fn aclck_decide_prepared_many(
+    alloc: Global,
     prepared: &[u8],
     object: &RawObject<'_>,
     requesters: &[RawRequester<'_>],
@@ -37,7 +40,7 @@ pub extern "C" fn aclck_decide_prepared_many(
     if decided.len() != requesters.len() || !are_good(requesters) {
         return BAD_ARGUMENT;
     }
-    if !decide_each(prepared, &call, requesters, decided) {
+    if !decide_each(alloc, prepared, &call, requesters, decided) {
         decided.fill(NOTHING_DECIDED);
         return BAD_ARGUMENT;
     }
@@ -46,6 +49,7 @@ pub extern "C" fn aclck_decide_prepared_many(
 
 // Writes for each requester what is decided. Returns false if the bytes are not prepared bytes.
 fn decide_each(
+    alloc: Global,
     prepared: &[u8],
     call: &PreparedCall<'_>,
     requesters: &[RawRequester<'_>],
@@ -60,7 +64,7 @@ fn decide_each(
         call.now.is_in_order) requesters.now call.now.mask.bits list decided.new }
 {
     for (place, who) in requesters.iter().enumerate() {
-        let Some(found) = decided_for(prepared, call, who) else {
+        let Some(found) = decided_for(alloc, prepared, call, who) else {
             return false;
         };
         decided[place] = found;
@@ -70,6 +74,7 @@ fn decide_each(
 
 // What is decided for a requester.
 fn decided_for(
+    alloc: Global,
     prepared: &[u8],
     call: &PreparedCall<'_>,
     who: &RawRequester<'_>,
@@ -81,5 +86,5 @@ fn decided_for(
         (owning_group_of call.now.object) call.now.is_in_order who.now) call.now.mask.bits list) }
 {
     let requester = requester_of(call, who)?;
-    decided_by(prepared, call, &requester)
+    decided_by(alloc, prepared, call, requester)
 }

@@ -1,10 +1,13 @@
 //! A request: the object, the requester, and what is asked.
 ghost use Rattle.std.specs.Prelude.{◌≡◌, ◌<◌, ◌↔◌};
+ghost use Rattle.acl_eval.specs.SortedRequester.{requester_of};
+ghost use Rattle.acl_eval.specs.declared.situation.Object.{Object};
 ghost use Rattle.aclck_c.specs.Common.{IfSome, IsSome, profile_of, situation, profile_from, AreGood, asked};
 
 use crate::options::profile_from;
-use acl_eval::{Object, Requester};
+use acl_eval::{Object, Requester, SortedRequester};
 use acl_perm::{Mask, Profile};
+use std::alloc::Global;
 
 /// `struct aclck_object`: the owner of an object, and its owning group.
 #[repr(C)]
@@ -57,4 +60,19 @@ pub(crate) fn asked<'a>(
         mask: Mask::new(question.mask)?,
         profile: profile_from(question.options)?,
     })
+}
+
+/// Sorts a copy of the groups of a requester if they are many and in no order, for a list of at most this many ACEs. If
+/// memory runs out, there is no copy: the answers are the same, and take longer.
+pub(crate) fn with_sorted_groups<'a>(
+    alloc: Global,
+    requester: Requester<'a>,
+    aces: usize,
+) -> SortedRequester<'a>
+    ensures { (object : Object) → situation object (requester_of result) ≡ situation object requester.entry }
+{
+    match SortedRequester::new(alloc, requester, aces) {
+        Ok(sorted) => sorted,
+        Err(_) => SortedRequester::unsorted(requester),
+    }
 }

@@ -8,7 +8,9 @@ ghost use Rattle.aclck_c.specs.internal.Failures.{IsPartFailure, of_part_fault};
 ghost use Rattle.aclck_c.specs.Common.{⊤, IfErr, IfOk, profile_of, JudgesInput, GivesAnswer, profile_from, AreGood, asked};
 
 use crate::failure::Failure;
-use crate::nfs4::request::{NfsRequest, RawObject, RawQuestion, RawRequester, asked};
+use crate::nfs4::request::{
+    NfsRequest, RawObject, RawQuestion, RawRequester, asked, with_sorted_groups,
+};
 use crate::refusal::Refusal;
 use crate::status::{BAD_ARGUMENT, DONE};
 use acl_eval::{RequestAnswer, decided_with_unknown, request_answer};
@@ -113,20 +115,10 @@ fn possible_of(
         (situation request.now.object request.now.requester) request.now.mask.bits) }
     ensures left_out { IfOk result (λ found. found.left_out ≡ part.now.left_out) }
 {
-    let decided = decided_with_unknown(
-        alloc,
-        part,
-        &request.object,
-        &request.requester,
-        request.mask,
-    )?;
-    let answer = request_answer(
-        alloc,
-        part,
-        &request.object,
-        &request.requester,
-        request.mask,
-    )?;
+    let sorted = with_sorted_groups(alloc, request.requester, part.aces().len());
+    let requester = sorted.requester();
+    let decided = decided_with_unknown(alloc, part, &request.object, &requester, request.mask)?;
+    let answer = request_answer(alloc, part, &request.object, &requester, request.mask)?;
     Ok(RawPossible {
         allowed: decided.allowed.bits(),
         denied: decided.denied.bits(),

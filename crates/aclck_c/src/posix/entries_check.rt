@@ -1,5 +1,5 @@
 //! What POSIX entries in canonical order grant, and their mode. No call takes memory.
-ghost use Rattle.aclck_c.specs.CheckPosix.{AreGoodIds, object_asked, object_of, requester_asking, requester_of};
+ghost use Rattle.aclck_c.specs.CheckPosix.{AreGoodIds, object_asked, object_of, requester_asking, requester_with_ids};
 ghost use Rattle.acl_posix.specs.RawEntries.{raw_tag_number};
 ghost use Rattle.acl_posix.specs.Tag.{tag_of};
 ghost use Rattle.aclck_c.specs.Entries.{ChecksEntries, DecideEntries, HaveMode, IsPlaced, IsTagPlaced, no_posix_decision, view_refusal};
@@ -57,7 +57,7 @@ pub extern "C" fn aclck_entries_check(
 fn decide(entries: &[RawEntry], request: &PosixRequest, groups: &[u32]) -> Result<bool, Failure>
     ensures ok { IfOk result (ChecksEntries entries.now
         (object_of request.now.owner.value request.now.group.value)
-        (requester_of request.now.user.value groups.now) request.now.want.bits) }
+        (requester_with_ids request.now.user.value groups.now) request.now.want.bits) }
     ensures err { IfErr result (AreViewFailure entries.now) }
 {
     let acl = EntriesView::new(entries)?;
@@ -130,7 +130,7 @@ fn decision_of(
 ) -> Result<RawPosixDecision, Failure>
     ensures ok { IfOk result (DecideEntries entries.now
         (object_of request.now.owner.value request.now.group.value)
-        (requester_of request.now.user.value groups.now) request.now.want.bits) }
+        (requester_with_ids request.now.user.value groups.now) request.now.want.bits) }
     ensures err { IfErr result (AreViewFailure entries.now) }
 {
     let acl = EntriesView::new(entries)?;

@@ -15,22 +15,30 @@ use crate::{
     RawQuestion, Refusal, aclck_decide_ids, aclck_posix_check, aclck_prepare_ids,
 };
 use std::alloc::Global;
-use std::test::Fail;
 
 #[test]
-fn a_short_buffer_stays_as_it_was(rt: HostRuntime) -> Result<(), Fail> {
+fn a_short_buffer_stays_as_it_was(rt: HostRuntime) {
     let mut out = [0u8; 30];
-    let (status, needed) = normalize_into(rt.alloc(), &mut out);
-    assert_eq!(rt; status, DONE);
-    assert_eq!(rt; needed, 24);
-    assert_eq!(rt; &out[..24], LIST.as_slice());
+    let answer = normalize_into(rt.alloc(), &mut out);
+    assert!(rt; answer == (DONE, 24));
+    assert!(rt; out.starts_with(LIST));
     let mut short = [7u8; 3];
-    let (status, needed) = normalize_into(rt.alloc(), &mut short);
-    assert_eq!(rt; status, SHORT);
-    assert_eq!(rt; needed, 24);
-    assert_eq!(rt; short, [7, 7, 7]);
-    Ok(())
+    let answer = normalize_into(rt.alloc(), &mut short);
+    assert!(rt; answer == (SHORT, 24));
+    assert!(rt; short == [7, 7, 7]);
 }
+
+const BOB: RawName<'static> = RawName {
+    name: b"bob",
+    id: 7,
+    is_group: 0,
+};
+
+const NO_HALF: RawName<'static> = RawName {
+    name: b"bob",
+    id: 7,
+    is_group: 2,
+};
 
 // The status of `aclck_posix_check` for a user who wants to read, and the answer that it leaves in place of a 7.
 fn may_read(alloc: Global, names: &[RawName<'_>], user: u32, fault: &mut Refusal) -> (u32, u32) {
@@ -50,30 +58,24 @@ fn may_read(alloc: Global, names: &[RawName<'_>], user: u32, fault: &mut Refusal
     (status, granted)
 }
 
+// Names, a user, and the status and the answer.
+static TABLES: [(&[RawName<'static>], u32, (u32, u32)); 5] = [
+    (&[BOB], 7, (DONE, 1)),
+    (&[BOB], 8, (DONE, 0)),
+    (&[BOB, BOB], 7, (BAD_ARGUMENT, 0)),
+    (&[NO_HALF], 7, (BAD_ARGUMENT, 0)),
+    (&[], 7, (REFUSED, 0)),
+];
+
 #[test]
-fn a_text_may_use_the_names_of_a_table(rt: HostRuntime) -> Result<(), Fail> {
-    let bob = RawName {
-        name: b"bob",
-        id: 7,
-        is_group: 0,
-    };
-    let twice = [bob, bob];
-    let no_half = [RawName { is_group: 2, ..bob }];
+fn a_text_may_use_the_names_of_a_table(rt: HostRuntime) {
     let mut fault = no_fault();
-    let rows = [
-        (&twice[1..], 7, (DONE, 1)),
-        (&twice[1..], 8, (DONE, 0)),
-        (&twice[..], 7, (BAD_ARGUMENT, 0)),
-        (&no_half[..], 7, (BAD_ARGUMENT, 0)),
-        (&[], 7, (REFUSED, 0)),
-    ];
-    for (names, user, expected) in rows {
+    for (names, user, expected) in TABLES {
         let answer = may_read(rt.alloc(), names, user, &mut fault);
-        assert_eq!(rt; answer, expected);
+        assert!(rt; answer == expected);
     }
-    assert_eq!(rt; fault.reason, 22);
-    assert_eq!(rt; fault.column, 16);
-    Ok(())
+    assert!(rt; fault.reason == 22);
+    assert!(rt; fault.column == 16);
 }
 
 // The status of `aclck_prepare_ids` for `LIST` with these names, and the number of its bytes.
@@ -102,38 +104,43 @@ fn decide(prepared: &[u8], user: u32, groups: &[u32], options: u32) -> (u32, u32
     (status, decided.allowed, decided.denied)
 }
 
+// Names, and the status and the number of bytes with room for sixteen.
+static NAMES: [(&[RawName<'static>], (u32, usize)); 3] = [
+    (&[BOB, BOB], (BAD_ARGUMENT, 9)),
+    (&[], (REFUSED, 9)),
+    (&[BOB], (DONE, 16)),
+];
+
+// A user, the groups of the user, options, and the status and the rights.
+static QUESTIONS: [(u32, &[u32], u32, (u32, u32, u32)); 5] = [
+    (7, &[1, 2], 0, (DONE, 1, 0)),
+    (8, &[1, 7], 0, (DONE, 0, 0)),
+    (7, &[2, 1], 0, (BAD_ARGUMENT, 0, 0)),
+    (7, &[1, 1], 0, (BAD_ARGUMENT, 0, 0)),
+    (7, &[1, 2], 1, (BAD_ARGUMENT, 0, 0)),
+];
+
 #[test]
-fn a_list_is_asked_by_ids(rt: HostRuntime) -> Result<(), Fail> {
-    let bob = RawName {
-        name: b"bob",
-        id: 7,
-        is_group: 0,
-    };
+fn a_list_is_asked_by_ids(rt: HostRuntime) {
     let mut out = [0u8; 16];
     let mut fault = no_fault();
-    let mut short = [0u8; 15];
-    let answer = prepare(rt.alloc(), &[bob], &mut short, &mut fault);
-    assert_eq!(rt; answer, (SHORT, 16));
-    let answer = prepare(rt.alloc(), &[bob, bob], &mut out, &mut fault);
-    assert_eq!(rt; answer, (BAD_ARGUMENT, 9));
-    let answer = prepare(rt.alloc(), &[], &mut out, &mut fault);
-    assert_eq!(rt; answer, (REFUSED, 9));
-    assert_eq!(rt; fault.reason, 22);
-    assert_eq!(rt; fault.offset, 0);
-    let answer = prepare(rt.alloc(), &[bob], &mut out, &mut fault);
-    assert_eq!(rt; answer, (DONE, 16));
-    let rows = [
-        (7, [1u32, 2], 0, (DONE, 1, 0)),
-        (8, [1, 7], 0, (DONE, 0, 0)),
-        (7, [2, 1], 0, (BAD_ARGUMENT, 0, 0)),
-        (7, [1, 1], 0, (BAD_ARGUMENT, 0, 0)),
-        (7, [1, 2], 1, (BAD_ARGUMENT, 0, 0)),
-    ];
-    for (user, groups, options, expected) in rows {
-        let answer = decide(&out, user, &groups, options);
-        assert_eq!(rt; answer, expected);
+    for (names, expected) in NAMES {
+        let answer = prepare(rt.alloc(), names, &mut out, &mut fault);
+        assert!(rt; answer == expected);
     }
-    let answer = decide(&out[..15], 7, &[], 0);
-    assert_eq!(rt; answer, (BAD_ARGUMENT, 0, 0));
-    Ok(())
+    assert!(rt; fault.reason == 22);
+    assert!(rt; fault.offset == 0);
+    for (user, groups, options, expected) in QUESTIONS {
+        let answer = decide(&out, user, groups, options);
+        assert!(rt; answer == expected);
+    }
+}
+
+#[test]
+fn too_few_bytes_are_no_prepared_list(rt: HostRuntime) {
+    let mut short = [0u8; 15];
+    let answer = prepare(rt.alloc(), &[BOB], &mut short, &mut no_fault());
+    assert!(rt; answer == (SHORT, 16));
+    let answer = decide(&short, 7, &[], 0);
+    assert!(rt; answer == (BAD_ARGUMENT, 0, 0));
 }

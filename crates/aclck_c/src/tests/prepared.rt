@@ -7,6 +7,7 @@ use crate::nfs4::decide::RawDecided;
 use crate::options::{GROUPS_IN_ORDER, NARROW};
 use crate::status::{BAD_ARGUMENT, DONE};
 use crate::{RawQuestion, RawRequester, aclck_decide_prepared, aclck_decide_prepared_many};
+use std::alloc::Global;
 use std::test::Fail;
 
 // ALLOW READ_DATA bob: the mask in four bytes, 2 for an ALLOW of a user, the key of the name, and its length in two.
@@ -39,10 +40,17 @@ fn named(user: &[u8]) -> RawRequester<'_> {
 }
 
 // The status for this user, and the rights that are then allowed and denied.
-fn decide(prepared: &[u8], user: &[u8], question: &RawQuestion) -> (u32, u32, u32) {
+fn decide(alloc: Global, prepared: &[u8], user: &[u8], question: &RawQuestion) -> (u32, u32, u32) {
     let mut decided = UNTOUCHED;
     let requester = named(user);
-    let status = aclck_decide_prepared(prepared, &OBJECT, &requester, question, &mut decided);
+    let status = aclck_decide_prepared(
+        alloc,
+        prepared,
+        &OBJECT,
+        &requester,
+        question,
+        &mut decided,
+    );
     (status, decided.allowed, decided.denied)
 }
 
@@ -71,20 +79,20 @@ fn prepared_bytes_answer_and_others_are_refused_or_answer(rt: HostRuntime) -> Re
         (CUT.as_slice(), "bob", READ, (BAD_ARGUMENT, 0, 0)),
     ];
     for (prepared, user, question, expected) in rows {
-        let answer = decide(prepared, user.as_bytes(), &question);
+        let answer = decide(rt.alloc(), prepared, user.as_bytes(), &question);
         assert_eq!(rt; answer, expected);
     }
     Ok(())
 }
 
 // The status for bob and eve, and the rights that are then allowed bob, eve and a third.
-fn decide_many(prepared: &[u8], places: usize) -> (u32, u32, u32, u32)
+fn decide_many(alloc: Global, prepared: &[u8], places: usize) -> (u32, u32, u32, u32)
     requires { places ≤ 3 }
 {
     let requesters = [named(b"bob"), named(b"eve")];
     let mut decided = [UNTOUCHED; 3];
     let room = &mut decided[..places];
-    let status = aclck_decide_prepared_many(prepared, &OBJECT, &requesters, &READ, room);
+    let status = aclck_decide_prepared_many(alloc, prepared, &OBJECT, &requesters, &READ, room);
     (
         status,
         decided[0].allowed,
@@ -102,22 +110,23 @@ fn each_requester_has_a_place(rt: HostRuntime) -> Result<(), Fail> {
         (CUT.as_slice(), 2, (BAD_ARGUMENT, 0, 0, 7)),
     ];
     for (prepared, places, expected) in rows {
-        let answer = decide_many(prepared, places);
+        let answer = decide_many(rt.alloc(), prepared, places);
         assert_eq!(rt; answer, expected);
     }
     Ok(())
 }
 
 // The rights that `GROUP_DENIED` denies bob, who is in these groups: alone, and as the second of two requesters.
-fn denied(groups: &[&[u8]], question: &RawQuestion) -> (u32, u32) {
+fn denied(alloc: Global, groups: &[&[u8]], question: &RawQuestion) -> (u32, u32) {
     let bob = RawRequester {
         user: b"bob",
         groups,
     };
     let mut alone = UNTOUCHED;
-    aclck_decide_prepared(GROUP_DENIED, &OBJECT, &bob, question, &mut alone);
+    aclck_decide_prepared(alloc, GROUP_DENIED, &OBJECT, &bob, question, &mut alone);
     let mut both = [UNTOUCHED; 2];
     aclck_decide_prepared_many(
+        alloc,
         GROUP_DENIED,
         &OBJECT,
         &[named(b"eve"), bob],
@@ -138,7 +147,7 @@ fn a_group_that_a_binary_search_misses_denies_nothing(rt: HostRuntime) {
         (&[b"users", b"staff", b"users"], 1, 1),
     ];
     for (groups, unsaid, said) in rows {
-        assert!(rt; denied(groups, &READ) == (unsaid, unsaid));
-        assert!(rt; denied(groups, &READ_IN_ORDER) == (said, said));
+        assert!(rt; denied(rt.alloc(), groups, &READ) == (unsaid, unsaid));
+        assert!(rt; denied(rt.alloc(), groups, &READ_IN_ORDER) == (said, said));
     }
 }

@@ -63,7 +63,7 @@ fn an_array_of_aces_is_a_list_or_the_first_bad_ace_is_refused(rt: HostRuntime) -
 }
 
 #[test]
-fn the_bytes_of_a_list_are_built(rt: HostRuntime) -> Result<(), Fail> {
+fn the_bytes_of_a_list_are_built(rt: HostRuntime) {
     let mut fault = no_fault();
     let mut needed = 0;
     let mut out = [7u8; 24];
@@ -75,9 +75,8 @@ fn the_bytes_of_a_list_are_built(rt: HostRuntime) -> Result<(), Fail> {
         &mut needed,
         &mut fault,
     );
-    assert_eq!(rt; status, DONE);
-    assert_eq!(rt; out, *LIST);
-    Ok(())
+    assert!(rt; status == DONE);
+    assert!(rt; out == *LIST);
 }
 
 // ALLOW READ_DATA NOW@, DENY WRITE_DATA NOW@, ALLOW WRITE_DATA EVERYONE@, ALARM READ_DATA bob.
@@ -87,18 +86,19 @@ const UNKNOWN: &[u8; 92] = b"\0\0\0\x04\
 \0\0\0\0\0\0\0\0\0\0\0\x02\0\0\0\x09EVERYONE@\0\0\0\
 \0\0\0\x03\0\0\0\0\0\0\0\x01\0\0\0\x03bob\0";
 
-// Read depends on NOW@ and so does write, but no match of NOW@ grants both.
+// A mask, the status, and the answers to it. Read depends on NOW@ and so does write, but no match of NOW@ grants both.
+static ANSWERS: [(u32, u32, (u32, u32, u32, u32, u32)); 6] = [
+    (1, DONE, (0, 0, 1, 1, 1)),
+    (2, DONE, (0, 0, 2, 1, 1)),
+    (3, DONE, (0, 0, 3, 0, 1)),
+    (4, DONE, (0, 0, 0, 0, 1)),
+    (0, DONE, (0, 0, 0, 2, 1)),
+    (0x800, BAD_ARGUMENT, (0, 0, 0, 0, 0)),
+];
+
 #[test]
-fn two_rights_may_each_be_granted_and_never_both(rt: HostRuntime) -> Result<(), Fail> {
-    let rows = [
-        (1, DONE, (0, 0, 1, 1, 1)),
-        (2, DONE, (0, 0, 2, 1, 1)),
-        (3, DONE, (0, 0, 3, 0, 1)),
-        (4, DONE, (0, 0, 0, 0, 1)),
-        (0, DONE, (0, 0, 0, 2, 1)),
-        (0x800, BAD_ARGUMENT, (0, 0, 0, 0, 0)),
-    ];
-    for (mask, expected, answers) in rows {
+fn two_rights_may_each_be_granted_and_never_both(rt: HostRuntime) {
+    for (mask, expected, answers) in ANSWERS {
         let mut fault = no_fault();
         let mut found = RawPossible {
             allowed: 7,
@@ -121,17 +121,14 @@ fn two_rights_may_each_be_granted_and_never_both(rt: HostRuntime) -> Result<(), 
             &mut found,
             &mut fault,
         );
-        assert_eq!(rt; status, expected);
-        assert_eq!(rt;
-            (
-                found.allowed,
-                found.denied,
-                found.unknown,
-                found.request,
-                found.left_out
-            ),
-            answers
+        let found = (
+            found.allowed,
+            found.denied,
+            found.unknown,
+            found.request,
+            found.left_out,
         );
+        assert!(rt; status == expected);
+        assert!(rt; found == answers);
     }
-    Ok(())
 }

@@ -4,11 +4,13 @@ use crate::tests::{LIST, no_fault};
 use crate::{RawName, RawNames, RawPosixLoss, aclck_to_posix};
 use acl_posix::RawEntry;
 use std::alloc::Global;
-use std::test::Fail;
 
 const NO_ID: u32 = 0xffff_ffff;
 
 const NO_ACE: &[u8; 4] = b"\0\0\0\0";
+
+// `LIST` without its last byte.
+const CUT: &[u8; 23] = b"\0\0\0\x01\0\0\0\0\0\0\0\0\0\0\0\x01\0\0\0\x03bob";
 
 const BOB: RawName<'static> = RawName {
     name: b"bob",
@@ -36,13 +38,15 @@ const UNTOLD: RawPosixLoss = RawPosixLoss {
 
 // The status, the number of entries in place of a 9, whether the ACL is exact, the user who loses something and what,
 // and the reason of a refusal.
+type Converted = (u32, usize, u32, u32, u32, u32);
+
 fn converted(
     alloc: Global,
     acl: &[u8],
     names: &[RawName<'_>],
     most: u32,
     out: &mut [RawEntry],
-) -> (u32, usize, u32, u32, u32, u32) {
+) -> Converted {
     let names = RawNames { names };
     let mut fault = no_fault();
     let mut needed = 9;
@@ -67,55 +71,55 @@ fn converted(
     )
 }
 
-// bob may read. If the file is his, USER_OBJ decides, which is that of any owner, so bob loses read.
+// A list, names, the most entries of users and groups, and what `converted` returns. bob may read. If the file is his,
+// USER_OBJ decides, which is that of any owner, so bob loses read.
+static LISTS: [(&[u8], &[RawName<'static>], u32, Converted); 7] = [
+    (LIST, &[BOB], 1, (DONE, 5, 0, 5, 4, 0)),
+    (NO_ACE, &[], 0, (DONE, 3, 1, 0, 0, 0)),
+    (LIST, &[BOB], 0, (REFUSED, 9, 0, 0, 0, 28)),
+    (LIST, &[], 1, (REFUSED, 9, 0, 0, 0, 22)),
+    (CUT, &[BOB], 1, (REFUSED, 9, 0, 0, 0, 1)),
+    (LIST, &[BOB], 65_536, (BAD_ARGUMENT, 9, 0, 0, 0, 0)),
+    (LIST, &[BOB, BOB], 1, (BAD_ARGUMENT, 9, 0, 0, 0, 0)),
+];
+
 #[test]
-fn a_list_is_converted_or_refused(rt: HostRuntime) -> Result<(), Fail> {
+fn a_list_is_converted_or_refused(rt: HostRuntime) {
     let mut out = [UNTOUCHED; 5];
-    let answer = converted(rt.alloc(), LIST, &[BOB], 1, &mut out);
-    assert_eq!(rt; answer, (DONE, 5, 0, 5, 4, 0));
-    let answer = converted(rt.alloc(), NO_ACE, &[], 0, &mut out);
-    assert_eq!(rt; answer, (DONE, 3, 1, 0, 0, 0));
-    let answer = converted(rt.alloc(), LIST, &[BOB], 0, &mut out);
-    assert_eq!(rt; answer, (REFUSED, 9, 0, 0, 0, 28));
-    let answer = converted(rt.alloc(), LIST, &[], 1, &mut out);
-    assert_eq!(rt; answer, (REFUSED, 9, 0, 0, 0, 22));
-    let answer = converted(rt.alloc(), &LIST[..23], &[BOB], 1, &mut out);
-    assert_eq!(rt; answer, (REFUSED, 9, 0, 0, 0, 1));
-    let answer = converted(rt.alloc(), LIST, &[BOB], 65_536, &mut out);
-    assert_eq!(rt; answer, (BAD_ARGUMENT, 9, 0, 0, 0, 0));
-    let answer = converted(rt.alloc(), LIST, &[BOB, BOB], 1, &mut out);
-    assert_eq!(rt; answer, (BAD_ARGUMENT, 9, 0, 0, 0, 0));
-    Ok(())
+    for (list, names, most, expected) in LISTS {
+        let answer = converted(rt.alloc(), list, names, most, &mut out);
+        assert!(rt; answer == expected);
+    }
 }
 
 #[test]
-fn a_loss_is_written_where_the_entries_have_no_room(rt: HostRuntime) -> Result<(), Fail> {
+fn a_loss_is_written_where_the_entries_have_no_room(rt: HostRuntime) {
     let mut out = [UNTOUCHED; 4];
     let answer = converted(rt.alloc(), LIST, &[BOB], 65_535, &mut out);
-    assert_eq!(rt; answer, (SHORT, 5, 0, 5, 4, 0));
-    assert_eq!(rt; out[0].tag, 7);
+    assert!(rt; answer == (SHORT, 5, 0, 5, 4, 0));
+    assert!(rt; out[0].tag == 7);
     let answer = converted(rt.alloc(), NO_ACE, &[], 0, &mut []);
-    assert_eq!(rt; answer, (SHORT, 3, 1, 0, 0, 0));
-    Ok(())
+    assert!(rt; answer == (SHORT, 3, 1, 0, 0, 0));
 }
 
+// The tag, the id and the permissions of each entry of the POSIX ACL, and the next place, which stays as it was.
+static ENTRIES: [(u32, u32, u32); 6] = [
+    (1, NO_ID, 0),
+    (2, 5, 4),
+    (3, NO_ID, 0),
+    (5, NO_ID, 4),
+    (6, NO_ID, 0),
+    (7, 7, 7),
+];
+
 #[test]
-fn entries_are_in_canonical_order(rt: HostRuntime) -> Result<(), Fail> {
+fn entries_are_in_canonical_order(rt: HostRuntime) {
     let mut out = [UNTOUCHED; 6];
     let answer = converted(rt.alloc(), LIST, &[BOB], 1, &mut out);
-    assert_eq!(rt; answer, (DONE, 5, 0, 5, 4, 0));
-    let tags = [
-        out[0].tag, out[1].tag, out[2].tag, out[3].tag, out[4].tag, out[5].tag,
-    ];
-    assert_eq!(rt; tags, [1, 2, 3, 5, 6, 7]);
-    assert_eq!(rt; [out[0].id, out[1].id, out[3].id], [NO_ID, 5, NO_ID]);
-    let perms = [
-        out[0].perm,
-        out[1].perm,
-        out[2].perm,
-        out[3].perm,
-        out[4].perm,
-    ];
-    assert_eq!(rt; perms, [0, 4, 0, 4, 0]);
-    Ok(())
+    assert!(rt; answer == (DONE, 5, 0, 5, 4, 0));
+    for (entry, (tag, id, perm)) in out.iter().zip(&ENTRIES) {
+        assert!(rt; entry.tag == *tag);
+        assert!(rt; entry.id == *id);
+        assert!(rt; entry.perm == *perm);
+    }
 }

@@ -8,41 +8,44 @@ use crate::{
     RawObject, RawSuffix, aclck_child, aclck_chmod, aclck_prepare, aclck_resolved,
     aclck_with_groups,
 };
-use std::test::Fail;
+use std::alloc::Global;
 
-#[test]
-fn a_list_is_prepared(rt: HostRuntime) -> Result<(), Fail> {
+// The status, the number of bytes and the offset of the fault.
+fn prepare(alloc: Global, acl: &[u8], options: u32, out: &mut [u8]) -> (u32, usize, u64) {
     let mut fault = no_fault();
     let mut needed = 0;
+    let status = aclck_prepare(alloc, acl, options, out, &mut needed, &mut fault);
+    (status, needed, fault.offset)
+}
+
+#[test]
+fn a_list_is_prepared(rt: HostRuntime) {
     let mut out = [0u8; 19];
-    let status = aclck_prepare(rt.alloc(), LIST, NARROW, &mut out, &mut needed, &mut fault);
-    assert_eq!(rt; status, DONE);
-    assert_eq!(rt; out, *PREPARED);
-    let mut short = [0u8; 18];
-    let status = aclck_prepare(rt.alloc(), LIST, 0, &mut short, &mut needed, &mut fault);
-    assert_eq!(rt; status, SHORT);
-    assert_eq!(rt; needed, 19);
-    let cut = &LIST[..23];
-    let status = aclck_prepare(rt.alloc(), cut, 0, &mut out, &mut needed, &mut fault);
-    assert_eq!(rt; status, REFUSED);
-    assert_eq!(rt; fault.offset, 23);
-    Ok(())
+    let answer = prepare(rt.alloc(), LIST, NARROW, &mut out);
+    assert!(rt; answer == (DONE, 19, 0));
+    assert!(rt; out == *PREPARED);
+    let answer = prepare(rt.alloc(), LIST, 0, &mut [0u8; 18]);
+    assert!(rt; answer == (SHORT, 19, 0));
+    let answer = prepare(rt.alloc(), &LIST[..23], 0, &mut out);
+    assert!(rt; answer == (REFUSED, 0, 23));
 }
 
 // ALLOW FILE|DIRECTORY READ_DATA bob.
 const PASSED_ON: &[u8; 24] = b"\0\0\0\x01\0\0\0\0\0\0\0\x03\0\0\0\x01\0\0\0\x03bob\0";
 
+// Options, the status, and the flags of the ACE in place of a 7.
+static CHILDREN: [(u32, u32, u8); 6] = [
+    (0, DONE, 0),
+    (MARK_INHERITED, DONE, 0x80),
+    (DIRECTORY, DONE, 3),
+    (DIRECTORY | MARK_INHERITED, DONE, 0x83),
+    (NARROW | DIRECTORY, DONE, 3),
+    (NARROW | MARK_INHERITED, BAD_ARGUMENT, 7),
+];
+
 #[test]
-fn what_is_inherited_is_marked_if_the_options_say_so(rt: HostRuntime) -> Result<(), Fail> {
-    let rows = [
-        (0, DONE, 0),
-        (MARK_INHERITED, DONE, 0x80),
-        (DIRECTORY, DONE, 3),
-        (DIRECTORY | MARK_INHERITED, DONE, 0x83),
-        (NARROW | DIRECTORY, DONE, 3),
-        (NARROW | MARK_INHERITED, BAD_ARGUMENT, 7),
-    ];
-    for (options, expected, flags) in rows {
+fn what_is_inherited_is_marked_if_the_options_say_so(rt: HostRuntime) {
+    for (options, expected, flags) in CHILDREN {
         let mut fault = no_fault();
         let mut needed = 0;
         let mut out = [7u8; 24];
@@ -54,10 +57,9 @@ fn what_is_inherited_is_marked_if_the_options_say_so(rt: HostRuntime) -> Result<
             &mut needed,
             &mut fault,
         );
-        assert_eq!(rt; status, expected);
-        assert_eq!(rt; out[11], flags);
+        assert!(rt; status == expected);
+        assert!(rt; out[11] == flags);
     }
-    Ok(())
 }
 
 // The list of bob with the mode 0600: ALLOW READ_DATA|WRITE_DATA|APPEND_DATA OWNER@, DENY EXECUTE OWNER@, and DENY of
@@ -67,15 +69,17 @@ const PRIVATE: &[u8; 76] = b"\0\0\0\x03\
 \0\0\0\x01\0\0\0\0\0\0\0\x20\0\0\0\x06OWNER@\0\0\
 \0\0\0\x01\0\0\0\0\0\0\0\x27\0\0\0\x06GROUP@\0\0";
 
+// A mode, options, the status and the number of bytes.
+static MODES: [(u32, u32, u32, usize); 4] = [
+    (0o600, 0, DONE, 76),
+    (0o600, NARROW, DONE, 76),
+    (0o1000, 0, BAD_ARGUMENT, 0),
+    (0o600, DIRECTORY, BAD_ARGUMENT, 0),
+];
+
 #[test]
-fn a_list_gets_a_mode(rt: HostRuntime) -> Result<(), Fail> {
-    let rows = [
-        (0o600, 0, DONE),
-        (0o600, NARROW, DONE),
-        (0o1000, 0, BAD_ARGUMENT),
-        (0o600, DIRECTORY, BAD_ARGUMENT),
-    ];
-    for (mode, options, expected) in rows {
+fn a_list_gets_a_mode(rt: HostRuntime) {
+    for (mode, options, expected, size) in MODES {
         let mut fault = no_fault();
         let mut needed = 0;
         let mut out = [7u8; 76];
@@ -88,11 +92,10 @@ fn a_list_gets_a_mode(rt: HostRuntime) -> Result<(), Fail> {
             &mut needed,
             &mut fault,
         );
-        assert_eq!(rt; status, expected);
-        assert_eq!(rt; needed, if expected == DONE { 76 } else { 0 });
-        assert_eq!(rt; out == *PRIVATE, expected == DONE);
+        assert!(rt; status == expected);
+        assert!(rt; needed == size);
+        assert!(rt; (out == *PRIVATE) == (expected == DONE));
     }
-    Ok(())
 }
 
 // ALLOW READ_DATA OWNER@ and DENY EXECUTE GROUP@, and the same with the owner bob and the owning group staff.
@@ -104,16 +107,18 @@ const NAMED: &[u8; 48] = b"\0\0\0\x02\
 \0\0\0\0\0\0\0\0\0\0\0\x01\0\0\0\x03bob\0\
 \0\0\0\x01\0\0\0\x40\0\0\0\x20\0\0\0\x05staff\0\0\0";
 
+// The owner, the owning group, options, the status and the place of the fault.
+static OBJECTS: [(&[u8], &[u8], u32, u32, u64); 5] = [
+    (b"bob", b"staff", 0, DONE, 0),
+    (b"bob", b"staff", DIRECTORY, BAD_ARGUMENT, 0),
+    (b"", b"staff", 0, BAD_ARGUMENT, 0),
+    (b"EVERYONE@", b"staff", 0, REFUSED, 0),
+    (b"bob", b"x@", 0, REFUSED, 1),
+];
+
 #[test]
-fn the_owner_and_the_owning_group_are_named(rt: HostRuntime) -> Result<(), Fail> {
-    let rows: [(&[u8], &[u8], u32, u32, u64); 5] = [
-        (b"bob", b"staff", 0, DONE, 0),
-        (b"bob", b"staff", DIRECTORY, BAD_ARGUMENT, 0),
-        (b"", b"staff", 0, BAD_ARGUMENT, 0),
-        (b"EVERYONE@", b"staff", 0, REFUSED, 0),
-        (b"bob", b"x@", 0, REFUSED, 1),
-    ];
-    for (owner, group, options, expected, place) in rows {
+fn the_owner_and_the_owning_group_are_named(rt: HostRuntime) {
+    for (owner, group, options, expected, place) in OBJECTS {
         let mut fault = no_fault();
         let mut needed = 0;
         let mut out = [7u8; 48];
@@ -127,11 +132,10 @@ fn the_owner_and_the_owning_group_are_named(rt: HostRuntime) -> Result<(), Fail>
             &mut needed,
             &mut fault,
         );
-        assert_eq!(rt; status, expected);
-        assert_eq!(rt; out == *NAMED, expected == DONE);
-        assert_eq!(rt; fault.offset, place);
+        assert!(rt; status == expected);
+        assert!(rt; (out == *NAMED) == (expected == DONE));
+        assert!(rt; fault.offset == place);
     }
-    Ok(())
 }
 
 // ALLOW READ_DATA NOW@ after an ALARM ACE of everybody, and what stays with the suffix `?`.
@@ -139,18 +143,25 @@ const SPECIAL: &[u8; 52] = b"\0\0\0\x02\
 \0\0\0\x03\0\0\0\0\0\0\0\x01\0\0\0\x09EVERYONE@\0\0\0\
 \0\0\0\0\0\0\0\0\0\0\0\x01\0\0\0\x04NOW@";
 
+// `SPECIAL` without its last byte.
+const CUT: &[u8; 51] = b"\0\0\0\x02\
+\0\0\0\x03\0\0\0\0\0\0\0\x01\0\0\0\x09EVERYONE@\0\0\0\
+\0\0\0\0\0\0\0\0\0\0\0\x01\0\0\0\x04NOW";
+
 const GROUPED: &[u8; 28] = b"\0\0\0\x01\0\0\0\0\0\0\0\x40\0\0\0\x01\0\0\0\x05NOW@?\0\0\0";
 
+// A list, a suffix, options, the status and the offset of the fault.
+static SUFFIXES: [(&[u8], &[u8], u32, u32, u64); 5] = [
+    (SPECIAL, b"?", 0, DONE, 0),
+    (SPECIAL, b"?", DIRECTORY, BAD_ARGUMENT, 0),
+    (SPECIAL, b"@", 0, REFUSED, 0),
+    (CUT, b"?", 0, REFUSED, 48),
+    (GROUPED, b"", 0, DONE, 0),
+];
+
 #[test]
-fn a_group_stands_for_a_special_name(rt: HostRuntime) -> Result<(), Fail> {
-    let rows: [(&[u8], &[u8], u32, u32, u64); 5] = [
-        (SPECIAL, b"?", 0, DONE, 0),
-        (SPECIAL, b"?", DIRECTORY, BAD_ARGUMENT, 0),
-        (SPECIAL, b"@", 0, REFUSED, 0),
-        (&SPECIAL[..51], b"?", 0, REFUSED, 48),
-        (GROUPED, b"", 0, DONE, 0),
-    ];
-    for (acl, suffix, options, expected, place) in rows {
+fn a_group_stands_for_a_special_name(rt: HostRuntime) {
+    for (acl, suffix, options, expected, offset) in SUFFIXES {
         let mut fault = no_fault();
         let mut needed = 0;
         let mut out = [7u8; 28];
@@ -164,9 +175,8 @@ fn a_group_stands_for_a_special_name(rt: HostRuntime) -> Result<(), Fail> {
             &mut needed,
             &mut fault,
         );
-        assert_eq!(rt; status, expected);
-        assert_eq!(rt; out == *GROUPED, expected == DONE);
-        assert_eq!(rt; fault.offset, place);
+        assert!(rt; status == expected);
+        assert!(rt; (out == *GROUPED) == (expected == DONE));
+        assert!(rt; fault.offset == offset);
     }
-    Ok(())
 }
