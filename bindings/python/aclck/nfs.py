@@ -267,8 +267,8 @@ class NfsAcl:
 
     def renamed(self, users: Optional[Mapping[Name, Name]] = None, groups: Optional[Mapping[Name, Name]] = None, *,
                 may_merge: bool = False) -> NfsAcl:
-        """Returns the list with other names of users and groups: each name that a table has is exchanged for the name
-        that stands there, and all others stay.
+        """Returns the list with other names of users and groups: each name that is a key of its table is exchanged for
+        the value of the key, and all others stay.
 
         Raises Refused with the reason `Merged` and the place of an ACE if two names would become one, unless
         `may_merge` is true. Raises ValueError if a name of a table is empty, special, or no name of a list.
@@ -295,8 +295,9 @@ class NfsAcl:
     def to_posix(self, names: NamedIds = (), most: int = 256) -> ToPosix:
         """Returns a POSIX list in place of this list, and who loses by it (docs/convert.md, "An NFSv4 list as a POSIX
         list"). It never grants more than this list: r only if this list grants READ_DATA, w only if it grants
-        WRITE_DATA and APPEND_DATA, x only if it grants EXECUTE. ACEs with INHERIT_ONLY do not count, and there are no
-        default entries. `names` has the ids of names: name, id, whether it is a group. A name of digits is an id.
+        WRITE_DATA and APPEND_DATA, x only if it grants EXECUTE. DELETE_CHILD, which POSIX systems give with w on a
+        directory, is not asked for. ACEs with INHERIT_ONLY do not count, and there are no default entries. `names` has
+        the ids of names: name, id, whether it is a group. A name of digits is an id.
 
         Raises Refused: with the reason `UnknownName` and the place of the ACE, from 0, if a name has no id, and with
         the reason `Limits` if the list names more than `most` users and groups. Raises ValueError if `most` is above

@@ -15,7 +15,7 @@ from .entries import Entry, held, part_in_c, parted, read_line, value_of
 from .faults import Refused, of_part
 from .nfs import NfsAcl
 from .tables import NamedIds, table_in_c
-from .tar_texts import DEFAULT_OF_TEXT, DEFAULT_TEXT, TEXT, TarStyle, entries_in, text_of
+from .tar_texts import DEFAULT_OF_TEXT, DEFAULT_TEXT, TEXT, TarStyle, entries_in, spelled_in_c, text_of
 
 _ID = re.compile(r"\b(u|user|g|group):(\d+):")
 _NAME = re.compile(r"(?!\d+$)[^\s:,#\\]+")
@@ -104,15 +104,16 @@ class PosixAcl:
 
     @classmethod
     def from_archive(cls, access: Optional[Name], default: Optional[Name] = None,
-                     names: NamedIds = (), mode: int = 0) -> PosixAcl:
+                     names: NamedIds = (), mode: int = 0, style: TarStyle = TarStyle.STAR) -> PosixAcl:
         """Makes a list from the texts of the headers `SCHILY.acl.access` and `SCHILY.acl.default` of an archive, each
         None if the header is absent. Without the first, the entries are those of the mode. In a text, a user or a group
-        is an id, a name with an id at the end of its entry, or one of `names`: name, id, whether it is a group.
+        is an id, a name with an id at the end of its entry, or one of `names`: name, id, whether it is a group. The
+        style matters for names with a backslash or a separator alone.
 
         Raises Refused with the place of a byte in the text, which is the second one for a default header. Raises
         ValueError if both texts have a default ACL, and as the constructor does for names.
         """
-        table = table_in_c(names)
+        table = spelled_in_c(names, style)
         first, second = (None if text is None else c.PosixText(c.in_c(c.encoded(text)), table)
                          for text in (access, default))
         parts = [_mode_entries(c.word(mode)) if first is None else held(entries_in(first, TEXT)),
@@ -156,13 +157,13 @@ class PosixAcl:
                    names: NamedIds = ()) -> Tuple[str, Optional[str]]:
         """Returns the texts of `SCHILY.acl.access` and of `SCHILY.acl.default`, which is None if the list has no default
         entries. An id is written as its first name in `names` (name, id, whether it is a group), or as a number.
-        `from_archive` reads the texts back, those of GNU tar with the same names.
+        `from_archive` reads the texts back, those of GNU tar with the same names and the same style.
 
         Raises Refused with the part and the place of the entry in it, from 0: for Separator and TooLong if its name
         would not be read back, and in the style of star for Id if its id is above 2147483647, which bsdtar loses.
         Raises ValueError for names as the constructor does.
         """
-        table, default = table_in_c(names), self._default
+        table, default = spelled_in_c(names, style), self._default
         access = c.decoded(text_of(self._access, table, style, False))
         return access, c.decoded(text_of(default, table, style, True)) if default.len else None
 

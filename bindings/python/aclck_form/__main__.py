@@ -9,14 +9,15 @@ import re
 import sys
 from typing import TYPE_CHECKING, List, NoReturn, Optional, Tuple
 
-from aclck import AceFlag, ListFlag, NfsAcl, PosixAcl, PosixDifference, Refused
+from aclck import (APPEND_DATA, DELETE_CHILD, WRITE_DATA, AceFlag, LeftOut, ListFlag, NfsAcl, PosixAcl,
+                   PosixDifference, Refused, mask_text)
 from aclck_tree import VERSION
 from aclck_tree.errors import DEVICE, REFUSED, YES, DeviceError, TreeError, UsageError
 from aclck_tree.text import quoted_line
 
 from .accounts import System, Table, exchanged, ids_of_names, names_of_ids
-from .values import (NFS, OF_DEFAULT, POSIX, TOOLS, WITH_FLAGS, WITH_IDS, WITH_NAMES, WITH_PARTS, read_nfs, read_part,
-                     read_posix, written_nfs, written_posix)
+from .values import (BYTES, NFS, OF_DEFAULT, POSIX, TOOLS, WITH_FLAGS, WITH_IDS, WITH_NAMES, WITH_PARTS, read_nfs,
+                     read_part, read_posix, style_of, written_nfs, written_posix)
 
 if TYPE_CHECKING:
     from _typeshed import SupportsWrite
@@ -28,6 +29,8 @@ SHORTER = 1 << 24
 """How many bytes a POSIX list, and a file of names, may have: each of them takes up to 50 times as much memory."""
 
 _PERMISSIONS = {4: "r", 2: "w", 1: "x"}
+
+_EXACT = "exact"
 
 _EPILOG = """forms of NFSv4 lists:
   xdr            the attribute system.nfs4_acl
@@ -85,10 +88,10 @@ def parser_of() -> argparse.ArgumentParser:
     for kind in ("file", "directory"):
         kinds.add_argument(f"--{kind}", dest="kind", action="store_const", const=kind,
                            help=f"with nfs4-tools: it is the list of a {kind}")
-    parser.add_argument("--bridge", action="store_true", help="make an NFSv4 list of a POSIX list, or a POSIX list of "
-                        "an NFSv4 list, and report who loses by it")
+    parser.add_argument("--bridge", action="store_true", help="make an NFSv4 list of a POSIX list; or make a POSIX "
+                        "list of an NFSv4 list, and report who loses by it")
     parser.add_argument("--exact-only", action="store_true", help="with --bridge to a POSIX form: write nothing if "
-                        "anybody loses r, w or x")
+                        "anybody loses r, w or x, or may lose it by --leave-out")
     parser.add_argument("--mode", metavar="OCT", type=_mode, help="with FROM posix-default, or "
                         "another one of default entries: the mode of the directory")
     names = parser.add_mutually_exclusive_group()
@@ -137,25 +140,27 @@ def _renames(args: argparse.Namespace) -> bool:
 def _converted(args: argparse.Namespace, data: bytes) -> bytes:
     """Returns the value in the form TO. Raises Refused and TreeError."""
     accounts = None if not args.exchanges else System() if args.system else Table(_names(args.names))
+    left_out: List[LeftOut] = []
     if args.source in POSIX:
         posix = _read_posix(args, _short(data), accounts)
         if args.to_posix:
             return _written_posix(args, posix, accounts)
         acl, flags = posix.bridge(), ListFlag(0)
     else:
-        acl, flags = _read_nfs(args, data)
+        acl, flags, left_out = _read_nfs(args, data)
     if accounts and _renames(args):
         suffix = b"" if args.domain is None else b"@" + os.fsencode(args.domain)
         acl = exchanged(acl, accounts, args.to_ids, suffix)
     kept = _placed(args, flags)
     if args.to_posix:
-        return _written_posix(args, _posix_of(args, acl), accounts)
+        return _written_posix(args, _posix_of(args, acl, left_out), accounts)
     return written_nfs(args.target, acl, kept, args.kind)
 
 
 def _read_posix(args: argparse.Namespace, data: bytes, accounts: Optional[System]) -> PosixAcl:
     """Returns the POSIX list of a value, and reports the entries for which TO has no place."""
-    names = ids_of_names(data, accounts) if accounts and args.source in WITH_NAMES else ()
+    style = style_of(args.source)
+    names = ids_of_names(data, accounts, style) if accounts and args.source in WITH_NAMES else ()
     posix = read_posix(args.source, data, args.mode, names)
     if args.target not in ("posix", *OF_DEFAULT) and any(entry.default for entry in posix):
         _drop(args, "default", "the default entries")
@@ -170,27 +175,49 @@ def _written_posix(args: argparse.Namespace, posix: PosixAcl, accounts: Optional
     return written_posix(args.target, posix, names_of_ids(entries, accounts) if accounts else ())
 
 
-def _read_nfs(args: argparse.Namespace, data: bytes) -> Tuple[NfsAcl, ListFlag]:
-    """Returns the NFSv4 list and the flags of a value, and reports the ACEs that are left out."""
+def _read_nfs(args: argparse.Namespace, data: bytes) -> Tuple[NfsAcl, ListFlag, List[LeftOut]]:
+    """Returns the NFSv4 list and the flags of a value, and the ACEs that are left out, which it reports."""
     if not args.leave_out:
-        return read_nfs(args.source, data, args.kind)
+        return (*read_nfs(args.source, data, args.kind), [])
     acl, flags, left_out = read_part(args.source, data, args.kind)
     for ace in left_out:
         _tell(f"left out: {ace}")
-    return acl, flags
+    return acl, flags, left_out
 
 
-def _posix_of(args: argparse.Namespace, acl: NfsAcl) -> PosixAcl:
+def _posix_of(args: argparse.Namespace, acl: NfsAcl, left_out: List[LeftOut]) -> PosixAcl:
     """Returns the POSIX list that an NFSv4 list with ids becomes, and reports who loses by it. Raises TreeError if
-    somebody does and `--exact-only` is given."""
-    if any(ace.flags & (AceFlag.FILE_INHERIT | AceFlag.DIRECTORY_INHERIT) for ace in acl):
+    somebody does, or may, and `--exact-only` is given."""
+    inherits = any(ace.flags & (AceFlag.FILE_INHERIT | AceFlag.DIRECTORY_INHERIT) for ace in acl)
+    if inherits:
         _drop(args, "default", "what new objects inherit")
     made = acl.to_posix()
-    line = "exact" if made.lost is None else f"not exact: {_loser(made.lost)}"
-    if args.exact_only and not made.exact:
+    line = _verdict(made.lost, left_out)
+    if args.exact_only and line != _EXACT:
         raise TreeError(f"{line}, and --exact-only is given")
     _tell(line)
+    for one, other in ((WRITE_DATA, APPEND_DATA), (APPEND_DATA, WRITE_DATA)):
+        if acl.implies(one, other):  # a POSIX list has no permission for one of them alone
+            _tell(f"{mask_text(one)} without {mask_text(other)} is lost")
+    if (inherits or args.kind == "directory") and _removes_more(made.acl, acl):
+        _tell("DELETE_CHILD is gained with w")
     return made.acl
+
+
+def _removes_more(posix: PosixAcl, acl: NfsAcl) -> bool:
+    """Returns whether the POSIX list grants w to somebody to whom the NFSv4 list does not grant DELETE_CHILD: by POSIX,
+    w on a directory is the right to remove what is in it, too."""
+    wider = (ace._replace(mask=ace.mask | DELETE_CHILD) if ace.mask & WRITE_DATA else ace for ace in posix.bridge())
+    return NfsAcl.from_aces(wider).exceeds(acl) is not None
+
+
+def _verdict(lost: Optional[PosixDifference], left_out: List[LeftOut]) -> str:
+    """Returns the words for what is lost. Whom an ALLOW of a special name allows something is not known."""
+    if lost is not None:
+        return f"not exact: {_loser(lost)}"
+    if any(ace.reason != "AuditOrAlarm" for ace in left_out):
+        return "not known to be exact: an ALLOW is left out"
+    return _EXACT
 
 
 def _loser(lost: PosixDifference) -> str:
@@ -239,6 +266,14 @@ def _short(data: bytes) -> bytes:
     return data
 
 
+def _write_value(form: str, data: bytes) -> None:
+    """Writes a value. On a terminal, a text has `\\u009b` in place of such a character, which could control it."""
+    if form not in BYTES and os.isatty(1):
+        lines = data.decode("utf-8", "surrogateescape").split("\n")
+        data = "\n".join(map(quoted_line, lines)).encode()
+    _write(data)
+
+
 def _write(data: bytes) -> None:
     try:
         while data:
@@ -257,7 +292,7 @@ def main(words: Optional[List[str]] = None) -> int:
     try:
         args = parser_of().parse_args(words)
         _judge(args)
-        _write(_converted(args, _read(0)))
+        _write_value(args.target, _converted(args, _read(0)))
         return YES
     except SystemExit:  # after --help or --version
         return YES

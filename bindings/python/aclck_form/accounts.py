@@ -9,7 +9,8 @@ import pwd
 import re
 from typing import Dict, Iterable, Iterator, Optional, Tuple, Union
 
-from aclck import ALLOW, Ace, AceFlag, Entry, NfsAcl, Refused
+from aclck import ALLOW, Ace, AceFlag, Entry, NfsAcl, Refused, TarStyle
+from aclck.tar_texts import unspelled
 from aclck_tree.errors import TreeError
 from aclck_tree.headers import accounts_in
 
@@ -86,10 +87,21 @@ def exchanged(acl: NfsAcl, accounts: System, to_ids: bool, suffix: bytes) -> Nfs
     return acl.renamed(*tables)
 
 
-def ids_of_names(text: bytes, accounts: System) -> Iterator[NamedId]:
+class _Spelled(System):
+    """Accounts by their names as a text has them."""
+
+    def __init__(self, accounts: System, style: TarStyle) -> None:
+        self._accounts, self._style = accounts, style
+
+    def number_of(self, is_group: bool, name: bytes) -> Optional[int]:
+        return self._accounts.number_of(is_group, os.fsencode(unspelled(os.fsdecode(name), self._style)))
+
+
+def ids_of_names(text: bytes, accounts: System, style: TarStyle) -> Iterator[NamedId]:
     """Yields the names that a text of a POSIX list has and the accounts know. Raises TreeError if a name and an id are
     not each other's only one."""
-    for name, number, is_group in accounts_in(text, accounts):
+    for word, number, is_group in accounts_in(text, _Spelled(accounts, style)):
+        name = unspelled(word, style)
         if accounts.name_of(is_group, number) != os.fsencode(name):
             raise TreeError(f"the id {number} has two names")
         yield name, number, is_group

@@ -18,6 +18,8 @@ WITH_NAMES = (_STAR, _STAR_DEFAULT, _GNU, _GNU_DEFAULT)
 TOOLS = "nfs4-tools"
 WITH_FLAGS = ("nfs41", "nfs41-ids")
 """The forms that have flags of the whole list."""
+BYTES = ("xdr", *WITH_FLAGS, "posix-access", "posix-default")
+"""The forms that are no texts."""
 WITH_IDS = ("nfs-text-ids", "nfs41-ids", *POSIX)
 """The forms whose lists have ids. Only the text of an archive writes names for them."""
 
@@ -35,6 +37,11 @@ def _form_of_library(form: str, kind: Optional[str]) -> ListForm:
     if form == TOOLS:
         return ListForm.NFS_TOOLS_DIRECTORY if kind == "directory" else ListForm.NFS_TOOLS_FILE
     return _OF_LIBRARY[form]
+
+
+def style_of(form: str) -> TarStyle:
+    """Returns whose text a form is."""
+    return TarStyle.GNU if form in (_GNU, _GNU_DEFAULT) else TarStyle.STAR
 
 
 def read_nfs(form: str, data: bytes, kind: Optional[str]) -> Tuple[NfsAcl, ListFlag]:
@@ -69,7 +76,7 @@ def read_posix(form: str, data: bytes, mode: Optional[int], names: Iterable[Name
         return PosixAcl(data)
     if form in WITH_NAMES:
         access, default = (None, data) if form in OF_DEFAULT else (data, None)
-        return PosixAcl.from_archive(access, default, names, mode or 0)
+        return PosixAcl.from_archive(access, default, names, mode or 0, style_of(form))
     return PosixAcl.from_attributes(data) if form == "posix-access" else PosixAcl.from_attributes(None, data, mode or 0)
 
 
@@ -79,7 +86,7 @@ def written_posix(form: str, acl: PosixAcl, names: Iterable[NamedId] = ()) -> by
     if form == "posix":
         return str(acl).encode()
     if form in WITH_NAMES:
-        texts = acl.to_archive(TarStyle.GNU if form in (_GNU, _GNU_DEFAULT) else TarStyle.STAR, names)
+        texts = acl.to_archive(style_of(form), names)
         parts = [text if text is None else text.encode("utf-8", "surrogateescape") for text in texts]
     else:
         parts = [*acl.to_attributes()]

@@ -23,6 +23,7 @@ _NAMED = {b"user": False, b"u": False, b"group": True, b"g": True}
 _PREFIXES = (b"default", b"d")
 _DIGITS = re.compile(rb"[0-9]+")
 _TWO_NUMBERS = re.compile(rb"0[0-9]+|[-+][0-9]+|[-+]?0[xX][0-9A-Fa-f]+")  # for GNU tar, which reads them as C does
+_TWO_NAMES = re.compile(rb"\\(\\|[0-7]{3})")  # one byte for GNU tar, and not for bsdtar
 _MOST_ENTRIES = 1 << 17
 _ENTRY = re.compile(rb"[^,\n#]*")
 _TYPES = {b"allow": AceType.ALLOW, b"audit": AceType.AUDIT, b"alarm": AceType.ALARM}
@@ -48,6 +49,8 @@ def _read_posix(headers: Mapping[str, bytes], is_directory: bool, mode: int, acc
     for name, text in zip((_ACCESS, _DEFAULT), texts):
         if text is not None and any(_TWO_NUMBERS.fullmatch(data[1]) for data in _named_in(text)):
             return refused_value(name, text, "programs read an id in different ways")
+        if text is not None and any(_TWO_NAMES.search(data[1]) for data in _named_in(text)):
+            return refused_value(name, text, "programs read a name in different ways")
     name = _ACCESS
     try:
         if texts[0] is not None:

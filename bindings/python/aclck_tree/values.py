@@ -73,7 +73,7 @@ def _dacl(value: bytes) -> bytes:
 
 
 class _Hidden(NamedTuple):
-    """What stands in an ACE in which the library was given something else."""
+    """What an ACE has where the library was given something else."""
 
     kind: int
     who: Optional[bytes]
