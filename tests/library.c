@@ -962,6 +962,67 @@ static int is_place_of_decision_right(void) {
     return ok;
 }
 
+/* So many groups in no order are sorted (libaclck(3)). 70 ACEs deny the group `guests` READ_DATA, and the last one
+   allows it to `staff`. The first and the last of 4,000 groups differ, and all others are `x`. If a request for memory
+   fails, the answers are the same. */
+static int are_many_groups_found(int is_memory_refused) {
+    enum { ACES = 70, GROUPS = 4000 };
+    static const struct {
+        const char *first, *last;
+        uint32_t allowed, denied;
+    } rows[] = {{"x", "a", 0, 0}, {"x", "staff", 1, 0}, {"staff", "a", 1, 0}, {"staff", "guests", 0, 1}};
+    aclck_bytes text = many_lines("DENY GROUP READ_DATA guests\n", ACES, "ALLOW GROUP READ_DATA staff\n");
+    static aclck_bytes groups[GROUPS];
+    static char list[ACES * 32 + 64], prepared[ACES * 16 + 64];
+    const aclck_question read = asks(ACLCK_READ_DATA, 0);
+    const aclck_requester who = aclck_requester_of(aclck_string("bob"), groups, GROUPS);
+    const aclck_requesters all = {&who, 1};
+    size_t len = 0, prepared_len = 0;
+    aclck_fault fault;
+    testcase none, *c = &none;
+    int ok;
+    memset(c, 0, sizeof *c);
+    strcpy(c->call, "many groups");
+    ok = EXPECT(c, aclck_encode(text, 0, aclck_buffer_of(list, sizeof list), &len, &fault) == ACLCK_DONE);
+    ok &= EXPECT(c, aclck_prepare(aclck_bytes_of(list, len), 0, aclck_buffer_of(prepared, sizeof prepared),
+                                  &prepared_len, &fault) == ACLCK_DONE);
+    free((void *)text.at);
+    for (size_t i = 0; i < GROUPS; i++)
+        groups[i] = aclck_string("x");
+/* Makes the call, and looks whether it asked for memory, which it does once. */
+#define SORTS(call)                                                                                                    \
+    do {                                                                                                               \
+        long before = held;                                                                                            \
+        left = is_memory_refused ? 0 : -1;                                                                             \
+        ok &= EXPECT(c, (call) == ACLCK_DONE && held == before && left == (is_memory_refused ? -2 : -1));              \
+        left = -1;                                                                                                     \
+    } while (0)
+    for (size_t i = 0; ok && i < sizeof rows / sizeof *rows; i++) {
+        const aclck_bytes acl = aclck_bytes_of(list, len), bytes = aclck_bytes_of(prepared, prepared_len);
+        aclck_decided decided = {7, 7}, each = {7, 7}, one = {7, 7};
+        const aclck_decided_list room = {&each, 1};
+        aclck_decision decision = {7, 7};
+        uint32_t granted = 7, rights = 7, masks = 7;
+        groups[0] = aclck_string(rows[i].first);
+        groups[GROUPS - 1] = aclck_string(rows[i].last);
+        SORTS(aclck_decide(acl, &THEM, &who, &read, &decided, &fault));
+        SORTS(aclck_check(acl, &THEM, &who, &read, &granted, &fault));
+        SORTS(aclck_granted(acl, &THEM, &who, &read, &rights, &fault));
+        SORTS(aclck_deciding(acl, &THEM, &who, &read, &decision, &fault));
+        SORTS(aclck_check_many(acl, &THEM, all, &read, (aclck_masks){&masks, 1}, &fault));
+        SORTS(aclck_decide_prepared(bytes, &THEM, &who, &read, &one));
+        SORTS(aclck_decide_prepared_many(bytes, &THEM, all, &read, room));
+        ok &= EXPECT(c, decided.allowed == rows[i].allowed && decided.denied == rows[i].denied);
+        ok &= EXPECT(c, one.allowed == rows[i].allowed && one.denied == rows[i].denied);
+        ok &= EXPECT(c, each.allowed == rows[i].allowed && each.denied == rows[i].denied);
+        ok &= EXPECT(c, granted == rows[i].allowed && rights == rows[i].allowed && masks == rows[i].allowed);
+        ok &= EXPECT(c, decision.kind == (rows[i].allowed  ? ACLCK_ALLOW
+                                          : rows[i].denied ? ACLCK_DENY
+                                                           : ACLCK_UNDECIDED));
+    }
+    return ok;
+}
+
 /* ---- reading cases */
 
 static char *cursor;
@@ -1055,7 +1116,7 @@ static int read_cases(const char *path) {
 
 static int run_plain(void) {
     int ok = are_words_right() & are_reasons_right() & are_options_judged() & are_arguments_judged() &
-             are_limits_kept() & is_place_of_decision_right();
+             are_limits_kept() & is_place_of_decision_right() & are_many_groups_found(0);
     size_t short_ones = 0;
     for (size_t i = 0; i < ncases; i++) {
         const testcase *c = &cases[i];
@@ -1073,7 +1134,7 @@ static int run_plain(void) {
 /* Each request for memory fails in turn. The call must return ACLCK_MEMORY and write at most the answer that grants
    nothing, or do without the memory. It must free all memory that it got. */
 static int run_memory(void) {
-    int ok = 1;
+    int ok = are_many_groups_found(1);
     size_t requests = 0;
     for (size_t i = 0; i < ncases; i++) {
         const testcase *c = &cases[i];
