@@ -12,7 +12,7 @@ import (
 	"unsafe"
 )
 
-// Returns the bytes for C. Their pointer is valid also if there are none.
+// Returns the bytes for C. Their pointer is valid even if there are none.
 func bytesOf(list []byte) C.aclck_bytes {
 	if len(list) == 0 {
 		return C.aclck_bytes_of(nil, 0)
