@@ -71,8 +71,11 @@ impl Feed {
         }
     }
 
-    /// Takes the next piece of the stream. It keeps in memory the bytes that belong to the list, and requests no memory
-    /// for a count or a length before the bytes have arrived. After `Done` and `Refused` nothing changes.
+    /// Takes the next piece of the stream: returns `More` if and only if the stream so far is cut short, `Done` if and
+    /// only if a beginning of it spells a list, with the number of bytes of this piece that belong to the list, and
+    /// otherwise `Refused` with the fault of the stream; all this unless memory runs out. It keeps in memory the bytes
+    /// that belong to the list, and requests no memory for a count or a length before the bytes have arrived. After
+    /// `Done` and `Refused` nothing changes.
     ///
     /// ```rust
     /// let mut feed = Feed::new(alloc);
@@ -97,7 +100,7 @@ impl Feed {
         }
     }
 
-    /// Returns the list, if the stream ends here. Otherwise returns that the stream is cut short, or the fault that was
+    /// Returns the list, if the stream ends here, and otherwise that the stream is cut short, or the fault that was
     /// reported. It takes no memory.
     pub fn finish(self) -> Result<Acl, Fault>
         ensures finishes { FinishesStream self result }

@@ -62,15 +62,17 @@ pub fn one_whole_fault()
         → Xdr p list bytes → IsWholeFault p bytes o r → ⊥ }
 {}
 
-/// The weight of a list is the number of pairs of a place in the list and a bit of the ACE at that place.
+/// If the masks of a list are below 2^32, its weight is the number of pairs of a place in the list and a bit of the ACE
+/// at that place.
 #[tactic(auto, using(crate::proofs::list::Weights::weight_counts))]
 pub fn weight_counts_pairs()
     ensures { (list : List Ace) → AllByRecursion (λ a. a.mask < word_limit) list
         → weight list ≡ length (pairs_of list) }
 {}
 
-/// It does not matter how a stream is cut into pieces. Pieces that are fed one after the other to a new `Feed` have the
-/// same answer as all of them fed at once, and leave it in the same state. In one of the two cases memory may run out.
+/// Pieces that are fed one after the other to a new `Feed` have the same answer as all of them fed at once, and leave
+/// it in the same state, unless memory runs out in one of the two cases. So it does not matter how a stream is cut into
+/// pieces.
 pub fn any_cutting()
     ensures together { (p : Profile) (pieces : List (List ℕ)) (answers : List Fed)
         (new : StreamState) → FeedsEach (more p []) pieces answers new

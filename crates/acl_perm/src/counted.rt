@@ -24,7 +24,7 @@ impl<T> Counted<T> {
         Counted { inner, failures: 0 }
     }
 
-    /// Returns the wrapped reader or writer. The count of its failures is lost.
+    /// Returns the wrapped reader or writer as it is now. The count of its failures is lost.
     pub fn into_inner(self) -> T
         ensures { result ≡ counted_inner self }
     {
@@ -32,7 +32,7 @@ impl<T> Counted<T> {
         inner
     }
 
-    /// Returns the number of calls that failed so far. The number stops at `u64::MAX`.
+    /// Returns the number of calls that failed so far, which stops at `u64::MAX`.
     pub fn failures(&self) -> u64
         ensures { result ≡ counted_failures self.now }
     {

@@ -14,15 +14,15 @@ pub trait Source {
     // The number of pulls that failed so far.
     ghost failure_count: { Self → ℕ };
 
-    /// Reads some bytes into `buf` and returns how many. `Ok(0)` means the end of the input, unless `buf` is empty. An
-    /// error takes no byte.
+    /// Reads some bytes into `buf` and returns how many; an error takes no byte. `Ok(0)` means the end of the input,
+    /// unless `buf` is empty.
     fn pull(&mut self, buf: &mut [u8]) -> io::Result<usize>
         ensures bound { ReadsAtMost result buf.new }
         ensures bytes { ReadConsumes (remaining self.old) (remaining self.new) result buf.new }
         ensures count { failure_count self.new
             ≡ failures_after (failure_count self.old) (pull_failed result) };
 
-    /// Returns the number of pulls that failed so far. The number stops at `u64::MAX`.
+    /// Returns the number of pulls that failed so far, which stops at `u64::MAX`.
     fn failures(&self) -> u64
         ensures { result ≡ failure_count self.now };
 }
@@ -35,14 +35,14 @@ pub trait Sink {
     // The number of puts that failed so far.
     ghost failure_count: { Self → ℕ };
 
-    /// Writes the first bytes of `bytes` and returns how many it wrote. An error writes no byte.
+    /// Writes the first bytes of `bytes` and returns how many it wrote; an error writes no byte.
     fn put(&mut self, bytes: &[u8]) -> io::Result<usize>
         ensures bound { WritesAtMost result bytes.now }
         ensures written { WriteAppends (contents self.old) (contents self.new) result bytes.now }
         ensures count { failure_count self.new
             ≡ failures_after (failure_count self.old) (put_failed result bytes.now) };
 
-    /// Returns the number of puts that failed so far. The number stops at `u64::MAX`.
+    /// Returns the number of puts that failed so far, which stops at `u64::MAX`.
     fn failures(&self) -> u64
         ensures { result ≡ failure_count self.now };
 }

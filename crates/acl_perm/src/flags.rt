@@ -77,7 +77,7 @@ impl Flags {
         (self.bits & Flags::IDENTIFIER_GROUP.bits) != 0
     }
 
-    /// Returns the flags of either set.
+    /// Returns what either set has.
     #[tactic(auto, using(crate::proofs::Sets::sets))]
     pub fn union(self, other: Flags) -> Flags
         ensures meaning { IsUnion self.bits other.bits result.bits }
@@ -88,7 +88,7 @@ impl Flags {
         }
     }
 
-    /// Returns the flags that both sets have.
+    /// Returns what both sets have.
     #[tactic(auto, using(crate::proofs::Sets::sets))]
     pub fn intersection(self, other: Flags) -> Flags
         ensures meaning { IsIntersection self.bits other.bits result.bits }
@@ -99,7 +99,7 @@ impl Flags {
         }
     }
 
-    /// Returns the flags of this set that the other does not have.
+    /// Returns what this set has and the other does not.
     #[tactic(auto, using(crate::proofs::Sets::sets))]
     pub fn difference(self, other: Flags) -> Flags
         ensures meaning { IsDifference self.bits other.bits result.bits }
@@ -110,7 +110,7 @@ impl Flags {
         }
     }
 
-    /// Returns whether all flags of the other set are in this one. The empty set is in each set.
+    /// Returns whether all of the other set is in this one. The empty set is in each set.
     #[tactic(auto, using(crate::proofs::Sets::sets))]
     pub fn contains(self, other: Flags) -> bool
         ensures meaning { IsTrue result ↔ IsSubset other.bits self.bits }
@@ -159,7 +159,7 @@ impl Sub for Flags {
     }
 }
 
-/// Returns the flags that the set does not have.
+/// Returns all that the set does not have.
 impl Not for Flags {
     type Output = Flags;
 

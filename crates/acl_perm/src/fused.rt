@@ -19,7 +19,7 @@ pub struct Fused<T> {
 impl<T> Fused<T> {
     ghost use Rattle.acl_perm.specs.Fused.{fused_calls, fused_inner, fused_step, TakesCall};
 
-    /// Wraps a reader or writer. The first `calls` calls pass, each with at most `step` bytes.
+    /// Wraps a reader or writer: the first `calls` calls pass, each with at most `step` bytes.
     pub fn new(inner: T, calls: u64, step: usize) -> Fused<T>
         ensures inner { fused_inner result ≡ inner }
         ensures calls { fused_calls result ≡ calls }
@@ -59,6 +59,7 @@ impl<R: Read> Read for Fused<R> {
 
     ghost remaining = { λ f. fused_remaining f.step (R.remaining f.inner) };
 
+    /// Reads at most `step` bytes, which may be 0, and takes no others; uses up a call, and fails if none is left.
     fn read(&mut self, buf: &mut [u8]) -> io::Result<usize>
         ensures bound { ReadsAtMost result buf.new }
         ensures bytes { ReadConsumes (left_through R.remaining self.old)
@@ -77,6 +78,7 @@ impl<W: Write> Write for Fused<W> {
 
     ghost contents = { λ f. W.contents f.inner };
 
+    /// Writes at most `step` bytes, exactly those that the writer takes; uses up a call, and fails if none is left.
     fn write(&mut self, bytes: &[u8]) -> io::Result<usize>
         ensures bound { WritesAtMost result bytes.now }
         ensures bytes { WriteAppends (W.contents (fused_inner self.old))
@@ -87,6 +89,7 @@ impl<W: Write> Write for Fused<W> {
         self.inner.write(&bytes[..room])
     }
 
+    /// Flushes the writer, and keeps what it holds, the calls and the step.
     fn flush(&mut self) -> io::Result<()>
         ensures bytes { Keeps (W.contents (fused_inner self.old))
             (W.contents (fused_inner self.new)) }

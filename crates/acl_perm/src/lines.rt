@@ -55,8 +55,7 @@ impl<'a> Piece<'a> {
         }
     }
 
-    /// Returns the column of the first byte that is not a blank. If there is none, returns the column of the byte after
-    /// the piece.
+    /// Returns the column of the first byte that is not a blank, or of the byte after the piece if there is none.
     pub fn start(self) -> usize
         requires { ColumnsFit self }
         ensures { result ≡ start_of (span_of self.entry) }

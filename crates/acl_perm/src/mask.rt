@@ -98,7 +98,7 @@ impl Mask {
         self.bits
     }
 
-    /// Returns the rights of either set.
+    /// Returns what either set has.
     #[tactic(auto, using(crate::proofs::Sets::sets))]
     pub fn union(self, other: Mask) -> Mask
         ensures meaning { IsUnion self.bits other.bits result.bits }
@@ -109,7 +109,7 @@ impl Mask {
         }
     }
 
-    /// Returns the rights that both sets have.
+    /// Returns what both sets have.
     #[tactic(auto, using(crate::proofs::Sets::sets))]
     pub fn intersection(self, other: Mask) -> Mask
         ensures meaning { IsIntersection self.bits other.bits result.bits }
@@ -120,7 +120,7 @@ impl Mask {
         }
     }
 
-    /// Returns the rights of this set that the other does not have.
+    /// Returns what this set has and the other does not.
     #[tactic(auto, using(crate::proofs::Sets::sets))]
     pub fn difference(self, other: Mask) -> Mask
         ensures meaning { IsDifference self.bits other.bits result.bits }
@@ -131,7 +131,7 @@ impl Mask {
         }
     }
 
-    /// Returns whether all rights of the other set are in this one. The empty set is in each set.
+    /// Returns whether all of the other set is in this one. The empty set is in each set.
     #[tactic(auto, using(crate::proofs::Sets::sets))]
     pub fn contains(self, other: Mask) -> bool
         ensures meaning { IsTrue result ↔ IsSubset other.bits self.bits }
@@ -187,7 +187,7 @@ impl Sub for Mask {
     }
 }
 
-/// Returns the rights that the set does not have.
+/// Returns all that the set does not have.
 impl Not for Mask {
     type Output = Mask;
 

@@ -80,7 +80,7 @@ impl Mode {
         }
     }
 
-    /// Returns the bits of either set.
+    /// Returns what either set has.
     #[tactic(auto, using(crate::proofs::Sets::sets))]
     pub fn union(self, other: Mode) -> Mode
         ensures meaning { IsUnion self.bits other.bits result.bits }
@@ -91,7 +91,7 @@ impl Mode {
         }
     }
 
-    /// Returns the bits that both sets have.
+    /// Returns what both sets have.
     #[tactic(auto, using(crate::proofs::Sets::sets))]
     pub fn intersection(self, other: Mode) -> Mode
         ensures meaning { IsIntersection self.bits other.bits result.bits }
@@ -102,7 +102,7 @@ impl Mode {
         }
     }
 
-    /// Returns the bits of this set that the other does not have.
+    /// Returns what this set has and the other does not.
     #[tactic(auto, using(crate::proofs::Sets::sets))]
     pub fn difference(self, other: Mode) -> Mode
         ensures meaning { IsDifference self.bits other.bits result.bits }
@@ -113,7 +113,7 @@ impl Mode {
         }
     }
 
-    /// Returns whether all bits of the other set are in this one. The empty set is in each set.
+    /// Returns whether all of the other set is in this one. The empty set is in each set.
     #[tactic(auto, using(crate::proofs::Sets::sets))]
     pub fn contains(self, other: Mode) -> bool
         ensures meaning { IsTrue result ↔ IsSubset other.bits self.bits }
@@ -162,7 +162,7 @@ impl Sub for Mode {
     }
 }
 
-/// Returns the bits that the set does not have.
+/// Returns all that the set does not have.
 impl Not for Mode {
     type Output = Mode;
 

@@ -47,7 +47,7 @@ impl Perm {
         self.bits
     }
 
-    /// Returns the permissions of either set.
+    /// Returns what either set has.
     #[tactic(auto, using(crate::proofs::Sets::sets))]
     pub fn union(self, other: Perm) -> Perm
         ensures meaning { IsUnion self.bits other.bits result.bits }
@@ -58,7 +58,7 @@ impl Perm {
         }
     }
 
-    /// Returns the permissions that both sets have.
+    /// Returns what both sets have.
     #[tactic(auto, using(crate::proofs::Sets::sets))]
     pub fn intersection(self, other: Perm) -> Perm
         ensures meaning { IsIntersection self.bits other.bits result.bits }
@@ -69,7 +69,7 @@ impl Perm {
         }
     }
 
-    /// Returns the permissions of this set that the other does not have.
+    /// Returns what this set has and the other does not.
     #[tactic(auto, using(crate::proofs::Sets::sets))]
     pub fn difference(self, other: Perm) -> Perm
         ensures meaning { IsDifference self.bits other.bits result.bits }
@@ -80,7 +80,7 @@ impl Perm {
         }
     }
 
-    /// Returns whether all permissions of the other set are in this one. The empty set is in each set.
+    /// Returns whether all of the other set is in this one. The empty set is in each set.
     #[tactic(auto, using(crate::proofs::Sets::sets))]
     pub fn contains(self, other: Perm) -> bool
         ensures meaning { IsTrue result ↔ IsSubset other.bits self.bits }
@@ -129,7 +129,7 @@ impl Sub for Perm {
     }
 }
 
-/// Returns the permissions that the set does not have.
+/// Returns all that the set does not have.
 impl Not for Perm {
     type Output = Perm;
 

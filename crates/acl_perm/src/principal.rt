@@ -58,8 +58,7 @@ impl<'a> Principal<'a> {
         }
     }
 
-    /// Returns the name of the user or of the group. For `OWNER@`, `GROUP@` and `EVERYONE@`, which have no name, it is
-    /// empty.
+    /// Returns the name of the user or of the group, which is empty for `OWNER@`, `GROUP@` and `EVERYONE@`.
     pub fn name(&self) -> &'a [u8]
         ensures { result.now ≡ principal_name (principal self.now) }
     {
@@ -130,7 +129,7 @@ impl<'a> Hash for Principal<'a> {
     }
 }
 
-/// Returns whether one requester can match both principals. This is so unless they are two users of different names.
+/// Returns whether one requester can match both principals, which is so unless they are two users of different names.
 pub fn overlaps(p: Principal<'_>, q: Principal<'_>) -> bool
     // Some situation matches both. Its names may be empty.
     ensures meaning { IsTrue result ↔ Overlap (principal p.entry) (principal q.entry) }

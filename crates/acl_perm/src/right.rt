@@ -34,7 +34,7 @@ impl Right {
         }
     }
 
-    /// Returns the number of the bit, from 0. The mask of the right is 2 to the power of this number.
+    /// Returns the number of the bit, from 0: the mask of the right is 2 to the power of this number.
     pub fn bit(self) -> usize
         ensures value { result ≡ self.bit }
         ensures within { IsTrue (has_bit all_rights result) }

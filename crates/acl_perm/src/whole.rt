@@ -35,7 +35,8 @@ impl From<AllocError> for ReadFault {
     }
 }
 
-/// Writes all of `bytes`. It ends at the first put that fails or takes no byte, and tries nothing again.
+/// Writes all of `bytes`, or fails with the number of the first bytes that went out, which are not all. It ends at the
+/// first put that fails or takes no byte, and tries nothing again.
 pub fn put_all<S: Sink>(sink: &mut S, bytes: &[u8]) -> Result<(), WriteFault>
     ensures { Writes S.contents S.failure_count sink.old sink.new bytes.now result }
 {
@@ -75,8 +76,8 @@ fn put_piece<S: Sink>(sink: &mut S, bytes: &[u8]) -> Option<usize>
 // The number of bytes that a pull asks for. With it a large input takes few pulls, and the buffer is small for a stack.
 const PIECE: usize = 16384;
 
-/// Reads to the end. It ends at the first pull that fails, and tries nothing again. For a source that never ends it
-/// returns `Memory` when the buffer cannot grow further.
+/// Returns the whole input, or fails with `Read` if and only if a pull failed. It ends at the first pull that fails,
+/// and tries nothing again. For a source that never ends it returns `Memory` when the buffer cannot grow further.
 pub fn read_all<S: Source>(alloc: Global, source: &mut S) -> Result<Vec<u8>, ReadFault>
     ensures ok { IfOk result (λ bytes.
         IfSome (S.remaining source.old) (λ input. bytes.items ≡ input)) }

@@ -76,11 +76,12 @@ impl Eq for PosixAcl {
 }
 
 impl PosixAcl {
-    /// Makes the ACL of these entries, which may be in any order. Fails with `Multi` or `Duplicate` and a place if the
-    /// entry there has the tag and qualifier of an earlier entry; the first such entry is reported. Otherwise fails
-    /// with `Miss` of the first absent of USER_OBJ, GROUP_OBJ, OTHER, and of MASK if there is a USER or GROUP entry. It
-    /// takes time in n log n and one allocation for n numbers. If two entries have the same tag and qualifier, it also
-    /// takes a map of at most n entries. If the entries are in canonical order, it takes linear time and no memory.
+    /// Returns the ACL of these entries, in any order, if and only if they are a valid list (acl(5), "VALID ACLs"),
+    /// unless memory runs out. Fails with `Multi` or `Duplicate` and a place if the entry there has the tag and
+    /// qualifier of an earlier entry; the first such entry is reported. Otherwise fails with `Miss` of the first absent
+    /// of USER_OBJ, GROUP_OBJ, OTHER, and of MASK if there is a USER or GROUP entry. It takes time in n log n and one
+    /// allocation for n numbers. If two entries have the same tag and qualifier, it also takes a map of at most n
+    /// entries. If the entries are in canonical order, it takes linear time and no memory.
     ///
     /// ```rust
     /// let perm = Perm::ALL;
@@ -147,10 +148,10 @@ impl PosixAcl {
         self.entries.get(tag)
     }
 
-    /// Sets the permissions of the entry with a tag and qualifier, and adds the entry if there is none. The list stays
-    /// valid: fails with `Miss(Mask)` if this would add a USER or GROUP entry to a list without MASK, and with `Memory`
-    /// if memory runs out, which can happen only if an entry is added. A call that fails changes nothing. Linear time;
-    /// logarithmic time if the entry exists.
+    /// Sets the permissions of the entry with a tag and qualifier, and adds the entry if there is none; a call that
+    /// fails changes nothing. The list stays valid: fails with `Miss(Mask)` if this would add a USER or GROUP entry to
+    /// a list without MASK, and with `Memory` if memory runs out, which can happen only if an entry is added. Linear
+    /// time; logarithmic time if the entry exists.
     pub fn set(&mut self, tag: Tag, perm: Perm) -> Result<(), AclFault>
         ensures ok { OnOk result (self.new ≡ set.insert self.old (tag_of tag) perm.bits) }
         ensures err { OnErr result (self.new ≡ self.old) }
@@ -166,9 +167,9 @@ impl PosixAcl {
         Ok(self.entries.insert(tag, perm)?)
     }
 
-    /// Removes the entry with a tag and qualifier, and does nothing if there is none. The list stays valid: fails with
-    /// `Miss` of the tag if the tag is USER_OBJ, GROUP_OBJ or OTHER, or is MASK and there is a USER or GROUP entry. A
-    /// call that fails changes nothing. It takes no memory and linear time.
+    /// Removes the entry with a tag and qualifier, and does nothing if there is none; a call that fails changes
+    /// nothing. The list stays valid: fails with `Miss` of the tag if the tag is USER_OBJ, GROUP_OBJ or OTHER, or is
+    /// MASK and there is a USER or GROUP entry. It takes no memory and linear time.
     pub fn remove(&mut self, tag: Tag) -> Result<(), AclFault>
         ensures ok { OnOk result (self.new ≡ set.remove self.old (tag_of tag)) }
         ensures err { OnErr result (self.new ≡ self.old) }
@@ -261,7 +262,7 @@ impl PosixAcl {
         self.entries.mode_bits()
     }
 
-    /// Sets the file mode bits: USER_OBJ, MASK or, if there is no MASK, GROUP_OBJ, and OTHER. It changes no other
+    /// Sets the file mode bits: USER_OBJ, MASK or, if there is no MASK, GROUP_OBJ, and OTHER, and changes no other
     /// entry. It takes no memory and logarithmic time.
     ///
     /// ```rust
@@ -299,9 +300,9 @@ impl PosixAcl {
         self.entries.get(Tag::Mask)
     }
 
-    /// Sets MASK to the union of the permissions of all USER, GROUP_OBJ and GROUP entries, and adds it if it is absent.
-    /// Only adding it takes memory, and may move the entries once. Fails if memory runs out, and then changes nothing.
-    /// It takes linear time.
+    /// Sets MASK to the union of the permissions of all USER, GROUP_OBJ and GROUP entries, and adds it if it is absent;
+    /// a call that fails changes nothing. Only adding it takes memory, and may move the entries once. Fails if memory
+    /// runs out. It takes linear time.
     pub fn calc_mask(&mut self) -> Result<(), AllocError>
         ensures ok { OnOk result (self.new ≡ with_mask self.old) }
         ensures err { OnErr result (self.new ≡ self.old) }

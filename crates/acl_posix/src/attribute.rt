@@ -23,10 +23,10 @@ const VERSION_SIZE: usize = 4;
 const ENTRY_SIZE: usize = 8;
 
 impl PosixAcl {
-    /// Reads the value of `system.posix_acl_access` or `system.posix_acl_default`, the extended attributes in which
-    /// Linux keeps ACLs. Returns `None` if it has no entries, which means that the file has no such ACL. Fails with
-    /// `Size`, `Version` or `Entry` if the bytes do not spell entries; otherwise with `Order` and a place if the tag
-    /// types are not in canonical order, as the kernel requires; and otherwise with `Acl` and the fault that
+    /// Returns the ACL that the bytes hold as the value of `system.posix_acl_access` or `system.posix_acl_default`, the
+    /// extended attributes of Linux, or `None` if they have no entries, which means that the file has no such ACL.
+    /// Fails with `Size`, `Version` or `Entry` if the bytes do not spell entries; otherwise with `Order` and a place if
+    /// the tag types are not in canonical order, as the kernel requires; and otherwise with `Acl` and the fault that
     /// `from_entries` returns, or that memory ran out. It takes time in n log n, and linear time if the ids rise.
     ///
     /// ```rust

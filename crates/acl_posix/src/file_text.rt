@@ -9,8 +9,8 @@ use acl_perm::Counted;
 use std::alloc::{AllocError, Global};
 
 impl PosixFile {
-    /// Returns the text in a form. Unlike `write_short`, it puts a line feed after the short text. Fails only if memory
-    /// runs out.
+    /// Returns the text in a form, with a line feed after the short text, which `write_short` does not write. Fails
+    /// only if memory runs out.
     pub fn to_text(&self, alloc: Global, form: Form) -> Result<Vec<u8>, AllocError>
         ensures { IfOk result (λ text. text.items ≡ file_text form self.now) }
     {

@@ -33,8 +33,8 @@ pub fn mask_stays()
     ensures { MaskStays }
 {}
 
-/// An ACL grants nothing more than itself. If it grants nothing more than a second ACL, and the second nothing more
-/// than a third, then it grants nothing more than the third. Neither of two ACLs grants more than the other if and only
+/// An ACL grants nothing more than itself; if it grants nothing more than a second ACL, and the second nothing more
+/// than a third, then it grants nothing more than the third; neither of two ACLs grants more than the other if and only
 /// if they answer every request alike.
 pub fn nothing_more_is_an_order()
     ensures itself { (a : Entries) → GrantsNothingMore a a }
@@ -64,7 +64,8 @@ pub fn short_text_reads_back()
     ensures { ReadsBack short_text }
 {}
 
-/// Two files have the same canonical text if and only if their sets of entries are equal.
+/// Two files have the same canonical text if and only if their sets of entries are equal, and both or neither has a
+/// default ACL.
 pub fn canonical_text_tells_apart()
     ensures { TextTellsApart canonical_text }
 {}

@@ -16,9 +16,9 @@ use crate::validity::any_entry_named;
 use std::alloc::{AllocError, Global};
 
 impl PosixAcl {
-    /// Makes the ACL of these entries as `from_entries` does. If there is a USER or GROUP entry and no MASK, it first
-    /// adds MASK with the union of the permissions of all USER, GROUP_OBJ and GROUP entries, as `setfacl -m` does.
-    /// Fails as `from_entries` does, but never with `Miss` of MASK.
+    /// Returns what `from_entries` returns for the entries with the MASK that they lack. If there is a USER or GROUP
+    /// entry and no MASK, the MASK that is added has the union of the permissions of all USER, GROUP_OBJ and GROUP
+    /// entries, as `setfacl -m` adds it. Fails as `from_entries` does, but never with `Miss` of MASK.
     ///
     /// ```rust
     /// let mut entries = Vec::new(alloc);

@@ -61,8 +61,8 @@ impl Names {
         }
     }
 
-    /// Adds a user name. Fails with `EmptyName`, `DigitsOnly` or `Taken`, in this order, or if memory runs out. A call
-    /// that fails leaves the table as it was. Logarithmic time; one string, and a node of the map.
+    /// Adds a user name, or fails with the first of `EmptyName`, `DigitsOnly` and `Taken` that holds, or if memory runs
+    /// out, and leaves the table as it was. Logarithmic time; one string, and a node of the map.
     ///
     /// ```rust
     /// let mut names = Names::new(alloc);
@@ -79,8 +79,8 @@ impl Names {
         add(self.alloc, &mut self.users, name, id)
     }
 
-    /// Adds a group name. Fails with `EmptyName`, `DigitsOnly` or `Taken`, in this order, or if memory runs out. A call
-    /// that fails leaves the table as it was. Logarithmic time; one string, and a node of the map.
+    /// Adds a group name, or fails with the first of `EmptyName`, `DigitsOnly` and `Taken` that holds, or if memory
+    /// runs out, and leaves the table as it was. Logarithmic time; one string, and a node of the map.
     pub fn add_group(&mut self, name: &[u8], id: Id) -> Result<(), NameFault>
         ensures adds { AddsName self.old.groups name.now self.old self.new
             (with_group self.old name.now id.value) result }

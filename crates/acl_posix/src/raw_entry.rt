@@ -70,9 +70,9 @@ impl RawEntry {
         }
     }
 
-    /// Returns the entry of these numbers. Fails with `Tag` if the tag is none of 1 to 6, otherwise with `Id` if the
-    /// entry is of USER or GROUP and the id is 4294967295, and otherwise with `Perm` if the permissions are greater
-    /// than 7. Constant time.
+    /// Returns the entry of these numbers, or what is wrong with them: first the tag, then the id, then the
+    /// permissions. Fails with `Tag` if the tag is none of 1 to 6, otherwise with `Id` if the entry is of USER or GROUP
+    /// and the id is 4294967295, and otherwise with `Perm` if the permissions are greater than 7. Constant time.
     pub fn entry(self) -> Result<Entry, EntryFault>
         ensures entry { IfOk result (λ entry. pair_of entry ≡ raw_pair self) }
         ensures valid { OnOk result (entry_fault self ≡ None) }

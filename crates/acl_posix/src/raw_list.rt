@@ -12,10 +12,10 @@ use crate::raw_entry::{EntriesFault, RawEntry};
 use std::alloc::Global;
 
 impl PosixAcl {
-    /// Makes the ACL of raw entries, which may be in any order. Fails with `Entry` and a place if the numbers there are
-    /// not those of an entry; the first such place is reported. Otherwise fails with `Acl` and the fault that
-    /// `from_entries` returns, or that memory ran out. It takes time in n log n, and linear time if the entries are in
-    /// canonical order.
+    /// Returns the ACL of raw entries, in any order, if and only if their numbers are those of entries that are a valid
+    /// list, unless memory runs out. Fails with `Entry` and a place if the numbers there are not those of an entry; the
+    /// first such place is reported. Otherwise fails with `Acl` and the fault that `from_entries` returns, or that
+    /// memory ran out. It takes time in n log n, and linear time if the entries are in canonical order.
     ///
     /// ```rust
     /// let mut raws = Vec::new(alloc);
@@ -35,8 +35,8 @@ impl PosixAcl {
         Ok(PosixAcl::from_entries(alloc, entries)?)
     }
 
-    /// Makes the ACL of raw entries as `from_raw` does, and first adds MASK as `from_entries_with_mask` does. Fails as
-    /// `from_raw` does, but never with `Miss` of MASK.
+    /// Returns what `from_raw` returns for the entries with the MASK that they lack, as `from_entries_with_mask` adds
+    /// it. Fails as `from_raw` does, but never with `Miss` of MASK.
     pub fn from_raw_with_mask(alloc: Global, raws: &[RawEntry]) -> Result<PosixAcl, EntriesFault>
         ensures valid { OnOk result (IsValidWithMask raws.now) }
         ensures entries { IfOk result

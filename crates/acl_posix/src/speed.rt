@@ -39,17 +39,23 @@ fn push_each(
     Ok(())
 }
 
-// Makes the entries without a qualifier, and `count` users and as many groups.
+// Adds the entries without a qualifier, and `count` users and as many groups.
+fn push_all(entries: &mut Vec<Entry>, count: u32, step: u32) -> Result<(), AllocError>
+    requires { 0 < count }
+{
+    push(entries, Tag::UserObj)?;
+    push_each(entries, false, count, step)?;
+    push(entries, Tag::GroupObj)?;
+    push_each(entries, true, count, step)?;
+    push(entries, Tag::Mask)?;
+    push(entries, Tag::Other)
+}
+
 fn entries_of(alloc: Global, count: u32, step: u32) -> Result<Vec<Entry>, AllocError>
     requires { 0 < count }
 {
     let mut entries = Vec::new(alloc);
-    push(&mut entries, Tag::UserObj)?;
-    push_each(&mut entries, false, count, step)?;
-    push(&mut entries, Tag::GroupObj)?;
-    push_each(&mut entries, true, count, step)?;
-    push(&mut entries, Tag::Mask)?;
-    push(&mut entries, Tag::Other)?;
+    push_all(&mut entries, count, step)?;
     Ok(entries)
 }
 

@@ -47,7 +47,8 @@ impl<'a> Model for EntriesView<'a> {
 }
 
 impl<'a> EntriesView<'a> {
-    /// Returns the ACL of these entries. Fails with `Entry` and a place if the numbers there are not those of an entry;
+    /// Returns the ACL of these entries if and only if their numbers are those of entries in canonical order and no
+    /// required entry is absent. Fails with `Entry` and a place if the numbers there are not those of an entry;
     /// otherwise with `Order` and a place if the entry there is not after the entry before it in canonical order, which
     /// it also is not if it has the same tag and qualifier; and otherwise with `Miss` as `PosixAcl::from_entries` does.
     /// The first such place is reported. Linear time.
@@ -79,9 +80,8 @@ impl<'a> EntriesView<'a> {
         }
     }
 
-    /// Returns whether a user who is in these groups is granted all of `want` on an object with this owner and group
-    /// (acl(5), "ACCESS CHECK ALGORITHM"). A group that is no id matches no entry. It takes time (number of groups + 1)
-    /// times the logarithm of the number of entries.
+    /// Returns what `PosixAcl::check` returns for this ACL; a group that is no id matches no entry. It takes time
+    /// (number of groups + 1) times the logarithm of the number of entries.
     pub fn check(&self, owner: Id, group: Id, user: Id, groups: &[u32], want: Perm) -> bool
         ensures { result ≡ grants self.now
             (record { user = owner.value; group = group.value })
@@ -110,8 +110,8 @@ impl<'a> EntriesView<'a> {
         self.decision(owner, group, user, groups, want)
     }
 
-    /// Returns a requester and an object for which this ACL grants a request that `second` denies, as
-    /// `PosixAcl::excess` does. It takes time n log n for n entries in both ACLs.
+    /// Returns a requester, an object and a request, or `None`, as `PosixAcl::excess` does. It takes time n log n for n
+    /// entries in both ACLs.
     pub fn excess(&self, second: &EntriesView) -> Option<PosixDifference>
         ensures none { IsNone result → GrantsNothingMore self.now second.now }
         ensures some { IfSome result (IsPosixExcess self.now second.now) }

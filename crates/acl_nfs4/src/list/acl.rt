@@ -76,7 +76,7 @@ impl Acl {
         self.view().is_empty()
     }
 
-    /// Returns the number of mask bits that are set, over all ACEs, in constant time.
+    /// Returns the number of mask bits that are set, over all ACEs. Constant time.
     pub fn weight(&self) -> u32
         ensures value { result ≡ spelled.weight self.now }
         ensures within { result ≤ most_weight }
@@ -102,8 +102,8 @@ impl Acl {
         }
     }
 
-    /// Returns whether the profile has every flag and every right of every ACE, in time linear in the bytes, without
-    /// memory.
+    /// Returns whether the profile has every flag and every right of every ACE, so that the list is accepted under it.
+    /// It takes time linear in the bytes, and no memory.
     pub fn fits(&self, profile: Profile) -> bool
         ensures exact { IsTrue result ↔ Fits (profile_of profile) self.now }
         ensures accepted { IsTrue result ↔ IsAccepted (profile_of profile) self.now }
@@ -134,9 +134,9 @@ impl Acl {
         })
     }
 
-    /// Adds an ACE at the end, if the list stays accepted. Otherwise fails with the first condition, in the order of
-    /// `PushFault`, that refuses the ACE, and leaves the list as it was. To push many ACEs takes time linear in their
-    /// bytes.
+    /// Adds an ACE at the end if and only if the list stays accepted, unless memory runs out. Otherwise fails with the
+    /// first condition, in the order of `PushFault`, that refuses the ACE, and leaves the list as it was. To push many
+    /// ACEs takes time linear in their bytes.
     ///
     /// ```rust
     /// let mut list = Acl::new(alloc);

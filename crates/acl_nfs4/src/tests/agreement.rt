@@ -1,8 +1,7 @@
-//! The property that every reader returns the same list or the same fault, however the bytes arrive. The offsets of the
-//! faults are those of the fields in the layout of RFC 4506 over RFC 8881, section 6.2.1; the reasons are those of
-//! docs/formats.md.
+//! Faults that every reader returns alike, however the bytes arrive. The offsets are those of the fields in the layout
+//! of RFC 4506 over RFC 8881, section 6.2.1; the reasons are those of docs/formats.md.
 
-use super::readers::{ALICE, ONE, THREE, decoded, fault, fed, parsed};
+use super::readers::{ONE, decoded, fault, fed, parsed};
 use crate::*;
 use std::alloc::{AllocError, Global};
 use std::process::Abort;
@@ -11,18 +10,6 @@ use std::process::Abort;
 fn agree(alloc: Global, bytes: &[u8], first: usize) -> bool {
     let fault = parsed(alloc, bytes).err();
     decoded(alloc, bytes, u64::MAX, 7).err() == fault && fed(alloc, bytes, first).err() == fault
-}
-
-// Three lists that are cut short. Each reader returns the same fault, and for the first list it is Truncated.
-fn is_cut_alike(alloc: Global, len: usize) -> bool {
-    let (front, _) = THREE.split_at(len.min(72));
-    let (one, _) = ONE.split_at(len.min(31));
-    let (alice, _) = ALICE.split_at(len.min(27));
-    let fault = fed(alloc, front, 5).err();
-    agree(alloc, front, len / 2)
-        && fault.is_some_and(|fault| fault.reason == Reason::Truncated)
-        && agree(alloc, one, 30)
-        && agree(alloc, alice, 3)
 }
 
 // A place, the bytes from there on, and the fault of the list with these bytes.
@@ -59,23 +46,6 @@ fn longest(alloc: Global) -> Result<Vec<u8>, AllocError> {
 
 mod ample {
     use super::*;
-
-    // Every beginning of a list, and the list with each of its bytes damaged in several ways.
-    #[test]
-    fn parsing_decoding_and_feeding_agree(rt: HostRuntime) {
-        for len in 0..72usize {
-            assert!(rt; is_cut_alike(rt.alloc(), len), "{len} bytes");
-        }
-        for place in 0..72usize {
-            for byte in 0..=255u8 {
-                let mut damaged = THREE;
-                if let Some(at) = damaged.get_mut(place) {
-                    *at = byte;
-                }
-                assert!(rt; agree(rt.alloc(), &damaged, place), "{byte} at {place}");
-            }
-        }
-    }
 
     // Words and names that every reader refuses at the same place, and the longest name.
     #[test]

@@ -4,27 +4,6 @@
 use super::readers::{THREE, fault, parsed, same_list};
 use crate::*;
 use std::alloc::{AllocError, Global};
-use std::process::Abort;
-
-fn feed_two_pieces(rt: &impl Abort, alloc: Global, first: usize, list: &Acl) {
-    let mut feed = Feed::new(alloc);
-    let (front, back) = THREE.split_at(first.min(72));
-    let taken = 72usize.saturating_sub(first);
-    assert!(rt; feed.feed(front) == Fed::More);
-    assert!(rt; feed.feed(&[]) == Fed::More);
-    assert!(rt; feed.feed(back) == Fed::Done { taken });
-    assert!(rt; feed.feed(back) == Fed::Done { taken: 0 });
-    assert!(rt; feed.finish().is_ok_and(|fed| fed == *list));
-}
-
-fn feed_byte_by_byte(rt: &impl Abort, alloc: Global, list: &Acl) {
-    let mut feed = Feed::new(alloc);
-    for (place, byte) in THREE.chunks(1).enumerate() {
-        let last = Fed::Done { taken: 1 };
-        assert!(rt; feed.feed(byte) == (if place < 71 { Fed::More } else { last }));
-    }
-    assert!(rt; feed.finish().is_ok_and(|fed| fed == *list));
-}
 
 // Feeds two pieces under the narrow profile. The first piece has `first` bytes.
 fn fed_narrowly(alloc: Global, bytes: &[u8], first: usize) -> Result<Acl, Fault> {
@@ -74,17 +53,6 @@ fn a_feed_that_ran_out_of_memory_stays_refused(rt: HostRuntime) {
 
 mod ample {
     use super::*;
-
-    // However a list is cut, the feed returns how many bytes belong to it, and later pieces change nothing.
-    #[test]
-    fn a_list_may_be_cut_into_any_two_pieces(rt: HostRuntime) -> Result<(), Fault> {
-        let list = parsed(rt.alloc(), &THREE)?;
-        for first in 0..72usize {
-            feed_two_pieces(&rt, rt.alloc(), first, &list);
-        }
-        feed_byte_by_byte(&rt, rt.alloc(), &list);
-        Ok(())
-    }
 
     #[test]
     fn a_list_of_the_narrow_profile_may_be_cut_into_any_two_pieces(rt: HostRuntime) {

@@ -15,9 +15,9 @@ use acl_perm::Profile;
 use acl_perm::internal::cut_line;
 use std::alloc::Global;
 
-/// Returns the list that a text spells: one line per ACE, `KIND FLAGS MASK WHO`, with one space between the fields. It
-/// skips lines of blanks and lines that begin with `#`. A text that spells no list is refused because of its first
-/// wrong line. Time linear in the text, and one growing list.
+/// Returns the list that a text spells: one line per ACE, `KIND FLAGS MASK WHO`, with one space between the fields, if
+/// and only if it spells one, unless memory runs out. It skips lines of blanks and lines that begin with `#`. A text
+/// that spells no list is refused because of its first wrong line. Time linear in the text, and one growing list.
 ///
 /// ```rust
 /// let text = b"ALLOW - READ_DATA OWNER@\nDENY GROUP WRITE_DATA staff\n";

@@ -39,9 +39,9 @@ impl Acl {
         }
     }
 
-    /// Writes the text of the list: one line per ACE, with the names of its flags and rights in ascending order of
-    /// their bits. It ends at the first put that fails: then `written` bytes went out. It tries nothing again. It
-    /// takes no memory, and time linear in the text.
+    /// Writes the text of the list, which reads back as this list and as no other: one line per ACE, with the names of
+    /// its flags and rights in ascending order of their bits. It ends at the first put that fails: then `written` bytes
+    /// went out. It tries nothing again. It takes no memory, and time linear in the text.
     pub fn write_text<S: Sink>(&self, sink: &mut S) -> Result<(), WriteFault>
         ensures written { Writes S.contents S.failure_count sink.old sink.new
             (ace_text self.now) result }
@@ -54,9 +54,9 @@ impl Acl {
 }
 
 impl<'a> AclView<'a> {
-    /// Writes the text of the list: one line per ACE, with the names of its flags and rights in ascending order of
-    /// their bits. It ends at the first put that fails: then `written` bytes went out. It tries nothing again. It
-    /// takes no memory, and time linear in the text.
+    /// Writes the text of the list, which reads back as this list and as no other: one line per ACE, with the names of
+    /// its flags and rights in ascending order of their bits. It ends at the first put that fails: then `written` bytes
+    /// went out. It tries nothing again. It takes no memory, and time linear in the text.
     pub fn write_text<S: Sink>(&self, sink: &mut S) -> Result<(), WriteFault>
         ensures written { Writes S.contents S.failure_count sink.old sink.new
             (ace_text self.now) result }

@@ -47,9 +47,10 @@ impl<'a> Model for AccessPart<'a> {
 }
 
 impl<'a> AccessPart<'a> {
-    /// Returns what access reads of the list that all of the bytes spell. The names are slices of the input. Fails as
-    /// `AclView::parse_whole` does, with the same reasons and places, except that it accepts AUDIT and ALARM ACEs and
-    /// all special identifiers; and with Memory if memory runs out. The limits of a list count all ACEs.
+    /// Returns what access reads of the list that all of the bytes spell: its ALLOW and DENY ACEs, in order, and the
+    /// number of AUDIT and ALARM ACEs. The names are slices of the input. Fails as `AclView::parse_whole` does, with
+    /// the same reasons and places, except that it accepts AUDIT and ALARM ACEs and all special identifiers; and with
+    /// Memory if memory runs out. The limits of a list count all ACEs.
     ///
     /// ```rust
     /// let bytes = b"\0\0\0\x02\0\0\0\x02\0\0\0\x10\0\0\0\x01\0\0\0\x03bob\0\0\0\0\0\0\0\0\0\0\0\0\x01\0\0\0\x04NOW@";

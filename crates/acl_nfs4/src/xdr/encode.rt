@@ -29,8 +29,9 @@ impl Acl {
         self.view().to_bytes(alloc)
     }
 
-    /// Writes the bytes that spell the list (RFC 4506 over RFC 8881, section 6.2.1), without memory. It ends at the
-    /// first write that fails: then `written` bytes went out. It tries nothing again.
+    /// Writes the bytes that spell the list, the same from which a list was read (RFC 4506 over RFC 8881, section
+    /// 6.2.1), without memory. It ends at the first write that fails: then `written` bytes went out. It tries nothing
+    /// again.
     ///
     /// ```rust
     /// let list = parse_text(alloc, b"ALLOW - READ_DATA OWNER@")?;
@@ -71,8 +72,9 @@ impl<'a> AclView<'a> {
         Ok(bytes)
     }
 
-    /// Writes the bytes that spell the list (RFC 4506 over RFC 8881, section 6.2.1), without memory. It ends at the
-    /// first write that fails: then `written` bytes went out. It tries nothing again.
+    /// Writes the bytes that spell the list, the same from which a list was read (RFC 4506 over RFC 8881, section
+    /// 6.2.1), without memory. It ends at the first write that fails: then `written` bytes went out. It tries nothing
+    /// again.
     pub fn encode<K: Sink>(&self, sink: &mut K) -> Result<(), WriteFault>
         ensures written { Writes K.contents K.failure_count sink.old sink.new
             (spelling self.now) result }

@@ -39,9 +39,10 @@ impl<'a> Model for AclView<'a> {
 }
 
 impl<'a> AclView<'a> {
-    /// Returns the list at the front, and the number of bytes that spell it. It does not read what follows. The names
-    /// are slices of the input, and it takes no memory. Fails with the fault of the first field that is refused, at its
-    /// first byte (RFC 8881, section 6.2.1, in the layout of RFC 4506).
+    /// Returns the list at the front and the number of bytes that spell it, if and only if the bytes begin with the
+    /// spelling of a list. It does not read what follows. The names are slices of the input, and it takes no memory.
+    /// Fails with the fault of the first field that is refused, at its first byte (RFC 8881, section 6.2.1, in the
+    /// layout of RFC 4506).
     pub fn parse(bytes: &'a [u8]) -> Result<(AclView<'a>, usize), Fault>
         ensures found { IfOk result (IsAtFront full bytes.now) }
         // If the bytes begin with a list, that list is returned.
@@ -70,8 +71,8 @@ impl<'a> AclView<'a> {
         view_of(bytes, profile)
     }
 
-    /// Returns the list that all of the bytes spell. Fails as `parse` does, and also with TrailingBytes if there is a
-    /// byte after the list.
+    /// Returns the list that all of the bytes spell, if and only if they spell one. Fails as `parse` does, and also
+    /// with TrailingBytes if there is a byte after the list.
     ///
     /// ```rust
     /// let bytes = b"\0\0\0\x01\0\0\0\0\0\0\0\0\0\0\0\x01\0\0\0\x06OWNER@\0\0";
@@ -130,8 +131,8 @@ impl<'a> AclView<'a> {
         weight_of(self.aces())
     }
 
-    /// Returns whether the profile has every flag and every right of every ACE, in time linear in the ACEs, without
-    /// memory.
+    /// Returns whether the profile has every flag and every right of every ACE, so that the list is accepted under it.
+    /// It takes time linear in the ACEs, and no memory.
     pub fn fits(&self, profile: Profile) -> bool
         ensures exact { IsTrue result ↔ Fits (profile_of profile) self.now }
         ensures accepted { IsTrue result ↔ IsAccepted (profile_of profile) self.now }

@@ -11,6 +11,8 @@ use super::worked_lists;
 use super::writing::TEXTS;
 use crate::*;
 use acl_perm::Perm;
+use std::alloc::{AllocError, Global};
+use std::process::Abort;
 use std::test::Fail;
 
 #[test]
@@ -18,15 +20,22 @@ fn each_worked_list_gives_its_answers(rt: HostRuntime) {
     worked_lists(&rt, Memory::ample(rt.alloc()));
 }
 
+fn push_groups(entries: &mut Vec<Entry>, count: u32) -> Result<(), AllocError> {
+    for number in 0..count {
+        if let Some(id) = Id::new(number) {
+            entries.push(Entry {
+                tag: Tag::Group(id),
+                perm: Perm::ALL,
+            })?;
+        }
+    }
+    Ok(())
+}
+
 // Makes a list of a hundred entries.
 fn hundred_entries(memory: Memory) -> Result<PosixAcl, AclFault> {
     let mut entries = memory.entries(DEFAULT)?;
-    for value in 0..95 {
-        entries.push(Entry {
-            tag: Tag::Group(Id { value }),
-            perm: Perm::ALL,
-        })?;
-    }
+    push_groups(&mut entries, 95)?;
     PosixAcl::from_entries(memory.alloc, entries)
 }
 
@@ -52,21 +61,29 @@ fn a_copy_equals_its_list_and_a_copy_can_get_a_mask(rt: HostRuntime) -> Result<(
     Ok(())
 }
 
+fn check_texts(rt: &impl Abort, alloc: Global, names: &Names) {
+    for (text, form, wanted) in &TEXTS {
+        assert!(rt; is_read(alloc, names, text, *form, wanted));
+    }
+}
+
 #[test]
 fn each_text_is_read_and_written_again(rt: HostRuntime) -> Result<(), Fail> {
     let names = names_of(rt.alloc()).ok_or("names are added")?;
-    for (text, form, wanted) in TEXTS {
-        assert!(rt; is_read(rt.alloc(), &names, text, form, wanted));
-    }
+    check_texts(&rt, rt.alloc(), &names);
     Ok(())
+}
+
+fn check_faults(rt: &impl Abort, alloc: Global, names: &Names) {
+    for (text, wanted) in FAULTS {
+        assert!(rt; is_refused(alloc, names, text, wanted), "{wanted}");
+    }
 }
 
 #[test]
 fn the_first_fault_of_a_text_is_reported(rt: HostRuntime) -> Result<(), Fail> {
     let names = names_of(rt.alloc()).ok_or("names are added")?;
-    for (text, wanted) in FAULTS {
-        assert!(rt; is_refused(rt.alloc(), &names, text, wanted), "{wanted}");
-    }
+    check_faults(&rt, rt.alloc(), &names);
     let nobody = Names::new(rt.alloc());
     let unknown = TextFault::UnknownName { line: 5, column: 6 };
     assert!(rt; is_refused(rt.alloc(), &nobody, LISTED, unknown));
@@ -108,7 +125,7 @@ fn long_texts_are_read_or_refused(rt: HostRuntime) {
 #[test]
 fn a_name_is_added_once_as_a_user_and_once_as_a_group(rt: HostRuntime) -> Result<(), Fail> {
     let mut names = Names::new(rt.alloc());
-    add_each(&rt, &mut names, Id { value: 1 }, Id { value: 2 });
+    add_each(&rt, &mut names);
     let text = b"u::,u:7a:,g::,g:7a:,m::,o::";
     let wanted = b"u::---,u:1:---,g::---,g:2:---,m::---,o::---";
     assert!(rt; is_read(rt.alloc(), &names, text, Form::Short, wanted));

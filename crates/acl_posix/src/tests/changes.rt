@@ -10,7 +10,7 @@ use acl_perm::{Mode, Perm};
 use std::process::Abort;
 
 // Entries with their permissions, and the permissions that the mask leaves.
-const EFFECTIVE: [(Who, u8, u8); 6] = [
+static EFFECTIVE: [(Who, u8, u8); 6] = [
     (Owner, 6, 6),
     (Amy, 6, 4),
     (Group, 4, 4),
@@ -72,24 +72,29 @@ fn modes<A: Abort>(rt: &A, memory: Memory) {
     }
 }
 
+fn check_changes<A: Abort>(rt: &A, acl: &mut PosixAcl) {
+    acl.chmod(Mode { bits: 0o660 });
+    assert!(rt; has_rows(acl, (ORDERED, b"664660")));
+    acl.chmod(Mode { bits: 0o644 });
+    assert!(rt; acl.calc_mask().is_ok());
+    assert!(rt; has_rows(acl, (ORDERED, b"664664")));
+}
+
 // A list has these entries after its mode is set, and after its mask is calculated.
 fn changed_lists<A: Abort>(rt: &A, memory: Memory) {
     match memory.acl(SHARED) {
-        Ok(mut acl) => {
-            acl.chmod(Mode { bits: 0o660 });
-            assert!(rt; has_rows(&acl, (ORDERED, b"664660")));
-            acl.chmod(Mode { bits: 0o644 });
-            assert!(rt; acl.calc_mask().is_ok());
-            assert!(rt; has_rows(&acl, (ORDERED, b"664664")));
-        }
+        Ok(mut acl) => check_changes(rt, &mut acl),
         Err(fault) => assert!(rt; memory.may_run_out(Some(fault))),
     }
 }
 
 // A list, an entry with the digit to set, or without a digit if the entry is to be removed, and the resulting list or
-// fault of `setfacl -n`. A list without the mask that it needs is refused: setfacl reports that it is malformed, and
-// acl_check reports "Missing entries".
-const ONE_ENTRY: [(Rows, Who, Option<u8>, Result<Rows, AclFault>); 9] = [
+// fault of `setfacl -n`.
+type Row = (Rows, Who, Option<u8>, Result<Rows, AclFault>);
+
+// A list without the mask that it needs is refused: setfacl reports that it is malformed, and acl_check reports
+// "Missing entries".
+const ONE_ENTRY: [Row; 9] = [
     (
         NO_OWNER,
         Owner,
@@ -128,23 +133,35 @@ fn change(acl: &mut PosixAcl, who: Who, digit: Option<u8>) -> Result<(), AclFaul
     }
 }
 
-// Returns whether a changed list has these rows and the entry has the permissions that were set. A call that fails must
-// leave the rows as they were.
-fn is_changed(
-    memory: Memory,
-    (rows, who, digit, wanted): (Rows, Who, Option<u8>, Result<Rows, AclFault>),
-) -> bool {
-    let mut acl = match memory.acl(rows) {
-        Ok(acl) => acl,
-        Err(fault) => return memory.may_run_out(Some(fault)),
-    };
-    match (change(&mut acl, who, digit), wanted) {
-        (Ok(()), Ok(after)) => {
-            has_rows(&acl, after) && acl.get(who.tag()) == digit.and_then(perm_of)
-        }
-        (Ok(()), Err(_)) => false,
-        (Err(fault), Ok(_)) => memory.may_run_out(Some(fault)) && has_rows(&acl, rows),
-        (Err(fault), Err(wanted)) => fault == wanted && has_rows(&acl, rows),
+// Returns whether the changed list has these rows and the entry has the permissions that were set.
+fn is_set(acl: &PosixAcl, after: Rows, who: Who, digit: Option<u8>) -> bool {
+    has_rows(acl, after) && acl.get(who.tag()) == digit.and_then(perm_of)
+}
+
+// Returns whether a change may fail with this fault.
+fn may_fail(memory: Memory, fault: AclFault, wanted: Result<Rows, AclFault>) -> bool {
+    match wanted {
+        Ok(_) => memory.may_run_out(Some(fault)),
+        Err(wanted) => fault == wanted,
+    }
+}
+
+// Changes a list of these rows, and returns whether it is as wanted. A call that fails must leave the rows as they
+// were.
+fn is_as_wanted(memory: Memory, acl: &mut PosixAcl, (rows, who, digit, wanted): Row) -> bool {
+    match change(acl, who, digit) {
+        Ok(()) => match wanted {
+            Ok(after) => is_set(acl, after, who, digit),
+            Err(_) => false,
+        },
+        Err(fault) => may_fail(memory, fault, wanted) && has_rows(acl, rows),
+    }
+}
+
+fn is_changed(memory: Memory, row: Row) -> bool {
+    match memory.acl(row.0) {
+        Ok(mut acl) => is_as_wanted(memory, &mut acl, row),
+        Err(fault) => memory.may_run_out(Some(fault)),
     }
 }
 

@@ -3,7 +3,7 @@
 use crate::*;
 use Who::{Amy, Bob, Eve, Group, Guests, Mask, Ops, Other, Owner, Staff};
 use acl_perm::Perm;
-use std::alloc::Global;
+use std::alloc::{AllocError, Global};
 
 /// Whom an entry is for. The named users have the ids 5, 7 and 1001, and the named groups have the ids 5, 50 and 60.
 #[derive(Clone, Copy, Debug)]
@@ -63,6 +63,18 @@ pub fn perm_of(digit: u8) -> Option<Perm> {
     Perm::new(digit.wrapping_sub(b'0'))
 }
 
+fn push_rows(entries: &mut Vec<Entry>, (names, digits): Rows) -> Result<(), AllocError> {
+    for (who, digit) in names.iter().zip(digits) {
+        if let Some(perm) = perm_of(*digit) {
+            entries.push(Entry {
+                tag: who.tag(),
+                perm,
+            })?;
+        }
+    }
+    Ok(())
+}
+
 /// The allocator of the calls, and whether memory may run out. If it may, that is an accepted answer for every row.
 #[derive(Clone, Copy)]
 pub struct Memory {
@@ -82,16 +94,9 @@ impl Memory {
     }
 
     /// Makes the entries of some rows.
-    pub fn entries(self, (names, digits): Rows) -> Result<Vec<Entry>, AclFault> {
+    pub fn entries(self, rows: Rows) -> Result<Vec<Entry>, AclFault> {
         let mut entries = Vec::new(self.alloc);
-        for (who, digit) in names.iter().zip(digits) {
-            if let Some(perm) = perm_of(*digit) {
-                entries.push(Entry {
-                    tag: who.tag(),
-                    perm,
-                })?;
-            }
-        }
+        push_rows(&mut entries, rows)?;
         Ok(entries)
     }
 

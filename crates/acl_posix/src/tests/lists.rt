@@ -25,8 +25,10 @@ const LATE_REPEAT: Rows = (&[Other, Group, Bob, Guests, Other], b"44444");
 const THREE: Rows = (&[Owner, Group, Other], b"750");
 
 fn is_judged(memory: Memory, rows: Rows, fault: Option<AclFault>) -> bool {
-    let found = memory.acl(rows).err();
-    found == fault || memory.may_run_out(found)
+    match memory.acl(rows) {
+        Ok(_) => fault.is_none(),
+        Err(found) => fault == Some(found) || memory.may_run_out(Some(found)),
+    }
 }
 
 /// Runs the tables of this file.
@@ -57,17 +59,18 @@ fn whole_lists<A: Abort>(rt: &A, memory: Memory) {
     }
 }
 
+const CUT: [(Rows, Tag); 6] = [
+    ((&[Other, Mask, Staff], b"446"), Tag::UserObj),
+    ((&[Other, Mask, Staff, Owner, Amy], b"44666"), Tag::GroupObj),
+    ((&[Mask, Staff, Owner, Amy, Group], b"46664"), Tag::Other),
+    ((&[Owner], b"7"), Tag::GroupObj),
+    ((&[Owner, Group], b"75"), Tag::Other),
+    ((&[Owner, Group, Mask], b"644"), Tag::Other),
+];
+
 // A list without an entry that it needs is refused.
 fn cut_lists<A: Abort>(rt: &A, memory: Memory) {
-    let table: [(Rows, Tag); 6] = [
-        ((&[Other, Mask, Staff], b"446"), Tag::UserObj),
-        ((&[Other, Mask, Staff, Owner, Amy], b"44666"), Tag::GroupObj),
-        ((&[Mask, Staff, Owner, Amy, Group], b"46664"), Tag::Other),
-        ((&[Owner], b"7"), Tag::GroupObj),
-        ((&[Owner, Group], b"75"), Tag::Other),
-        ((&[Owner, Group, Mask], b"644"), Tag::Other),
-    ];
-    for (rows, tag) in table {
+    for (rows, tag) in CUT {
         assert!(rt;
             is_judged(memory, rows, Some(AclFault::Miss(tag))),
             "of {rows:?}"

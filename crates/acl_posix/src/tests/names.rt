@@ -8,14 +8,30 @@ use crate::*;
 use std::alloc::Global;
 use std::process::Abort;
 
+// Names that are added in turn: whether each is that of a group, its id, and the answer.
+static ADDED: [(bool, &[u8], u32, Result<(), NameFault>); 6] = [
+    (false, b"", 1, Err(NameFault::EmptyName)),
+    (false, b"007", 1, Err(NameFault::DigitsOnly)),
+    (false, b"7a", 1, Ok(())),
+    (false, b"7a", 2, Err(NameFault::Taken)),
+    (true, b"7a", 2, Ok(())),
+    (true, b"7a", 2, Err(NameFault::Taken)),
+];
+
+fn add(names: &mut Names, is_group: bool, name: &[u8], id: Id) -> Result<(), NameFault> {
+    if is_group {
+        names.add_group(name, id)
+    } else {
+        names.add_user(name, id)
+    }
+}
+
 /// Names are added to both halves of a table, and a refused name changes nothing.
-pub fn add_each(rt: &impl Abort, names: &mut Names, one: Id, two: Id) {
-    assert!(rt; names.add_user(b"", one) == Err(NameFault::EmptyName));
-    assert!(rt; names.add_user(b"007", one) == Err(NameFault::DigitsOnly));
-    assert!(rt; names.add_user(b"7a", one) == Ok(()));
-    assert!(rt; names.add_user(b"7a", two) == Err(NameFault::Taken));
-    assert!(rt; names.add_group(b"7a", two) == Ok(()));
-    assert!(rt; names.add_group(b"7a", two) == Err(NameFault::Taken));
+pub fn add_each(rt: &impl Abort, names: &mut Names) {
+    for (is_group, name, id, answer) in &ADDED {
+        let added = Id::new(*id).map(|id| add(names, *is_group, name, id));
+        assert!(rt; added == Some(*answer), "{name:?}");
+    }
 }
 
 // Adds a name to each half of the table. A call that runs out of memory leaves the table as it was, so that the call
@@ -43,7 +59,7 @@ fn add_names(rt: &impl Abort, names: &mut Names) -> Option<()> {
     Some(())
 }
 
-const ROWS: [(&[u8], Form, &[u8]); 4] = [
+static ROWS: [(&[u8], Form, &[u8]); 4] = [
     (SHORT, Form::Shown, SHOWN),
     (LISTED_SHORT, Form::Canonical, LISTED_CANONICAL),
     (TWO_MASKS, Form::Shown, TWO_MASKS_SHOWN),

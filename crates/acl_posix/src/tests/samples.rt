@@ -39,12 +39,19 @@ pub const TWO_MASKS_SHOWN: &[u8] =
     b"user::rwx\ngroup::rwx\nmask::rwx\nother::---\ndefault:user::rwx\ndefault:group::r-x\t#effective:---\n\
     default:group:7:rwx\t#effective:-w-\ndefault:mask::-w-\ndefault:other::---\n";
 
+// Adds the names in the texts.
+fn add_both(names: &mut Names) -> Result<(), NameFault> {
+    names.add_user(b"bob", Id { value: 1002 })?;
+    names.add_group(b"staff ops", Id { value: 50 })
+}
+
 /// Makes the table of the names in the texts.
 pub fn names_of(alloc: Global) -> Option<Names> {
     let mut names = Names::new(alloc);
-    names.add_user(b"bob", Id::new(1002)?).ok()?;
-    names.add_group(b"staff ops", Id::new(50)?).ok()?;
-    Some(names)
+    match add_both(&mut names) {
+        Ok(()) => Some(names),
+        Err(_) => None,
+    }
 }
 
 /// Writes a text into a buffer, and returns how many bytes were written and the result of the call.

@@ -9,7 +9,7 @@ use crate::*;
 use acl_perm::Counted;
 
 /// Each text is read and written again in a form.
-pub const TEXTS: [(&[u8], Form, &[u8]); 13] = [
+pub static TEXTS: [(&[u8], Form, &[u8]); 13] = [
     (SHORT, Form::Canonical, CANONICAL),
     (SHORT, Form::Shown, SHOWN),
     (SHORT, Form::Short, SHORT),
