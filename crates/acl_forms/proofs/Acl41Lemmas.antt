@@ -1,6 +1,5 @@
 -- Flags and a list after them are read if and only if the bytes spell them.
 use Rattle.std.proofs.Common.{◌≡◌, ◌∙◌, ◌+◌, ◌<◌, ◌^◌, ◌++◌, [], ℕ, List, Result, Ok, Err, length, refl, ap, sym, subst}
-use Rattle.std.specs.Result.{IsErrAnd}
 use Rattle.acl_perm.specs.Profile.{full}
 use Rattle.acl_nfs4.proofs.Exports.{one, spelling_short}
 use Rattle.acl_nfs4.specs.Ace.{Ace}
@@ -15,11 +14,6 @@ use Rattle.acl_forms.specs.Words.{WordPlace, acl_flags_of, start, word_at}
 use Rattle.acl_forms.specs.declared.fault.ReadFault.{ReadFault}
 use Rattle.acl_forms.specs.declared.fault.ReadReason.TheVariants as reason
 use Rattle.acl_forms.proofs.WordLemmas.{flags_again, flags_found, ok_is, place_at}
-
--- the result is the error that the conversion gives
-pub exit_is : {T E : Type 0} {e : E} (r : Result T E) → IsErrAnd r (λ y. y ≡ e) → r ≡ Err e
-exit_is (Ok x) is = absurd is
-exit_is (Err y) is = ap (λ z. Err z) is
 
 -- the bytes of accepted flags and an accepted list are theirs
 pub bytes_of : (flags : ℕ) (list : List Ace) → IsAclFlags flags → IsAccepted full list

@@ -42,16 +42,16 @@ not_below : (a n : ℕ) → n ≤ a → nat_lt a n ≡ false
 not_below a n le = grind (arith, nat_tests)
 
 -- an id is not the undefined one
-defined : (id : ℕ) → id ≤ greatest_id → eqb id undefined_id ≡ false
-defined id le = grind (arith, nat_tests)
+eqb-undefined_id : (id : ℕ) → id ≤ greatest_id → eqb id undefined_id ≡ false
+eqb-undefined_id id le = grind (arith, nat_tests)
 
 -- nothing is wrong with the numbers of an entry
 right : (at : ℕ) (t : Tag) (n : ℕ) → IsTag t → IsPerm n → field_fault at (raw_of (t, n)) ≡ None
 unfolding field_fault
 right at user_obj n h below = rw (not_below 7 n (omega (arith, below))) refl
-right at (user id) n h below = rw (not_below 7 n (omega (arith, below)), defined id h) refl
+right at (user id) n h below = rw (not_below 7 n (omega (arith, below)), eqb-undefined_id id h) refl
 right at group_obj n h below = rw (not_below 7 n (omega (arith, below))) refl
-right at (group id) n h below = rw (not_below 7 n (omega (arith, below)), defined id h) refl
+right at (group id) n h below = rw (not_below 7 n (omega (arith, below)), eqb-undefined_id id h) refl
 right at mask n h below = rw (not_below 7 n (omega (arith, below))) refl
 right at other n h below = rw (not_below 7 n (omega (arith, below))) refl
 
@@ -98,8 +98,8 @@ four_bytes : (a b c d : ℕ) → a < 256 → b < 256 → c < 256 → d < 256
 four_bytes a b c d p q r s = grind arith
 
 -- what holds of a number and of a row, and of the rows after it, holds of what a table gives
-chosen : (P : ℕ → ℕ → Type 0) (code k n more : ℕ) → P k n → P code more → P code (cond (eqb code k) n more)
-chosen P code k n more at after =
+cond-code : (P : ℕ → ℕ → Type 0) (code k n more : ℕ) → P k n → P code more → P code (cond (eqb code k) n more)
+cond-code P code k n more at after =
     elim (eqb code k) as (λ b. eqb code k ≡ b → P code (cond b n more)) [
       | true ↦ λ e. subst (λ (c : ℕ). P c n) (sym (eqb-true code k e)) at
       | false ↦ λ e. after
@@ -109,14 +109,14 @@ chosen P code k n more at after =
 code_is : (code id : ℕ) → (coded_number code == 0) ≡ false → tag_code (numbered_tag (coded_number code) id) ≡ code
 code_is code id =
     let P : ℕ → ℕ → Type 0 = λ c n. (n == 0) ≡ false → tag_code (numbered_tag n id) ≡ c in
-    chosen P code 0x01 1 _ (λ h. refl) (chosen P code 0x02 2 _ (λ h. refl) (chosen P code 0x04 3 _ (λ h. refl)
-    (chosen P code 0x08 4 _ (λ h. refl) (chosen P code 0x10 5 _ (λ h. refl) (chosen P code 0x20 6 0 (λ h. refl)
+    cond-code P code 0x01 1 _ (λ h. refl) (cond-code P code 0x02 2 _ (λ h. refl) (cond-code P code 0x04 3 _ (λ h. refl)
+    (cond-code P code 0x08 4 _ (λ h. refl) (cond-code P code 0x10 5 _ (λ h. refl) (cond-code P code 0x20 6 0 (λ h. refl)
     (λ h. absurd cc))))))
 
 -- what holds of two values holds of the one that a test chooses
-either : (Q : Tag → Type 0) (b : Bool) (x y : Tag) → Q x → Q y → Q (cond b x y)
-either Q true x y p q = p
-either Q false x y p q = q
+cond-either : (Q : Tag → Type 0) (b : Bool) (x y : Tag) → Q x → Q y → Q (cond b x y)
+cond-either Q true x y p q = p
+cond-either Q false x y p q = q
 
 -- an id that is not refused where there is none is the undefined one
 undefined_is : (id : ℕ) → cond (eqb id undefined_id) None (Some reasons.Qualifier) ≡ None → undefined_id ≡ id
@@ -134,9 +134,9 @@ id_is raw =
     let Q : Tag → Type 0 = λ t. cond (is_named t) (cond (eqb id undefined_id) (Some reasons.Id) None)
     (cond (eqb id undefined_id) None (Some reasons.Qualifier)) ≡ None
     → unwrap_or (tag_row t).qualifier undefined_id ≡ id in
-    either Q (eqb raw.tag 1) user_obj _ (undefined_is id) (either Q (eqb raw.tag 2) (user id) _ (λ h. refl)
-    (either Q (eqb raw.tag 3) group_obj _ (undefined_is id) (either Q (eqb raw.tag 4) (group id) _ (λ h. refl)
-    (either Q (eqb raw.tag 5) mask other (undefined_is id) (undefined_is id)))))
+    cond-either Q (eqb raw.tag 1) user_obj _ (undefined_is id) (cond-either Q (eqb raw.tag 2) (user id) _ (λ h. refl)
+    (cond-either Q (eqb raw.tag 3) group_obj _ (undefined_is id) (cond-either Q (eqb raw.tag 4) (group id) _ (λ h. refl)
+    (cond-either Q (eqb raw.tag 5) mask other (undefined_is id) (undefined_is id)))))
 
 -- the numbers of an entry are right
 pub record FieldsRight (raw : RawEntry) : Type 0 where
@@ -144,9 +144,10 @@ pub record FieldsRight (raw : RawEntry) : Type 0 where
   pub id : id_reason raw ≡ None
 
 -- if no fault comes of a test, the test failed
-none_of : (b : Bool) (f : ReadFault) (o : Option ReadFault) → cond b (Some f) o ≡ None → (b ≡ false) × (o ≡ None)
-none_of true f o e = absurd cc
-none_of false f o e = (refl, e)
+cond_fault-None : (b : Bool) (f : ReadFault) (o : Option ReadFault) → cond b (Some f) o ≡ None
+    → (b ≡ false) × (o ≡ None)
+cond_fault-None true f o e = absurd cc
+cond_fault-None false f o e = (refl, e)
 
 -- if no fault comes of a reason, there is none
 none_mapped : (at : ℕ) (o : Option ReadReason) → option_map (read_fault_at at) o ≡ None → o ≡ None
@@ -157,9 +158,9 @@ none_mapped at (Some r) e = absurd cc
 fields_right : (at : ℕ) (raw : RawEntry) → field_fault at raw ≡ None → FieldsRight raw
 unfolding field_fault
 fields_right at raw e =
-    let tag = none_of (raw.tag == 0) (read_fault_at at reasons.Tag) (cond (nat_lt 7 raw.perm)
+    let tag = cond_fault-None (raw.tag == 0) (read_fault_at at reasons.Tag) (cond (nat_lt 7 raw.perm)
     (Some (read_fault_at (at + 2) reasons.Permission)) (option_map (read_fault_at (at + 4)) (id_reason raw))) e in
-    let perm = none_of (nat_lt 7 raw.perm) (read_fault_at (at + 2) reasons.Permission)
+    let perm = cond_fault-None (nat_lt 7 raw.perm) (read_fault_at (at + 2) reasons.Permission)
     (option_map (read_fault_at (at + 4)) (id_reason raw)) tag.1 in
     record { tag = tag.0; id = none_mapped (at + 4) (id_reason raw) perm.1 }
 

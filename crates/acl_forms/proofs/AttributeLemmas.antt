@@ -78,9 +78,9 @@ record EndsAt (bytes : List ℕ) (entries : List (Tag × ℕ)) (text : List ℕ)
   pub stops : Stops text
 
 -- the entries of some bytes end at one place
-one_end : {bytes : List ℕ} {xs ys : List (Tag × ℕ)} {s t : List ℕ} → EndsAt bytes xs s → EndsAt bytes ys t
+EndsAt-unique : {bytes : List ℕ} {xs ys : List (Tag × ℕ)} {s t : List ℕ} → EndsAt bytes xs s → EndsAt bytes ys t
     → (xs ≡ ys) × (s ≡ t)
-one_end {bytes} {xs} {ys} {s} {t} a b =
+EndsAt-unique {bytes} {xs} {ys} {s} {t} a b =
     let same : flat_map entry_bytes xs ++ s ≡ flat_map entry_bytes ys ++ t =
     ap (λ (l : List ℕ). drop 4 l) (sym a.is ∙ b.is) in
     same_front xs ys s t (recursion_from_All IsEntry xs a.within) (recursion_from_All IsEntry ys b.within)
@@ -179,17 +179,17 @@ one_fault bytes _ _ (of_version f e) (of_list entries g whole wrong) = absurd (n
 one_fault bytes _ _ (of_entry before text f within is some wrong) (of_version g h) =
     absurd (no_version_fault g (entry_end within is wrong) h)
 one_fault bytes _ _ (of_entry before text f within is some wrong) (of_entry xs s g inside whole more bad) =
-    let same = one_end (entry_end within is wrong) (entry_end inside whole bad) in
+    let same = EndsAt-unique (entry_end within is wrong) (entry_end inside whole bad) in
     let moved : next_entry_fault (length (entries_bytes before)) text ≡ next_entry_fault (length (entries_bytes xs)) s =
     ap (λ (l : List (Tag × ℕ)). next_entry_fault (length (entries_bytes l)) text) same.0
     ∙ ap (next_entry_fault (length (entries_bytes xs))) same.1 in cc
 one_fault bytes _ _ (of_entry before text f within is some wrong) (of_list entries g whole bad) =
-    absurd (not_empty text some (one_end (entry_end within is wrong) (whole_end whole)).1)
+    absurd (not_empty text some (EndsAt-unique (entry_end within is wrong) (whole_end whole)).1)
 one_fault bytes _ _ (of_list entries f whole wrong) (of_version g h) = absurd (no_version_fault g (whole_end whole) h)
 one_fault bytes _ _ (of_list entries f whole wrong) (of_entry before text g within is some bad) =
-    absurd (not_empty text some (one_end (entry_end within is bad) (whole_end whole)).1)
+    absurd (not_empty text some (EndsAt-unique (entry_end within is bad) (whole_end whole)).1)
 one_fault bytes _ _ (of_list xs f whole wrong) (of_list ys g all bad) =
-    let same = one_end (whole_end whole) (whole_end all) in
+    let same = EndsAt-unique (whole_end whole) (whole_end all) in
     one_of_list ys (length bytes) f g (subst (λ (l : List (Tag × ℕ)). IsEntriesFault l (length bytes) f) same.0 wrong)
     bad
 
@@ -198,16 +198,17 @@ pub no_fault : (acl : Entries) (bytes : List ℕ) (fault : ReadFault) → Spells
     → IsAttributeFault bytes fault → ⊥
 no_fault acl bytes _ spells (of_version f e) = no_version_fault f (whole_end spells.whole) e
 no_fault acl bytes _ spells (of_entry before text f within is some wrong) =
-    not_empty text some (one_end (entry_end within is wrong) (whole_end spells.whole)).1
+    not_empty text some (EndsAt-unique (entry_end within is wrong) (whole_end spells.whole)).1
 no_fault acl bytes _ spells (of_list entries f whole wrong) =
-    let same = one_end (whole_end whole) (whole_end spells.whole) in
+    let same = EndsAt-unique (whole_end whole) (whole_end spells.whole) in
     right_list spells.entries (length bytes) f spells.order spells.valid
     (subst (λ (l : List (Tag × ℕ)). IsEntriesFault l (length bytes) f) same.0 wrong)
 
 -- bytes spell at most one ACL
-pub one_acl : (one two : Entries) (bytes : List ℕ) → SpellsAttribute one bytes → SpellsAttribute two bytes → one ≡ two
-one_acl one two bytes h k =
-    let same = one_end (whole_end h.whole) (whole_end k.whole) in h.set ∙ ap as_set same.0 ∙ sym k.set
+pub SpellsAttribute-unique : (one two : Entries) (bytes : List ℕ) → SpellsAttribute one bytes
+    → SpellsAttribute two bytes → one ≡ two
+SpellsAttribute-unique one two bytes h k =
+    let same = EndsAt-unique (whole_end h.whole) (whole_end k.whole) in h.set ∙ ap as_set same.0 ∙ sym k.set
 
 -- the bytes that are written of an ACL spell it
 pub written_spells : (acl : Entries) → IsAcl acl → SpellsAttribute acl (attribute_bytes acl)

@@ -33,7 +33,7 @@ use Rattle.acl_forms.specs.declared.fault.ReadReason.TheVariants as reason
 use Rattle.acl_forms.specs.declared.acl41_ids.IdAce.{IdAce}
 use Rattle.acl_forms.specs.declared.acl41_ids.Whom.{Whom}
 use Rattle.acl_forms.specs.declared.acl41_ids.Whom.TheVariants.{Owner, Group, Everyone, Account}
-use Rattle.acl_forms.specs.internal.IdAces.{ReadAs, ace_by_id, whom_name}
+use Rattle.acl_forms.specs.internal.IdAces.{ReadAs, ace_by_id, whom_name, flags_and_list}
 use Rattle.acl_forms.proofs.WhoLemmas.{is_who-decimal, is_who-everyone, is_who-group, is_who-owner, reads_who, says_who}
 use Rattle.acl_forms.proofs.WordLemmas.{Takes, Takes-then, bind-ok, bind_then, flags_again, flags_found, ok_is, place_at, word_again, word_takes}
 
@@ -116,8 +116,8 @@ pub piece_of : (a : Ace) (words : ℕ × ℕ) → whom_words a.who ≡ Some word
 piece_of a words e = rw e refl
 
 -- there is a value
-some_of : {A : Type 0} (o : Option A) (x : A) → o ≡ Some x → IsSome o
-some_of o x e = rw e refl
+IsSome-Some : {A : Type 0} (o : Option A) (x : A) → o ≡ Some x → IsSome o
+IsSome-Some o x e = rw e refl
 
 -- if each word of an ACE was read, the ACE was read
 takes_words : (weight : ℕ) (p : WordPlace) (k : Kind × WordPlace) (f s m : ℕ × WordPlace) (w : List ℕ × WordPlace)
@@ -147,7 +147,7 @@ takes_words weight p k f s m w fits ke fe se me we =
       takes = subst (λ (t : List ℕ). Takes p t w.1) (piece_of a (s.0, wt.number) says.words) all;
       is = record { flags = flags.1; mask = mask.1; who = says.is };
       light = mask.2;
-      id = some_of (whom_words w.0) (s.0, wt.number) says.words;
+      id = IsSome-Some (whom_words w.0) (s.0, wt.number) says.words;
     }
 
 -- reading an ACE takes its bytes
@@ -403,23 +403,19 @@ ids_bytes flags list bytes is ok ids =
 
 -- ---- what a call answers
 
--- the flags of the code as a number, and the list
-abbrev pub seen : AclFlags × List Ace → ℕ × List Ace
-seen x = (x.0.bits, x.1)
-
 -- the answer of a call that reads as the bytes say
 module _ (bytes : List ℕ) (fits : IsBytes bytes) where
   -- flags and a list that are returned are those that the bytes spell
-  pub ids_found : (result : Result (AclFlags × List Ace) ReadFault) → ReadAs seen result (acl41_ids_in bytes)
+  pub ids_found : (result : Result (AclFlags × List Ace) ReadFault) → ReadAs flags_and_list result (acl41_ids_in bytes)
       → IfOk result (λ read. IsAcl41Ids read.0.bits read.1 bytes)
-  ids_found (Ok x) h = ids_spelled bytes (seen x) fits h
+  ids_found (Ok x) h = ids_spelled bytes (flags_and_list x) fits h
   ids_found (Err f) h = tt
 
   -- the flags and the list that the bytes spell are returned, unless memory runs out
-  pub ids_only : (result : Result (AclFlags × List Ace) ReadFault) → ReadAs seen result (acl41_ids_in bytes)
+  pub ids_only : (result : Result (AclFlags × List Ace) ReadFault) → ReadAs flags_and_list result (acl41_ids_in bytes)
       → (flags : ℕ) (list : List Ace) → IsAcl41Ids flags list bytes → ReadsForm result flags list
   ids_only (Ok x) h flags list is =
-      let e : seen x ≡ (flags, list) = ok_is _ _ (sym h ∙ ids_read bytes flags list is) in
+      let e : flags_and_list x ≡ (flags, list) = ok_is _ _ (sym h ∙ ids_read bytes flags list is) in
       (ap (λ z. z.0) e, ap (λ z. z.1) e)
   ids_only (Err f) h flags list is = elim h [
     | inl memory ↦ memory
@@ -429,7 +425,8 @@ module _ (bytes : List ℕ) (fits : IsBytes bytes) where
     apart e = cc
 
   -- bytes with a fault are refused with that fault, unless memory runs out
-  pub ids_refused : (result : Result (AclFlags × List Ace) ReadFault) → ReadAs seen result (acl41_ids_in bytes)
-      → (wrong : ReadFault) → IsAcl41IdsFault bytes wrong → RefusesForm result wrong
+  pub ids_refused : (result : Result (AclFlags × List Ace) ReadFault)
+      → ReadAs flags_and_list result (acl41_ids_in bytes) → (wrong : ReadFault) → IsAcl41IdsFault bytes wrong
+      → RefusesForm result wrong
   ids_refused (Ok x) h wrong g = cc
   ids_refused (Err e) h wrong g = elim h [ inl memory ↦ inr memory | inr said ↦ inl cc ]

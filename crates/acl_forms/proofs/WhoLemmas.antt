@@ -40,8 +40,8 @@ digits_below (c ∷ cs) zero d = omega (arith, digit_from_value c d.0)
 digits_below (c ∷ cs) (suc i) d = digits_below cs i d.1
 
 -- a byte below 58 is not `@`
-no_at : (b : ℕ) → b < 58 → eqb b 64 ≡ false
-no_at b lt = grind arith
+eqb-at_sign : (b : ℕ) → b < 58 → eqb b 64 ≡ false
+eqb-at_sign b lt = grind arith
 
 -- a name in which each of the four checks of a who finds nothing is valid as a who
 no_fault : (who : List ℕ) → is_no_who_len (length who) ≡ false → is_utf8 who ≡ true → list_all is_plain who ≡ true
@@ -57,7 +57,8 @@ pub is_who-decimal : (n : ℕ) → IsId n → IsWho (decimal n)
 is_who-decimal n lt =
     let digits : AllDigits 10 (decimal n) = (decimal_is_IsNumeral n (omega arith)).0.1 in
     let at : ends_in_at (decimal n) ≡ false =
-    no_at (slice_index (decimal n) (length (decimal n) - 1)) (digits_below (decimal n) (length (decimal n) - 1) digits)
+    eqb-at_sign (slice_index (decimal n) (length (decimal n) - 1))
+    (digits_below (decimal n) (length (decimal n) - 1) digits)
     in
     let len : length (decimal n) ≤ 10 = length-decimal-le 10 n (omega arith) (omega arith) (omega arith) in
     no_fault (decimal n) (some_len (length (decimal n)) (decimal_nonempty n (omega arith)) (omega (arith, len)))
@@ -135,12 +136,12 @@ no_id who none = by (id_of_digits who) refl
     by None e = sym e
 
 -- a who that is the digits of an id has this id
-pub has_id : (who : List ℕ) (n : ℕ) → IsId n → bytes_eq who (decimal n) ≡ true → Some n ≡ id_of_digits who
-has_id who n is same = sym (ap id_of_digits ((bytes_eq-Decides who (decimal n)).0 same) ∙ id_again n is)
+pub id_of_digits-Some : (who : List ℕ) (n : ℕ) → IsId n → bytes_eq who (decimal n) ≡ true → Some n ≡ id_of_digits who
+id_of_digits-Some who n is same = sym (ap id_of_digits ((bytes_eq-Decides who (decimal n)).0 same) ∙ id_again n is)
 
 -- the digits of an id pass the test
-pub passes : (who : List ℕ) (n : ℕ) → who ≡ decimal n → bytes_eq who (decimal n) ≡ true
-passes who n e = (bytes_eq-Decides who (decimal n)).1 e
+pub bytes_eq-decimal : (who : List ℕ) (n : ℕ) → who ≡ decimal n → bytes_eq who (decimal n) ≡ true
+bytes_eq-decimal who n e = (bytes_eq-Decides who (decimal n)).1 e
 
 -- the digits of an id are UTF-8
 pub digits_utf8 : (who : List ℕ) (n : ℕ) → IsId n → who ≡ decimal n → IsUtf8 who
@@ -175,9 +176,9 @@ pub record SaysWho (special n : ℕ) (who : List ℕ) : Type 0 where
   pub is : IsWho who
 
 -- the id of a who that is read of an id
-says_id : (n : ℕ) (who : List ℕ) → id_who n ≡ Ok who → SaysWho 0 n who
+SaysWho-id_who : (n : ℕ) (who : List ℕ) → id_who n ≡ Ok who → SaysWho 0 n who
 unfolding whom_words
-says_id n who e = by (nat_le n greatest_id) refl e
+SaysWho-id_who n who e = by (nat_le n greatest_id) refl e
   where
     by : (b : Bool) → nat_le n greatest_id ≡ b → cond b (Ok (decimal n)) (Err reason.Id) ≡ Ok who → SaysWho 0 n who
     by true t e =
@@ -220,7 +221,7 @@ says_who special n who le e = by (eqb special 1) refl e
     by true t e = subst (λ (m : ℕ). SaysWho m n who) (sym (eqb-true special 1 t)) (says_special n who e)
     by false t e =
         let none : special ≡ 0 = grind arith in
-        subst (λ (m : ℕ). SaysWho m n who) (sym none) (says_id n who e)
+        subst (λ (m : ℕ). SaysWho m n who) (sym none) (SaysWho-id_who n who e)
 
 -- what the words of a who are
 pub record ReadsWho (who : List ℕ) (words : ℕ × ℕ) : Type 0 where

@@ -1,6 +1,6 @@
 -- A value that is read word by word from the left, as XDR has it (RFC 4506, section 4.1), and the answers of a call
 -- that reads a list of a form. The reasons are this library's own.
-use Rattle.std.specs.Prelude.{◌≡◌, ◌⊎◌, ℕ, ◌+◌, List, length, take, drop, Result, Ok, Err, MatchResult, nat_le, nat_lt, if◌then◌else◌}
+use Rattle.std.specs.Prelude.{◌≡◌, ◌⊎◌, ℕ, ◌+◌, List, length, take, drop, Result, Ok, Err, IfOk, MatchResult, nat_le, nat_lt, if◌then◌else◌}
 use Rattle.acl_nfs4.specs.Ace.{Ace}
 use Rattle.acl_nfs4.specs.Fields.{number}
 use Rattle.acl_nfs4.specs.Spelling.{word_size}
@@ -36,6 +36,10 @@ abbrev pub acl_flags_of : ℕ → Result ℕ ReadReason
 acl_flags_of n = if nat_le n all_acl_flags then Ok n else Err reason.AclFlagBits
 
 -- ---- the answers of a call that reads flags and a list
+
+-- what the call returns are flags and a list of which this holds
+abbrev pub IfForm : Result (AclFlags × List Ace) ReadFault → (ℕ → List Ace → Type 0) → Type 0
+IfForm result Holds = IfOk result (λ read. Holds read.0.bits read.1)
 
 -- these flags and this list, unless memory runs out
 abbrev pub ReadsForm : Result (AclFlags × List Ace) ReadFault → ℕ → List Ace → Type 0

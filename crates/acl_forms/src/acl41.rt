@@ -8,7 +8,7 @@ ghost use Rattle.acl_nfs4.specs.Spelling.{Xdr, word, word_size};
 ghost use Rattle.acl_nfs4.specs.declared.xdr.fault.Reason.{Reason};
 ghost use Rattle.acl_forms.specs.Acl41.{IsAcl41, IsAcl41Fault, acl41_bytes};
 ghost use Rattle.acl_forms.specs.ReadFaults.{no_memory_left};
-ghost use Rattle.acl_forms.specs.Words.{ReadsForm, RefusesForm};
+ghost use Rattle.acl_forms.specs.Words.{IfForm, ReadsForm, RefusesForm};
 ghost use Rattle.acl_forms.specs.declared.fault.ReadFault.{ReadFault};
 ghost use Rattle.acl_forms.specs.declared.fault.ReadReason.TheVariants as reason;
 
@@ -32,7 +32,7 @@ use std::alloc::Global;
 /// assert!(rt; list.len() == 1);
 /// ```
 pub fn read_acl41(alloc: Global, bytes: &[u8]) -> Result<(AclFlags, Acl), ReadFault>
-    ensures found { IfOk result (λ read. IsAcl41 read.0.bits read.1 bytes.now) }
+    ensures found { IfForm result (λ flags list. IsAcl41 flags list bytes.now) }
     // If the bytes spell flags and a list, these are returned.
     ensures only { (flags : ℕ) (list : List Ace) → IsAcl41 flags list bytes.now
         → ReadsForm result flags list }

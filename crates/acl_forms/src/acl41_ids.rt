@@ -8,10 +8,10 @@ ghost use Rattle.acl_nfs4.specs.Spelling.{IsAccepted, weight};
 ghost use Rattle.acl_nfs4.specs.internal.Reading.{Gives};
 ghost use Rattle.acl_forms.specs.Acl41Ids.{IsAcl41Ids, IsAcl41IdsFault, acl41_ids_in, id_ace_at, id_aces_from, id_who, id_who_of, listed, special_of, special_who};
 ghost use Rattle.acl_forms.specs.ReadFaults.{no_memory_left};
-ghost use Rattle.acl_forms.specs.Words.{ReadsForm, RefusesForm, word_at};
+ghost use Rattle.acl_forms.specs.Words.{IfForm, ReadsForm, RefusesForm, word_at};
 ghost use Rattle.acl_forms.specs.declared.fault.ReadFault.{ReadFault};
 ghost use Rattle.acl_forms.specs.internal.Cursor.{cursor_place};
-ghost use Rattle.acl_forms.specs.internal.IdAces.{ReadAs, ace_by_id, whom_name};
+ghost use Rattle.acl_forms.specs.internal.IdAces.{ReadAs, ace_by_id, flags_and_list, whom_name};
 
 use crate::acl_flags::AclFlags;
 use crate::cursor::Cursor;
@@ -55,7 +55,7 @@ pub(crate) enum Whom {
 /// }
 /// ```
 pub fn read_acl41_ids(alloc: Global, bytes: &[u8]) -> Result<(AclFlags, Acl), ReadFault>
-    ensures found { IfOk result (λ read. IsAcl41Ids read.0.bits read.1 bytes.now) }
+    ensures found { IfForm result (λ flags list. IsAcl41Ids flags list bytes.now) }
     // If the bytes spell flags and a list, these are returned.
     ensures only { (flags : ℕ) (list : List Ace) → IsAcl41Ids flags list bytes.now
         → ReadsForm result flags list }
@@ -71,7 +71,7 @@ pub fn read_acl41_ids(alloc: Global, bytes: &[u8]) -> Result<(AclFlags, Acl), Re
 // Returns what the bytes spell, or their first fault.
 #[tactic(auto, unfolding(crate::specs::Acl41Ids::acl41_ids_in))]
 fn read_whole(alloc: Global, bytes: &[u8]) -> Result<(AclFlags, Acl), ReadFault>
-    ensures { ReadAs (λ x. (x.0.bits, x.1)) result (acl41_ids_in bytes.now) }
+    ensures { ReadAs flags_and_list result (acl41_ids_in bytes.now) }
 {
     let mut cursor = start(bytes);
     let flags = acl_flags(&mut cursor)?;

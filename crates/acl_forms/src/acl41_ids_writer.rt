@@ -22,6 +22,30 @@ use acl_posix::Id;
 use byteorder::{BigEndian, ByteOrder};
 use itoa::Buffer;
 
+/// Writes the bytes of flags and a list, if `acl41_ids_fault` returns `None`: nfsacl41i, without memory. It ends at the
+/// first write that fails: then `written` bytes went out. It tries nothing again. Time linear in the bytes.
+///
+/// ```rust
+/// let list = parse_text(alloc, b"ALLOW - READ_DATA 1001")?;
+/// let mut room = [0u8; 28];
+/// write_acl41_ids(AclFlags::NONE, &list.view(), &mut Counted::new(room.as_mut_slice()))?;
+/// assert!(rt; room == *b"\0\0\0\0\0\0\0\x01\0\0\0\0\0\0\0\0\0\0\0\0\0\0\0\x01\0\0\x03\xe9");
+/// ```
+pub fn write_acl41_ids<K: Sink>(
+    flags: AclFlags,
+    list: &AclView<'_>,
+    sink: &mut K,
+) -> Result<(), FormWriteFault>
+    ensures { WritesIfHeld K.contents K.failure_count sink.old sink.new (acl41_ids_fault list.now)
+        (acl41_ids_bytes flags.bits list.now) result }
+{
+    if let Some(fault) = acl41_ids_fault(list) {
+        return Err(FormWriteFault::Form(fault));
+    }
+    put_ids(flags, list, sink)?;
+    Ok(())
+}
+
 /// Returns why the form does not hold the list: NoId, with the number of the first ACE whose who is no special
 /// identifier and not the decimal digits of an id. Returns `None` if the form holds it. Time linear in the bytes.
 ///
@@ -51,30 +75,6 @@ fn first_fault(aces: Aces<'_>) -> Option<FormFault>
         place += 1;
     }
     None
-}
-
-/// Writes the bytes of flags and a list, if `acl41_ids_fault` returns `None`: nfsacl41i, without memory. It ends at the
-/// first write that fails: then `written` bytes went out. It tries nothing again. Time linear in the bytes.
-///
-/// ```rust
-/// let list = parse_text(alloc, b"ALLOW - READ_DATA 1001")?;
-/// let mut room = [0u8; 28];
-/// write_acl41_ids(AclFlags::NONE, &list.view(), &mut Counted::new(room.as_mut_slice()))?;
-/// assert!(rt; room == *b"\0\0\0\0\0\0\0\x01\0\0\0\0\0\0\0\0\0\0\0\0\0\0\0\x01\0\0\x03\xe9");
-/// ```
-pub fn write_acl41_ids<K: Sink>(
-    flags: AclFlags,
-    list: &AclView<'_>,
-    sink: &mut K,
-) -> Result<(), FormWriteFault>
-    ensures { WritesIfHeld K.contents K.failure_count sink.old sink.new (acl41_ids_fault list.now)
-        (acl41_ids_bytes flags.bits list.now) result }
-{
-    if let Some(fault) = acl41_ids_fault(list) {
-        return Err(FormWriteFault::Form(fault));
-    }
-    put_ids(flags, list, sink)?;
-    Ok(())
 }
 
 // Writes the bytes of a list that the form holds, and returns how many they are.

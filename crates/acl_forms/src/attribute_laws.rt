@@ -6,7 +6,7 @@ ghost use Rattle.acl_posix.specs.Texts.{IsAcl};
 ghost use Rattle.acl_forms.specs.Attributes.{IsAttributeFault, SpellsAttribute};
 ghost use Rattle.acl_forms.specs.declared.fault.ReadFault.{ReadFault};
 
-/// The bytes that are written of an ACL spell it. Bytes spell at most one ACL and have at most one fault, and not both.
+/// The bytes that are written of an ACL spell it; bytes spell at most one ACL and have at most one fault, and not both.
 pub fn one_attribute()
     ensures written { (acl : Entries) → IsAcl acl → SpellsAttribute acl (attribute_bytes acl) }
     ensures list { (one two : Entries) (bytes : List ℕ) → SpellsAttribute one bytes

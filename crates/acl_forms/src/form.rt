@@ -1,11 +1,11 @@
 //! One call that reads and one that writes any of the forms.
-ghost use Rattle.std.specs.Prelude.{◌≡◌, ◌⊎◌, ℕ, IfErr, IfOk, List};
+ghost use Rattle.std.specs.Prelude.{◌≡◌, ◌⊎◌, ℕ, IfErr, List};
 ghost use Rattle.acl_nfs4.specs.Ace.{Ace};
 ghost use Rattle.acl_forms.specs.FormWrites.{WritesIfHeld};
 ghost use Rattle.acl_forms.specs.Forms.{IsFormFaultAt, SpellsForm, form_bytes, form_fault, is_text};
 ghost use Rattle.acl_forms.specs.Ids.{has_ids};
 ghost use Rattle.acl_forms.specs.ReadFaults.{no_memory_left};
-ghost use Rattle.acl_forms.specs.Words.{ReadsForm, RefusesForm};
+ghost use Rattle.acl_forms.specs.Words.{IfForm, ReadsForm, RefusesForm};
 ghost use Rattle.acl_forms.specs.declared.fault.ReadFault.{ReadFault};
 
 use crate::acl_flags::AclFlags;
@@ -69,7 +69,7 @@ impl Form {
 /// assert!(rt; list.weight() == 2);
 /// ```
 pub fn read(alloc: Global, form: Form, bytes: &[u8]) -> Result<(AclFlags, Acl), ReadFault>
-    ensures found { IfOk result (λ read. SpellsForm form read.0.bits read.1 bytes.now) }
+    ensures found { IfForm result (λ flags list. SpellsForm form flags list bytes.now) }
     // If the bytes spell flags and a list, these are returned.
     ensures only { (flags : ℕ) (list : List Ace) → SpellsForm form flags list bytes.now
         → ReadsForm result flags list }

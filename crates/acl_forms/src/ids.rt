@@ -105,8 +105,8 @@ impl<'a> Ids<'a> {
         }
     }
 
-    /// Adds a user or a group. Fails with NoName, NameTaken or IdTaken, in this order, or with Memory if memory runs
-    /// out, and leaves the table as it was. Time linear in the table.
+    /// Adds a user or a group, or fails with the first of NoName, NameTaken and IdTaken that holds, or with Memory if
+    /// memory runs out, and leaves the table as it was. Time linear in the table.
     #[tactic(auto, using(crate::proofs::IdTables::entries_grow))]
     pub fn add(&mut self, row: IdName<'a>) -> Result<(), IdNameFault>
         ensures added { OnOk result (self.new ≡ self.old ++ id_row row.entry ∷ []) }
@@ -346,7 +346,8 @@ fn is_named(entry: &IdEntry<'_>, row: IdName<'_>) -> bool
 // Returns whether an entry has the id of a row, for users or for groups.
 fn is_numbered(entry: &IdEntry<'_>, row: IdName<'_>) -> bool
     ensures { result
-        ≡ is_row_of row.entry.is_group (decimal row.entry.id.value) (name_for_id (entry_row entry.now)) }
+        ≡ is_row_of row.entry.is_group (decimal row.entry.id.value)
+        (name_for_id (entry_row entry.now)) }
 {
     entry.is_group == row.is_group && entry.id.value == row.id.value
 }

@@ -9,18 +9,19 @@ ghost use Rattle.acl_forms.specs.Forms.{form_bytes, form_fault, form_list};
 ghost use Rattle.acl_forms.specs.Ids.{IdRow, IsIdTable, SpellsNamed, ids_to_names, ids_to_names_in, names_to_ids, names_to_ids_in};
 ghost use Rattle.acl_forms.specs.declared.form.Form.{Form};
 
-/// What is written of flags and a list with the ids of a table spells, with the names of the table, these flags and the
-/// list as it is written, but with its name for each who that is the digits of an id in the table; and nothing else.
+/// Flags and a list that are written with the ids of a table read back, with its names, as these flags and as the list
+/// that the form holds, in which a who that is the digits of an id of the table is its name; and as nothing else.
 pub fn written_names_read_back()
     ensures { (form : Form) (table : List IdRow) (flags set : ℕ) (list other : List Ace)
         → IsIdTable table
-        → IsAclFlags flags → IsAccepted full list → form_fault form flags (names_to_ids_in form table list) ≡ None
+        → IsAclFlags flags → IsAccepted full list
+        → form_fault form flags (names_to_ids_in form table list) ≡ None
         → SpellsNamed form table set other (form_bytes form flags (names_to_ids_in form table list))
         ↔ ((set ≡ flags) × (other ≡ form_list form (ids_to_names_in form table list))) }
 {}
 
-/// Names and ids are exchanged for each other: ids for names change nothing that names for ids give, and names for ids
-/// nothing that ids for names give. A value of nfsacl41i is written again as the same bytes.
+/// To put names for ids gives the same list whether or not ids were put for names before, and the other way round; a
+/// value of nfsacl41i is written again as the same bytes; and the empty table changes nothing.
 pub fn names_and_ids()
     ensures named { (table : List IdRow) (list : List Ace) → IsIdTable table
         → ids_to_names table (names_to_ids table list) ≡ ids_to_names table list }
@@ -28,7 +29,8 @@ pub fn names_and_ids()
         → names_to_ids table (ids_to_names table list) ≡ names_to_ids table list }
     ensures canonical { (table : List IdRow) (flags : ℕ) (list : List Ace) (bytes : List ℕ)
         → IsIdTable table
-        → IsAcl41Ids flags list bytes → acl41_ids_bytes flags (names_to_ids table (ids_to_names table list)) ≡ bytes }
+        → IsAcl41Ids flags list bytes
+        → acl41_ids_bytes flags (names_to_ids table (ids_to_names table list)) ≡ bytes }
     ensures empty { (list : List Ace) → (ids_to_names [] list ≡ list)
         × (names_to_ids [] list ≡ list) }
 {}

@@ -17,7 +17,7 @@ ghost use Rattle.acl_forms.specs.declared.object.ObjectKind.{ObjectKind};
 ghost use Rattle.acl_forms.specs.declared.style.Style.{Style};
 ghost use Rattle.acl_forms.specs.declared.who_field.WhoField.{WhoField};
 
-/// The bytes that are written of flags and a list spell them, and no other bytes do. Bytes spell at most one list.
+/// The bytes that are written of flags and a list spell them, and no other bytes do; bytes spell at most one list.
 #[tactic(auto, using(crate::proofs::Acl41Lemmas::bytes_of))]
 pub fn one_acl41()
     ensures bytes { (flags : ℕ) (list : List Ace) (bytes : List ℕ) → IsAclFlags flags
@@ -28,7 +28,7 @@ pub fn one_acl41()
         → IsAcl41 set other bytes → (flags ≡ set) × (list ≡ other) }
 {}
 
-/// The bytes that are written of flags and a list with ids spell them, and no other bytes do. Bytes spell at most one
+/// The bytes that are written of flags and a list with ids spell them, and no other bytes do; bytes spell at most one
 /// list.
 pub fn one_acl41_ids()
     ensures bytes { (flags : ℕ) (list : List Ace) (bytes : List ℕ) → IsAclFlags flags

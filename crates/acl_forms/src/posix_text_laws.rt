@@ -36,13 +36,17 @@ pub fn one_default_text()
 pub fn written_posix_text_reads_back()
     ensures star { (names : NamesOfIds) (table : Table) (acl : Entries) → IsAcl acl
         → posix_text_fault names Star acl ≡ None
-        → SpellsPosixText table (record { access = acl; default = None }) (posix_text names Star acl) }
+        → SpellsPosixText table (record { access = acl; default = None })
+        (posix_text names Star acl) }
     ensures star_default { (names : NamesOfIds) (table : Table) (acl : Entries) → IsAcl acl
-        → posix_text_fault names Star acl ≡ None → SpellsDefaultText table acl (posix_text names Star acl) }
+        → posix_text_fault names Star acl ≡ None
+        → SpellsDefaultText table acl (posix_text names Star acl) }
     ensures gnu { (names : NamesOfIds) (table : Table) (acl : Entries) → HasNamesOfIds table names
         → IsAcl acl → posix_text_fault names Gnu acl ≡ None
-        → SpellsPosixText table (record { access = acl; default = None }) (posix_text names Gnu acl) }
+        → SpellsPosixText table (record { access = acl; default = None })
+        (posix_text names Gnu acl) }
     ensures gnu_default { (names : NamesOfIds) (table : Table) (acl : Entries)
         → HasNamesOfIds table names → IsAcl acl
-        → posix_text_fault names Gnu acl ≡ None → SpellsDefaultText table acl (posix_text names Gnu acl) }
+        → posix_text_fault names Gnu acl ≡ None
+        → SpellsDefaultText table acl (posix_text names Gnu acl) }
 {}

@@ -33,8 +33,10 @@ pub(crate) fn read_text<F: TextForm>(
 // Returns the list of the lines of a text.
 fn read_lines<F: TextForm>(alloc: Global, text: &[u8], form: F) -> Result<F::List, ReadFault>
     ensures { MatchResult result
-        (λ list. IsHeld (read_items (F.rules form) [] (items_in (F.rules form) text.now)) (F.Holds list))
-        (λ fault. FailsAsRead fault (read_items (F.rules form) [] (items_in (F.rules form) text.now))) }
+        (λ list. IsHeld (read_items (F.rules form) [] (items_in (F.rules form) text.now))
+        (F.Holds list))
+        (λ fault. FailsAsRead fault
+        (read_items (F.rules form) [] (items_in (F.rules form) text.now))) }
 {
     let mut list = form.new_list(alloc);
     let mut rest = Some(Piece {
@@ -56,7 +58,8 @@ fn read_line<F: TextForm>(list: &mut F::List, line: Piece<'_>, form: F) -> Resul
     requires fits { ColumnsFit line }
     requires held { (all : List F.Item) × F.Holds list.old all }
     ensures { (all : List F.Item) → F.Holds list.old all
-        → AddsItems (F.rules form) (line_items (F.rules form) (span_of line.entry)) all (F.Holds list.new) result }
+        → AddsItems (F.rules form) (line_items (F.rules form) (span_of line.entry)) all
+        (F.Holds list.new) result }
 {
     let Some(place) = mark_in(line.bytes) else {
         return read_entries(list, line, form);
@@ -110,7 +113,8 @@ fn read_parts<F: TextForm>(list: &mut F::List, line: Piece<'_>, form: F) -> Resu
     requires fits { ColumnsFit line }
     requires held { (all : List F.Item) × F.Holds list.old all }
     ensures { (all : List F.Item) → F.Holds list.old all → AddsItems (F.rules form)
-        (items_of (entries_among (F.rules form) (cut_entries (F.rules form) (span_of line.entry)))) all
+        (items_of
+        (entries_among (F.rules form) (cut_entries (F.rules form) (span_of line.entry)))) all
         (F.Holds list.new) result }
 {
     let mut rest = Some(line);
@@ -154,7 +158,8 @@ fn add_part<F: TextForm>(list: &mut F::List, part: Piece<'_>, form: F) -> Result
     requires fits { ColumnsFit part }
     requires held { (all : List F.Item) × F.Holds list.old all }
     ensures { (all : List F.Item) → F.Holds list.old all
-        → AddsItems (F.rules form) (part_items (F.rules form) (span_of part.entry)) all (F.Holds list.new) result }
+        → AddsItems (F.rules form) (part_items (F.rules form) (span_of part.entry)) all
+        (F.Holds list.new) result }
 {
     if form.is_part_skipped(part.bytes) {
         return Ok(());

@@ -34,6 +34,32 @@ pub(crate) fn start(bytes: &[u8]) -> Cursor<'_>
     }
 }
 
+/// Reads the flags of the list.
+pub(crate) fn acl_flags(cursor: &mut Cursor<'_>) -> Result<AclFlags, ReadFault>
+    ensures { Gives (λ x. (x.bits, cursor_place cursor.new)) result
+        (word_at acl_flags_of (cursor_place cursor.old)) }
+{
+    let offset = offset_of(cursor);
+    placed(offset, acl_flags_of(word(cursor)?))
+}
+
+fn acl_flags_of(number: u32) -> Result<AclFlags, ReadReason>
+    ensures { Gives (λ x. x.bits) result (acl_flags_of number) }
+{
+    AclFlags::new(number).ok_or(ReadReason::AclFlagBits)
+}
+
+/// Returns the value of a field, or its fault at its first byte.
+#[inline(always)]
+pub(crate) fn placed<T>(offset: u64, judged: Result<T, ReadReason>) -> Result<T, ReadFault>
+    ensures { PlacedWord offset judged result }
+{
+    match judged {
+        Ok(value) => Ok(value),
+        Err(reason) => Err(ReadFault { offset, reason }),
+    }
+}
+
 /// Reads the next word, or fails with Truncated at the place where it should begin.
 #[inline(always)]
 pub(crate) fn word(cursor: &mut Cursor<'_>) -> Result<u32, ReadFault>
@@ -57,30 +83,4 @@ pub(crate) fn offset_of(cursor: &Cursor<'_>) -> u64
     ensures { result ≡ (cursor_place cursor.now).at }
 {
     (cursor.len - cursor.rest.len()) as u64
-}
-
-/// Returns the value of a field, or its fault at its first byte.
-#[inline(always)]
-pub(crate) fn placed<T>(offset: u64, judged: Result<T, ReadReason>) -> Result<T, ReadFault>
-    ensures { PlacedWord offset judged result }
-{
-    match judged {
-        Ok(value) => Ok(value),
-        Err(reason) => Err(ReadFault { offset, reason }),
-    }
-}
-
-/// Reads the flags of the list.
-pub(crate) fn acl_flags(cursor: &mut Cursor<'_>) -> Result<AclFlags, ReadFault>
-    ensures { Gives (λ x. (x.bits, cursor_place cursor.new)) result
-        (word_at acl_flags_of (cursor_place cursor.old)) }
-{
-    let offset = offset_of(cursor);
-    placed(offset, acl_flags_of(word(cursor)?))
-}
-
-fn acl_flags_of(number: u32) -> Result<AclFlags, ReadReason>
-    ensures { Gives (λ x. x.bits) result (acl_flags_of number) }
-{
-    AclFlags::new(number).ok_or(ReadReason::AclFlagBits)
 }

@@ -95,6 +95,18 @@ pub(crate) fn add(line: &mut Line, bytes: &[u8])
     let _ = line.try_extend_from_slice(bytes);
 }
 
+/// Adds the letters of the rows whose bits a set has, in a style.
+pub(crate) fn add_styled(line: &mut Line, table: &[Letter], set: u32, letters: LetterStyle)
+    requires room { array_vec_len line.old + length table.now ≤ text_line_room }
+    ensures text { line.new.items ≡ line.old.items ++ styled_letters letters table.now set }
+    ensures len { array_vec_len line.new ≤ array_vec_len line.old + length table.now }
+{
+    match letters {
+        LetterStyle::Compact => add_letters(line, table, set),
+        LetterStyle::Full => add_columns(line, table, set),
+    }
+}
+
 /// Adds the letters of the rows whose bits a set has.
 pub(crate) fn add_letters(line: &mut Line, table: &[Letter], set: u32)
     requires room { array_vec_len line.old + length table.now ≤ text_line_room }
@@ -121,18 +133,6 @@ fn add_columns(line: &mut Line, table: &[Letter], set: u32)
             b'-'
         };
         line.push(letter);
-    }
-}
-
-/// Adds the letters of the rows whose bits a set has, in a style.
-pub(crate) fn add_styled(line: &mut Line, table: &[Letter], set: u32, letters: LetterStyle)
-    requires room { array_vec_len line.old + length table.now ≤ text_line_room }
-    ensures text { line.new.items ≡ line.old.items ++ styled_letters letters table.now set }
-    ensures len { array_vec_len line.new ≤ array_vec_len line.old + length table.now }
-{
-    match letters {
-        LetterStyle::Compact => add_letters(line, table, set),
-        LetterStyle::Full => add_columns(line, table, set),
     }
 }
 

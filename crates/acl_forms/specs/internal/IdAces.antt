@@ -7,6 +7,7 @@ use Rattle.acl_forms.specs.ReadFaults.{no_memory_left}
 use Rattle.acl_forms.specs.declared.acl41_ids.IdAce.{IdAce}
 use Rattle.acl_forms.specs.declared.acl41_ids.Whom.{Whom}
 use Rattle.acl_forms.specs.declared.acl41_ids.Whom.TheVariants.{Owner, Group, Everyone, Account}
+use Rattle.acl_forms.specs.declared.acl_flags.AclFlags.{AclFlags}
 use Rattle.acl_forms.specs.declared.fault.ReadFault.{ReadFault}
 
 -- the who of a special identifier or of an id
@@ -19,6 +20,10 @@ whom_name (Account id) = decimal id.value
 -- the ACE of an `IdAce`
 abbrev pub ace_by_id : IdAce → Ace
 ace_by_id a = record { kind = a.kind; flags = a.flags.bits; mask = a.mask.bits; who = whom_name a.whom }
+
+-- what a call reads, with the flags as their number
+abbrev pub flags_and_list : AclFlags × List Ace → ℕ × List Ace
+flags_and_list read = (read.0.bits, read.1)
 
 -- the result of a call, seen by view, is what is said, unless memory runs out
 abbrev pub ReadAs : {X Y : Type 0} → (X → Y) → Result X ReadFault → Result Y ReadFault → Type 0

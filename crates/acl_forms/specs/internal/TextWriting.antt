@@ -1,6 +1,7 @@
 -- How the code writes a text of entries (this library's own). No public clause cites it.
-use Rattle.std.specs.Prelude.{ℕ, List, [], ◌∷◌, ◌++◌}
+use Rattle.std.specs.Prelude.{ℕ, ◌+◌, List, [], ◌∷◌, ◌++◌}
 use Rattle.acl_perm.specs.Ascii.{comma, line_feed}
+use Rattle.acl_posix.specs.internal.Digits.{most_digits}
 use Rattle.acl_nfs4.specs.Ace.{Ace}
 use Rattle.acl_forms.specs.NfsWritten.{nfs_entry_text}
 use Rattle.acl_forms.specs.ToolsWritten.{tools_entry_text}
@@ -13,6 +14,10 @@ use Rattle.acl_forms.specs.declared.writing.WrittenForm.TheVariants.{Nfs, Tools}
 -- ends
 abbrev pub text_line_room : ℕ
 text_line_room = 1080
+
+-- the most bytes of a colon and the digits of an id
+abbrev pub id_room : ℕ
+id_room = 1 + most_digits
 
 -- the entry of an ACE in a form
 abbrev pub entry_of : WrittenForm → Ace → List ℕ

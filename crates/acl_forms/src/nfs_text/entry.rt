@@ -1,6 +1,6 @@
 //! The ACE that an entry spells, or what is wrong with it.
 ghost use Rattle.std.specs.Prelude.{◌≡◌, ◌<◌, ◌≤◌, IfOk, option_map};
-ghost use Rattle.acl_perm.specs.Bits.{IsMask};
+ghost use Rattle.acl_perm.specs.Bits.{IsFlags, IsMask};
 ghost use Rattle.acl_perm.specs.Lines.{span_of, ColumnsFit};
 ghost use Rattle.acl_nfs4.specs.Limits.{most_aces, most_weight};
 ghost use Rattle.acl_nfs4.specs.internal.Reading.{Gives};
@@ -191,7 +191,7 @@ fn flags_at(field: Piece<'_>) -> Result<u32, ReadFault>
     requires { ColumnsFit field }
     ensures exact { result ≡ letters_from (nfs_flag_letters no_letter)
         Directory reasons.Flag field.entry.column 0 field.entry.bytes.now }
-    ensures small { IfOk result (λ flags. flags ≤ 255) }
+    ensures small { IfOk result IsFlags }
 {
     read_letters(
         &NFS_FLAG_LETTERS,

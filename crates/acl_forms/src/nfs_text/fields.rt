@@ -1,6 +1,7 @@
 //! The fields of an entry.
-ghost use Rattle.std.specs.Prelude.{◌≡◌, ◌≤◌, IfOk, IfSome, option_map};
+ghost use Rattle.std.specs.Prelude.{◌≡◌, IfOk, IfSome, option_map};
 ghost use Rattle.std.specs.Str.{bytes_eq};
+ghost use Rattle.acl_perm.specs.Bits.{IsFlags};
 ghost use Rattle.acl_perm.specs.Lines.{span_of, ColumnsFit};
 ghost use Rattle.acl_nfs4.specs.internal.Reading.{Gives};
 ghost use Rattle.acl_forms.specs.NfsText.{fields_by_tag, flags_by_tag, named_fields, nfs_fields_of, nfs_tag_of, special_fields, tag_special, trimmed_span};
@@ -72,9 +73,9 @@ impl NfsTag {
 
     /// Returns the flags of an entry with this tag.
     pub(crate) fn with_flags(self, flags: u32) -> u32
-        requires { flags ≤ 255 }
+        requires { IsFlags flags }
         ensures value { result ≡ flags_by_tag self flags }
-        ensures small { result ≤ 255 }
+        ensures small { IsFlags result }
     {
         match self {
             NfsTag::NamedGroup => flags | 0x40,

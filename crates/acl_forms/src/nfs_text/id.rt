@@ -5,6 +5,7 @@ ghost use Rattle.std.specs.List.{list_all};
 ghost use Rattle.std.specs.Char.{is_ascii_digit};
 ghost use Rattle.acl_posix.specs.Names.{is_number};
 ghost use Rattle.acl_forms.specs.NfsText.{id_alone, is_other_number};
+ghost use Rattle.acl_forms.specs.internal.NfsReading.{no_id};
 
 use acl_posix::Id;
 
@@ -33,7 +34,7 @@ pub(crate) fn is_other_number(name: &[u8], id: Id) -> bool
 // Returns the number that digits spell, but at most the first number above all ids.
 fn number_of(digits: &[u8]) -> u64
     requires { list_all is_ascii_digit digits.now ≡ true }
-    ensures { result ≡ min (digits_value 10 digits.now) 4294967295 }
+    ensures { result ≡ min (digits_value 10 digits.now) no_id }
 {
     let mut value = 0;
     for digit in digits {

@@ -10,7 +10,7 @@ ghost use Rattle.acl_forms.specs.FormWrites.{WritesIfHeld};
 ghost use Rattle.acl_forms.specs.Letters.{nfs_flag_letters, nfs_right_letters};
 ghost use Rattle.acl_forms.specs.NfsWritten.{account_word, id_after, is_cut_who, is_id_cut, kind_word, nfs_ace_fault, nfs_entry_text, nfs_fault_from, nfs_text, nfs_text_fault, principal_text, special_word};
 ghost use Rattle.acl_forms.specs.ToolsWritten.{letters_of};
-ghost use Rattle.acl_forms.specs.internal.TextWriting.{text_line_room};
+ghost use Rattle.acl_forms.specs.internal.TextWriting.{id_room, text_line_room};
 
 use crate::acl41_ids_writer::id_in_digits;
 use crate::fault::{FormFault, FormReason};
@@ -26,22 +26,6 @@ use acl_perm::internal::trimmed;
 
 // libarchive reads an id that is greater as this one.
 const GREATEST_KEPT_ID: u32 = 2_147_483_647;
-
-/// Returns why the text of FreeBSD and libarchive cannot hold a list, or `None` if it can: the first ACE that it cannot
-/// hold, and the first reason in this order. Retention: the ACE has one of the two rights of retention. Separator: its
-/// who has a comma, a colon or a `#`, or a blank at one of its ends. Id: its who is the digits of an id above
-/// 2147483647, which libarchive does not keep. Time linear in the list.
-///
-/// ```rust
-/// let list = parse_text(alloc, b"ALLOW - READ_DATA a,b\n")?;
-/// let fault = nfs_text_fault(&list.view());
-/// assert!(rt; fault == Some(FormFault { place: 0, reason: FormReason::Separator }));
-/// ```
-pub fn nfs_text_fault(list: &AclView<'_>) -> Option<FormFault>
-    ensures { result ≡ nfs_text_fault list.now }
-{
-    first_fault(list.aces())
-}
 
 /// Writes a list as libarchive prints it with ids and in this style, if `nfs_text_fault` returns `None`. Where no comma
 /// separates the entries, there is a line feed after the last one too. A who that is the digits of an id is written as
@@ -69,6 +53,22 @@ pub fn write_nfs_text<S: Sink>(
     }
     put_entries(sink, list.aces(), WrittenForm::Nfs(style))?;
     Ok(())
+}
+
+/// Returns why the text of FreeBSD and libarchive cannot hold a list, or `None` if it can: the first ACE that it cannot
+/// hold, and the first reason in this order. Retention: the ACE has one of the two rights of retention. Separator: its
+/// who has a comma, a colon or a `#`, or a blank at one of its ends. Id: its who is the digits of an id above
+/// 2147483647, which libarchive does not keep. Time linear in the list.
+///
+/// ```rust
+/// let list = parse_text(alloc, b"ALLOW - READ_DATA a,b\n")?;
+/// let fault = nfs_text_fault(&list.view());
+/// assert!(rt; fault == Some(FormFault { place: 0, reason: FormReason::Separator }));
+/// ```
+pub fn nfs_text_fault(list: &AclView<'_>) -> Option<FormFault>
+    ensures { result ≡ nfs_text_fault list.now }
+{
+    first_fault(list.aces())
 }
 
 // Returns the first ACE that the form cannot hold.
@@ -156,9 +156,9 @@ fn add_principal(line: &mut Line, item: AceRef<'_>)
 
 // Adds the id of a who that is the digits of one.
 fn add_id(line: &mut Line, who: &[u8])
-    requires { array_vec_len line.old ≤ 1066 }
+    requires { array_vec_len line.old + id_room ≤ text_line_room }
     ensures text { line.new.items ≡ line.old.items ++ id_after who.now (id_of_digits who.now) }
-    ensures len { array_vec_len line.new ≤ array_vec_len line.old + 11 }
+    ensures len { array_vec_len line.new ≤ array_vec_len line.old + id_room }
 {
     match id_in_digits(who) {
         Some(_) => {

@@ -86,7 +86,8 @@ pub(crate) fn add(
     requires room { length list.old < most_aces }
     requires light { weight list.old + count_ones item.mask.bits ≤ most_weight }
     ensures kept { OnOk result (list.new ≡ list.old
-        ++ cons_option (kept_unless (reason_of (any_ace_of item.entry)) (any_ace_of item.entry)) []) }
+        ++ cons_option
+        (kept_unless (reason_of (any_ace_of item.entry)) (any_ace_of item.entry)) []) }
     ensures good { OnOk result (IsAccepted full list.new) }
     ensures left_out { OnOk result (left_out.new.items ≡ left_out.old.items
         ++ noted_if place offset (reason_of (any_ace_of item.entry))) }

@@ -122,7 +122,8 @@ fn add_ace(part: &mut TextPart, item: AnyAceRef<'_>, offset: usize) -> Result<()
     requires held { (whole : List PlacedAce) × HoldsPart part.old whole }
     requires within { IsWithinLimits part.old.count part.old.weight item }
     ensures { (whole : List PlacedAce) → HoldsPart part.old whole
-        → OnOk result (HoldsPart part.new (whole ++ placed_ace offset (any_ace_of item.entry) ∷ [])) }
+        → OnOk result
+        (HoldsPart part.new (whole ++ placed_ace offset (any_ace_of item.entry) ∷ [])) }
 {
     add(
         &mut part.list,

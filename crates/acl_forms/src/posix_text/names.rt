@@ -44,7 +44,7 @@ impl IdNames {
         }
     }
 
-    /// Adds the name of a user. An id that has a name keeps it. If memory runs out, the table stays as it was.
+    /// Adds the name of a user; an id that has a name keeps it, and the table stays as it was if memory runs out.
     /// Logarithmic time; one string, and a node of the map.
     ///
     /// ```rust
@@ -64,7 +64,7 @@ impl IdNames {
         keep_first(self.alloc, &mut self.users, id.value(), name)
     }
 
-    /// Adds the name of a group. An id that has a name keeps it. If memory runs out, the table stays as it was.
+    /// Adds the name of a group; an id that has a name keeps it, and the table stays as it was if memory runs out.
     /// Logarithmic time; one string, and a node of the map.
     pub fn add_group(&mut self, id: Id, name: &[u8]) -> Result<(), AllocError>
         ensures added { OnOk result (self.new ≡ with_group_id self.old id.value name.now) }

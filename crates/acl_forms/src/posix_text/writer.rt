@@ -8,13 +8,14 @@ ghost use Rattle.acl_perm.specs.Pieces.{WritesFrom};
 ghost use Rattle.acl_perm.specs.Shown.{perm_text};
 ghost use Rattle.acl_posix.specs.Entries.{pair_of, pairs};
 ghost use Rattle.acl_posix.specs.Tag.{tag_of};
+ghost use Rattle.acl_posix.specs.internal.Digits.{most_digits};
 ghost use Rattle.acl_posix.specs.Texts.{long_word, qualifier_text};
 ghost use Rattle.acl_forms.specs.FormWrites.{WritesIfHeld};
 ghost use Rattle.acl_forms.specs.PosixNames.{tag_name};
 ghost use Rattle.acl_forms.specs.PosixWritten.{comma_before, entries_text, id_field, id_reason_of, is_cut_name, is_name_separator, longest_name, name_reason, named_reason, pieces_if, posix_fault_from, posix_piece, posix_text, posix_text_fault, styled, three_fields, written_qualifier};
 ghost use Rattle.acl_forms.specs.internal.AttributeEntries.{most_entries};
-ghost use Rattle.acl_forms.specs.internal.PosixWriting.{chosen, piece_if, IsShortName};
-ghost use Rattle.acl_forms.specs.internal.TextWriting.{text_line_room};
+ghost use Rattle.acl_forms.specs.internal.PosixWriting.{chosen, named_room, piece_if, IsShortName};
+ghost use Rattle.acl_forms.specs.internal.TextWriting.{id_room, text_line_room};
 
 use crate::fault::{FormFault, FormReason};
 use crate::form_write::FormWriteFault;
@@ -43,17 +44,6 @@ pub(crate) enum Pass {
     Others,
 }
 
-/// Returns why a text in this style cannot hold an ACL with these names, or `None` if it can: the first entry in
-/// canonical order that it cannot hold, and the first reason in this order. Separator: its name has a comma, a colon, a
-/// `#`, a line feed or a zero byte, or a blank at an end. TooLong: its name has more than 1,024 bytes. Id: the style is
-/// that of star, and the id is above 2147483647, which libarchive does not keep. It takes no memory; for each entry,
-/// time logarithmic in the names.
-pub fn posix_text_fault(acl: &PosixAcl, names: &IdNames, style: TarStyle) -> Option<FormFault>
-    ensures { result ≡ posix_text_fault names.now style acl.now }
-{
-    first_fault(acl.entries(), names, style)
-}
-
 /// Writes an ACL as the value of `SCHILY.acl.access` or `SCHILY.acl.default` in this style, if `posix_text_fault`
 /// returns `None`. It ends at the first put that fails: then `written` bytes went out. It takes no memory.
 ///
@@ -80,6 +70,17 @@ pub fn write_posix_text<K: Sink>(
     }
     put_text(acl.entries(), names, style, sink)?;
     Ok(())
+}
+
+/// Returns why a text in this style cannot hold an ACL with these names, or `None` if it can: the first entry in
+/// canonical order that it cannot hold, and the first reason in this order. Separator: its name has a comma, a colon, a
+/// `#`, a line feed or a zero byte, or a blank at an end. TooLong: its name has more than 1,024 bytes. Id: the style is
+/// that of star, and the id is above 2147483647, which libarchive does not keep. It takes no memory; for each entry,
+/// time logarithmic in the names.
+pub fn posix_text_fault(acl: &PosixAcl, names: &IdNames, style: TarStyle) -> Option<FormFault>
+    ensures { result ≡ posix_text_fault names.now style acl.now }
+{
+    first_fault(acl.entries(), names, style)
 }
 
 // Returns the first entry that the text cannot hold.
@@ -260,7 +261,7 @@ fn add_fields(line: &mut Line, entry: Entry, name: Option<&[u8]>)
     requires short { IsShortName (option_map (λ name. name.now) name) }
     ensures text { line.new.items ≡ line.old.items ++ three_fields (pair_of entry)
         (option_map (λ name. name.now) name.entry) }
-    ensures len { array_vec_len line.new ≤ array_vec_len line.old + 1034 }
+    ensures len { array_vec_len line.new ≤ array_vec_len line.old + named_room }
 {
     add(line, long_word(entry.tag));
     line.push(b':');
@@ -274,10 +275,10 @@ fn add_fields(line: &mut Line, entry: Entry, name: Option<&[u8]>)
 
 // Adds the id after the permissions, if the qualifier is a name.
 fn add_id(line: &mut Line, tag: Tag, name: Option<&[u8]>)
-    requires room { array_vec_len line.old ≤ 1060 }
+    requires room { array_vec_len line.old + id_room ≤ text_line_room }
     ensures text { line.new.items ≡ line.old.items ++ id_field (tag_of tag)
         (option_map (λ name. name.now) name.entry) }
-    ensures len { array_vec_len line.new ≤ array_vec_len line.old + 11 }
+    ensures len { array_vec_len line.new ≤ array_vec_len line.old + id_room }
 {
     match name {
         Some(_) => {
@@ -290,9 +291,9 @@ fn add_id(line: &mut Line, tag: Tag, name: Option<&[u8]>)
 
 // Adds the decimal id of a tag, if it has one.
 fn add_number(line: &mut Line, tag: Tag)
-    requires room { array_vec_len line.old ≤ 1061 }
+    requires room { array_vec_len line.old + most_digits ≤ text_line_room }
     ensures text { line.new.items ≡ line.old.items ++ qualifier_text (tag_of tag) }
-    ensures len { array_vec_len line.new ≤ array_vec_len line.old + 10 }
+    ensures len { array_vec_len line.new ≤ array_vec_len line.old + most_digits }
 {
     match tag {
         Tag::User(id) | Tag::Group(id) => {
@@ -305,7 +306,7 @@ fn add_number(line: &mut Line, tag: Tag)
 
 // Adds the three letters of permissions.
 fn add_perm(line: &mut Line, perm: Perm)
-    requires room { array_vec_len line.old ≤ 1050 }
+    requires room { array_vec_len line.old + 3 ≤ text_line_room }
     ensures text { line.new.items ≡ line.old.items ++ perm_text perm.bits }
     ensures len { array_vec_len line.new ≤ array_vec_len line.old + 3 }
 {

@@ -1,6 +1,6 @@
 //! The ACE that an entry of nfs4-acl-tools spells, or what is wrong with it.
 ghost use Rattle.std.specs.Prelude.{◌≡◌, ◌<◌, ◌≤◌, IfOk, IfSome, option_map};
-ghost use Rattle.acl_perm.specs.Bits.{IsMask};
+ghost use Rattle.acl_perm.specs.Bits.{IsFlags, IsMask};
 ghost use Rattle.acl_perm.specs.Lines.{span_of, ColumnsFit};
 ghost use Rattle.acl_nfs4.specs.Ace.{ace};
 ghost use Rattle.acl_nfs4.specs.Limits.{most_aces, most_weight};
@@ -162,7 +162,7 @@ fn flags_at(field: Piece<'_>, object: ObjectKind) -> Result<u32, ReadFault>
     requires { ColumnsFit field }
     ensures exact { result ≡ letters_from flag_letters object reasons.Flag field.entry.column 0
         field.entry.bytes.now }
-    ensures small { IfOk result (λ flags. flags ≤ 255) }
+    ensures small { IfOk result IsFlags }
 {
     read_letters(&FLAG_LETTERS, object, ReadReason::Flag, field)
 }
@@ -213,9 +213,9 @@ pub(crate) fn kind_of(type_number: u32, place: usize) -> Result<Kind, ReadFault>
 
 // Returns the flags of an ACE with this who.
 pub(crate) fn with_group(who: &[u8], flags: u32) -> u32
-    requires { flags ≤ 255 }
+    requires { IsFlags flags }
     ensures value { result ≡ with_group_flag who.now flags }
-    ensures small { result ≤ 255 }
+    ensures small { IsFlags result }
 {
     if who == GROUP_NAME.as_bytes() {
         flags | 0x40

@@ -24,30 +24,6 @@ const LONGEST_WHO: usize = 385;
 // The tool can read a text of this many bytes.
 const LONGEST_TEXT: usize = 65_535;
 
-/// Returns why the text of nfs4-acl-tools cannot hold a list of this object, or `None` if it can: the first ACE that it
-/// cannot hold, and the first reason in this order. Inherited: the ACE has INHERITED, which the tools dropped before
-/// version 0.4. Retention: it has one of the two rights of retention. Separator: its who has a comma, a colon or a `#`.
-/// NotDirectory: the object is a file, and the ACE has a flag of inheritance or DELETE_CHILD. TooLong: its who has more
-/// than 385 bytes, or the text up to it has more than 65,535. Empty: the list has no ACE. Time linear in the list.
-///
-/// ```rust
-/// let text = b"ALLOW - WRITE_RETENTION bob\n";
-/// let list = parse_text(alloc, text)?;
-/// let fault = tools_fault(&list.view(), ObjectKind::File);
-/// assert!(rt; fault == Some(FormFault { place: 0, reason: FormReason::Retention }));
-/// ```
-pub fn tools_fault(list: &AclView<'_>, object: ObjectKind) -> Option<FormFault>
-    ensures { result ≡ tools_fault object list.now }
-{
-    if list.is_empty() {
-        return Some(FormFault {
-            place: 0,
-            reason: FormReason::Empty,
-        });
-    }
-    first_fault(list.aces(), object)
-}
-
 /// Writes a list as nfs4_getfacl prints it, without the line before it, if `tools_fault` returns `None`: a line for
 /// each ACE, with IDENTIFIER_GROUP always on `GROUP@`. It ends at the first put that fails: then `written` bytes went
 /// out. It takes no memory, and time linear in the text.
@@ -71,6 +47,30 @@ pub fn write_tools<S: Sink>(
     }
     put_entries(sink, list.aces(), WrittenForm::Tools)?;
     Ok(())
+}
+
+/// Returns why the text of nfs4-acl-tools cannot hold a list of this object, or `None` if it can: the first ACE that it
+/// cannot hold, and the first reason in this order. Inherited: the ACE has INHERITED, which the tools dropped before
+/// version 0.4. Retention: it has one of the two rights of retention. Separator: its who has a comma, a colon or a `#`.
+/// NotDirectory: the object is a file, and the ACE has a flag of inheritance or DELETE_CHILD. TooLong: its who has more
+/// than 385 bytes, or the text up to it has more than 65,535. Empty: the list has no ACE. Time linear in the list.
+///
+/// ```rust
+/// let text = b"ALLOW - WRITE_RETENTION bob\n";
+/// let list = parse_text(alloc, text)?;
+/// let fault = tools_fault(&list.view(), ObjectKind::File);
+/// assert!(rt; fault == Some(FormFault { place: 0, reason: FormReason::Retention }));
+/// ```
+pub fn tools_fault(list: &AclView<'_>, object: ObjectKind) -> Option<FormFault>
+    ensures { result ≡ tools_fault object list.now }
+{
+    if list.is_empty() {
+        return Some(FormFault {
+            place: 0,
+            reason: FormReason::Empty,
+        });
+    }
+    first_fault(list.aces(), object)
 }
 
 // Returns the first ACE that the form cannot hold.
