@@ -48,9 +48,10 @@ any_alike p q (x ∷ xs) h = ap (λ (z : Bool). z || list_any p xs) h.0
     ∙ ap (λ (z : Bool). q x || z) (any_alike p q xs h.1)
 
 -- a condition that is the same for all elements can be tested after them
-any_and : {X : Type 0} (p : X → Bool) (c : Bool) (xs : List X) → list_any (λ x. p x && c) xs ≡ (list_any p xs && c)
-any_and p c [] = refl
-any_and p c (x ∷ xs) = ap (λ (z : Bool). (p x && c) || z) (any_and p c xs) ∙ sym (either_and (p x) (list_any p xs) c)
+list_any-and : {X : Type 0} (p : X → Bool) (c : Bool) (xs : List X) → list_any (λ x. p x && c) xs ≡ (list_any p xs && c)
+list_any-and p c [] = refl
+list_any-and p c (x ∷ xs) = ap (λ (z : Bool). (p x && c) || z) (list_any-and p c xs)
+    ∙ sym (either_and (p x) (list_any p xs) c)
 
 -- ---- the bit of an entry
 
@@ -265,7 +266,7 @@ class_decides E object requester want j b right a all =
     (λ e. (posix.tag_matches og requester.groups e.0 && contains e.1 want) && mask_contains E want) es
     (each_weaker IsEntry (λ e. allows_test E s j e
     ≡ ((posix.tag_matches og requester.groups e.0 && contains e.1 want) && mask_contains E want)) one es all)
-    ∙ any_and (λ e. posix.tag_matches og requester.groups e.0 && contains e.1 want) (mask_contains E want) es in
+    ∙ list_any-and (λ e. posix.tag_matches og requester.groups e.0 && contains e.1 want) (mask_contains E want) es in
     let others : last ≡ contains (perm_at E other) want =
     cond_bool (list_any (others_test E s j) es) ∙ others_decide E s want j b es right (fin.entries_sorted E)
     ∙ ap (λ (o : Option ℕ). contains (unwrap_or o 0) want) (sym (fin.get-entries E other)) in

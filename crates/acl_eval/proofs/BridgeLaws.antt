@@ -151,5 +151,5 @@ each_id [] = tt
 each_id (g ∷ gs) = (g.within, each_id gs)
 
 -- the numbers of all ids that the code holds are within the limit of ids
-pub all_ids : (gs : List Id) → All IsId (ids gs)
-all_ids gs = All-from_recursion IsId (ids gs) (each_id gs)
+pub All-ids : (gs : List Id) → All IsId (ids gs)
+All-ids gs = All-from_recursion IsId (ids gs) (each_id gs)

@@ -64,7 +64,7 @@ weight_each which f e es =
       | false ↦ omega arith
     ]
 
--- the ACEs of an entry weigh together, over the four parts of the list, what the entry costs
+-- the ACEs of an entry weigh together, over the four parts of the list, what the entry sum_by-cost
 entry_cost : (E : Entries) (l : Tag) (n : ℕ) → n < 8
     → cond (is_user_tag l) (weight (decide_of E (l, n))) 0 + cond (is_group_tag l) (weight (allow_of E (l, n))) 0 + cond
     (is_group_tag l) (weight (deny_of E (l, n))) 0 + cond (is_other_tag l) (weight (allow_of E (l, n))) 0 ≡ cost_of l n
@@ -105,7 +105,7 @@ total E (e ∷ es) all = omega (
   sum_by-cons cost e es,
 )
 
--- the weight of the list is the sum of the costs of the entries
+-- the weight of the list is the sum of the sum_by-cost of the entries
 weight_bridge : (E : Entries) → AllByRecursion IsEntry (fin.entries E) → weight (bridge_list E) ≡ sum_by cost
     (fin.entries E)
 unfolding bridge_list
@@ -140,10 +140,15 @@ cost_more es i e lt read = sum_by_more (λ (x : Entry). cost (pair_of x)) es i e
     ∙ ap (λ (x : Entry). sum_by (λ (y : Entry). cost (pair_of y)) (take i es) + cost (pair_of x)) (sym read)
 
 -- the cost of some entries is the same for the pairs of the specification and for the entries of the code
-costs : (es : List Entry) → sum_by cost (pairs es) ≡ sum_by (λ (x : Entry). cost (pair_of x)) es
-costs [] = refl
-costs (e ∷ es) =
-    omega (arith, sum_by-cons cost (pair_of e) (pairs es), sum_by-cons (λ (x : Entry). cost (pair_of x)) e es, costs es)
+sum_by-cost : (es : List Entry) → sum_by cost (pairs es) ≡ sum_by (λ (x : Entry). cost (pair_of x)) es
+sum_by-cost [] = refl
+sum_by-cost (e ∷ es) =
+    omega (
+      arith,
+      sum_by-cons cost (pair_of e) (pairs es),
+      sum_by-cons (λ (x : Entry). cost (pair_of x)) e es,
+      sum_by-cost es,
+    )
 
 -- if the entries so far cost too much, the list is not accepted
 pub too_heavy : (E : Entries) (es : List Entry) (i : ℕ) (e : Entry) (sum : ℕ) → All IsEntry (fin.entries E)
@@ -153,7 +158,7 @@ pub too_heavy : (E : Entries) (es : List Entry) (i : ℕ) (e : Entry) (sum : ℕ
 too_heavy E es i e sum within is lt read so_far big =
     let all = recursion_from_All IsEntry (fin.entries E) within in
     let whole : sum_by cost (fin.entries E) ≡ sum_by (λ (x : Entry). cost (pair_of x)) es = ap (sum_by cost) (sym is)
-    ∙ costs es in (
+    ∙ sum_by-cost es in (
       λ f. absurd (true≢false (sym f)),
       λ ok.
           let le = (accepted_by_weight E all).1 ok in
@@ -175,6 +180,6 @@ pub light_enough : (E : Entries) (es : List Entry) (i : ℕ) (sum : ℕ) → All
     (bridge_list E)
 light_enough E es i sum within is le so_far small =
     let all = recursion_from_All IsEntry (fin.entries E) within in
-    let whole : sum_by cost (fin.entries E) ≡ sum = ap (sum_by cost) (sym is) ∙ costs es
+    let whole : sum_by cost (fin.entries E) ≡ sum = ap (sum_by cost) (sym is) ∙ sum_by-cost es
     ∙ ap (sum_by (λ (x : Entry). cost (pair_of x))) (sym (take_all i es le)) ∙ sym so_far in
     (λ _. (accepted_by_weight E all).0 (omega (arith, whole)), λ _. refl)

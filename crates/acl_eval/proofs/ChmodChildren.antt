@@ -68,9 +68,9 @@ excluded false true true e = absurd cc
 excluded false true false e = refl
 excluded false false z e = refl
 
--- flags outside a set do not matter for the part in the set
-outside : (flags more set : ℕ) → bit_and more set ≡ 0 → bit_and (bit_or flags more) set ≡ bit_and flags set
-outside flags more set none = same_set _ _ (λ k.
+-- flags bit_and-or_outside a set do not matter for the part in the set
+bit_and-or_outside : (flags more set : ℕ) → bit_and more set ≡ 0 → bit_and (bit_or flags more) set ≡ bit_and flags set
+bit_and-or_outside flags more set none = same_set _ _ (λ k.
     has_bit-and (bit_or flags more) set k ∙ ap (λ (t : Bool). t && has_bit set k) (has_bit-or flags more k)
     ∙ excluded (has_bit flags k) (has_bit more k) (has_bit set k)
     (sym (has_bit-and more set k) ∙ ap (λ (n : ℕ). has_bit n k) none ∙ no_bit k)
@@ -82,8 +82,8 @@ waits_alike kind flags =
     let f : has_bit (bit_or flags 8) 0 ≡ has_bit flags 0 = has_bit-or flags 8 0 ∙ or_false_right (has_bit flags 0) in
     let d : has_bit (bit_or flags 8) 1 ≡ has_bit flags 1 = has_bit-or flags 8 1 ∙ or_false_right (has_bit flags 1) in
     let n : has_bit (bit_or flags 8) 2 ≡ has_bit flags 2 = has_bit-or flags 8 2 ∙ or_false_right (has_bit flags 2) in
-    let e : ends (bit_or flags 8) ≡ ends flags = outside flags 8 0x70 refl in
-    let g : goes_on (bit_or flags 8) ≡ goes_on flags = outside flags 8 0x77 refl in
+    let e : ends (bit_or flags 8) ≡ ends flags = bit_and-or_outside flags 8 0x70 refl in
+    let g : goes_on (bit_or flags 8) ≡ goes_on flags = bit_and-or_outside flags 8 0x77 refl in
     by kind f d n e g
   where
     by : (kind : ChildKind) → has_bit (bit_or flags 8) 0 ≡ has_bit flags 0

@@ -67,11 +67,11 @@ keeps_asker object requester other rest m h = h
 -- ---- only their principals match
 
 -- one of three
-one_of : (a b c : Bool) → (a || b || c) ≡ true → (a ≡ true) ⊎ ((b ≡ true) ⊎ (c ≡ true))
-one_of true b c h = inl refl
-one_of false true c h = inr (inl refl)
-one_of false false true h = inr (inr refl)
-one_of false false false h = absurd (false≢true h)
+or_cases-three : (a b c : Bool) → (a || b || c) ≡ true → (a ≡ true) ⊎ ((b ≡ true) ⊎ (c ≡ true))
+or_cases-three true b c h = inl refl
+or_cases-three false true c h = inr (inl refl)
+or_cases-three false false true h = inr (inr refl)
+or_cases-three false false false h = absurd (false≢true h)
 
 owner_meets : (object : Object) (requester : Requester) (t : Tag) → is_owner_tag t ≡ true
     → tag_meets object requester t ≡ true → (requester.user == object.user) ≡ true
@@ -94,7 +94,7 @@ owner_within used object requester one next a b c i h =
     by : (o : Bool) → (is_owner_tag a || is_owner_tag b || is_owner_tag c) ≡ o
         → (chosen_user one a b c == (if o then chosen_user one a b c else next)) ≡ true
         → (requester.user == object.user) ≡ true
-    by true e h = elim (one_of (is_owner_tag a) (is_owner_tag b) (is_owner_tag c) e) [
+    by true e h = elim (or_cases-three (is_owner_tag a) (is_owner_tag b) (is_owner_tag c) e) [
       | inl o ↦ owner_meets object requester a o i.first
       | inr more ↦ elim more [
         | inl o ↦ owner_meets object requester b o i.second

@@ -21,7 +21,7 @@ use Rattle.acl_eval.specs.ToPosix.{EntryShape, HasShape, IsBest, size_of}
 use Rattle.acl_eval.specs.internal.LossBody.{AreSmall}
 use Rattle.acl_eval.specs.internal.ShapeBody.{AreColumns, most_names}
 use Rattle.acl_eval.specs.declared.tag_column.Columns.{Columns}
-use Rattle.acl_eval.proofs.AlwaysDecides.{same_itself}
+use Rattle.acl_eval.proofs.Passes.{eq_by_cmp-refl}
 
 -- the tags that the ACL of a shape can have
 abbrev tags_for : EntryShape → List Tag
@@ -33,7 +33,7 @@ named_tag : (make : ℕ → Tag) (xs : List ℕ) (id : ℕ) → is_member id xs 
 named_tag make [] id h = absurd (false≢true h)
 named_tag make (x ∷ xs) id h = elim (or_cases (x == id) (is_member id xs) h) [
   | inl same ↦ ap (λ (b : Bool). b || list_any (eq_by_cmp tag_cmp (make id)) (map make xs))
-      (ap (λ (n : ℕ). eq_by_cmp tag_cmp (make id) (make n)) (eqb-true x id same) ∙ same_itself (make id))
+      (ap (λ (n : ℕ). eq_by_cmp tag_cmp (make id) (make n)) (eqb-true x id same) ∙ eq_by_cmp-refl (make id))
   | inr more ↦ ap (λ (b : Bool). eq_by_cmp tag_cmp (make id) (make x) || b) (named_tag make xs id more)
       ∙ or_true_right (eq_by_cmp tag_cmp (make id) (make x))
 ]

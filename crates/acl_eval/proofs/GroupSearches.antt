@@ -73,7 +73,8 @@ any_found_around name middle front rear =
     (same_after name middle) rear in
     list_any-append (bytes_eq name) (filter (λ other. is_before other middle) front)
     (middle ∷ filter (λ other. is_before middle other) rear)
-    ∙ ap (λ (b : Bool). b || (bytes_eq name middle || list_any (bytes_eq name) (filter (λ other. is_before middle other) rear))) inside
+    ∙ ap (λ (b : Bool). b || (bytes_eq name middle
+    || list_any (bytes_eq name) (filter (λ other. is_before middle other) rear))) inside
     ∙ ap (λ (b : Bool). (is_before name middle && list_any (bytes_eq name) front) || (bytes_eq name middle || b)) behind
 
 -- a name is found in front of the middle, in the middle or behind it, by its order
@@ -324,7 +325,8 @@ there_by_order name names at o up lt e = any_around (bytes_eq name) names at [] 
         → (list_any (bytes_eq name) (take at names)
         || (bytes_eq name (get_or names at []) || list_any (bytes_eq name) (drop (at + 1) names)))
         ≡ by_order o (list_any (bytes_eq name) (take at names)) (list_any (bytes_eq name) (drop (at + 1) names))
-    by Less e = rw (same Less e, not_in_rear name names at up lt e) (or-false (list_any (bytes_eq name) (take at names)))
+    by Less e = rw (same Less e, not_in_rear name names at up lt e)
+        (or-false (list_any (bytes_eq name) (take at names)))
     by Equal e = rw (same Equal e) (or-true (list_any (bytes_eq name) (take at names)))
     by Greater e = rw (same Greater e, not_in_front name names at up lt e) refl
 

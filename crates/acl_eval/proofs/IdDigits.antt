@@ -34,18 +34,19 @@ digit_more bs i lt h = digits_value_more 10 bs i lt
     ∙ ap (λ (d : ℕ). digits_value 10 (take i bs) * 10 + d) (digit_is _ h)
 
 -- more digits have no smaller number
-pub above : (bs : List ℕ) (i : ℕ) → greatest_id < digits_value 10 (take i bs) → greatest_id < digits_value 10 bs
-above bs i lt = omega (arith, lt, digits_value-take-le 10 bs i (omega arith))
+pub digits_value-take_above : (bs : List ℕ) (i : ℕ) → greatest_id < digits_value 10 (take i bs)
+    → greatest_id < digits_value 10 bs
+digits_value-take_above bs i lt = omega (arith, lt, digits_value-take-le 10 bs i (omega arith))
 
--- a number above the greatest id is no id
+-- a number digits_value-take_above the greatest id is no id
 pub no_id : (bs : List ℕ) → greatest_id < digits_value 10 bs → None ≡ id_of bs
 unfolding id_of
 no_id bs lt = grind (arith, nat_tests)
 
 -- a number that is an id is the id that its digits spell
-pub spelled : (bs : List ℕ) (n : ℕ) → n ≤ greatest_id → n ≡ digits_value 10 bs → Some n ≡ id_of bs
+pub id_of-digits : (bs : List ℕ) (n : ℕ) → n ≤ greatest_id → n ≡ digits_value 10 bs → Some n ≡ id_of bs
 unfolding id_of
-spelled bs n le e = grind (arith, nat_tests)
+id_of-digits bs n le e = grind (arith, nat_tests)
 
 -- the value of an id that was made of a number
 pub id_is : (o : Option Id) (n : ℕ) → n ≤ greatest_id → (IsSome o → IsId n) × (IsId n → IsSome o)

@@ -20,20 +20,21 @@ use Rattle.acl_perm.proofs.Bools.{same_answers}
 use Rattle.acl_perm.specs.Situation.{is_one_of}
 use Rattle.acl_eval.specs.Ids.{AreRising}
 
--- a number that is below another compares as less
-less : (x y : ℕ) → x < y → nat_cmp x y ≡ Less
-less x y lt = grind (arith, nat_tests)
+-- a number that is below another compares as nat_cmp-Less
+nat_cmp-Less : (x y : ℕ) → x < y → nat_cmp x y ≡ Less
+nat_cmp-Less x y lt = grind (arith, nat_tests)
 
 -- a test of each id and the next says whether the ids rise
-pub rising : (xs : List ℕ) (r : Bool) → IsAllAdjacentAnswer (λ x y b. b ≡ nat_lt x y) xs r → IsTrue r ↔ AreRising xs
-rising xs true up = (
-  λ yes. sorted_from_all_adjacent nat_cmp_total xs 0 (λ k lt. less _ _ (by (up k 0 lt))),
+pub AreRising-adjacent : (xs : List ℕ) (r : Bool) → IsAllAdjacentAnswer (λ x y b. b ≡ nat_lt x y) xs r
+    → IsTrue r ↔ AreRising xs
+AreRising-adjacent xs true up = (
+  λ yes. sorted_from_all_adjacent nat_cmp_total xs 0 (λ k lt. nat_cmp-Less _ _ (by (up k 0 lt))),
   λ sorted. refl,
 )
   where
     by : {x y : ℕ} → true ≡ nat_lt x y → x < y
     by e = grind (arith, nat_tests)
-rising xs false (k, lt, down) = (
+AreRising-adjacent xs false (k, lt, down) = (
   λ no. absurd cc,
   λ sorted. absurd (by (below_from_sorted xs k (k + 1) 0 sorted (omega arith) lt) (down 0)),
 )

@@ -19,7 +19,7 @@ use Rattle.acl_eval.specs.internal.ShapeBody.{HasPassAnswers, TagColumn, always,
 use Rattle.acl_eval.specs.declared.judged_entry.Places.{Places}
 use Rattle.acl_eval.specs.declared.tag_column.Columns.{Columns}
 use Rattle.acl_eval.specs.declared.tag_column.TagKey.{TagKey}
-use Rattle.acl_eval.proofs.AlwaysDecides.{same_number}
+use Rattle.acl_eval.proofs.TagRequesters.{is_eq-nat_cmp}
 use Rattle.acl_eval.proofs.Images.{same_below}
 use Rattle.acl_eval.proofs.Losses.{but_lacks}
 
@@ -63,9 +63,10 @@ other_there u v (x ∷ xs) differ = by (other_there u v xs differ) (x == u) refl
         rest ∙ sym (ap (λ (b : Bool). b || is_member v xs) (ap (λ (n : ℕ). n == v) (eqb-true x u e) ∙ differ))
     by rest false e = ap (λ (b : Bool). (x == v) || b) rest
 
--- a number is missing if it was missing, or is the one that was taken out
-missing : (u v : ℕ) (xs : List ℕ) → not (is_member v (shape_without u xs)) ≡ (not (is_member v xs) || (u == v))
-missing u v xs = by (u == v) refl
+-- a number is is_member-shape_without if it was is_member-shape_without, or is the one that was taken out
+is_member-shape_without : (u v : ℕ) (xs : List ℕ)
+    → not (is_member v (shape_without u xs)) ≡ (not (is_member v xs) || (u == v))
+is_member-shape_without u v xs = by (u == v) refl
   where
     by : (b : Bool) → (u == v) ≡ b → not (is_member v (shape_without u xs)) ≡ (not (is_member v xs) || b)
     by true e = ap (λ (n : ℕ). not (is_member n (shape_without u xs))) (sym (eqb-true u v e))
@@ -79,12 +80,15 @@ user_out shape u entry s user_obj = refl
 user_out shape u user_obj s (user v) = absurd (false≢true s)
 user_out shape u (user w) s (user v) = absurd (false≢true s)
 user_out shape u group_obj s (user v) =
-    missing u v shape.users ∙ ap (λ (b : Bool). not (is_member v shape.users) || b) (sym (same_number v u))
+    is_member-shape_without u v shape.users
+    ∙ ap (λ (b : Bool). not (is_member v shape.users) || b) (sym (is_eq-nat_cmp v u))
 user_out shape u (group w) s (user v) =
-    missing u v shape.users ∙ ap (λ (b : Bool). not (is_member v shape.users) || b) (sym (same_number v u))
+    is_member-shape_without u v shape.users
+    ∙ ap (λ (b : Bool). not (is_member v shape.users) || b) (sym (is_eq-nat_cmp v u))
 user_out shape u mask s (user v) = absurd (false≢true s)
 user_out shape u other s (user v) =
-    missing u v shape.users ∙ ap (λ (b : Bool). not (is_member v shape.users) || b) (sym (same_number v u))
+    is_member-shape_without u v shape.users
+    ∙ ap (λ (b : Bool). not (is_member v shape.users) || b) (sym (is_eq-nat_cmp v u))
 user_out shape u entry s group_obj = sym (or_false_right _)
 user_out shape u entry s (group w) = sym (or_false_right _)
 user_out shape u entry s mask = refl
@@ -103,7 +107,8 @@ group_out shape g other s user_obj = refl
 group_out shape g other s (user v) = sym (or_false_right _)
 group_out shape g other s group_obj = refl
 group_out shape g other s (group v) =
-    missing g v shape.groups ∙ ap (λ (b : Bool). not (is_member v shape.groups) || b) (sym (same_number v g))
+    is_member-shape_without g v shape.groups
+    ∙ ap (λ (b : Bool). not (is_member v shape.groups) || b) (sym (is_eq-nat_cmp v g))
 group_out shape g other s mask = refl
 group_out shape g other s other = refl
 

@@ -38,6 +38,12 @@ pub mod ChmodChildren
 pub mod ResolvedLists
 pub mod Memberships
 pub mod TagColumns
+pub mod Passes
+pub mod FreeIds
+pub mod TagRequesters
+pub mod EntrySituations
+pub mod SituationIds
+pub mod PossibleTags
 pub mod AlwaysDecides
 pub mod ShapeRights
 pub mod ShapeChecks
@@ -46,6 +52,8 @@ pub mod NoGreatest
 pub mod ListNames
 pub mod Losses
 pub mod JudgedEntries
+pub mod ShapesLeft
+pub mod NamesToGo
 pub mod PruneSteps
 pub mod Matchings
 pub mod PruningKept

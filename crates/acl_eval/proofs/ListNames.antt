@@ -7,7 +7,7 @@ use Rattle.acl_posix.specs.Check.{ids, is_member}
 use Rattle.acl_posix.specs.declared.id.Id.{Id}
 use Rattle.acl_nfs4.specs.Ace.{Ace}
 use Rattle.acl_eval.specs.ListNames.{AreOnce, is_number_of}
-use Rattle.acl_eval.proofs.AlwaysDecides.{or_none, turned}
+use Rattle.acl_eval.proofs.FreeIds.{or_none, eqb_comm}
 
 -- one more ACE
 pub named_more : (of : Ace → Option ℕ) (old new : List Id) (a : Ace) (list rest : List Ace) (id : ℕ) (found : Option ℕ)
@@ -46,7 +46,7 @@ still_once : (id : Id) (xs : List Id) → is_member id.value (ids xs) ≡ false 
 still_once id [] lacking once = (refl, tt)
 still_once id (x ∷ xs) lacking once =
     let two = or_none (x.value == id.value) (is_member id.value (ids xs)) lacking in (
-      still_lacks id x.value xs once.0 (turned id.value x.value ∙ two.0),
+      still_lacks id x.value xs once.0 (eqb_comm id.value x.value ∙ two.0),
       still_once id xs two.1 once.1,
     )
 

@@ -232,11 +232,12 @@ record AreParts (r w a x e : List ℕ) : Type 0 where
 
 parts : (r w a x e : List ℕ) → AreParts r w a x e
 parts r w a x e = record {
-  read =
-      λ n h. first_member n (((r ++ w) ++ a) ++ x) e (first_member n ((r ++ w) ++ a) x (first_member n (r ++ w) a (first_member n r w h)));
-  write =
-      λ n h. first_member n (((r ++ w) ++ a) ++ x) e (first_member n ((r ++ w) ++ a) x (first_member n (r ++ w) a (second_member n r w h)));
-  append = λ n h. first_member n (((r ++ w) ++ a) ++ x) e (first_member n ((r ++ w) ++ a) x (second_member n (r ++ w) a h));
+  read = λ n h. first_member n (((r ++ w) ++ a) ++ x) e
+      (first_member n ((r ++ w) ++ a) x (first_member n (r ++ w) a (first_member n r w h)));
+  write = λ n h. first_member n (((r ++ w) ++ a) ++ x) e
+      (first_member n ((r ++ w) ++ a) x (first_member n (r ++ w) a (second_member n r w h)));
+  append = λ n h. first_member n (((r ++ w) ++ a) ++ x) e
+      (first_member n ((r ++ w) ++ a) x (second_member n (r ++ w) a h));
   execute = λ n h. first_member n (((r ++ w) ++ a) ++ x) e (second_member n ((r ++ w) ++ a) x h);
   entries = λ n h. second_member n (((r ++ w) ++ a) ++ x) e h;
 }

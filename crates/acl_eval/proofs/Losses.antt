@@ -17,7 +17,12 @@ use Rattle.acl_nfs4.specs.Ace.{Ace}
 use Rattle.acl_eval.specs.Pruning.{IsNameOf, KeepsEntries, LosesNothing, ShapeGrants, shape_without, is_shared, taken_out}
 use Rattle.acl_eval.specs.ToPosix.{AlwaysHas, EntryShape, is_in_class, is_in_shape, looks_at, size_of}
 use Rattle.acl_eval.specs.internal.ShapeBody.{TagColumn, may_match}
-use Rattle.acl_eval.proofs.AlwaysDecides.{AreFree, HasIds, IsExtra, asked_by_tags, asker, entry_id, extra_groups, free_ids, group_besides, group_in, groups_in, is_extra, looks, none_there, object_at, or_none, owning_besides, owning_in, requester_at, same_itself}
+use Rattle.acl_eval.proofs.Passes.{IsExtra, is_extra, eq_by_cmp-refl}
+use Rattle.acl_eval.proofs.FreeIds.{AreFree, free_ids, or_none}
+use Rattle.acl_eval.proofs.TagRequesters.{asker, extra_groups, is_member-extra, is_member-groups_in, groups_in, object_at, is_member-extra_own, is_member-groups_in_own, requester_at}
+use Rattle.acl_eval.proofs.EntrySituations.{looks}
+use Rattle.acl_eval.proofs.SituationIds.{HasIds, asked_by_tags, entry_id}
+use Rattle.acl_eval.proofs.PossibleTags.{list_any-none}
 use Rattle.acl_eval.proofs.ShapeChecks.{class_parts, some_member}
 
 -- ---- numbers without one of them
@@ -331,17 +336,17 @@ only t e extra free next own s there o1 o2 n1 n2 class group_obj l =
     let two = and_true (is_in_class t (object_at e extra free next own) (requester_at e extra free own)) _ l in
     same_tag group_obj e (sym (or_false_right (eq_by_cmp tag_cmp group_obj e))
     ∙ (ap (λ (b : Bool). eq_by_cmp tag_cmp group_obj e || b) (sym n1)
-    ∙ (ap (λ (b : Bool). eq_by_cmp tag_cmp group_obj e || b) (sym (owning_besides own extra o2))
+    ∙ (ap (λ (b : Bool). eq_by_cmp tag_cmp group_obj e || b) (sym (is_member-extra_own own extra o2))
     ∙ (ap (λ (b : Bool). b || is_member own (extra_groups own extra))
-    (sym (owning_in own e (λ id q. o1 id (sym (ap (is_in_shape t) q) ∙ there))))
+    (sym (is_member-groups_in_own own e (λ id q. o1 id (sym (ap (is_in_shape t) q) ∙ there))))
     ∙ (sym (list_any-append (λ (x : ℕ). x == own) (groups_in own e) (extra_groups own extra)) ∙ two.1)))))
 only t e extra free next own s there o1 o2 n1 n2 class (group h) l =
     let two = and_true (is_in_class t (object_at e extra free next own) (requester_at e extra free own)) _ l in
     let one = and_true (is_member h (groups_in own e ++ extra_groups own extra)) (is_member h t.groups) two.1 in
     same_tag (group h) e (sym (or_false_right (eq_by_cmp tag_cmp (group h) e))
     ∙ (ap (λ (b : Bool). eq_by_cmp tag_cmp (group h) e || b) (sym (n2 h one.1))
-    ∙ (ap (λ (b : Bool). eq_by_cmp tag_cmp (group h) e || b) (sym (group_besides own h extra (o1 h one.1)))
-    ∙ (ap (λ (b : Bool). b || is_member h (extra_groups own extra)) (sym (group_in own h e (o1 h one.1)))
+    ∙ (ap (λ (b : Bool). eq_by_cmp tag_cmp (group h) e || b) (sym (is_member-extra own h extra (o1 h one.1)))
+    ∙ (ap (λ (b : Bool). b || is_member h (extra_groups own extra)) (sym (is_member-groups_in own h e (o1 h one.1)))
     ∙ (sym (list_any-append (λ (x : ℕ). x == h) (groups_in own e) (extra_groups own extra)) ∙ one.0)))))
 only t e extra free next own s there o1 o2 n1 n2 class mask l = absurd (false≢true l)
 only t user_obj extra free next own s there o1 o2 n1 n2 class other l = absurd (false≢true s)
@@ -349,12 +354,12 @@ only t (user id) extra free next own s there o1 o2 n1 n2 class other l = absurd 
 only t group_obj extra free next own s there o1 o2 n1 n2 class other l =
     let two = and_true (is_in_class t (object_at group_obj extra free next own) (requester_at group_obj extra free own))
     _ l in
-    absurd (true≢false (sym (eq-eqb own own refl) ∙ (none_there own own t.groups (own ∷ extra_groups own extra)
+    absurd (true≢false (sym (eq-eqb own own refl) ∙ (list_any-none own own t.groups (own ∷ extra_groups own extra)
     (not-true _ two.1) (ap (λ (b : Bool). b || is_member own (extra_groups own extra)) (eq-eqb own own refl))).0))
 only t (group g) extra free next own s there o1 o2 n1 n2 class other l =
     let two = and_true (is_in_class t (object_at (group g) extra free next own) (requester_at (group g) extra free own))
     _ l in
-    absurd (true≢false (sym there ∙ (none_there own g t.groups (g ∷ extra_groups own extra)
+    absurd (true≢false (sym there ∙ (list_any-none own g t.groups (g ∷ extra_groups own extra)
     (not-true _ two.1) (ap (λ (b : Bool). b || is_member g (extra_groups own extra)) (eq-eqb g g refl))).1))
 only t mask extra free next own s there o1 o2 n1 n2 class other l = absurd (false≢true s)
 only t other extra free next own s there o1 o2 n1 n2 class other l = refl
@@ -463,7 +468,7 @@ entries_kept list shape name is loses e shared there want few has =
       | inr second ↦
           let extra : IsExtra (may_match t e) keys (Some name) = (
             may_be_out shape name e is.named shared,
-            ap (λ (b : Bool). b || false) (same_itself name),
+            ap (λ (b : Bool). b || false) (eq_by_cmp-refl name),
           ) in
           let l = looks t keys e (Some name) free next own ft there extra in
           had list t e (object_at e (Some name) free next own) (requester_at e (Some name) free own) want

@@ -16,7 +16,7 @@ use Rattle.acl_posix.specs.internal.GroupSearch.{group_contains}
 use Rattle.acl_posix.proofs.Exports.{any_group, contains_empty, same_tag}
 use Rattle.acl_eval.specs.internal.LossBody.{has_masked, is_allowed_in, is_left_by, lacks, level, certain_place}
 use Rattle.acl_eval.specs.internal.ShapeBody.{TagColumn, column_decided_by, has_tag, is_certain, tag_meets}
-use Rattle.acl_eval.proofs.AlwaysDecides.{same_itself}
+use Rattle.acl_eval.proofs.Passes.{eq_by_cmp-refl}
 use Rattle.acl_eval.proofs.ShapeChecks.{any_member, choice, contains_nothing}
 use Rattle.acl_eval.proofs.ValidChecks.{Complete, mask_contains}
 
@@ -24,7 +24,7 @@ use Rattle.acl_eval.proofs.ValidChecks.{Complete, mask_contains}
 
 -- a tag is certain for itself
 certain_itself : (t : Tag) → is_certain t t ≡ true
-certain_itself t = ap (λ (b : Bool). eq_by_cmp tag_cmp t other || b) (same_itself t)
+certain_itself t = ap (λ (b : Bool). eq_by_cmp tag_cmp t other || b) (eq_by_cmp-refl t)
     ∙ or_true_right (eq_by_cmp tag_cmp t other)
 
 -- what is certain for a tag matches where it and EVERYONE@ match
@@ -64,7 +64,7 @@ first_allow test ((t, k) ∷ keys) all h = by (first_allow test keys all) (test 
     by rest true e h = record {
       tag = t;
       meets = e;
-      there = ap (λ (b : Bool). b || has_tag t keys) (same_itself t);
+      there = ap (λ (b : Bool). b || has_tag t keys) (eq_by_cmp-refl t);
       before = λ u m.
           let zero : certain_place t ((t, k) ∷ keys) ≡ 0 =
           ap (λ (b : Bool). cond (not b) (1 + certain_place t keys) 0) (certain_itself t) in
@@ -85,7 +85,7 @@ first_allow test ((t, k) ∷ keys) all h = by (first_allow test keys all) (test 
               let le = r.before u m in omega (arith, one, two, le);
           stays = λ fewer m within. elim (cases_Bool (fewer t)) [
             | inl matched ↦ absurd (true≢false
-                (sym (within t (ap (λ (b : Bool). b || has_tag t keys) (same_itself t)) matched) ∙ e))
+                (sym (within t (ap (λ (b : Bool). b || has_tag t keys) (eq_by_cmp-refl t)) matched) ∙ e))
             | inr none ↦ ap (λ (b : Bool). if b then is_allow k else column_decided_by fewer keys false) none
                 ∙ r.stays fewer m (λ u there. within u (more u there))
           ];
@@ -429,7 +429,7 @@ denier E used object requester want has complete whole named all h =
           passed = λ t m. passed_class E want object requester both.tag t whole oe ue
               (level_class E object.group requester.groups both.tag both.passes
               (fin.contains_key-keys E both.tag ∙ (sym (keys_any (fin.entries E) both.tag)
-              ∙ both.again (eq_by_cmp tag_cmp both.tag) (same_itself both.tag)))) class_denies m;
+              ∙ both.again (eq_by_cmp tag_cmp both.tag) (eq_by_cmp-refl both.tag)))) class_denies m;
           stays = λ object' requester' w m.
               by_tests E object' requester' want false false true
               (not_owner E used object requester object' requester' (known user_obj complete.owner) w oe)

@@ -74,6 +74,6 @@ none_flagged (a ∷ list) = ap (λ (f : ℕ). with_flags a f ∷ map (flagged 0)
     ∙ ap (λ (l : List Ace). a ∷ l) (none_flagged list)
 
 -- what holds for a list holds for a result that is this list
-pub ok_as : {T E : Type 0} (r : Result T E) (list : T) (P : T → Type 0) → IfOk r (λ x. x ≡ list) → P list → IfOk r P
-ok_as (Ok x) list P is holds = subst P (sym is) holds
-ok_as (Err e) list P is holds = tt
+pub IfOk-same : {T E : Type 0} (r : Result T E) (list : T) (P : T → Type 0) → IfOk r (λ x. x ≡ list) → P list → IfOk r P
+IfOk-same (Ok x) list P is holds = subst P (sym is) holds
+IfOk-same (Err e) list P is holds = tt

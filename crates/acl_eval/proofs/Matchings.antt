@@ -11,7 +11,7 @@ use Rattle.acl_posix.specs.Tag.{Tag, user_obj, user, group_obj, group, mask, oth
 use Rattle.acl_posix.proofs.Exports.{same_tag}
 use Rattle.acl_eval.specs.Pruning.{is_shared, shape_without, taken_out}
 use Rattle.acl_eval.specs.ToPosix.{EntryShape, is_in_shape}
-use Rattle.acl_eval.proofs.AlwaysDecides.{same_itself}
+use Rattle.acl_eval.proofs.Passes.{eq_by_cmp-refl}
 use Rattle.acl_eval.proofs.Losses.{IsPart, but_keeps, but_lacks}
 use Rattle.acl_eval.proofs.ShapeChecks.{any_member, some_member}
 
@@ -85,8 +85,8 @@ pub one_user : (u v : ℕ) (x : Tag) → eq_by_cmp tag_cmp (user u) x ≡ true �
 one_user u v x h g = ap qualifier (same_tag (user u) x h ∙ sym (same_tag (user v) x g))
 
 -- a tag that equals a tag with an id has an id
-pub same_id : (t d : Tag) → IsTag d → eq_by_cmp tag_cmp t d ≡ true → IsTag t
-same_id t d is h = subst IsTag (sym (same_tag t d h)) is
+pub IsTag-same : (t d : Tag) → IsTag d → eq_by_cmp tag_cmp t d ≡ true → IsTag t
+IsTag-same t d is h = subst IsTag (sym (same_tag t d h)) is
 
 -- a matching without its users is a matching
 pub no_users_matching : (m : Matching) → IsMatching m → IsMatching (no_users m)
@@ -136,7 +136,7 @@ with_group_matching d m is ok = record { everyone = ok.everyone; one = ok.one; i
     by user_obj h = tt
     by (user id) h = ok.ids (user id) h
     by group_obj h = tt
-    by (group id) h = same_id (group id) d is h
+    by (group id) h = IsTag-same (group id) d is h
     by mask h = tt
     by other h = tt
 
@@ -163,7 +163,7 @@ also_matching x e is there = record {
   one = λ u v h g. one_user u v x h g;
   ids = λ t h. elim (or_cases (alone e t) (eq_by_cmp tag_cmp t x) h) [
     | inl a ↦ (alone_matching e there).ids t a
-    | inr b ↦ same_id t x is b
+    | inr b ↦ IsTag-same t x is b
   ];
 }
 
@@ -340,7 +340,7 @@ pub alone_looks : (s : EntryShape) (e : Tag) → is_shared e ≡ true → is_in_
 alone_looks s user_obj h there = absurd (false≢true h)
 alone_looks s (user id) h there = absurd (false≢true h)
 alone_looks s group_obj h there = (alone_rest s.users group_obj, refl)
-alone_looks s (group g) h there = (alone_rest s.users (group g), there, same_itself (group g))
+alone_looks s (group g) h there = (alone_rest s.users (group g), there, eq_by_cmp-refl (group g))
 alone_looks s mask h there = absurd (false≢true h)
 alone_looks s other h there = (alone_rest s.users other, refl, λ id i. refl)
 
@@ -357,7 +357,7 @@ alone_only s group_obj (group id) h there l = absurd (false≢true l.2)
 alone_only s (group g) (group id) h there l = same_tag (group id) (group g) l.2
 alone_only s other (group id) h there l = absurd (false≢true l.2)
 alone_only s group_obj other h there l = absurd (true≢false l.1)
-alone_only s (group g) other h there l = absurd (true≢false (sym (same_itself (group g)) ∙ l.2 g there))
+alone_only s (group g) other h there l = absurd (true≢false (sym (eq_by_cmp-refl (group g)) ∙ l.2 g there))
 alone_only s other other h there l = refl
 alone_only s user_obj x h there l = absurd (false≢true h)
 alone_only s (user id) x h there l = absurd (false≢true h)

@@ -30,7 +30,9 @@ use Rattle.acl_eval.specs.Grant.{grants_bit}
 use Rattle.acl_eval.specs.NoGreatest.{HaveNoneAbove, LeavesSomeOut, all_but_the_user, denied_user, members_alone, members_read, others_write, two_groups, two_permissions, user_writes}
 use Rattle.acl_eval.specs.ToPosix.{HasShape, IsSound, EntryShape, is_in_shape}
 use Rattle.acl_eval.specs.internal.ShapeBody.{TagColumn, always, column_decided_by, is_certain, may_match, tag_meets}
-use Rattle.acl_eval.proofs.AlwaysDecides.{always_sound, may, same_number, sure}
+use Rattle.acl_eval.proofs.Passes.{always_sound}
+use Rattle.acl_eval.proofs.TagRequesters.{is_eq-nat_cmp}
+use Rattle.acl_eval.proofs.PossibleTags.{may_match-meets, tag_meets-certain}
 use Rattle.acl_eval.proofs.BridgeNames.{ace_with, is_one, same_name, tag_applies, tag_applies-group, tag_applies-user}
 use Rattle.acl_eval.proofs.Columns.{bit_at_first}
 use Rattle.acl_eval.proofs.Images.{image_right, rights}
@@ -129,8 +131,8 @@ sound_by_passes rules shape E are valid s each object requester asked want few a
     ap (λ (o : Option ℕ). is_contained o want) (sym found) ∙ held E at.entry want at.holds in
     rules_decide rules object requester bit are asked
     ∙ always_sound (is_certain at.entry) (may_match shape at.entry) (tag_meets object requester)
-    (rules_column rules bit) (sure shape object requester at.entry at.looks)
-    (may shape object requester at.entry at.looks) (passes bit (image_part p want bit small few part hb))
+    (rules_column rules bit) (tag_meets-certain shape object requester at.entry at.looks)
+    (may_match-meets shape object requester at.entry at.looks) (passes bit (image_part p want bit small few part hb))
 
 -- no permission has no right, read has READ_DATA, and write has WRITE_DATA and APPEND_DATA
 no_right : (b : ℕ) → has_bit (image 0) b ≡ true → ⊥
@@ -204,8 +206,8 @@ some_owner free = by (free == 0) refl
     )
     by false e = (0, record { is_id = omega arith; not_user = refl; not_free = e })
 
-turned : (m n : ℕ) → (m == n) ≡ false → (n == m) ≡ false
-turned m n h = grind (arith, nat_tests)
+eqb-comm_false : (m n : ℕ) → (m == n) ≡ false → (n == m) ≡ false
+eqb-comm_false m n h = grind (arith, nat_tests)
 
 -- they are given by ids
 are_asked : (free owner u : ℕ) (gs : List ℕ) → IsOwner free owner → IsId u → AllByRecursion IsId gs
@@ -273,16 +275,16 @@ found ps t = fin.get-from_entries tags_total ps t
 full_shape : (o u g n m r : ℕ) → HasShape user_and_group (as_set (full_set o u g n m r))
 full_shape o u g n m r = record {
   users = λ id. ap (λ (x : Option ℕ). is_some x) (found (full_set o u g n m r) (user id))
-      ∙ some_cond (eq_by_cmp tag_cmp (user id) (user 1)) u ∙ ap (λ (b : Bool). b || false) (same_number id 1);
+      ∙ some_cond (eq_by_cmp tag_cmp (user id) (user 1)) u ∙ ap (λ (b : Bool). b || false) (is_eq-nat_cmp id 1);
   groups = λ id. ap (λ (x : Option ℕ). is_some x) (found (full_set o u g n m r) (group id))
-      ∙ some_cond (eq_by_cmp tag_cmp (group id) (group 2)) n ∙ ap (λ (b : Bool). b || false) (same_number id 2);
+      ∙ some_cond (eq_by_cmp tag_cmp (group id) (group 2)) n ∙ ap (λ (b : Bool). b || false) (is_eq-nat_cmp id 2);
 }
 
 group_shape : (o g n m r : ℕ) → HasShape group_alone (as_set (group_set o g n m r))
 group_shape o g n m r = record {
   users = λ id. ap (λ (x : Option ℕ). is_some x) (found (group_set o g n m r) (user id));
   groups = λ id. ap (λ (x : Option ℕ). is_some x) (found (group_set o g n m r) (group id))
-      ∙ some_cond (eq_by_cmp tag_cmp (group id) (group 2)) n ∙ ap (λ (b : Bool). b || false) (same_number id 2);
+      ∙ some_cond (eq_by_cmp tag_cmp (group id) (group 2)) n ∙ ap (λ (b : Bool). b || false) (is_eq-nat_cmp id 2);
 }
 
 bare_shape : (o g m r : ℕ) → HasShape nobody (as_set (bare_set o g m r))
@@ -471,7 +473,7 @@ none_1 A acl out sound first second =
     (group_reads 0 0 4 4 0 owner out.free 1 4 (omega arith) o.not_user refl refl) in
     let others : grants A (object_of owner) (asks out.free []) 4 ≡ true =
     lifted all_but_the_user A out.free owner out.free [] 4 first o out.is_id (omega arith)
-    (stranger_has 0 0 4 4 4 4 owner out.free 4 (omega arith) o.not_free (turned out.free 1 out.another) refl) in
+    (stranger_has 0 0 4 4 4 4 owner out.free 4 (omega arith) o.not_free (eqb-comm_false out.free 1 out.another) refl) in
     let alone : grants A (object_of owner) (asks 1 []) 4 ≡ true = elim (cases_Bool (fin.contains_key A (user 1))) [
       | inl named ↦ own_entry A owner 1 (2 ∷ []) [] 4 acl.valid refl o.not_user named reads
       | inr nameless ↦ no_entry A owner out.free 1 [] 4 acl.valid refl o.not_free o.not_user out.unnamed nameless others
@@ -510,7 +512,7 @@ second_2 = sound_by_passes rules_2 group_alone (as_set (group_set 0 0 4 4 0)) ar
     (none_passes rules_2 group_alone user_obj) (none_passes rules_2 group_alone group_obj)
     (read_passes rules_2 group_alone (group 2) refl) (none_passes rules_2 group_alone other))
 
--- a stranger in no group may not write
+-- a stranger in no group may_match-meets not write
 stranger_writes : (owner u : ℕ) → (u == 1) ≡ false
     → column_decided_by (tag_meets (object_of owner) (asks u [])) (rules_column rules_2 1) false ≡ false
 unfolding image
@@ -588,12 +590,12 @@ contains_two : (A : Entries) (want : ℕ) → entry_contains A (group 2) want �
 contains_two A want h = sym (any_group A 3 want (2 ∷ 3 ∷ []))
     ∙ ap (λ (b : Bool). b || list_any (group_contains A 3 want) (3 ∷ [])) h
 
--- the part of a choice that is taken
-taken : (m x y : Bool) → m ≡ true → cond m x y ≡ true → x ≡ true
-taken m x y e h = sym (ap (λ (b : Bool). cond b x y) e) ∙ h
+-- the part of a choice that is cond-then
+cond-then : (m x y : Bool) → m ≡ true → cond m x y ≡ true → x ≡ true
+cond-then m x y e h = sym (ap (λ (b : Bool). cond b x y) e) ∙ h
 
-left : (m x y : Bool) → m ≡ false → cond m x y ≡ true → y ≡ true
-left m x y e h = sym (ap (λ (b : Bool). cond b x y) e) ∙ h
+cond-else : (m x y : Bool) → m ≡ false → cond m x y ≡ true → y ≡ true
+cond-else m x y e h = sym (ap (λ (b : Bool). cond b x y) e) ∙ h
 
 none_3 : (A : Entries) → IsAcl A → LeavesSomeOut A → IsSound (rules_list rules_3) A → GrantsNothingMore members_read A
     → GrantsNothingMore others_write A → ⊥
@@ -612,13 +614,13 @@ none_3 A acl out sound first second =
     elim (cases_Bool (fin.contains_key A (group 2))) [
       | inl named ↦
           let both = and_true (entry_contains A (group 2) 2) (mask_contains A 2)
-          (rw (sym (contains_one A 2)) (taken _ _ _ (matches_one A ∙ named) (sym (at (2 ∷ []) 2 refl) ∙ writes))) in
+          (rw (sym (contains_one A 2)) (cond-then _ _ _ (matches_one A ∙ named) (sym (at (2 ∷ []) 2 refl) ∙ writes))) in
           false≢true (decided_so rules_3 A out.free owner u (2 ∷ 3 ∷ []) 2 1 are_3 sound o out.is_id
           (omega arith, (omega arith, tt)) (omega arith) refl (at (2 ∷ 3 ∷ []) 2 refl
           ∙ rw (matches_two A named, contains_two A 2 both.0, both.1) refl))
       | inr nameless ↦
           let others : entry_contains A other 4 ≡ true =
-          left _ _ _ (matches_one A ∙ nameless) (sym (at (2 ∷ []) 4 refl) ∙ reads) in
+          cond-else _ _ _ (matches_one A ∙ nameless) (sym (at (2 ∷ []) 4 refl) ∙ reads) in
           false≢true (decided_so rules_3 A out.free owner u [] 4 0 are_3 sound o out.is_id tt (omega arith) refl
           (at [] 4 refl ∙ rw (matches_none A) others))
     ]

@@ -18,7 +18,10 @@ use Rattle.acl_eval.specs.PosixForOwner.{object_for}
 use Rattle.acl_eval.specs.internal.OwnerBody.{AddsKnown, IsAlwaysOwned, IsKnownColumn, IsOutside, known_tag, owner_in}
 use Rattle.acl_eval.specs.internal.ShapeBody.{TagColumn, always, column_decided_by, has_tag, is_certain, keys_of, tag_meets}
 use Rattle.acl_eval.specs.declared.tag_column.TagKey.{TagKey}
-use Rattle.acl_eval.proofs.AlwaysDecides.{IsExtra, always_complete, always_sound, decided_same, extra_groups, is_extra, key_id, same_itself, turned}
+use Rattle.acl_eval.proofs.Passes.{IsExtra, always_complete, always_sound, column_decided_by-same, is_extra, eq_by_cmp-refl}
+use Rattle.acl_eval.proofs.FreeIds.{eqb_comm}
+use Rattle.acl_eval.proofs.TagRequesters.{extra_groups}
+use Rattle.acl_eval.proofs.SituationIds.{IsTag-key}
 use Rattle.acl_eval.proofs.TagColumns.{apart, kept, keys_more}
 
 -- ---- the tag that stands for another
@@ -211,7 +214,7 @@ as_known : (o g : ℕ) (groups : List ℕ) (keys known : List TagKey) → AddsKn
     → column_decided_by (tag_meets (object_for o g) (owner_in o groups)) (keys_of keys) false
     ≡ column_decided_by (tag_meets (object_for o g) (owner_in o groups)) (keys_of known) false
 as_known o g groups keys known adds =
-    decided_same (tag_meets (object_for o g) (owner_in o groups))
+    column_decided_by-same (tag_meets (object_for o g) (owner_in o groups))
     (λ t. tag_meets (object_for o g) (owner_in o groups) (known_tag o g t)) (keys_of keys) false
     (λ t has. sym (known_meets o g (owner_in o groups) t))
     ∙ sym (adds.decides (tag_meets (object_for o g) (owner_in o groups)))
@@ -224,7 +227,7 @@ owned_granted : (o g : ℕ) (keys known : List TagKey) → AddsKnown o g keys []
 owned_granted o g keys known adds answers groups ids =
     let test = tag_meets (object_for o g) (owner_in o groups) in
     as_known o g groups keys known adds
-    ∙ decided_same test (owner_test test) (keys_of known) false
+    ∙ column_decided_by-same test (owner_test test) (keys_of known) false
     (owner_meets o g groups (keys_of known) (adds.outside (none_outside o g)))
     ∙ always_sound (is_certain tag.user_obj) is_group_tag (owner_test test) (keys_of known) (certain_meets test)
     (others_are_groups test) answers
@@ -236,7 +239,7 @@ extra_ids g None known own is = tt
 extra_ids g (Some tag.user_obj) known own is = tt
 extra_ids g (Some (tag.user id)) known own is = tt
 extra_ids g (Some tag.group_obj) known own is = (own, tt)
-extra_ids g (Some (tag.group id)) known own is = (key_id (tag.group id) known is.1, tt)
+extra_ids g (Some (tag.group id)) known own is = (IsTag-key (tag.group id) known is.1, tt)
 extra_ids g (Some tag.mask) known own is = tt
 extra_ids g (Some tag.other) known own is = tt
 
@@ -244,7 +247,7 @@ extra_ids g (Some tag.other) known own is = tt
 same_groups : (m n : ℕ) → (m == n) ≡ eq_by_cmp tag_cmp (tag.group n) (tag.group m)
 same_groups m n = elim (cases_Bool (m == n)) [
   | inl same ↦ same ∙ sym (ap (λ (k : ℕ). eq_by_cmp tag_cmp (tag.group k) (tag.group m)) (sym (eqb-true m n same))
-      ∙ same_itself (tag.group m))
+      ∙ eq_by_cmp-refl (tag.group m))
   | inr differs ↦ differs
       ∙ sym (differ (tag.group n) (tag.group m) (λ same. not_equal m n differs (sym (ap qualifier same))))
 ]
@@ -272,7 +275,7 @@ extra_meets o g x keys out is tag.group_obj has = by x is
     by (Some tag.user_obj) is = absurd (false≢true is.0)
     by (Some (tag.user n)) is = absurd (false≢true is.0)
     by (Some tag.group_obj) is = or_false_right (g == g) ∙ eq-eqb g g refl
-    by (Some (tag.group n)) is = or_false_right (n == g) ∙ (turned n g ∙ other_group o g n keys out is.1)
+    by (Some (tag.group n)) is = or_false_right (n == g) ∙ (eqb_comm n g ∙ other_group o g n keys out is.1)
     by (Some tag.mask) is = absurd (false≢true is.0)
     by (Some tag.other) is = absurd (false≢true is.0)
 extra_meets o g x keys out is (tag.group id) has = by x is
@@ -308,7 +311,7 @@ granted_owned o g keys known own adds all =
           let groups = extra_groups g d.extra in
           absurd (true≢false (sym (all groups (All-from_recursion IsId groups (extra_ids g d.extra known own d.is)))
           ∙ (as_known o g groups keys known adds
-          ∙ (decided_same (tag_meets (object_for o g) (owner_in o groups))
+          ∙ (column_decided_by-same (tag_meets (object_for o g) (owner_in o groups))
           (λ t. is_certain tag.user_obj t || is_extra d.extra t) (keys_of known) false
           (extra_meets o g d.extra (keys_of known) (adds.outside (none_outside o g)) d.is) ∙ d.denied))))
     ]

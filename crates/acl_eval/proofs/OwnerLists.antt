@@ -22,7 +22,7 @@ use Rattle.acl_eval.specs.Column.{column, takes_part}
 use Rattle.acl_eval.specs.PosixForOwner.{object_for}
 use Rattle.acl_eval.specs.internal.OwnerBody.{known_tag}
 use Rattle.acl_eval.specs.internal.ShapeBody.{TagColumn, column_decided_by, tag_meets}
-use Rattle.acl_eval.proofs.AlwaysDecides.{apart, free_below}
+use Rattle.acl_eval.proofs.FreeIds.{eqb-not_member, free_below}
 use Rattle.acl_eval.proofs.Matchings.{Matching}
 use Rattle.acl_eval.proofs.RealMatchings.{Agree, column_of, filter_member, with_bit}
 use Rattle.acl_eval.proofs.TagMatchings.{digits_tag, put, tag_keys, tags_grant}
@@ -307,8 +307,8 @@ moved o g ns object requester is_o is_g few asked outside = by (requester.user =
     by true e =
         let (free, below, lacks) = free_below greatest_id (o ∷ ns) (omega (arith, few)) in
         moved_to o g ns object requester free is_o is_g asked outside (omega (arith, below))
-        (apart free o (o ∷ ns) lacks (ap (λ (b : Bool). b || is_member o ns) (eq-eqb o o refl)))
-        (λ id has d. apart free id (o ∷ ns) lacks (later id has)
+        (eqb-not_member free o (o ∷ ns) lacks (ap (λ (b : Bool). b || is_member o ns) (eq-eqb o o refl)))
+        (λ id has d. eqb-not_member free id (o ∷ ns) lacks (later id has)
         ∙ sym (ap (λ (n : ℕ). n == id) (eqb-true requester.user o e) ∙ flip id d))
       where
         later : (id : ℕ) → is_member id ns ≡ true → is_member id (o ∷ ns) ≡ true

@@ -29,13 +29,14 @@ use Rattle.acl_eval.specs.internal.ShapeBody.{AreColumns, HaveFewKeys, IsColumnO
 use Rattle.acl_eval.specs.declared.list_names.NamedIds.{NamedIds}
 use Rattle.acl_eval.specs.declared.tag_column.Columns.{Columns}
 use Rattle.acl_eval.specs.declared.tag_column.TagKey.{TagKey}
-use Rattle.acl_eval.proofs.AlwaysDecides.{apart, decided_same, numbers, tag_number, turned}
+use Rattle.acl_eval.proofs.Passes.{column_decided_by-same}
+use Rattle.acl_eval.proofs.FreeIds.{eqb-not_member, numbers, is_member-numbers, eqb_comm}
 use Rattle.acl_eval.proofs.Images.{image_right}
 use Rattle.acl_eval.proofs.Losses.{IsPart, but_lacks, out_part, out_size}
 use Rattle.acl_eval.proofs.Matchings.{IsRest, Looks, Matching}
 use Rattle.acl_eval.proofs.OwnerKeys.{known_meets}
 use Rattle.acl_eval.proofs.OwnerLists.{IsMoved, IsRight, OwnerRights, append_is, execute_is, for_grants, known_matching, list_for, moved, read_is, right_of, write_is}
-use Rattle.acl_eval.proofs.PruningKept.{looks_from, looks_of, out_few}
+use Rattle.acl_eval.proofs.PruningKept.{looks_from, looks_of, HasFewIds-taken_out}
 use Rattle.acl_eval.proofs.PruningSituations.{IsSmall, all_ids, granted_is, ids_few, ids_of_first, ids_of_list, ids_of_second, is_granted, is_small, out_small, small_at_end}
 use Rattle.acl_eval.proofs.RealMatchings.{Agree, agree_back, agree_bit, agree_granted, agree_looks, list_ids, list_ids_few}
 use Rattle.acl_eval.proofs.ShapeChecks.{all_contain, first_member, held, looked, second_member}
@@ -168,9 +169,9 @@ same_looks s m n tag.other a l =
 known_on : (o g : ℕ) (s : EntryShape) (m : Matching) → Lacks o g s → SameOn s m (known_matching o g m)
 known_on o g s m lacks = record {
   owner = refl;
-  users = λ id h. ap m (user_is id (id == o) (turned id o ∙ apart o id s.users lacks.no_owner h));
+  users = λ id h. ap m (user_is id (id == o) (eqb_comm id o ∙ eqb-not_member o id s.users lacks.no_owner h));
   owning = refl;
-  groups = λ id h. ap m (group_is id (id == g) (turned id g ∙ apart g id s.groups lacks.no_group h));
+  groups = λ id h. ap m (group_is id (id == g) (eqb_comm id g ∙ eqb-not_member g id s.groups lacks.no_group h));
 }
   where
     user_is : (id : ℕ) (b : Bool) → b ≡ false → tag.user id ≡ (if b then tag.user_obj else tag.user id)
@@ -419,8 +420,8 @@ for_column o g r list bit keys known c right column few k is = record {
         (λ id h. first_member id (list_ids list) (numbers (keys_of keys)) h)
         ∙ sym (bit_by_tags list (object_for o g) v.requester bit v.asked)
         ∙ column.decides (object_for o g) v.requester v.asked
-        ∙ decided_same n m (keys_of keys) false (λ t h. agree_tag o g ns object requester v t
-        (second_member (qualifier t) (list_ids list) (numbers (keys_of keys)) (tag_number t (keys_of keys) h)))
+        ∙ column_decided_by-same n m (keys_of keys) false (λ t h. agree_tag o g ns object requester v t
+        (second_member (qualifier t) (list_ids list) (numbers (keys_of keys)) (is_member-numbers t (keys_of keys) h)))
 
     by : (object : Object) (requester : Requester) → IsAsked object requester
         → (b : Bool) → (requester.user == object.user) ≡ b
@@ -519,7 +520,8 @@ code_few named few = record {
 
 -- the other names are ids, and few, if all names are
 pub others_ids : (o g : ℕ) (names : EntryShape) → HasFewIds names → HasFewIds (others_of o g names)
-others_ids o g names few = out_few (tag.user o) (taken_out (tag.group g) names) (out_few (tag.group g) names few)
+others_ids o g names few = HasFewIds-taken_out (tag.user o) (taken_out (tag.group g) names)
+    (HasFewIds-taken_out (tag.group g) names few)
 
 -- what is known where the rule ends, for the list for such an object
 pub record RuleFor (o g : ℕ) (list : List Ace) (known : Columns) (start end : EntryShape) (acl : Entries) : Type 0 where

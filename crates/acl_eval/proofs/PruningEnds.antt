@@ -11,7 +11,8 @@ use Rattle.acl_posix.proofs.Exports.{same_tag}
 use Rattle.acl_eval.specs.Bridge.{is_group_tag}
 use Rattle.acl_eval.specs.Pruning.{is_shared, shape_without, taken_out}
 use Rattle.acl_eval.specs.ToPosix.{EntryShape, is_in_shape}
-use Rattle.acl_eval.proofs.AlwaysDecides.{HasIds, entry_id, same_itself}
+use Rattle.acl_eval.proofs.Passes.{eq_by_cmp-refl}
+use Rattle.acl_eval.proofs.SituationIds.{HasIds, entry_id}
 use Rattle.acl_eval.proofs.Losses.{IsPart, but_keeps, but_lacks, member_but, out_part, part_has, part_ids}
 use Rattle.acl_eval.proofs.Matchings.{IsMatching, IsRest, Looks, Matching, also, also_matching, alone, alone_looks, alone_matching, alone_only, looks_part, looks_rest, looks_there, moved, no_groups, no_groups_matching, no_users, no_users_matching, rest_looks, rest_part, rest_shared, with_group, with_group_matching, with_user, with_user_matching}
 use Rattle.acl_eval.proofs.PruningSteps.{Below, Gives, Granting, HasAlways, IsPruned, Steps, also_same, has_part, steps_leave, steps_part, steps_stay}
@@ -196,7 +197,7 @@ group_all f start s t g want a small has_g lacks has = all_above f start s t wan
       looks = (
         record { owner = refl; others = λ id h. refl },
         has_g,
-        ap (λ (b : Bool). alone e (group g) || b) (same_itself (group g)) ∙ or_true_right (alone e (group g)),
+        ap (λ (b : Bool). alone e (group g) || b) (eq_by_cmp-refl (group g)) ∙ or_true_right (alone e (group g)),
       );
       has = has;
     }) in
@@ -262,7 +263,7 @@ other_stays f start s t g want denies a small has_g lacks has m ok l =
       differs one group_obj l.1,
       λ id h. elim (cases_Bool (id == g)) [
         | inl same ↦ elim (cases_Bool (eq_by_cmp tag_cmp (group id) one.one)) [
-          | inl is ↦ absurd (true≢false (sym (same_itself (group g))
+          | inl is ↦ absurd (true≢false (sym (eq_by_cmp-refl (group g))
               ∙ (ap (λ (n : ℕ). eq_by_cmp tag_cmp (group n) (group g)) (sym (eqb-true id g same))
               ∙ (ap (λ (x : Tag). eq_by_cmp tag_cmp x (group g)) (same_tag (group id) one.one is) ∙ differ))))
           | inr is_not ↦ is_not

@@ -27,7 +27,7 @@ use Rattle.acl_eval.specs.Pruning.{PrunesTo}
 use Rattle.acl_eval.specs.PruningLaws.{GrantSamePermissions, HasFewIds, HasNamesOf}
 use Rattle.acl_eval.specs.ToPosix.{EntryShape, HasShape, IsBest, is_in_shape, size_of}
 use Rattle.acl_eval.specs.internal.ShapeBody.{tag_meets}
-use Rattle.acl_eval.proofs.AlwaysDecides.{same_itself}
+use Rattle.acl_eval.proofs.Passes.{eq_by_cmp-refl}
 use Rattle.acl_eval.proofs.Losses.{part_has}
 use Rattle.acl_eval.proofs.Matchings.{IsMatching, Matching}
 use Rattle.acl_eval.proofs.PruningExact.{granted_seen, seen, seen_granted}
@@ -196,20 +196,20 @@ same_entries_of list second s t best one_more same names is other_is e plain = e
 -- ---- MASK
 
 -- tags that compare as equal are equal
-exact : (x y : Tag) → tag_cmp x y ≡ Equal → x ≡ y
-exact x y e = same_tag x y (rw e refl)
+tag_cmp-Equal : (x y : Tag) → tag_cmp x y ≡ Equal → x ≡ y
+tag_cmp-Equal x y e = same_tag x y (rw e refl)
 
 -- ACLs with the same entries, MASK aside, have the same entries of the file group class
 same_class : (best one_more : Entries) → ((e : Tag) → (e ≡ tag.mask → ⊥) → fin.get best e ≡ fin.get one_more e)
     → filter (λ e. is_masked e.0) (fin.entries best) ≡ filter (λ e. is_masked e.0) (fin.entries one_more)
-same_class best one_more same = same_entries tag_cmp tags_total exact _ _
+same_class best one_more same = same_entries tag_cmp tags_total tag_cmp-Equal _ _
     (is_sorted-where_key tag_cmp is_masked (fin.entries best) (fin.entries_sorted best))
     (is_sorted-where_key tag_cmp is_masked (fin.entries one_more) (fin.entries_sorted one_more))
     (λ q. find-where_key tag_cmp is_masked q (alike q) (fin.entries best)
     ∙ (at q ∙ sym (find-where_key tag_cmp is_masked q (alike q) (fin.entries one_more))))
   where
     alike : (q x : Tag) → tag_cmp q x ≡ Equal → is_masked x ≡ is_masked q
-    alike q x e = ap is_masked (sym (exact q x e))
+    alike q x e = ap is_masked (sym (tag_cmp-Equal q x e))
 
     at : (q : Tag) → cond (is_masked q) (fin.find tag_cmp q (fin.entries best)) None
         ≡ cond (is_masked q) (fin.find tag_cmp q (fin.entries one_more)) None
@@ -270,11 +270,11 @@ same_mask list second s t best one_more names is other_is same = by is.mask othe
 one_acl : (list second : List Ace) (s t : EntryShape) (best one_more : Entries) → GrantSamePermissions list second
     → SameNames s t → IsBest list s best → IsBest second t one_more → best ≡ one_more
 one_acl list second s t best one_more same names is other_is =
-    fin.same_map tags_total exact best one_more (λ e. elim (cases_Bool (eq_by_cmp tag_cmp e tag.mask)) [
+    fin.same_map tags_total tag_cmp-Equal best one_more (λ e. elim (cases_Bool (eq_by_cmp tag_cmp e tag.mask)) [
       | inl masked ↦ subst (λ (x : Tag). fin.get best x ≡ fin.get one_more x) (sym (same_tag e tag.mask masked))
           (same_mask list second s t best one_more names is other_is entries)
       | inr plain ↦ entries e (λ m. true≢false
-          (sym (same_itself tag.mask) ∙ (ap (λ (x : Tag). eq_by_cmp tag_cmp x tag.mask) (sym m) ∙ plain)))
+          (sym (eq_by_cmp-refl tag.mask) ∙ (ap (λ (x : Tag). eq_by_cmp tag_cmp x tag.mask) (sym m) ∙ plain)))
     ])
   where
     entries : (e : Tag) → (e ≡ tag.mask → ⊥) → fin.get best e ≡ fin.get one_more e

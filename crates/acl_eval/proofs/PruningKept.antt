@@ -109,8 +109,8 @@ looks_from s object requester other l =
 -- ---- one step
 
 -- a shape without a name has few ids, too
-pub out_few : (name : Tag) (shape : EntryShape) → HasFewIds shape → HasFewIds (taken_out name shape)
-out_few name shape f =
+pub HasFewIds-taken_out : (name : Tag) (shape : EntryShape) → HasFewIds shape → HasFewIds (taken_out name shape)
+HasFewIds-taken_out name shape f =
     let p = out_part name shape in
     let less = out_size name shape in
     record {
@@ -180,7 +180,7 @@ entries_stay : (list : List Ace) (one two : EntryShape) → Prunes list one two 
     → AlwaysHas list one entry want → AlwaysHas list two entry want
 entries_stay list a b (none shape) f entry stays want small has = has
 entries_stay list a b (next one two name n there loses rest) f entry stays want small has =
-    entries_stay list (taken_out name one) two rest (out_few name one f) entry stays want small
+    entries_stay list (taken_out name one) two rest (HasFewIds-taken_out name one f) entry stays want small
     (step_keeps list one name entry want f n there loses
     (part_has (taken_out name one) two entry (pruned_part list (taken_out name one) two rest) stays) small has)
 

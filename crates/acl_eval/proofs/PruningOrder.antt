@@ -11,7 +11,8 @@ use Rattle.acl_posix.proofs.Exports.{same_tag}
 use Rattle.acl_eval.specs.Bridge.{is_group_tag}
 use Rattle.acl_eval.specs.Pruning.{is_shared, shape_without, taken_out}
 use Rattle.acl_eval.specs.ToPosix.{EntryShape, is_in_shape}
-use Rattle.acl_eval.proofs.AlwaysDecides.{HasIds, same_itself}
+use Rattle.acl_eval.proofs.Passes.{eq_by_cmp-refl}
+use Rattle.acl_eval.proofs.SituationIds.{HasIds}
 use Rattle.acl_eval.proofs.Losses.{but_keeps, out_part, part_has, part_ids}
 use Rattle.acl_eval.proofs.Matchings.{IsMatching, IsRest, Looks, Matching, alone, alone_matching, gone, looks_part, looks_rest, looks_there, no_groups, no_groups_matching, out_differs, rest_looks, with_group, with_group_matching}
 use Rattle.acl_eval.proofs.PruningEnds.{OneGroupDenies, looks_outside}
@@ -61,14 +62,14 @@ still_there : (x y : Tag) (s : EntryShape) → eq_by_cmp tag_cmp x y ≡ false �
     → is_in_shape (taken_out y s) x ≡ true
 still_there x y s differ there = elim (cases_Bool (is_in_shape (taken_out y s) x)) [
   | inl stays ↦ stays
-  | inr went ↦ absurd (true≢false (sym (same_itself y)
+  | inr went ↦ absurd (true≢false (sym (eq_by_cmp-refl y)
       ∙ (ap (λ (t : Tag). eq_by_cmp tag_cmp t y) (sym (gone x y s there went)) ∙ differ)))
 ]
 
 -- two names are the same in either order
-turned : (x y : Tag) → eq_by_cmp tag_cmp x y ≡ false → eq_by_cmp tag_cmp y x ≡ false
-turned x y differ = elim (cases_Bool (eq_by_cmp tag_cmp y x)) [
-  | inl same ↦ absurd (true≢false (sym (same_itself x)
+eq_by_cmp-comm : (x y : Tag) → eq_by_cmp tag_cmp x y ≡ false → eq_by_cmp tag_cmp y x ≡ false
+eq_by_cmp-comm x y differ = elim (cases_Bool (eq_by_cmp tag_cmp y x)) [
+  | inl same ↦ absurd (true≢false (sym (eq_by_cmp-refl x)
       ∙ (ap (λ (t : Tag). eq_by_cmp tag_cmp x t) (sym (same_tag y x same)) ∙ differ)))
   | inr apart ↦ apart
 ]
@@ -220,7 +221,7 @@ both_match : (f : Granting) (s : EntryShape) (x y e : Tag) (want : ℕ) (m : Mat
     → Looks (taken_out x (taken_out y s)) m e → f want m
 both_match f s (user u) (user v) e want m denies ids ok small differ nx ny ix iy shared stays mx my has
     without_x without_y l =
-    absurd (true≢false (sym (same_itself (user u))
+    absurd (true≢false (sym (eq_by_cmp-refl (user u))
     ∙ (ap (λ (n : ℕ). eq_by_cmp tag_cmp (user u) (user n)) (ok.one u v mx my) ∙ differ)))
 both_match f s (user u) (group g) e want m denies ids ok small differ nx ny ix iy shared stays mx my has
     without_x without_y l =
@@ -330,8 +331,8 @@ strip f a b (no_step s) x denies ids n there below last = absurd (last x n there
 strip f a b (one_more s t y ny iy out_y rest) x denies ids n there below last =
     elim (cases_Bool (eq_by_cmp tag_cmp x y)) [
       | inl same ↦ subst (λ (z : Tag). Steps f (taken_out z s) t) (sym (same_tag x y same)) rest
-      | inr differ ↦ one_more (taken_out x s) t y ny (still_there y x s (turned x y differ) iy)
-          (diamond f s y x denies ids (turned x y differ) ny n iy there out_y below)
+      | inr differ ↦ one_more (taken_out x s) t y ny (still_there y x s (eq_by_cmp-comm x y differ) iy)
+          (diamond f s y x denies ids (eq_by_cmp-comm x y differ) ny n iy there out_y below)
           (subst (λ (r : EntryShape). Steps f r t) (out_commutes x y s)
           (strip f (taken_out y s) t rest x denies (part_ids s (taken_out y s) (out_part y s) ids) n
           (still_there x y s differ there) (diamond f s x y denies ids differ n ny there iy below out_y) last))

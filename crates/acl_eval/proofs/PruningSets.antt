@@ -21,7 +21,7 @@ use Rattle.acl_eval.specs.Pruning.{PrunesTo, is_shared}
 use Rattle.acl_eval.specs.PruningLaws.{HasFewIds, IsAmong, IsExactFor}
 use Rattle.acl_eval.specs.ToPosix.{EntryShape, HasShape, IsBest, is_in_shape}
 use Rattle.acl_eval.specs.internal.ShapeBody.{tag_meets}
-use Rattle.acl_eval.proofs.AlwaysDecides.{HasIds, entry_id}
+use Rattle.acl_eval.proofs.SituationIds.{HasIds, entry_id}
 use Rattle.acl_eval.proofs.Images.{small_bit}
 use Rattle.acl_eval.proofs.Losses.{IsPart}
 use Rattle.acl_eval.proofs.Matchings.{IsMatching, IsRest, Looks, Matching, alone, alone_looks, alone_matching, alone_only, looks_rest, looks_there, none_passes, nobody, with_user, with_user_matching, nobody_matching}

@@ -11,7 +11,7 @@ use Rattle.acl_eval.specs.Bridge.{image}
 use Rattle.acl_eval.specs.BridgeLaws.{IsSingle}
 use Rattle.acl_eval.specs.Pruning.{LosesNothing, PrunesTo, taken_out}
 use Rattle.acl_eval.specs.ToPosix.{AlwaysHas, EntryShape, is_in_shape}
-use Rattle.acl_eval.proofs.AlwaysDecides.{HasIds}
+use Rattle.acl_eval.proofs.SituationIds.{HasIds}
 use Rattle.acl_eval.proofs.Images.{image_right, rights}
 use Rattle.acl_eval.proofs.Losses.{nothing_lost}
 use Rattle.acl_eval.proofs.Matchings.{IsMatching, Looks, Matching, none_passes, rest_looks}

@@ -318,8 +318,8 @@ with_ids_only requester =
 id_test : (n : ℕ) → IsId n → ltb n (suc greatest_id) ≡ true
 id_test n is = grind (arith, nat_tests)
 
-test_id : (n : ℕ) → ltb n (suc greatest_id) ≡ true → IsId n
-test_id n h = grind (arith, nat_tests)
+IsId-test : (n : ℕ) → ltb n (suc greatest_id) ≡ true → IsId n
+IsId-test n h = grind (arith, nat_tests)
 
 only_ids : (groups : List ℕ) → AllByRecursion IsId (filter (λ g. ltb g (suc greatest_id)) groups)
 only_ids [] = tt
@@ -328,7 +328,7 @@ only_ids (g ∷ groups) = by (only_ids groups) (ltb g (suc greatest_id)) refl
     by : AllByRecursion IsId (filter (λ g. ltb g (suc greatest_id)) groups) → (b : Bool) → ltb g (suc greatest_id) ≡ b
         → AllByRecursion IsId (if b then g ∷ filter (λ g. ltb g (suc greatest_id)) groups
         else filter (λ g. ltb g (suc greatest_id)) groups)
-    by rest true e = (test_id g e, rest)
+    by rest true e = (IsId-test g e, rest)
     by rest false e = rest
 
 -- a requester without groups that are not ids asks by ids
@@ -342,14 +342,14 @@ only_asked object requester p = record {
 }
 
 -- an id is a group of the one if it is a group of the other
-and_yes : (a b : Bool) → b ≡ true → (a && b) ≡ a
-and_yes true b h = h
-and_yes false b h = refl
+and-true_right : (a b : Bool) → b ≡ true → (a && b) ≡ a
+and-true_right true b h = h
+and-true_right false b h = refl
 
 same_group : (groups : List ℕ) (id : ℕ) → IsId id
     → is_member id (filter (λ g. ltb g (suc greatest_id)) groups) ≡ is_member id groups
 same_group groups id is = filter_member (λ g. ltb g (suc greatest_id)) groups id
-    ∙ and_yes (is_member id groups) (ltb id (suc greatest_id)) (id_test id is)
+    ∙ and-true_right (is_member id groups) (ltb id (suc greatest_id)) (id_test id is)
 
 only_agree : (object : Object) (requester : Requester) (ns : List ℕ) → AreParties object requester
     → ((id : ℕ) → is_member id ns ≡ true → IsId id)

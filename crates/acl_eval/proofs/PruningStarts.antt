@@ -10,9 +10,10 @@ use Rattle.acl_posix.specs.Tag.{Tag, user_obj, user, group_obj, group, mask, oth
 use Rattle.acl_posix.proofs.Exports.{same_tag}
 use Rattle.acl_eval.specs.Pruning.{is_shared, taken_out}
 use Rattle.acl_eval.specs.ToPosix.{EntryShape, is_in_shape}
-use Rattle.acl_eval.proofs.AlwaysDecides.{HasIds, entry_id, same_itself}
+use Rattle.acl_eval.proofs.Passes.{eq_by_cmp-refl}
+use Rattle.acl_eval.proofs.SituationIds.{HasIds, entry_id}
 use Rattle.acl_eval.proofs.Losses.{IsPart, but_keeps, member_but, out_part, part_has, part_ids}
-use Rattle.acl_eval.proofs.Matchings.{IsMatching, IsRest, Looks, Matching, also, gone, looks_part, looks_rest, looks_there, moved, no_users, no_users_matching, one_user, out_differs, out_lacks, part_of_part, rest_part, same_id}
+use Rattle.acl_eval.proofs.Matchings.{IsMatching, IsRest, Looks, Matching, also, gone, looks_part, looks_rest, looks_there, moved, no_users, no_users_matching, one_user, out_differs, out_lacks, part_of_part, rest_part, IsTag-same}
 use Rattle.acl_eval.proofs.PruningEnds.{OneGroupDenies}
 use Rattle.acl_eval.proofs.PruningOrder.{below_by_entries, looks_one, one_end}
 use Rattle.acl_eval.proofs.PruningSituations.{member_of_two}
@@ -175,7 +176,7 @@ without_looks : (x : Tag) (s : EntryShape) (m : Matching) (e : Tag) → is_named
 without_looks x s m e n shared stays l =
     let rest = looks_rest (taken_out x s) m e shared l in
     looks_one x s (without x m) e n shared (part_has s (taken_out x s) e (out_part x s) stays)
-    (rw (same_itself x) (and_false_right (m x)))
+    (rw (eq_by_cmp-refl x) (and_false_right (m x)))
     (moved (taken_out x s) (taken_out x s) m (without x m) e shared stays
     (record {
       owner = without_fails x user_obj m rest.owner;
@@ -194,7 +195,7 @@ with_matching x m is ok = record {
   one = λ u v h g. one_user u v x h g;
   ids = λ t h. elim (or_cases (no_users m t) (eq_by_cmp tag_cmp t x) h) [
     | inl a ↦ (no_users_matching m ok).ids t a
-    | inr b ↦ same_id t x is b
+    | inr b ↦ IsTag-same t x is b
   ];
 }
 
@@ -214,12 +215,12 @@ with_looks : (x : Tag) (s : EntryShape) (m : Matching) → is_named x ≡ true �
     → Looks s (also x (no_users m)) x
 with_looks user_obj s m n there outside = absurd (false≢true n)
 with_looks (user u) s m n there outside =
-    (or_false_right (m user_obj) ∙ outside, there, same_itself (user u))
+    (or_false_right (m user_obj) ∙ outside, there, eq_by_cmp-refl (user u))
 with_looks group_obj s m n there outside = absurd (false≢true n)
 with_looks (group g) s m n there outside = (
   record { owner = or_false_right (m user_obj) ∙ outside; others = λ id h. refl },
   there,
-  ap (λ (b : Bool). m (group g) || b) (same_itself (group g)) ∙ or_true_right (m (group g)),
+  ap (λ (b : Bool). m (group g) || b) (eq_by_cmp-refl (group g)) ∙ or_true_right (m (group g)),
 )
 with_looks mask s m n there outside = absurd (false≢true n)
 with_looks other s m n there outside = absurd (false≢true n)

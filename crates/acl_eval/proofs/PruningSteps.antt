@@ -9,7 +9,8 @@ use Rattle.acl_perm.specs.Bits.{IsPerm}
 use Rattle.acl_posix.specs.Tag.{Tag, user_obj, user, group_obj, group, mask, other, is_named, tag_cmp}
 use Rattle.acl_eval.specs.Pruning.{is_shared, taken_out}
 use Rattle.acl_eval.specs.ToPosix.{EntryShape, is_in_shape}
-use Rattle.acl_eval.proofs.AlwaysDecides.{HasIds, entry_id, same_itself}
+use Rattle.acl_eval.proofs.Passes.{eq_by_cmp-refl}
+use Rattle.acl_eval.proofs.SituationIds.{HasIds, entry_id}
 use Rattle.acl_eval.proofs.Losses.{IsPart, out_part, part_has, part_ids}
 use Rattle.acl_eval.proofs.Matchings.{IsMatching, IsRest, Looks, Matching, also, also_matching, alone, alone_looks, alone_matching, alone_only, gone, looks_part, looks_there, moved, out_differs, part_itself, part_of_part, rest_shared}
 
@@ -82,12 +83,12 @@ step_stays f s x other want ids below stays small has = shared_stays f s x other
 -- the check looked at the entry that goes, for strangers in the group of another who have it too
 looks_gone : (s : EntryShape) (x e : Tag) → is_named x ≡ true → is_in_shape s x ≡ true → Looks s (also x (alone e)) x
 looks_gone s user_obj e n there = absurd (false≢true n)
-looks_gone s (user u) e n there = (refl, there, same_itself (user u))
+looks_gone s (user u) e n there = (refl, there, eq_by_cmp-refl (user u))
 looks_gone s group_obj e n there = absurd (false≢true n)
 looks_gone s (group g) e n there = (
   record { owner = refl; others = λ id h. refl },
   there,
-  ap (λ (b : Bool). alone e (group g) || b) (same_itself (group g)) ∙ or_true_right (alone e (group g)),
+  ap (λ (b : Bool). alone e (group g) || b) (eq_by_cmp-refl (group g)) ∙ or_true_right (alone e (group g)),
 )
 looks_gone s mask e n there = absurd (false≢true n)
 looks_gone s other e n there = absurd (false≢true n)

@@ -20,7 +20,7 @@ use Rattle.acl_eval.specs.BridgeLaws.{IsAsked}
 use Rattle.acl_eval.specs.Column.{Column, column, takes_part}
 use Rattle.acl_eval.specs.ToPosix.{EntryShape}
 use Rattle.acl_eval.specs.internal.ShapeBody.{TagColumn, column_decided_by, tag_meets}
-use Rattle.acl_eval.proofs.AlwaysDecides.{apart, free_below}
+use Rattle.acl_eval.proofs.FreeIds.{eqb-not_member, free_below}
 use Rattle.acl_eval.proofs.Matchings.{IsMatching, IsRest, Looks, Matching, none_passes}
 use Rattle.acl_eval.proofs.ShapeChecks.{some_member}
 use Rattle.acl_eval.proofs.TagMatchings.{digits_tag, granted_to, id_by_digits, put, tag_keys, tags_grant}
@@ -251,7 +251,7 @@ with_asker ns m asker ok few is same =
         users = same;
         owning = own_with (m tag.group_obj) own gs
             (filter_member (λ g. m (tag.group g)) ns own ∙ ap (λ (b : Bool). b && m (tag.group own)) no_own);
-        groups = λ id has. other_with (m tag.group_obj) own id gs (apart own id ns no_own has)
+        groups = λ id has. other_with (m tag.group_obj) own id gs (eqb-not_member own id ns no_own has)
             ∙ filter_member (λ g. m (tag.group g)) ns id ∙ ap (λ (b : Bool). b && m (tag.group id)) has;
         everyone = sym ok.everyone;
       };
@@ -280,7 +280,7 @@ real ns m ok few = elim (cases_Bool (list_any (λ id. m (tag.user id)) ns)) [
   | inr nobody_there ↦
       let (free, below, lacks) = free_below greatest_id ns (omega (arith, few)) in
       with_asker ns m free ok few (omega (arith, below)) (λ id there.
-      apart free id ns lacks there ∙ sym (none_passes (λ k. m (tag.user k)) ns nobody_there id there))
+      eqb-not_member free id ns lacks there ∙ sym (none_passes (λ k. m (tag.user k)) ns nobody_there id there))
 ]
   where
     known : (n : ℕ) → m (tag.user n) ≡ true → (id : ℕ) (b : Bool) → (n == id) ≡ b → (n == id) ≡ m (tag.user id)

@@ -31,19 +31,19 @@ use Rattle.acl_eval.specs.Situation.{named_situation}
 
 -- ---- names
 
--- a test that fails once turned round passes
-passes : (t : Bool) → not t ≡ false → t ≡ true
-passes true e = refl
-passes false e = absurd cc
+-- a test that fails once turned round not-false
+not-false : (t : Bool) → not t ≡ false → t ≡ true
+not-false true e = refl
+not-false false e = absurd cc
 
 -- nothing is there if the test says so
-none_is : {F : Type 0} (o : Option F) → is_none o ≡ true → o ≡ None
-none_is None e = refl
-none_is (Some f) e = absurd cc
+is_none-true : {F : Type 0} (o : Option F) → is_none o ≡ true → o ≡ None
+is_none-true None e = refl
+is_none-true (Some f) e = absurd cc
 
 -- the name of a user or of a group is valid as a who
 account_who : (name : List ℕ) → is_account name ≡ true → IsWho name
-account_who name e = none_is (who_fault name) (and_parts (is_none (who_fault name)) (not (is_special name)) e).0
+account_who name e = is_none-true (who_fault name) (and_parts (is_none (who_fault name)) (not (is_special name)) e).0
 
 -- whom an ACE with such a name names
 account_named : (a : Ace) → is_account a.who ≡ true
@@ -119,13 +119,13 @@ ace_stays o g a has is = by (principal_of a) has
     by owner h = record {
       flags = without_within full.flags a.flags identifier_group_alone is.flags;
       mask = is.mask;
-      who = account_who o (passes (is_account o) h);
+      who = account_who o (not-false (is_account o) h);
     }
     by (user name) h = is
     by group h = record {
       flags = union_within full.flags a.flags identifier_group_alone is.flags refl;
       mask = is.mask;
-      who = account_who g (passes (is_account g) h);
+      who = account_who g (not-false (is_account g) h);
     }
     by (group_named name) h = is
     by everyone h = is
@@ -138,7 +138,7 @@ match_stays o g s a has = by (principal_of a) refl has
   where
     by : (p : Principal) → principal_of a ≡ p → lacks_name o g p ≡ false
         → matches s (principal_of (resolved_by o g p a)) ≡ matches (named_situation o g s.user_name s.groups) p
-    by owner is h = ap (matches s) (account_named (for_user o a) (passes (is_account o) h)
+    by owner is h = ap (matches s) (account_named (for_user o a) (not-false (is_account o) h)
         ∙ ap (λ (b : Bool). cond b (group_named o) (user o))
         (has_bit-without a.flags identifier_group_alone 6 ∙ rest (has_bit a.flags 6)))
       where
@@ -146,7 +146,7 @@ match_stays o g s a has = by (principal_of a) refl has
         rest true = refl
         rest false = refl
     by (user name) is h = ap (matches s) is
-    by group is h = ap (matches s) (account_named (for_group g a) (passes (is_account g) h)
+    by group is h = ap (matches s) (account_named (for_group g a) (not-false (is_account g) h)
         ∙ ap (λ (b : Bool). cond b (group_named g) (user g))
         (has_bit-or a.flags identifier_group_alone 6 ∙ or_true_right (has_bit a.flags 6)))
     by (group_named name) is h = ap (matches s) is

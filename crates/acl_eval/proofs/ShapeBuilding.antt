@@ -24,7 +24,7 @@ use Rattle.acl_posix.proofs.Exports.{is_none, same_tag}
 use Rattle.acl_nfs4.specs.Ace.{Ace}
 use Rattle.acl_eval.specs.ToPosix.{AlwaysHas, IsBest, EntryShape, is_in_shape, size_of}
 use Rattle.acl_eval.specs.internal.ShapeBody.{HasJust, HasThree, IsEntryPut, empty_shape}
-use Rattle.acl_eval.proofs.AlwaysDecides.{same_number}
+use Rattle.acl_eval.proofs.TagRequesters.{is_eq-nat_cmp}
 
 -- ---- what a set has after an entry is set
 
@@ -149,7 +149,7 @@ more_users : (users groups : List ℕ) (i id : ℕ) → i < length users → get
 more_users users groups i id lt at user_obj = refl
 more_users users groups i id lt at (user w) =
     list_any_more (λ x. x == w) users i 0 lt ∙ or_swap (is_member w (take i users)) (get_or users i 0 == w)
-    ∙ ap (λ (b : Bool). b || is_member w (take i users)) (ap (λ (x : ℕ). x == w) at ∙ sym (same_number w id))
+    ∙ ap (λ (b : Bool). b || is_member w (take i users)) (ap (λ (x : ℕ). x == w) at ∙ sym (is_eq-nat_cmp w id))
 more_users users groups i id lt at group_obj = refl
 more_users users groups i id lt at (group w) = refl
 more_users users groups i id lt at mask = refl
@@ -164,7 +164,7 @@ more_groups users groups i id lt at (user w) = refl
 more_groups users groups i id lt at group_obj = refl
 more_groups users groups i id lt at (group w) =
     list_any_more (λ x. x == w) groups i 0 lt ∙ or_swap (is_member w (take i groups)) (get_or groups i 0 == w)
-    ∙ ap (λ (b : Bool). b || is_member w (take i groups)) (ap (λ (x : ℕ). x == w) at ∙ sym (same_number w id))
+    ∙ ap (λ (b : Bool). b || is_member w (take i groups)) (ap (λ (x : ℕ). x == w) at ∙ sym (is_eq-nat_cmp w id))
 more_groups users groups i id lt at mask = refl
 more_groups users groups i id lt at other = refl
 
@@ -174,13 +174,13 @@ pub id_at : (list : List Id) (i : ℕ) (id : Id) → i < length list → id ≡ 
 id_at list i id lt at = get_or-map (λ (x : Id). x.value) list i id 0 lt ∙ ap (λ (x : Id). x.value) (sym at)
 
 -- there are as many numbers
-pub as_many : (list : List Id) → length (ids list) ≡ length list
-as_many list = length-map list (λ (x : Id). x.value)
+pub length-ids : (list : List Id) → length (ids list) ≡ length list
+length-ids list = length-map list (λ (x : Id). x.value)
 
 -- an id of the code is one of the numbers
 pub member_at : (list : List Id) (i : ℕ) (id : Id) → i < length list → id ≡ get_or list i id
     → is_member id.value (ids list) ≡ true
-member_at list i id lt at = list_any_at (λ x. x == id.value) (ids list) i 0 (omega (arith, lt, as_many list))
+member_at list i id lt at = list_any_at (λ x. x == id.value) (ids list) i 0 (omega (arith, lt, length-ids list))
     (eq-eqb _ _ (id_at list i id lt at))
 
 -- the entry of the next user
@@ -192,7 +192,7 @@ pub user_put : (aces : List Ace) (shape : EntryShape) (list : List Id) (i : ℕ)
 user_put aces shape list i id perm E F lt at held is filled =
     put_more aces shape (record { users = take i (ids list); groups = [] })
     (record { users = take (i + 1) (ids list); groups = [] }) (user id.value) perm E F refl filled held is
-    (more_users (ids list) [] i id.value (omega (arith, lt, as_many list)) (id_at list i id lt at))
+    (more_users (ids list) [] i id.value (omega (arith, lt, length-ids list)) (id_at list i id lt at))
 
 -- the entry of the next group
 pub group_put : (aces : List Ace) (shape : EntryShape) (users : List ℕ) (list : List Id) (i : ℕ) (id : Id) (perm : ℕ)
@@ -203,7 +203,7 @@ pub group_put : (aces : List Ace) (shape : EntryShape) (users : List ℕ) (list 
 group_put aces shape users list i id perm E F lt at held is filled =
     put_more aces shape (record { users = users; groups = take i (ids list) })
     (record { users = users; groups = take (i + 1) (ids list) }) (group id.value) perm E F refl filled held is
-    (more_groups users (ids list) i id.value (omega (arith, lt, as_many list)) (id_at list i id lt at))
+    (more_groups users (ids list) i id.value (omega (arith, lt, length-ids list)) (id_at list i id lt at))
 
 -- all users
 pub users_done : (aces : List Ace) (shape : EntryShape) (list : List Id) (i : ℕ) (E : Entries) → length list ≤ i
@@ -211,7 +211,7 @@ pub users_done : (aces : List Ace) (shape : EntryShape) (list : List Id) (i : �
     → IsEntryPut aces shape (record { users = ids list; groups = [] }) E
 users_done aces shape list i E le filled =
     subst (λ (xs : List ℕ). IsEntryPut aces shape (record { users = xs; groups = [] }) E)
-    (take_all i (ids list) (omega (arith, le, as_many list))) filled
+    (take_all i (ids list) (omega (arith, le, length-ids list))) filled
 
 -- all groups
 pub groups_done : (aces : List Ace) (shape : EntryShape) (users : List ℕ) (list : List Id) (i : ℕ) (E : Entries)
@@ -219,7 +219,7 @@ pub groups_done : (aces : List Ace) (shape : EntryShape) (users : List ℕ) (lis
     → IsEntryPut aces shape (record { users = users; groups = ids list }) E
 groups_done aces shape users list i E le filled =
     subst (λ (xs : List ℕ). IsEntryPut aces shape (record { users = users; groups = xs }) E)
-    (take_all i (ids list) (omega (arith, le, as_many list))) filled
+    (take_all i (ids list) (omega (arith, le, length-ids list))) filled
 
 -- ---- the whole ACL
 
@@ -236,8 +236,8 @@ each_is list shape E t there just want few = by (fin.get E t) refl there
         (just p e want few)
 
 -- an ACL of the shape after MASK is calculated
-pub finished : (list : List Ace) (shape : EntryShape) (E F : Entries) → 0 < size_of shape → IsEntryPut list shape shape E
-    → F ≡ with_mask E → MaskLeavesAll → MaskStays → IsAcl F → IsBest list shape F
+pub finished : (list : List Ace) (shape : EntryShape) (E F : Entries) → 0 < size_of shape
+    → IsEntryPut list shape shape E → F ≡ with_mask E → MaskLeavesAll → MaskStays → IsAcl F → IsBest list shape F
 finished list shape E F some filled is leaves stays acl = record {
   valid = acl;
   shaped = record {

@@ -16,12 +16,13 @@ use Rattle.acl_eval.specs.declared.posix_shape.PosixShape.{PosixShape}
 use Rattle.acl_eval.specs.internal.ShapeBody.{AreColumns, HasJust, answer, most_names}
 use Rattle.acl_eval.specs.declared.tag_column.Columns.{Columns}
 use Rattle.acl_eval.specs.declared.tag_column.TagKey.{TagKey}
-use Rattle.acl_eval.proofs.AlwaysDecides.{HasIds, decides_right}
+use Rattle.acl_eval.proofs.SituationIds.{HasIds}
+use Rattle.acl_eval.proofs.AlwaysDecides.{decides_right}
 use Rattle.acl_eval.proofs.Images.{image_right, rights, small_bit}
 
--- both of two answers
-both : (a b : Bool) → a ≡ true → b ≡ true → (a && b) ≡ true
-both a b p q = rw (p, q) refl
+-- and-true of two answers
+and-true : (a b : Bool) → a ≡ true → b ≡ true → (a && b) ≡ true
+and-true a b p q = rw (p, q) refl
 
 -- the permissions whose bits are the answers of the pass are those that the entry has
 pub just : (list : List Ace) (columns : Columns) (shape : EntryShape) (entry : Tag) (perm : ℕ) → AreColumns list columns
@@ -54,7 +55,7 @@ just list columns shape entry perm cs ids small there read write execute want fe
         | inl at ↦ rw at (execute ∙ executes.1 (λ object requester asked h. all object requester asked h 5
             (rights.execute.same want few ∙ subst (λ (n : ℕ). has_bit want n ≡ true) at hk)))
         | inr more ↦ elim more [
-          | inl at ↦ rw at (write ∙ both _ _
+          | inl at ↦ rw at (write ∙ and-true _ _
               (writes.1 (λ object requester asked h. all object requester asked h 1
               (rights.write_data.same want few ∙ subst (λ (n : ℕ). has_bit want n ≡ true) at hk)))
               (appends.1 (λ object requester asked h. all object requester asked h 2

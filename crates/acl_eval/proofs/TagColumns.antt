@@ -235,13 +235,13 @@ key_kept test keys aces i bit a whole lt at there before =
     by false e = rw e refl
 
 -- two tags that are the same in one order are so in the other
-turned : (t u : Tag) → eq_by_cmp tag_cmp t u ≡ false → eq_by_cmp tag_cmp u t ≡ false
-turned t u e = (eq_by_cmp_equiv tags_total).symm u t ∙ e
+eq_by_cmp-comm : (t u : Tag) → eq_by_cmp tag_cmp t u ≡ false → eq_by_cmp tag_cmp u t ≡ false
+eq_by_cmp-comm t u e = (eq_by_cmp_equiv tags_total).symm u t ∙ e
 
 -- a key with another tag adds no tag
 pub apart : (key : TagKey) (t : Tag) (keys : List TagKey) → has_tag t (keys_of keys) ≡ false
     → eq_by_cmp tag_cmp (tag_of key.whom) t ≡ false → has_tag t (keys_of (keys ++ key ∷ [])) ≡ false
-apart key t [] h e = rw (turned (tag_of key.whom) t e) refl
+apart key t [] h e = rw (eq_by_cmp-comm (tag_of key.whom) t e) refl
 apart key t (k ∷ keys) h e = both (λ g. apart key t keys g e) (eq_by_cmp tag_cmp t (tag_of k.whom)) h
   where
     both : (has_tag t (keys_of keys) ≡ false → has_tag t (keys_of (keys ++ key ∷ [])) ≡ false)

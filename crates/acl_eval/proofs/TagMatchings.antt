@@ -28,7 +28,7 @@ use Rattle.acl_eval.specs.BridgeLaws.{IsAsked, by_name}
 use Rattle.acl_eval.specs.Column.{Column, column, first_kind, verdict}
 use Rattle.acl_eval.specs.Grant.{grants_bit}
 use Rattle.acl_eval.specs.internal.ShapeBody.{TagColumn, column_decided_by, tag_meets}
-use Rattle.acl_eval.proofs.AlwaysDecides.{same_itself}
+use Rattle.acl_eval.proofs.Passes.{eq_by_cmp-refl}
 use Rattle.acl_eval.proofs.BridgeNames.{is_one, same_name}
 use Rattle.acl_eval.proofs.Images.{image_right}
 use Rattle.acl_eval.proofs.Matchings.{IsMatching, Matching, alone, no_groups, nobody, with_group}
@@ -217,7 +217,7 @@ own_group : (m : Matching) (d : Tag) → is_group_tag d ≡ true → with_group 
 own_group m tag.user_obj h = absurd (false≢true h)
 own_group m (tag.user id) h = absurd (false≢true h)
 own_group m tag.group_obj h = refl
-own_group m (tag.group id) h = same_itself (tag.group id)
+own_group m (tag.group id) h = eq_by_cmp-refl (tag.group id)
 own_group m tag.mask h = absurd (false≢true h)
 own_group m tag.other h = absurd (false≢true h)
 

@@ -17,7 +17,7 @@ use Rattle.acl_posix.specs.declared.id.Id.{Id}
 use Rattle.acl_posix.proofs.Exports.{same_tag}
 use Rattle.acl_eval.specs.internal.LossBody.{entry_numbers, key_numbers}
 use Rattle.acl_eval.specs.internal.ShapeBody.{TagColumn, has_tag}
-use Rattle.acl_eval.proofs.AlwaysDecides.{free_below, or_none}
+use Rattle.acl_eval.proofs.FreeIds.{free_below, or_none}
 
 -- if all numbers below a bound are members of a list, the list is as long as the bound
 pub below_length : (xs : List ℕ) (k : ℕ) → ((n : ℕ) → n < k → is_member n xs ≡ true) → k ≤ length xs

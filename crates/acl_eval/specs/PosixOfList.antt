@@ -19,8 +19,8 @@ use Rattle.acl_eval.specs.ToPosix.{EntryShape, HasShape, IsBest, IsGreatest, IsS
 use Rattle.acl_eval.specs.declared.posix_shape.ShapeFault.{ShapeFault}
 use Rattle.acl_eval.specs.declared.posix_shape.ShapeFault.TheVariants as faults
 
--- the rule, for a list in which each name has an id: start with the users and groups that the list names, take out those
--- that can go without loss, until none can go, and take the ACL of the shape that is left
+-- the rule, for a list in which each name has an id: start with the users and groups that the list names, take out
+-- those that can go without loss, until none can go, and take the ACL of the shape that is left
 pub record IsPosixOf (table : Table) (list : List Ace) (entries : Entries) : Type 0 where
   pub known : HaveIds table list
   pub start : EntryShape

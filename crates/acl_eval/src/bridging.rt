@@ -49,13 +49,13 @@ enum ListPart {
     Others,
 }
 
-/// Returns the NFSv4 list of a POSIX access ACL (this library's own: neither RFC 8881 nor acl(5) has one). It has what
-/// USER_OBJ and each USER allow and deny, then what GROUP_OBJ and each GROUP allow, then what these deny, then what
-/// OTHER allows. Groups deny after all groups have allowed, because acl(5), "ACCESS CHECK ALGORITHM", asks whether the
-/// entry of any group grants. Permissions are the effective ones. Read is READ_DATA, write is WRITE_DATA and
-/// APPEND_DATA, execute is EXECUTE, and names are decimal ids. Fails with `Limits` if the list would be above a limit,
-/// which is checked before memory is requested, and with `Memory` if memory runs out. Time is linear in the number of
-/// entries.
+/// Returns the NFSv4 list of a POSIX access ACL (this library's own: neither RFC 8881 nor acl(5) has one), if and only
+/// if that list is accepted, unless memory runs out. It has what USER_OBJ and each USER allow and deny, then what
+/// GROUP_OBJ and each GROUP allow, then what these deny, then what OTHER allows. Groups deny after all groups have
+/// allowed, because acl(5), "ACCESS CHECK ALGORITHM", asks whether the entry of any group grants. Permissions are the
+/// effective ones. Read is READ_DATA, write is WRITE_DATA and APPEND_DATA, execute is EXECUTE, and names are decimal
+/// ids. Fails with `Limits` if the list would be above a limit, which is checked before memory is requested, and with
+/// `Memory` if memory runs out. Time is linear in the number of entries.
 ///
 /// ```rust
 /// let file = parse(alloc, b"u::rw-,g::r--,o::---", &Names::new(alloc))?;

@@ -51,7 +51,8 @@ pub fn decide(
     ensures named { IsOk result → HasNoEmptyName (named_situation owner.now group.now user.now
         (map (λ g. g.now) groups.now)) }
     ensures empty { result ≡ Err DecideFault.EmptyName
-        → ¬ (HasNoEmptyName (named_situation owner.now group.now user.now (map (λ g. g.now) groups.now))) }
+        → ¬ (HasNoEmptyName
+        (named_situation owner.now group.now user.now (map (λ g. g.now) groups.now))) }
     // A fault of the attribute is the one that the library's definition gives, and it is always reported.
     ensures fault { IfErr result (λ e. (e ≡ DecideFault.EmptyName) ⊎ ((f : Fault)
         × (e ≡ DecideFault.Attribute f) × IsWholeFault full attribute.now f.offset f.reason)) }

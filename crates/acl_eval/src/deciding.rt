@@ -20,8 +20,8 @@ pub struct Decision {
 }
 
 /// Returns the ACE that decides the right for this requester and object, by RFC 8881, section 6.2.1: the first ACE
-/// without INHERIT_ONLY that has the right and matches the requester. Returns `None` if no ACE does, which denies the
-/// right. It reads the list once, stops at that ACE, and takes no memory.
+/// without INHERIT_ONLY that has the right and matches the requester, or `None` if no ACE does, which denies the right.
+/// It reads the list once, stops at that ACE, and takes no memory.
 ///
 /// ```rust
 /// let list = parse_text(alloc, b"ALLOW - READ_DATA bob\nDENY - WRITE_DATA bob")?;

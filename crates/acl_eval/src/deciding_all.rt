@@ -29,7 +29,7 @@ impl Decisions {
         }
     }
 
-    /// Returns the ACE that decides the right. Returns `None` if no ACE does, which denies the right.
+    /// Returns the ACE that decides the right, or `None` if no ACE does, which denies the right.
     #[tactic(auto, using(acl_perm::proofs::Sets::right_below))]
     pub fn of(&self, right: Right) -> Option<Decision>
         ensures { result ≡ decision_of self.now right.bit }

@@ -38,10 +38,10 @@ pub fn grants_for_many_groups(
     Ok(grants(list.aces(), object, &sorted.requester(), mask))
 }
 
-/// Returns whether the list grants the requester the whole mask on the object (RFC 8881, section 6.2.1). For each right
-/// of the mask, the first ACE without INHERIT_ONLY that has the right and matches the requester decides; a right that
-/// no ACE decides is denied. The empty mask is granted. The function reads the list once, stops as soon as the answer
-/// is known, and takes no memory.
+/// Returns whether the list grants the requester the whole mask on the object (RFC 8881, section 6.2.1): whether for
+/// each right of the mask the first ACE without INHERIT_ONLY that has the right and matches the requester is an ALLOW.
+/// A right that no ACE decides is denied. The empty mask is granted. The function reads the list once, stops as soon as
+/// the answer is known, and takes no memory.
 ///
 /// The group of an ACE is looked up among the groups of the requester: by binary search if there are many groups and
 /// many ACEs and the groups are in the order of their bytes, and otherwise one by one, which takes up to a microsecond

@@ -64,8 +64,10 @@ pub fn decided(
     requester: &Requester<'_>,
     mask: Mask,
 ) -> DecidedRights
-    ensures allowed { AreDecidedBy Allow aces.entry (situation object.now requester.now) mask.bits result.allowed.bits }
-    ensures denied { AreDecidedBy Deny aces.entry (situation object.now requester.now) mask.bits result.denied.bits }
+    ensures allowed { AreDecidedBy Allow aces.entry (situation object.now requester.now) mask.bits
+        result.allowed.bits }
+    ensures denied { AreDecidedBy Deny aces.entry (situation object.now requester.now) mask.bits
+        result.denied.bits }
 {
     let standing = Standing::new(*object, *requester, aces.len());
     decided_to(aces, &standing, mask).decided(mask)

@@ -37,7 +37,8 @@ pub(crate) fn push_id_ace(
     item: &AceRef<'_>,
 ) -> Result<(), AllocError>
     requires { HasId names.now (principal_of (ace item.now)) }
-    ensures { OnOk result (bytes.new.items ≡ bytes.old.items ++ id_ace (with_id names.now (ace item.now))) }
+    ensures { OnOk result (bytes.new.items
+        ≡ bytes.old.items ++ id_ace (with_id names.now (ace item.now))) }
 {
     let number = number_of_ace(names, item);
     bytes.extend_from_slice(&number.to_le_bytes())

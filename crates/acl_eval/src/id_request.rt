@@ -32,7 +32,7 @@ pub struct IdRequester<'a> {
 impl<'a> IdRequester<'a> {
     ghost use Rattle.acl_eval.specs.PreparedIds.{group_ids_of, id_situation, user_id_of};
 
-    /// Makes a requester of these ids. Returns `None` if the groups do not rise: each must be greater than the one
+    /// Makes a requester of these ids, or returns `None` if the groups do not rise: each must be greater than the one
     /// before.
     ///
     /// ```rust

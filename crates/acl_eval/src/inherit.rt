@@ -52,9 +52,9 @@ pub fn child_of_view(
     child_with(alloc, parent, kind, Flags::NONE)
 }
 
-/// Returns the list that `child_of_view` returns, with INHERITED set on each ACE, as a server does that offers automatic
-/// inheritance (RFC 8881, section 6.4.3.2): a later change of the directory's list then replaces these ACEs. Returns
-/// `AllocError` only if memory runs out.
+/// Returns the list that `child_of_view` returns, with INHERITED set on each ACE, as a server does that offers
+/// automatic inheritance (RFC 8881, section 6.4.3.2): a later change of the directory's list then replaces these ACEs.
+/// Returns `AllocError` only if memory runs out.
 ///
 /// ```rust
 /// let parent = parse_text(alloc, b"ALLOW FILE READ_DATA bob\nDENY - WRITE_DATA bob")?;

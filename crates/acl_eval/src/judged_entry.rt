@@ -1,14 +1,12 @@
 //! An entry of a shape, and what decides which users and groups can lose their entries without loss.
-ghost use Rattle.std.specs.Prelude.{◌≡◌, ◌≤◌, ◌&&◌, not, IsTrue};
+ghost use Rattle.std.specs.Prelude.{◌≡◌, ◌≤◌, IsTrue};
 ghost use Rattle.std.specs.List.{position};
-ghost use Rattle.std.specs.Ordering.{eq_by_cmp};
 ghost use Rattle.acl_perm.specs.Bits.{has_bit};
-ghost use Rattle.acl_perm.specs.Kind.{is_allow};
-ghost use Rattle.acl_posix.specs.Tag.{is_named, tag_cmp, tag_of};
+ghost use Rattle.acl_posix.specs.Tag.{is_named, tag_of};
 ghost use Rattle.acl_eval.specs.Permissions.{execute, read, write};
 ghost use Rattle.acl_eval.specs.Pruning.{is_shared};
 ghost use Rattle.acl_eval.specs.ToPosix.{entry_shape_of, is_in_shape, size_of};
-ghost use Rattle.acl_eval.specs.internal.PruningBody.{AreDecidedAt, AreDenied, IsJudged, are_before, decided_if, decided_place, denied_place, is_asked_more, keeps_without, stands_without};
+ghost use Rattle.acl_eval.specs.internal.PruningBody.{AreDecidedAt, AreDenied, IsJudged, are_before, decided_if, decided_place, denied_place, is_asked_more, is_denial, keeps_without, stands_without};
 ghost use Rattle.acl_eval.specs.internal.ShapeBody.{is_certain, most_names};
 
 use crate::permissions::{EXECUTE, READ, WRITE};
@@ -108,13 +106,13 @@ fn denied_place(keys: &[TagKey], name: Tag) -> usize
 }
 
 fn first_denied(keys: &[TagKey], name: Tag) -> Option<usize>
-    ensures { result ≡ position (λ key. eq_by_cmp tag_cmp (tag_of key.whom) (tag_of name) && not (is_allow key.kind)) keys.now }
+    ensures { result ≡ position (is_denial (tag_of name)) keys.now }
 {
     keys.iter().position(|key| is_denied(key, name))
 }
 
 fn is_denied(key: &TagKey, name: Tag) -> bool
-    ensures { result ≡ (eq_by_cmp tag_cmp (tag_of key.now.whom) (tag_of name) && not (is_allow key.now.kind)) }
+    ensures { result ≡ is_denial (tag_of name) key.now }
 {
     is_same(key.whom, name) && key.kind == Kind::Deny
 }

@@ -1,5 +1,5 @@
 //! The facts about a requester and an object that are the same for each ACE of a prepared list. They are computed once.
-ghost use Rattle.std.specs.Prelude.{◌≡◌, ◌<◌, ◌==◌, ◌||◌, ℕ, true, map};
+ghost use Rattle.std.specs.Prelude.{◌≡◌, ◌<◌, ◌^◌, ◌==◌, ◌||◌, ℕ, true, map};
 ghost use Rattle.std.specs.List.{list_any};
 ghost use Rattle.std.specs.Str.{bytes_eq};
 ghost use Rattle.acl_perm.specs.Order.{principal_name};
@@ -73,16 +73,10 @@ impl<'a> Keyed<'a> {
 
     #[inline(always)]
     fn is_user(&self, name: &[u8], key: u8) -> bool
-        ensures { key ≡ name_key name.now → result ≡ matches (keyed_situation self.now) (user name.now) }
+        ensures { key ≡ name_key name.now
+            → result ≡ matches (keyed_situation self.now) (user name.now) }
     {
         key == self.user_key && self.requester.is_named(name)
-    }
-
-    #[inline(always)]
-    fn is_in(&self, name: &[u8], key: u8) -> bool
-        ensures { key ≡ name_key name.now → result ≡ matches (keyed_situation self.now) (group_named name.now) }
-    {
-        is_marked(self.group_keys, key) && self.requester.is_in(name)
     }
 
     fn is_in_owning_group(&self) -> bool
@@ -90,6 +84,14 @@ impl<'a> Keyed<'a> {
     {
         let name = self.object.group();
         self.is_in(name, name_key(name))
+    }
+
+    #[inline(always)]
+    fn is_in(&self, name: &[u8], key: u8) -> bool
+        ensures { key ≡ name_key name.now
+            → result ≡ matches (keyed_situation self.now) (group_named name.now) }
+    {
+        is_marked(self.group_keys, key) && self.requester.is_in(name)
     }
 }
 
@@ -105,7 +107,7 @@ pub(crate) fn keys_of(names: &[&[u8]]) -> [u64; WORDS]
 }
 
 fn all_marked() -> [u64; WORDS]
-    ensures { (key : ℕ) → key < 256 → is_marked result key ≡ true }
+    ensures { (key : ℕ) → key < 2 ^ 8 → is_marked result key ≡ true }
 {
     [u64::MAX; WORDS]
 }
@@ -124,7 +126,8 @@ fn marked(names: &[&[u8]]) -> [u64; WORDS]
 // Marks one more key.
 #[inline(always)]
 fn mark(marks: &mut [u64; WORDS], key: u8)
-    ensures { (other : ℕ) → is_marked marks.new other ≡ (is_marked marks.old other || other == key) }
+    ensures { (other : ℕ)
+        → is_marked marks.new other ≡ (is_marked marks.old other || other == key) }
 {
     marks[key as usize / 64] |= 1 << (key % 64);
 }

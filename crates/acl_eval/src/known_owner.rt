@@ -60,7 +60,8 @@ fn kind_of(allowed: bool) -> Kind
 
 // Returns whether a right is granted to the owner, whatever the owner's groups are.
 fn is_owned(alloc: Global, keys: &[TagKey], owner: Id, group: Id) -> Result<bool, AllocError>
-    ensures { IfOk result (λ owned. (owned ≡ true) ↔ IsAlwaysOwned owner.value group.value (keys_of keys.now)) }
+    ensures { IfOk result (λ owned.
+        (owned ≡ true) ↔ IsAlwaysOwned owner.value group.value (keys_of keys.now)) }
 {
     let mut known = Vec::new(alloc);
     add_known(&mut known, keys, owner, group)?;
@@ -95,7 +96,8 @@ fn add_known(
     owner: Id,
     group: Id,
 ) -> Result<(), AllocError>
-    ensures { OnOk result (AddsKnown owner.value group.value keys.now known.old.items known.new.items) }
+    ensures { OnOk result
+        (AddsKnown owner.value group.value keys.now known.old.items known.new.items) }
 {
     for key in keys {
         let whom = known_tag(key.whom, owner, group);

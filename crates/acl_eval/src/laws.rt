@@ -63,21 +63,24 @@ pub fn scan_is_bit_by_bit()
 {}
 
 /// A list in which groups stand for unknown special identifiers answers for a requester whom an assignment gives the
-/// groups of its identifiers as the identifiers do under the assignment. The groups that the requester has otherwise,
-/// and the owning group, have other names.
+/// groups of its identifiers as the identifiers do under the assignment, if the groups that the requester has
+/// otherwise, and the owning group, have other names.
 pub fn groups_answer_as_assigned()
     ensures decided { (suffix : List ℕ) (list : List Ace) (v : Assignment) (s : Situation) (bit : ℕ)
         → HasFreeNames suffix list → IsApart suffix list s
-        → deciding_kind (with_groups suffix list) (joining v suffix list s) bit ≡ answer_under v list s bit }
-    ensures grants { (suffix : List ℕ) (list : List Ace) (v : Assignment) (s : Situation) (request : ℕ)
-        → HasFreeNames suffix list → IsApart suffix list s
-        → Grant (with_groups suffix list) (joining v suffix list s) request ↔ GrantsUnder v list s request }
+        → deciding_kind (with_groups suffix list) (joining v suffix list s) bit
+        ≡ answer_under v list s bit }
+    ensures grants { (suffix : List ℕ) (list : List Ace) (v : Assignment) (s : Situation)
+        (request : ℕ) → HasFreeNames suffix list → IsApart suffix list s
+        → Grant (with_groups suffix list) (joining v suffix list s) request
+        ↔ GrantsUnder v list s request }
 {}
 
 /// If two lists in which groups stand for unknown special identifiers grant the same, then the lists of these
 /// identifiers grant the same under every assignment of matches to them.
 pub fn same_grants_under_every_assignment()
-    ensures { (rights : ℕ) (suffix : List ℕ) (list other : List Ace) → HasFreeNames suffix (list ++ other)
+    ensures { (rights : ℕ) (suffix : List ℕ) (list other : List Ace)
+        → HasFreeNames suffix (list ++ other)
         → SameGrants rights (with_groups suffix list) (with_groups suffix other)
         → (v : Assignment) (s : Situation) → IsApart suffix (list ++ other) s
         → IsSituation (joining v suffix (list ++ other) s) → (request : ℕ) → IsSubset request rights
@@ -136,7 +139,7 @@ pub fn directories_inherit()
         → child_flags Directory flags ≡ None }
 {}
 
-/// The flags of an ACE in a new object, flag by flag. A file does not pass the ACE on, nor does a directory if the ACE
+/// The flags of an ACE in a new object, flag by flag: a file does not pass the ACE on, nor does a directory if the ACE
 /// has NO_PROPAGATE_INHERIT.
 pub fn flag_by_flag()
     ensures files { (flags f : ℕ) → child_flags File flags ≡ Some f → IsByFlag false flags f }
@@ -165,7 +168,8 @@ pub fn bridge_grants()
     ensures together { KeepsGrants }
 {}
 
-/// The names of the list are decimal ids.
+/// Different ids have different names in the list, which are decimal ids; each is a valid who and no special
+/// identifier.
 pub fn bridge_names()
     ensures differ { NamesDiffer }
     // Each name is valid, and none is a special identifier.
@@ -189,7 +193,9 @@ pub fn bridge_and_check(acl: &PosixAcl, owner: Id, group: Id, user: Id, groups: 
     acl.entries();
 }
 
-/// What a list grants after a change of the mode.
+/// After a change of the mode, read, write and execute are granted to the owner by the bits of the owner, to anybody
+/// else by the first ACE of a name that has the right, within the bits of the group, and without such an ACE by the
+/// bits of the group or of others; all other rights are granted as before.
 pub fn chmod_grants()
     // Read, write and execute are granted by the mode and by the first ACE of a name.
     ensures by_mode { (mode : ℕ) (list : List Ace) (s : Situation) (bit : ℕ) → mode ≤ all_mode_bits
@@ -202,8 +208,8 @@ pub fn chmod_grants()
         → IsTrue (grants_bit (chmod_list mode list) s bit)
         → IsTrue (has_bit (image (group_part mode)) bit) }
     // All other rights are granted as before.
-    ensures as_before { (mode : ℕ) (list : List Ace) (s : Situation) (bit : ℕ) → mode ≤ all_mode_bits
-        → IsFalse (has_bit mode_rights bit)
+    ensures as_before { (mode : ℕ) (list : List Ace) (s : Situation) (bit : ℕ)
+        → mode ≤ all_mode_bits → IsFalse (has_bit mode_rights bit)
         → grants_bit (chmod_list mode list) s bit ≡ grants_bit list s bit }
 {}
 
@@ -219,11 +225,13 @@ pub fn chmod_inheritance()
         → children kind (chmod_list mode list) ≡ children kind list }
 {}
 
-/// The list for one object, in which its owner and its owning group stand for `OWNER@` and `GROUP@`.
+/// The list for one object, in which its owner and its owning group stand for `OWNER@` and `GROUP@`, grants each
+/// requester of whatever object what the first list grants for that one; so two such lists grant the same, or the first
+/// at most what the second grants, if and only if this is so for the object.
 pub fn resolved_for_the_object()
     // Whatever object it is asked for, it grants each requester what the list grants for that one object.
-    ensures grants { (owner_name owning_group : List ℕ) (list : List Ace) (s : Situation) (request : ℕ)
-        → first_nameless owner_name owning_group list ≡ None
+    ensures grants { (owner_name owning_group : List ℕ) (list : List Ace) (s : Situation)
+        (request : ℕ) → first_nameless owner_name owning_group list ≡ None
         → Grant (resolved_list owner_name owning_group list) s request
         ↔ Grant list (named_situation owner_name owning_group s.user_name s.groups) request }
     // So two such lists grant the same if and only if both lists grant the same for the object.

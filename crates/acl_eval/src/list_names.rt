@@ -36,12 +36,12 @@ impl NamedIds {
     }
 }
 
-/// Returns the users and the groups that a list names in ACEs that take part and have READ_DATA, WRITE_DATA, APPEND_DATA
-/// or EXECUTE, in the order in which they are first named. With these as the shape, `posix_of_shape` returns an ACL that
-/// treats each of them by itself. The id of a name is that of the table, and otherwise the number whose decimal digits
-/// the name is. Fails with `UnknownName` for the first ACE with another name, also if the ACE does not count, and with
-/// `Memory` if memory runs out. Time is proportional to the number of ACEs, times the number of users and groups, besides
-/// the look-ups of names.
+/// Returns the users and the groups that a list names in ACEs that take part and have READ_DATA, WRITE_DATA,
+/// APPEND_DATA or EXECUTE, in the order in which they are first named. With these as the shape, `posix_of_shape`
+/// returns an ACL that treats each of them by itself. The id of a name is that of the table, and otherwise the number
+/// whose decimal digits the name is. Fails with `UnknownName` for the first ACE with another name, also if the ACE does
+/// not count, and with `Memory` if memory runs out. Time is proportional to the number of ACEs, times the number of
+/// users and groups, besides the look-ups of names.
 ///
 /// ```rust
 /// let list = parse_text(alloc, b"DENY - WRITE_DATA 1000\nALLOW GROUP READ_DATA 50")?;

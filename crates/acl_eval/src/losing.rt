@@ -63,16 +63,16 @@ impl<'a> Wanted<'a> {
     }
 }
 
-/// Returns a permission that a list grants in some situation and a POSIX ACL does not, if there is one: read is READ_DATA,
-/// write is WRITE_DATA and APPEND_DATA, and execute is EXECUTE. So if the ACL grants no more than the list, both agree in
-/// every situation if and only if the answer is `None` (`laws::exact_if_nothing_is_lost`). The requester is in at most
-/// three groups. An id that neither names stands for a user or a group that nothing is about. The id of a name is that of
-/// the table, and otherwise the number whose decimal digits the name is.
+/// Returns a permission that a list grants in some situation and a POSIX ACL does not, if there is one: read is
+/// READ_DATA, write is WRITE_DATA and APPEND_DATA, and execute is EXECUTE. So if the ACL grants no more than the list,
+/// both agree in every situation if and only if the answer is `None` (`laws::exact_if_nothing_is_lost`). The requester
+/// is in at most three groups. An id that neither names stands for a user or a group that nothing is about. The id of a
+/// name is that of the table, and otherwise the number whose decimal digits the name is.
 ///
-/// Fails with `NoId` for the first ACE whose user or group has no id, also if the ACE takes no part; with `TooManyNames`
-/// if the users and groups that the list names and the entries of the ACL are together more than `most`; and with
-/// `Memory` if memory runs out. The time is at most proportional to the cube of this number, besides the look-ups of
-/// names and the time to read the list.
+/// Fails with `NoId` for the first ACE whose user or group has no id, also if the ACE takes no part; with
+/// `TooManyNames` if the users and groups that the list names and the entries of the ACL are together more than `most`;
+/// and with `Memory` if memory runs out. The time is at most proportional to the cube of this number, besides the
+/// look-ups of names and the time to read the list.
 ///
 /// ```rust
 /// let list = parse_text(alloc, b"ALLOW GROUP WRITE_DATA 5\nALLOW GROUP APPEND_DATA 7")?;
@@ -89,9 +89,11 @@ pub fn lost_grant(
     most: u16,
 ) -> Result<Option<LostGrant>, ShapeFault>
     // The list grants the permission, and the ACL does not.
-    ensures found { IfOk result (λ lost. IfSome lost (IsLossOf (with_ids names.now list.now) acl.now)) }
+    ensures found { IfOk result (λ lost.
+        IfSome lost (IsLossOf (with_ids names.now list.now) acl.now)) }
     // Without an answer, the ACL grants each of the three permissions wherever the list does.
-    ensures none { IfOk result (λ lost. lost ≡ None → KeepsSingles (with_ids names.now list.now) acl.now) }
+    ensures none { IfOk result (λ lost.
+        lost ≡ None → KeepsSingles (with_ids names.now list.now) acl.now) }
     ensures fault { IfErr result (IsLossFault names.now list.now acl.now most) }
 {
     if let Some(place) = first_unknown(list, names) {

@@ -214,7 +214,8 @@ fn push_unless_empty(list: &mut Acl, item: AceRef<'_>) -> Result<(), ChmodFault>
     push_within(list, item)
 }
 
-// Adds an ACE. The only condition that can refuse it is a limit, because its who is from a list or a special identifier.
+// Adds an ACE. The only condition that can refuse it is a limit, because its who is from a list or a special
+// identifier.
 fn push_within(list: &mut Acl, item: AceRef<'_>) -> Result<(), ChmodFault>
     ensures { AddsAces result list.old list.new (ace item.entry ∷ []) }
 {

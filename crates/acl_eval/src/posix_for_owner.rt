@@ -18,24 +18,24 @@ use acl_nfs4::AclView;
 use acl_posix::{Id, Names, PosixAcl};
 use std::alloc::{AllocError, Global};
 
-/// Returns the POSIX ACL of an NFSv4 list for objects whose owner and owning group are these. On such an object it never
-/// grants more than the list: read only if the list grants READ_DATA, write only if it grants WRITE_DATA and APPEND_DATA,
-/// and execute only if it grants EXECUTE. ACEs with INHERIT_ONLY do not count. The id of a name is that of the table, and
-/// otherwise the number whose decimal digits the name is.
+/// Returns the POSIX ACL of an NFSv4 list for objects whose owner and owning group are these. On such an object it
+/// never grants more than the list: read only if the list grants READ_DATA, write only if it grants WRITE_DATA and
+/// APPEND_DATA, and execute only if it grants EXECUTE. ACEs with INHERIT_ONLY do not count. The id of a name is that of
+/// the table, and otherwise the number whose decimal digits the name is.
 ///
-/// The rule is that of `to_posix`, but only the requesters on such an object count, and neither the owner nor the owning
-/// group has an entry besides USER_OBJ and GROUP_OBJ: an ACE with the owner's own id is one of the owner, and an ACE with
-/// the owning group's own id is one of the owning group. So a DENY of another user takes nothing away from the owner. If
-/// the object gets another owner or another owning group, the ACL may grant more than the list.
+/// The rule is that of `to_posix`, but only the requesters on such an object count, and neither the owner nor the
+/// owning group has an entry besides USER_OBJ and GROUP_OBJ: an ACE with the owner's own id is one of the owner, and an
+/// ACE with the owning group's own id is one of the owning group. So a DENY of another user takes nothing away from the
+/// owner. If the object gets another owner or another owning group, the ACL may grant more than the list.
 ///
 /// The ACL of `to_posix` can still grant more to somebody. `ALLOW - READ_DATA GROUP@`, `DENY GROUP READ_DATA 2009`,
-/// `DENY - READ_DATA 1001`, `ALLOW GROUP READ_DATA 2001` and `ALLOW GROUP WRITE_DATA|APPEND_DATA 2002` is such a list. If
-/// the owning group is 2009, only this function lets members of 2001 read, and only `to_posix` lets user 1001 write as a
-/// member of 2002.
+/// `DENY - READ_DATA 1001`, `ALLOW GROUP READ_DATA 2001` and `ALLOW GROUP WRITE_DATA|APPEND_DATA 2002` is such a list.
+/// If the owning group is 2009, only this function lets members of 2001 read, and only `to_posix` lets user 1001 write
+/// as a member of 2002.
 ///
 /// Fails with `NoId` for the first ACE whose user or group has no id, also if the ACE takes no part, then with
-/// `TooManyNames` if the list names more than `most` users and groups, the owner and the owning group included, and with
-/// `Memory` if memory runs out.
+/// `TooManyNames` if the list names more than `most` users and groups, the owner and the owning group included, and
+/// with `Memory` if memory runs out.
 ///
 /// ```rust
 /// let list = parse_text(alloc, b"DENY - WRITE_DATA 1000\nALLOW - READ_DATA|WRITE_DATA|APPEND_DATA OWNER@")?;
@@ -56,9 +56,10 @@ pub fn to_posix_for(
     // Which users and groups have entries, and what each entry has.
     ensures rule { IfOk result (IsPosixFor names.now owner.value group.value list.now) }
     // No sound ACL with entries for the same users and groups grants more.
-    ensures greatest { IfOk result (IsGreatestFor owner.value group.value (with_ids names.now list.now)) }
-    // No sound ACL with entries for users and groups of the list other than the owner and the owning group grants all that
-    // this one grants and more.
+    ensures greatest { IfOk result
+        (IsGreatestFor owner.value group.value (with_ids names.now list.now)) }
+    // No sound ACL with entries for users and groups of the list other than the owner and the owning group grants all
+    // that this one grants and more.
     ensures maximal { IfOk result (IsMaximalFor names.now owner.value group.value list.now) }
     ensures fault { IfErr result (IsToPosixFault names.now list.now most) }
 {

@@ -36,9 +36,10 @@ impl ToPosix {
     }
 }
 
-/// Returns the POSIX ACL of an NFSv4 list. It never grants more than the list: read only if the list grants READ_DATA,
-/// write only if it grants WRITE_DATA and APPEND_DATA, and execute only if it grants EXECUTE. ACEs with INHERIT_ONLY do
-/// not count. The id of a name is that of the table, and otherwise the number whose decimal digits the name is.
+/// Returns the POSIX ACL of an NFSv4 list by one rule, which never grants more than the list: read only if the list
+/// grants READ_DATA, write only if it grants WRITE_DATA and APPEND_DATA, and execute only if it grants EXECUTE. ACEs
+/// with INHERIT_ONLY do not count. The id of a name is that of the table, and otherwise the number whose decimal digits
+/// the name is.
 ///
 /// The rule starts with the users and the groups that the list names (`named_ids`), and takes out those whose entries
 /// can go without loss (`laws::entries_decide_loss`), until none can. The ACL is that of the users and the groups that
@@ -49,9 +50,9 @@ impl ToPosix {
 /// where the list does.
 ///
 /// Fails with `NoId` for the first ACE whose user or group has no id, also if the ACE takes no part, then with
-/// `TooManyNames` if the list names more than `most` users and groups, and with `Memory` if memory runs out. The time is
-/// at most proportional to the number of ACEs times the number of users and groups that the list names, plus the cube of
-/// the number of users and groups, besides the look-ups of names.
+/// `TooManyNames` if the list names more than `most` users and groups, and with `Memory` if memory runs out. The time
+/// is at most proportional to the number of ACEs times the number of users and groups that the list names, plus the
+/// cube of the number of users and groups, besides the look-ups of names.
 ///
 /// ```rust
 /// let list = parse_text(alloc, b"ALLOW - READ_DATA OWNER@\nALLOW - READ_DATA GROUP@\nDENY - READ_DATA 1000")?;
@@ -69,14 +70,17 @@ pub fn to_posix(
     // Which users and groups have entries, and what each entry has.
     ensures rule { IfOk result (λ made. IsPosixOf names.now list.now made.acl) }
     // No sound ACL with entries for the same users and groups grants more.
-    ensures greatest { IfOk result (λ made. IsGreatestOfShape (with_ids names.now list.now) made.acl) }
+    ensures greatest { IfOk result (λ made.
+        IsGreatestOfShape (with_ids names.now list.now) made.acl) }
     // Nor does one with entries for users and groups that the list names, unless it grants read, write or execute alone
     // less often.
     ensures maximal { IfOk result (λ made. IsMaximal names.now list.now made.acl) }
     // What is lost, the list grants, and the ACL does not.
-    ensures lost { IfOk result (λ made. IfSome made.lost (IsLossOf (with_ids names.now list.now) made.acl)) }
+    ensures lost { IfOk result (λ made.
+        IfSome made.lost (IsLossOf (with_ids names.now list.now) made.acl)) }
     // Nothing is lost if and only if both agree about read, write and execute, each alone, in every situation.
-    ensures exact { IfOk result (λ made. made.lost ≡ None ↔ IsExact (with_ids names.now list.now) made.acl) }
+    ensures exact { IfOk result (λ made.
+        made.lost ≡ None ↔ IsExact (with_ids names.now list.now) made.acl) }
     // Nothing is lost if any POSIX ACL is exact.
     ensures most { IfOk result (λ made. IsExactIfAny (with_ids names.now list.now) made.acl) }
     ensures fault { IfErr result (IsToPosixFault names.now list.now most) }
@@ -107,8 +111,10 @@ fn made_of_names(
         → IfOk result (λ made. IsMaximal names.now list.now made.acl) }
     ensures most { AreNamesOf names.now list.now (named_shape named.now)
         → IfOk result (λ made. IsExactIfAny (with_ids names.now list.now) made.acl) }
-    ensures lost { IfOk result (λ made. IfSome made.lost (IsLossOf (with_ids names.now list.now) made.acl)) }
-    ensures kept { IfOk result (λ made. made.lost ≡ None → KeepsSingles (with_ids names.now list.now) made.acl) }
+    ensures lost { IfOk result (λ made.
+        IfSome made.lost (IsLossOf (with_ids names.now list.now) made.acl)) }
+    ensures kept { IfOk result (λ made.
+        made.lost ≡ None → KeepsSingles (with_ids names.now list.now) made.acl) }
 {
     let columns = columns_of(alloc, list, names)?;
     let rest = pruned(alloc, &columns, &named.shape())?;

@@ -9,7 +9,7 @@ ghost use Rattle.acl_nfs4.specs.Ace.{Ace};
 ghost use Rattle.acl_eval.specs.Ids.{HaveIds, with_ids};
 ghost use Rattle.acl_eval.specs.Permissions.{execute, read, write};
 ghost use Rattle.acl_eval.specs.ToPosix.{IsBest, IsGreatest, IsShapeFault, IsSound, is_in_shape, entry_shape_of, size_of};
-ghost use Rattle.acl_eval.specs.internal.ShapeBody.{AreColumns, HasPassAnswers, HasJust, HasThree, IsEntryPut, always, is_certain, may_match, keys_of, may_be_user, most_names, empty_shape, users_of};
+ghost use Rattle.acl_eval.specs.internal.ShapeBody.{AreColumns, HasPassAnswers, HasJust, HasThree, IsEntryPut, answer, is_certain, may_match, keys_of, may_be_user, most_names, empty_shape, users_of};
 ghost use Rattle.acl_eval.specs.declared.posix_shape.ShapeFault.TheVariants.{Memory};
 
 use crate::prepared_ids::first_unknown;
@@ -59,8 +59,8 @@ pub struct PosixShape<'a> {
 /// an ACL can, and never more than the list: read only if the list grants READ_DATA, write only if it grants WRITE_DATA
 /// and APPEND_DATA, and execute only if it grants EXECUTE. An entry has a permission if and only if the list grants its
 /// rights in every situation in which the access check of acl(5) looks at the entry, whoever owns the file. There is a
-/// MASK if and only if the shape has a user or a group, and it takes nothing away. The id of a name is that of the table,
-/// and otherwise the number whose decimal digits the name is.
+/// MASK if and only if the shape has a user or a group, and it takes nothing away. The id of a name is that of the
+/// table, and otherwise the number whose decimal digits the name is.
 ///
 /// Which users and groups have entries is the caller's choice: no choice grants most for every list
 /// (`laws::no_greatest`). `named_ids` returns those that the list names.
@@ -88,9 +88,11 @@ pub fn posix_of_shape(
     // Whatever the ACL grants, the list grants.
     ensures sound { IfOk result (IsSound (with_ids names.now list.now)) }
     // No sound ACL with entries for the same users and groups grants more.
-    ensures greatest { IfOk result (IsGreatest (with_ids names.now list.now) (entry_shape_of shape.now)) }
+    ensures greatest { IfOk result
+        (IsGreatest (with_ids names.now list.now) (entry_shape_of shape.now)) }
     // What each entry has.
-    ensures entries { IfOk result (IsBest (with_ids names.now list.now) (entry_shape_of shape.now)) }
+    ensures entries { IfOk result
+        (IsBest (with_ids names.now list.now) (entry_shape_of shape.now)) }
     ensures fault { IfErr result (IsShapeFault names.now list.now (entry_shape_of shape.now) most) }
 {
     if let Some(place) = first_unknown(list, names) {
@@ -100,14 +102,6 @@ pub fn posix_of_shape(
         return Err(ShapeFault::TooManyNames);
     }
     Ok(best_of_shape(alloc, list, shape, names)?)
-}
-
-/// Returns whether the shape has at most this many users and groups.
-pub(crate) fn is_within(shape: &PosixShape<'_>, most: u16) -> bool
-    ensures { IsTrue result ↔ (size_of (entry_shape_of shape.now) ≤ most) }
-{
-    let most = usize::from(most);
-    shape.users.len() <= most && shape.groups.len() <= most - shape.users.len()
 }
 
 // Returns the ACL of a shape for a list in which each name has an id. Fails only if memory runs out.
@@ -132,13 +126,22 @@ pub(crate) fn best_of_columns(
     shape: &PosixShape<'_>,
 ) -> Result<PosixAcl, AllocError>
     requires few { size_of (entry_shape_of shape.now) ≤ most_names }
-    ensures { (list : List Ace) → AreColumns list columns.now → IfOk result (IsBest list (entry_shape_of shape.now)) }
+    ensures { (list : List Ace) → AreColumns list columns.now
+        → IfOk result (IsBest list (entry_shape_of shape.now)) }
 {
     let acl = three_entries(alloc, columns, shape)?;
     if is_within(shape, 0) {
         return Ok(acl);
     }
     with_named(acl, columns, shape)
+}
+
+/// Returns whether the shape has at most this many users and groups.
+pub(crate) fn is_within(shape: &PosixShape<'_>, most: u16) -> bool
+    ensures { IsTrue result ↔ (size_of (entry_shape_of shape.now) ≤ most) }
+{
+    let most = usize::from(most);
+    shape.users.len() <= most && shape.groups.len() <= most - shape.users.len()
 }
 
 // Returns the ACL with USER_OBJ, GROUP_OBJ and OTHER.
@@ -169,7 +172,8 @@ fn with_named(
 ) -> Result<PosixAcl, AllocError>
     requires few { size_of (entry_shape_of shape.now) ≤ most_names }
     requires some { 0 < size_of (entry_shape_of shape.now) }
-    ensures { (list : List Ace) → AreColumns list columns.now → HasThree list (entry_shape_of shape.now) acl
+    ensures { (list : List Ace) → AreColumns list columns.now
+        → HasThree list (entry_shape_of shape.now) acl
         → IfOk result (IsBest list (entry_shape_of shape.now)) }
 {
     let mut acl = acl;
@@ -191,8 +195,10 @@ fn add_users(
     shape: &PosixShape<'_>,
 ) -> Result<(), AllocError>
     requires few { size_of (entry_shape_of shape.now) ≤ most_names }
-    ensures { (list : List Ace) → AreColumns list columns.now → IsEntryPut list (entry_shape_of shape.now) empty_shape acl.old
-        → OnOk result (IsEntryPut list (entry_shape_of shape.now) (users_of (entry_shape_of shape.now)) acl.new) }
+    ensures { (list : List Ace) → AreColumns list columns.now
+        → IsEntryPut list (entry_shape_of shape.now) empty_shape acl.old
+        → OnOk result (IsEntryPut list (entry_shape_of shape.now)
+        (users_of (entry_shape_of shape.now)) acl.new) }
 {
     for user in shape.users {
         let tag = Tag::User(*user);
@@ -210,7 +216,8 @@ fn add_groups(
     requires few { size_of (entry_shape_of shape.now) ≤ most_names }
     ensures { (list : List Ace) → AreColumns list columns.now
         → IsEntryPut list (entry_shape_of shape.now) (users_of (entry_shape_of shape.now)) acl.old
-        → OnOk result (IsEntryPut list (entry_shape_of shape.now) (entry_shape_of shape.now) acl.new) }
+        → OnOk result
+        (IsEntryPut list (entry_shape_of shape.now) (entry_shape_of shape.now) acl.new) }
 {
     for group in shape.groups {
         let tag = Tag::Group(*group);
@@ -233,7 +240,8 @@ fn put(acl: &mut PosixAcl, tag: Tag, perm: Perm) -> Result<(), AllocError>
 pub(crate) fn entry_perm(columns: &Columns, shape: &PosixShape<'_>, entry: Tag) -> Perm
     requires few { size_of (entry_shape_of shape.now) ≤ most_names }
     requires there { IsTrue (is_in_shape (entry_shape_of shape.now) (tag_of entry)) }
-    ensures answers { HasPassAnswers columns.now (entry_shape_of shape.now) (tag_of entry) result.bits }
+    ensures answers { HasPassAnswers columns.now (entry_shape_of shape.now) (tag_of entry)
+        result.bits }
     ensures just { (list : List Ace) → AreColumns list columns.now
         → HasJust list (entry_shape_of shape.now) (tag_of entry) result.bits }
 {
@@ -258,8 +266,7 @@ fn perm_of(may_read: bool, may_write: bool, may_execute: bool) -> Perm
 // Returns whether a right is granted in every situation in which the check looks at an entry. A principal that matches
 // in all of these situations decides where no other has. A DENY of a principal that matches in some of them denies.
 fn is_always_allowed(keys: &[TagKey], shape: &PosixShape<'_>, entry: Tag) -> bool
-    ensures { result ≡ always (is_certain (tag_of entry)) (may_match (entry_shape_of shape.now) (tag_of entry))
-        (keys_of keys.now) }
+    ensures { result ≡ answer (entry_shape_of shape.now) (tag_of entry) keys.now }
 {
     for key in keys {
         if is_certain(entry, key.whom) {

@@ -57,15 +57,15 @@ pub(crate) fn push_prepared(bytes: &mut Vec<u8>, item: &AceRef<'_>) -> Result<()
 fn number_of(rank: u8, kind: Kind, mask: Mask, name: &[u8]) -> u64
     requires rank { rank < 5 }
     requires name { length name.now < 2 ^ 16 }
-    ensures { result ≡ mask.bits + 2 ^ 32 * (kind_number kind + 2 * rank) + 2 ^ 40 * name_key name.now
-        + 2 ^ 48 * length name.now }
+    ensures { result ≡ mask.bits + 2 ^ 32 * (kind_number kind + 2 * rank)
+        + 2 ^ 40 * name_key name.now + 2 ^ 48 * length name.now }
 {
     let sort = kind.number() as u64 + 2 * rank as u64;
     mask.bits() as u64 + SORT * sort + KEY * name_key(name) as u64 + LENGTH * name.len() as u64
 }
 
-/// Returns the key of a name: a byte that two different names seldom share. It is computed from both ends of the name, so
-/// that it takes the same time for long names.
+/// Returns the key of a name: a byte that two different names seldom share. It is computed from both ends of the name,
+/// so that it takes the same time for long names.
 #[inline(always)]
 #[tactic(auto, unfolding(crate::specs::Prepared::name_key))]
 pub(crate) fn name_key(name: &[u8]) -> u8

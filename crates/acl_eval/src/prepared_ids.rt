@@ -110,7 +110,7 @@ pub struct PreparedIds<'a> {
 }
 
 impl<'a> PreparedIds<'a> {
-    /// Takes the bytes that `prepare_ids` returned. Returns `None` if the bytes do not begin as such bytes do. The
+    /// Takes the bytes that `prepare_ids` returned, or returns `None` if the bytes do not begin as such bytes do. The
     /// other bytes are judged when they are needed.
     pub fn read(bytes: &'a [u8]) -> Option<Self>
         ensures { (table : Table) (list : List Ace) → IsPreparedIds table list bytes.now
@@ -129,12 +129,15 @@ impl<'a> PreparedIds<'a> {
         requester: &IdRequester<'_>,
         mask: Mask,
     ) -> Option<DecidedRights>
-        ensures answer { (table : Table) (list : List Ace) → AreIdsReadFrom table list self.now → IsSome result }
+        ensures answer { (table : Table) (list : List Ace) → AreIdsReadFrom table list self.now
+            → IsSome result }
         ensures allowed { (table : Table) (list : List Ace) → AreIdsReadFrom table list self.now
-            → IfSome result (λ rights. AreDecidedBy Allow (with_ids table list) (id_situation object requester.now)
+            → IfSome result (λ rights.
+            AreDecidedBy Allow (with_ids table list) (id_situation object requester.now)
             mask.bits rights.allowed.bits) }
         ensures denied { (table : Table) (list : List Ace) → AreIdsReadFrom table list self.now
-            → IfSome result (λ rights. AreDecidedBy Deny (with_ids table list) (id_situation object requester.now)
+            → IfSome result (λ rights.
+            AreDecidedBy Deny (with_ids table list) (id_situation object requester.now)
             mask.bits rights.denied.bits) }
     {
         let so_far = decided_to(self.aces, object, requester, mask)?;
@@ -150,7 +153,8 @@ fn decided_to(
     mask: Mask,
 ) -> Option<GrantedSoFar>
     ensures { (list : List Ace) → AreIdParts list → aces.now ≡ flat_map id_ace list
-        → IsSome result × IfSome result (DecidesAs (id_situation object requester.now) mask.bits list) }
+        → IsSome result
+        × IfSome result (DecidesAs (id_situation object requester.now) mask.bits list) }
 {
     let mut so_far = GrantedSoFar::new(mask);
     let mut rest = aces;
@@ -174,10 +178,12 @@ impl GrantedSoFar {
         object: IdObject,
         requester: &IdRequester<'_>,
     ) -> GrantedSoFar
-        ensures granted { (a : Ace) → IsIdPart a → IsIdReadAs a item.now → (list : List Ace) (bit : ℕ)
+        ensures granted { (a : Ace) → IsIdPart a → IsIdReadAs a item.now
+            → (list : List Ace) (bit : ℕ)
             → granted_in (id_situation object requester.now) result list bit
             ≡ granted_in (id_situation object requester.now) self (a ∷ list) bit }
-        ensures left { (a : Ace) → IsIdPart a → IsIdReadAs a item.now → (list : List Ace) (bit : ℕ)
+        ensures left { (a : Ace) → IsIdPart a → IsIdReadAs a item.now
+            → (list : List Ace) (bit : ℕ)
             → left_in (id_situation object requester.now) result list bit
             ≡ left_in (id_situation object requester.now) self (a ∷ list) bit }
     {

@@ -56,7 +56,7 @@ pub struct Prepared<'a> {
 }
 
 impl<'a> Prepared<'a> {
-    /// Takes the bytes that `prepare` returned. Returns `None` if the bytes do not begin as prepared bytes do. The
+    /// Takes the bytes that `prepare` returned, or returns `None` if the bytes do not begin as prepared bytes do. The
     /// other bytes are judged when they are needed.
     pub fn read(bytes: &'a [u8]) -> Option<Self>
         ensures { (list : List Ace) → IsPrepared list bytes.now
@@ -67,7 +67,8 @@ impl<'a> Prepared<'a> {
     }
 
     /// Returns what `decided` returns for the list whose prepared bytes these are. It stops when every right of the
-    /// mask is decided, and takes no memory. For bytes that `prepare` did not return, the answer is `None` or means nothing.
+    /// mask is decided, and takes no memory. For bytes that `prepare` did not return, the answer is `None` or means
+    /// nothing.
     pub fn decided(
         &self,
         object: &Object<'_>,
@@ -76,10 +77,12 @@ impl<'a> Prepared<'a> {
     ) -> Option<DecidedRights>
         ensures answer { (list : List Ace) → IsReadFrom list self.now → IsSome result }
         ensures allowed { (list : List Ace) → IsReadFrom list self.now
-            → IfSome result (λ rights. AreDecidedBy Allow list (situation object.now requester.now) mask.bits
+            → IfSome result (λ rights.
+            AreDecidedBy Allow list (situation object.now requester.now) mask.bits
             rights.allowed.bits) }
         ensures denied { (list : List Ace) → IsReadFrom list self.now
-            → IfSome result (λ rights. AreDecidedBy Deny list (situation object.now requester.now) mask.bits
+            → IfSome result (λ rights.
+            AreDecidedBy Deny list (situation object.now requester.now) mask.bits
             rights.denied.bits) }
     {
         let requester = requester.for_look_ups(self.aces.len() / SHORTEST);

@@ -7,8 +7,8 @@ ghost use Rattle.acl_posix.specs.Check.{ids};
 ghost use Rattle.acl_eval.specs.ListNames.{named_shape};
 ghost use Rattle.acl_eval.specs.Pruning.{PrunesTo};
 ghost use Rattle.acl_eval.specs.ToPosix.{entry_shape_of, size_of};
-ghost use Rattle.acl_eval.specs.internal.PruningBody.{AreJudged, AreJudgedFor, can_go, groups_left, shape_left, stands_without, users_left};
-ghost use Rattle.acl_eval.specs.internal.ShapeBody.{AreColumns, empty_shape, most_names, users_of};
+ghost use Rattle.acl_eval.specs.internal.PruningBody.{AreAllJudged, AreJudged, AreJudgedFor, AreUsersJudged, can_go, groups_left, shape_left, stands_without, users_left};
+ghost use Rattle.acl_eval.specs.internal.ShapeBody.{AreColumns, empty_shape, most_names};
 ghost use Rattle.acl_eval.specs.declared.tag_column.Columns.{Columns as Keys};
 
 use crate::judged_entry::{JudgedEntry, is_named, judged, stands_without};
@@ -41,7 +41,8 @@ fn judged_entries(
     shape: &PosixShape<'_>,
 ) -> Result<Vec<JudgedEntry>, AllocError>
     requires few { size_of (entry_shape_of shape.now) ≤ most_names }
-    ensures { IfOk result (λ left. AreJudgedFor columns.now (entry_shape_of shape.now) (entry_shape_of shape.now) left.items) }
+    ensures { IfOk result (λ left.
+        AreAllJudged columns.now (entry_shape_of shape.now) left.items) }
 {
     let mut left = Vec::new(alloc);
     add_unnamed(&mut left, columns, shape)?;
@@ -58,7 +59,8 @@ fn add_unnamed(
 ) -> Result<(), AllocError>
     requires few { size_of (entry_shape_of shape.now) ≤ most_names }
     requires none { left.old.items ≡ [] }
-    ensures { OnOk result (AreJudgedFor columns.now (entry_shape_of shape.now) empty_shape left.new.items) }
+    ensures { OnOk result
+        (AreJudgedFor columns.now (entry_shape_of shape.now) empty_shape left.new.items) }
 {
     left.push(judged(columns, shape, Tag::GroupObj))?;
     left.push(judged(columns, shape, Tag::Other))?;
@@ -73,7 +75,7 @@ fn add_users(
 ) -> Result<(), AllocError>
     requires few { size_of (entry_shape_of shape.now) ≤ most_names }
     ensures { AreJudgedFor columns.now (entry_shape_of shape.now) empty_shape left.old.items
-        → OnOk result (AreJudgedFor columns.now (entry_shape_of shape.now) (users_of (entry_shape_of shape.now)) left.new.items) }
+        → OnOk result (AreUsersJudged columns.now (entry_shape_of shape.now) left.new.items) }
 {
     for user in shape.users {
         left.push(judged(columns, shape, Tag::User(*user)))?;
@@ -88,8 +90,8 @@ fn add_groups(
     shape: &PosixShape<'_>,
 ) -> Result<(), AllocError>
     requires few { size_of (entry_shape_of shape.now) ≤ most_names }
-    ensures { AreJudgedFor columns.now (entry_shape_of shape.now) (users_of (entry_shape_of shape.now)) left.old.items
-        → OnOk result (AreJudgedFor columns.now (entry_shape_of shape.now) (entry_shape_of shape.now) left.new.items) }
+    ensures { AreUsersJudged columns.now (entry_shape_of shape.now) left.old.items
+        → OnOk result (AreAllJudged columns.now (entry_shape_of shape.now) left.new.items) }
 {
     for group in shape.groups {
         left.push(judged(columns, shape, Tag::Group(*group)))?;
@@ -99,7 +101,8 @@ fn add_groups(
 
 // Takes out entries of users and groups, each without loss, until none can go.
 fn prune(left: &mut Vec<JudgedEntry>)
-    ensures pruned { (list : List Ace) (columns : Keys) → AreColumns list columns → AreJudged columns left.old.items
+    ensures pruned { (list : List Ace) (columns : Keys) → AreColumns list columns
+        → AreJudged columns left.old.items
         → PrunesTo list (shape_left left.old.items) (shape_left left.new.items) }
     ensures few { size_of (shape_left left.new.items) ≤ size_of (shape_left left.old.items) }
 {

@@ -22,15 +22,16 @@ pub fn pruning_is_exact()
     ensures names { NamesByTableAreAll }
 {}
 
-/// All prunings from one shape end in one shape, in whatever order names are taken out. If two lists grant the same, their
-/// prunings end in one shape, and the ACLs of this shape answer alike.
+/// All prunings from one shape end in one shape, in whatever order names are taken out; if two lists grant the same,
+/// their prunings end in one shape, and the ACLs of this shape answer alike.
 pub fn pruning_has_one_end()
     ensures order { PruningHasOneEnd }
     ensures grants { GrantsDecideTheEnd }
 {}
 
 /// If two lists grant the same, and each pruning began with all names of its list, the two ACLs are the same, whatever
-/// users and groups the lists name.
+/// users and groups the lists name; so two lists for which `to_posix` returns an ACL, and which grant the same, have
+/// one ACL.
 pub fn grants_give_one_acl()
     ensures acls { GrantsGiveOneAcl }
     // So two lists for which `to_posix` returns an ACL and that grant the same have one ACL.

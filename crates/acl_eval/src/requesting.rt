@@ -74,7 +74,8 @@ fn may_be_granted(
     mask: Mask,
 ) -> Result<bool, AllocError>
     requires { All (λ a. 1 ≤ length a.who.now) aces.now }
-    ensures { IfOk result (MayBeGranted (map ace aces.now) (asked_situation standing.now) mask.bits) }
+    ensures { IfOk result
+        (MayBeGranted (map ace aces.now) (asked_situation standing.now) mask.bits) }
 {
     let mut out = BTreeSet::new(alloc);
     let mut places = [0; Bit::COUNT];
@@ -99,8 +100,10 @@ fn judge<'a>(
     places: &mut [usize; Bit::COUNT],
 ) -> Step<'a>
     requires named { All (λ a. 1 ≤ length a.who.now) aces.now }
-    requires passed { ArePassed aces.now (asked_situation standing.now) mask.bits (is_out out.now) places.old }
-    ensures passed { ArePassed aces.now (asked_situation standing.now) mask.bits (is_out out.now) places.new }
+    requires passed { ArePassed aces.now (asked_situation standing.now) mask.bits (is_out out.now)
+        places.old }
+    ensures passed { ArePassed aces.now (asked_situation standing.now) mask.bits (is_out out.now)
+        places.new }
     ensures says { Says aces.now (is_out out.now)
         (λ v. GrantsUnder v (map ace aces.now) (asked_situation standing.now) mask.bits) result }
 {
@@ -129,7 +132,8 @@ fn descend<'a>(
     place: &mut usize,
 ) -> Step<'a>
     requires { All (λ a. 1 ≤ length a.who.now) aces.now }
-    ensures passed { HasPassed aces.now (asked_situation standing.now) right.bit (is_out out.now) place.old place.new }
+    ensures passed { HasPassed aces.now (asked_situation standing.now) right.bit (is_out out.now)
+        place.old place.new }
     ensures says { Says aces.now (is_out out.now)
         (AllowsFrom aces.now (asked_situation standing.now) right.bit place.new) result }
 {

@@ -58,9 +58,10 @@ impl From<AllocError> for ResolveFault {
 pub fn resolved(alloc: Global, list: &AclView<'_>, object: &Object<'_>) -> Result<Acl, ResolveFault>
     ensures ok { IfOk result (λ new. new
         ≡ resolved_list (owner_of object.now) (owning_group_of object.now) list.now) }
-    ensures named { OnOk result (first_nameless (owner_of object.now) (owning_group_of object.now) list.now
-        ≡ None) }
-    ensures fault { IfErr result (IsResolveFault (owner_of object.now) (owning_group_of object.now) list.now) }
+    ensures named { OnOk result
+        (first_nameless (owner_of object.now) (owning_group_of object.now) list.now ≡ None) }
+    ensures fault { IfErr result
+        (IsResolveFault (owner_of object.now) (owning_group_of object.now) list.now) }
 {
     if let Some(place) = first_nameless(list.aces(), object) {
         return Err(ResolveFault::Name(place));
@@ -71,7 +72,8 @@ pub fn resolved(alloc: Global, list: &AclView<'_>, object: &Object<'_>) -> Resul
 // Returns the place of the first ACE that needs a name that no ACE can have.
 fn first_nameless(aces: Aces<'_>, object: &Object<'_>) -> Option<usize>
     requires { length aces ≤ most_aces }
-    ensures { result ≡ first_nameless (owner_of object.now) (owning_group_of object.now) aces.entry }
+    ensures { result
+        ≡ first_nameless (owner_of object.now) (owning_group_of object.now) aces.entry }
 {
     let mut place: usize = 0;
     for ace in aces {
@@ -85,7 +87,8 @@ fn first_nameless(aces: Aces<'_>, object: &Object<'_>) -> Option<usize>
 
 // Returns whether the principal needs a name of the object that no ACE can have.
 fn lacks_name(whom: Principal<'_>, object: &Object<'_>) -> bool
-    ensures { result ≡ lacks_name (owner_of object.now) (owning_group_of object.now) (principal whom.entry) }
+    ensures { result
+        ≡ lacks_name (owner_of object.now) (owning_group_of object.now) (principal whom.entry) }
 {
     match whom {
         Principal::Owner => !is_account(object.owner()),
@@ -96,7 +99,8 @@ fn lacks_name(whom: Principal<'_>, object: &Object<'_>) -> bool
 
 // Returns the list with the names of the object.
 fn with_names<'a>(alloc: Global, aces: Aces<'a>, object: &Object<'a>) -> Result<Acl, AllocError>
-    requires { IsAccepted full (resolved_list (owner_of object.now) (owning_group_of object.now) aces) }
+    requires { IsAccepted full
+        (resolved_list (owner_of object.now) (owning_group_of object.now) aces) }
     ensures { IfOk result (λ list. list
         ≡ resolved_list (owner_of object.now) (owning_group_of object.now) aces.entry) }
 {

@@ -16,7 +16,7 @@ pub struct Object<'a> {
 }
 
 impl<'a> Object<'a> {
-    /// Makes an object of these names, which it borrows. Returns `None` if one of them is empty.
+    /// Makes an object of these names, which it borrows, or returns `None` if one of them is empty.
     ///
     /// ```rust
     /// let object = Object::new(b"alice", b"staff");
@@ -56,7 +56,7 @@ pub struct Requester<'a> {
 }
 
 impl<'a> Requester<'a> {
-    /// Makes a requester of these names, which it borrows. Returns `None` if one of them is empty. There may be no
+    /// Makes a requester of these names, which it borrows, or returns `None` if one of them is empty. There may be no
     /// group, and a group that is named twice counts once. If the groups are in the order of their bytes, long lists
     /// are decided faster.
     ///
@@ -113,9 +113,9 @@ impl<'a> Requester<'a> {
     }
 
     /// Makes a requester of whose groups the caller says that they are in the order of their bytes. It does not find
-    /// out whether they are. A group is looked up by binary search at once, in short lists too. If they are in no order,
-    /// the search can miss some of them, as if they were not given: a DENY of such a group then denies nothing. It never
-    /// finds a group that was not given.
+    /// out whether they are. A group is looked up by binary search at once, in short lists too. If they are in no
+    /// order, the search can miss some of them, as if they were not given: a DENY of such a group then denies nothing.
+    /// It never finds a group that was not given.
     ///
     /// ```rust
     /// let requester = Requester::in_order(b"bob", &[b"staff", b"users"]);
@@ -134,7 +134,8 @@ impl<'a> Requester<'a> {
             groups_of requester ≡ found_groups (map (λ g. g.now) groups.now)) }
         // If the names are in order, these are all of them.
         ensures rising { AreRisingNames (map (λ g. g.now) groups.now)
-            → IfSome result (λ requester. AreSameGroups (groups_of requester) (map (λ g. g.now) groups.now)) }
+            → IfSome result (λ requester.
+            AreSameGroups (groups_of requester) (map (λ g. g.now) groups.now)) }
         // In any order, each group is one of the names.
         ensures within { IfSome result (λ requester.
             AreAmong (groups_of requester) (map (λ g. g.now) groups.now)) }

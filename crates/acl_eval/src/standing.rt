@@ -44,8 +44,8 @@ impl<'a> Standing<'a> {
         }
     }
 
-    /// Returns whether the ACE applies: it takes part and matches the requester. Most ACEs are for a user, and are tested
-    /// first: they have neither flag, and a who that does not end in `@` is not special.
+    /// Returns whether the ACE applies: it takes part and matches the requester. Most ACEs are for a user, and are
+    /// tested first: they have neither flag, and a who that does not end in `@` is not special.
     #[inline(always)]
     pub(crate) fn applies(&self, item: &AceRef<'_>) -> bool
         requires { 1 ≤ length item.now.who.now }

@@ -108,7 +108,8 @@ fn tag_of_principal(names: &Names, whom: Principal<'_>) -> Option<Tag>
 // Returns the keys of the right, each tag once.
 fn column(alloc: Global, aces: &[TaggedAce], right: Right) -> Result<Vec<TagKey>, AllocError>
     ensures decides { IfOk result (λ keys. (test : TagValue → Bool)
-        → column_decided_by test (keys_of keys.items) false ≡ column_decided_by test (tagged_column aces.now right.bit) false) }
+        → column_decided_by test (keys_of keys.items) false
+        ≡ column_decided_by test (tagged_column aces.now right.bit) false) }
     ensures first { IfOk result (λ keys. AreFirst (keys_of keys.items)) }
     ensures few { IfOk result (λ keys. length keys.items ≤ length aces.now) }
 {

@@ -107,13 +107,6 @@ fn note<'a>(names: &mut BTreeMap<&'a [u8], Mask>, item: &AceRef<'a>) -> Result<(
     Ok(())
 }
 
-// Returns the rights that earlier ACEs of the name have.
-fn rights_of(names: &BTreeMap<&[u8], Mask>, who: &[u8]) -> Mask
-    ensures { result.bits ≡ noted_rights names.now who.now }
-{
-    names.get(who).copied().unwrap_or(Mask::NONE)
-}
-
 /// The answers that are possible for the rights of a mask: rights that an ALLOW of those so far may decide, rights that
 /// a DENY may decide, and rights that perhaps none of them decides.
 #[derive(Clone, Copy)]
@@ -144,9 +137,12 @@ impl Possible {
         standing: &Standing<'_>,
     ) -> Possible
         requires { 1 ≤ length item.now.who.now }
-        ensures { (earlier list : List Ace) (bit : ℕ) (answer : Option KindValue) → HaveNoted names.now earlier
-            → may_answer result (noting earlier (ace item.now)) list (asked_situation standing.now) bit answer
-            ≡ may_answer self earlier (ace item.now ∷ list) (asked_situation standing.now) bit answer }
+        ensures { (earlier list : List Ace) (bit : ℕ) (answer : Option KindValue)
+            → HaveNoted names.now earlier
+            → may_answer result (noting earlier (ace item.now)) list
+            (asked_situation standing.now) bit answer
+            ≡ may_answer self earlier (ace item.now ∷ list)
+            (asked_situation standing.now) bit answer }
     {
         let common = self.left.intersection(item.mask);
         if common.bits() == 0 || !item.takes_part() {
@@ -195,13 +191,16 @@ impl Possible {
     // Sorts the rights by what is possible for each.
     fn sorted(self) -> DecidedWithUnknown
         ensures allowed { (bit : ℕ) → has_bit result.allowed.bits bit
-            ≡ (has_bit self.allow.bits bit && not (has_bit self.deny.bits bit || has_bit self.left.bits bit)) }
+            ≡ (has_bit self.allow.bits bit
+            && not (has_bit self.deny.bits bit || has_bit self.left.bits bit)) }
         ensures denied { (bit : ℕ) → has_bit result.denied.bits bit
             ≡ (has_bit self.deny.bits bit && not (has_bit self.allow.bits bit)) }
         ensures undecided { (bit : ℕ) → has_bit result.undecided.bits bit
-            ≡ (has_bit self.left.bits bit && not (has_bit self.allow.bits bit || has_bit self.deny.bits bit)) }
+            ≡ (has_bit self.left.bits bit
+            && not (has_bit self.allow.bits bit || has_bit self.deny.bits bit)) }
         ensures unknown { (bit : ℕ) → has_bit result.unknown.bits bit
-            ≡ (has_bit self.allow.bits bit && (has_bit self.deny.bits bit || has_bit self.left.bits bit)) }
+            ≡ (has_bit self.allow.bits bit
+            && (has_bit self.deny.bits bit || has_bit self.left.bits bit)) }
     {
         let others = self.deny.union(self.left);
         let decided = self.allow.union(self.deny);
@@ -219,4 +218,11 @@ fn first_rights(names: &BTreeMap<&[u8], Mask>, who: &[u8], rights: Mask) -> Mask
     ensures { IsDifference rights.bits (noted_rights names.now who.now) result.bits }
 {
     rights.difference(rights_of(names, who))
+}
+
+// Returns the rights that earlier ACEs of the name have.
+fn rights_of(names: &BTreeMap<&[u8], Mask>, who: &[u8]) -> Mask
+    ensures { result.bits ≡ noted_rights names.now who.now }
+{
+    names.get(who).copied().unwrap_or(Mask::NONE)
 }

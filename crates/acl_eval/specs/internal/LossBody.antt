@@ -91,6 +91,10 @@ abbrev pub is_lost : TagColumn → TagColumn → Entries → ℕ → Object → 
 is_lost first second entries want object requester = column_decided_by (tag_meets object requester) first false
     && (column_decided_by (tag_meets object requester) second false && not (grants entries object requester want))
 
+-- the principal of a tag matches in the situation of a loss
+abbrev pub is_met : LostGrant → Tag → Bool
+is_met lost t = tag_meets (lost_object lost) (lost_requester lost) t
+
 -- nothing is lost in the situation of three tags
 abbrev pub IsKeptWith : LossSearch → Tag → Tag → Tag → Type 0
 IsKeptWith s a b c =

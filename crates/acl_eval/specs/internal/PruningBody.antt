@@ -10,7 +10,7 @@ use Rattle.acl_posix.specs.Tag.{Tag, user_obj, user, group_obj, group, mask, oth
 use Rattle.acl_eval.specs.Permissions.{execute, read, write}
 use Rattle.acl_eval.specs.Pruning.{is_shared}
 use Rattle.acl_eval.specs.ToPosix.{EntryShape, is_in_shape, size_of}
-use Rattle.acl_eval.specs.internal.ShapeBody.{HasPassAnswers, is_certain, most_names}
+use Rattle.acl_eval.specs.internal.ShapeBody.{HasPassAnswers, is_certain, most_names, users_of}
 use Rattle.acl_eval.specs.declared.judged_entry.JudgedEntry.{JudgedEntry}
 use Rattle.acl_eval.specs.declared.judged_entry.Places.{Places}
 use Rattle.acl_eval.specs.declared.tag_column.Columns.{Columns}
@@ -26,10 +26,13 @@ decided_place entry keys = position_or_len (λ key. is_certain entry (tag_of key
 abbrev pub decided_if : Bool → Tag → List TagKey → ℕ
 decided_if has entry keys = if has then decided_place entry keys else 0
 
+-- the key is a DENY of a principal
+abbrev pub is_denial : Tag → TagKey → Bool
+is_denial name key = eq_by_cmp tag_cmp (tag_of key.whom) name && not (is_allow key.kind)
+
 -- the place of the DENY of a principal, or the number of keys
 abbrev pub denied_place : Tag → List TagKey → ℕ
-denied_place name keys =
-    position_or_len (λ key. eq_by_cmp tag_cmp (tag_of key.whom) name && not (is_allow key.kind)) keys
+denied_place name keys = position_or_len (is_denial name) keys
 
 -- the places at which the rights of these permissions are decided
 pub record AreDecidedAt (columns : Columns) (entry : Tag) (perm : ℕ) (places : Places) : Type 0 where
@@ -127,7 +130,14 @@ pub record AreJudgedFor (columns : Columns) (shape done : EntryShape) (left : Li
   pub owning : has_entry group_obj left ≡ true
   pub others : has_entry other left ≡ true
 
+-- the same once the users are done
+abbrev pub AreUsersJudged : Columns → EntryShape → List JudgedEntry → Type 0
+AreUsersJudged columns shape left = AreJudgedFor columns shape (users_of shape) left
+
+-- the same once the users and the groups are done
+abbrev pub AreAllJudged : Columns → EntryShape → List JudgedEntry → Type 0
+AreAllJudged columns shape left = AreJudgedFor columns shape shape left
+
 -- the entries of a shape without USER_OBJ, each with what is known of it
 abbrev pub AreJudged : Columns → List JudgedEntry → Type 0
-AreJudged columns left = AreJudgedFor columns (shape_left left) (shape_left left) left
-    × (size_of (shape_left left) ≤ most_names)
+AreJudged columns left = AreAllJudged columns (shape_left left) left × (size_of (shape_left left) ≤ most_names)

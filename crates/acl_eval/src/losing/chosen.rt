@@ -3,8 +3,8 @@ ghost use Rattle.std.specs.Prelude.{◌≡◌, ◌≤◌, ◌+◌, ◌++◌, ◌
 ghost use Rattle.acl_posix.specs.Check.{ids};
 ghost use Rattle.acl_posix.specs.Tag.{tag_of};
 ghost use Rattle.acl_eval.specs.LostGrants.{lost_object, lost_requester};
-ghost use Rattle.acl_eval.specs.internal.LossBody.{chosen_object, chosen_requester, groups_for, is_lost, is_owner_tag, user_or};
-ghost use Rattle.acl_eval.specs.internal.ShapeBody.{column_decided_by, keys_of, tag_meets};
+ghost use Rattle.acl_eval.specs.internal.LossBody.{chosen_object, chosen_requester, groups_for, is_lost, is_met, is_owner_tag, user_or};
+ghost use Rattle.acl_eval.specs.internal.ShapeBody.{column_decided_by, keys_of};
 
 use super::unused::Unused;
 use super::{LostGrant, Wanted};
@@ -24,7 +24,8 @@ pub(crate) fn situation_of(
     three: Tag,
 ) -> Result<LostGrant, AllocError>
     ensures object { IfOk result (λ lost. lost_object lost
-        ≡ chosen_object unused.one.value unused.next.value (tag_of one) (tag_of two) (tag_of three)) }
+        ≡ chosen_object unused.one.value unused.next.value
+        (tag_of one) (tag_of two) (tag_of three)) }
     ensures requester { IfOk result (λ lost. lost_requester lost
         ≡ chosen_requester unused.one.value (tag_of one) (tag_of two) (tag_of three)) }
     ensures perm { IfOk result (λ lost. lost.perm ≡ perm) }
@@ -80,8 +81,8 @@ fn is_owner(tag: Tag) -> bool
 
 /// Returns whether the list grants both rights in the situation, and the ACL does not grant the permission.
 pub(crate) fn is_lost(wanted: &Wanted<'_>, acl: &PosixAcl, chosen: &LostGrant) -> bool
-    ensures { result ≡ is_lost (keys_of wanted.now.first.now) (keys_of wanted.now.second.now) acl.now
-        wanted.now.perm.bits (lost_object chosen.now) (lost_requester chosen.now) }
+    ensures { result ≡ is_lost (keys_of wanted.now.first.now) (keys_of wanted.now.second.now)
+        acl.now wanted.now.perm.bits (lost_object chosen.now) (lost_requester chosen.now) }
 {
     is_granted(wanted.first, chosen)
         && is_granted(wanted.second, chosen)
@@ -96,8 +97,7 @@ pub(crate) fn is_lost(wanted: &Wanted<'_>, acl: &PosixAcl, chosen: &LostGrant) -
 
 // Returns whether the first key that matches in the situation is an ALLOW.
 fn is_granted(keys: &[TagKey], chosen: &LostGrant) -> bool
-    ensures { result ≡ column_decided_by (tag_meets (lost_object chosen.now) (lost_requester chosen.now))
-        (keys_of keys.now) false }
+    ensures { result ≡ column_decided_by (is_met chosen.now) (keys_of keys.now) false }
 {
     for key in keys {
         if is_met(chosen, key.whom) {
@@ -109,7 +109,7 @@ fn is_granted(keys: &[TagKey], chosen: &LostGrant) -> bool
 
 // Returns whether the principal of a tag matches in the situation.
 fn is_met(chosen: &LostGrant, whom: Tag) -> bool
-    ensures { result ≡ tag_meets (lost_object chosen.now) (lost_requester chosen.now) (tag_of whom) }
+    ensures { result ≡ is_met chosen.now (tag_of whom) }
 {
     match whom {
         Tag::UserObj => chosen.user.value == chosen.owner.value,

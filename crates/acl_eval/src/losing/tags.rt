@@ -33,7 +33,8 @@ pub(crate) fn allowed_tags(
     acl: &PosixAcl,
     keys: &[TagKey],
 ) -> Result<Vec<JudgedTag>, AllocError>
-    ensures judged { IfOk result (λ tags. AllByRecursion (IsJudgedTag wanted.now acl.now) tags.items) }
+    ensures judged { IfOk result (λ tags.
+        AllByRecursion (IsJudgedTag wanted.now acl.now) tags.items) }
     ensures tags { IfOk result (λ tags. map (λ one. tag_of one.tag) tags.items
         ≡ allowed_tags (keys_of keys.now) (keys_of keys.now)) }
 {

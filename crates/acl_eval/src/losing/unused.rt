@@ -40,7 +40,8 @@ pub(crate) fn unused_ids(
 
 // Adds the ids of the keys, and 0 for a key without an id.
 fn add_keys(used: &mut Vec<Id>, keys: &[TagKey]) -> Result<(), AllocError>
-    ensures { OnOk result (ids used.new.items ≡ ids used.old.items ++ key_numbers (keys_of keys.now)) }
+    ensures { OnOk result
+        (ids used.new.items ≡ ids used.old.items ++ key_numbers (keys_of keys.now)) }
 {
     for key in keys {
         used.push(id_or_zero(key.whom))?;
@@ -50,7 +51,8 @@ fn add_keys(used: &mut Vec<Id>, keys: &[TagKey]) -> Result<(), AllocError>
 
 // Adds the ids of the entries, and 0 for an entry without an id.
 fn add_entries(used: &mut Vec<Id>, acl: &PosixAcl) -> Result<(), AllocError>
-    ensures { OnOk result (ids used.new.items ≡ ids used.old.items ++ entry_numbers (set.entries acl.now)) }
+    ensures { OnOk result
+        (ids used.new.items ≡ ids used.old.items ++ entry_numbers (set.entries acl.now)) }
 {
     let entries = acl.entries();
     for entry in entries {

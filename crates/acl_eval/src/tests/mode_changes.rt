@@ -1,5 +1,5 @@
-//! What a list grants after a change of the mode, by RFC 8881, section 6.4.1.1: the list has the mode, and names are not
-//! granted what the bits of the group lack. The owner is alice, and the group is staff.
+//! What a list grants after a change of the mode, by RFC 8881, section 6.4.1.1: the list has the mode, and names are
+//! not granted what the bits of the group lack. The owner is alice, and the group is staff.
 
 use super::harness::{ALLOW, AceRow, DENY, built, kept, passes};
 use crate::*;

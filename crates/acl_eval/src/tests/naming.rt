@@ -55,8 +55,8 @@ fn a_name_matches_only_the_user_or_the_group_of_this_name(rt: HostRuntime) {
     }
 }
 
-// Groups of which the caller says that they are in order, and whether a binary search finds the group users. It compares
-// with the name at half of their number, rounded down, and goes on in front of it or behind it.
+// Groups of which the caller says that they are in order, and whether a binary search finds the group users. It
+// compares with the name at half of their number, rounded down, and goes on in front of it or behind it.
 static SAID_IN_ORDER: [(&[&[u8]], bool); 12] = [
     (&[], false),
     (&[b"users"], true),
@@ -74,8 +74,8 @@ static SAID_IN_ORDER: [(&[&[u8]], bool); 12] = [
     (&[b"admin", b"users", b"staff", b"zoo", b"guests"], false),
 ];
 
-// Returns whether `GROUP_NAMED`, which denies READ_DATA to the group users, grants it to a requester of whose groups the
-// caller says that they are in order.
+// Returns whether `GROUP_NAMED`, which denies READ_DATA to the group users, grants it to a requester of whose groups
+// the caller says that they are in order.
 fn may_ordered_read(groups: &[&[u8]]) -> Option<bool> {
     let list = AclView::parse_whole(GROUP_NAMED).ok()?;
     let object = Object::new(b"bob", b"staff")?;

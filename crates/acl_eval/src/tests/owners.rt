@@ -33,9 +33,9 @@ ALLOW - READ_DATA OWNER@
 DENY GROUP READ_DATA 2001
 ";
 
-// Members of 2001 may read, unless they are user 1001: so this user keeps an entry, and cannot write as a member of 2002.
-// For an owning group that is not known, members of 2001 may be in 2009 alone, so no entry has read for them, and the
-// entry of user 1001 goes.
+// Members of 2001 may read, unless they are user 1001: so this user keeps an entry, and cannot write as a member of
+// 2002. For an owning group that is not known, members of 2001 may be in 2009 alone, so no entry has read for them, and
+// the entry of user 1001 goes.
 const MORE_FOR_SOME_AND_LESS_FOR_OTHERS: &[u8] = b"ALLOW - READ_DATA GROUP@
 DENY GROUP READ_DATA 2009
 DENY - READ_DATA 1001

@@ -10,4 +10,5 @@ returns c =
     subst (λ (s : Situation). IsTrue c.grants.result ↔ Grant c.args.list.now s c.args.mask.bits)
     (c.requester.ensures.situation c.args.object.now ∙ c.in_ok-sorted.ensures.situation c.args.object.now)
     (subst (λ (list : List Ace). IsTrue c.grants.result
-    ↔ Grant list (situation c.args.object.now c.requester.result) c.args.mask.bits) c.aces.ensures.same c.grants.ensures)
+    ↔ Grant list (situation c.args.object.now c.requester.result) c.args.mask.bits)
+    c.aces.ensures.same c.grants.ensures)

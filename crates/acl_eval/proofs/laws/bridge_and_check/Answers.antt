@@ -1,7 +1,7 @@
 use Rattle.acl_posix.specs.Check.{ids}
 use Rattle.acl_posix.specs.Texts.{IsAcl}
 use Rattle.acl_eval.specs.BridgeLaws.{IsAsked}
-use Rattle.acl_eval.proofs.BridgeLaws.{all_ids, grants_singles, keeps_grants}
+use Rattle.acl_eval.proofs.BridgeLaws.{All-ids, grants_singles, keeps_grants}
 use Rattle.acl_eval.proofs.laws.bridge_and_check.Goals as goal
 
 pub returns : goal.returns
@@ -13,7 +13,7 @@ returns c =
       owner = c.args.owner.within;
       owning_group = c.args.group.within;
       asker = c.args.user.within;
-      groups = all_ids c.args.groups.now;
+      groups = All-ids c.args.groups.now;
     } in
     record {
       single = λ one. grants_singles c.args.acl.now _ _ c.args.want.bits access asked one;

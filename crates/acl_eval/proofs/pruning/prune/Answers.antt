@@ -9,7 +9,8 @@ use Rattle.acl_eval.specs.Pruning.{Prunes, none}
 use Rattle.acl_eval.specs.ToPosix.{size_of}
 use Rattle.acl_eval.specs.internal.PruningBody.{AreJudged, can_go, shape_left}
 use Rattle.acl_eval.specs.declared.judged_entry.JudgedEntry.{JudgedEntry}
-use Rattle.acl_eval.proofs.PruneSteps.{fewer, goes, is_kept, none_goes, shorter, step_before, taken_tag}
+use Rattle.acl_eval.proofs.ShapesLeft.{is_kept, shorter}
+use Rattle.acl_eval.proofs.PruneSteps.{fewer, goes, none_goes, step_before, taken_tag}
 use Rattle.acl_eval.proofs.pruning.prune.Goals as goal
 
 -- the entry that was found
