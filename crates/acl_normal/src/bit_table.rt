@@ -43,7 +43,8 @@ pub struct BorrowedRow<'a> {
     pub source: usize,
 }
 
-/// Returns the ACEs of a list's normal form that have a right, in the order of the normal form (this library's own,
+/// Returns the ACEs of a list's normal form that have a right, in the order of the normal form, each with the place in
+/// the list of the first ACE without INHERIT_ONLY that has the right and names the same principal (this library's own,
 /// over RFC 8881, section 6.2.1). If `right` has several rights, the table is that of the lowest one; if it has none,
 /// the table is empty. Fails if memory runs out.
 ///

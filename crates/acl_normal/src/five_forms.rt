@@ -123,9 +123,10 @@ fn put_list<K: Sink>(sink: &mut K, done: u64, list: &Acl) -> Result<u64, WriteFa
     }
 }
 
-/// Returns the five normal forms of a list, by this library's table of inheritance. Two lists have the same five forms
-/// if and only if they grant the same, and so do the lists of all objects that will ever be created below them. It
-/// takes time that is nearly linear in the bytes of the list. Fails if memory runs out.
+/// Returns the five normal forms of a list, of a new file, of a new directory, and of a new file and a new directory in
+/// that new directory, by this library's table of inheritance. Two lists have the same five forms if and only if they
+/// grant the same, and so do the lists of all objects that will ever be created below them. It takes time that is
+/// nearly linear in the bytes of the list. Fails if memory runs out.
 ///
 /// ```rust
 /// let list = parse_text(alloc, b"ALLOW FILE READ_DATA amy")?;

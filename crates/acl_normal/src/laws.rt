@@ -29,7 +29,7 @@ pub fn one_normal_form()
         → list ≡ other }
 {}
 
-/// A list that fits a profile denies every right outside it. So two such lists grant the same rights of the profile if
+/// A list that fits a profile denies every right outside it, so two such lists grant the same rights of the profile if
 /// and only if they grant the same rights.
 pub fn nothing_outside_a_profile()
     ensures denied { (p : Profile) (list : List Ace) (s : Situation) (bit : ℕ) → Fits p list
@@ -39,7 +39,7 @@ pub fn nothing_outside_a_profile()
 {}
 
 /// The bytes to which two spelled lists normalize are equal if and only if the lists grant the same, under every
-/// profile. Bytes that spell a normal form normalize to themselves.
+/// profile; bytes that spell a normal form normalize to themselves.
 pub fn normal_bytes_tell_apart()
     ensures apart { (p : Profile) (a b x y : List ℕ) (source other : List Ace) → IsProfile p
         → Xdr p source a → Xdr p other b → Normalizes p a x → Normalizes p b y
@@ -59,7 +59,8 @@ pub fn equal_bytes()
     ensures forms { SpellingsTellApart IsFormOfAccepted }
 {}
 
-/// What the small situations of two lists show, every situation shows.
+/// Two lists that agree in each of their small situations grant the same in every situation, and any test of two
+/// answers of the lists, for one right or for two, passes in every situation if it passes in each small one.
 pub fn small_situations_suffice()
     // Two lists that agree in each of their small situations grant the same in every situation.
     ensures same { SmallSituationsSuffice }
@@ -69,7 +70,7 @@ pub fn small_situations_suffice()
 {}
 
 /// Containment of grants: a list contains itself, what a contained list contains is contained too, and two lists grant
-/// the same if and only if each contains the other. The normal form of a list may replace it on either side.
+/// the same if and only if each contains the other; the normal form of a list may replace it on either side.
 pub fn containment()
     ensures both_ways { (rights : ℕ) (list other : List Ace) → SameGrants rights list other
         ↔ (GrantsAtMost rights list other × GrantsAtMost rights other list) }
@@ -88,8 +89,9 @@ pub fn five_paths_suffice()
         ↔ SameAtEveryPath rights list other }
 {}
 
-/// The five normal forms of two lists that are accepted under a profile show whether the lists grant the same at every
-/// path of creations.
+/// For two lists that are accepted under a profile each of these holds if and only if they grant the same at every path
+/// of creations: their five normal forms are equal; the spellings of these are equal in pairs; the five spellings one
+/// after the other are equal.
 pub fn five_forms_tell_apart()
     // Equal forms show it.
     ensures forms { TellApart (λ five other. five ≡ other) }

@@ -19,7 +19,7 @@ use std::alloc::{AllocError, Global};
 
 /// The greatest number of ACEs of a list whose normal form is found without queues and without a heap. From 14 ACEs on,
 /// queues take less time.
-const SHORT: usize = 10;
+pub(crate) const SHORT: usize = 10;
 
 /// Returns whether a list is its own normal form. Fails if memory runs out.
 pub fn is_normal(alloc: Global, list: &Acl) -> Result<bool, AllocError>
@@ -82,8 +82,9 @@ fn spelled_form(alloc: Global, view: &AclView<'_>) -> Result<Vec<u8>, AllocError
 }
 
 /// Returns the normal form of a list (this library's own, over RFC 8881, section 6.2.1): the one list that grants the
-/// same in every situation, in which each right of each ACE is needed, and whose ACEs are in the one order. It takes
-/// time that is nearly linear in the bytes of the list. Fails if memory runs out.
+/// same in every situation, in which each right of each ACE is needed, and whose ACEs are in the one order. It weighs
+/// no more than the list, and fits each profile that the list fits. It takes time that is nearly linear in the bytes of
+/// the list. Fails if memory runs out.
 ///
 /// ```rust
 /// let list = parse_text(alloc, b"DENY - WRITE_DATA bob\nALLOW - READ_DATA|WRITE_DATA OWNER@\n")?;

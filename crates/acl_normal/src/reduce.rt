@@ -18,7 +18,7 @@ use acl_nfs4::{AceRef, Acl, AclView};
 use acl_perm::Mask;
 use std::alloc::{AllocError, Global};
 
-/// Returns, by place, the rights of each ACE that are needed (this library's own, over RFC 8881, section 6.2.1). The
+/// Returns, by place, the rights of each ACE that are needed (this library's own, over RFC 8881, section 6.2.1): the
 /// list whose ACEs have only these rights grants the same, and no right can be taken out of it. An ACE that takes no
 /// part needs no right, and of two equal ACEs only the first does. It takes time that is nearly linear in the bytes of
 /// the list. Fails if memory runs out.

@@ -196,8 +196,8 @@ numbers_start {rights} {bit} {n} is e = record {
 
 -- a number without the right changes nothing
 pub numbers_skip : (rights : List Mask) {bit n : ℕ} {d : Mask} {numbers places : List ℕ}
-    → n < length rights → d ≡ slice_index_or rights n d → has_bit d.bits bit ≡ false → AreNumbersOf rights bit n numbers places
-    → AreNumbersOf rights bit (n + 1) numbers places
+    → n < length rights → d ≡ slice_index_or rights n d → has_bit d.bits bit ≡ false
+    → AreNumbersOf rights bit n numbers places → AreNumbersOf rights bit (n + 1) numbers places
 numbers_skip rights {bit} {n} {d} {numbers} {places} lt read absent h = record {
   count = h.count;
   below = λ j l. omega (arith, h.below j l);
@@ -292,7 +292,8 @@ module _ (whole : List Principal) (numbers places : List ℕ)
       × (slice_index_or numbers (slice_index_or places k 0) 0 ≡ k)
 
   chosen_at : (j : ℕ) → j < length chosen
-      → (j < length numbers) × (slice_index_or chosen j everyone ≡ slice_index_or whole (slice_index_or numbers j 0) everyone)
+      → (j < length numbers)
+      × (slice_index_or chosen j everyone ≡ slice_index_or whole (slice_index_or numbers j 0) everyone)
   chosen_at j l =
       let inside : j < length numbers =
       omega (arith, l, length-map numbers (λ k. slice_index_or whole k everyone)) in
@@ -323,7 +324,8 @@ module _ (whole : List Principal) (numbers places : List ℕ)
         hit = λ j l. let c = chosen_at j l in
             ap (is_of a) c.1 ∙ h.hit (slice_index_or numbers j 0) (below j c.0)
             ∙ same_answers (slice_index_or numbers j 0 == i) (j == slice_index_or places i 0)
-            (λ g. eq-eqb j (slice_index_or places i 0) (rising_apart numbers j (slice_index_or places i 0) rising c.0 inside
+            (λ g. eq-eqb j (slice_index_or places i 0)
+            (rising_apart numbers j (slice_index_or places i 0) rising c.0 inside
             (eqb-true (slice_index_or numbers j 0) i g ∙ sym p.1)))
             (λ g. eq-eqb (slice_index_or numbers j 0) i
             (ap (λ v. slice_index_or numbers v 0) (eqb-true j (slice_index_or places i 0) g) ∙ p.1));

@@ -240,7 +240,8 @@ module _ (both : TwoLists) (bit : ℕ) (c : Columns) (rows : List Placing) (colu
         let first : IsFirstBelow (λ r. inverts_any both.direction r rows) rows end place =
         subst (λ v. IsFirstBelow (λ r. inverts_any both.direction r v) v end place) is
         (subst (λ v. IsFirstBelow (λ r. inverts_any v r shown) shown end place) way found) in
-        least_number c.numbers.items (mentioned_count both) place least (AlikeToPairs both bit) columns.below columns.rising
+        least_number c.numbers.items (mentioned_count both) place least (AlikeToPairs both bit) columns.below
+        columns.rising
         (λ k l. elim (columns.others k l) [
           | inl there ↦ inl there
           | inr out ↦ inr (out_agrees k out)
@@ -264,8 +265,8 @@ module _ (both : TwoLists) (bit : ℕ) (c : Columns) (rows : List Placing) (colu
         → IsNumberOr c.numbers.items (at + 1 + place) (mentioned_count both) least
         → IsLeast (AlikeToLater both (number_at at) bit) (mentioned_count both) least
     partner_found {own} {at} {place} {least} {end} {row} {shown} {others} way is lt own_row rest all same found number =
-        least_number c.numbers.items (mentioned_count both) (at + 1 + place) least (AlikeToLater both (number_at at) bit)
-        columns.below columns.rising
+        least_number c.numbers.items (mentioned_count both) (at + 1 + place) least
+        (AlikeToLater both (number_at at) bit) columns.below columns.rising
         (λ k l. elim (columns.others k l) [
           | inl there ↦ inl there
           | inr out ↦ inr (λ later o. out_second (number_at at) k (alone (number_at at) (columns.below at lt)) out)
@@ -379,8 +380,8 @@ module _ (both : TwoLists) (bit : ℕ) (c : Columns) (rows : List Placing) (colu
           → s ≡ mentioned_count both → IsNumberOr c.numbers.items member (mentioned_count both) m
           → IsNumberOr c.numbers.items (member + 1 + partner) (mentioned_count both) p
           → IsFoundOn both bit (record { single = s; member = m; partner = p })
-      found_pair {member} {partner} {end_of_others} {s} {m} {p} {row} {others} lt inverting read rest long inverted e one
-          two =
+      found_pair {member} {partner} {end_of_others} {s} {m} {p} {row} {others} lt inverting read rest long inverted e
+          one two =
           let inside : member < length c.numbers.items = omega (arith, lt, all, counts.1) in
           let own_row : row ≡ slice_index_or rows member no_placing =
           get_or_read rows member row (omega (arith, lt, all)) read no_placing in
@@ -591,20 +592,23 @@ later_partner both at partner lt h = (
     later_is k = get_or-drop (at + 1) (all_mentioned both) k everyone
 
 -- a single principal that is found is the first small set
-pub found_one : (both : TwoLists) {f : Found} → AreAlikeTo both [] → IsFoundOnAll both f → f.single < mentioned_count both
+pub found_one : (both : TwoLists) {f : Found} → AreAlikeTo both []
+    → IsFoundOnAll both f → f.single < mentioned_count both
     → FindSet both (Some (principal_at both f.single ∷ []))
 found_one both {f} empty found lt =
     single_answer both (principal_at both f.single) f.single empty found.single lt refl
 
 -- if nothing is found, there is no such set
-pub found_nobody : (both : TwoLists) {f : Found} → AreAlikeTo both [] → IsFoundOnAll both f → mentioned_count both ≤ f.single
+pub found_nobody : (both : TwoLists) {f : Found} → AreAlikeTo both []
+    → IsFoundOnAll both f → mentioned_count both ≤ f.single
     → f.member ≡ mentioned_count both → FindSet both None
 found_nobody both {f} empty found le is =
     let within = found.single.within in
     none_answer both f.single f.member empty found.single le (found.member (omega (arith, le, within))) is
 
 -- a pair that is found is the first small set, and both numbers are those of principals
-pub found_two : (both : TwoLists) {f : Found} → AreAlikeTo both [] → IsFoundOnAll both f → mentioned_count both ≤ f.single
+pub found_two : (both : TwoLists) {f : Found} → AreAlikeTo both []
+    → IsFoundOnAll both f → mentioned_count both ≤ f.single
     → (f.member ≡ mentioned_count both → ⊥)
     → FindSet both (Some (principal_at both f.member ∷ principal_at both f.partner ∷ []))
     × ((f.member < mentioned_count both) × (f.partner < mentioned_count both))

@@ -84,7 +84,8 @@ impl<'a> Column<'a> {
         named: &[Principal<'_>],
         right: Bit,
     ) -> Result<Vec<First>, AllocError>
-        requires { AreWhoms (principals named.now) (aces_in self.now.aces.items) self.now.whoms.items }
+        requires { AreWhoms (principals named.now) (aces_in self.now.aces.items)
+            self.now.whoms.items }
         ensures { IfOk result (λ v. AreFirstFrom (principals named.now)
             (aces_in self.now.aces.items) right.bit 0 v.items) }
     {
@@ -135,7 +136,8 @@ pub(crate) fn column_of<'a>(
 ) -> Result<Column<'a>, AllocError>
     requires whoms { length whoms.now ≡ length list.now }
     requires within { AllByRecursion (λ w. IsWhomWithin w (length places.now)) whoms.now }
-    ensures aces { IfOk result (λ c. aces_in c.aces.items ≡ with_right right.bit (aces_in list.now)) }
+    ensures aces { IfOk result (λ c.
+        aces_in c.aces.items ≡ with_right right.bit (aces_in list.now)) }
     ensures whoms { IfOk result (λ c. c.whoms.items
         ≡ all_renumbered places.now right.bit (aces_in list.now) whoms.now) }
 {
@@ -165,7 +167,8 @@ fn renumbered(whom: Whom, places: &[usize]) -> Whom
 pub(crate) fn add_rights(rights: &mut Vec<Mask>, list: &[AceRef<'_>], whoms: &[Whom])
     requires whoms { length whoms.now ≡ length list.now }
     requires within { AllByRecursion (λ w. IsWhomWithin w (vec_len rights.old)) whoms.now }
-    ensures { AddRights (length list.now) (aces_in list.now) whoms.now rights.old.items rights.new.items }
+    ensures { AddRights (length list.now) (aces_in list.now) whoms.now rights.old.items
+        rights.new.items }
 {
     for (place, item) in list.iter().enumerate() {
         add_right(rights, whoms[place], item.mask);

@@ -1,6 +1,6 @@
 //! The comparison of two lists: the first small situation in which one grants a right that the other denies.
 ghost use Rattle.std.specs.Prelude.{◌↔◌, ◌≡◌, IsNone};
-ghost use Rattle.acl_normal.specs.Common.{aces_in, all_rights, IfOk, IfSome, IsOk, SameGrants, two_lists};
+ghost use Rattle.acl_normal.specs.Common.{aces_in, all_rights, IfOk, IfSome, IsOk, IsTrue, SameGrants, two_lists};
 ghost use Rattle.acl_normal.specs.Difference.{situation_of};
 ghost use Rattle.acl_normal.specs.SmallSets.{IsFirstDifference, TellsApart};
 ghost use Rattle.acl_normal.specs.internal.Tidy.{HasNames};
@@ -10,6 +10,7 @@ use super::Difference;
 use super::compared::Compared;
 use super::direction::Direction;
 use super::mentioned::mentioned;
+use crate::normal_form::{SHORT, normalize_view};
 use crate::reduce::collected::collect;
 use acl_nfs4::{AceRef, Acl, AclView};
 use std::alloc::{AllocError, Global};
@@ -63,7 +64,29 @@ pub fn compare_views(
     ensures requester { IfOk result (λ r. IfSome r (λ d. TellsApart first.now second.now
         (situation_of d) d.bit.bits d.first_grants)) }
 {
-    searched(alloc, Direction::Either, first, second)
+    let is_same = have_one_form(alloc, first, second)?;
+    if is_same {
+        Ok(None)
+    } else {
+        searched(alloc, Direction::Either, first, second)
+    }
+}
+
+// Returns true only if both lists are short and have the same normal form. This is found in less time than the search
+// takes to find no difference.
+fn have_one_form(
+    alloc: Global,
+    first: &AclView<'_>,
+    second: &AclView<'_>,
+) -> Result<bool, AllocError>
+    ensures { IfOk result (λ answer. IsTrue answer → SameGrants all_rights first.now second.now) }
+{
+    if first.len() > SHORT || second.len() > SHORT {
+        return Ok(false);
+    }
+    let form = normalize_view(alloc, first)?;
+    let other = normalize_view(alloc, second)?;
+    Ok(form == other)
 }
 
 /// Returns the first small situation in which two lists differ in a direction. The lists are borrowed for the same
