@@ -86,8 +86,8 @@ fed_value {p} {left} {pulled} {pull} {new_left} {old} {new} {feed} {fed} feed_af
 
 -- the value of a feed that is done is short
 pub fed_short_value : {p : Profile} {left pulled pull new_left : List ℕ} {old new : Option (List ℕ)}
-    {feed : StreamState} {fed : ℕ} (feed_after : StreamState) (t : ℕ) → IsFed p left pulled old new feed fed → pull ≡ pulled
-    → new_left ≡ drop t pulled → Feeds feed pull (Done t) feed_after → (r : Result Value ListFault)
+    {feed : StreamState} {fed : ℕ} (feed_after : StreamState) (t : ℕ) → IsFed p left pulled old new feed fed
+    → pull ≡ pulled → new_left ≡ drop t pulled → Feeds feed pull (Done t) feed_after → (r : Result Value ListFault)
     → IfOk r (λ v. (v.len ≡ fed + t) × FinishesStream feed_after (Ok v.list)) → IfOk r (λ v. FitsOneValue v.len)
 fed_short_value {p} {left} {new_left} {old} {new} feed_after t h same after feeds r is =
     short_value p left new_left old new r (fed_value feed_after t h same after feeds r is)

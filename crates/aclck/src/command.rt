@@ -66,7 +66,7 @@ impl CommandFault {
     }
 }
 
-/// Runs the command that the words name. The words come without the program's name. Returns the exit status: 0 done,
+/// Runs the command that the words name, which come without the program's name, and returns the exit status: 0 done,
 /// granted or the same, 1 denied or different, 2 the input is refused, 3 usage, 4 a device or memory. From 2 on, one
 /// line on `err` says why; a fault of `err` changes nothing.
 pub fn command<S: Source, K: Sink, E: Sink>(

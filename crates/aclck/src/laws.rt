@@ -2,7 +2,8 @@
 ghost use Rattle.aclck.specs.Headline.{Headline, HeadlineOverPaths};
 ghost use Rattle.aclck.specs.Laws.{EncodeUndoesShow, NormalizeInheritGivesForms, NormalizeInheritTellsApart, NormalizeTellsApart, NormalizeTwice, ShowPosixTellsApart, ShowUndoesEncode};
 
-/// Two texts of files get the same canonical text from `show-posix` if and only if their sets of entries are equal.
+/// Two texts of files get the same canonical text from `show-posix` if and only if the sets of entries of both parts
+/// are equal, and both or neither has a default part.
 pub fn show_posix_tells_apart()
     ensures { ShowPosixTellsApart }
 {}
@@ -12,7 +13,7 @@ pub fn encode_undoes_show()
     ensures { EncodeUndoesShow }
 {}
 
-/// `show-nfs` accepts what `encode` writes, and writes the text of the list. This is the same text for every text of
+/// `show-nfs` accepts what `encode` writes, and writes the text of the list; this is the same text for every text of
 /// the list that `encode` read.
 pub fn show_undoes_encode()
     ensures { ShowUndoesEncode }

@@ -63,8 +63,8 @@ one_fits p a e =
     in (eqb-true _ _ pass.0, eqb-true _ _ pass.1)
 
 -- ACEs of which no number is refused fit the profile
-all_fit : (p : Profile) (aces : List RawAce) → All (λ a. number_fault p a ≡ None) aces → Fits p (map ace_given aces)
-all_fit p aces numbers =
+Fits-map : (p : Profile) (aces : List RawAce) → All (λ a. number_fault p a ≡ None) aces → Fits p (map ace_given aces)
+Fits-map p aces numbers =
     let fits : Ace → Type 0 = λ a. IsWithin p.flags a.flags × IsWithin p.masks a.mask in
     recursion_from_All fits (map ace_given aces) (All-map fits ace_given aces
     (All-weaker (λ a. number_fault p a ≡ None) (λ a. fits (ace_given a)) (one_fits p) aces numbers))
@@ -78,7 +78,7 @@ are_aces profile aces list le numbers accepted is =
     record {
       numbers = numbers;
       accepted = (accepted_where_it_fits p (map ace_given aces) (code_profile profile le)).1
-          (subst (IsAccepted full) is accepted, all_fit p aces numbers);
+          (subst (IsAccepted full) is accepted, Fits-map p aces numbers);
     }
 
 -- one more ACE of the array

@@ -15,13 +15,13 @@ use Rattle.acl_posix.specs.Valid.{IsValid, missing}
 use Rattle.aclck_c.specs.internal.Deciders.{HasEntry}
 
 -- a tag is found equal to itself
-tied : (tag : Tag) → eq_by_cmp tag_cmp tag tag ≡ true
-tied user_obj = refl
-tied (user id) = ap is_eq (sym (nat_cmp_is id id Equal refl))
-tied group_obj = refl
-tied (group id) = ap is_eq (sym (nat_cmp_is id id Equal refl))
-tied mask = refl
-tied other = refl
+eq_by_cmp-refl : (tag : Tag) → eq_by_cmp tag_cmp tag tag ≡ true
+eq_by_cmp-refl user_obj = refl
+eq_by_cmp-refl (user id) = ap is_eq (sym (nat_cmp_is id id Equal refl))
+eq_by_cmp-refl group_obj = refl
+eq_by_cmp-refl (group id) = ap is_eq (sym (nat_cmp_is id id Equal refl))
+eq_by_cmp-refl mask = refl
+eq_by_cmp-refl other = refl
 
 -- what is found after an entry is found with it too
 later : (q : Tag) (e : Tag × ℕ) (es : List (Tag × ℕ)) → IsSome (sorted.find tag_cmp q es)
@@ -39,7 +39,7 @@ found_in test [] = tt
 found_in test (e ∷ es) = by (found_in test es) (test e)
   where
     own : IsSome (sorted.find tag_cmp e.0 (e ∷ es))
-    own = subst (λ b. IsSome (cond b (Some e.1) (sorted.find tag_cmp e.0 es))) (sym (tied e.0)) refl
+    own = subst (λ b. IsSome (cond b (Some e.1) (sorted.find tag_cmp e.0 es))) (sym (eq_by_cmp-refl e.0)) refl
 
     rest : (o : Option (Tag × ℕ)) → IfSome o (λ x. IsSome (sorted.find tag_cmp x.0 es))
         → IfSome o (λ x. IsSome (sorted.find tag_cmp x.0 (e ∷ es)))

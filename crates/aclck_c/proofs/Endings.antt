@@ -26,8 +26,9 @@ fails_without_bytes failure.Memory fault after returned h =
     (λ is. omega (arith, is, h.0), λ is. omega (arith, is, h.0))
 
 -- a call that made bytes returns 0 or 5
-puts_no_other : {A : Type 0} (bytes : Vec A) {buffer buffer_after : List A} {needed needed_after : ℕ} {fault fault_after : Refusal}
-    {returned : ℕ} → EndsCall (Ok bytes) buffer buffer_after needed needed_after fault fault_after returned
+puts_no_other : {A : Type 0} (bytes : Vec A) {buffer buffer_after : List A} {needed needed_after : ℕ}
+    {fault fault_after : Refusal} {returned : ℕ}
+    → EndsCall (Ok bytes) buffer buffer_after needed needed_after fault fault_after returned
     → (number : ℕ) → 0 < number → number < 5 → returned ≡ number → ⊥
 puts_no_other bytes ends number above below is = elim ends.put.known [
   | inl put ↦ omega (arith, above, is, put)
@@ -111,8 +112,8 @@ bad_argument AreGood Known IsRefused (Err (failure.Refused shown)) says ends is 
 bad_argument AreGood Known IsRefused (Err failure.Memory) says ends is = absurd (omega (arith, is, ends.reported.0))
 
 -- no other status is returned
-pub is_known_status : {A : Type 0} (made : Result (Vec A) Failure) {buffer buffer_after : List A} {needed needed_after : ℕ}
-    {fault fault_after : Refusal} {returned : ℕ}
+pub is_known_status : {A : Type 0} (made : Result (Vec A) Failure) {buffer buffer_after : List A}
+    {needed needed_after : ℕ} {fault fault_after : Refusal} {returned : ℕ}
     → EndsCall made buffer buffer_after needed needed_after fault fault_after returned
     → status.IsOneOf (status.done_or_short ++ status.failures) returned
 is_known_status (Ok bytes) ends = elim ends.put.known [

@@ -26,7 +26,8 @@ refused_by Has shown_of f (Some shown) has is = record { fault = f; has = has; i
 refused_by Has shown_of f None has is = tt
 
 -- what is refused of the entries
-pub entries_failure : (raws : List RawEntry) (f : EntriesFault) → IsFaultOfRaw raws f → AreFailure raws (of_raw_entries f)
+pub entries_failure : (raws : List RawEntry) (f : EntriesFault) → IsFaultOfRaw raws f
+    → AreFailure raws (of_raw_entries f)
 entries_failure raws f has = refused_by (IsFaultOfRaw raws) entries_refusal f (entries_refusal f) has refl
 
 -- what is refused of the entries with the MASK that they lack

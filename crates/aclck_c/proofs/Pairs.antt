@@ -1,7 +1,9 @@
 -- What calls over two lists make of each list.
-use Rattle.std.proofs.Common.{ℕ, Bool, List, false, inl, inr, refl, true}
+use Rattle.std.proofs.Common.{◌≡◌, ◌∙◌, ℕ, Bool, List, false, inl, inr, refl, subst, sym, true}
 use Rattle.std.specs.Prelude.{◌↔◌, IsTrue}
 use Rattle.std.proofs.lemmas.Bool.{false≢true}
+use Rattle.std.proofs.lemmas.Slice.Eq.{bytes_eq-Decides}
+use Rattle.std.specs.Str.{bytes_eq}
 use Rattle.acl_perm.specs.Bits.{all_rights}
 use Rattle.acl_perm.specs.Profile.{Profile}
 use Rattle.acl_nfs4.specs.Ace.{Ace}
@@ -27,6 +29,12 @@ same_or_not {list} {other} false read read_other is = record {
   spelled = record { first_spelled = read; second_spelled = read_other };
   different = λ all. false≢true (is.1 all);
 }
+
+-- bytes that are the same spell the same list
+pub spelled_again : {p : Profile} {bytes others : List ℕ} {list : List Ace} {is : Bool} → is ≡ bytes_eq others bytes
+    → is ≡ true → Xdr p list bytes → Xdr p list others
+spelled_again {p} {bytes} {others} {list} same is read =
+    subst (Xdr p list) (sym ((bytes_eq-Decides others bytes).0 (sym same ∙ is))) read
 
 -- the first list is refused, or memory ran out
 pub first_failure : (p : Profile) (first second : List ℕ) (f : Failure) → IsListFailure p first 0 f

@@ -18,8 +18,8 @@ use Rattle.aclck_c.specs.internal.Renaming.{IsRenamingFailure, of_rename_fault, 
 use Rattle.aclck_c.proofs.Endings.{bad_argument, is_known_status, reports_fault, writes_bytes}
 
 -- a call that made the bytes, with options that are good
-pub writes_renamed : {p q : Profile} {may_merge may : Bool} {list : List ℕ} {table : List RawRenaming} {AreGood : Type 0}
-    {made : Result (Vec ℕ) Failure} {buffer buffer_after : List ℕ} {needed needed_after : ℕ}
+pub writes_renamed : {p q : Profile} {may_merge may : Bool} {list : List ℕ} {table : List RawRenaming}
+    {AreGood : Type 0} {made : Result (Vec ℕ) Failure} {buffer buffer_after : List ℕ} {needed needed_after : ℕ}
     {fault fault_after : Refusal} {returned : ℕ}
     → q ≡ p → may ≡ may_merge → AreGood → IfOk made (λ bytes. MakesRenamed q may list table bytes.items)
     → IfErr made (IsRenamingFailure q may list table)

@@ -24,8 +24,8 @@ ace_given a = record {
   who = a.who.now;
 }
 
--- why a number of an ACE is refused, or none: the kind, which may be neither AUDIT (2) nor ALARM (3), then the flags and
--- then the mask, which must be within the profile
+-- why a number of an ACE is refused, or none: the kind, which may be neither AUDIT (2) nor ALARM (3), then the flags
+-- and then the mask, which must be within the profile
 abbrev pub number_fault : Profile → RawAce → Option Reason
 number_fault p a = if nat_lt 3 a.kind then Some reason.AceType
     else (if nat_lt 1 a.kind then Some reason.AuditOrAlarm

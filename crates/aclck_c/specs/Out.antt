@@ -32,7 +32,7 @@ pub record WritesBytes {A : Type 0} (Means : List A → Type 0) (buffer buffer_a
   -- at every other status the buffer is as it was
   pub unwritten : (returned ≢ status.done) → buffer_after ≡ buffer
   -- at every other status the reported length is as it was
-  pub unreported : (returned ≢ status.done) → (returned ≢ status.short) → needed_after ≡ needed
+  pub unreported : status.IfUnanswered returned (needed_after ≡ needed)
 
 -- the effect of a call that writes a value of this meaning
 pub record WritesValue {A : Type 0} (Means : A → Type 0) (value value_after : A) (returned : ℕ) : Type 0 where

@@ -1,5 +1,5 @@
--- What a call from C makes of a list and of an object, whose owner and owning group stand for `OWNER@` and `GROUP@` (this
--- library's own, over RFC 8881, section 6.2.1.5).
+-- What a call from C makes of a list and of an object, whose owner and owning group stand for `OWNER@` and `GROUP@`
+-- (this library's own, over RFC 8881, section 6.2.1.5).
 use Rattle.std.specs.Prelude.{◌≡◌, ◌⊎◌, ℕ, List, None, Some}
 use Rattle.acl_perm.specs.Profile.{Profile}
 use Rattle.acl_nfs4.specs.Ace.{Ace}

@@ -1,5 +1,5 @@
 -- What calls from C return (this library's own): `enum aclck_status` of `aclck.h` has these names.
-use Rattle.std.specs.Prelude.{◌≡◌, ◌⊎◌, ◌∷◌, [], ℕ, List}
+use Rattle.std.specs.Prelude.{◌≡◌, ◌≢◌, ◌⊎◌, ◌∷◌, [], ℕ, List}
 
 -- the answer is written; every other status means that the call failed
 abbrev pub done : ℕ
@@ -20,6 +20,10 @@ memory = 4
 -- the buffer is too short
 abbrev pub short : ℕ
 short = 5
+
+-- what holds if the call has no answer: there is one at `done`, and at `short` the buffer is too short for it
+abbrev pub IfUnanswered : ℕ → Type 0 → Type 0
+IfUnanswered returned Holds = (returned ≢ done) → (returned ≢ short) → Holds
 
 -- the status is one of these
 abbrev pub IsOneOf : List ℕ → ℕ → Type 0

@@ -14,7 +14,7 @@ pub fn rising_groups_decide_alike()
 {}
 
 /// The list that `aclck_read_part` writes grants nothing that the whole list of the value does not grant, whoever is
-/// meant by the special identifiers that nobody knows.
+/// meant by the special identifiers that nobody knows; no value of which it is made has a DENY of such an identifier.
 pub fn part_grants_no_more()
     ensures denies { FormsHaveNoUnknownDeny }
     ensures grants { PartGrantsNoMore }

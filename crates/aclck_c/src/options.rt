@@ -32,20 +32,6 @@ pub(crate) const MAY_MERGE: u32 = 0x0080_0000;
 /// A list of entries with USER or GROUP entries and no MASK gets the MASK that setfacl adds.
 pub(crate) const ADD_MASK: u32 = 0x4000_0000;
 
-/// Returns whether `options` are a sum of some of the allowed ones.
-pub(crate) fn are_allowed(allowed: u32, options: u32) -> bool
-    ensures { IsTrue result ↔ AreAllowed allowed options }
-{
-    options & allowed == options
-}
-
-/// Returns whether `options` have this one.
-pub(crate) fn has_option(option: u32, options: u32) -> bool
-    ensures { result ≡ has_option option options }
-{
-    options & option == option
-}
-
 /// Returns the profile that `options` choose, or `None` if they have another bit.
 pub(crate) fn profile_from(options: u32) -> Option<Profile>
     ensures known { IsSome result ↔ IsProfileOption options }
@@ -63,17 +49,6 @@ pub(crate) fn is_order_option(options: u32) -> bool
     ensures { IsTrue result ↔ IsOrderOption options }
 {
     are_allowed(GROUPS_IN_ORDER, options)
-}
-
-/// Returns the profile that `options` choose, whatever else they have.
-pub(crate) fn profile_in(options: u32) -> Profile
-    ensures { profile_of result ≡ profile_from options }
-{
-    if has_option(NARROW, options) {
-        Profile::NARROW
-    } else {
-        Profile::FULL
-    }
 }
 
 /// What the options of `aclck_child` choose: a profile, the kind of the new object, and whether what is inherited gets
@@ -170,4 +145,29 @@ pub(crate) fn mode_from(number: u32) -> Option<Mode>
         return None;
     }
     Mode::new(number as u16)
+}
+
+/// Returns the profile that `options` choose, whatever else they have.
+pub(crate) fn profile_in(options: u32) -> Profile
+    ensures { profile_of result ≡ profile_from options }
+{
+    if has_option(NARROW, options) {
+        Profile::NARROW
+    } else {
+        Profile::FULL
+    }
+}
+
+/// Returns whether `options` are a sum of some of the allowed ones.
+pub(crate) fn are_allowed(allowed: u32, options: u32) -> bool
+    ensures { IsTrue result ↔ AreAllowed allowed options }
+{
+    options & allowed == options
+}
+
+/// Returns whether `options` have this one.
+pub(crate) fn has_option(option: u32, options: u32) -> bool
+    ensures { result ≡ has_option option options }
+{
+    options & option == option
 }

@@ -8,9 +8,9 @@ use acl_perm::{Sink, Source};
 use acl_posix::{Form, Names};
 use std::alloc::Global;
 
-/// Writes the canonical text of the file that the input spells, with the mask of its access ACL calculated, and
-/// added if there is none (POSIX.1e draft 17, section 23.4). The default ACL stays. Nothing is written before the input
-/// is accepted.
+/// Writes the canonical text of the file that the input spells, with the mask of its access ACL calculated, and added
+/// if there is none (POSIX.1e draft 17, section 23.4); the default ACL stays. Nothing is written before the input is
+/// accepted.
 pub fn run_calc_mask<S: Source, K: Sink>(
     alloc: Global,
     source: &mut S,

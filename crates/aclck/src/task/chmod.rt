@@ -31,7 +31,7 @@ pub(crate) fn read(alloc: Global, matches: &ArgMatches<'_>) -> Result<Chmod, Lin
 }
 
 /// Writes the canonical text of the file that the input spells, with the mode of its access ACL set (acl(5),
-/// "CORRESPONDENCE BETWEEN ACL ENTRIES AND FILE PERMISSION BITS"). The default ACL stays. Nothing is written before the
+/// "CORRESPONDENCE BETWEEN ACL ENTRIES AND FILE PERMISSION BITS"); the default ACL stays. Nothing is written before the
 /// input is accepted.
 pub fn run_chmod<S: Source, K: Sink>(
     alloc: Global,

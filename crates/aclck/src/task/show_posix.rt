@@ -44,8 +44,8 @@ fn form_value(word: &str) -> Option<Form>
     }
 }
 
-/// Writes the text in a form of the file that the input spells (acl(5), "LONG TEXT FORM", "SHORT TEXT FORM").
-/// The short text has a line feed after it. Nothing is written before the input is accepted.
+/// Writes the text in a form of the file that the input spells (acl(5), "LONG TEXT FORM", "SHORT TEXT FORM"), with a
+/// line feed after the short text. Nothing is written before the input is accepted.
 pub fn run_show_posix<S: Source, K: Sink>(
     alloc: Global,
     source: &mut S,

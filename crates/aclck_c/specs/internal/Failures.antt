@@ -147,7 +147,8 @@ ReadsTable expected (Err failure.BadArgument) = expected ≡ None
 ReadsTable expected (Err (failure.Refused shown)) = ⊥
 ReadsTable expected (Err failure.Memory) = ⊤
 
--- the names of ids that a call reads from names that make the expected table: these names, or bad names if there is none
+-- the names of ids that a call reads from names that make the expected table: these names, or bad names if there is
+-- none
 abbrev pub ReadsIdNames : Option Table → NamesOfIds → Result NamesOfIds Failure → Type 0
 ReadsIdNames expected names (Ok ids) = IsSome expected × (ids ≡ names)
 ReadsIdNames expected names (Err failure.BadArgument) = expected ≡ None

@@ -21,7 +21,8 @@ of_rename_fault fault.Memory = failure.Memory
 
 -- a row of the table is refused, the bytes or the names are refused, or memory ran out
 abbrev pub IsRenamingFailure : Profile → Bool → List ℕ → List RawRenaming → Failure → Type 0
-IsRenamingFailure p may_merge bytes table = IsFailure (IsRenamingTable table) (IsRefusedRenaming p may_merge bytes table) ⊤
+IsRenamingFailure p may_merge bytes table =
+    IsFailure (IsRenamingTable table) (IsRefusedRenaming p may_merge bytes table) ⊤
 
 -- the rows that a call reads from a table, or that there are none
 abbrev pub ReadsRows : List RawRenaming → Result (Vec Renaming) Failure → Type 0

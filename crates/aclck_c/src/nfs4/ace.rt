@@ -7,8 +7,8 @@ ghost use Rattle.aclck_c.specs.Common.{IfSome, IsSome, profile_of};
 use acl_nfs4::{AceRef, Flags, Kind, Mask, Reason};
 use acl_perm::Profile;
 
-/// `struct aclck_ace`: the numbers of the kind, of the flags and of the mask of an ACE (RFC 8881, section 6.2.1), and its
-/// who.
+/// `struct aclck_ace`: the numbers of the kind, of the flags and of the mask of an ACE (RFC 8881, section 6.2.1), and
+/// its who.
 #[repr(C)]
 #[derive(Clone, Copy, Debug)]
 pub struct RawAce<'a> {

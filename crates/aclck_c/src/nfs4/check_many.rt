@@ -65,7 +65,8 @@ fn asked<'a>(object: &RawObject<'a>, question: &RawQuestion) -> Option<Many<'a>>
     ensures owner { IfSome result (λ r. owner_of r.object ≡ object.now.owner.now) }
     ensures group { IfSome result (λ r. owning_group_of r.object ≡ object.now.group.now) }
     ensures mask { IfSome result (λ r. r.mask.bits ≡ question.now.mask) }
-    ensures profile { IfSome result (λ r. profile_of r.profile ≡ profile_from question.now.options) }
+    ensures profile { IfSome result (λ r.
+        profile_of r.profile ≡ profile_from question.now.options) }
 {
     Some(Many {
         object: Object::new(object.owner, object.group)?,

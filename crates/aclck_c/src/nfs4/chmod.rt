@@ -58,7 +58,8 @@ impl From<ChmodFault> for Failure {
 // Fails if the bytes are refused, the list is above a limit, or memory runs out.
 #[tactic(auto, using(crate::proofs::Changes::chmod_failure, crate::proofs::Changes::list_failure))]
 fn changed(alloc: Global, acl: &[u8], mode: Mode, profile: Profile) -> Result<Vec<u8>, Failure>
-    ensures ok { IfOk result (λ bytes. MakesChmod (profile_of profile) mode.bits acl.now bytes.items) }
+    ensures ok { IfOk result (λ bytes.
+        MakesChmod (profile_of profile) mode.bits acl.now bytes.items) }
     ensures err { IfErr result (IsChmodFailure (profile_of profile) mode.bits acl.now) }
 {
     let view = AclView::parse_whole_with(acl, profile)?;

@@ -1,20 +1,21 @@
 //! Whether two lists grant everybody the same, and where they differ.
 ghost use Rattle.std.specs.List.{flat_map};
+ghost use Rattle.std.specs.Str.{bytes_eq};
+ghost use Rattle.acl_nfs4.specs.Spelling.{Xdr};
 ghost use Rattle.acl_normal.specs.Difference.{situation_of};
-ghost use Rattle.aclck_c.specs.Compare.{AreCompared, ComparesAs, ended, names_text, not_compared};
+ghost use Rattle.aclck_c.specs.Compare.{AreCompared, ComparesAs, ended, names_text, no_difference, not_compared};
 ghost use Rattle.aclck_c.specs.Status as status;
 ghost use Rattle.aclck_c.specs.internal.Reports.{IsReportOf};
-ghost use Rattle.std.specs.Prelude.{◌≡◌, ◌++◌, ◌≢◌};
-ghost use Rattle.aclck_c.specs.Common.{IfErr, IfOk, OnOk, map, profile_of, ReadsTwoLists, profile_from, WritesBytes, IsPairFailure, IsProfileOption};
+ghost use Rattle.std.specs.Prelude.{[], ◌≡◌, ◌++◌, ◌≢◌};
+ghost use Rattle.aclck_c.specs.Common.{IfErr, IfOk, OnOk, map, profile_of, ReadsTwoLists, profile_from, WritesBytes, IsListFailure, IsPairFailure, IsProfileOption};
 
 use crate::failure::Failure;
-use crate::nfs4::reading::{list_of, second_list_of};
 use crate::options::profile_from;
 use crate::out::{put, truth_number};
 use crate::refusal::Refusal;
 use crate::status::BAD_ARGUMENT;
-use acl_nfs4::Acl;
-use acl_normal::{Difference, compare};
+use acl_nfs4::AclView;
+use acl_normal::{Difference, compare_views};
 use acl_perm::Profile;
 use std::alloc::{AllocError, Global};
 
@@ -94,20 +95,63 @@ fn compared(alloc: Global, first: &[u8], second: &[u8], profile: Profile) -> Res
         AreCompared (profile_of profile) first.now second.now found.at found.names.items) }
     ensures err { IfErr result (IsPairFailure (profile_of profile) first.now second.now) }
 {
-    let list = list_of(alloc, first, profile)?;
-    let other = second_list_of(alloc, second, profile)?;
+    let list = view_of(first, profile)?;
+    if are_equal(second, first) {
+        return Ok(no_difference(alloc));
+    }
+    let other = second_view_of(second, profile)?;
     Ok(comparison_of(alloc, &list, &other)?)
 }
 
-fn comparison_of(alloc: Global, list: &Acl, other: &Acl) -> Result<Named, AllocError>
+/// Returns whether the bytes are the same.
+pub(crate) fn are_equal(bytes: &[u8], others: &[u8]) -> bool
+    ensures { result ≡ bytes_eq bytes.now others.now }
+{
+    bytes == others
+}
+
+/// Returns the list that all of the bytes spell, without a copy. Fails with the fault of the bytes, as the fault of the
+/// first list of the call.
+pub(crate) fn view_of(bytes: &[u8], profile: Profile) -> Result<AclView<'_>, Failure>
+    ensures ok { IfOk result (λ list. Xdr (profile_of profile) list bytes.now) }
+    ensures err { IfErr result (IsListFailure (profile_of profile) bytes.now 0) }
+{
+    Ok(AclView::parse_whole_with(bytes, profile)?)
+}
+
+/// Returns the list that all of the bytes spell, as `view_of` does, but the fault is that of the second list of the
+/// call.
+pub(crate) fn second_view_of(bytes: &[u8], profile: Profile) -> Result<AclView<'_>, Failure>
+    ensures ok { IfOk result (λ list. Xdr (profile_of profile) list bytes.now) }
+    ensures err { IfErr result (IsListFailure (profile_of profile) bytes.now 1) }
+{
+    match AclView::parse_whole_with(bytes, profile) {
+        Ok(view) => Ok(view),
+        Err(fault) => Err(Failure::Refused(Refusal::in_list(fault.offset, fault.reason, 1))),
+    }
+}
+
+fn comparison_of(
+    alloc: Global,
+    list: &AclView<'_>,
+    other: &AclView<'_>,
+) -> Result<Named, AllocError>
     ensures { IfOk result (λ found. ComparesAs list.now other.now found.at found.names.items) }
 {
-    match compare(alloc, list, other)? {
-        None => Ok(Named {
-            at: NO_DIFFERENCE,
-            names: Vec::new(alloc),
-        }),
+    match compare_views(alloc, list, other)? {
+        None => Ok(no_difference(alloc)),
         Some(found) => Ok(report_of(alloc, &found)?),
+    }
+}
+
+// What is returned if both lists grant the same. It takes no memory.
+fn no_difference(alloc: Global) -> Named
+    ensures at { result.at ≡ no_difference }
+    ensures names { result.names.items ≡ [] }
+{
+    Named {
+        at: NO_DIFFERENCE,
+        names: Vec::new(alloc),
     }
 }
 

@@ -2,7 +2,7 @@
 ghost use Rattle.aclck_c.specs.Compare.{not_compared};
 ghost use Rattle.aclck_c.specs.Excess.{AreExcess, ExceedsAs};
 ghost use Rattle.aclck_c.specs.Status as status;
-ghost use Rattle.std.specs.Prelude.{◌≡◌, ◌≢◌};
+ghost use Rattle.std.specs.Prelude.{◌≡◌};
 ghost use Rattle.aclck_c.specs.Common.{IfErr, IfOk, profile_of, ReadsTwoLists, profile_from, WritesBytes, IsPairFailure, IsProfileOption};
 
 use crate::failure::Failure;
@@ -20,8 +20,8 @@ use std::alloc::{AllocError, Global};
 /// Answers whether the first list grants anybody a right that the second denies (this library's own, over RFC 8881,
 /// section 6.2.1). If it does, `difference` has the right, and `out` begins with the names of a requester for whom it
 /// does, each with a zero byte after it, as those of `aclck_compare`. If the second list grants whatever the first
-/// grants, `same` is 1. Returns 0 if it is answered; 2 if the bytes of a list are refused, with the reason in `fault`; 3
-/// if an option has no meaning; 4 if memory ran out; 5 if the first grants more, and `out` is too short. At 0 and 5
+/// grants, `same` is 1. Returns 0 if it is answered; 2 if the bytes of a list are refused, with the reason in `fault`;
+/// 3 if an option has no meaning; 4 if memory ran out; 5 if the first grants more, and `out` is too short. At 0 and 5
 /// `difference` is the answer, and otherwise all of it is 0.
 #[unsafe(no_mangle)]
 pub extern "C" fn aclck_excess(
@@ -35,9 +35,10 @@ pub extern "C" fn aclck_excess(
 ) -> u32
     ensures input { ReadsTwoLists (profile_from options) first.now second.now
         (IsProfileOption options) status.done_or_short fault.old fault.new result }
-    ensures answer { WritesBytes (AreExcess (profile_from options) first.now second.now difference.new)
+    ensures answer { WritesBytes
+        (AreExcess (profile_from options) first.now second.now difference.new)
         out.old out.new 0 difference.new.names result }
-    ensures failed { (result ≢ status.done) → (result ≢ status.short) → difference.new ≡ not_compared }
+    ensures failed { status.IfUnanswered result (difference.new ≡ not_compared) }
 {
     *difference = NOT_COMPARED;
     let Some(profile) = profile_from(options) else {

@@ -3,7 +3,7 @@ ghost use Rattle.aclck_c.specs.FormParts.{IsRefusedFormPartIn, ReadsFormPart, Re
 ghost use Rattle.aclck_c.specs.FormValues.{form_of_number};
 ghost use Rattle.aclck_c.specs.Status as status;
 ghost use Rattle.aclck_c.specs.internal.FormParts.{IsFormPartFailure, PutsBothIfRoom};
-ghost use Rattle.std.specs.Prelude.{◌≡◌, ◌≢◌};
+ghost use Rattle.std.specs.Prelude.{◌≡◌};
 ghost use Rattle.aclck_c.specs.Common.{⊤, IfErr, IfOk, IsSome, JudgesInput, map};
 
 use crate::failure::Failure;
@@ -53,9 +53,9 @@ pub extern "C" fn aclck_read_part(
 ) -> u32
     ensures part { WritesBoth (ReadsFormPartIn form value.now part.new.flags)
         out.old out.new left.old left.new part.new.needed part.new.left_out result }
-    ensures kept { (result ≢ status.done) → (result ≢ status.short) → part.new ≡ part.old }
-    ensures input { JudgesInput (IsRefusedFormPartIn form value.now) ⊤ (IsSome (form_of_number form))
-        status.done_or_short fault.old fault.new result }
+    ensures kept { status.IfUnanswered result (part.new ≡ part.old) }
+    ensures input { JudgesInput (IsRefusedFormPartIn form value.now) ⊤
+        (IsSome (form_of_number form)) status.done_or_short fault.old fault.new result }
 {
     let Some(form) = form_of_number(form) else {
         return BAD_ARGUMENT;

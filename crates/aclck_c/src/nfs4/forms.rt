@@ -4,7 +4,7 @@ ghost use Rattle.aclck_c.specs.FormValues.{IsGoodForm, IsRefusedForNumber, IsRef
 ghost use Rattle.aclck_c.specs.Lists.{AreList};
 ghost use Rattle.aclck_c.specs.Status as status;
 ghost use Rattle.aclck_c.specs.internal.FormFailures.{IsFormFailure, IsHoldingFailure, IsValueFailure};
-ghost use Rattle.std.specs.Prelude.{◌≡◌, ◌≢◌};
+ghost use Rattle.std.specs.Prelude.{◌≡◌};
 ghost use Rattle.aclck_c.specs.Common.{⊤, IfErr, IfOk, IsSome, JudgesInput, WritesBytes};
 
 use crate::failure::Failure;
@@ -28,9 +28,10 @@ const FULL: u32 = 32;
 const WITHOUT_STYLE: u32 = 0xffff_ffcf;
 
 /// Writes the bytes of the list that a value of a form spells, and the flags of the list into `flags`; a text has none.
-/// `form` is a number of `enum aclck_form`; the bits of a style have no effect. Returns 0 if the bytes are at the front of `out`; 2 if the value is
-/// refused, with the reason and the place of a byte in `fault`; 3 if no form has the number; 4 if memory ran out; 5 if
-/// `out` is too short. At 0 and 5 `needed` is the number of bytes, and the flags are in `flags`.
+/// `form` is a number of `enum aclck_form`; the bits of a style have no effect. Returns 0 if the bytes are at the front
+/// of `out`; 2 if the value is refused, with the reason and the place of a byte in `fault`; 3 if no form has the
+/// number; 4 if memory ran out; 5 if `out` is too short. At 0 and 5 `needed` is the number of bytes, and the flags are
+/// in `flags`.
 #[unsafe(no_mangle)]
 pub extern "C" fn aclck_read_form(
     alloc: Global,
@@ -43,7 +44,7 @@ pub extern "C" fn aclck_read_form(
 ) -> u32
     ensures bytes { WritesBytes (ReadsFormValueIn form value.now flags.new)
         out.old out.new needed.old needed.new result }
-    ensures flags { (result ≢ status.done) → (result ≢ status.short) → flags.new ≡ flags.old }
+    ensures flags { status.IfUnanswered result (flags.new ≡ flags.old) }
     ensures input { JudgesInput (IsRefusedValueIn form value.now) ⊤ (IsSome (form_of_number form))
         status.done_or_short fault.old fault.new result }
 {
@@ -51,63 +52,33 @@ pub extern "C" fn aclck_read_form(
         return BAD_ARGUMENT;
     };
     match list_in(alloc, value, form) {
-        Ok((found, bytes)) => {
-            *flags = found;
-            put(&bytes, out, needed)
+        Ok(found) => {
+            *flags = found.flags;
+            put(&found.bytes, out, needed)
         }
         Err(failure) => failure.report(fault),
     }
 }
 
-/// Returns the form with this number in `enum aclck_form`.
-pub(crate) fn form_of_number(number: u32) -> Option<Form>
-    ensures { result ≡ form_of_number number }
-{
-    match number {
-        1 => Some(Form::NfsTools(ObjectKind::File)),
-        2 => Some(Form::NfsTools(ObjectKind::Directory)),
-        3 => Some(Form::NfsAcl41),
-        4 => Some(Form::NfsAcl41Ids),
-        _ => text_of_number(number),
-    }
-}
-
-// Returns the text with this number, to which the bits of a style may be added.
-fn text_of_number(number: u32) -> Option<Form>
-    ensures { result ≡ text_of_number number }
-{
-    match number & WITHOUT_STYLE {
-        5 => Some(Form::NfsText(WhoField::Name, style_of_number(number))),
-        6 => Some(Form::NfsText(WhoField::Id, style_of_number(number))),
-        _ => None,
-    }
-}
-
-// Returns the style of the bits of a number.
-fn style_of_number(number: u32) -> Style
-    ensures { result ≡ style_of_number number }
-{
-    let separator = if number & COMMAS == 0 {
-        EntrySeparator::LineFeeds
-    } else {
-        EntrySeparator::Commas
-    };
-    let letters = if number & FULL == 0 {
-        LetterStyle::Compact
-    } else {
-        LetterStyle::Full
-    };
-    Style { separator, letters }
+// The flags and the bytes of the list that a value spells.
+#[derive(Drop)]
+struct FoundList {
+    flags: u32,
+    bytes: Vec<u8>,
 }
 
 // Returns the flags and the bytes of the list. Fails if the value is refused or memory runs out.
 #[tactic(auto, using(crate::proofs::FormValues::value_failure))]
-fn list_in(alloc: Global, value: &[u8], form: Form) -> Result<(u32, Vec<u8>), Failure>
-    ensures ok { IfOk result (λ read. ReadsFormValue form value.now read.0 read.1.items) }
+fn list_in(alloc: Global, value: &[u8], form: Form) -> Result<FoundList, Failure>
+    ensures ok { IfOk result (λ found.
+        ReadsFormValue form value.now found.flags found.bytes.items) }
     ensures err { IfErr result (IsValueFailure form value.now) }
 {
     let (flags, list) = read(alloc, form, value)?;
-    Ok((u32::from(flags.bits()), list.to_bytes(alloc)?))
+    Ok(FoundList {
+        flags: u32::from(flags.bits()),
+        bytes: list.to_bytes(alloc)?,
+    })
 }
 
 /// Writes the value of flags and of a list in a form. `form` is a number of `enum aclck_form`. Returns 0 if the value
@@ -164,4 +135,45 @@ fn written(
         Err(FormWriteFault::Form(fault)) => Err(Failure::Refused(holding_refusal(fault))),
         Err(FormWriteFault::Write(_)) => Err(Failure::Memory),
     }
+}
+
+/// Returns the form with this number in `enum aclck_form`.
+pub(crate) fn form_of_number(number: u32) -> Option<Form>
+    ensures { result ≡ form_of_number number }
+{
+    match number {
+        1 => Some(Form::NfsTools(ObjectKind::File)),
+        2 => Some(Form::NfsTools(ObjectKind::Directory)),
+        3 => Some(Form::NfsAcl41),
+        4 => Some(Form::NfsAcl41Ids),
+        _ => text_of_number(number),
+    }
+}
+
+// Returns the text with this number, to which the bits of a style may be added.
+fn text_of_number(number: u32) -> Option<Form>
+    ensures { result ≡ text_of_number number }
+{
+    match number & WITHOUT_STYLE {
+        5 => Some(Form::NfsText(WhoField::Name, style_of_number(number))),
+        6 => Some(Form::NfsText(WhoField::Id, style_of_number(number))),
+        _ => None,
+    }
+}
+
+// Returns the style of the bits of a number.
+fn style_of_number(number: u32) -> Style
+    ensures { result ≡ style_of_number number }
+{
+    let separator = if number & COMMAS == 0 {
+        EntrySeparator::LineFeeds
+    } else {
+        EntrySeparator::Commas
+    };
+    let letters = if number & FULL == 0 {
+        LetterStyle::Compact
+    } else {
+        LetterStyle::Full
+    };
+    Style { separator, letters }
 }

@@ -105,7 +105,8 @@ fn prepared(
     names: &[RawName<'_>],
     profile: Profile,
 ) -> Result<Vec<u8>, Failure>
-    ensures ok { IfOk result (λ bytes. MakesIds (profile_of profile) acl.now names.now bytes.items) }
+    ensures ok { IfOk result (λ bytes.
+        MakesIds (profile_of profile) acl.now names.now bytes.items) }
     ensures err { IfErr result (IsIdsFailure (profile_of profile) acl.now names.now) }
 {
     let table = table_of(alloc, names)?;
@@ -116,8 +117,8 @@ fn prepared(
 /// Answers which of the rights that are asked a list allows the requester on the object, and which it denies (RFC 8881,
 /// section 6.2.1), by ids. `prepared` are the bytes that `aclck_prepare_ids` wrote; for other bytes the call fails or
 /// the answer means nothing. No ACE decides the rest, and nothing is decided if the call fails. Returns 0 if it is
-/// answered; 3 if the groups do not rise, a number has no meaning, there is an option, or the bytes are not prepared. It
-/// takes no memory.
+/// answered; 3 if the groups do not rise, a number has no meaning, there is an option, or the bytes are not prepared.
+/// It takes no memory.
 #[unsafe(no_mangle)]
 pub extern "C" fn aclck_decide_ids(
     prepared: &[u8],
@@ -126,8 +127,9 @@ pub extern "C" fn aclck_decide_ids(
     question: &RawQuestion,
     decided: &mut RawDecided,
 ) -> u32
-    ensures answer { GivesAnswer (AreDecidedByIds prepared.now (asked_by_ids object.now requester.now)
-        question.now.mask) nothing_decided decided.new result }
+    ensures answer { GivesAnswer (AreDecidedByIds prepared.now
+        (asked_by_ids object.now requester.now) question.now.mask)
+        nothing_decided decided.new result }
     ensures arguments { JudgesIds prepared.now requester.now question.now result }
 {
     *decided = RawDecided {
@@ -178,7 +180,8 @@ fn asked<'a>(
 
 // Returns which rights of the request the list allows and denies, or `None` if the bytes are not prepared.
 fn decided_in(prepared: &[u8], request: &IdRequest<'_>) -> Option<RawDecided>
-    ensures some { (table : Table) (list : List Ace) → IsPreparedIds table list prepared.now → IsSome result }
+    ensures some { (table : Table) (list : List Ace) → IsPreparedIds table list prepared.now
+        → IsSome result }
     ensures decided { IfSome result (AreDecidedByIds prepared.now
         (id_situation request.now.object request.now.requester) request.now.mask.bits) }
 {

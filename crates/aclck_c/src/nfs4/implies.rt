@@ -5,7 +5,7 @@ ghost use Rattle.aclck_c.specs.Implies.{HasImplication, HasImplicationOf, Implie
 ghost use Rattle.aclck_c.specs.Requests.{IsRight};
 ghost use Rattle.aclck_c.specs.Call.{ReadsList};
 ghost use Rattle.aclck_c.specs.Status as status;
-ghost use Rattle.std.specs.Prelude.{◌↔◌, ◌≡◌, ◌≢◌, IsSome};
+ghost use Rattle.std.specs.Prelude.{◌↔◌, ◌≡◌, IsSome};
 ghost use Rattle.aclck_c.specs.Common.{IfErr, IfOk, IfSome, profile_from, WritesBytes, IsListFailure};
 
 use crate::failure::Failure;
@@ -56,8 +56,9 @@ pub extern "C" fn aclck_implies(
     ensures input { ReadsList (profile_from implication.now.options) acl.now
         (IsGoodImplication implication.now) fault.old fault.new result }
     ensures answer { WritesBytes (HasImplicationOf (profile_from implication.now.options) acl.now
-        implication.now.right implication.now.others difference.new) out.old out.new 0 difference.new.names result }
-    ensures failed { (result ≢ status.done) → (result ≢ status.short) → difference.new ≡ not_compared }
+        implication.now.right implication.now.others difference.new)
+        out.old out.new 0 difference.new.names result }
+    ensures failed { status.IfUnanswered result (difference.new ≡ not_compared) }
 {
     *difference = NOT_COMPARED;
     let Some(question) = asked(implication) else {

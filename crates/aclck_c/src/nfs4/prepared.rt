@@ -69,7 +69,8 @@ pub extern "C" fn aclck_decide_prepared(
     question: &RawQuestion,
     decided: &mut RawDecided,
 ) -> u32
-    ensures { AnswersPrepared prepared.now (AreGoodForPrepared object.now requester.now question.now)
+    ensures { AnswersPrepared prepared.now
+        (AreGoodForPrepared object.now requester.now question.now)
         (AreDecidedIn (asked_prepared object.now question.now requester.now) question.now.mask)
         nothing_decided decided.new result }
 {
@@ -98,8 +99,8 @@ pub(crate) struct PreparedCall<'a> {
     pub is_in_order: bool,
 }
 
-/// Returns what is asked of prepared bytes, or `None` if a name is empty, a bit of the mask is not a right, or an option
-/// has no meaning.
+/// Returns what is asked of prepared bytes, or `None` if a name is empty, a bit of the mask is not a right, or an
+/// option has no meaning.
 pub(crate) fn call_of<'a>(
     object: &RawObject<'a>,
     question: &RawQuestion,
@@ -147,7 +148,8 @@ pub(crate) fn decided_by(
 ) -> Option<RawDecided>
     ensures some { (list : List Ace) → IsPrepared list prepared.now → IsSome result }
     ensures rights { (list : List Ace) → IsPrepared list prepared.now
-        → IfSome result (AreDecidedIn (situation call.now.object requester.entry) call.now.mask.bits list) }
+        → IfSome result
+        (AreDecidedIn (situation call.now.object requester.entry) call.now.mask.bits list) }
 {
     let list = Prepared::read(prepared)?;
     let sorted = with_sorted_groups(alloc, requester, prepared.len() / SHORTEST_ACE);

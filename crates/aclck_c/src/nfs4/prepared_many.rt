@@ -60,7 +60,8 @@ fn decide_each(
     ensures count { length decided.new ≡ length decided.old }
     ensures some { (list : List Ace) → IsPrepared list prepared.now → result ≡ true }
     ensures rights { (list : List Ace) → IsPrepared list prepared.now
-        → AreEachDecided (asked_prepared_by (owner_of call.now.object) (owning_group_of call.now.object)
+        → AreEachDecided
+        (asked_prepared_by (owner_of call.now.object) (owning_group_of call.now.object)
         call.now.is_in_order) requesters.now call.now.mask.bits list decided.new }
 {
     for (place, who) in requesters.iter().enumerate() {

@@ -43,9 +43,9 @@ impl From<RenameFault> for Failure {
 }
 
 /// Writes the bytes of the list with its names of users and groups exchanged by the table (this library's own, over RFC
-/// 8881, section 6.2.1). Returns 0 if they are at the front of `out`; 2 if the bytes are refused, or if two names become
-/// one and MAY_MERGE is not given, with the reason in `fault`; 3 if a row of the table is refused, or an option has no
-/// meaning; 4 if memory ran out; 5 if `out` is too short. At 0 and 5 `needed` is the number of bytes.
+/// 8881, section 6.2.1). Returns 0 if they are at the front of `out`; 2 if the bytes are refused, or if two names
+/// become one and MAY_MERGE is not given, with the reason in `fault`; 3 if a row of the table is refused, or an option
+/// has no meaning; 4 if memory ran out; 5 if `out` is too short. At 0 and 5 `needed` is the number of bytes.
 #[unsafe(no_mangle)]
 pub extern "C" fn aclck_renamed(
     alloc: Global,

@@ -52,7 +52,8 @@ pub(crate) fn asked<'a>(
     ensures situation { IfSome result (λ r. situation r.object r.requester
         ≡ asked object.now requester.now) }
     ensures mask { IfSome result (λ r. r.mask.bits ≡ question.now.mask) }
-    ensures profile { IfSome result (λ r. profile_of r.profile ≡ profile_from question.now.options) }
+    ensures profile { IfSome result (λ r.
+        profile_of r.profile ≡ profile_from question.now.options) }
 {
     Some(NfsRequest {
         object: Object::new(object.owner, object.group)?,
@@ -69,7 +70,8 @@ pub(crate) fn with_sorted_groups<'a>(
     requester: Requester<'a>,
     aces: usize,
 ) -> SortedRequester<'a>
-    ensures { (object : Object) → situation object (requester_of result) ≡ situation object requester.entry }
+    ensures { (object : Object)
+        → situation object (requester_of result) ≡ situation object requester.entry }
 {
     match SortedRequester::new(alloc, requester, aces) {
         Ok(sorted) => sorted,

@@ -39,7 +39,8 @@ pub extern "C" fn aclck_resolved(
         out.old out.new needed.old needed.new result }
     ensures input { JudgesInput
         (IsRefusedObject (profile_from options) acl.now object.now.owner.now object.now.group.now)
-        (AreList (profile_from options) acl.now) (IsGoodResolving object.now options) status.done_or_short
+        (AreList (profile_from options) acl.now) (IsGoodResolving object.now options)
+        status.done_or_short
         fault.old fault.new result }
 {
     let Some(object) = Object::new(object.owner, object.group) else {
@@ -73,7 +74,8 @@ fn named(
     ensures ok { IfOk result (λ bytes. MakesResolved (profile_of profile) acl.now
         (owner_of object.now) (owning_group_of object.now) bytes.items) }
     ensures err { IfErr result
-        (IsObjectFailure (profile_of profile) acl.now (owner_of object.now) (owning_group_of object.now)) }
+        (IsObjectFailure (profile_of profile) acl.now (owner_of object.now)
+        (owning_group_of object.now)) }
 {
     let view = AclView::parse_whole_with(acl, profile)?;
     let list = resolved(alloc, &view, object)?;

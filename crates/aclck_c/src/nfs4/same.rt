@@ -5,12 +5,12 @@ ghost use Rattle.std.specs.Prelude.{◌↔◌};
 ghost use Rattle.aclck_c.specs.Common.{IfErr, IfOk, IsNone, IsTrue, profile_of, ReadsTwoLists, GivesAnswer, IsTruthOf, profile_from, IsPairFailure, IsProfileOption};
 
 use crate::failure::Failure;
-use crate::nfs4::reading::{list_of, second_list_of};
+use crate::nfs4::compare::{are_equal, second_view_of, view_of};
 use crate::options::profile_from;
 use crate::out::truth_number;
 use crate::refusal::Refusal;
 use crate::status::{BAD_ARGUMENT, DONE};
-use acl_normal::{Difference, compare};
+use acl_normal::{Difference, compare_views};
 use acl_perm::Profile;
 use std::alloc::Global;
 
@@ -49,9 +49,12 @@ fn are_same(alloc: Global, first: &[u8], second: &[u8], profile: Profile) -> Res
     ensures ok { IfOk result (AreSameOrNot (profile_of profile) first.now second.now) }
     ensures err { IfErr result (IsPairFailure (profile_of profile) first.now second.now) }
 {
-    let list = list_of(alloc, first, profile)?;
-    let other = second_list_of(alloc, second, profile)?;
-    let difference = compare(alloc, &list, &other)?;
+    let list = view_of(first, profile)?;
+    if are_equal(second, first) {
+        return Ok(true);
+    }
+    let other = second_view_of(second, profile)?;
+    let difference = compare_views(alloc, &list, &other)?;
     Ok(is_none(&difference))
 }
 

@@ -25,7 +25,7 @@ use crate::refusal::Refusal;
 use crate::status::BAD_ARGUMENT;
 use acl_eval::{child_of_view, inherited_child};
 use acl_nfs4::{Acl, AclView, bit_name};
-use acl_normal::{FiveForms, holders, normalize, normalize_inherit, table_text};
+use acl_normal::{FiveForms, holders, normalize_inherit, normalize_view, table_text};
 use acl_perm::{Counted, Mask, Profile};
 use std::alloc::{AllocError, Global};
 
@@ -126,8 +126,8 @@ fn normal_form(alloc: Global, acl: &[u8], profile: Profile) -> Result<Vec<u8>, F
     ensures ok { IfOk result (λ text. Normalizes (profile_of profile) acl.now text.items) }
     ensures err { IfErr result (IsListFailure (profile_of profile) acl.now 0) }
 {
-    let list = list_of(alloc, acl, profile)?;
-    let form = normalize(alloc, &list)?;
+    let list = AclView::parse_whole_with(acl, profile)?;
+    let form = normalize_view(alloc, &list)?;
     Ok(form.to_bytes(alloc)?)
 }
 

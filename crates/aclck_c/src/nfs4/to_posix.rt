@@ -1,5 +1,5 @@
 //! The POSIX ACL of an NFSv4 list, and what is lost with it.
-ghost use Rattle.std.specs.Prelude.{◌≡◌, ◌≢◌, ◌≤◌, ◌↔◌, get_or, length};
+ghost use Rattle.std.specs.Prelude.{◌≡◌, ◌≤◌, ◌↔◌, get_or, length};
 ghost use Rattle.acl_posix.specs.Check.{ids};
 ghost use Rattle.aclck_c.specs.Status as status;
 ghost use Rattle.aclck_c.specs.ToPosix.{BecomesPosix, ReadsForPosix, greatest_bound, loss_numbers, loss_unknown, raw_posix_loss};
@@ -92,7 +92,7 @@ pub extern "C" fn aclck_to_posix(
 ) -> u32
     ensures entries { WritesBytes (BecomesPosix acl.now names.now.names.now loss.new)
         out.old out.new needed.old needed.new result }
-    ensures loss { (result ≢ status.done) → (result ≢ status.short) → loss.new ≡ loss_unknown }
+    ensures loss { status.IfUnanswered result (loss.new ≡ loss_unknown) }
     ensures input { ReadsForPosix acl.now names.now.names.now most fault.old fault.new result }
 {
     *loss = LOSS_UNKNOWN;

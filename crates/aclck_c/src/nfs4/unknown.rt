@@ -56,7 +56,8 @@ pub extern "C" fn aclck_decide_unknown(
     ensures answer { GivesAnswer (ArePossible (profile_from question.now.options) acl.now
         (asked object.now requester.now) question.now.mask) nothing_possible possible.new result }
     ensures input { JudgesInput (IsRefusedPart (profile_from question.now.options) acl.now) ⊤
-        (AreGood object.now requester.now question.now) status.only_done fault.old fault.new result }
+        (AreGood object.now requester.now question.now)
+        status.only_done fault.old fault.new result }
 {
     *possible = NOTHING_POSSIBLE;
     let Some(request) = asked(object, requester, question) else {

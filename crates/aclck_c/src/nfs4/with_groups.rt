@@ -25,11 +25,11 @@ pub struct RawSuffix<'a> {
 }
 
 /// Writes the bytes of the list in which a group stands for each special identifier that nobody knows (this library's
-/// own, over RFC 8881, section 6.2.1.5): the name of the group is the identifier followed by the suffix. AUDIT and ALARM
-/// ACEs are left out, and an ACE is counted by its place among those that stay. Returns 0 if the bytes are at the front
-/// of `out`; 2 if the bytes are refused, if an identifier with the suffix is not the name of a group, or if an ACE is
-/// for a group of such a name, with the reason in `fault`; 3 if an option has no meaning; 4 if memory ran out; 5 if
-/// `out` is too short. At 0 and 5 `needed` is the number of bytes.
+/// own, over RFC 8881, section 6.2.1.5): the name of the group is the identifier followed by the suffix. AUDIT and
+/// ALARM ACEs are left out, and an ACE is counted by its place among those that stay. Returns 0 if the bytes are at the
+/// front of `out`; 2 if the bytes are refused, if an identifier with the suffix is not the name of a group, or if an
+/// ACE is for a group of such a name, with the reason in `fault`; 3 if an option has no meaning; 4 if memory ran out; 5
+/// if `out` is too short. At 0 and 5 `needed` is the number of bytes.
 #[unsafe(no_mangle)]
 pub extern "C" fn aclck_with_groups(
     alloc: Global,
@@ -40,9 +40,11 @@ pub extern "C" fn aclck_with_groups(
     needed: &mut usize,
     fault: &mut Refusal,
 ) -> u32
-    ensures bytes { WritesBytes (MakesWithGroups (profile_from options) acl.now suffix.now.bytes.now)
+    ensures bytes { WritesBytes
+        (MakesWithGroups (profile_from options) acl.now suffix.now.bytes.now)
         out.old out.new needed.old needed.new result }
-    ensures input { JudgesInput (IsRefusedNaming (profile_from options) acl.now suffix.now.bytes.now) ⊤
+    ensures input { JudgesInput
+        (IsRefusedNaming (profile_from options) acl.now suffix.now.bytes.now) ⊤
         (IsProfileOption options) status.done_or_short fault.old fault.new result }
 {
     let Some(profile) = profile_from(options) else {

@@ -87,11 +87,11 @@ const NO_DECISION: RawPosixDecision = RawPosixDecision {
     masked: 0,
 };
 
-/// Answers how the entries decide what is asked (acl(5), "ACCESS CHECK ALGORITHM"): whether it is granted, the place and
-/// the tag of the entry that decides, which are 0 if entries of groups match and none of them has all that is asked, and
-/// whether only the MASK denies it. All of `decision` is 0 if the call fails. Returns 0 if it is answered; 2 if the
-/// entries are refused, with the reason in `fault`; 3 if a number is not an id or not a set of permissions. It takes no
-/// memory.
+/// Answers how the entries decide what is asked (acl(5), "ACCESS CHECK ALGORITHM"): whether it is granted, the place
+/// and the tag of the entry that decides, which are 0 if entries of groups match and none of them has all that is
+/// asked, and whether only the MASK denies it. All of `decision` is 0 if the call fails. Returns 0 if it is answered; 2
+/// if the entries are refused, with the reason in `fault`; 3 if a number is not an id or not a set of permissions. It
+/// takes no memory.
 #[unsafe(no_mangle)]
 pub extern "C" fn aclck_entries_deciding(
     entries: &[RawEntry],

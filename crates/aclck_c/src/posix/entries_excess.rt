@@ -5,7 +5,7 @@ ghost use Rattle.acl_posix.specs.RawEntries.{raw_pairs};
 ghost use Rattle.acl_posix.specs.View.{IsCanonical};
 ghost use Rattle.aclck_c.specs.EntriesExcess.{ExceedEntries, ExceedsBy, LooksAtTwoAcls, posix_not_compared, raw_posix_difference};
 ghost use Rattle.aclck_c.specs.internal.Failures.{AreBothFailure, AreSecondFailure};
-ghost use Rattle.aclck_c.specs.Common.{IfErr, IfOk, GivesAnswer};
+ghost use Rattle.aclck_c.specs.Common.{IfErr, IfOk, OnOk, GivesAnswer};
 
 use crate::failure::Failure;
 use crate::posix::entries_check::view_refusal;
@@ -99,7 +99,8 @@ fn compared(first: &EntriesView<'_>, second: &EntriesView<'_>) -> RawPosixDiffer
 
 // Fails with the fault of the entries as that of the second ACL of a call.
 fn second_view(entries: &[RawEntry]) -> Result<EntriesView<'_>, Failure>
-    ensures canonical { IfOk result (λ view. IsCanonical entries.now × (view ≡ as_set (raw_pairs entries.now))) }
+    ensures canonical { OnOk result (IsCanonical entries.now) }
+    ensures view { IfOk result (λ view. view ≡ as_set (raw_pairs entries.now)) }
     ensures err { IfErr result (AreSecondFailure entries.now) }
 {
     match EntriesView::new(entries) {

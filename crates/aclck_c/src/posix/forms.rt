@@ -30,10 +30,10 @@ pub enum PosixForm {
 }
 
 /// Writes the entries of the ACL that a value of a form spells, in canonical order, and none if the text has no default
-/// ACL. `form` is a number of `enum aclck_posix_form`, in which the style of GNU tar has no effect, and the value is the text of `value`, whose names may stand in a
-/// text. Returns 0 if the entries are at the front of `out`; 2 if the value is refused, with the reason and the place of
-/// a byte in `fault`; 3 if no form has the number or the names make no table; 4 if memory ran out; 5 if `out` is too
-/// short. At 0 and 5 `needed` is the number of entries.
+/// ACL. `form` is a number of `enum aclck_posix_form`, in which the style of GNU tar has no effect, and the value is
+/// the text of `value`, whose names may stand in a text. Returns 0 if the entries are at the front of `out`; 2 if the
+/// value is refused, with the reason and the place of a byte in `fault`; 3 if no form has the number or the names make
+/// no table; 4 if memory ran out; 5 if `out` is too short. At 0 and 5 `needed` is the number of entries.
 #[unsafe(no_mangle)]
 pub extern "C" fn aclck_entries_from_form(
     alloc: Global,
@@ -43,8 +43,8 @@ pub extern "C" fn aclck_entries_from_form(
     needed: &mut usize,
     fault: &mut Refusal,
 ) -> u32
-    ensures { WritesOfFile value.now (IsSome (posix_form_of_number form)) (IsRefusedPosixValueIn form value.now)
-        (ReadsPosixValueIn form value.now)
+    ensures { WritesOfFile value.now (IsSome (posix_form_of_number form))
+        (IsRefusedPosixValueIn form value.now) (ReadsPosixValueIn form value.now)
         out.old out.new needed.old needed.new fault.old fault.new result }
 {
     let Some(form) = posix_form_of_number(form) else {

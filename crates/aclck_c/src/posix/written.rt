@@ -30,8 +30,8 @@ pub enum WrittenForm {
 /// Writes the value of the entries in a form. The entries may be in any order. `form` is a number of
 /// `enum aclck_posix_form`; a text has the names in place of ids, and the first row with an id has its name. Returns 0
 /// if the value is at the front of `out`; 2 if the entries are refused, or the form cannot hold them, with the reason
-/// and the place of an entry in `fault`; 3 if no form with the number is written or the names make no table; 4 if memory
-/// ran out; 5 if `out` is too short. At 0 and 5 `needed` is the number of bytes.
+/// and the place of an entry in `fault`; 3 if no form with the number is written or the names make no table; 4 if
+/// memory ran out; 5 if `out` is too short. At 0 and 5 `needed` is the number of bytes.
 #[unsafe(no_mangle)]
 pub extern "C" fn aclck_entries_to_form(
     alloc: Global,

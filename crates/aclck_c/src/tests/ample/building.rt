@@ -1,5 +1,5 @@
-//! Lists from arrays of ACEs, and questions to lists that name special identifiers which nobody knows. Bytes and answers
-//! are by RFC 8881, section 6.2.1, and RFC 4506; the numbers of reasons are those of `aclck.h`.
+//! Lists from arrays of ACEs, and questions to lists that name special identifiers which nobody knows. Bytes and
+//! answers are by RFC 8881, section 6.2.1, and RFC 4506; the numbers of reasons are those of `aclck.h`.
 use crate::options::{DIRECTORY, NARROW};
 use crate::status::{BAD_ARGUMENT, DONE, REFUSED};
 use crate::tests::{LIST, OBJECT, no_fault};

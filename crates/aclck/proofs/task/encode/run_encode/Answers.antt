@@ -10,7 +10,8 @@ returns g c =
     let input = c.in_ok-input in
     let list = c.in_ok-list in
     written_answer (EncodeAnswer (profile_of c.args.profile))
-    {Holds = λ text. IsAceText (profile_of c.args.profile) list.list text} c.write_list_answer.result c.write_list_answer.ensures
+    {Holds = λ text. IsAceText (profile_of c.args.profile) list.list text} c.write_list_answer.result
+    c.write_list_answer.ensures
     (record { input = input.input.items; is_input = input.ensures.ok; holds = list.ensures.read })
     (λ text read. (refl, record { list = list.list; read = read; is = refl })) input.ensures.end
     input.ensures.none_failed

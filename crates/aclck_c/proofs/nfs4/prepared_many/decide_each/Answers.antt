@@ -14,7 +14,8 @@ loop-place-preserved c =
     record {
       count = length-set c.loop-place.decided c.loop-place.place c.in-Some.found ∙ count;
       rights = λ list is. right_up_to
-          (λ who. AreDecidedIn (asked_prepared_by (owner_of call.object) (owning_group_of call.object) call.is_in_order who)
+          (λ who. AreDecidedIn
+          (asked_prepared_by (owner_of call.object) (owning_group_of call.object) call.is_in_order who)
           call.mask.bits list)
           c.args.requesters.now c.loop-place.decided c.loop-place.place c.in-Some.found nothing_decided _
           (c.in-Some.ensures.rights list is) (omega (arith, count, c.loop-place-test.true))

@@ -5,7 +5,7 @@ use Rattle.aclck_c.proofs.nfs4.texts.normal_form.Goals as goal
 
 pub returns-clause-ok : goal.returns-clause-ok
 returns-clause-ok c =
-    let read = c.in_ok-list.ensures.ok in
+    let read = c.in_ok-list.ensures.found in
     let form = c.in_ok-form.ensures.form in
     let is = form_of _ _ _ (code_profile c.args.profile (omega arith)) read.accepted form in
     record {

@@ -11,5 +11,6 @@ returns-clause-ok c = in_words (IsPosixValueOf c.args.form c.in_ok-ids.ids c.in_
       named = c.in_ok-ids.ensures.0;
       acl = c.in_ok-acl.acl;
       holds = c.in_ok-acl.ensures.ok;
-      made = subst (λ (ids : NamesOfIds). IsPosixValueOf c.args.form ids c.in_ok-acl.acl value) c.in_ok-ids.ensures.1 made;
+      made = subst (λ (ids : NamesOfIds). IsPosixValueOf c.args.form ids c.in_ok-acl.acl value)
+          c.in_ok-ids.ensures.1 made;
     }) c.written.ensures.ok
