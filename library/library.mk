@@ -37,9 +37,12 @@ $(MADE)/libaclck.a: $(PROVED)
 	$(AR) rcs $@ $(MADE)/aclck.o
 	rm $(MADE)/aclck.o
 
+# Prints the file for pkg-config. In what sed writes, some characters that a prefix may have mean something else.
+PRINT_PC = sed "s,@PREFIX@,$$(printf %s '$(PREFIX)' | sed 's/[\\&,]/\\&/g'),; s,@VERSION@,$(VERSION)," library/aclck.pc.in
+
 $(MADE)/aclck.pc: library/aclck.pc.in
 	mkdir -p $(MADE)
-	sed 's,@PREFIX@,$(PREFIX),; s,@VERSION@,$(VERSION),' $< > $@
+	$(PRINT_PC) > $@
 
 ## install-library    installs the library, its header and its manual pages, below PREFIX
 install-library: $(MADE)/$(SHARED) $(MADE)/libaclck.a
@@ -50,7 +53,7 @@ install-library: $(MADE)/$(SHARED) $(MADE)/libaclck.a
 	install -D -m 644 $(MADE)/libaclck.a '$(LIBDIR)/libaclck.a'
 	install -D -m 644 include/aclck.h '$(DESTDIR)$(PREFIX)/include/aclck.h'
 	mkdir -p '$(LIBDIR)/pkgconfig'
-	sed 's,@PREFIX@,$(PREFIX),; s,@VERSION@,$(VERSION),' library/aclck.pc.in > '$(LIBDIR)/pkgconfig/aclck.pc'
+	$(PRINT_PC) > '$(LIBDIR)/pkgconfig/aclck.pc'
 	for page in man/*.3; do install -D -m 644 $$page '$(DESTDIR)$(PREFIX)/share/man/man3/'$${page#man/}; done
 
 ## uninstall-library  removes what install-library installs

@@ -7,6 +7,7 @@ import errno
 import os
 import re
 import stat
+from collections import Counter
 from typing import Iterable, Iterator, List, Mapping, Match, NamedTuple, Optional, Sequence, Tuple, TypeVar, Union
 
 from . import _library as c
@@ -22,6 +23,8 @@ _NAME = re.compile(r"(?!\d+$)[^\s:,#\\]+")
 _SHORTEST_ACE = 20
 """The number of bytes of the shortest ACE that names somebody."""
 _ACCESS, _DEFAULT = "system.posix_acl_access", "system.posix_acl_default"
+_MOST_READINGS, _ENOUGH_ALIKE = 50, 10
+"""How often a file is read that changes while it is read, and how many readings in a row must find the same."""
 _CANONICAL = 0
 _FORMS = {"canonical": _CANONICAL, "shown": c.SHOWN, "short": c.FORM_SHORT}
 
@@ -140,11 +143,9 @@ class PosixAcl:
 
     @classmethod
     def from_file(cls, file: File) -> PosixAcl:
-        """Reads the lists of a file, or its mode if it has no list. Raises OSError and Refused."""
-        status = os.stat(file)
-        access = _attribute(file, _ACCESS)
-        default = _attribute(file, _DEFAULT) if stat.S_ISDIR(status.st_mode) else None
-        return cls.from_attributes(access, default, status.st_mode)
+        """Reads the lists of a file, or its mode if it has no list, as the file has them at one time. Raises OSError,
+        also if the file changes whenever it is read, and Refused."""
+        return cls.from_attributes(*_at_one_time(file))
 
     def to_attributes(self) -> Tuple[bytes, Optional[bytes]]:
         """Returns the bytes of `system.posix_acl_access` and of `system.posix_acl_default`, which is None if the list
@@ -219,12 +220,16 @@ class PosixAcl:
     def text(self, form: str = "canonical", *, users: Optional[Mapping[int, str]] = None,
              groups: Optional[Mapping[int, str]] = None) -> str:
         """Returns the text in the form `canonical`, `shown` (with `#effective`) or `short` (acl(5)). An id that `users`
-        or `groups` has is written as its name, unless the name has only digits or would not be read back."""
+        or `groups` has is written as its name, unless the name has only digits, would not be read back, or is that of
+        another id in the list, too."""
         names = {"u": users or {}, "g": groups or {}}
+        ids = {(entry.tag[0], entry.id) for entry in self if entry.id is not None}
+        times = Counter((kind, names[kind].get(number, "")) for kind, number in ids)
 
         def named(found: Match[str]) -> str:
-            name = names[found[1][0]].get(int(found[2]), "")
-            return f"{found[1]}:{name if _NAME.fullmatch(name) else found[2]}:"
+            kind = found[1][0]
+            name = names[kind].get(int(found[2]), "")
+            return f"{found[1]}:{name if _NAME.fullmatch(name) and times[kind, name] == 1 else found[2]}:"
         return _ID.sub(named, _shown(str(self).encode(), _FORMS[form], table_in_c(())).decode())
 
     @property
@@ -351,6 +356,27 @@ def _nine_bits(mode: int) -> int:
 def _mode_entries(mode: int) -> c.Entries:
     return part_in_c([Entry(False, tag, None, mode >> shift & 7) for tag, shift in
                   (("user", 6), ("group", 3), ("other", 0))])
+
+
+def _at_one_time(file: File) -> Tuple[Optional[bytes], Optional[bytes], int]:
+    """Returns both attributes of a file and its mode. A mode of one time, or of another file that had the name, and the
+    attributes of another time may grant what the file never granted.
+
+    The time of the last change says whether it changed. Each write sets that time too, so it is enough if many readings
+    in a row find the same.
+    """
+    status, before, alike = os.stat(file), None, 0
+    for _ in range(_MOST_READINGS):
+        access = _attribute(file, _ACCESS)
+        default = _attribute(file, _DEFAULT) if stat.S_ISDIR(status.st_mode) else None
+        after = os.stat(file)
+        ends = [(one.st_dev, one.st_ino, one.st_mode) for one in (status, after)]
+        found = ends, access, default
+        alike = alike + 1 if found == before else 1
+        if ends[0] == ends[1] and (status.st_ctime_ns == after.st_ctime_ns or alike == _ENOUGH_ALIKE):
+            return access, default, status.st_mode
+        status, before = after, found
+    raise OSError(errno.EBUSY, "it changed whenever it was read", file)
 
 
 def _attribute(file: File, name: str) -> Optional[bytes]:

@@ -12,7 +12,8 @@ NamedIds = Iterable[Tuple[str, int, bool]]
 
 def table_in_c(names: NamedIds) -> c.Names:
     """Returns a table of names for C."""
-    rows = [c.NamedId(c.in_c(c.encoded(name)), c.word(number), int(is_group)) for name, number, is_group in names]
+    rows = [c.NamedId(c.in_c(c.encoded(name)), c.word(number), c.word(int(is_group)))
+            for name, number, is_group in names]
     return c.Names((c.NamedId * len(rows))(*rows), len(rows))
 
 

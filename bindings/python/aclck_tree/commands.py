@@ -9,7 +9,7 @@ import glob as globs
 import os
 import re
 from dataclasses import dataclass, field, replace
-from typing import AnyStr, Dict, Iterable, Iterator, List, NamedTuple, Optional, Pattern, Set, Tuple, TypeVar
+from typing import AnyStr, Dict, Iterable, Iterator, List, NamedTuple, Optional, Pattern, Sequence, Set, Tuple, TypeVar
 
 from . import mentions
 from .ask import DENIED, UNKNOWN, Answer, Asker, Options
@@ -77,8 +77,9 @@ def asker_of(args: argparse.Namespace, snapshot: Snapshot, people: List[Person])
     is_typed = bool(getattr(args, "people", None) or getattr(args, "user", None))
     for line in mentions.lines(asker, not is_typed) if not TOGETHER.is_on else ():
         tell(f"{quoted(snapshot.place)}: {line}")
+    has_hosts = len({tree.host for tree in snapshot.trees.values()}) > 1
     for host, names in _without_ids(asker).items():
-        if len({tree.host for tree in snapshot.trees.values()}) > 1:
+        if has_hosts:
             line = f"the host {quoted(host)} does not list {mentions.words_of(names)}: answers about its"
         else:
             line = f"no id is known for {mentions.words_of(names)}: answers about"
@@ -211,17 +212,43 @@ def person_of(args: argparse.Namespace, snapshot: Snapshot) -> Person:
     return replace(listed, name=person.name, ids=person.ids)
 
 
+_SHOWN = 5
+"""How many places of an object a line shows; it counts the others."""
+
+
 def find(snapshot: Snapshot, path: str) -> Tuple[Tree, bytes, int]:
-    """Finds an object by its path as the scan wrote it, from `/`, or below the root. Raises TreeError if there is
-    none."""
-    typed = _normal(os.fsencode(path))
+    """Finds an object by its path as the scan wrote it, from `/`, or below the root, after `HOST:` or not. Raises
+    TreeError if there is none, or if the path names several objects, or one at several times."""
+    found: List[Tuple[Tree, bytes, int]] = []
     for tree in snapshot.trees.values():
-        for whole, root in ((typed, _normal(tree.root)), (_normal(os.path.abspath(typed)), _normal(tree.place))):
-            below = _below(root, whole)
-            found = snapshot.find(tree.tree, below) if below is not None else None
-            if found and below is not None:
-                return tree, below, found[2]
-    raise TreeError(f"{quoted(path)}: not in the snapshot")
+        rows = ((below, snapshot.find(tree.tree, below)) for below in _paths_below(tree, os.fsencode(path)))
+        found += next(([(tree, below, row[2])] for below, row in rows if row), [])
+    if not found:
+        raise TreeError(f"{quoted(path)}: not in the snapshot")
+    places = {(tree.host, _whole(_normal(tree.place), below)) for tree, below, _ in found}
+    if len(places) > 1:
+        names = [f"{quoted(host)}:{quoted_path(place)}" for host, place in sorted(places)]
+        more = f" and {len(names) - _SHOWN:,} more" if len(names) > _SHOWN else ""
+        raise TreeError(f"{quoted(path)}: this path is in several trees: {', '.join(names[:_SHOWN])}{more}")
+    if len({tree.place for tree, _, _ in found}) < len(found) or not _are_alike(snapshot, found):
+        raise TreeError(f"{quoted(path)}: the snapshot has it at several times")
+    return found[0]
+
+
+def _are_alike(snapshot: Snapshot, found: Sequence[Tuple[Tree, bytes, int]]) -> bool:
+    """Whether objects have the same owner, group and list."""
+    faces = snapshot.faces() if len(found) > 1 else {}
+    return len(found) == 1 or len({replace(faces[face], face=0, tree=0) for _, _, face in found}) == 1
+
+
+def _paths_below(tree: Tree, path: bytes) -> List[bytes]:
+    """Returns the paths below the root of a tree that a path may mean."""
+    host = os.fsencode(tree.host) + b":"
+    found: List[Optional[bytes]] = []
+    for one in [path, path[len(host):]] if path.startswith(host) else [path]:
+        typed = _normal(one)
+        found += [_below(_normal(tree.root), typed), _below(_normal(tree.place), _normal(os.path.abspath(typed)))]
+    return [below for below in found if below is not None]
 
 
 def _below(root: bytes, path: bytes) -> Optional[bytes]:

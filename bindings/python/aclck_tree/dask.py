@@ -25,6 +25,11 @@ from .text import quoted
 RETRIES = 3
 """How often a task is repeated that fails."""
 
+_START = ("import sys; sys.path[:] = filter(None, sys.path); import runpy; "
+          "del sys.argv[0]; runpy.run_module(sys.argv[0], None, '__main__', True)")
+"""Runs a module with the words behind its name. The option -m would look for modules in the present directory first,
+where anybody may write if it is /tmp, for example."""
+
 
 class _Done(NamedTuple):
     status: int
@@ -34,7 +39,7 @@ class _Done(NamedTuple):
 
 def _run(module: str, words: Sequence[str]) -> _Done:
     """Runs a module of the program in a process of its own. Raises DeviceError if it fails, so that it is repeated."""
-    done = subprocess.run([sys.executable, "-m", f"aclck_tree.{module}", *words], stdin=subprocess.DEVNULL,
+    done = subprocess.run([sys.executable, "-c", _START, f"aclck_tree.{module}", *words], stdin=subprocess.DEVNULL,
                           capture_output=True)
     found = _Done(done.returncode, done.stdout, done.stderr.decode(errors="backslashreplace"))
     if found.status not in (YES, NO, REFUSED, USAGE):

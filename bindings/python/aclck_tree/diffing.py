@@ -4,7 +4,7 @@ from __future__ import annotations
 
 import argparse
 import os
-from typing import Dict, Iterator, List, Optional
+from typing import Dict, Iterator, Optional, Set
 
 from aclck import mask_text
 
@@ -95,7 +95,7 @@ def diff(args: argparse.Namespace) -> int:
     compared = Compared(asker_of(args, old, before), asker_of(args, new, people))
     out = _Diff(args)
     for snapshot, side, word in ((old, 0, "first"), (new, 1, "second")):
-        for tree in _unpaired(snapshot, [pair[side] for pair in pairs]):
+        for tree in _unpaired(snapshot, {pair[side] for pair in pairs}):
             note = f"host {quoted(tree.host)}; this tree of the {word} snapshot has no pair"
             out.add(ObjectChange(ChangeKind.UNPAIRED, note), tree.place)
     joined = old.join(new, pairs, compared.alike(pairs))
@@ -107,7 +107,7 @@ def diff(args: argparse.Namespace) -> int:
     return status_of(out.status(), old, new)
 
 
-def _unpaired(snapshot: Snapshot, paired: List[int]) -> Iterator[Tree]:
+def _unpaired(snapshot: Snapshot, paired: Set[int]) -> Iterator[Tree]:
     return (tree for number, tree in snapshot.trees.items() if number not in paired)
 
 

@@ -8,9 +8,10 @@ import os
 import re
 import secrets
 import stat
-from typing import Iterator, TextIO
+from typing import BinaryIO, Iterator, TextIO
 
 from .errors import DeviceError, TreeError
+from .text import quoted
 
 
 class Part:
@@ -54,6 +55,21 @@ def refuse_what_is_no_file(path: str) -> None:
     with contextlib.suppress(OSError):
         if not stat.S_ISREG(os.lstat(path).st_mode):
             raise TreeError(f"{path}: not a regular file, and is not replaced")
+
+
+def opened_file(path: str) -> BinaryIO:
+    """Opens a file or a pipe to read it. A FIFO that nobody writes is empty, because nobody knows whether somebody will
+    write it. Raises TreeError if there is something else, such as a device that never ends, or nothing."""
+    try:
+        handle = os.open(path, os.O_RDONLY | os.O_NONBLOCK | os.O_NOCTTY)
+    except (OSError, ValueError) as error:
+        raise TreeError(f"{quoted(path)}: {getattr(error, 'strerror', None) or error}") from None
+    mode = os.fstat(handle).st_mode
+    if not stat.S_ISREG(mode) and not stat.S_ISFIFO(mode):
+        os.close(handle)
+        raise TreeError(f"{quoted(path)}: neither a file nor a pipe")
+    os.set_blocking(handle, True)
+    return open(handle, "rb")
 
 
 def _lock(handle: int) -> bool:

@@ -2,7 +2,8 @@
 reads a script, in which everything from a snapshot is data of COPY, and never a part of a statement.
 
 All snapshots of a run are one transaction, which the last line of the script ends. So if anything fails, or this
-process is killed, nothing is loaded. `tables.sql` and `views.sql` have the tables and the views.
+process is killed, nothing is loaded. `begin.sql` has what comes before the data, and `tables.sql` and `views.sql` have
+the tables and the views.
 """
 
 from __future__ import annotations
@@ -112,45 +113,6 @@ def _sql(name: str) -> str:
     with open(os.path.join(os.path.dirname(__file__), name), encoding="utf-8") as file:
         return file.read()
 
-
-_BEGIN = r"""
-BEGIN;
-SET LOCAL client_min_messages = error;
-SET LOCAL standard_conforming_strings = on;
-DO $$ BEGIN
-    IF getdatabaseencoding() <> 'UTF8' THEN
-        RAISE EXCEPTION 'aclck-tree: the encoding of the database is %, and not UTF8', getdatabaseencoding();
-    END IF;
-    IF NOT EXISTS (SELECT FROM pg_proc p JOIN pg_depend d ON d.classid = 'pg_proc'::regclass AND d.objid = p.oid
-                   JOIN pg_extension e ON e.oid = d.refobjid WHERE extname = 'aclck' AND proname = 'acl_resolved') THEN
-        RAISE EXCEPTION 'aclck-tree: the database has no extension aclck of this version: CREATE EXTENSION aclck';
-    END IF;
-END $$;
-SELECT quote_ident(nspname) AS functions FROM pg_extension e JOIN pg_namespace n ON n.oid = e.extnamespace
-WHERE extname = 'aclck' \gset
-SELECT pg_advisory_xact_lock(hashtext('aclck_tree')) WHERE to_regclass('aclck_tree.trees') IS NULL;
-SELECT to_regclass('aclck_tree.trees') IS NULL AS is_new \gset
-\if :is_new
-CREATE SCHEMA IF NOT EXISTS aclck_tree;
-SET LOCAL search_path = aclck_tree, :functions, pg_temp;
-{tables}
-{views}
-\endif
-SET LOCAL search_path = aclck_tree, :functions, pg_temp;
-DO $$ BEGIN
-    IF obj_description('aclck_tree'::regnamespace) IS DISTINCT FROM 'aclck-tree tables 1' THEN
-        RAISE EXCEPTION 'aclck-tree: the tables in the schema aclck_tree are those of another version';
-    END IF;
-END $$;
-CREATE TEMP TABLE new_tree (number int, host bytea, root bytea, place bytea, began timestamptz, ended timestamptz,
-    is_whole bool, version text, links bigint, domain text) ON COMMIT DROP;
-CREATE TEMP TABLE new_lists (digest bytea, kind text, mode int, access bytea, dflt bytea) ON COMMIT DROP;
-CREATE TEMP TABLE new_faces (face int, uid bigint, gid bigint, digest bytea, owner text, owning_group text,
-    objects bigint, first bytea) ON COMMIT DROP;
-CREATE TEMP TABLE new_unread (path bytea, step text, message text) ON COMMIT DROP;
-CREATE TEMP TABLE new_people (person int, name bytea, account text, uid bigint) ON COMMIT DROP;
-CREATE TEMP TABLE new_memberships (person int, name bytea, account text, gid bigint, is_listed bool) ON COMMIT DROP;
-"""
 
 # A partition is filled before it is one, so that nobody who asks has to wait.
 _OBJECTS = r"""
@@ -345,7 +307,8 @@ def _parts(number: int, source: _Source) -> Iterator[bytes]:
 def script(sources: Sequence[_Source]) -> Iterator[bytes]:
     """Yields the whole script, which is one transaction. psql takes the end of its input for the end of a COPY, so
     only the last line may end the transaction."""
-    yield _BEGIN.replace("{tables}", _sql("tables.sql")).replace("{views}", _sql("views.sql")).encode()
+    begin = _sql("begin.sql").replace("{tables}", _sql("tables.sql")).replace("{views}", _sql("views.sql"))
+    yield begin.encode()
     for number, source in enumerate(sources):
         yield from _parts(number, source)
     yield _END.encode()

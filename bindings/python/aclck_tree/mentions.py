@@ -89,18 +89,20 @@ def _domain(name: str) -> str:
 def unmentioned(asker: Asker, names: Optional[Iterable[Tuple[Person, Name]]] = None) -> Unmentioned:
     """Returns which of the names that are asked about the snapshot of an `Asker` does not mention: those of the people,
     or those that are given, each with a person who may give its id."""
-    lists = {face.list: asker.kind(face.list) for face in asker.faces.values()}
-    trees = {face.tree for face in asker.faces.values() if lists[face.list] is Kind.POSIX}
+    lists: Dict[int, Set[int]] = {}
+    for face in asker.faces.values():
+        lists.setdefault(face.list, set()).add(face.tree)
+    trees = {tree for number, held in lists.items() if asker.kind(number) is Kind.POSIX for tree in held}
     wanted = _wanted(asker, _names(asker) if names is None else names, trees)
     wanted.mention(set(_owners(asker)))
     in_lists: Set[bytes] = set()
-    for number, kind in lists.items():
-        if kind is Kind.NFS4:
+    for number, held in lists.items():
+        if asker.kind(number) is Kind.NFS4:
             found = {(0, is_group, who) for is_group, who in asker.whos(number)}
             wanted.mention(found)
             in_lists.update(who.partition(b"@")[2] for _, _, who in found)
         elif asker.stored(number).access is not None:
-            wanted.mention({(tree, *form) for form in _ids(asker.ready(number)) for tree in trees})
+            wanted.mention({(tree, *form) for form in _ids(asker.ready(number)) for tree in held})
     domains = set(map(decoded, in_lists - {b""}))
     foreign = {name for _, names in wanted.forms.items() for name in names
                if domains and _domain(asker.full_name(name[1])) not in domains}

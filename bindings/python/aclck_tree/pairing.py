@@ -3,7 +3,7 @@
 from __future__ import annotations
 
 import os
-from typing import Callable, Dict, Hashable, Iterable, List, Sequence, Tuple
+from typing import Callable, Dict, Hashable, Iterable, List, Sequence, Set, Tuple
 
 from .errors import UsageError
 from .snapshot import Snapshot, Tree
@@ -21,7 +21,7 @@ def pair_trees(old: Snapshot, new: Snapshot, given: Sequence[str] = ()) -> List[
     Raises UsageError if a given pair names no tree, more than one, or one that another pair has.
     """
     pairs = [_given(old, new, words) for words in given]
-    if any(len(set(side)) < len(side) for side in _sides(pairs)):
+    if any(len(side) < len(pairs) for side in _sides(pairs)):
         raise UsageError("--pair names a tree twice")
     if not pairs and len(old.trees) == len(new.trees) == 1:
         return [(next(iter(old.trees)), next(iter(new.trees)))]
@@ -32,8 +32,8 @@ def pair_trees(old: Snapshot, new: Snapshot, given: Sequence[str] = ()) -> List[
     return pairs
 
 
-def _sides(pairs: Sequence[Pair]) -> Tuple[List[int], List[int]]:
-    return [pair[0] for pair in pairs], [pair[1] for pair in pairs]
+def _sides(pairs: Sequence[Pair]) -> Tuple[Set[int], Set[int]]:
+    return {pair[0] for pair in pairs}, {pair[1] for pair in pairs}
 
 
 def _host_and_place(tree: Tree) -> Hashable:

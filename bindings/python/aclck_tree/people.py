@@ -4,6 +4,7 @@ from __future__ import annotations
 
 import functools
 import grp
+import io
 import itertools
 import os
 import pwd
@@ -13,6 +14,7 @@ from dataclasses import dataclass, field
 from typing import Dict, Iterable, Iterator, List, Optional, Sequence, Tuple, Union
 
 from .errors import TreeError, UsageError
+from .files import opened_file
 from .snapshot import Snapshot, StoredList
 from .text import quoted
 
@@ -187,6 +189,13 @@ class _Lines:
     def __init__(self, place: str) -> None:
         self._place = place
         self._number = 0
+        self._firsts: Dict[str, int] = {}
+
+    def once(self, name: str) -> None:
+        """Raises TreeError if a line in front of the present one is about a name, too."""
+        first = self._firsts.setdefault(name, self._number)
+        if first != self._number:
+            raise self.error(f"{quoted(name)} is in line {first} already")
 
     def error(self, reason: str) -> TreeError:
         """Makes the error for the present line."""
@@ -196,7 +205,8 @@ class _Lines:
         """Yields the lines. Raises TreeError if the file cannot be read, or if a program that wrote it marks bytes or
         ends of lines in another way than this system does."""
         try:
-            with open(self._place, encoding="utf-8", errors="surrogateescape", newline="\n") as file:
+            with opened_file(self._place) as data, \
+                    io.TextIOWrapper(data, encoding="utf-8", errors="surrogateescape", newline="\n") as file:
                 for self._number, line in enumerate(file, 1):
                     line = line.rstrip("\n")
                     if line.startswith("\ufeff"):
@@ -231,7 +241,8 @@ def people_file(place: str) -> List[Person]:
     """Reads lines `name: group group ..`. A name with blanks is between double quotes, and `NAME=ID` gives its id. The
     name in front of the colon may have blanks without quotes.
 
-    Raises TreeError, with the line, if a line is not of this form, and if the file cannot be read.
+    Raises TreeError, with the line, if a line is not of this form or is about a person of an earlier line, and if the
+    file cannot be read.
     """
     people = []
     lines = _Lines(place)
@@ -247,6 +258,7 @@ def people_file(place: str) -> List[Person]:
             people.append(_person(user[0], _words(parts[2])))
         except ValueError as error:
             raise lines.error(str(error)) from None
+        lines.once(people[-1].name)
     return people
 
 

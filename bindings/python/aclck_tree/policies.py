@@ -25,6 +25,7 @@ from aclck import (
 )
 
 from .errors import TreeError
+from .files import opened_file
 from .globs import PathPattern, path_pattern
 from .text import quoted
 
@@ -191,10 +192,10 @@ def read_policy(path: str) -> List[Rule]:
 
 def _loaded(path: str) -> Dict[str, Any]:
     try:
-        with open(path, "rb") as file:
+        with opened_file(path) as file:
             data = file.read(MOST_BYTES + 1)
-    except (OSError, ValueError) as error:
-        raise TreeError(f"{quoted(path)}: {getattr(error, 'strerror', None) or error}") from None
+    except OSError as error:
+        raise TreeError(f"{quoted(path)}: {error.strerror or error}") from None
     if len(data) > MOST_BYTES:
         raise TreeError(f"{quoted(path)}: it has more than {MOST_BYTES:,} bytes")
     if any(line.count(b".") > MOST_DOTS for line in data.split(b"\n")):

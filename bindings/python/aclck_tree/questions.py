@@ -178,11 +178,16 @@ def _who_row(question: Question, basis: Basis) -> Row:
 def _who_text(row: Row) -> str:
     if row["refused"] is not None:
         return f"refused {row['refused']}"
-    text = " ".join(map(quoted, row["granted"])) or "nobody"
+    text = " ".join(map(_name, row["granted"])) or "nobody"
     if row["unknown"]:
         hangs = f" (depends on {row['special']})" if row["special"] else ""
-        text += "; unknown: " + " ".join(map(quoted, row["unknown"])) + hangs
+        text += "; unknown: " + " ".join(map(_name, row["unknown"])) + hangs
     return text
+
+
+def _name(name: str) -> str:
+    """Returns the name of a person as bash reads it. Between quotes, the account `nobody` is not the word."""
+    return f"'{name}'" if name in ("nobody", "refused") else quoted(name)
 
 
 def _who_classes(out: Output, question: Question, counts: Dict[Basis, Counted]) -> None:

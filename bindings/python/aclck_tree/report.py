@@ -8,12 +8,12 @@ import itertools
 import os
 import sys
 from dataclasses import dataclass, field, replace
-from typing import Dict, Iterator, List, NamedTuple, Optional, Set, TextIO, Tuple
+from typing import Dict, Iterable, Iterator, List, NamedTuple, Optional, Set, TextIO, Tuple
 
 from .ask import DENIED, GRANTED, UNKNOWN, Answers, Asker, Want
 from .checking import Applied, Policy, tell_slips, verdict_of, words_of
 from .commands import Paths, asker_of, opened, people_of, status_of
-from .errors import NO, REFUSED, YES, tell
+from .errors import NO, REFUSED, YES, UsageError, tell
 from .files import replaced
 from .findings import Finding, everyone_words, findings, special_bits_words
 from .judging import Verdict
@@ -284,8 +284,18 @@ def _id_of_nobody(asker: Asker) -> int:
                 taken.isdisjoint((str(number), asker.full_name(str(number)))))
 
 
+def _refuse_to_replace(output: str, given: Iterable[Optional[str]]) -> None:
+    """Raises UsageError if the page would replace a file that the command reads."""
+    for place in filter(None, given):
+        with contextlib.suppress(OSError):
+            if os.path.samefile(place, output):
+                raise UsageError(f"-o names {quoted(place)}, which the page would replace")
+
+
 def report(args: argparse.Namespace) -> int:
     """Writes the page, or with --csv or --json the findings, one line per object."""
+    if args.output:
+        _refuse_to_replace(args.output, (args.snapshot, args.policy, args.people, args.passwd, args.group))
     snapshot = opened(args.snapshot)
     rules = read_policy(args.policy) if args.policy else []
     asker = asker_of(args, snapshot, people_of(args, snapshot))

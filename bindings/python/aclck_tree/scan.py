@@ -16,7 +16,7 @@ from typing import Dict, FrozenSet, Iterator, List, NamedTuple, Optional, Sequen
 
 from . import VERSION, accounts
 from .errors import DeviceError, TreeError
-from .handles import OBJECT, Directory, Handles, Held, open_list, open_root, read_names
+from .handles import OBJECT, Directory, Handles, Held, at_one_time, open_list, open_root, read_names
 from .portions import MIXED, Device, Portion
 from .progress import Progress
 from .snapshot import Account, Found, ListForm, StoredList, Tree
@@ -228,7 +228,8 @@ class Reader:
     def _keep(self, handle: int, status: os.stat_result, path: bytes, mount: bytes, result: Result) -> None:
         self._mounts[status.st_dev] = min(self._mounts.get(status.st_dev, mount), mount)
         kind = _KINDS.get(stat.S_IFMT(status.st_mode), "?")
-        stored = self._stored(b"/proc/self/fd/%d" % handle, status, path)
+        place = b"/proc/self/fd/%d" % handle
+        status, stored = at_one_time(handle, status, lambda now: self._stored(place, now, path))
         result.found.append(Found(path, kind, stat.S_IMODE(status.st_mode), status.st_uid, status.st_gid, stored))
 
     def _stored(self, place: bytes, status: os.stat_result, path: bytes) -> StoredList:

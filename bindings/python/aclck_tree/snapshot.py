@@ -139,6 +139,9 @@ class Found:
 
 Account = Tuple[int, bool, int, bytes]  # tree, whether it is a group, id, name
 
+Parts = Tuple[Dict[int, StoredList], Dict[int, Face]]
+"""Lists and faces by their numbers."""
+
 
 class Snapshot:
     """A snapshot to read. It can come from anybody: whatever is in the file, it is judged before it is used."""
@@ -243,9 +246,14 @@ class Snapshot:
         query = f"SELECT path, CAST(kind AS BLOB), {_MODE}, face FROM objects WHERE tree = ? ORDER BY path"
         return self._rows(query, (tree,))
 
-    def objects_of(self, tree: int) -> Iterator[Found]:
-        """Yields the objects of a tree in the order of paths. It keeps none of them."""
-        lists, faces = self.lists(), self.faces()
+    @functools.cached_property
+    def parts(self) -> Parts:
+        """All lists and all faces. They are kept, because a snapshot can have many trees."""
+        return self.lists(), self.faces()
+
+    def objects_of(self, tree: int, parts: Optional[Parts] = None) -> Iterator[Found]:
+        """Yields the objects of a tree in the order of paths, from all lists and all faces. It keeps no object."""
+        lists, faces = parts or self.parts
         query = f"SELECT path, kind, {_MODE}, face FROM {_OBJECTS} WHERE tree = ? ORDER BY path"
         for path, kind, mode, number in self._rows(query, (tree,)):
             face = faces[number]

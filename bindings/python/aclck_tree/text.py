@@ -82,6 +82,7 @@ class Output:
         self._columns = list(columns)
         self._line = line
         self._stream = stream or sys.stdout
+        self._is_terminal = self._stream.isatty()
         if self._form in _GUARDS:
             self._put_csv(self._columns)
 
@@ -98,9 +99,11 @@ class Output:
                 self._stream.write(quoted_line(line) + "\n")
 
     def _put_csv(self, cells: Sequence[str]) -> None:
-        """Writes a line of RFC 4180 that ends with a line feed only."""
-        marked = ['"' + cell.replace('"', '""') + '"' if set(cell) & set(',"\r\n') else cell for cell in cells]
-        self._stream.write(",".join(marked) + "\n")
+        """Writes a line of RFC 4180 that ends with a line feed only. On a terminal, which a name could control, it
+        writes it as all other lines for people."""
+        marked = ['"' + cell.replace('"', '""') + '"' if set(cell) & _IN_QUOTES else cell for cell in cells]
+        line = ",".join(marked)
+        self._stream.write((quoted_line(line) if self._is_terminal else line) + "\n")
 
     def note(self, line: str) -> None:
         """Writes a line that is not an answer: to standard output if the form is text, and otherwise to standard
@@ -124,6 +127,9 @@ def _guarded(cell: str) -> str:
     gets one more, so that a reader can take the first apostrophe of each cell away."""
     return "'" + cell if cell.startswith(tuple("=+-@\t\r\n'")) else cell
 
+
+_IN_QUOTES = frozenset(',"\r\n;\t')
+"""What puts a cell between quotes: what RFC 4180 names, and what spreadsheets take for the end of a cell, too."""
 
 _GUARDS: Dict[Form, Callable[[str], str]] = {Form.CSV: _guarded, Form.RAW_CSV: str}
 """What the forms with cells do to each cell."""

@@ -130,8 +130,9 @@ class Writer:
 def merge(writer: Writer, snapshot: Snapshot) -> None:
     """Adds everything in a snapshot of whole trees to a new one."""
     numbers = {number: writer.add_tree(tree) for number, tree in snapshot.trees.items()}
+    parts = snapshot.lists(), snapshot.faces()  # once for all trees, and for this snapshot alone
     for tree, number in numbers.items():
-        found = snapshot.objects_of(tree)
+        found = snapshot.objects_of(tree, parts)
         for first in found:
             writer.add_objects(number, [first, *itertools.islice(found, 999)])
     writer.add_names((numbers[tree], is_group, number, name) for tree, is_group, number, name in snapshot.names())
