@@ -109,10 +109,10 @@ fn tag_at(field: Piece, line: usize, word: TagWord, names: &Names) -> Result<Tag
         TagWord::Other => Ok(Tag::Other),
         TagWord::User if qualifier.is_empty() => Ok(Tag::UserObj),
         TagWord::Group if qualifier.is_empty() => Ok(Tag::GroupObj),
-        TagWord::User if is_number(qualifier) => Ok(Tag::User(read_id(qualifier).ok_or(no_id)?)),
-        TagWord::Group if is_number(qualifier) => Ok(Tag::Group(read_id(qualifier).ok_or(no_id)?)),
-        TagWord::User => Ok(Tag::User(names.user(qualifier).ok_or(unknown)?)),
-        TagWord::Group => Ok(Tag::Group(names.group(qualifier).ok_or(unknown)?)),
+        TagWord::User if is_number(qualifier) => read_id(qualifier).map(Tag::User).ok_or(no_id),
+        TagWord::Group if is_number(qualifier) => read_id(qualifier).map(Tag::Group).ok_or(no_id),
+        TagWord::User => names.user(qualifier).map(Tag::User).ok_or(unknown),
+        TagWord::Group => names.group(qualifier).map(Tag::Group).ok_or(unknown),
     }
 }
 
