@@ -4,32 +4,36 @@ ghost use Rattle.acl_nfs4.specs.Push.{who_refusal};
 
 use crate::who::WhoFault;
 use std::alloc::AllocError;
+use std::fmt;
 use thiserror::Error;
 
 /// Why a list does not accept one more ACE, in the order in which this is judged.
 #[derive(Clone, Copy, Debug, PartialEq, Eq, Error)]
 pub enum PushFault {
     /// The list has 65,536 ACEs.
-    #[error("TooManyAces")]
     TooManyAces,
     /// The list would have more than 65,536 mask bits, over all its ACEs.
-    #[error("TooHeavy")]
     TooHeavy,
     /// The who has no byte, or more than 1,024.
-    #[error("WhoLength")]
     WhoLength,
     /// The who is not UTF-8.
-    #[error("WhoUtf8")]
     WhoUtf8,
     /// The who has a byte below 0x20, or 0x7f.
-    #[error("WhoControl")]
     WhoControl,
     /// The who ends in `@` and is none of `OWNER@`, `GROUP@` and `EVERYONE@`.
-    #[error("SpecialWho")]
     SpecialWho,
     /// Memory ran out.
-    #[error("out of memory")]
     Memory,
+}
+
+/// Writes the name of the fault, such as `TooHeavy`, or that memory ran out.
+impl fmt::Display for PushFault {
+    fn fmt<W: fmt::Write>(&self, f: &mut fmt::Formatter<W>) -> fmt::Result {
+        match self {
+            PushFault::Memory => write!(f, "out of memory"),
+            fault => write!(f, "{fault:?}"),
+        }
+    }
 }
 
 impl From<WhoFault> for PushFault {
