@@ -8,6 +8,7 @@ ghost use Rattle.acl_nfs4.specs.Owned.{same_list};
 ghost use Rattle.acl_nfs4.specs.Push.{push_refusal, PushAnswers};
 ghost use Rattle.acl_nfs4.specs.declared.list.push_fault.PushFault.TheVariants.{Memory};
 ghost use Rattle.acl_nfs4.specs.internal.Appending.{Extended};
+ghost use Rattle.acl_nfs4.specs.internal.Reading.{Judges};
 ghost use Rattle.acl_nfs4.specs.Limits.{most_aces, most_weight, longest_who};
 ghost use Rattle.acl_nfs4.specs.Who.{IsWho};
 ghost use Rattle.acl_perm.specs.Kind.{kind_number};
@@ -162,6 +163,14 @@ impl Acl {
         ensures only { IsAccepted full (self.old ++ ace item.entry ∷ [])
             → push_refusal self.old (ace item.entry) ≡ None }
     {
+        self.judge_next(&item)?;
+        Ok(self.append(item)?)
+    }
+
+    // Judges one more ACE. A fault is the first condition that refuses it.
+    fn judge_next(&self, item: &AceRef<'_>) -> Result<(), PushFault>
+        ensures { Judges result (push_refusal self.now (ace item.now)) }
+    {
         if is_full(self.count as usize) {
             return Err(PushFault::TooManyAces);
         }
@@ -169,8 +178,7 @@ impl Acl {
         if is_too_heavy(self.weight + bits) {
             return Err(PushFault::TooHeavy);
         }
-        judge(item.who)?;
-        Ok(self.append(item)?)
+        Ok(judge(item.who)?)
     }
 
     /// Adds an ACE at the end of a list that stays accepted with it. Fails only if memory runs out. It judges nothing:
