@@ -1,6 +1,6 @@
 //! The fields of an ACE from a source. Each field is judged before the next is read.
-ghost use Rattle.std.specs.Prelude.{◌≡◌, ◌+◌, ◌-◌, ◌<◌, ◌≤◌, length};
-ghost use Rattle.acl_nfs4.specs.Limits.{most_weight};
+ghost use Rattle.std.specs.Prelude.{◌≡◌, ◌+◌, ◌-◌, ◌<◌, ◌≤◌, IfOk, length};
+ghost use Rattle.acl_nfs4.specs.Limits.{longest_who, most_weight};
 ghost use Rattle.acl_nfs4.specs.internal.Pulling.{DrawsAce, DrawsBytes, DrawsHead, DrawsWord, DrawsWords};
 ghost use Rattle.acl_nfs4.specs.internal.Reading.{offset_limit};
 ghost use Rattle.acl_nfs4.specs.Spelling.{longest_ace, word_size};
@@ -61,8 +61,9 @@ fn pull_words<S: Source>(source: &mut S, room: &mut [u8], next: NextAce) -> Resu
     requires room { length room.old ≡ longest_ace }
     requires fits { next.offset + longest_ace < offset_limit }
     requires light { next.weight ≤ most_weight }
-    ensures { DrawsWords next (S.remaining source.old) (S.remaining source.new)
+    ensures drawn { DrawsWords next (S.remaining source.old) (S.remaining source.new)
         (S.failure_count source.old) (S.failure_count source.new) room.new result }
+    ensures short { IfOk result (λ words. words.len ≤ longest_who) }
 {
     pull_head(source, room, next)?;
     let rights = word(source, room, 8, next.offset + 8)?;
