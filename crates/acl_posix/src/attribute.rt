@@ -43,11 +43,11 @@ impl PosixAcl {
         if let Some(fault) = frame_fault(bytes) {
             return Err(fault);
         }
-        let raws = stored_raws(alloc.clone()?, &bytes[VERSION_SIZE..])?;
+        let raws = stored_raws(alloc, &bytes[VERSION_SIZE..])?;
         if raws.is_empty() {
             return Ok(None);
         }
-        let entries = read_entries(alloc.clone()?, &raws)?;
+        let entries = read_entries(alloc, &raws)?;
         if let Some(place) = first_fall(&entries) {
             return Err(AttributeFault::Order(place));
         }

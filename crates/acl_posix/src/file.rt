@@ -88,7 +88,7 @@ fn inherit(
     ensures default { IfOk result (λ file.
         file.default ≡ created_default (Some inherited.now) dir) }
 {
-    let mut access = inherited.copy(alloc.clone()?)?;
+    let mut access = inherited.copy(alloc)?;
     access.chmod(inherited.mode().intersection(mode));
     let default = if dir {
         Some(inherited.copy(alloc)?)

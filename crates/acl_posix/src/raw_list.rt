@@ -31,7 +31,7 @@ impl PosixAcl {
         ensures fault { IfErr result (IsFaultOfRaw raws.now) }
         ensures accepts { IsValidRaw raws.now → IfErr result (λ fault. fault ≡ Acl Memory) }
     {
-        let entries = read_entries(alloc.clone()?, raws)?;
+        let entries = read_entries(alloc, raws)?;
         Ok(PosixAcl::from_entries(alloc, entries)?)
     }
 
@@ -44,7 +44,7 @@ impl PosixAcl {
         ensures fault { IfErr result (IsFaultOfRawWithMask raws.now) }
         ensures accepts { IsValidWithMask raws.now → IfErr result (λ fault. fault ≡ Acl Memory) }
     {
-        let entries = read_entries(alloc.clone()?, raws)?;
+        let entries = read_entries(alloc, raws)?;
         Ok(PosixAcl::from_entries_with_mask(alloc, entries)?)
     }
 }

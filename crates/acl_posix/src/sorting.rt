@@ -32,7 +32,7 @@ impl SortedEntries {
             return Ok(SortedEntries { items: entries });
         }
         let mut items = entries;
-        let keys = sorted_keys(alloc.clone()?, &items)?;
+        let keys = sorted_keys(alloc, &items)?;
         if !rises(&keys) {
             return Err(first_repeat(alloc, &items)?);
         }
