@@ -1,5 +1,6 @@
 -- The list that is pulled from a source: the word of its count, and the ACEs so far.
-use Rattle.acl_nfs4.proofs.Common.{[], Ace, ace_at, aces_of, ap, append-nil, arith, behind_scanned, body_in, Consumes, Consumes-trans, count_of, Decodes, DrawsCount, drop, drop-append-le, drop_all, drop_at, Err, Fault, Gives, HasAce, inl, inr, IsAtEnd, IsBytes, IsDrawn, IsFault, IsFilled, IsFirstFault, IsHalted, IsLacking, IsOwned, IsProfile, IsPulled, IsScanned, length, length-append, List, most_weight, number, Ok, Option, Place, Placed, Profile, Progress, Reason, refl, Result, subst, sym, take, take-append-le, take_all, Truncated, Xdr, ℕ, ◌++◌, ◌+◌, ◌-◌, ◌<◌, ◌∙◌, ◌∷◌, ◌≡◌, ◌≢◌, ◌≤◌}
+use Rattle.acl_nfs4.proofs.Common.{[], Ace, ace_at, aces_of, ap, append-nil, arith, behind_scanned, body_in, Consumes, Consumes-trans, count_of, Decodes, DrawsCount, drop, drop-append-le, drop_all, drop_at, Err, Fault, Gives, HasAce, inl, inr, IsAtEnd, IsBytes, IsDrawn, IsFault, IsFilled, IsFirstFault, IsHalted, IsLacking, IsOwned, IsProfile, IsPulled, IsScanned, length, length-append, List, most_weight, number, Ok, Option, Place, Placed, Profile, Progress, Read, Reason, refl, Result, subst, sym, take, take-append-le, take_all, Truncated, Xdr, ℕ, ◌++◌, ◌+◌, ◌-◌, ◌<◌, ◌∙◌, ◌∷◌, ◌≡◌, ◌≢◌, ◌≤◌, ◌⊎◌}
+use Rattle.acl_perm.specs.Devices.{one_more}
 use Rattle.acl_nfs4.specs.declared.xdr.pulling.Pulled.{Pulled}
 use Rattle.acl_nfs4.specs.Fault.Stage.{count as at_count}
 use Rattle.acl_nfs4.proofs.xdr.Fields.{bytes_append, count_is, IsBytes-drop, IsBytes-take, place}
@@ -95,6 +96,25 @@ pub halted_after : {p : Profile} {weight offset before after : ℕ} {old left : 
     (start : Option (List ℕ)) (text : List ℕ) → Consumes start old text
     → (h : IsHalted p weight offset old left before after f) → Consumes start left (text ++ h.given)
 halted_after {old = old} {left = left} start text taken h = Consumes-trans start old left text h.given taken h.taken
+
+-- if a decoder stops in an ACE with Read, one more pull failed
+pub halted_read : {p : Profile} {weight offset before after : ℕ} {old left : Option (List ℕ)} {f : Fault}
+    → IsHalted p weight offset old left before after f → f.reason ≡ Read → after ≡ one_more before
+halted_read h is = elim h.stops [
+  | inl short ↦ elim short.1 [
+    | inl ended ↦ let wrong = sym is ∙ ended.0 in absurd cc
+    | inr failed ↦ failed.1
+  ]
+  | inr rejected ↦ absurd (rejected.0.not_read is)
+]
+
+-- if a decoder stops in an ACE with another reason, no pull failed
+pub halted_unread : {p : Profile} {weight offset before after : ℕ} {old left : Option (List ℕ)} {f : Fault}
+    → IsHalted p weight offset old left before after f → (f.reason ≡ Read) ⊎ (after ≡ before)
+halted_unread h = elim h.stops [
+  | inl short ↦ elim short.1 [ inl ended ↦ inr ended.2 | inr failed ↦ inl failed.0 ]
+  | inr rejected ↦ inr rejected.1
+]
 
 -- a text that is refused has at least one byte
 some_given : (p : Profile) (weight offset : ℕ) (text : List ℕ) (f : Fault)

@@ -1,6 +1,7 @@
 use Rattle.acl_nfs4.proofs.Common.{ap, arith, inl, inr, List, profile_of, refl, ℕ, ◌++◌, ◌∙◌}
+use Rattle.acl_perm.specs.Devices.{one_more}
 use Rattle.acl_nfs4.proofs.Exits.{exit_is}
-use Rattle.acl_nfs4.proofs.xdr.PulledList.{drawn_after, halted_after, pulled_all, pulled_light, pulled_on, pulled_stops}
+use Rattle.acl_nfs4.proofs.xdr.PulledList.{drawn_after, halted_after, halted_read, halted_unread, pulled_all, pulled_light, pulled_on, pulled_stops}
 use Rattle.acl_nfs4.proofs.list.Within.{code_profile}
 use Rattle.acl_nfs4.proofs.xdr.decoder.read_value.Goals as goal
 
@@ -27,6 +28,19 @@ returns-in_err-ace-clause-given g c =
       halted_after _ inv.given inv.taken r,
       pulled_stops inv.given (code_profile c.args.profile (omega arith)) inv.so_far c.loop-test.true (omega arith) r,
     )
+
+pub returns-in_err-ace-clause-read : goal.returns-in_err-ace-clause-read
+returns-in_err-ace-clause-read g c =
+    rw (exit_is c.from_residual-in_err-ace.result c.from_residual-in_err-ace.ensures.1)
+    (λ is. halted_read c.in_err-ace.ensures is ∙ ap one_more c.loop.invariant.same)
+
+pub returns-in_err-ace-clause-unread : goal.returns-in_err-ace-clause-unread
+returns-in_err-ace-clause-unread g c =
+    rw (exit_is c.from_residual-in_err-ace.result c.from_residual-in_err-ace.ensures.1)
+    (elim (halted_unread c.in_err-ace.ensures) [
+      | inl is ↦ inl is
+      | inr kept ↦ inr (kept ∙ c.loop.invariant.same)
+    ])
 
 pub returns-in_err-extend_from_slice-clause-given : goal.returns-in_err-extend_from_slice-clause-given
 returns-in_err-extend_from_slice-clause-given g c =
