@@ -3,7 +3,7 @@ use Rattle.acl_posix.proofs.Common.{[], ap, arith, cases_lt, Entry, get_or, get_
 use Rattle.std.proofs.lemmas.List.{take_more}
 use Rattle.acl_posix.specs.declared.raw_entry.RawEntry.{RawEntry}
 use Rattle.acl_posix.specs.declared.raw_entry.EntryFault.{EntryFault}
-use Rattle.acl_posix.specs.RawEntries.{AreEntries, entry_fault, entry_fault_at, raw_pair, raw_pairs}
+use Rattle.acl_posix.specs.RawEntries.{AreEntries, IsFirstWrong, entry_fault, entry_fault_at, raw_pair, raw_pairs}
 
 -- the fault at a place is that of the numbers there
 pub fault_here : (rs : List RawEntry) (i : ℕ) (d : RawEntry) → i < length rs
@@ -28,6 +28,16 @@ right_more rs i d lt so_far here before below = elim (cases_lt before i) [
   | inr not_less ↦
       let same : before ≡ i = omega arith in ap (entry_fault_at rs) same ∙ fault_here rs i d lt ∙ here
 ]
+
+-- the first entry with wrong numbers, after entries with which nothing is wrong
+pub first_wrong : (rs : List RawEntry) (i : ℕ) (d : RawEntry) (fault : EntryFault) → i < length rs
+    → ((before : ℕ) → before < i → entry_fault_at rs before ≡ None) → entry_fault (get_or rs i d) ≡ Some fault
+    → IsFirstWrong rs i fault
+first_wrong rs i d fault lt right wrong = record {
+  in_range = lt;
+  wrong = fault_here rs i d lt ∙ wrong;
+  first = right;
+}
 
 -- an entry with wrong numbers is in no list whose numbers are all those of entries
 pub not_wrong : (rs : List RawEntry) (i : ℕ) (d : RawEntry) (fault : EntryFault) → i < length rs → AreEntries rs

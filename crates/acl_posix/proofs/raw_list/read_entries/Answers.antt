@@ -1,5 +1,13 @@
-use Rattle.acl_posix.proofs.raw_list.RawLists.{not_wrong, read_more, right_more}
+use Rattle.acl_posix.proofs.raw_list.RawLists.{first_wrong, not_wrong, read_more, right_more}
 use Rattle.acl_posix.proofs.raw_list.read_entries.Goals as goal
+
+pub returns-in-Err-clause-fault : goal.returns-in-Err-clause-fault
+returns-in-Err-clause-fault c = first_wrong c.args.raws.now c.loop-place.place _ c.in-Err.fault c.loop-place-test.true
+    c.loop-place.invariant.right c.in-Err.ensures.fault
+
+pub returns-in-Err-clause-numbers : goal.returns-in-Err-clause-numbers
+returns-in-Err-clause-numbers c = first_wrong c.args.raws.now c.loop-place.place _ c.in-Err.fault c.loop-place-test.true
+    c.loop-place.invariant.right c.in-Err.ensures.fault
 
 pub returns-in-Err-clause-accepts : goal.returns-in-Err-clause-accepts
 returns-in-Err-clause-accepts c = λ are.
