@@ -1,3 +1,4 @@
+use Rattle.acl_posix.proofs.Common.{arith}
 use Rattle.acl_posix.proofs.raw_list.RawLists.{first_wrong, not_wrong, read_more, right_more}
 use Rattle.acl_posix.proofs.raw_list.read_entries.Goals as goal
 
@@ -21,3 +22,6 @@ loop-place-preserved c = record {
   right = right_more c.args.raws.now c.loop-place.place _ c.loop-place-test.true c.loop-place.invariant.right
       c.in-Ok.ensures.valid;
 }
+
+pub returns-clause-valid : goal.returns-clause-valid
+returns-clause-valid c = λ place lt. c.loop-place.invariant.right place (omega (arith, lt, c.loop-place-test.false))
