@@ -62,7 +62,7 @@ fn entries_of(alloc: Global, count: u32, step: u32) -> Result<Vec<Entry>, AllocE
 fn acl_of(alloc: Global, count: u32, step: u32) -> Result<PosixAcl, AclFault>
     requires { 0 < count }
 {
-    let entries = entries_of(alloc.clone()?, count, step)?;
+    let entries = entries_of(alloc, count, step)?;
     PosixAcl::from_entries(alloc, entries)
 }
 
