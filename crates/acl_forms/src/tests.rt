@@ -1,4 +1,5 @@
-//! The tests of this crate, with values of the standards and of the tools that read and write the forms.
+//! The tests of this crate, with values of the standards and of the tools that read and write the forms. The head of
+//! each file says which.
 
 mod acl41;
 mod acl41_ids;

@@ -1,5 +1,6 @@
-//! Worked examples by subject. Each table of lists runs twice: in `ample` with enough memory, so that each answer is
-//! exact, and in `scarce` with memory that may run out, which is then an accepted answer and leaves a value as it was.
+//! Worked examples by subject. The head of each file says where its expected values are from. Each table of lists runs
+//! twice: in `ample` with enough memory, so that each answer is exact, and in `scarce` with memory that may run out,
+//! which is then an accepted answer and leaves a value as it was.
 
 mod ample;
 mod attributes;

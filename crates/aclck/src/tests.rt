@@ -1,5 +1,5 @@
-//! Tests of the commands over devices in memory, one file per command. The tests of the modules `ample` need enough
-//! memory; every other test accepts that memory runs out.
+//! Tests of the commands over devices in memory, one file per command. The head of each file says where its expected
+//! values are from. The tests of the modules `ample` need enough memory; every other test accepts that memory runs out.
 
 mod ample;
 mod bridge;

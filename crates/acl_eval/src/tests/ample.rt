@@ -1,5 +1,6 @@
 //! The tables of this crate in ample memory, where a check may not answer that memory ran out, as it may in the file of
-//! its subject. The module `ample` of such a file has the other tests that need ample memory.
+//! its subject. That file has the expected values and says where they are from. Its module `ample` has the other tests
+//! that need ample memory.
 
 use super::{
     bridging, creation, granting, ids, losses, mode_changes, modes, naming, owners, pruning, shapes,

@@ -1,4 +1,8 @@
-//! The examples in the doc comments of the calls: each comment's lines are in one of these tests, in order.
+//! The examples in the doc comments of the calls: each comment's lines are in one of these tests, in order. What a list
+//! grants is worked by hand from RFC 8881, section 6.2.1, its mode from sections 6.3.2 and 6.4.1.1, and what a new file
+//! inherits from docs/lists.md, "Creation", and section 6.4.3.2. What a POSIX ACL grants is worked from acl(5), "ACCESS
+//! CHECK ALGORITHM", and its list from docs/lists.md, "From POSIX to NFSv4". Which names and groups are refused is this
+//! library's own.
 
 use crate::*;
 use acl_nfs4::parse_text;

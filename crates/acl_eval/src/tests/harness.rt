@@ -1,4 +1,5 @@
-//! What the tests of this crate share: lists from rows, and what a table answers if memory runs out.
+//! What the tests of this crate share, without expected values: lists from rows, and what a table answers if memory
+//! runs out.
 
 use acl_nfs4::{AceRef, Acl, PushFault};
 use acl_perm::{Flags, Kind, Mask};

@@ -1,4 +1,5 @@
-//! Lists, as the bytes that spell them, and the questions that the tests ask.
+//! Lists, as the bytes that spell them, and the questions that the tests ask. The bytes are written by hand in the
+//! layout of RFC 4506, sections 4.2, 4.10 and 4.13, over RFC 8881, section 6.2.1.
 
 use crate::*;
 use acl_nfs4::AclView;

@@ -1,4 +1,6 @@
-//! Which whos have an id: those that are the decimal digits of a number up to 4294967294, as `%u` prints it.
+//! Which whos have an id in the layout of nfsacl41i (Samba's nfs41acl.x). OWNER@, GROUP@ and EVERYONE@ have numbers in
+//! that description. That another name has an id if it is the digits that `%u` prints of it is this library's own. Ids
+//! end at 4294967294: chown(2) changes no id if it is given the next number, which is -1.
 
 use crate::*;
 use acl_nfs4::{AceRef, Acl, Flags, Kind, Mask, PushFault};

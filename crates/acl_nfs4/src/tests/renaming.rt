@@ -1,4 +1,5 @@
-//! Names of users and groups that are exchanged by a table. The lists are worked by hand, line by line.
+//! Names of users and groups that are exchanged by a table. What a table does, and when it is refused, is this
+//! library's own. The lists are worked by hand, line by line.
 
 use crate::*;
 use std::test::Fail;

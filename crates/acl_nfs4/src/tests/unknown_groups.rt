@@ -1,4 +1,5 @@
-//! Groups that stand for unknown special identifiers. The lists are worked by hand, ACE by ACE.
+//! Groups that stand for unknown special identifiers (RFC 8881, section 6.2.1.5), which is this library's own. The
+//! bytes are in the layout of RFC 4506 over RFC 8881, section 6.2.1, and the lists are worked by hand, ACE by ACE.
 
 use crate::*;
 use std::test::Fail;

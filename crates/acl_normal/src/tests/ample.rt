@@ -1,5 +1,5 @@
-//! Checks that the calls of all tables of this crate succeed with ample memory. The tables with their expected values
-//! are in the files that are named here.
+//! Checks that the calls of all tables of this crate succeed with ample memory. The tables are in the files that are
+//! named here, each with its expected values and where they are from.
 
 use super::{
     differences, excesses, five_forms, forms, holder_words, implications, names, needed_rights,

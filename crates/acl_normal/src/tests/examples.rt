@@ -1,4 +1,6 @@
-//! The examples of the doc comments. The lines of each example are in one of these tests, in their order.
+//! The examples of the doc comments. The lines of each example are in one of these tests, in their order. The expected
+//! values are worked by hand: what a list grants from RFC 8881, section 6.2.1, and the normal form, its table, the
+//! words of its holders and the five forms from docs/lists.md and docs/proofs.md.
 
 use crate::*;
 use acl_eval::deciding_ace;

@@ -1,5 +1,6 @@
-//! Checks that the way for short lists and the way for long ones find the same normal form, below and above the number
-//! of ACEs at which `normalize` takes the other way.
+//! The property that the way for short lists and the way for long ones find the same normal form, below and above the
+//! number of ACEs at which `normalize` takes the other way. Each way is compared with the other, over lists that look
+//! random, so no expected value is written here.
 
 use super::harness::{ALLOW, AceRow, DENY, Dice, GROUP, READ_DATA, WRITE_DATA, built, kept};
 use crate::normal_form::long_form;

@@ -1,4 +1,5 @@
-//! Whole reads and whole writes with ample memory: they succeed, or they end at the call that fails.
+//! Whole reads and whole writes with ample memory: they succeed, or they end at the call that fails. The bytes that are
+//! expected are those that the device has; `whole.rt` says how the calls are counted.
 
 use super::harness::Slip;
 use super::whole::{read_ended, write_ended};

@@ -1,5 +1,6 @@
 //! Sources and sinks over devices: they give and take the same bytes as the device, make each call once, and count the
-//! calls that fail.
+//! calls that fail. The same device without the count gives the expected bytes of a source. Other numbers are counted
+//! by hand from the calls that the device allows and the bytes that each call takes.
 ghost use Rattle.std.specs.Prelude.{◌≤◌, IfSome, length};
 
 use super::harness::{FailsOnce, Slip};

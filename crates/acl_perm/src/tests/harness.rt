@@ -1,4 +1,4 @@
-//! What the tests of this crate share: how a value is shown, and a device that fails one call.
+//! What the tests of this crate share, without expected values: how a value is shown, and a device that fails one call.
 ghost use Rattle.std.specs.Prelude.{◌≡◌, IfOk};
 
 use std::alloc::Global;

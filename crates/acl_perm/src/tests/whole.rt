@@ -1,4 +1,6 @@
-//! Whole reads and whole writes with devices that fail: they end at the first failure, and report it.
+//! Whole reads and whole writes with devices that fail: they end at the first failure, and report it. The expected
+//! numbers are counted by hand: each call before the failure takes two bytes. A write that takes no byte is a failure,
+//! and a read that gives none is the end, by Rust's documentation of `ErrorKind::WriteZero` and `Read::read`.
 
 use super::harness::{FailsOnce, Slip};
 use crate::*;

@@ -1,4 +1,7 @@
-//! The examples of the doc comments: one test per example, with the same lines in the same order.
+//! The examples of the doc comments: one test per example, with the same lines in the same order. The expected values
+//! are worked by hand: what an ACL grants from acl(5), "ACCESS CHECK ALGORITHM", its mode and its mask from
+//! "CORRESPONDENCE BETWEEN ACL ENTRIES AND FILE PERMISSION BITS", a new ACL from "OBJECT CREATION AND DEFAULT ACLs",
+//! and texts from "LONG TEXT FORM". The bytes of the attribute are those of include/uapi/linux/posix_acl_xattr.h.
 
 use crate::*;
 use acl_perm::{Counted, Mode, Perm};

@@ -1,5 +1,5 @@
 //! The tables again with memory that may run out: each call succeeds with the same answer, or it fails and changes
-//! nothing.
+//! nothing. The files of the tables have their expected values and say where they are from.
 
 use super::harness::{Memory, NO_OWNER};
 use super::worked_lists;

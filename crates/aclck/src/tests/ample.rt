@@ -1,5 +1,6 @@
-//! Every row of every command with enough memory, over devices that work and over devices that fail. The expected
-//! values are in the files of the commands. A test of only one command is in the file of that command.
+//! Every row of every command with enough memory, over devices that work and over devices that fail. The files of the
+//! commands have the expected values, and say where they are from. A test of only one command is in the file of that
+//! command.
 
 use crate::tests::harness::{Trial, Way};
 use crate::tests::{

@@ -1,4 +1,5 @@
-//! Runs of commands over devices in memory, and what each test file compares its rows with.
+//! Runs of commands over devices in memory, and what each test file compares its rows with. The expected values are in
+//! the files of the commands.
 
 mod devices;
 mod failures;

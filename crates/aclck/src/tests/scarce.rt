@@ -1,6 +1,6 @@
-//! Every row of every command if memory may run out, which is then an accepted answer to each line. The expected values
-//! are in the files of the commands. Each command has a test of its own, because each request for memory that a test
-//! makes is refused in turn.
+//! Every row of every command if memory may run out, which is then an accepted answer to each line. The files of the
+//! commands have the expected values, and say where they are from. Each command has a test of its own, because each
+//! request for memory that a test makes is refused in turn.
 
 use crate::tests::harness::{Trial, Way};
 use crate::tests::{

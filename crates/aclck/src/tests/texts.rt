@@ -1,4 +1,5 @@
-//! Texts of POSIX ACLs that the tests of several commands read.
+//! Texts of POSIX ACLs that the tests of several commands read, in the forms of acl(5), "LONG TEXT FORM" and "SHORT
+//! TEXT FORM". They are inputs only; the files of the commands say where the expected values are from.
 
 /// What getfacl prints for a directory (getfacl(1)), with a tab before the effective permissions.
 pub const PRINTED: &[u8] =

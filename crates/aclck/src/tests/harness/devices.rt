@@ -1,4 +1,4 @@
-//! Devices over memory, some of whose calls fail.
+//! Devices over memory, some of whose calls fail, without expected values.
 
 use std::io;
 use std::io::{Read, Write};

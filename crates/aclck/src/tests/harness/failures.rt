@@ -1,4 +1,5 @@
-//! Runs over devices that fail, or that have nothing left.
+//! Runs over devices that fail, or that have nothing left. The run must report the call that the device refuses, and
+//! what was written before is a beginning of the text that the row of the command expects.
 
 use super::devices::{Calls, Devices, FINE};
 use super::runs::run;

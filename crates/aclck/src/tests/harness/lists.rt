@@ -1,4 +1,4 @@
-//! Inputs that are made of parts.
+//! Inputs that are made of parts, without expected values.
 
 use std::alloc::{AllocError, Global};
 

@@ -1,5 +1,6 @@
-//! Rows of a line of words with inputs, and what is answered. The proof of a table takes time that grows with the
-//! square of its length, so rows are grouped by their line, or by their input.
+//! Rows of a line of words with inputs, and what is answered. The files of the commands have the rows, and say where
+//! their values are from. The proof of a table takes time that grows with the square of its length, so rows are grouped
+//! by their line, or by their input.
 
 use super::trial::{Answer, Trial};
 use std::process::Abort;

@@ -1,4 +1,4 @@
-//! Runs of a command, and what they answer.
+//! Runs of a command, and what they answer. The exit statuses are those of aclck(1), "EXIT STATUS".
 
 use super::devices::{Device, Devices};
 use super::trial::Answer;

@@ -1,4 +1,4 @@
-//! The ways in which a row is tried.
+//! The ways in which a row is tried. The rows have the expected values.
 
 use super::devices::{Calls, Devices, FINE};
 use super::failures::{asks_for_nothing, fails_at_each_read, fails_at_each_write, refuses_at_once};
