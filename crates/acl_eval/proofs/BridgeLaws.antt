@@ -1,11 +1,10 @@
 -- What the list of a POSIX ACL grants.
-use Rattle.std.proofs.Common.{◌≡◌, ℕ, zero, suc, ◌^◌, ◌<◌, Bool, true, false, cond, List, [], ◌∷◌, refl, sym, ap, subst, ◌∙◌, arith, inl, inr}
-use Rattle.std.specs.Prelude.{◌&&◌, ◌||◌, ◌==◌, ◌↔◌, unwrap_or}
-use Rattle.std.specs.List.{All, AllByRecursion, list_any}
+use Rattle.std.proofs.Common.{◌≡◌, ℕ, zero, suc, ◌^◌, ◌<◌, Bool, true, false, cond, List, [], ◌∷◌, refl, sym, subst, ◌∙◌, arith, inl, inr}
+use Rattle.std.specs.Prelude.{◌&&◌, ◌==◌, ◌↔◌, unwrap_or}
+use Rattle.std.specs.List.{All, AllByRecursion}
 use Rattle.std.specs.FinMap as fin
 use Rattle.std.proofs.lemmas.List.Elements.{All-from_recursion}
 use Rattle.acl_perm.specs.Bits.{has_bit}
-use Rattle.acl_perm.proofs.Bools.{or_true_right}
 use Rattle.acl_perm.proofs.Sets.{subset_test}
 use Rattle.acl_posix.specs.declared.id.Id.{Id}
 use Rattle.acl_posix.specs.Id.{IsId}
@@ -23,6 +22,7 @@ use Rattle.acl_eval.proofs.Bits.{contains_power}
 use Rattle.acl_eval.proofs.Images.{Belongs, same_below, image_bit, rights}
 use Rattle.acl_eval.proofs.ValidChecks.{mask_contains, plain, plain_check}
 use Rattle.acl_eval.proofs.Agree.{IsRight, agrees}
+use Rattle.acl_eval.proofs.Members.{any_implies}
 
 -- the permission of a bit below 3 has the rights that belong to the bit
 right_at : (j b : ℕ) → j < 3 → Belongs j b → IsRight (2 ^ j) j b
@@ -47,16 +47,6 @@ and_less {a = true} {b = true} f g h = rw (f refl, g refl) refl
 and_less {a = true} {b = false} f g h = absurd cc
 and_less {a = false} f g h = absurd cc
 
--- if one test implies another, and some element passes the first, some element passes the second
-any_less : {X : Type 0} (p q : X → Bool) (xs : List X) → ((x : X) → p x ≡ true → q x ≡ true) → list_any p xs ≡ true
-    → list_any q xs ≡ true
-any_less p q [] f h = absurd cc
-any_less p q (x ∷ xs) f h =
-    elim (p x) as (λ t. p x ≡ t → (t || list_any p xs) ≡ true → (q x || list_any q xs) ≡ true) [
-      | true ↦ λ is _. rw (f x is) refl
-      | false ↦ λ is more. ap (λ (z : Bool). q x || z) (any_less p q xs f more) ∙ or_true_right (q x)
-    ] refl h
-
 -- if each of two tests implies another one, the choice between them implies the choice between the other two
 choose_less : (t : Bool) {a b c d : Bool} → (a ≡ true → b ≡ true) → (c ≡ true → d ≡ true) → cond t a c ≡ true
     → cond t b d ≡ true
@@ -73,7 +63,7 @@ plain_less E object requester want less sub =
     let contained = λ (p : ℕ). contains_less p want less sub in
     let limit : mask_contains E want ≡ true → mask_contains E less ≡ true = contained (unwrap_or (fin.get E mask) 7) in
     let class : any_contains E og gs want ≡ true → any_contains E og gs less ≡ true =
-    any_less (λ e. tag_matches og gs e.0 && contains e.1 want) (λ e. tag_matches og gs e.0 && contains e.1 less)
+    any_implies (λ e. tag_matches og gs e.0 && contains e.1 want) (λ e. tag_matches og gs e.0 && contains e.1 less)
     (fin.entries E) (λ e. and_less (λ matched. matched) (contained e.1)) in
     choose_less (requester.user == object.user) (contained (perm_at E user_obj))
     (choose_less (fin.contains_key E u) (and_less (contained (perm_at E u)) limit)

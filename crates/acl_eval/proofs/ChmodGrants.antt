@@ -25,6 +25,7 @@ use Rattle.acl_eval.proofs.Classes.{same_mode_of_parts, same_perm}
 use Rattle.acl_eval.proofs.Images.{Permits, complement, image_bit, same_below}
 use Rattle.acl_eval.proofs.Scans.{has_bit-without}
 use Rattle.acl_eval.proofs.Unnamed.{PassesNoName, group_no_name, others_no_name}
+use Rattle.acl_eval.proofs.EntryRuns.{cond_twice}
 
 -- ---- the answer of a list, given which principals match
 
@@ -382,13 +383,6 @@ class_answer test kind who perm b r p e =
     run_by-unless_empty test (record { kind = kind; flags = 0; mask = image perm; who = who }) b r
     ∙ ap (λ (x : Principal). cond (has_bit (image perm) b && test x) (is_allow kind) r) e
 
--- what some permissions allow and all others deny, if it matches
-two_ways : (u m r : Bool) → cond (u && m) true (cond (not u && m) false r) ≡ cond m u r
-two_ways true true r = refl
-two_ways true false r = refl
-two_ways false true r = refl
-two_ways false false r = refl
-
 -- what is allowed, if it matches
 one_way : (o m : Bool) → m ≡ true → cond (o && m) true false ≡ o
 one_way true true e = refl
@@ -406,7 +400,7 @@ owner_answer test mode b r le e =
     ∙ ap (cond (has_bit (image perm) b && test owner) true)
     (class_answer test Deny owner_name (7 - perm) b r owner refl
     ∙ ap (λ (t : Bool). cond (t && test owner) false r) (rest_bit b perm small e))
-    ∙ two_ways (has_bit (image perm) b) (test owner) r
+    ∙ cond_twice (has_bit (image perm) b) (test owner) r
 
 -- the last ACEs answer for the group, and for others
 others_answer : (test : Principal → Bool) (mode b : ℕ) → test everyone ≡ true → has_bit mode_rights b ≡ true
@@ -425,7 +419,7 @@ others_answer test mode b all e =
     (run_by-append test (class_ace Deny group_name (7 - perm)) last b false
     ∙ class_answer test Deny group_name (7 - perm) b (run_by test last b false) group refl
     ∙ ap (λ (t : Bool). cond (t && test group) false (run_by test last b false)) (rest_bit b perm (group_lt mode) e))
-    ∙ two_ways (has_bit (image perm) b) (test group) (run_by test last b false)
+    ∙ cond_twice (has_bit (image perm) b) (test group) (run_by test last b false)
     ∙ ap (cond (test group) (has_bit (image perm) b)) others
 
 -- ---- the whole list

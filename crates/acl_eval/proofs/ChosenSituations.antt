@@ -12,8 +12,9 @@ use Rattle.acl_posix.specs.Valid.{IsValid}
 use Rattle.acl_eval.specs.internal.LossBody.{AreKept, IsKeptFor, IsKeptWith, LossSearch, are_two_users, chosen_object, chosen_requester, chosen_user, groups_for, is_owner_tag, user_or}
 use Rattle.acl_eval.specs.internal.ShapeBody.{column_decided_by, has_tag, tag_meets}
 use Rattle.acl_eval.proofs.LostGrants.{IsWithin, denier, first_allow, first_allows}
-use Rattle.acl_eval.proofs.ShapeChecks.{choice, choice_is, first_member, second_member}
+use Rattle.acl_eval.proofs.ShapeChecks.{choice, choice_is}
 use Rattle.acl_eval.proofs.ValidChecks.{valid_is_complete}
+use Rattle.acl_eval.proofs.FreeIds.{is_member-append_left, is_member-append_right}
 
 -- three tags whose principals match, and whose numbers are used, while two other numbers are not
 record IsChoice (used : List ℕ) (object : Object) (requester : Requester) (one next : ℕ) (a b c : Tag) : Type 0 where
@@ -220,7 +221,7 @@ first_in : (used : List ℕ) (object : Object) (requester : Requester) (one next
 first_in used object requester one next a b c i = record {
   owner = λ h. ap (λ (x : Bool). x || is_owner_tag b || is_owner_tag c) h;
   user = λ id e. user_is object requester a id _ e i.first;
-  groups = λ n h. first_member n _ (groups_for one c) (first_member n (groups_for one a) (groups_for one b) h);
+  groups = λ n h. is_member-append_left n _ (groups_for one c) (is_member-append_left n (groups_for one a) (groups_for one b) h);
 }
 
 second_in : (used : List ℕ) (object : Object) (requester : Requester) (one next : ℕ) (a b c : Tag)
@@ -229,7 +230,7 @@ second_in used object requester one next a b c i = record {
   owner = λ h. ap (λ (x : Bool). (is_owner_tag a || x) || is_owner_tag c) h
       ∙ ap (λ (x : Bool). x || is_owner_tag c) (or_true_right (is_owner_tag a));
   user = λ id e. keeps_asker object requester a _ i.first (user_is object requester b id _ e i.second);
-  groups = λ n h. first_member n _ (groups_for one c) (second_member n (groups_for one a) (groups_for one b) h);
+  groups = λ n h. is_member-append_left n _ (groups_for one c) (is_member-append_right n (groups_for one a) (groups_for one b) h);
 }
 
 third_in : (used : List ℕ) (object : Object) (requester : Requester) (one next : ℕ) (a b c : Tag)
@@ -239,7 +240,7 @@ third_in used object requester one next a b c i = record {
       ∙ or_true_right (is_owner_tag a || is_owner_tag b);
   user = λ id e. keeps_asker object requester a _ i.first (keeps_asker object requester b _ i.second
       (user_is object requester c id _ e i.third));
-  groups = λ n h. second_member n (groups_for one a ++ groups_for one b) (groups_for one c) h;
+  groups = λ n h. is_member-append_right n (groups_for one a ++ groups_for one b) (groups_for one c) h;
 }
 
 -- ---- a loss is found

@@ -35,7 +35,7 @@ run_ace k l p s j b r st lt =
     ] refl
 
 -- if an entry matches, its answer is whether it has the permission; otherwise the rest answers
-cond_twice : (v m r : Bool) → cond (v && m) true (cond (not v && m) false r) ≡ cond m v r
+pub cond_twice : (v m r : Bool) → cond (v && m) true (cond (not v && m) false r) ≡ cond m v r
 cond_twice true true r = refl
 cond_twice true false r = refl
 cond_twice false true r = refl

@@ -11,9 +11,10 @@ use Rattle.acl_posix.specs.Check.{is_member}
 use Rattle.acl_posix.specs.Tag.{Tag, user_obj, user, group_obj, group, mask, other, tag_cmp}
 use Rattle.acl_eval.specs.ToPosix.{EntryShape, is_in_shape, looks_at}
 use Rattle.acl_eval.specs.internal.ShapeBody.{TagColumn, has_tag, is_certain, may_match, tag_meets}
+use Rattle.acl_eval.specs.internal.LossBody.{groups_for, is_owner_tag}
 use Rattle.acl_eval.proofs.Passes.{IsExtra, is_extra}
 use Rattle.acl_eval.proofs.FreeIds.{AreFree, eqb_comm}
-use Rattle.acl_eval.proofs.TagRequesters.{asker, asks, asker-own, entry_user, extra_groups, extra_no_mask, extra_no_owner, extra_number, extra_user, is_member-extra, is_member-groups_in, groups_in, has_number, is_owned, object_at, outside, is_member-extra_own, is_member-groups_in_own, requester_at, user_in}
+use Rattle.acl_eval.proofs.TagRequesters.{asker, asks, asker-own, entry_user, extra_groups, extra_no_mask, extra_no_owner, extra_number, extra_user, is_member-extra, is_member-groups_for, has_number, object_at, outside, is_member-extra_own, is_member-groups_for_own, requester_at, user_in}
 
 -- no group that the requester of OTHER has is one of the groups that have entries
 none_for_other : (shape : EntryShape) (keys : TagColumn) (own : ℕ) (extra : Option Tag)
@@ -49,7 +50,7 @@ looks shape keys other extra free next own f there is =
 -- the requester is the owner if and only if the entry is USER_OBJ
 pub owns : (shape : EntryShape) (keys : TagColumn) (entry : Tag) (extra : Option Tag) (free next own : ℕ)
     → AreFree shape keys free next own → is_in_shape shape entry ≡ true → IsExtra (may_match shape entry) keys extra
-    → (asker entry extra free == (if is_owned entry then asker entry extra free else next))
+    → (asker entry extra free == (if is_owner_tag entry then asker entry extra free else next))
     ≡ eq_by_cmp tag_cmp user_obj entry
 owns shape keys user_obj extra free next own f there is = eq-eqb _ _ refl
 owns shape keys (user u) extra free next own f there is =
@@ -109,14 +110,14 @@ meets_at shape keys entry extra free next own f there is (user w) has =
     ∙ ap (λ (b : Bool). b || has_number (extra_user extra) w) (sym (entry_user entry w))
     ∙ ap (λ (b : Bool). eq_by_cmp tag_cmp (user w) entry || b) (sym (extra_number extra w))
 meets_at shape keys entry extra free next own f there is group_obj has =
-    list_any-append (λ (x : ℕ). x == own) (groups_in own entry) (extra_groups own extra)
+    list_any-append (λ (x : ℕ). x == own) (groups_for own entry) (extra_groups own extra)
     ∙ ap (λ (b : Bool). b || is_member own (extra_groups own extra))
-    (is_member-groups_in_own own entry (own_of_entry shape keys entry free next own f there))
+    (is_member-groups_for_own own entry (own_of_entry shape keys entry free next own f there))
     ∙ ap (λ (b : Bool). eq_by_cmp tag_cmp group_obj entry || b) (is_member-extra_own own extra
     (λ id e. f.own_key id (subst (IsExtra (may_match shape entry) keys) e is).1))
 meets_at shape keys entry extra free next own f there is (group w) has =
-    list_any-append (λ (x : ℕ). x == w) (groups_in own entry) (extra_groups own extra)
-    ∙ ap (λ (b : Bool). b || is_member w (extra_groups own extra)) (is_member-groups_in own w entry (f.own_key w has))
+    list_any-append (λ (x : ℕ). x == w) (groups_for own entry) (extra_groups own extra)
+    ∙ ap (λ (b : Bool). b || is_member w (extra_groups own extra)) (is_member-groups_for own w entry (f.own_key w has))
     ∙ ap (λ (b : Bool). eq_by_cmp tag_cmp (group w) entry || b) (is_member-extra own w extra (f.own_key w has))
 meets_at shape keys entry extra free next own f there is mask has =
     rw (mask-not_in_shape shape entry there, extra_no_mask shape entry keys extra is) refl

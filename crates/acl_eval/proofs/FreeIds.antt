@@ -1,10 +1,10 @@
 -- Users and groups that neither a shape nor the keys of a right name: there are some, since no list has so many ACEs.
 use Rattle.std.proofs.Common.{◌≡◌, ◌≤◌, ◌<◌, ◌+◌, ℕ, zero, suc, Bool, true, false, List, [], ◌∷◌, ◌++◌, refl, sym, ap, ◌∙◌, arith, length}
-use Rattle.std.proofs.lemmas.Bool.{eq-eqb, eqb-true}
+use Rattle.std.proofs.lemmas.Bool.{eq-eqb, eqb-true, or_parts}
 use Rattle.std.proofs.lemmas.Bool.Decides.{nat_tests}
 use Rattle.std.proofs.lemmas.List.{length-append, length-map}
 use Rattle.std.proofs.lemmas.List.Folds.{list_any-append}
-use Rattle.std.specs.Prelude.{◌==◌, ◌||◌, if◌then◌else◌, map}
+use Rattle.std.specs.Prelude.{◌==◌, ◌||◌, if◌then◌else◌}
 use Rattle.std.specs.Ordering.{eq_by_cmp}
 use Rattle.acl_perm.proofs.Bools.{or_true_right}
 use Rattle.acl_posix.specs.Check.{is_member}
@@ -14,11 +14,7 @@ use Rattle.acl_posix.proofs.Exports.{same_tag}
 use Rattle.acl_nfs4.specs.Limits.{most_aces}
 use Rattle.acl_eval.specs.ToPosix.{EntryShape}
 use Rattle.acl_eval.specs.internal.ShapeBody.{TagColumn, has_tag, most_names}
-
--- neither of two tests holds
-pub or_none : (a b : Bool) → (a || b) ≡ false → (a ≡ false) × (b ≡ false)
-or_none true b h = absurd cc
-or_none false b h = (refl, h)
+use Rattle.acl_eval.specs.internal.LossBody.{key_numbers}
 
 -- the list without the first place of a number
 abbrev removed : ℕ → List ℕ → List ℕ
@@ -44,13 +40,13 @@ is_member-removed n m (x ∷ xs) h d = by (λ g. is_member-removed n m xs g d) (
     by : (is_member m (removed n xs) ≡ false → is_member m xs ≡ false) → (b : Bool) → (x == n) ≡ b
         → is_member m (if b then xs else x ∷ removed n xs) ≡ false → is_member m (x ∷ xs) ≡ false
     by rest true e h = rw (ap (λ (y : ℕ). y == m) (eqb-true x n e) ∙ d, h) refl
-    by rest false e h = let two = or_none (x == m) (is_member m (removed n xs)) h in rw (two.0, rest two.1) refl
+    by rest false e h = let two = or_parts (x == m) (is_member m (removed n xs)) h in rw (two.0, rest two.1) refl
 
 -- a number that is less than another is not the same
 eqb-gt : (k n : ℕ) → n < k → (k == n) ≡ false
 eqb-gt k n lt = grind (arith, nat_tests)
 
--- a list of fewer numbers than a bound lacks a number below the bound
+-- a list of fewer key_numbers than a bound lacks a number below the bound
 pub free_below : (k : ℕ) (xs : List ℕ) → length xs < k → (n : ℕ) × (n < k) × (is_member n xs ≡ false)
 free_below zero xs lt = absurd (omega (arith, lt))
 free_below (suc k) xs lt = by (free_below k) (is_member k xs) refl
@@ -63,7 +59,7 @@ free_below (suc k) xs lt = by (free_below k) (is_member k xs) refl
         (n, omega (arith, below), is_member-removed k n xs lacking (eqb-gt k n below))
     by rest false e = (k, omega arith, e)
 
--- two numbers are the same in either order
+-- two key_numbers are the same in either order
 pub eqb_comm : (m n : ℕ) → (m == n) ≡ (n == m)
 eqb_comm m n = grind (arith, nat_tests)
 
@@ -71,7 +67,7 @@ eqb_comm m n = grind (arith, nat_tests)
 pub eqb-not_member : (n m : ℕ) (xs : List ℕ) → is_member n xs ≡ false → is_member m xs ≡ true → (n == m) ≡ false
 eqb-not_member n m [] lacking has = absurd cc
 eqb-not_member n m (x ∷ xs) lacking has =
-    let two = or_none (x == n) (is_member n xs) lacking in by (eqb-not_member n m xs two.1) two.0 (x == m) refl has
+    let two = or_parts (x == n) (is_member n xs) lacking in by (eqb-not_member n m xs two.1) two.0 (x == m) refl has
   where
     by : (is_member m xs ≡ true → (n == m) ≡ false) → (x == n) ≡ false → (b : Bool) → (x == m) ≡ b
         → (b || is_member m xs) ≡ true → (n == m) ≡ false
@@ -79,27 +75,23 @@ eqb-not_member n m (x ∷ xs) lacking has =
     by rest differs false e h = rest h
 
 -- a member of the first of two lists is a member of both together, and so is one of the second
-is_member-append_left : (n : ℕ) (xs ys : List ℕ) → is_member n xs ≡ true → is_member n (xs ++ ys) ≡ true
+pub is_member-append_left : (n : ℕ) (xs ys : List ℕ) → is_member n xs ≡ true → is_member n (xs ++ ys) ≡ true
 is_member-append_left n xs ys h = list_any-append (λ (x : ℕ). x == n) xs ys ∙ ap (λ (b : Bool). b || is_member n ys) h
 
-is_member-append_right : (n : ℕ) (xs ys : List ℕ) → is_member n ys ≡ true → is_member n (xs ++ ys) ≡ true
+pub is_member-append_right : (n : ℕ) (xs ys : List ℕ) → is_member n ys ≡ true → is_member n (xs ++ ys) ≡ true
 is_member-append_right n xs ys h = list_any-append (λ (x : ℕ). x == n) xs ys ∙ ap (λ (b : Bool). is_member n xs || b) h
     ∙ or_true_right (is_member n xs)
 
--- the numbers of the tags of keys
-abbrev pub numbers : TagColumn → List ℕ
-numbers keys = map (λ key. qualifier key.0) keys
-
 -- the number of the tag of a key is among them
 pub is_member-numbers : (t : Tag) (keys : TagColumn) → has_tag t keys ≡ true
-    → is_member (qualifier t) (numbers keys) ≡ true
+    → is_member (qualifier t) (key_numbers keys) ≡ true
 is_member-numbers t [] h = absurd cc
 is_member-numbers t ((u, k) ∷ keys) h = by (is_member-numbers t keys) (eq_by_cmp tag_cmp t u) refl h
   where
-    by : (has_tag t keys ≡ true → is_member (qualifier t) (numbers keys) ≡ true) → (b : Bool)
+    by : (has_tag t keys ≡ true → is_member (qualifier t) (key_numbers keys) ≡ true) → (b : Bool)
         → eq_by_cmp tag_cmp t u ≡ b → (b || has_tag t keys) ≡ true
-        → is_member (qualifier t) (numbers ((u, k) ∷ keys)) ≡ true
-    by rest true e h = ap (λ (b : Bool). b || is_member (qualifier t) (numbers keys))
+        → is_member (qualifier t) (key_numbers ((u, k) ∷ keys)) ≡ true
+    by rest true e h = ap (λ (b : Bool). b || is_member (qualifier t) (key_numbers keys))
         (eq-eqb (qualifier u) (qualifier t) (ap qualifier (sym (same_tag t u e))))
     by rest false e h = ap (λ (b : Bool). (qualifier u == qualifier t) || b) (rest h)
         ∙ or_true_right (qualifier u == qualifier t)
@@ -121,7 +113,7 @@ pub record AreFree (shape : EntryShape) (keys : TagColumn) (free next own : ℕ)
 pub free_ids : (shape : EntryShape) (keys : TagColumn) → length shape.users + length shape.groups ≤ most_names
     → length keys ≤ most_aces + 1 → (free : ℕ) × (next : ℕ) × (own : ℕ) × AreFree shape keys free next own
 free_ids shape keys small few =
-    let ns = numbers keys in
+    let ns = key_numbers keys in
     let all = shape.users ++ (shape.groups ++ ns) in
     let long : length all ≡ length shape.users + (length shape.groups + length keys) =
     length-append shape.users (shape.groups ++ ns)
@@ -129,7 +121,7 @@ free_ids shape keys small few =
     ∙ ap (λ (n : ℕ). length shape.groups + n) (length-map keys (λ key. qualifier key.0))) in
     let (free, f, no_free) = free_below greatest_id all (omega (arith, small, few, long)) in
     let (next, n, no_next) = free_below greatest_id (free ∷ all) (omega (arith, small, few, long)) in
-    let two = or_none (free == next) (is_member next all) no_next in
+    let two = or_parts (free == next) (is_member next all) no_next in
     let in_users = λ (id : ℕ) (h : is_member id shape.users ≡ true).
     is_member-append_left id shape.users (shape.groups ++ ns) h in
     let in_groups = λ (id : ℕ) (h : is_member id shape.groups ≡ true).
@@ -144,7 +136,7 @@ free_ids shape keys small few =
         free_id = omega (arith, f);
         next_id = omega (arith, n);
         own_id = omega (arith, f);
-        free_user = (or_none (is_member free shape.users) (is_member free (shape.groups ++ ns))
+        free_user = (or_parts (is_member free shape.users) (is_member free (shape.groups ++ ns))
             (sym (list_any-append (λ (x : ℕ). x == free) shape.users (shape.groups ++ ns)) ∙ no_free)).0;
         free_key = λ id h. eqb-not_member free id all no_free (in_keys (user id) h);
         differ = two.0;

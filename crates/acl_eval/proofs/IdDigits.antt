@@ -1,13 +1,14 @@
 -- The id that digits spell, digit by digit.
-use Rattle.std.proofs.Common.{◌≡◌, ℕ, ◌+◌, ◌-◌, ◌*◌, ◌<◌, ◌≤◌, Bool, true, false, List, Option, Some, None, ap, ◌∙◌, arith, length, take, get_or}
+use Rattle.std.proofs.Common.{◌≡◌, ℕ, ◌+◌, ◌-◌, ◌*◌, ◌<◌, ◌≤◌, true, List, Option, Some, None, ap, ◌∙◌, arith, length, take, get_or}
 use Rattle.std.proofs.lemmas.Bool.Decides.{nat_tests}
 use Rattle.std.proofs.lemmas.Int.Digits.{digits_value_more}
 use Rattle.std.proofs.lemmas.List.Elements.{All-get_or}
 use Rattle.std.proofs.lemmas.List.Sums.{AllPass-from_list_all}
 use Rattle.std.proofs.lemmas.Str.Parse.{digits_value-take-le}
-use Rattle.std.specs.Prelude.{◌&&◌, IfSome, IsSome, option_map}
+use Rattle.std.specs.Prelude.{IfSome, IsSome, option_map}
 use Rattle.std.specs.Char.{digit_value, is_ascii_digit}
 use Rattle.std.specs.Str.Parse.{digits_value}
+use Rattle.std.proofs.lemmas.Bool.{and_parts}
 use Rattle.acl_posix.specs.Fields.{id_of}
 use Rattle.acl_posix.specs.Id.{IsId, greatest_id}
 use Rattle.acl_posix.specs.Names.{is_number}
@@ -17,15 +18,10 @@ use Rattle.acl_posix.specs.declared.id.Id.{Id}
 digit_is : (b : ℕ) → is_ascii_digit b ≡ true → digit_value b ≡ b - 48
 digit_is b h = grind (arith, nat_tests)
 
--- the second of two tests that both pass
-and_both : (a b : Bool) → (a && b) ≡ true → b ≡ true
-and_both true b h = h
-and_both false b h = absurd cc
-
 -- the byte of a number at a place is a digit
 pub digit_at : (bs : List ℕ) (i : ℕ) → i < length bs → is_number bs ≡ true → is_ascii_digit (get_or bs i 0) ≡ true
 digit_at bs i lt all =
-    All-get_or (λ b. is_ascii_digit b ≡ true) bs i 0 lt (AllPass-from_list_all is_ascii_digit bs (and_both _ _ all))
+    All-get_or (λ b. is_ascii_digit b ≡ true) bs i 0 lt (AllPass-from_list_all is_ascii_digit bs (and_parts _ _ all).1)
 
 -- the value of digits with one more after them: ten times their value, and that digit
 pub digit_more : (bs : List ℕ) (i : ℕ) → i < length bs → is_ascii_digit (get_or bs i 0) ≡ true

@@ -1,7 +1,7 @@
 -- When an entry stays as it is without a user or a group: the answers of the pass before and after, and the places at
 -- which rights are decided and denied.
 use Rattle.std.proofs.Common.{◌≡◌, ◌<◌, ◌+◌, ℕ, Bool, true, false, List, [], ◌∷◌, Option, None, Some, cond, refl, sym, ap, ◌∙◌, arith, length}
-use Rattle.std.proofs.lemmas.Bool.{eqb-true, false≢true, true≢false, ltb-true, ltb-false}
+use Rattle.std.proofs.lemmas.Bool.{eqb-true, false≢true, true≢false, ltb-true, ltb-false, and_from}
 use Rattle.std.proofs.lemmas.List.Sums.{prefix_len-le-length}
 use Rattle.std.specs.Prelude.{◌==◌, ◌&&◌, ◌||◌, not, if◌then◌else◌, bit_and, nat_lt, unwrap_or}
 use Rattle.std.specs.List.{position, position_or_len}
@@ -272,7 +272,7 @@ same_permissions columns shape name entry perm decided denied n s has at deny be
           (λ h. sym has.of_read ∙ h) at.of_read deny.of_read (λ more. (part more).of_read))
           (λ h. has.of_read ∙ less_answer shape name entry columns.read.items n s h);
       of_write = same_answers _ _
-          (λ h. both (answer out entry columns.write.items) (answer out entry columns.append.items)
+          (λ h. and_from (answer out entry columns.write.items) (answer out entry columns.append.items)
           (keeps_right shape name entry columns.write.items (has_bit perm write) decided.write denied.write n s
           (λ g. (and_true (answer shape entry columns.write.items) _ (sym has.of_write ∙ g)).0)
           at.of_write deny.of_write (λ more. (part more).of_write) h)
@@ -280,7 +280,7 @@ same_permissions columns shape name entry perm decided denied n s has at deny be
           (λ g. (and_true (answer shape entry columns.write.items) _ (sym has.of_write ∙ g)).1)
           at.of_append deny.of_append (λ more. (part more).of_append) h))
           (λ h. let two = and_true (answer out entry columns.write.items) _ h in
-          has.of_write ∙ both (answer shape entry columns.write.items) (answer shape entry columns.append.items)
+          has.of_write ∙ and_from (answer shape entry columns.write.items) (answer shape entry columns.append.items)
           (less_answer shape name entry columns.write.items n s two.0)
           (less_answer shape name entry columns.append.items n s two.1));
       of_execute = same_answers _ _
@@ -288,9 +288,6 @@ same_permissions columns shape name entry perm decided denied n s has at deny be
           (λ h. sym has.of_execute ∙ h) at.of_execute deny.of_execute (λ more. (part more).of_execute))
           (λ h. has.of_execute ∙ less_answer shape name entry columns.execute.items n s h);
     }
-  where
-    both : (a b : Bool) → a ≡ true → b ≡ true → (a && b) ≡ true
-    both a b p q = rw (p, q) refl
 
 -- an entry of a user, and USER_OBJ, have what they had whatever is taken out
 not_shared : (shape : EntryShape) (name entry : Tag) → is_shared entry ≡ false → (t : Tag)

@@ -2,12 +2,13 @@
 use Rattle.std.proofs.Common.{◌≡◌, ℕ, Bool, false, List, [], ◌∷◌, ◌++◌, Option, refl, sym, ap, ◌∙◌}
 use Rattle.std.specs.Prelude.{◌==◌, ◌||◌}
 use Rattle.std.specs.List.{list_any}
+use Rattle.std.proofs.lemmas.Bool.{or_parts}
 use Rattle.acl_perm.proofs.Bools.{or_false_right, or_regroup}
 use Rattle.acl_posix.specs.Check.{ids, is_member}
 use Rattle.acl_posix.specs.declared.id.Id.{Id}
 use Rattle.acl_nfs4.specs.Ace.{Ace}
 use Rattle.acl_eval.specs.ListNames.{AreOnce, is_number_of}
-use Rattle.acl_eval.proofs.FreeIds.{or_none, eqb_comm}
+use Rattle.acl_eval.proofs.FreeIds.{eqb_comm}
 
 -- one more ACE
 pub named_more : (of : Ace → Option ℕ) (old new : List Id) (a : Ace) (list rest : List Ace) (id : ℕ) (found : Option ℕ)
@@ -37,7 +38,7 @@ still_lacks : (id : Id) (n : ℕ) (xs : List Id) → is_member n (ids xs) ≡ fa
     → is_member n (ids (xs ++ id ∷ [])) ≡ false
 still_lacks id n [] lacking differ = rw differ refl
 still_lacks id n (x ∷ xs) lacking differ =
-    let two = or_none (x.value == n) (is_member n (ids xs)) lacking in
+    let two = or_parts (x.value == n) (is_member n (ids xs)) lacking in
     rw (two.0, still_lacks id n xs two.1 differ) refl
 
 -- an id that is not there leaves each id once
@@ -45,7 +46,7 @@ still_once : (id : Id) (xs : List Id) → is_member id.value (ids xs) ≡ false 
     → AreOnce (ids (xs ++ id ∷ []))
 still_once id [] lacking once = (refl, tt)
 still_once id (x ∷ xs) lacking once =
-    let two = or_none (x.value == id.value) (is_member id.value (ids xs)) lacking in (
+    let two = or_parts (x.value == id.value) (is_member id.value (ids xs)) lacking in (
       still_lacks id x.value xs once.0 (eqb_comm id.value x.value ∙ two.0),
       still_once id xs two.1 once.1,
     )

@@ -3,10 +3,10 @@ use Rattle.std.proofs.Common.{◌≡◌, ◌≤◌, ◌<◌, ◌+◌, ℕ, Bool,
 use Rattle.std.proofs.lemmas.Bool.{cases_lt, false≢true, true≢false}
 use Rattle.std.proofs.lemmas.List.{length-append, length-map, map-append}
 use Rattle.std.proofs.lemmas.List.Elements.{All-from_recursion}
-use Rattle.std.specs.Prelude.{◌↔◌, Err, IfOk, IfSome, Ok, Result, not}
+use Rattle.std.specs.Prelude.{◌↔◌, Err, IfOk, IfSome, Ok, Result}
 use Rattle.std.specs.List.{AllByRecursion}
 use Rattle.std.specs.FinMap as fin
-use Rattle.acl_perm.proofs.Bools.{and_true}
+use Rattle.acl_perm.proofs.Bools.{and_true, not_true}
 use Rattle.acl_perm.specs.Bits.{IsPerm, has_bit}
 use Rattle.acl_perm.specs.Situation.{Situation}
 use Rattle.acl_perm.specs.declared.kind.Kind.{Kind}
@@ -33,8 +33,9 @@ use Rattle.acl_eval.specs.declared.tag_column.Columns.{Columns}
 use Rattle.acl_eval.specs.declared.tag_column.TagKey.{TagKey}
 use Rattle.acl_eval.proofs.ChosenSituations.{nothing_lost}
 use Rattle.acl_eval.proofs.Images.{image_right, rights}
-use Rattle.acl_eval.proofs.ShapeChecks.{all_contain, first_member, second_member}
-use Rattle.acl_eval.proofs.UnusedIds.{entries_named, key_number, not_with}
+use Rattle.acl_eval.proofs.ShapeChecks.{all_contain}
+use Rattle.acl_eval.proofs.UnusedIds.{entries_named, not_with}
+use Rattle.acl_eval.proofs.FreeIds.{is_member-numbers, is_member-append_left, is_member-append_right}
 
 -- ---- the rights of a permission
 
@@ -108,10 +109,6 @@ asked_of lost = record {
   groups = All-from_recursion IsId (ids lost.groups.items) (all_ids lost.groups.items);
 }
 
-not_false : (b : Bool) → not b ≡ true → b ≡ false
-not_false true h = absurd (false≢true h)
-not_false false h = refl
-
 -- a loss that was found: both rights are granted, and the permission is not
 pub record IsRefused (list : List Ace) (E : Entries) (bit second want : ℕ) (lost : LostGrant) : Type 0 where
   pub asked : IsAsked (lost_object lost) (lost_requester lost)
@@ -134,7 +131,7 @@ found list E bit second want wanted unused lost is f =
       perm = f.perm ∙ is.perm;
       one = is.one.decides (lost_object lost) (lost_requester lost) asked ∙ more.0;
       two = is.two.decides (lost_object lost) (lost_requester lost) asked ∙ last.0;
-      denied = ap (grants E (lost_object lost) (lost_requester lost)) f.perm ∙ not_false _ last.1;
+      denied = ap (grants E (lost_object lost) (lost_requester lost)) f.perm ∙ not_true _ last.1;
       few = f.few;
     }
 
@@ -232,14 +229,14 @@ record AreParts (r w a x e : List ℕ) : Type 0 where
 
 parts : (r w a x e : List ℕ) → AreParts r w a x e
 parts r w a x e = record {
-  read = λ n h. first_member n (((r ++ w) ++ a) ++ x) e
-      (first_member n ((r ++ w) ++ a) x (first_member n (r ++ w) a (first_member n r w h)));
-  write = λ n h. first_member n (((r ++ w) ++ a) ++ x) e
-      (first_member n ((r ++ w) ++ a) x (first_member n (r ++ w) a (second_member n r w h)));
-  append = λ n h. first_member n (((r ++ w) ++ a) ++ x) e
-      (first_member n ((r ++ w) ++ a) x (second_member n (r ++ w) a h));
-  execute = λ n h. first_member n (((r ++ w) ++ a) ++ x) e (second_member n ((r ++ w) ++ a) x h);
-  entries = λ n h. second_member n (((r ++ w) ++ a) ++ x) e h;
+  read = λ n h. is_member-append_left n (((r ++ w) ++ a) ++ x) e
+      (is_member-append_left n ((r ++ w) ++ a) x (is_member-append_left n (r ++ w) a (is_member-append_left n r w h)));
+  write = λ n h. is_member-append_left n (((r ++ w) ++ a) ++ x) e
+      (is_member-append_left n ((r ++ w) ++ a) x (is_member-append_left n (r ++ w) a (is_member-append_right n r w h)));
+  append = λ n h. is_member-append_left n (((r ++ w) ++ a) ++ x) e
+      (is_member-append_left n ((r ++ w) ++ a) x (is_member-append_right n (r ++ w) a h));
+  execute = λ n h. is_member-append_left n (((r ++ w) ++ a) ++ x) e (is_member-append_right n ((r ++ w) ++ a) x h);
+  entries = λ n h. is_member-append_right n (((r ++ w) ++ a) ++ x) e h;
 }
 
 -- the tags of the columns and of the entries have these numbers
@@ -261,10 +258,10 @@ tags_used columns E =
     (key_numbers (keys_of columns.append.items)) (key_numbers (keys_of columns.execute.items))
     (entry_numbers (fin.entries E)) in
     record {
-      read = λ t h. p.read (qualifier t) (key_number t (keys_of columns.read.items) h);
-      write = λ t h. p.write (qualifier t) (key_number t (keys_of columns.write.items) h);
-      append = λ t h. p.append (qualifier t) (key_number t (keys_of columns.append.items) h);
-      execute = λ t h. p.execute (qualifier t) (key_number t (keys_of columns.execute.items) h);
+      read = λ t h. p.read (qualifier t) (is_member-numbers t (keys_of columns.read.items) h);
+      write = λ t h. p.write (qualifier t) (is_member-numbers t (keys_of columns.write.items) h);
+      append = λ t h. p.append (qualifier t) (is_member-numbers t (keys_of columns.append.items) h);
+      execute = λ t h. p.execute (qualifier t) (is_member-numbers t (keys_of columns.execute.items) h);
       entries = entries_named (fin.entries E) (used_numbers columns E) p.entries;
     }
 

@@ -5,6 +5,7 @@ use Rattle.std.proofs.lemmas.List.{append_assoc, at_drop_more, map-append}
 use Rattle.std.specs.Prelude.{◌&&◌, ◌||◌, ◌==◌, filter, if◌then◌else◌, map, nat_lt, not}
 use Rattle.std.specs.List.{AllByRecursion, list_any}
 use Rattle.std.specs.Ordering.{eq_by_cmp}
+use Rattle.std.proofs.ByRecursion.{All-push}
 use Rattle.acl_perm.proofs.Bools.{or_true_right}
 use Rattle.acl_perm.specs.declared.kind.Kind.{Kind}
 use Rattle.acl_posix.specs.Entries.{Entries}
@@ -26,17 +27,11 @@ pub one_more_left : {X : Type 0} (Q : X → Type 0) (xs : List X) (i : ℕ) (x :
 one_more_left Q xs i x lt is q rest =
     subst (AllByRecursion Q) (sym (at_drop_more (λ ys. ys) xs i x lt)) (subst Q is q, rest)
 
--- one more element at the end
-all_and_one : {X : Type 0} (Q : X → Type 0) (xs : List X) (x : X) → AllByRecursion Q xs → Q x
-    → AllByRecursion Q (xs ++ x ∷ [])
-all_and_one Q [] x all q = (q, tt)
-all_and_one Q (y ∷ xs) x all q = (all.0, all_and_one Q xs x all.1 q)
-
 -- if each tag of a list is judged, and one more tag is, each of all is
 pub judged_more : (wanted : Wanted) (E : Entries) (old new : List JudgedTag) (x : JudgedTag) → new ≡ old ++ x ∷ []
     → AllByRecursion (IsJudgedTag wanted E) old → IsJudgedTag wanted E x → AllByRecursion (IsJudgedTag wanted E) new
 judged_more wanted E old new x is all one =
-    subst (AllByRecursion (IsJudgedTag wanted E)) (sym is) (all_and_one (IsJudgedTag wanted E) old x all one)
+    subst (AllByRecursion (IsJudgedTag wanted E)) (sym is) (All-push (IsJudgedTag wanted E) old x all one)
 
 -- ---- the tags of keys that allow
 

@@ -1,6 +1,6 @@
 -- What is lost if a user or a group gets no entry: the other entries decide it.
 use Rattle.std.proofs.Common.{◌≡◌, ◌≤◌, ℕ, Bool, true, false, List, [], ◌∷◌, ◌++◌, length, Option, None, Some, refl, sym, ap, subst, ◌∙◌, arith, inl, inr}
-use Rattle.std.proofs.lemmas.Bool.{cases_Bool, eq-eqb, eqb-true, false≢true, not-true, or_cases, true≢false}
+use Rattle.std.proofs.lemmas.Bool.{cases_Bool, eq-eqb, eqb-true, false≢true, not-true, or_cases, true≢false, or_parts}
 use Rattle.std.proofs.lemmas.List.Folds.{list_any-append}
 use Rattle.std.proofs.lemmas.List.Sums.{count_by-le-length, length-filter}
 use Rattle.std.proofs.lemmas.Option.{same_Some}
@@ -17,9 +17,10 @@ use Rattle.acl_nfs4.specs.Ace.{Ace}
 use Rattle.acl_eval.specs.Pruning.{IsNameOf, KeepsEntries, LosesNothing, ShapeGrants, shape_without, is_shared, taken_out}
 use Rattle.acl_eval.specs.ToPosix.{AlwaysHas, EntryShape, is_in_class, is_in_shape, looks_at, size_of}
 use Rattle.acl_eval.specs.internal.ShapeBody.{TagColumn, may_match}
+use Rattle.acl_eval.specs.internal.LossBody.{groups_for}
 use Rattle.acl_eval.proofs.Passes.{IsExtra, is_extra, eq_by_cmp-refl}
-use Rattle.acl_eval.proofs.FreeIds.{AreFree, free_ids, or_none}
-use Rattle.acl_eval.proofs.TagRequesters.{asker, extra_groups, is_member-extra, is_member-groups_in, groups_in, object_at, is_member-extra_own, is_member-groups_in_own, requester_at}
+use Rattle.acl_eval.proofs.FreeIds.{AreFree, free_ids}
+use Rattle.acl_eval.proofs.TagRequesters.{asker, extra_groups, is_member-extra, is_member-groups_for, object_at, is_member-extra_own, is_member-groups_for_own, requester_at}
 use Rattle.acl_eval.proofs.EntrySituations.{looks}
 use Rattle.acl_eval.proofs.SituationIds.{HasIds, asked_by_tags, entry_id}
 use Rattle.acl_eval.proofs.PossibleTags.{list_any-none}
@@ -189,8 +190,8 @@ pub none_less : (own : ℕ) (whole part gs : List ℕ) → ((id : ℕ) → is_me
     → list_any (λ id. id == own || is_member id part) gs ≡ false
 none_less own whole part [] within h = refl
 none_less own whole part (g ∷ gs) within h =
-    let two = or_none (g == own || is_member g whole) (list_any (λ id. id == own || is_member id whole) gs) h in
-    let one = or_none (g == own) (is_member g whole) two.0 in
+    let two = or_parts (g == own || is_member g whole) (list_any (λ id. id == own || is_member id whole) gs) h in
+    let one = or_parts (g == own) (is_member g whole) two.0 in
     rw (one.0, lacks_part g whole part (within g) one.1, none_less own whole part gs within two.1) refl
 
 -- the user who was taken out is in the class of the others
@@ -338,16 +339,16 @@ only t e extra free next own s there o1 o2 n1 n2 class group_obj l =
     ∙ (ap (λ (b : Bool). eq_by_cmp tag_cmp group_obj e || b) (sym n1)
     ∙ (ap (λ (b : Bool). eq_by_cmp tag_cmp group_obj e || b) (sym (is_member-extra_own own extra o2))
     ∙ (ap (λ (b : Bool). b || is_member own (extra_groups own extra))
-    (sym (is_member-groups_in_own own e (λ id q. o1 id (sym (ap (is_in_shape t) q) ∙ there))))
-    ∙ (sym (list_any-append (λ (x : ℕ). x == own) (groups_in own e) (extra_groups own extra)) ∙ two.1)))))
+    (sym (is_member-groups_for_own own e (λ id q. o1 id (sym (ap (is_in_shape t) q) ∙ there))))
+    ∙ (sym (list_any-append (λ (x : ℕ). x == own) (groups_for own e) (extra_groups own extra)) ∙ two.1)))))
 only t e extra free next own s there o1 o2 n1 n2 class (group h) l =
     let two = and_true (is_in_class t (object_at e extra free next own) (requester_at e extra free own)) _ l in
-    let one = and_true (is_member h (groups_in own e ++ extra_groups own extra)) (is_member h t.groups) two.1 in
+    let one = and_true (is_member h (groups_for own e ++ extra_groups own extra)) (is_member h t.groups) two.1 in
     same_tag (group h) e (sym (or_false_right (eq_by_cmp tag_cmp (group h) e))
     ∙ (ap (λ (b : Bool). eq_by_cmp tag_cmp (group h) e || b) (sym (n2 h one.1))
     ∙ (ap (λ (b : Bool). eq_by_cmp tag_cmp (group h) e || b) (sym (is_member-extra own h extra (o1 h one.1)))
-    ∙ (ap (λ (b : Bool). b || is_member h (extra_groups own extra)) (sym (is_member-groups_in own h e (o1 h one.1)))
-    ∙ (sym (list_any-append (λ (x : ℕ). x == h) (groups_in own e) (extra_groups own extra)) ∙ one.0)))))
+    ∙ (ap (λ (b : Bool). b || is_member h (extra_groups own extra)) (sym (is_member-groups_for own h e (o1 h one.1)))
+    ∙ (sym (list_any-append (λ (x : ℕ). x == h) (groups_for own e) (extra_groups own extra)) ∙ one.0)))))
 only t e extra free next own s there o1 o2 n1 n2 class mask l = absurd (false≢true l)
 only t user_obj extra free next own s there o1 o2 n1 n2 class other l = absurd (false≢true s)
 only t (user id) extra free next own s there o1 o2 n1 n2 class other l = absurd (false≢true s)
@@ -382,7 +383,7 @@ may_be_out shape mask e n s = absurd (false≢true n)
 may_be_out shape other e n s = absurd (false≢true n)
 
 -- it is neither the owning group nor a group of the rest
-not_owning : (name : Tag) → is_named name ≡ true → eq_by_cmp tag_cmp group_obj name ≡ false
+pub not_owning : (name : Tag) → is_named name ≡ true → eq_by_cmp tag_cmp group_obj name ≡ false
 not_owning user_obj n = absurd (false≢true n)
 not_owning (user u) n = refl
 not_owning group_obj n = absurd (false≢true n)
@@ -427,10 +428,10 @@ looked_out shape (user u) e free next own keys f n there s =
 looked_out shape group_obj e free next own keys f n there s = absurd (false≢true n)
 looked_out shape (group g) e free next own keys f n there s =
     let asks : asker e (Some (group g)) free ≡ free = no_user e free s in
-    let member : is_member g (groups_in own e ++ g ∷ []) ≡ true =
-    list_any-append (λ (x : ℕ). x == g) (groups_in own e) (g ∷ [])
-    ∙ ap (λ (b : Bool). is_member g (groups_in own e) || (b || false)) (eq-eqb g g refl)
-    ∙ or_true_right (is_member g (groups_in own e)) in
+    let member : is_member g (groups_for own e ++ g ∷ []) ≡ true =
+    list_any-append (λ (x : ℕ). x == g) (groups_for own e) (g ∷ [])
+    ∙ ap (λ (b : Bool). is_member g (groups_for own e) || (b || false)) (eq-eqb g g refl)
+    ∙ or_true_right (is_member g (groups_for own e)) in
     rw (owned e (Some (group g)) free next own s, asks, f.differ, f.free_user, member, there) refl
 looked_out shape mask e free next own keys f n there s = absurd (false≢true n)
 looked_out shape other e free next own keys f n there s = absurd (false≢true n)

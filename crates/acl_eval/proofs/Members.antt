@@ -14,11 +14,22 @@ use Rattle.std.specs.Ordering.{is_eq, is_le, is_lt, is_some_and, nat_cmp, orderi
 use Rattle.std.specs.Str.{bytes_eq}
 use Rattle.std.specs.declared.cmp.Ordering.{Ordering}
 use Rattle.std.specs.declared.cmp.Ordering.TheVariants.{Less, Equal, Greater}
+use Rattle.acl_perm.proofs.Bools.{or_true_right}
 use Rattle.acl_eval.specs.GroupSearch.{AreSameGroups}
 use Rattle.acl_eval.specs.Situation.{groups_of, named_situation, owner_of, owning_group_of, situation, user_of}
 use Rattle.acl_eval.specs.declared.situation.Object.{Object}
 use Rattle.acl_eval.specs.declared.situation.Requester.{Requester}
 use Rattle.acl_eval.specs.internal.GroupOrder.{AreInOrder}
+
+-- if one test implies another, and some element passes the first, some element passes the second
+pub any_implies : {X : Type 0} (p q : X → Bool) (xs : List X) → ((x : X) → p x ≡ true → q x ≡ true)
+    → list_any p xs ≡ true → list_any q xs ≡ true
+any_implies p q [] f h = absurd cc
+any_implies p q (x ∷ xs) f h =
+    elim (p x) as (λ t. p x ≡ t → (t || list_any p xs) ≡ true → (q x || list_any q xs) ≡ true) [
+      | true ↦ λ is _. rw (f x is) refl
+      | false ↦ λ is more. ap (λ (z : Bool). q x || z) (any_implies p q xs f more) ∙ or_true_right (q x)
+    ] refl h
 
 -- a test of the values behind references
 pub any_now : (p : List ℕ → Bool) (xs : List (Bor (List ℕ)))

@@ -4,7 +4,7 @@ use Rattle.std.specs.Prelude.{◌&&◌, ◌||◌, ◌↔◌, bit_or, filter, fin
 use Rattle.std.specs.List.{AllByRecursion, list_any}
 use Rattle.std.specs.Option.{is_none}
 use Rattle.std.specs.Str.{bytes_eq}
-use Rattle.std.proofs.lemmas.Bool.{and_parts, true≢false}
+use Rattle.std.proofs.lemmas.Bool.{and_parts, true≢false, false_from_ne_true}
 use Rattle.std.proofs.lemmas.List.{append_cancel_right}
 use Rattle.std.proofs.lemmas.List.Folds.{list_any-append}
 use Rattle.acl_perm.proofs.Meetings.{bytes_eq_same, itself}
@@ -12,6 +12,7 @@ use Rattle.acl_perm.proofs.Sets.{has_bit-or}
 use Rattle.acl_perm.specs.Bits.{IsSubset, has_bit, identifier_group, identifier_group_alone, inherit_only}
 use Rattle.acl_perm.specs.Principal.{group_named}
 use Rattle.acl_perm.specs.Situation.{IsSituation, Situation, is_one_of, matches}
+use Rattle.acl_perm.proofs.Bools.{or_false_right, not_false, not_true, or_true_right, and_regroup}
 use Rattle.acl_nfs4.specs.Ace.{Ace}
 use Rattle.acl_nfs4.specs.Renamed.{is_account, is_of_group}
 use Rattle.acl_nfs4.specs.UnknownGroups.{HasFreeNames, is_misnamed, is_stand_in, has_taken_name, with_stand_in, with_groups}
@@ -24,18 +25,9 @@ use Rattle.acl_eval.specs.Memberships.{IsApart, joining, matched_groups}
 use Rattle.acl_eval.specs.Unknown.{answer_under, Assignment, decides_under, GrantsUnder, matches_under}
 use Rattle.acl_eval.proofs.Deciders.{granted_by_allows}
 use Rattle.acl_eval.proofs.Unknowns.{match_known, match_unknown}
+use Rattle.acl_eval.proofs.Members.{any_implies}
 
 -- ---- tests of some element
-
--- nothing is added by false
-or_false : (b : Bool) → (b || false) ≡ b
-or_false true = refl
-or_false false = refl
-
--- a test that is not true is false
-is_false : (b : Bool) → (b ≡ true → ⊥) → b ≡ false
-is_false true never = absurd (never refl)
-is_false false never = refl
 
 -- if none of three is true, each is false
 none_of_three : (a b c : Bool) → (a || b || c) ≡ false → (a ≡ false) × (b ≡ false) × (c ≡ false)
@@ -43,20 +35,6 @@ none_of_three true b c e = absurd cc
 none_of_three false true c e = absurd cc
 none_of_three false false true e = absurd cc
 none_of_three false false false e = (refl, refl, refl)
-
--- if a test of some element passes, so does each test that passes wherever the first does
-any_implies : {X : Type 0} (p q : X → Bool) (xs : List X) → ((x : X) → p x ≡ true → q x ≡ true)
-    → list_any p xs ≡ true → list_any q xs ≡ true
-any_implies p q [] h e = absurd (true≢false (sym e))
-any_implies p q (x ∷ xs) h e = by (any_implies p q xs h) (p x) refl
-  where
-    or_true : (b : Bool) → (b || true) ≡ true
-    or_true true = refl
-    or_true false = refl
-
-    by : (list_any p xs ≡ true → list_any q xs ≡ true) → (b : Bool) → p x ≡ b → list_any q (x ∷ xs) ≡ true
-    by rest true pe = rw (h x pe) refl
-    by rest false pe = rw (rest (sym (ap (λ (t : Bool). t || list_any p xs) pe) ∙ e)) (or_true (q x))
 
 -- if a test of some element passes, what follows from it wherever it passes is so
 any_gives : {X P : Type 0} (p : X → Bool) (xs : List X) → ((x : X) → p x ≡ true → P) → list_any p xs ≡ true → P
@@ -75,13 +53,9 @@ AlwaysHas list a = (q : Ace → Bool) → q a ≡ true → list_any q list ≡ t
 has_each : (front list whole : List Ace) → front ++ list ≡ whole → AllByRecursion (AlwaysHas whole) list
 has_each front [] whole e = tt
 has_each front (a ∷ list) whole e = (
-  λ q h. ap (list_any q) (sym e) ∙ list_any-append q front (a ∷ list) ∙ rw h (or_true (list_any q front)),
+  λ q h. ap (list_any q) (sym e) ∙ list_any-append q front (a ∷ list) ∙ rw h (or_true_right (list_any q front)),
   has_each (front ++ a ∷ []) list whole (append_assoc front (a ∷ []) list ∙ e),
 )
-  where
-    or_true : (b : Bool) → (b || true) ≡ true
-    or_true true = refl
-    or_true false = refl
 
 -- a name is one of those of the elements that pass if and only if some element passes and has it
 any_of_map : (p : Ace → Bool) (f : Ace → List ℕ) (name : List ℕ) (list : List Ace)
@@ -117,7 +91,7 @@ module _ (suffix : List ℕ) (list : List Ace) (v : Assignment) (s : Situation) 
   -- a name that stands for no identifier is not among the groups that match
   not_new : (name : List ℕ) → is_stand_in suffix list name ≡ false
       → is_one_of name (matched_groups v suffix list) ≡ false
-  not_new name free = new_is name ∙ is_false (list_any (gives name) list) (λ e.
+  not_new name free = new_is name ∙ false_from_ne_true (list_any (gives name) list) (λ e.
       true≢false (sym (any_implies (gives name) (λ a. is_unknown_special a.who && bytes_eq (a.who ++ suffix) name) list
       (λ a h. let both = and_parts _ _ h in
       let unknown = (and_parts (is_unknown_special a.who) (v a.who) both.0).0 in
@@ -128,11 +102,11 @@ module _ (suffix : List ℕ) (list : List Ace) (v : Assignment) (s : Situation) 
   -- so it is a group of the requester if and only if it was one
   stays : (name : List ℕ) → is_stand_in suffix list name ≡ false → is_one_of name after.groups ≡ is_one_of name s.groups
   stays name free = list_any-append (bytes_eq name) s.groups (matched_groups v suffix list)
-      ∙ ap (λ (t : Bool). is_one_of name s.groups || t) (not_new name free) ∙ or_false (is_one_of name s.groups)
+      ∙ ap (λ (t : Bool). is_one_of name s.groups || t) (not_new name free) ∙ or_false_right (is_one_of name s.groups)
 
   -- a name that stands for an identifier is no group of the requester before
   not_before : (name : List ℕ) → is_stand_in suffix list name ≡ true → is_one_of name s.groups ≡ false
-  not_before name stands = is_false (is_one_of name s.groups) (λ e.
+  not_before name stands = false_from_ne_true (is_one_of name s.groups) (λ e.
       true≢false (sym (any_implies (bytes_eq name) (is_stand_in suffix list) s.groups
       (λ g h. ap (is_stand_in suffix list) (sym (bytes_eq_same name g h)) ∙ stands) e) ∙ apart.groups))
 
@@ -151,7 +125,7 @@ module _ (suffix : List ℕ) (list : List Ace) (v : Assignment) (s : Situation) 
 
       by : (t : Bool) → v a.who ≡ t → list_any (gives name) list ≡ v a.who
       by true e = has (gives name) (rw (unknown, e) (itself name)) ∙ sym e
-      by false e = is_false (list_any (gives name) list) (λ h. any_gives (gives name) list (λ b g.
+      by false e = false_from_ne_true (list_any (gives name) list) (λ h. any_gives (gives name) list (λ b g.
           let both = and_parts _ _ g in
           let same : a.who ≡ b.who = append_cancel_right a.who b.who suffix (bytes_eq_same _ _ both.1) in
           true≢false (sym (and_parts (is_unknown_special b.who) (v b.who) both.0).1 ∙ ap v (sym same) ∙ e)) h)
@@ -180,29 +154,17 @@ module _ (suffix : List ℕ) (list : List Ace) (v : Assignment) (s : Situation) 
       w : List ℕ
       w = a.who ++ suffix
 
-      turned : (t : Bool) → not t ≡ false → t ≡ true
-      turned true e = refl
-      turned false e = absurd (true≢false e)
-
-      untrue : (t : Bool) → not t ≡ true → t ≡ false
-      untrue true e = absurd (true≢false (sym e))
-      untrue false e = refl
-
       account : is_account w ≡ true
-      account = turned (is_account w) (sym (ap (λ (t : Bool). t && not (is_account w)) unknown) ∙ named)
+      account = not_false (is_account w) (sym (ap (λ (t : Bool). t && not (is_account w)) unknown) ∙ named)
 
       plain : (bytes_eq w owner_name ≡ false) × (bytes_eq w group_name ≡ false) × (bytes_eq w everyone_name ≡ false)
       plain =
           let none : is_special w ≡ false =
-          untrue (is_special w) (and_parts (is_none (who_fault w)) (not (is_special w)) account).1 in
+          not_true (is_special w) (and_parts (is_none (who_fault w)) (not (is_special w)) account).1 in
           none_of_three (bytes_eq w owner_name) (bytes_eq w group_name) (bytes_eq w everyone_name) none
 
-      or_true : (b : Bool) → (b || true) ≡ true
-      or_true true = refl
-      or_true false = refl
-
       flag : has_bit (bit_or a.flags identifier_group_alone) identifier_group ≡ true
-      flag = has_bit-or a.flags identifier_group_alone identifier_group ∙ or_true (has_bit a.flags identifier_group)
+      flag = has_bit-or a.flags identifier_group_alone identifier_group ∙ or_true_right (has_bit a.flags identifier_group)
 
   -- the ACE with a group matches as the assignment says
   same_match : (a : Ace) → AlwaysHas list a → is_misnamed suffix a ≡ false → has_taken_name suffix list a ≡ false
@@ -225,7 +187,7 @@ module _ (suffix : List ℕ) (list : List Ace) (v : Assignment) (s : Situation) 
     where
       by : (u : Bool) → is_unknown_special a.who ≡ u → takes_part (with_stand_in suffix a) ≡ takes_part a
       by true u = rw u (ap not (has_bit-or a.flags identifier_group_alone inherit_only
-          ∙ or_false (has_bit a.flags inherit_only)))
+          ∙ or_false_right (has_bit a.flags inherit_only)))
       by false u = rw u refl
 
   -- it decides a bit if and only if the ACE does under the assignment
@@ -234,11 +196,7 @@ module _ (suffix : List ℕ) (list : List Ace) (v : Assignment) (s : Situation) 
   same_decides a bit has named free =
       ap (λ (t : Bool). has_bit a.mask bit && (takes_part (with_stand_in suffix a) && t)) (same_match a has named free)
       ∙ ap (λ (t : Bool). has_bit a.mask bit && (t && matches_under v s a)) (same_part a)
-      ∙ grouped (has_bit a.mask bit) (takes_part a) (matches_under v s a)
-    where
-      grouped : (a b c : Bool) → (a && (b && c)) ≡ ((a && b) && c)
-      grouped true b c = refl
-      grouped false b c = refl
+      ∙ sym (and_regroup (has_bit a.mask bit) (takes_part a) (matches_under v s a))
 
   -- so does the first ACE that decides
   same_kind : (part : List Ace) (bit : ℕ) → AllByRecursion (AlwaysHas list) part

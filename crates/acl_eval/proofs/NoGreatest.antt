@@ -29,7 +29,7 @@ use Rattle.acl_eval.specs.BridgeLaws.{IsAsked, by_name}
 use Rattle.acl_eval.specs.Grant.{grants_bit}
 use Rattle.acl_eval.specs.NoGreatest.{HaveNoneAbove, LeavesSomeOut, all_but_the_user, denied_user, members_alone, members_read, others_write, two_groups, two_permissions, user_writes}
 use Rattle.acl_eval.specs.ToPosix.{HasShape, IsSound, EntryShape, is_in_shape}
-use Rattle.acl_eval.specs.internal.ShapeBody.{TagColumn, always, column_decided_by, is_certain, may_match, tag_meets}
+use Rattle.acl_eval.specs.internal.ShapeBody.{TagColumn, always, column_decided_by, is_certain, may_match, tag_meets, empty_shape}
 use Rattle.acl_eval.proofs.Passes.{always_sound}
 use Rattle.acl_eval.proofs.TagRequesters.{is_eq-nat_cmp}
 use Rattle.acl_eval.proofs.PossibleTags.{may_match-meets, tag_meets-certain}
@@ -256,9 +256,6 @@ user_and_group = record { users = 1 ∷ []; groups = 2 ∷ [] }
 abbrev group_alone : EntryShape
 group_alone = record { users = []; groups = 2 ∷ [] }
 
-abbrev nobody : EntryShape
-nobody = record { users = []; groups = [] }
-
 -- the five entries with a user and a group, and the four with a group
 abbrev full_set : ℕ → ℕ → ℕ → ℕ → ℕ → ℕ → List (Tag × ℕ)
 full_set o u g n m r = (user_obj, o) ∷ (user 1, u) ∷ (group_obj, g) ∷ (group 2, n) ∷ (mask, m) ∷ (other, r) ∷ []
@@ -287,7 +284,7 @@ group_shape o g n m r = record {
       ∙ some_cond (eq_by_cmp tag_cmp (group id) (group 2)) n ∙ ap (λ (b : Bool). b || false) (is_eq-nat_cmp id 2);
 }
 
-bare_shape : (o g m r : ℕ) → HasShape nobody (as_set (bare_set o g m r))
+bare_shape : (o g m r : ℕ) → HasShape empty_shape (as_set (bare_set o g m r))
 bare_shape o g m r = record {
   users = λ id. ap (λ (x : Option ℕ). is_some x) (found (bare_set o g m r) (user id));
   groups = λ id. ap (λ (x : Option ℕ). is_some x) (found (bare_set o g m r) (group id));
@@ -376,8 +373,8 @@ group_each rules o g n m r lo lg ln lr po pg pn pr mask h = absurd (false≢true
 group_each rules o g n m r lo lg ln lr po pg pn pr other h = (r, lr, found (group_set o g n m r) other, pr)
 
 bare_each : (rules : List Rule) (o g m r : ℕ) → o < 8 → g < 8 → r < 8
-    → Passes rules nobody user_obj o → Passes rules nobody group_obj g → Passes rules nobody other r
-    → Each rules nobody (as_set (bare_set o g m r))
+    → Passes rules empty_shape user_obj o → Passes rules empty_shape group_obj g → Passes rules empty_shape other r
+    → Each rules empty_shape (as_set (bare_set o g m r))
 bare_each rules o g m r lo lg lr po pg pr user_obj h = (o, lo, found (bare_set o g m r) user_obj, po)
 bare_each rules o g m r lo lg lr po pg pr (user id) h = absurd (false≢true h)
 bare_each rules o g m r lo lg lr po pg pr group_obj h = (g, lg, found (bare_set o g m r) group_obj, pg)
@@ -421,7 +418,7 @@ stranger_has o v g n m r owner u want few apart differ h = granted user_and_grou
 
 member_has : (o g m r owner u want : ℕ) → IsPerm want → (u == owner) ≡ false → contains r want ≡ true
     → grants (as_set (bare_set o g m r)) (object_of owner) (asks u (2 ∷ [])) want ≡ true
-member_has o g m r owner u want few apart h = granted nobody (as_set (bare_set o g m r))
+member_has o g m r owner u want few apart h = granted empty_shape (as_set (bare_set o g m r))
     (object_of owner) (asks u (2 ∷ [])) want other (bare_valid o g m r) (bare_shape o g m r)
     (all_contain want few) (rw apart refl)
     (ap (λ (x : Option ℕ). is_contained x want) (found (bare_set o g m r) other) ∙ h)
@@ -564,10 +561,10 @@ first_3 = sound_by_passes rules_3 group_alone (as_set (group_set 0 0 4 4 2)) are
 
 second_3 : IsSound (rules_list rules_3) others_write
 unfolding image others_write
-second_3 = sound_by_passes rules_3 nobody (as_set (bare_set 0 0 0 2)) are_3 (bare_valid 0 0 0 2)
+second_3 = sound_by_passes rules_3 empty_shape (as_set (bare_set 0 0 0 2)) are_3 (bare_valid 0 0 0 2)
     (bare_shape 0 0 0 2) (bare_each rules_3 0 0 0 2 (omega arith) (omega arith) (omega arith)
-    (none_passes rules_3 nobody user_obj) (none_passes rules_3 nobody group_obj)
-    (write_passes rules_3 nobody other refl refl))
+    (none_passes rules_3 empty_shape user_obj) (none_passes rules_3 empty_shape group_obj)
+    (write_passes rules_3 empty_shape other refl refl))
 
 -- which entries match requesters who are in no group, in the group 2, or also in the owning group
 matches_none : (A : Entries) → any_matches A 3 [] ≡ false

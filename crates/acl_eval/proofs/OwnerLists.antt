@@ -11,6 +11,7 @@ use Rattle.acl_perm.specs.Bits.{has_bit}
 use Rattle.acl_perm.specs.Kind.{is_allow}
 use Rattle.acl_perm.specs.declared.kind.Kind.{Kind}
 use Rattle.acl_perm.specs.declared.kind.Kind.TheVariants.{Allow, Deny}
+use Rattle.acl_perm.proofs.Bools.{and_false_right, and_true_right}
 use Rattle.acl_posix.specs.Check.{Object, Requester, is_member}
 use Rattle.acl_posix.specs.Id.{IsId, greatest_id}
 use Rattle.acl_posix.specs.Tag as tag
@@ -24,7 +25,7 @@ use Rattle.acl_eval.specs.internal.OwnerBody.{known_tag}
 use Rattle.acl_eval.specs.internal.ShapeBody.{TagColumn, column_decided_by, tag_meets}
 use Rattle.acl_eval.proofs.FreeIds.{eqb-not_member, free_below}
 use Rattle.acl_eval.proofs.Matchings.{Matching}
-use Rattle.acl_eval.proofs.RealMatchings.{Agree, column_of, filter_member, with_bit}
+use Rattle.acl_eval.proofs.RealMatchings.{Agree, column_of, filter_member, with_bit, groups_with, with_ids_too, own_with, other_with}
 use Rattle.acl_eval.proofs.TagMatchings.{digits_tag, put, tag_keys, tags_grant}
 
 -- ---- the list
@@ -201,16 +202,6 @@ pub record IsMoved (o g : ℕ) (ns : List ℕ) (m : Matching) : Type 0 where
   pub asked : IsAsked (object_for o g) requester
   pub agree : Agree ns (tag_meets (object_for o g) requester) (known_matching o g m)
 
--- the groups that match, after the owning group if it matches
-abbrev groups_with : Bool → ℕ → List ℕ → List ℕ
-groups_with true own groups = own ∷ groups
-groups_with false own groups = groups
-
-groups_are_ids : (b : Bool) (own : ℕ) (groups : List ℕ) → IsId own → AllByRecursion IsId groups
-    → AllByRecursion IsId (groups_with b own groups)
-groups_are_ids true own groups is rest = (is, rest)
-groups_are_ids false own groups is rest = rest
-
 kept_ids : (p : ℕ → Bool) (groups : List ℕ) → AllByRecursion IsId groups → AllByRecursion IsId (filter p groups)
 kept_ids p [] all = tt
 kept_ids p (x ∷ groups) all = by (kept_ids p groups all.1) (p x)
@@ -220,35 +211,17 @@ kept_ids p (x ∷ groups) all = by (kept_ids p groups all.1) (p x)
     by rest true = (all.0, rest)
     by rest false = rest
 
-own_member : (b : Bool) (own : ℕ) (groups : List ℕ) → is_member own groups ≡ false
-    → is_member own (groups_with b own groups) ≡ b
-own_member true own groups lacks = ap (λ (c : Bool). c || is_member own groups) (eq-eqb own own refl)
-own_member false own groups lacks = lacks
-
-other_member : (b : Bool) (own id : ℕ) (groups : List ℕ) → (own == id) ≡ false
-    → is_member id (groups_with b own groups) ≡ is_member id groups
-other_member true own id groups differ = ap (λ (c : Bool). c || is_member id groups) differ
-other_member false own id groups differ = refl
-
 -- the groups of a requester without the owning group, but with it if the requester is in that of the object
 abbrev moved_groups : ℕ → Object → Requester → List ℕ
 moved_groups g object requester =
     groups_with (is_member object.group requester.groups) g (filter (λ id. not (id == g)) requester.groups)
 
-and_false : (a : Bool) → (a && false) ≡ false
-and_false true = refl
-and_false false = refl
-
-and_true_is : (a b : Bool) → b ≡ true → (a && b) ≡ a
-and_true_is true b h = h
-and_true_is false b h = refl
-
 own_moved : (g : ℕ) (object : Object) (requester : Requester)
     → is_member g (moved_groups g object requester) ≡ is_member object.group requester.groups
-own_moved g object requester = own_member (is_member object.group requester.groups) g
+own_moved g object requester = own_with (is_member object.group requester.groups) g
     (filter (λ id. not (id == g)) requester.groups)
     (filter_member (λ id. not (id == g)) requester.groups g
-    ∙ rw (eq-eqb g g refl) (and_false (is_member g requester.groups)))
+    ∙ rw (eq-eqb g g refl) (and_false_right (is_member g requester.groups)))
 
 group_moved : (g : ℕ) (object : Object) (requester : Requester) (id : ℕ) (b : Bool) → (id == g) ≡ b
     → is_member id (moved_groups g object requester)
@@ -256,10 +229,10 @@ group_moved : (g : ℕ) (object : Object) (requester : Requester) (id : ℕ) (b 
 group_moved g object requester id true e =
     ap (λ (n : ℕ). is_member n (moved_groups g object requester)) (eqb-true id g e) ∙ own_moved g object requester
 group_moved g object requester id false e =
-    other_member (is_member object.group requester.groups) g id (filter (λ n. not (n == g)) requester.groups)
+    other_with (is_member object.group requester.groups) g id (filter (λ n. not (n == g)) requester.groups)
     (flip g id e)
     ∙ filter_member (λ n. not (n == g)) requester.groups id
-    ∙ and_true_is (is_member id requester.groups) (not (id == g)) (rw e refl)
+    ∙ rw e (and_true_right (is_member id requester.groups))
   where
     flip : (m n : ℕ) → (n == m) ≡ false → (m == n) ≡ false
     flip m n d = elim (cases_Bool (m == n)) [
@@ -278,7 +251,7 @@ moved_to o g ns object requester user is_o is_g asked outside is differ same = r
     owner = is_o;
     owning_group = is_g;
     asker = is;
-    groups = All-from_recursion IsId _ (groups_are_ids (is_member object.group requester.groups) g _ is_g
+    groups = All-from_recursion IsId _ (with_ids_too (is_member object.group requester.groups) g _ is_g
         (kept_ids (λ id. not (id == g)) requester.groups (recursion_from_All IsId requester.groups asked.groups)));
   };
   agree = record {

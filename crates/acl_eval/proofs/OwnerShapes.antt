@@ -1,7 +1,7 @@
 -- The list for an object whose owner and owning group are known, in all situations, and the list itself in the
 -- situations with this owner and this owning group: what they always grant to the requesters of an entry is the same.
-use Rattle.std.proofs.Common.{◌≡◌, ◌≤◌, ◌+◌, ℕ, suc, Bool, true, false, List, [], ◌∷◌, ◌++◌, refl, sym, ap, subst, ◌∙◌, length, arith, inl, inr}
-use Rattle.std.proofs.lemmas.Bool.{cases_Bool, eq-eqb, eqb-true, false≢true, or_cases, true≢false}
+use Rattle.std.proofs.Common.{◌≡◌, ◌≤◌, ℕ, suc, Bool, true, false, List, [], ◌∷◌, ◌++◌, refl, sym, ap, subst, ◌∙◌, length, arith, inl, inr}
+use Rattle.std.proofs.lemmas.Bool.{cases_Bool, eq-eqb, eqb-true, true≢false}
 use Rattle.std.proofs.lemmas.List.{length-append}
 use Rattle.std.specs.Prelude.{◌↔◌, ◌==◌, All, filter, if◌then◌else◌, not}
 use Rattle.acl_perm.specs.Bits.{IsPerm, has_bit}
@@ -18,7 +18,7 @@ use Rattle.acl_eval.specs.Bridge.{image}
 use Rattle.acl_eval.specs.BridgeLaws.{IsAsked, by_name}
 use Rattle.acl_eval.specs.Grant.{Grant, grants_bit}
 use Rattle.acl_eval.specs.Ids.{with_ids}
-use Rattle.acl_eval.specs.ListNames.{AreNamesOf, named_shape}
+use Rattle.acl_eval.specs.ListNames.{AreNamesOf}
 use Rattle.acl_eval.specs.PosixForOwner.{AlwaysHasFor, IsBestFor, IsPosixFor, IsSoundFor, LosesNothingFor, PrunesFor, PrunesToFor, object_for, others_of}
 use Rattle.acl_eval.specs.PosixForOwner as for_owner
 use Rattle.acl_eval.specs.Pruning.{LosesNothing, Prunes, PrunesTo, ShapeGrants, none, next, shape_without, taken_out}
@@ -26,11 +26,11 @@ use Rattle.acl_eval.specs.PruningLaws.{HasFewIds}
 use Rattle.acl_eval.specs.ToPosix.{AlwaysHas, EntryShape, IsBest, looks_at, size_of}
 use Rattle.acl_eval.specs.internal.OwnerBody.{AreKnownColumns, IsKnownColumn, owner_in}
 use Rattle.acl_eval.specs.internal.ShapeBody.{AreColumns, HaveFewKeys, IsColumnOf, column_decided_by, keys_of, tag_meets}
-use Rattle.acl_eval.specs.declared.list_names.NamedIds.{NamedIds}
 use Rattle.acl_eval.specs.declared.tag_column.Columns.{Columns}
 use Rattle.acl_eval.specs.declared.tag_column.TagKey.{TagKey}
+use Rattle.acl_eval.specs.internal.LossBody.{key_numbers}
 use Rattle.acl_eval.proofs.Passes.{column_decided_by-same}
-use Rattle.acl_eval.proofs.FreeIds.{eqb-not_member, numbers, is_member-numbers, eqb_comm}
+use Rattle.acl_eval.proofs.FreeIds.{eqb-not_member, is_member-numbers, eqb_comm, is_member-append_left, is_member-append_right}
 use Rattle.acl_eval.proofs.Images.{image_right}
 use Rattle.acl_eval.proofs.Losses.{IsPart, but_lacks, out_part, out_size}
 use Rattle.acl_eval.proofs.Matchings.{IsRest, Looks, Matching}
@@ -39,7 +39,7 @@ use Rattle.acl_eval.proofs.OwnerLists.{IsMoved, IsRight, OwnerRights, append_is,
 use Rattle.acl_eval.proofs.PruningKept.{looks_from, looks_of, HasFewIds-taken_out}
 use Rattle.acl_eval.proofs.PruningSituations.{IsSmall, all_ids, granted_is, ids_few, ids_of_first, ids_of_list, ids_of_second, is_granted, is_small, out_small, small_at_end}
 use Rattle.acl_eval.proofs.RealMatchings.{Agree, agree_back, agree_bit, agree_granted, agree_looks, list_ids, list_ids_few}
-use Rattle.acl_eval.proofs.ShapeChecks.{all_contain, first_member, held, looked, second_member}
+use Rattle.acl_eval.proofs.ShapeChecks.{all_contain, held, looked}
 use Rattle.acl_eval.proofs.TagMatchings.{bit_by_tags, tags_grant}
 
 -- the ids of a list of the code without one of them
@@ -387,8 +387,8 @@ agree_tag o g ns object requester v (tag.group id) has = v.agree.groups id has
 agree_tag o g ns object requester v tag.mask has = refl
 agree_tag o g ns object requester v tag.other has = refl
 
--- there are as many numbers as keys
-numbers_many : (keys : List TagKey) → length (numbers (keys_of keys)) ≡ length keys
+-- there are as many key_numbers as keys
+numbers_many : (keys : List TagKey) → length (key_numbers (keys_of keys)) ≡ length keys
 numbers_many [] = refl
 numbers_many (k ∷ keys) = ap suc (numbers_many keys)
 
@@ -407,7 +407,7 @@ for_column o g r list bit keys known c right column few k is = record {
 }
   where
     ns : List ℕ
-    ns = list_ids list ++ numbers (keys_of keys)
+    ns = list_ids list ++ key_numbers (keys_of keys)
 
     others : (object : Object) (requester : Requester) → IsAsked object requester
         → IsMoved o g ns (tag_meets object requester)
@@ -417,11 +417,11 @@ for_column o g r list bit keys known c right column few k is = record {
         let m : Matching = known_matching o g (tag_meets object requester) in
         let n : Matching = tag_meets (object_for o g) v.requester in
         agree_bit ns m n list bit (agree_back ns n m v.agree)
-        (λ id h. first_member id (list_ids list) (numbers (keys_of keys)) h)
+        (λ id h. is_member-append_left id (list_ids list) (key_numbers (keys_of keys)) h)
         ∙ sym (bit_by_tags list (object_for o g) v.requester bit v.asked)
         ∙ column.decides (object_for o g) v.requester v.asked
         ∙ column_decided_by-same n m (keys_of keys) false (λ t h. agree_tag o g ns object requester v t
-        (second_member (qualifier t) (list_ids list) (numbers (keys_of keys)) (is_member-numbers t (keys_of keys) h)))
+        (is_member-append_right (qualifier t) (list_ids list) (key_numbers (keys_of keys)) (is_member-numbers t (keys_of keys) h)))
 
     by : (object : Object) (requester : Requester) → IsAsked object requester
         → (b : Bool) → (requester.user == object.user) ≡ b
@@ -430,7 +430,7 @@ for_column o g r list bit keys known c right column few k is = record {
         else column_decided_by (known_matching o g (tag_meets object requester)) (keys_of keys) false)
     by object requester asked true e = is
     by object requester asked false e =
-        let long = length-append (list_ids list) (numbers (keys_of keys)) in
+        let long = length-append (list_ids list) (key_numbers (keys_of keys)) in
         let more = numbers_many keys in
         let listed = list_ids_few list in
         let short = c.short in
@@ -501,22 +501,6 @@ others_few o g names =
     let one = out_size (tag.user o) (taken_out (tag.group g) names) in
     let two = out_size (tag.group g) names in
     omega (arith, one, two)
-
--- ids of the code are ids
-code_ids : (list : List Id) (id : ℕ) → is_member id (ids list) ≡ true → IsId id
-code_ids [] id h = absurd (false≢true h)
-code_ids (x ∷ list) id h = elim (or_cases (x.value == id) (is_member id (ids list)) h) [
-  | inl same ↦ subst IsId (eqb-true x.value id same) x.within
-  | inr more ↦ code_ids list id more
-]
-
--- the names that the code holds are ids, and few, if they are at most 65,535
-pub code_few : (named : NamedIds) → size_of (named_shape named) ≤ 65535 → HasFewIds (named_shape named)
-code_few named few = record {
-  users = λ id h. code_ids named.users.items id h;
-  groups = λ id h. code_ids named.groups.items id h;
-  few = few;
-}
 
 -- the other names are ids, and few, if all names are
 pub others_ids : (o g : ℕ) (names : EntryShape) → HasFewIds names → HasFewIds (others_of o g names)

@@ -16,6 +16,10 @@ use Rattle.acl_eval.specs.internal.ShapeBody.{AreFirst, TagColumn, always, colum
 pub eq_by_cmp-refl : (t : Tag) → eq_by_cmp tag_cmp t t ≡ true
 eq_by_cmp-refl t = (eq_by_cmp_equiv tags_total).refl t
 
+-- two tags that are the same in one order are so in the other
+pub eq_by_cmp-comm : (t u : Tag) → eq_by_cmp tag_cmp t u ≡ false → eq_by_cmp tag_cmp u t ≡ false
+eq_by_cmp-comm t u e = (eq_by_cmp_equiv tags_total).symm u t ∙ e
+
 -- if certain tags match, and of the others only possible ones do, then what the pass answers is granted
 pub always_sound : (certain possible test : Tag → Bool) (keys : TagColumn)
     → ((t : Tag) → certain t ≡ true → test t ≡ true)

@@ -1,42 +1,21 @@
 -- The ACL of a list is maximal, exact if any POSIX ACL is, and decided by what the list grants.
-use Rattle.std.proofs.Common.{◌≡◌, ◌≤◌, ℕ, true, List, [], ◌∷◌, subst, ◌∙◌, arith, inl, inr, length}
-use Rattle.std.proofs.lemmas.Bool.{eqb-true, false≢true, or_cases}
+use Rattle.std.proofs.Common.{◌≤◌, List, ◌∙◌, arith, length}
 use Rattle.std.proofs.lemmas.List.{length-map}
-use Rattle.std.specs.Prelude.{◌==◌}
-use Rattle.acl_posix.specs.Check.{ids, is_member}
 use Rattle.acl_posix.specs.Entries.{Entries}
-use Rattle.acl_posix.specs.Id.{IsId}
 use Rattle.acl_posix.specs.Names.{Table}
-use Rattle.acl_posix.specs.declared.id.Id.{Id}
 use Rattle.acl_nfs4.specs.Ace.{Ace}
 use Rattle.acl_nfs4.specs.Limits.{most_aces}
 use Rattle.acl_eval.specs.Ids.{HaveIds, with_id, with_ids}
 use Rattle.acl_eval.specs.ListNames.{AreNamesOf, named_shape}
 use Rattle.acl_eval.specs.PosixOfList.{GrantsDecidePosix, IsExactIfAny, IsMaximal}
 use Rattle.acl_eval.specs.Pruning.{PrunesTo}
-use Rattle.acl_eval.specs.PruningLaws.{HasFewIds}
 use Rattle.acl_eval.specs.ToPosix.{EntryShape, IsBest, size_of}
 use Rattle.acl_eval.specs.declared.list_names.NamedIds.{NamedIds}
 use Rattle.acl_eval.proofs.PruningExact.{end_agrees}
 use Rattle.acl_eval.proofs.PruningGrants.{grants_give_one}
 use Rattle.acl_eval.proofs.PruningMaximal.{end_is_maximal}
 use Rattle.acl_eval.proofs.PruningNames.{all_names}
-
--- a member of some ids is an id
-member_is : (xs : List Id) (id : ℕ) → is_member id (ids xs) ≡ true → IsId id
-member_is [] id h = absurd (false≢true h)
-member_is (x ∷ xs) id h = elim (or_cases (x.value == id) (is_member id (ids xs)) h) [
-  | inl same ↦ subst IsId (eqb-true x.value id same) x.within
-  | inr more ↦ member_is xs id more
-]
-
--- the shape of users and groups of the code has ids, and not too many
-pub few_ids : (named : NamedIds) → size_of (named_shape named) ≤ 65535 → HasFewIds (named_shape named)
-few_ids named few = record {
-  users = λ id h. member_is named.users.items id h;
-  groups = λ id h. member_is named.groups.items id h;
-  few = few;
-}
+use Rattle.acl_eval.proofs.ShapeRights.{few_ids}
 
 -- with ids in place of names the list is as long
 short_list : (table : Table) (list : List Ace) → length list ≤ most_aces → length (with_ids table list) ≤ most_aces

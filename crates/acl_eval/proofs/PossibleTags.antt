@@ -1,6 +1,6 @@
 -- Which principals match when the check looks at an entry: the certain ones, and of the others only possible ones.
 use Rattle.std.proofs.Common.{◌≡◌, ℕ, Bool, true, false, List, [], ◌∷◌, refl, sym, ap, subst, ◌∙◌, inl, inr}
-use Rattle.std.proofs.lemmas.Bool.{eq-eqb, eqb-true, false≢true, not-true, or_cases, true≢false}
+use Rattle.std.proofs.lemmas.Bool.{eq-eqb, eqb-true, false≢true, not-true, or_cases, true≢false, or_parts}
 use Rattle.std.specs.Prelude.{◌==◌, ◌||◌, not}
 use Rattle.std.specs.List.{list_any}
 use Rattle.std.specs.Ordering.{eq_by_cmp}
@@ -11,7 +11,6 @@ use Rattle.acl_posix.proofs.Exports.{same_tag}
 use Rattle.acl_eval.specs.ToPosix.{EntryShape, is_in_class, looks_at}
 use Rattle.acl_eval.specs.internal.ShapeBody.{is_certain, may_match, may_be_user, tag_meets}
 use Rattle.acl_eval.proofs.Passes.{eq_by_cmp-refl}
-use Rattle.acl_eval.proofs.FreeIds.{or_none}
 
 -- the principal of the entry matches in them
 pub tag_meets-own : (shape : EntryShape) (object : Object) (requester : Requester) (entry : Tag)
@@ -64,8 +63,8 @@ pub list_any-none : (own id : ℕ) (named groups : List ℕ) → list_any (λ g.
     → is_member id groups ≡ true → ((id == own) ≡ false) × (is_member id named ≡ false)
 list_any-none own id named [] none has = absurd cc
 list_any-none own id named (g ∷ groups) none has =
-    let two = or_none (g == own || is_member g named) (list_any (λ g. g == own || is_member g named) groups) none in
-    by (list_any-none own id named groups two.1) (or_none (g == own) (is_member g named) two.0) (g == id) refl has
+    let two = or_parts (g == own || is_member g named) (list_any (λ g. g == own || is_member g named) groups) none in
+    by (list_any-none own id named groups two.1) (or_parts (g == own) (is_member g named) two.0) (g == id) refl has
   where
     by : (is_member id groups ≡ true → ((id == own) ≡ false) × (is_member id named ≡ false))
         → ((g == own) ≡ false) × (is_member g named ≡ false) → (b : Bool) → (g == id) ≡ b

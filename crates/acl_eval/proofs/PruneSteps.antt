@@ -7,6 +7,7 @@ use Rattle.std.proofs.lemmas.Option.{same_Some}
 use Rattle.std.specs.Prelude.{◌⊎◌, ◌||◌, not, filter}
 use Rattle.std.specs.List.{AllByRecursion, find, list_all, list_any}
 use Rattle.std.specs.Ordering.{eq_by_cmp}
+use Rattle.std.proofs.ByRecursion.{All-push}
 use Rattle.acl_perm.proofs.Bools.{and_true, or_true_right}
 use Rattle.acl_posix.specs.Check.{ids}
 use Rattle.acl_posix.specs.Tag.{Tag, user_obj, user, group_obj, group, mask, other, is_named, tag_cmp, tag_of}
@@ -180,12 +181,6 @@ groups_behind (x ∷ left) e = ap (group_before (tag_of x.tag)) (groups_behind l
     by mask xs ys = refl
     by other xs ys = refl
 
--- all, if one more is behind them
-all_behind : {X : Type 0} (P : X → Type 0) (xs : List X) (x : X) → AllByRecursion P xs → P x
-    → AllByRecursion P (xs ++ x ∷ [])
-all_behind P [] x a h = (h, tt)
-all_behind P (y ∷ xs) x a h = (a.0, all_behind P xs x a.1 h)
-
 some_behind : {X : Type 0} (p : X → Bool) (xs : List X) (x : X) → list_any p xs ≡ true
     → list_any p (xs ++ x ∷ []) ≡ true
 some_behind p xs x h = list_any-append p xs (x ∷ []) ∙ ap (λ (b : Bool). b || list_any p (x ∷ [])) h
@@ -197,7 +192,7 @@ entry_behind : (columns : Columns) (shape done more : EntryShape) (left pushed :
     → AreJudgedFor columns shape more pushed
 entry_behind columns shape done more left pushed e a j is grows =
     subst (AreJudgedFor columns shape more) (sym is) (record {
-      each = all_behind (IsJudged columns shape) left e a.each j;
+      each = All-push (IsJudged columns shape) left e a.each j;
       named = same_shape _ _ _ _
           (users_behind left e ∙ ap (λ (s : EntryShape). s.users ++ user_before (tag_of e.tag) []) a.named)
           (groups_behind left e ∙ ap (λ (s : EntryShape). s.groups ++ group_before (tag_of e.tag) []) a.named) ∙ grows;

@@ -16,6 +16,7 @@ use Rattle.acl_eval.proofs.SituationIds.{HasIds, entry_id}
 use Rattle.acl_eval.proofs.Losses.{IsPart, but_keeps, but_lacks, member_but, out_part, part_has, part_ids}
 use Rattle.acl_eval.proofs.Matchings.{IsMatching, IsRest, Looks, Matching, also, also_matching, alone, alone_looks, alone_matching, alone_only, looks_part, looks_rest, looks_there, moved, no_groups, no_groups_matching, no_users, no_users_matching, rest_looks, rest_part, rest_shared, with_group, with_group_matching, with_user, with_user_matching}
 use Rattle.acl_eval.proofs.PruningSteps.{Below, Gives, Granting, HasAlways, IsPruned, Steps, also_same, has_part, steps_leave, steps_part, steps_stay}
+use Rattle.acl_eval.proofs.FreeIds.{eqb-not_member}
 
 -- one of the groups of somebody is enough to deny some permissions, and to deny them to strangers in this group alone
 pub record OneGroup (f : Granting) (want : ℕ) (m : Matching) : Type 0 where
@@ -50,13 +51,6 @@ all_above f start s t want a small all e shared there =
     steps_stay f start s a.steps a.ids e there want small (λ m ok l.
     let some = rest_looks t m (rest_part start t m a.names (looks_rest start m e shared l)) in
     all some.entry some.shared (looks_there t m some.entry some.looks) m ok some.looks)
-
--- a number that a list has and another lacks
-apart_from : (u v : ℕ) (xs : List ℕ) → is_member u xs ≡ false → is_member v xs ≡ true → (u == v) ≡ false
-apart_from u v xs lacks has = elim (cases_Bool (u == v)) [
-  | inl same ↦ absurd (true≢false (sym has ∙ (ap (λ (n : ℕ). is_member n xs) (sym (eqb-true u v same)) ∙ lacks)))
-  | inr differ ↦ differ
-]
 
 -- ---- a user who is in the second shape and not in the third
 
@@ -116,7 +110,7 @@ user_all f start s t u want a small has_u lacks has e shared there =
     steps_stay f start s a.steps a.ids e there want small (λ m ok l.
     let rest = rest_part start t m a.names (looks_rest start m e shared l) in
     let with : IsRest t.users (with_user u m) =
-    record { owner = rest.owner; others = λ id h. apart_from u id t.users lacks h } in
+    record { owner = rest.owner; others = λ id h. eqb-not_member u id t.users lacks h } in
     let g = a.above (with_user u m) want
     (with_user_matching u m ((end_ids f start s t a).users u has_u) ok) small
     (record { entry = user u; looks = (rest.owner, has_u, eq-eqb u u refl); has = has }) in

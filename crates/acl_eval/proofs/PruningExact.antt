@@ -1,6 +1,6 @@
 -- If some ACL agrees with a list, the ACL of a pruning that began with all names of the list agrees with it too.
 use Rattle.std.proofs.Common.{◌≡◌, ◌≤◌, ℕ, suc, Bool, true, false, List, [], ◌∷◌, Option, None, Some, refl, sym, ap, subst, ◌∙◌, arith, inl, inr, length}
-use Rattle.std.proofs.lemmas.Bool.{cases_Bool, eq-eqb, eqb-true, false≢true, or_cases, true≢false}
+use Rattle.std.proofs.lemmas.Bool.{cases_Bool, eq-eqb, eqb-true, false≢true, or_cases, true≢false, and_left, and_right}
 use Rattle.std.proofs.lemmas.List.{length-map}
 use Rattle.std.proofs.lemmas.List.Elements.{recursion_from_All}
 use Rattle.std.proofs.lemmas.Slice.Eq.{bytes_eq-Decides}
@@ -72,15 +72,6 @@ seen_matching s m ok = record {
 and_holds : (a b : Bool) → b ≡ true → a ≡ (a && b)
 and_holds true b h = sym h
 and_holds false b h = refl
-
--- the first of two tests fails, or the second
-and_fails : (a b : Bool) → a ≡ false → (a && b) ≡ false
-and_fails true b h = absurd (true≢false h)
-and_fails false b h = refl
-
-fails_and : (a b : Bool) → b ≡ false → (a && b) ≡ false
-fails_and true b h = h
-fails_and false b h = refl
 
 -- ---- the names of a list decide what it grants
 
@@ -176,8 +167,8 @@ both_rest : (s t both : EntryShape) (m : Matching) → AreBoth s t both → IsRe
 both_rest s t both m a r = record {
   owner = r.owner;
   others = λ id h. elim (cases_Bool (is_member id s.users)) [
-    | inl has ↦ and_fails (m (tag.user id)) (is_member id s.users) (r.others id (a.users id ∙ rw (has, h) refl))
-    | inr lacks ↦ fails_and (m (tag.user id)) (is_member id s.users) lacks
+    | inl has ↦ and_left (m (tag.user id)) (is_member id s.users) (r.others id (a.users id ∙ rw (has, h) refl))
+    | inr lacks ↦ and_right (m (tag.user id)) (is_member id s.users) lacks
   ];
 }
 
@@ -203,8 +194,8 @@ both_looks s t both m tag.other a l = (
   both_rest s t both m a l.0,
   l.1,
   λ id h. elim (cases_Bool (is_member id s.groups)) [
-    | inl has ↦ and_fails (m (tag.group id)) (is_member id s.groups) (l.2 id (a.groups id ∙ rw (has, h) refl))
-    | inr lacks ↦ fails_and (m (tag.group id)) (is_member id s.groups) lacks
+    | inl has ↦ and_left (m (tag.group id)) (is_member id s.groups) (l.2 id (a.groups id ∙ rw (has, h) refl))
+    | inr lacks ↦ and_right (m (tag.group id)) (is_member id s.groups) lacks
   ],
 )
 

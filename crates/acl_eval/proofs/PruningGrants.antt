@@ -1,12 +1,12 @@
 -- Lists that grant the same give one ACL, whatever users and groups they name.
 use Rattle.std.proofs.Common.{◌≡◌, ◌≤◌, ◌<◌, ◌-◌, ℕ, Bool, true, false, cond, List, [], ◌∷◌, ◌++◌, Option, None, Some, Equal, refl, sym, ap, subst, ◌∙◌, arith, inl, inr, length}
-use Rattle.std.proofs.lemmas.Bool.{cases_Bool, eq-eqb, eqb-true, false≢true, true≢false}
+use Rattle.std.proofs.lemmas.Bool.{cases_Bool, eq-eqb, eqb-true, false≢true, true≢false, or_left}
 use Rattle.std.proofs.lemmas.List.{length-append}
 use Rattle.std.proofs.lemmas.List.Elements.{recursion_from_All}
 use Rattle.std.proofs.lemmas.Nat.{and_comm}
 use Rattle.std.proofs.lemmas.Option.{same_Some}
 use Rattle.std.specs.Int.Bits.{and_self}
-use Rattle.std.specs.Prelude.{◌⊎◌, ◌==◌, ◌&&◌, ◌||◌, bit_and, bit_or, filter, is_some}
+use Rattle.std.specs.Prelude.{◌⊎◌, ◌==◌, ◌&&◌, bit_and, bit_or, filter, is_some}
 use Rattle.std.specs.FinMap as fin
 use Rattle.std.specs.FinMap.Entries.{find-where_key, is_sorted-where_key, same_entries}
 use Rattle.std.specs.List.{AllByRecursion, fold}
@@ -38,8 +38,8 @@ use Rattle.acl_eval.proofs.PruningSituations.{granted_is, is_granted, is_small, 
 use Rattle.acl_eval.proofs.PruningStarts.{AlikeFor, NamesDecide, SameNames, same_turned, two_starts}
 use Rattle.acl_eval.proofs.RealMatchings.{Agree, agree_back, agree_granted, list_ids, list_ids_few, real}
 use Rattle.acl_eval.proofs.ShapeBuilding.{none_named}
-use Rattle.acl_eval.proofs.ShapeChecks.{first_member, second_member}
 use Rattle.acl_eval.proofs.TagMatchings.{granted_to, one_group_denies}
+use Rattle.acl_eval.proofs.FreeIds.{is_member-append_left, is_member-append_right}
 
 -- ---- the names of a list decide what it grants
 
@@ -84,12 +84,12 @@ granted_too list second m want short brief same ok small granted =
     let r = real ns m ok few in
     let back = agree_back ns (tag_meets r.object r.requester) m r.agree in
     agree_granted ns (tag_meets r.object r.requester) m second want r.agree
-    (λ id h. second_member id (list_ids list) (list_ids second) h)
+    (λ id h. is_member-append_right id (list_ids list) (list_ids second) h)
     (granted_is second r.object r.requester want r.asked
     ((same r.object r.requester want r.asked small).0
     (is_granted list r.object r.requester want r.asked
     (agree_granted ns m (tag_meets r.object r.requester) list want back
-    (λ id h. first_member id (list_ids list) (list_ids second) h) granted))))
+    (λ id h. is_member-append_left id (list_ids list) (list_ids second) h) granted))))
 
 -- the names of the second list decide what the first grants
 other_names : (list second : List Ace) (s : EntryShape) → length list ≤ most_listed → length second ≤ most_listed
@@ -223,14 +223,10 @@ same_class best one_more same = same_entries tag_cmp tags_total tag_cmp-Equal _ 
 some_name : (s : EntryShape) → 0 < size_of s → (name : Tag) × ((is_named name ≡ true) × (is_in_shape s name ≡ true))
 some_name s some = by s.users s.groups refl refl
   where
-    or_first : (a b : Bool) → a ≡ true → (a || b) ≡ true
-    or_first true b h = refl
-    or_first false b h = absurd (false≢true h)
-
     by : (us gs : List ℕ) → s.users ≡ us → s.groups ≡ gs
         → (name : Tag) × ((is_named name ≡ true) × (is_in_shape s name ≡ true))
-    by (u ∷ us) gs e f = (tag.user u, (refl, rw e (or_first (u == u) (is_member u us) (eq-eqb u u refl))))
-    by [] (g ∷ gs) e f = (tag.group g, (refl, rw f (or_first (g == g) (is_member g gs) (eq-eqb g g refl))))
+    by (u ∷ us) gs e f = (tag.user u, (refl, rw e (or_left (u == u) (is_member u us) (eq-eqb u u refl))))
+    by [] (g ∷ gs) e f = (tag.group g, (refl, rw f (or_left (g == g) (is_member g gs) (eq-eqb g g refl))))
     by [] [] e f = absurd (omega (arith, some, ap (λ (xs : List ℕ). length xs) e, ap (λ (xs : List ℕ). length xs) f))
 
 -- shapes with the same names are both empty or both not

@@ -1,9 +1,9 @@
 -- What a pruning keeps: what is granted, and the permissions of the entries that stay.
-use Rattle.std.proofs.Common.{◌≡◌, ◌≤◌, ℕ, Bool, true, false, List, [], ◌∷◌, refl, sym, ap, ◌∙◌, arith, inl, inr}
+use Rattle.std.proofs.Common.{◌≡◌, ℕ, Bool, true, false, List, refl, sym, ap, ◌∙◌, arith, inl, inr}
 use Rattle.std.proofs.lemmas.Bool.{cases_Bool, eq-eqb, eqb-true, false≢true, not-true, true≢false}
-use Rattle.std.specs.Prelude.{◌==◌, ◌||◌, ◌↔◌, if◌then◌else◌, not}
+use Rattle.std.specs.Prelude.{◌==◌, ◌||◌, ◌↔◌, not}
 use Rattle.std.specs.List.{list_any}
-use Rattle.acl_perm.proofs.Bools.{and_true}
+use Rattle.acl_perm.proofs.Bools.{and_true, or_true_right}
 use Rattle.acl_perm.specs.Bits.{IsPerm}
 use Rattle.acl_posix.specs.Check.{Object, Requester, is_member}
 use Rattle.acl_posix.specs.Tag.{Tag, user_obj, user, group_obj, group, mask, other, is_named}
@@ -88,12 +88,8 @@ looks_of s object requester other l =
       class_rest s object requester one.0,
       lacks object.group (ap (λ (b : Bool). b || is_member object.group s.groups)
           (eq-eqb object.group object.group refl)),
-      λ id has. lacks id (rw has (or_right (id == object.group))),
+      λ id has. lacks id (rw has (or_true_right (id == object.group))),
     )
-  where
-    or_right : (b : Bool) → (b || true) ≡ true
-    or_right true = refl
-    or_right false = refl
 
 -- if the check looks at an entry under the matching of a situation, it does in the situation
 pub looks_from : (s : EntryShape) (object : Object) (requester : Requester) (e : Tag)

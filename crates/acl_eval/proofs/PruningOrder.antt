@@ -11,7 +11,7 @@ use Rattle.acl_posix.proofs.Exports.{same_tag}
 use Rattle.acl_eval.specs.Bridge.{is_group_tag}
 use Rattle.acl_eval.specs.Pruning.{is_shared, shape_without, taken_out}
 use Rattle.acl_eval.specs.ToPosix.{EntryShape, is_in_shape}
-use Rattle.acl_eval.proofs.Passes.{eq_by_cmp-refl}
+use Rattle.acl_eval.proofs.Passes.{eq_by_cmp-refl, eq_by_cmp-comm}
 use Rattle.acl_eval.proofs.SituationIds.{HasIds}
 use Rattle.acl_eval.proofs.Losses.{but_keeps, out_part, part_has, part_ids}
 use Rattle.acl_eval.proofs.Matchings.{IsMatching, IsRest, Looks, Matching, alone, alone_matching, gone, looks_part, looks_rest, looks_there, no_groups, no_groups_matching, out_differs, rest_looks, with_group, with_group_matching}
@@ -64,14 +64,6 @@ still_there x y s differ there = elim (cases_Bool (is_in_shape (taken_out y s) x
   | inl stays ↦ stays
   | inr went ↦ absurd (true≢false (sym (eq_by_cmp-refl y)
       ∙ (ap (λ (t : Tag). eq_by_cmp tag_cmp t y) (sym (gone x y s there went)) ∙ differ)))
-]
-
--- two names are the same in either order
-eq_by_cmp-comm : (x y : Tag) → eq_by_cmp tag_cmp x y ≡ false → eq_by_cmp tag_cmp y x ≡ false
-eq_by_cmp-comm x y differ = elim (cases_Bool (eq_by_cmp tag_cmp y x)) [
-  | inl same ↦ absurd (true≢false (sym (eq_by_cmp-refl x)
-      ∙ (ap (λ (t : Tag). eq_by_cmp tag_cmp x t) (sym (same_tag y x same)) ∙ differ)))
-  | inr apart ↦ apart
 ]
 
 -- ---- nothing is lost, by the entries

@@ -8,7 +8,7 @@ use Rattle.std.proofs.lemmas.List.Folds.{list_any-append}
 use Rattle.std.specs.Prelude.{◌==◌, ◌&&◌, ◌||◌, filter, if◌then◌else◌}
 use Rattle.std.specs.FinMap as fin
 use Rattle.std.specs.List.{AllByRecursion}
-use Rattle.acl_perm.proofs.Bools.{and_true}
+use Rattle.acl_perm.proofs.Bools.{and_true, and_true_right}
 use Rattle.acl_perm.specs.Bits.{IsPerm}
 use Rattle.acl_posix.specs.Check.{Object, Requester, grants, is_member}
 use Rattle.acl_posix.specs.Entries.{Entries}
@@ -30,8 +30,9 @@ use Rattle.acl_eval.proofs.Matchings.{IsMatching, Matching, looks_there}
 use Rattle.acl_eval.proofs.PruningKept.{looks_from, looks_of}
 use Rattle.acl_eval.proofs.PruningSteps.{Below, Gives, HasAlways, Steps, no_step, one_more}
 use Rattle.acl_eval.proofs.RealMatchings.{Agree, IsReal, IsWithinIds, agree_back, agree_granted, agree_looks, filter_member, list_ids, list_ids_few, real}
-use Rattle.acl_eval.proofs.ShapeChecks.{all_contain, best_holds, first_member, granted, looked, second_member}
+use Rattle.acl_eval.proofs.ShapeChecks.{all_contain, best_holds, granted, looked}
 use Rattle.acl_eval.proofs.TagMatchings.{bit_by_tags, granted_to}
+use Rattle.acl_eval.proofs.FreeIds.{is_member-append_left, is_member-append_right}
 
 -- ---- ids
 
@@ -71,28 +72,28 @@ all_ids list s t = list_ids list ++ (s.users ++ (s.groups ++ (t.users ++ t.group
 -- the ids of the list are among all ids
 pub ids_of_list : (list : List Ace) (s t : EntryShape) (id : ℕ) → is_member id (list_ids list) ≡ true
     → is_member id (all_ids list s t) ≡ true
-ids_of_list list s t id h = first_member id (list_ids list) (s.users ++ (s.groups ++ (t.users ++ t.groups))) h
+ids_of_list list s t id h = is_member-append_left id (list_ids list) (s.users ++ (s.groups ++ (t.users ++ t.groups))) h
 
 -- the users and groups of the first shape are among all ids
 pub ids_of_first : (list : List Ace) (s t : EntryShape) → IsWithinIds (all_ids list s t) s
 ids_of_first list s t = record {
-  users = λ id h. second_member id (list_ids list) (s.users ++ (s.groups ++ (t.users ++ t.groups)))
-      (first_member id s.users (s.groups ++ (t.users ++ t.groups)) h);
-  groups = λ id h. second_member id (list_ids list) (s.users ++ (s.groups ++ (t.users ++ t.groups)))
-      (second_member id s.users (s.groups ++ (t.users ++ t.groups)) (first_member id s.groups (t.users ++ t.groups) h));
+  users = λ id h. is_member-append_right id (list_ids list) (s.users ++ (s.groups ++ (t.users ++ t.groups)))
+      (is_member-append_left id s.users (s.groups ++ (t.users ++ t.groups)) h);
+  groups = λ id h. is_member-append_right id (list_ids list) (s.users ++ (s.groups ++ (t.users ++ t.groups)))
+      (is_member-append_right id s.users (s.groups ++ (t.users ++ t.groups)) (is_member-append_left id s.groups (t.users ++ t.groups) h));
 }
 
 -- the users and groups of the second shape are among all ids
 pub ids_of_second : (list : List Ace) (s t : EntryShape) → IsWithinIds (all_ids list s t) t
 ids_of_second list s t = record {
-  users = λ id h. rest id (first_member id t.users t.groups h);
-  groups = λ id h. rest id (second_member id t.users t.groups h);
+  users = λ id h. rest id (is_member-append_left id t.users t.groups h);
+  groups = λ id h. rest id (is_member-append_right id t.users t.groups h);
 }
   where
     rest : (id : ℕ) → is_member id (t.users ++ t.groups) ≡ true → is_member id (all_ids list s t) ≡ true
-    rest id h = second_member id (list_ids list) (s.users ++ (s.groups ++ (t.users ++ t.groups)))
-        (second_member id s.users (s.groups ++ (t.users ++ t.groups))
-        (second_member id s.groups (t.users ++ t.groups) h))
+    rest id h = is_member-append_right id (list_ids list) (s.users ++ (s.groups ++ (t.users ++ t.groups)))
+        (is_member-append_right id s.users (s.groups ++ (t.users ++ t.groups))
+        (is_member-append_right id s.groups (t.users ++ t.groups) h))
 
 -- all ids together are fewer than there are ids
 pub ids_few : (list : List Ace) (s t : EntryShape) → length list ≤ most_listed → IsSmall s → IsSmall t
@@ -342,14 +343,10 @@ only_asked object requester p = record {
 }
 
 -- an id is a group of the one if it is a group of the other
-and-true_right : (a b : Bool) → b ≡ true → (a && b) ≡ a
-and-true_right true b h = h
-and-true_right false b h = refl
-
 same_group : (groups : List ℕ) (id : ℕ) → IsId id
     → is_member id (filter (λ g. ltb g (suc greatest_id)) groups) ≡ is_member id groups
 same_group groups id is = filter_member (λ g. ltb g (suc greatest_id)) groups id
-    ∙ and-true_right (is_member id groups) (ltb id (suc greatest_id)) (id_test id is)
+    ∙ rw (id_test id is) (and_true_right (is_member id groups))
 
 only_agree : (object : Object) (requester : Requester) (ns : List ℕ) → AreParties object requester
     → ((id : ℕ) → is_member id ns ≡ true → IsId id)
@@ -365,8 +362,8 @@ only_agree object requester ns p ids = record {
 -- the users and groups of one shape
 pub shape_within : (s : EntryShape) → IsWithinIds (s.users ++ s.groups) s
 shape_within s = record {
-  users = λ id h. first_member id s.users s.groups h;
-  groups = λ id h. second_member id s.users s.groups h;
+  users = λ id h. is_member-append_left id s.users s.groups h;
+  groups = λ id h. is_member-append_right id s.users s.groups h;
 }
 
 -- a member of two lists is an id if each member of one of them is

@@ -12,13 +12,13 @@ use Rattle.acl_eval.specs.Pruning.{is_shared, taken_out}
 use Rattle.acl_eval.specs.ToPosix.{EntryShape, is_in_shape}
 use Rattle.acl_eval.proofs.Passes.{eq_by_cmp-refl}
 use Rattle.acl_eval.proofs.SituationIds.{HasIds, entry_id}
-use Rattle.acl_eval.proofs.Losses.{IsPart, but_keeps, member_but, out_part, part_has, part_ids}
+use Rattle.acl_eval.proofs.Losses.{IsPart, but_keeps, member_but, out_part, part_has, part_ids, not_owning}
 use Rattle.acl_eval.proofs.Matchings.{IsMatching, IsRest, Looks, Matching, also, gone, looks_part, looks_rest, looks_there, moved, no_users, no_users_matching, one_user, out_differs, out_lacks, part_of_part, rest_part, IsTag-same}
 use Rattle.acl_eval.proofs.PruningEnds.{OneGroupDenies}
 use Rattle.acl_eval.proofs.PruningOrder.{below_by_entries, looks_one, one_end}
 use Rattle.acl_eval.proofs.PruningSituations.{member_of_two}
-use Rattle.acl_eval.proofs.PruningSteps.{Below, Gives, Granting, IsPruned, Steps, has_part, no_step, not_owner, not_owning, one_more, steps_part}
-use Rattle.acl_eval.proofs.ShapeChecks.{first_member, second_member}
+use Rattle.acl_eval.proofs.PruningSteps.{Below, Gives, Granting, IsPruned, Steps, has_part, no_step, not_owner, one_more, steps_part}
+use Rattle.acl_eval.proofs.FreeIds.{is_member-append_left, is_member-append_right}
 
 -- ---- shapes with the same names
 
@@ -357,12 +357,12 @@ two_starts f one two three four denies decide decide_too ids ids_too steps last 
     let s = both_starts one three in
     let all = both_ids one three ids ids_too in
     let first = from_more f one two s decide all (record {
-      users = λ id h. first_member id one.users three.users h;
-      groups = λ id h. first_member id one.groups three.groups h;
+      users = λ id h. is_member-append_left id one.users three.users h;
+      groups = λ id h. is_member-append_left id one.groups three.groups h;
     }) steps in
     let second = from_more f three four s decide_too all (record {
-      users = λ id h. second_member id one.users three.users h;
-      groups = λ id h. second_member id one.groups three.groups h;
+      users = λ id h. is_member-append_right id one.users three.users h;
+      groups = λ id h. is_member-append_right id one.groups three.groups h;
     }) steps_too in
     let end = one_end f s first.last first.steps second.last denies all (same_pruned f two first.last first.same last)
     second.steps (same_pruned f four second.last second.same last_too) in

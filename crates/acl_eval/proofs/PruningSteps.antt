@@ -11,7 +11,7 @@ use Rattle.acl_eval.specs.Pruning.{is_shared, taken_out}
 use Rattle.acl_eval.specs.ToPosix.{EntryShape, is_in_shape}
 use Rattle.acl_eval.proofs.Passes.{eq_by_cmp-refl}
 use Rattle.acl_eval.proofs.SituationIds.{HasIds, entry_id}
-use Rattle.acl_eval.proofs.Losses.{IsPart, out_part, part_has, part_ids}
+use Rattle.acl_eval.proofs.Losses.{IsPart, out_part, part_has, part_ids, not_owning}
 use Rattle.acl_eval.proofs.Matchings.{IsMatching, IsRest, Looks, Matching, also, also_matching, alone, alone_looks, alone_matching, alone_only, gone, looks_part, looks_there, moved, out_differs, part_itself, part_of_part, rest_shared}
 
 -- what is granted: some permissions, if these principals match
@@ -92,15 +92,6 @@ looks_gone s (group g) e n there = (
 )
 looks_gone s mask e n there = absurd (false≢true n)
 looks_gone s other e n there = absurd (false≢true n)
-
--- a name is not the owning group
-pub not_owning : (x : Tag) → is_named x ≡ true → eq_by_cmp tag_cmp group_obj x ≡ false
-not_owning user_obj n = absurd (false≢true n)
-not_owning (user u) n = refl
-not_owning group_obj n = absurd (false≢true n)
-not_owning (group g) n = refl
-not_owning mask n = absurd (false≢true n)
-not_owning other n = absurd (false≢true n)
 
 -- and not the owner
 pub not_owner : (x : Tag) → is_named x ≡ true → eq_by_cmp tag_cmp user_obj x ≡ false

@@ -1,7 +1,7 @@
 -- Each matching is that of a situation, for a given set of ids: a user, an owner and groups with these ids or with ids
 -- that are not in the set.
 use Rattle.std.proofs.Common.{◌≡◌, ◌≤◌, ◌<◌, ◌-◌, ℕ, Bool, true, false, List, [], ◌∷◌, Option, None, Some, refl, sym, ap, ◌∙◌, arith, inl, inr, length}
-use Rattle.std.proofs.lemmas.Bool.{cases_Bool, eq-eqb, eqb-true, true≢false}
+use Rattle.std.proofs.lemmas.Bool.{cases_Bool, eq-eqb, eqb-true, true≢false, and_right}
 use Rattle.std.proofs.lemmas.List.Elements.{All-from_recursion}
 use Rattle.std.specs.Prelude.{⊤, ◌==◌, ◌&&◌, ◌||◌, filter, if◌then◌else◌, map, option_map}
 use Rattle.std.specs.List.{AllByRecursion, list_any}
@@ -189,16 +189,12 @@ filter_member p (x ∷ xs) n = by (filter_member p xs n) (p x) (x == n) refl ref
     by rest true true e same = rw same (sym e ∙ ap p (eqb-true x n same))
     by rest true false e same = rw same rest
     by rest false true e same =
-        rw same (rest ∙ passes (is_member n xs) (p n) (ap p (sym (eqb-true x n same)) ∙ e)
+        rw same (rest ∙ and_right (is_member n xs) (p n) (ap p (sym (eqb-true x n same)) ∙ e)
         ∙ sym (ap p (sym (eqb-true x n same)) ∙ e))
-      where
-        passes : (a b : Bool) → b ≡ false → (a && b) ≡ false
-        passes true b h = h
-        passes false b h = refl
     by rest false false e same = rw same rest
 
 -- the groups that match, after the owning group if it matches
-abbrev groups_with : Bool → ℕ → List ℕ → List ℕ
+abbrev pub groups_with : Bool → ℕ → List ℕ → List ℕ
 groups_with true own groups = own ∷ groups
 groups_with false own groups = groups
 
@@ -213,18 +209,18 @@ filter_ids m (x ∷ xs) ok = by (filter_ids m xs ok) (m (tag.group x)) refl
     by rest true e = (ok.ids (tag.group x) e, rest)
     by rest false e = rest
 
-with_ids_too : (b : Bool) (own : ℕ) (groups : List ℕ) → IsId own → AllByRecursion IsId groups
+pub with_ids_too : (b : Bool) (own : ℕ) (groups : List ℕ) → IsId own → AllByRecursion IsId groups
     → AllByRecursion IsId (groups_with b own groups)
 with_ids_too true own groups is rest = (is, rest)
 with_ids_too false own groups is rest = rest
 
 -- the owning group is among them if it matches
-own_with : (b : Bool) (own : ℕ) (groups : List ℕ) → is_member own groups ≡ false
+pub own_with : (b : Bool) (own : ℕ) (groups : List ℕ) → is_member own groups ≡ false
     → is_member own (groups_with b own groups) ≡ b
 own_with true own groups lacks = ap (λ (c : Bool). c || is_member own groups) (eq-eqb own own refl)
 own_with false own groups lacks = lacks
 
-other_with : (b : Bool) (own id : ℕ) (groups : List ℕ) → (own == id) ≡ false
+pub other_with : (b : Bool) (own id : ℕ) (groups : List ℕ) → (own == id) ≡ false
     → is_member id (groups_with b own groups) ≡ is_member id groups
 other_with true own id groups differ = ap (λ (c : Bool). c || is_member id groups) differ
 other_with false own id groups differ = refl

@@ -1,12 +1,12 @@
 -- The list for one object: it is accepted, and it grants what the list grants for that object.
 use Rattle.std.proofs.Common.{◌≡◌, ℕ, ◌+◌, Bool, true, false, cond, List, [], ◌∷◌, ◌++◌, refl, sym, ap, subst, ◌∙◌, append_assoc, arith}
-use Rattle.std.specs.Prelude.{count_ones, not, ◌&&◌, ◌||◌, ◌↔◌, Option, None, Some, unwrap_or}
+use Rattle.std.specs.Prelude.{count_ones, not, ◌&&◌, ◌↔◌, Option, None, Some, unwrap_or}
 use Rattle.std.specs.List.{AllByRecursion, position_from}
 use Rattle.std.specs.Option.{is_none}
 use Rattle.std.specs.Str.{bytes_eq}
-use Rattle.std.proofs.lemmas.Bool.{and_parts}
+use Rattle.std.proofs.lemmas.Bool.{and_parts, not-false}
 use Rattle.std.proofs.lemmas.List.{length-map}
-use Rattle.acl_perm.proofs.Bools.{and_true_right, or_true_right}
+use Rattle.acl_perm.proofs.Bools.{and_true_right, or_true_right, or_false_right}
 use Rattle.acl_perm.proofs.Sets.{has_bit-and, has_bit-or, same_set}
 use Rattle.acl_perm.specs.Bits.{has_bit, identifier_group, identifier_group_alone, IsDifference}
 use Rattle.acl_perm.specs.Principal.{Principal, owner, user, group, group_named, everyone}
@@ -30,11 +30,6 @@ use Rattle.acl_eval.specs.Scan.{without}
 use Rattle.acl_eval.specs.Situation.{named_situation}
 
 -- ---- names
-
--- a test that fails once turned round not-false
-not-false : (t : Bool) → not t ≡ false → t ≡ true
-not-false true e = refl
-not-false false e = absurd cc
 
 -- nothing is there if the test says so
 is_none-true : {F : Type 0} (o : Option F) → is_none o ≡ true → o ≡ None
@@ -102,11 +97,7 @@ part_stays o g a = by (principal_of a)
     by : (p : Principal) → takes_part (resolved_by o g p a) ≡ takes_part a
     by owner = ap not (has_bit-without a.flags identifier_group_alone 3 ∙ and_true_right (has_bit a.flags 3))
     by (user name) = refl
-    by group = ap not (has_bit-or a.flags identifier_group_alone 3 ∙ or_none (has_bit a.flags 3))
-      where
-        or_none : (b : Bool) → (b || false) ≡ b
-        or_none true = refl
-        or_none false = refl
+    by group = ap not (has_bit-or a.flags identifier_group_alone 3 ∙ or_false_right (has_bit a.flags 3))
     by (group_named name) = refl
     by everyone = refl
 

@@ -3,7 +3,7 @@ use Rattle.std.proofs.Common.{◌≡◌, ◌≢◌, ℕ, ◌+◌, ◌%◌, ◌^�
 use Rattle.std.specs.Prelude.{bit_and, bit_xor, ◌&&◌, not, ◌↔◌, IsTrue}
 use Rattle.std.specs.Int.{bit_at}
 use Rattle.std.specs.Int.Bits.{xor_add_and, xor_self, xor_zero_r}
-use Rattle.std.proofs.lemmas.Bool.{cases_Bool, true≢false, eqb-true, eq-eqb, ne_eqb, and_parts, not-true}
+use Rattle.std.proofs.lemmas.Bool.{cases_Bool, true≢false, eqb-true, eq-eqb, ne_eqb, and_parts, not-true, and_left, and_right}
 use Rattle.std.proofs.lemmas.Nat.{and_le_l, and_le_r, xor_lt}
 use Rattle.std.proofs.lemmas.Nat.Bits.{bit_at_xor, bit_at-lt}
 use Rattle.acl_perm.proofs.Sets.{has_bit-and, some_bit, no_bit, IsMask-lt}
@@ -82,15 +82,6 @@ second_lacks : (x y : Bool) → x ≡ true → (x && y) ≡ false → y ≡ fals
 second_lacks true y p e = e
 second_lacks false y p e = absurd cc
 
--- two tests do not hold together if the second one does not hold
-second_fails : (h t : Bool) → t ≡ false → (h && t) ≡ false
-second_fails true t e = e
-second_fails false t e = refl
-
--- two tests do not hold together if the first one does not hold
-first_fails : (h t : Bool) → h ≡ false → (h && t) ≡ false
-first_fails h t e = rw e refl
-
 -- an ACE that lacks the bit, or does not match the requester, leaves the bit to the rest of the list
 grants_bit-skipped : (a : Ace) (list : List Ace) (s : Situation) (bit : ℕ) → (has_bit a.mask bit && applies s a) ≡ false
     → grants_bit (a ∷ list) s bit ≡ grants_bit list s bit
@@ -112,7 +103,7 @@ grant_not_applied : (a : Ace) (list : List Ace) (s : Situation) (m : ℕ) → ap
     → Grant (a ∷ list) s m ↔ Grant list s m
 grant_not_applied a list s m e =
     same_grant (a ∷ list) list s m
-    (λ bit h. grants_bit-skipped a list s bit (second_fails (has_bit a.mask bit) (applies s a) e))
+    (λ bit h. grants_bit-skipped a list s bit (and_right (has_bit a.mask bit) (applies s a) e))
 
 -- an ACE that has no bit of a request does not change whether the request is granted
 grant_passes : (a : Ace) (list : List Ace) (s : Situation) (m : ℕ) → bit_and m a.mask ≡ 0
@@ -121,7 +112,7 @@ grant_passes a list s m none =
     let hasnt = λ (bit : ℕ) (h : has_bit m bit ≡ true). second_lacks (has_bit m bit) (has_bit a.mask bit) h
     (sym (has_bit-and m a.mask bit) ∙ ap (λ (n : ℕ). has_bit n bit) none ∙ no_bit bit) in
     same_grant (a ∷ list) list s m
-    (λ bit h. grants_bit-skipped a list s bit (first_fails (has_bit a.mask bit) (applies s a) (hasnt bit h)))
+    (λ bit h. grants_bit-skipped a list s bit (and_left (has_bit a.mask bit) (applies s a) (hasnt bit h)))
 
 -- after an ALLOW that matches the requester, the rest of the list must grant the bits that it does not have
 grant_allows : (a : Ace) (list : List Ace) (s : Situation) (m : ℕ) → applies s a ≡ true → is_allow a.kind ≡ true
@@ -129,11 +120,11 @@ grant_allows : (a : Ace) (list : List Ace) (s : Situation) (m : ℕ) → applies
 grant_allows a list s m e k = (
   λ g bit h.
       let p = and_parts (has_bit m bit) (not (has_bit a.mask bit)) (sym (has_bit-without m a.mask bit) ∙ h) in
-      sym (grants_bit-skipped a list s bit (first_fails (has_bit a.mask bit) (applies s a) (not-true _ p.1)))
+      sym (grants_bit-skipped a list s bit (and_left (has_bit a.mask bit) (applies s a) (not-true _ p.1)))
       ∙ g bit p.0,
   λ g bit h. elim (cases_Bool (has_bit a.mask bit)) [
     | inl has ↦ grants_bit-decided a list s bit has e ∙ k
-    | inr hasnt ↦ grants_bit-skipped a list s bit (first_fails (has_bit a.mask bit) (applies s a) hasnt)
+    | inr hasnt ↦ grants_bit-skipped a list s bit (and_left (has_bit a.mask bit) (applies s a) hasnt)
         ∙ g bit (has_bit-without m a.mask bit ∙ rw (h, hasnt) refl)
   ],
 )

@@ -1,8 +1,7 @@
 -- The access check grants a request if and only if one of the entries at which it looks has the request. So the ACL of
 -- a shape is sound, and no sound ACL of the shape grants more.
-use Rattle.std.proofs.Common.{◌≡◌, ℕ, Bool, true, false, cond, List, [], ◌∷◌, ◌++◌, Option, None, Some, refl, sym, ap, ◌∙◌, inl, inr}
+use Rattle.std.proofs.Common.{◌≡◌, ℕ, Bool, true, false, cond, List, [], ◌∷◌, Option, None, Some, refl, sym, ap, ◌∙◌, inl, inr}
 use Rattle.std.proofs.lemmas.Bool.{eq-eqb, eqb-true, false≢true, not-true, or_cases}
-use Rattle.std.proofs.lemmas.List.Folds.{list_any-append}
 use Rattle.std.specs.Prelude.{◌==◌, ◌&&◌, ◌||◌, bit_and, is_some, not, unwrap_or}
 use Rattle.std.specs.Int.Bits.{and_zero_r}
 use Rattle.std.specs.List.{list_any}
@@ -44,15 +43,6 @@ some_member p (x ∷ xs) h = by (some_member p xs) (p x) refl h
     by rest true e h = (x, ap (λ (b : Bool). b || is_member x xs) (eq-eqb x x refl), e)
     by rest false e h = let (n, has, passes) = rest h in
         (n, ap (λ (b : Bool). (x == n) || b) has ∙ or_true_right (x == n), passes)
-
--- a member of the first list is a member of both together
-pub first_member : (id : ℕ) (xs ys : List ℕ) → is_member id xs ≡ true → is_member id (xs ++ ys) ≡ true
-first_member id xs ys h = list_any-append (λ (x : ℕ). x == id) xs ys ∙ ap (λ (b : Bool). b || is_member id ys) h
-
--- a member of the second list is a member of both together
-pub second_member : (id : ℕ) (xs ys : List ℕ) → is_member id ys ≡ true → is_member id (xs ++ ys) ≡ true
-second_member id xs ys h = list_any-append (λ (x : ℕ). x == id) xs ys
-    ∙ ap (λ (b : Bool). is_member id xs || b) h ∙ or_true_right (is_member id xs)
 
 -- two tests that agree pass alike
 any_same : (p q : ℕ → Bool) (xs : List ℕ) → ((n : ℕ) → p n ≡ q n) → list_any p xs ≡ list_any q xs

@@ -2,7 +2,7 @@
 -- the entry.
 use Rattle.std.proofs.Common.{◌≡◌, ◌≤◌, ◌+◌, ℕ, Bool, true, false, List, [], ◌∷◌, refl, sym, ap, subst, ◌∙◌, length, inl, inr}
 use Rattle.std.specs.Prelude.{◌&&◌, ◌||◌, ◌==◌}
-use Rattle.std.proofs.lemmas.Bool.{eqb-true}
+use Rattle.std.proofs.lemmas.Bool.{eqb-true, and_from}
 use Rattle.acl_perm.proofs.Bools.{and_true}
 use Rattle.acl_perm.proofs.Sets.{subset_test}
 use Rattle.acl_perm.specs.Bits.{has_bit}
@@ -11,18 +11,17 @@ use Rattle.acl_posix.specs.Id.{IsId}
 use Rattle.acl_posix.specs.Tag.{Tag}
 use Rattle.acl_posix.specs.declared.id.Id.{Id}
 use Rattle.acl_nfs4.specs.Ace.{Ace}
-use Rattle.acl_eval.specs.ToPosix.{EntryShape, is_in_shape, entry_shape_of}
+use Rattle.acl_eval.specs.ToPosix.{EntryShape, is_in_shape, entry_shape_of, size_of}
 use Rattle.acl_eval.specs.declared.posix_shape.PosixShape.{PosixShape}
 use Rattle.acl_eval.specs.internal.ShapeBody.{AreColumns, HasJust, answer, most_names}
 use Rattle.acl_eval.specs.declared.tag_column.Columns.{Columns}
 use Rattle.acl_eval.specs.declared.tag_column.TagKey.{TagKey}
+use Rattle.acl_eval.specs.ListNames.{named_shape}
+use Rattle.acl_eval.specs.PruningLaws.{HasFewIds}
+use Rattle.acl_eval.specs.declared.list_names.NamedIds.{NamedIds}
 use Rattle.acl_eval.proofs.SituationIds.{HasIds}
 use Rattle.acl_eval.proofs.AlwaysDecides.{decides_right}
 use Rattle.acl_eval.proofs.Images.{image_right, rights, small_bit}
-
--- and-true of two answers
-and-true : (a b : Bool) → a ≡ true → b ≡ true → (a && b) ≡ true
-and-true a b p q = rw (p, q) refl
 
 -- the permissions whose bits are the answers of the pass are those that the entry has
 pub just : (list : List Ace) (columns : Columns) (shape : EntryShape) (entry : Tag) (perm : ℕ) → AreColumns list columns
@@ -55,7 +54,7 @@ just list columns shape entry perm cs ids small there read write execute want fe
         | inl at ↦ rw at (execute ∙ executes.1 (λ object requester asked h. all object requester asked h 5
             (rights.execute.same want few ∙ subst (λ (n : ℕ). has_bit want n ≡ true) at hk)))
         | inr more ↦ elim more [
-          | inl at ↦ rw at (write ∙ and-true _ _
+          | inl at ↦ rw at (write ∙ and_from _ _
               (writes.1 (λ object requester asked h. all object requester asked h 1
               (rights.write_data.same want few ∙ subst (λ (n : ℕ). has_bit want n ≡ true) at hk)))
               (appends.1 (λ object requester asked h. all object requester asked h 2
@@ -66,7 +65,7 @@ just list columns shape entry perm cs ids small there read write execute want fe
       ]),
     )
 
--- the users and groups of a shape of the code are ids
+-- ids of the code are ids
 ids_are : (list : List Id) (id : ℕ) → is_member id (ids list) ≡ true → IsId id
 ids_are [] id h = absurd cc
 ids_are (x ∷ list) id h = by (ids_are list id) (x.value == id) refl h
@@ -79,6 +78,14 @@ ids_are (x ∷ list) id h = by (ids_are list id) (x.value == id) refl h
 -- the users and groups of a shape of the code are ids
 pub shape_ids : (shape : PosixShape) → HasIds (entry_shape_of shape)
 shape_ids shape = record { users = ids_are shape.users.now; groups = ids_are shape.groups.now }
+
+-- the shape of users and groups of the code has ids, and not too many
+pub few_ids : (named : NamedIds) → size_of (named_shape named) ≤ 65535 → HasFewIds (named_shape named)
+few_ids named few = record {
+  users = ids_are named.users.items;
+  groups = ids_are named.groups.items;
+  few = few;
+}
 
 -- what the pass answers over the keys that were given to it, it answers over the column
 pub answered : (shape : EntryShape) (entry : Tag) (given keys : List TagKey) (found : Bool)

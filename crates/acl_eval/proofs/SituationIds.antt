@@ -1,5 +1,5 @@
 -- The object and the requester of an entry and one more tag are given by ids.
-use Rattle.std.proofs.Common.{◌≡◌, ◌+◌, ℕ, Bool, true, false, List, [], ◌∷◌, ◌++◌, Option, None, Some, refl, sym, subst}
+use Rattle.std.proofs.Common.{◌≡◌, ℕ, Bool, true, false, List, [], ◌∷◌, ◌++◌, Option, None, Some, refl, sym, subst}
 use Rattle.std.proofs.lemmas.List.Elements.{All-from_recursion}
 use Rattle.std.specs.Prelude.{⊤, ◌||◌, if◌then◌else◌, unwrap_or}
 use Rattle.std.specs.List.{AllByRecursion}
@@ -15,9 +15,10 @@ use Rattle.acl_eval.specs.BridgeLaws.{IsAsked}
 use Rattle.acl_eval.specs.ToPosix.{EntryShape, is_in_shape}
 use Rattle.acl_eval.specs.internal.ShapeBody.{has_tag, may_match, keys_of}
 use Rattle.acl_eval.specs.declared.tag_column.TagKey.{TagKey}
+use Rattle.acl_eval.specs.internal.LossBody.{groups_for, is_owner_tag}
 use Rattle.acl_eval.proofs.Passes.{IsExtra}
 use Rattle.acl_eval.proofs.FreeIds.{AreFree}
-use Rattle.acl_eval.proofs.TagRequesters.{asker, extra_groups, groups_in, is_owned, object_at, requester_at, user_in}
+use Rattle.acl_eval.proofs.TagRequesters.{asker, extra_groups, object_at, requester_at, user_in}
 
 -- each user and each group of the shape is an id
 pub record HasIds (shape : EntryShape) : Type 0 where
@@ -71,7 +72,7 @@ own_user_id mask free is f = f
 own_user_id other free is f = f
 
 group_ids : (own : ℕ) (t : Tag) (rest : List ℕ) → IsTag t → IsId own → AllByRecursion IsId rest
-    → AllByRecursion IsId (groups_in own t ++ rest)
+    → AllByRecursion IsId (groups_for own t ++ rest)
 group_ids own user_obj rest is o h = h
 group_ids own (user id) rest is o h = h
 group_ids own group_obj rest is o h = (o, h)
@@ -100,7 +101,7 @@ besides_ids own None besides o = tt
 besides_ids own (Some x) besides o =
     subst (AllByRecursion IsId) (nothing own x) (group_ids own x [] besides o tt)
   where
-    nothing : (own : ℕ) (t : Tag) → groups_in own t ++ [] ≡ groups_in own t
+    nothing : (own : ℕ) (t : Tag) → groups_for own t ++ [] ≡ groups_for own t
     nothing own user_obj = refl
     nothing own (user id) = refl
     nothing own group_obj = refl
@@ -108,7 +109,7 @@ besides_ids own (Some x) besides o =
     nothing own mask = refl
     nothing own other = refl
 
-IsId-owner : (entry : Tag) (n next : ℕ) → IsId n → IsId next → IsId (if is_owned entry then n else next)
+IsId-owner : (entry : Tag) (n next : ℕ) → IsId n → IsId next → IsId (if is_owner_tag entry then n else next)
 IsId-owner user_obj n next h g = h
 IsId-owner (user id) n next h g = g
 IsId-owner group_obj n next h g = g

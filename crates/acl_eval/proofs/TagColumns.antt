@@ -5,7 +5,6 @@ use Rattle.std.proofs.lemmas.List.Elements.{recursion_from_All}
 use Rattle.std.proofs.lemmas.Option.{same_Some}
 use Rattle.std.specs.Prelude.{◌&&◌, ◌||◌, if◌then◌else◌, option_map}
 use Rattle.std.specs.Ordering.{eq_by_cmp}
-use Rattle.std.specs.Cmp.{eq_by_cmp_equiv}
 use Rattle.acl_perm.specs.Bits.{has_bit}
 use Rattle.acl_perm.specs.Kind.{is_allow}
 use Rattle.acl_perm.specs.Principal.{Principal, owner, user, group, group_named, everyone}
@@ -15,7 +14,6 @@ use Rattle.acl_posix.specs.Id.{IsId}
 use Rattle.acl_posix.specs.Names.{Table}
 use Rattle.acl_posix.specs.Tag as tag
 use Rattle.acl_posix.specs.Tag.{Tag, tag_cmp, tag_of}
-use Rattle.acl_posix.specs.internal.TagCode.{tags_total}
 use Rattle.acl_posix.proofs.Exports.{same_tag}
 use Rattle.acl_nfs4.specs.Ace.{Ace}
 use Rattle.acl_nfs4.specs.Limits.{most_aces}
@@ -31,6 +29,7 @@ use Rattle.acl_eval.specs.declared.tag_column.TaggedAce.{TaggedAce}
 use Rattle.acl_eval.proofs.BridgeNames.{is_one, same_name}
 use Rattle.acl_eval.proofs.Columns.{bit_at_first}
 use Rattle.acl_eval.proofs.IdNames.{with_id_names}
+use Rattle.acl_eval.proofs.Passes.{eq_by_cmp-comm}
 
 -- ---- whom a tag meets
 
@@ -233,10 +232,6 @@ key_kept test keys aces i bit a whole lt at there before =
         (if has_bit a.mask.bits bit && test (tag_of a.whom) then is_allow a.kind else rest)
     by true e = rw e (kept test (tag_of a.whom) (keys_of keys) (is_allow a.kind) rest (there e))
     by false e = rw e refl
-
--- two tags that are the same in one order are so in the other
-eq_by_cmp-comm : (t u : Tag) → eq_by_cmp tag_cmp t u ≡ false → eq_by_cmp tag_cmp u t ≡ false
-eq_by_cmp-comm t u e = (eq_by_cmp_equiv tags_total).symm u t ∙ e
 
 -- a key with another tag adds no tag
 pub apart : (key : TagKey) (t : Tag) (keys : List TagKey) → has_tag t (keys_of keys) ≡ false

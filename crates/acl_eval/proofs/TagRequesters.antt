@@ -1,6 +1,6 @@
 -- The object and the requester of an entry and of one more tag: the user and the groups are those of the two tags, and
 -- otherwise free ids.
-use Rattle.std.proofs.Common.{◌≡◌, ◌+◌, ℕ, Bool, true, false, List, [], ◌∷◌, ◌++◌, Option, None, Some, refl, sym, ap, ◌∙◌, arith}
+use Rattle.std.proofs.Common.{◌≡◌, ℕ, Bool, true, false, List, [], ◌++◌, Option, None, Some, refl, sym, ap, ◌∙◌, arith}
 use Rattle.std.proofs.lemmas.Bool.{eq-eqb, false≢true, not-true}
 use Rattle.std.proofs.lemmas.Bool.Decides.{nat_tests}
 use Rattle.std.specs.Prelude.{◌==◌, ◌||◌, not, if◌then◌else◌, unwrap_or}
@@ -11,6 +11,7 @@ use Rattle.acl_posix.specs.Check.{Object, Requester, is_member}
 use Rattle.acl_posix.specs.Tag.{Tag, user_obj, user, group_obj, group, mask, other, tag_cmp}
 use Rattle.acl_eval.specs.ToPosix.{EntryShape}
 use Rattle.acl_eval.specs.internal.ShapeBody.{TagColumn, has_tag, may_match}
+use Rattle.acl_eval.specs.internal.LossBody.{groups_for, is_owner_tag}
 use Rattle.acl_eval.proofs.Passes.{IsExtra, is_extra}
 use Rattle.acl_eval.proofs.FreeIds.{AreFree, eqb_comm}
 
@@ -28,28 +29,10 @@ abbrev pub extra_user : Option Tag → Option ℕ
 extra_user None = None
 extra_user (Some x) = user_in x
 
--- the group of a tag
-abbrev pub groups_in : ℕ → Tag → List ℕ
-groups_in own user_obj = []
-groups_in own (user id) = []
-groups_in own group_obj = own ∷ []
-groups_in own (group id) = id ∷ []
-groups_in own mask = []
-groups_in own other = []
-
 -- the group of a tag that may be absent
 abbrev pub extra_groups : ℕ → Option Tag → List ℕ
 extra_groups own None = []
-extra_groups own (Some x) = groups_in own x
-
--- the requester is the owner
-abbrev pub is_owned : Tag → Bool
-is_owned user_obj = true
-is_owned (user id) = false
-is_owned group_obj = false
-is_owned (group id) = false
-is_owned mask = false
-is_owned other = false
+extra_groups own (Some x) = groups_for own x
 
 -- the user who requests access
 abbrev pub asker : Tag → Option Tag → ℕ → ℕ
@@ -58,12 +41,12 @@ asker entry extra free = unwrap_or (option_or (extra_user extra) (user_in entry)
 -- the object of the situation that is made for an entry and one more tag
 abbrev pub object_at : Tag → Option Tag → ℕ → ℕ → ℕ → Object
 object_at entry extra free next own =
-    record { user = if is_owned entry then asker entry extra free else next; group = own }
+    record { user = if is_owner_tag entry then asker entry extra free else next; group = own }
 
 -- the requester of that situation
 abbrev pub requester_at : Tag → Option Tag → ℕ → ℕ → Requester
 requester_at entry extra free own =
-    record { user = asker entry extra free; groups = groups_in own entry ++ extra_groups own extra }
+    record { user = asker entry extra free; groups = groups_for own entry ++ extra_groups own extra }
 
 -- an option has this number
 abbrev pub has_number : Option ℕ → ℕ → Bool
@@ -97,36 +80,36 @@ asks (Some n) None free w apart one = sym (or_false_right (n == w))
 asks (Some n) (Some m) free w apart one = absurd (one m n refl refl)
 
 -- a member of the groups of a tag
-pub is_member-groups_in_own : (own : ℕ) (t : Tag) → ((id : ℕ) → t ≡ group id → (own == id) ≡ false)
-    → is_member own (groups_in own t) ≡ eq_by_cmp tag_cmp group_obj t
-is_member-groups_in_own own user_obj h = refl
-is_member-groups_in_own own (user id) h = refl
-is_member-groups_in_own own group_obj h = ap (λ (b : Bool). b || false) (eq-eqb own own refl)
-is_member-groups_in_own own (group id) h = ap (λ (b : Bool). b || false) (eqb_comm id own ∙ h id refl)
-is_member-groups_in_own own mask h = refl
-is_member-groups_in_own own other h = refl
+pub is_member-groups_for_own : (own : ℕ) (t : Tag) → ((id : ℕ) → t ≡ group id → (own == id) ≡ false)
+    → is_member own (groups_for own t) ≡ eq_by_cmp tag_cmp group_obj t
+is_member-groups_for_own own user_obj h = refl
+is_member-groups_for_own own (user id) h = refl
+is_member-groups_for_own own group_obj h = ap (λ (b : Bool). b || false) (eq-eqb own own refl)
+is_member-groups_for_own own (group id) h = ap (λ (b : Bool). b || false) (eqb_comm id own ∙ h id refl)
+is_member-groups_for_own own mask h = refl
+is_member-groups_for_own own other h = refl
 
 -- a group other than the owning group is among the groups of a tag if and only if the tag is that of the group
-pub is_member-groups_in : (own w : ℕ) (t : Tag) → (own == w) ≡ false
-    → is_member w (groups_in own t) ≡ eq_by_cmp tag_cmp (group w) t
-is_member-groups_in own w user_obj h = refl
-is_member-groups_in own w (user id) h = refl
-is_member-groups_in own w group_obj h = ap (λ (b : Bool). b || false) h
-is_member-groups_in own w (group id) h = or_false_right (id == w) ∙ sym (is_eq-nat_cmp w id)
-is_member-groups_in own w mask h = refl
-is_member-groups_in own w other h = refl
+pub is_member-groups_for : (own w : ℕ) (t : Tag) → (own == w) ≡ false
+    → is_member w (groups_for own t) ≡ eq_by_cmp tag_cmp (group w) t
+is_member-groups_for own w user_obj h = refl
+is_member-groups_for own w (user id) h = refl
+is_member-groups_for own w group_obj h = ap (λ (b : Bool). b || false) h
+is_member-groups_for own w (group id) h = or_false_right (id == w) ∙ sym (is_eq-nat_cmp w id)
+is_member-groups_for own w mask h = refl
+is_member-groups_for own w other h = refl
 
 -- the same for the tag besides
 pub is_member-extra_own : (own : ℕ) (extra : Option Tag) → ((id : ℕ) → extra ≡ Some (group id) → (own == id) ≡ false)
     → is_member own (extra_groups own extra) ≡ is_extra extra group_obj
 is_member-extra_own own None h = refl
-is_member-extra_own own (Some x) h = is_member-groups_in_own own x (λ id e. h id (ap (λ (t : Tag). Some t) e))
+is_member-extra_own own (Some x) h = is_member-groups_for_own own x (λ id e. h id (ap (λ (t : Tag). Some t) e))
 
 -- the same for the tag that may be absent
 pub is_member-extra : (own w : ℕ) (extra : Option Tag) → (own == w) ≡ false
     → is_member w (extra_groups own extra) ≡ is_extra extra (group w)
 is_member-extra own w None h = refl
-is_member-extra own w (Some x) h = is_member-groups_in own w x h
+is_member-extra own w (Some x) h = is_member-groups_for own w x h
 
 -- the tag besides is not that of OWNER@
 pub extra_no_owner : (shape : EntryShape) (entry : Tag) (keys : TagColumn) (extra : Option Tag)

@@ -3,7 +3,7 @@ use Rattle.std.proofs.Common.{◌≡◌, ℕ, ◌+◌, ◌<◌, ◌≤◌, lengt
 use Rattle.std.specs.Prelude.{◌&&◌, ◌||◌, ◌↔◌, IsTrue, if◌then◌else◌, map, not}
 use Rattle.std.specs.Str.{bytes_eq}
 use Rattle.std.proofs.lemmas.List.Folds.{list_any-append}
-use Rattle.std.proofs.lemmas.Bool.{and_parts, true≢false}
+use Rattle.std.proofs.lemmas.Bool.{and_parts, true≢false, or_right}
 use Rattle.acl_perm.proofs.Meetings.{bytes_eq_same, itself}
 use Rattle.acl_perm.specs.Bits.{has_bit, IsDifference, IsIntersection, IsUnion}
 use Rattle.acl_perm.proofs.Sets.{no_bit}
@@ -28,6 +28,7 @@ use Rattle.std.specs.Option.{option_map_or}
 use Rattle.std.specs.Ordering.{nat_cmp}
 use Rattle.std.specs.Map.{update}
 use Rattle.acl_perm.specs.declared.mask.Mask.{Mask}
+use Rattle.acl_perm.proofs.Bools.{or_false_right}
 unfoldable use Rattle.acl_eval.specs.internal.UnknownBody.{can_answer}
 
 -- ---- answers
@@ -225,11 +226,6 @@ can_sound (a ∷ list) earlier s bit k e = by (counts bit a) (is_unknown_special
         let (v, p, is) = rest (sym (can_pass earlier a list s bit k ce ue me) ∙ e) in
         (v, passes_less v earlier a bit p, answer_passes v a list s bit ce (match_known v s a ue ∙ me) ∙ is)
 
--- a choice whose second part holds
-or_second : (b c : Bool) → c ≡ true → (b || c) ≡ true
-or_second true c e = refl
-or_second false c e = e
-
 -- the first ACE of a name may decide
 first_decides : (h x r : Bool) → h ≡ false → x ≡ true → ((if h then false else x) || r) ≡ true
 first_decides false true r he xe = refl
@@ -261,7 +257,7 @@ can_complete (a ∷ list) earlier s bit v p = by (counts bit a) (is_unknown_spec
     by true true m false h ce ue me te he rest =
         rw (answer_passes v a list s bit ce (match_unknown v s a ue ∙ te))
         (can_unknown earlier a list s bit (answer_under v list s bit) ce ue
-        ∙ or_second (if had earlier bit a.who then false else is_answer (Some a.kind) (answer_under v list s bit))
+        ∙ or_right (if had earlier bit a.who then false else is_answer (Some a.kind) (answer_under v list s bit))
         (can_answer (noting earlier a) list s bit (answer_under v list s bit))
         (rest (passes_more v earlier a bit (λ is un. te) p)))
     by true false true t h ce ue me te he rest =
@@ -273,10 +269,6 @@ can_complete (a ∷ list) earlier s bit v p = by (counts bit a) (is_unknown_spec
         ∙ rest (passes_more v earlier a bit (λ is un. absurd (true≢false (sym un ∙ ue))) p))
 
 -- ---- the pass over the rights of a mask
-
--- both tests hold
-pub both_true : {x y : Bool} → x ≡ true → y ≡ true → (x && y) ≡ true
-both_true e f = rw (e, f) refl
 
 -- no rights are noted before the first ACE
 pub noted_none : (names : BTreeMap (Bor (List ℕ)) Mask) → names.entries ≡ [] → HaveNoted names []
@@ -304,11 +296,7 @@ noted_more old new a rights earlier updates union takes noted bit who =
         flat true m = refl
         flat false true = refl
         flat false false = refl
-    by false e = rw (takes, had_more earlier a bit who, e) (noted bit who ∙ flat (had earlier bit who))
-      where
-        flat : (h : Bool) → h ≡ (h || false)
-        flat true = refl
-        flat false = refl
+    by false e = rw (takes, had_more earlier a bit who, e) (noted bit who ∙ sym (or_false_right (had earlier bit who)))
 
 -- an ACE that does not count changes nothing
 pub after_skipped : (self : Possible) (earlier : List Ace) (a : Ace) (list : List Ace) (s : Situation) (bit : ℕ)

@@ -1,6 +1,7 @@
 -- The mode of a list without the ACEs of named users and groups.
 use Rattle.std.proofs.Common.{◌≡◌, ℕ, Bool, true, false, List, [], ◌∷◌, refl, ap}
-use Rattle.std.specs.Prelude.{◌==◌, ◌||◌, Option, unwrap_or}
+use Rattle.std.specs.Prelude.{◌==◌, Option, unwrap_or}
+use Rattle.std.proofs.lemmas.Bool.{or_parts}
 use Rattle.acl_perm.specs.Bits.{has_bit}
 use Rattle.acl_perm.specs.Order.{principal_rank}
 use Rattle.acl_perm.specs.Principal.{Principal, is_everyone}
@@ -44,22 +45,17 @@ same_part test skips list =
     let at = λ (bit : ℕ). ap (λ (kind : Option Kind). is_allow (unwrap_or kind Deny)) (same_kind test skips list bit) in
     same_perm (is_granted_by test (unnamed list)) (is_granted_by test list) (at 0) (at 1) (at 2) (at 5)
 
--- if neither of two tests holds, the first does not and the second does not
-or_false : (a b : Bool) → (a || b) ≡ false → (a ≡ false) × (b ≡ false)
-or_false false b h = (refl, h)
-or_false true b h = absurd cc
-
 -- ACEs of names do not decide for the owner
 owner_no_name : PassesNoName is_for_owner
-owner_no_name p e = (or_false (is_for_owner p) (is_for_group p) e).0
+owner_no_name p e = (or_parts (is_for_owner p) (is_for_group p) e).0
 
 -- ACEs of names do not decide for the group
 pub group_no_name : PassesNoName is_for_group
-group_no_name p e = (or_false (is_for_owner p) (is_for_group p) e).1
+group_no_name p e = (or_parts (is_for_owner p) (is_for_group p) e).1
 
 -- ACEs of names do not decide for others
 pub others_no_name : PassesNoName is_for_others
-others_no_name p e = (or_false (principal_rank p == 0) (is_everyone p) (owner_no_name p e)).1
+others_no_name p e = (or_parts (principal_rank p == 0) (is_everyone p) (owner_no_name p e)).1
 
 -- the mode of a list is the same without the ACEs of names
 pub same_mode : (list : List Ace) → mode_of_list (unnamed list) ≡ mode_of_list list

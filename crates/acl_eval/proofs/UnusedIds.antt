@@ -1,23 +1,20 @@
 -- Ids that no column and no entry has.
 use Rattle.std.proofs.Common.{◌≡◌, ◌≤◌, ◌<◌, ◌+◌, ℕ, Bool, true, false, List, [], ◌∷◌, ◌++◌, refl, sym, ap, subst, ◌∙◌, arith, inl, inr, drop, get_or, length}
-use Rattle.std.proofs.lemmas.Bool.{eq-eqb, false≢true, or_cases, true≢false}
+use Rattle.std.proofs.lemmas.Bool.{eq-eqb, true≢false, or_parts}
 use Rattle.std.proofs.lemmas.List.{append_assoc, at_drop_more, length-map, map-append}
 use Rattle.std.proofs.lemmas.List.Folds.{list_any-append}
 use Rattle.std.proofs.lemmas.Bool.{cases_lt}
 use Rattle.std.specs.Prelude.{◌↔◌, ◌==◌, ◌||◌, IsTrue, map}
 use Rattle.std.specs.FinMap as fin
 use Rattle.std.specs.List.{AllByRecursion}
-use Rattle.std.specs.Ordering.{eq_by_cmp}
 use Rattle.acl_perm.proofs.Bools.{or_true_right}
 use Rattle.acl_posix.specs.Check.{ids, is_member}
-use Rattle.acl_posix.specs.Tag.{Tag, qualifier, tag_cmp}
+use Rattle.acl_posix.specs.Tag.{Tag, qualifier}
 use Rattle.acl_posix.specs.Entries.{Entries, pair_of, pairs}
 use Rattle.acl_posix.specs.declared.entry.Entry.{Entry}
 use Rattle.acl_posix.specs.declared.id.Id.{Id}
-use Rattle.acl_posix.proofs.Exports.{same_tag}
-use Rattle.acl_eval.specs.internal.LossBody.{entry_numbers, key_numbers}
-use Rattle.acl_eval.specs.internal.ShapeBody.{TagColumn, has_tag}
-use Rattle.acl_eval.proofs.FreeIds.{free_below, or_none}
+use Rattle.acl_eval.specs.internal.LossBody.{entry_numbers}
+use Rattle.acl_eval.proofs.FreeIds.{free_below}
 
 -- if all numbers below a bound are members of a list, the list is as long as the bound
 pub below_length : (xs : List ℕ) (k : ℕ) → ((n : ℕ) → n < k → is_member n xs ≡ true) → k ≤ length xs
@@ -33,17 +30,6 @@ pub one_more : (xs : List ℕ) (k : ℕ) → ((n : ℕ) → n < k → is_member 
 one_more xs k all here n below = elim (cases_lt n k) [
   | inl less ↦ all n less
   | inr more ↦ subst (λ (m : ℕ). is_member m xs ≡ true) (omega (arith, more, below)) here
-]
-
--- the number of the tag of a key is among those of the keys
-pub key_number : (t : Tag) (keys : TagColumn) → has_tag t keys ≡ true
-    → is_member (qualifier t) (key_numbers keys) ≡ true
-key_number t [] h = absurd (false≢true h)
-key_number t ((u, k) ∷ keys) h = elim (or_cases (eq_by_cmp tag_cmp t u) (has_tag t keys) h) [
-  | inl same ↦ ap (λ (b : Bool). b || is_member (qualifier t) (key_numbers keys))
-      (eq-eqb (qualifier u) (qualifier t) (ap qualifier (sym (same_tag t u same))))
-  | inr more ↦ ap (λ (b : Bool). (qualifier u == qualifier t) || b) (key_number t keys more)
-      ∙ or_true_right (qualifier u == qualifier t)
 ]
 
 -- the number of each entry is among more numbers than those of the entries
@@ -62,9 +48,9 @@ entries_named (e ∷ es) used more = (
 pub not_with : (n m : ℕ) (xs ys : List ℕ) → ys ≡ xs ++ m ∷ [] → is_member n ys ≡ false
     → (is_member n xs ≡ false) × ((m == n) ≡ false)
 not_with n m xs ys is h =
-    let two = or_none (is_member n xs) (is_member n (m ∷ []))
+    let two = or_parts (is_member n xs) (is_member n (m ∷ []))
     (sym (list_any-append (λ (x : ℕ). x == n) xs (m ∷ [])) ∙ (ap (is_member n) (sym is) ∙ h)) in
-    (two.0, (or_none (m == n) false two.1).0)
+    (two.0, (or_parts (m == n) false two.1).0)
 
 -- ---- loops over keys and over entries
 

@@ -5,7 +5,7 @@ use Rattle.std.specs.List.{list_any}
 use Rattle.std.specs.Int.Bits.{and_zero_r}
 use Rattle.std.specs.Ordering.{eq_by_cmp}
 use Rattle.std.specs.FinMap as fin
-use Rattle.acl_perm.proofs.Bools.{and_swap, or_true_right}
+use Rattle.acl_perm.proofs.Bools.{and_swap, or_true_right, not_false}
 use Rattle.acl_posix.specs.Tag.{Tag, user_obj, user, group_obj, group, mask, other, is_named, tag_cmp}
 use Rattle.acl_posix.specs.Entries.{Entries, tags}
 use Rattle.acl_posix.specs.Valid.{missing, IsValid}
@@ -77,12 +77,8 @@ some_named E l named h =
 -- a valid set with a USER or GROUP has a MASK
 pub has_mask : (E : Entries) (l : Tag) → Complete E → is_named l ≡ true → is_some (fin.get E l) ≡ true
     → is_some (fin.get E mask) ≡ true
-has_mask E l c named h = by (is_some (fin.get E mask)) (sym (ap (λ (b : Bool). b && not (is_some (fin.get E mask)))
-    (some_named E l named h)) ∙ c.masked)
-  where
-    by : (b : Bool) → not b ≡ false → b ≡ true
-    by true e = refl
-    by false e = absurd cc
+has_mask E l c named h = not_false (is_some (fin.get E mask))
+    (sym (ap (λ (b : Bool). b && not (is_some (fin.get E mask))) (some_named E l named h)) ∙ c.masked)
 
 -- a valid set without MASK has no USER or GROUP
 pub none_named : (E : Entries) (l : Tag) → Complete E → is_named l ≡ true → is_some (fin.get E mask) ≡ false

@@ -9,8 +9,9 @@ use Rattle.acl_eval.specs.Pruning.{PrunesTo}
 use Rattle.acl_eval.specs.ToPosix.{EntryShape, IsBest, size_of}
 use Rattle.acl_eval.proofs.OwnerLists.{list_for}
 use Rattle.acl_eval.proofs.OwnerEnds.{maximal_for}
-use Rattle.acl_eval.proofs.OwnerShapes.{ForColumns, RuleFor, code_few, for_columns, others_few, others_ids, others_lack, rule_for}
+use Rattle.acl_eval.proofs.OwnerShapes.{ForColumns, RuleFor, for_columns, others_few, others_ids, others_lack, rule_for}
 use Rattle.acl_eval.proofs.posix_for_owner.acl_of_others.Goals as goal
+use Rattle.acl_eval.proofs.ShapeRights.{few_ids}
 
 pub pruned-requires : goal.pruned-requires
 pruned-requires c =
@@ -42,7 +43,7 @@ ends c acl best =
     let rest = named_shape c.in_ok-rest.rest in record {
       columns = of_columns c;
       lacks = others_lack o g (named_shape c.args.named);
-      few = others_ids o g (named_shape c.args.named) (code_few c.args.named c.requires.few);
+      few = others_ids o g (named_shape c.args.named) (few_ids c.args.named c.requires.few);
       pruned = subst (λ (s : EntryShape). PrunesTo list s rest) (c.shape.ensures ∙ c.others_of-others.ensures)
           (c.in_ok-rest.ensures.pruned list (of_columns c).columns);
       best = best;

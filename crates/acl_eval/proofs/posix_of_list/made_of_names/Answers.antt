@@ -4,8 +4,9 @@ use Rattle.acl_eval.specs.ListNames.{named_shape}
 use Rattle.acl_eval.specs.Pruning.{PrunesTo}
 use Rattle.acl_eval.specs.ToPosix.{EntryShape, IsBest}
 use Rattle.acl_eval.proofs.EntryCounts.{small_of}
-use Rattle.acl_eval.proofs.PosixOfLists.{exact_if_any, few_ids, maximal_of}
+use Rattle.acl_eval.proofs.PosixOfLists.{exact_if_any, maximal_of}
 use Rattle.acl_eval.proofs.posix_of_list.made_of_names.Goals as goal
+use Rattle.acl_eval.proofs.ShapeRights.{few_ids}
 
 pub returns-clause-rule : goal.returns-clause-rule
 returns-clause-rule c = λ names.
