@@ -1,7 +1,7 @@
 -- Flags and a list after them are read if and only if the bytes spell them.
-use Rattle.std.proofs.Common.{◌≡◌, ◌∙◌, ◌+◌, ◌<◌, ◌^◌, ◌++◌, [], ℕ, List, Result, Ok, Err, length, refl, ap, sym, subst}
+use Rattle.std.proofs.Common.{◌≡◌, ◌∙◌, ◌+◌, ◌<◌, ◌^◌, ◌++◌, [], ℕ, List, Ok, Err, length, refl, ap, sym, subst}
 use Rattle.acl_perm.specs.Profile.{full}
-use Rattle.acl_nfs4.proofs.Exports.{one, spelling_short}
+use Rattle.acl_nfs4.proofs.Exports.{one, spelling_short, ok_is}
 use Rattle.acl_nfs4.specs.Ace.{Ace}
 use Rattle.acl_nfs4.specs.Fault.{IsWholeFault}
 use Rattle.acl_nfs4.specs.Spelling.{IsAccepted, Xdr, spelling, word}
@@ -13,7 +13,7 @@ use Rattle.acl_forms.specs.AclFlags.{IsAclFlags}
 use Rattle.acl_forms.specs.Words.{WordPlace, acl_flags_of, start, word_at}
 use Rattle.acl_forms.specs.declared.fault.ReadFault.{ReadFault}
 use Rattle.acl_forms.specs.declared.fault.ReadReason.TheVariants as reason
-use Rattle.acl_forms.proofs.WordLemmas.{flags_again, flags_found, ok_is, place_at}
+use Rattle.acl_forms.proofs.WordLemmas.{flags_again, flags_found, place_at}
 
 -- the bytes of accepted flags and an accepted list are theirs
 pub bytes_of : (flags : ℕ) (list : List Ace) → IsAclFlags flags → IsAccepted full list

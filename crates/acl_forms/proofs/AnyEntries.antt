@@ -19,6 +19,7 @@ use Rattle.acl_nfs4.specs.declared.list.push_fault.PushFault.{PushFault}
 use Rattle.acl_nfs4.specs.declared.list.push_fault.PushFault.TheVariants.{TooHeavy, TooManyAces}
 use Rattle.acl_nfs4.specs.declared.xdr.fault.Reason.TheVariants as list
 use Rattle.acl_posix.specs.declared.id.Id.{Id}
+use Rattle.acl_nfs4.proofs.Exports.{bind-ok, bind_then, guard_ok, ok_is, is_who-decimal}
 use Rattle.acl_forms.specs.Acl41Ids.{listed}
 use Rattle.acl_forms.specs.Letters.{flag_letters, letters_from, nfs_flag_letters, nfs_right_letters, no_letter, right_letters}
 use Rattle.acl_forms.specs.NfsText.{NfsFields, flags_by_tag, nfs_fields_read, nfs_kind, nfs_type, tag_special, who_by_tag}
@@ -43,8 +44,6 @@ use Rattle.acl_forms.specs.internal.AnyAces.{HasAnyName, IsWithinLimits}
 use Rattle.acl_forms.proofs.AnyTexts.{Follows, RefusesUnknown}
 use Rattle.acl_forms.proofs.PartWords.{name_is}
 use Rattle.acl_forms.proofs.WholeLists.{any_of, is_known}
-use Rattle.acl_forms.proofs.WhoLemmas.{is_who-decimal}
-use Rattle.acl_forms.proofs.WordLemmas.{bind-ok, bind_then, guard_ok, ok_is}
 
 -- the type of a kind
 kind_type : (at number : ℕ) (kind : Kind) → kind_at at number ≡ Ok kind → number ≡ kind_number kind
@@ -68,7 +67,7 @@ who_again type_number who is =
 -- an id is a who that an ACE of any type may have
 pub id_again : (at type_number : ℕ) (id : Id) → judged_at at (who_of_type type_number (decimal id.value))
     ≡ Ok (decimal id.value)
-id_again at type_number id = rw (who_again type_number (decimal id.value) (is_who-decimal id.value id.within)) refl
+id_again at type_number id = rw (who_again type_number (decimal id.value) (is_who-decimal id.value (omega (arith, id.within)))) refl
 
 -- what has no image is nothing
 map_none : {A B : Type 0} (f : A → B) (o : Option A) → option_map f o ≡ None → o ≡ None

@@ -7,6 +7,7 @@ use Rattle.std.proofs.lemmas.List.Concat.{flat_map-cons}
 use Rattle.std.proofs.lemmas.List.Folds.{list_all-append}
 use Rattle.std.proofs.lemmas.List.Splits.{slice_split_at, slice_split_none}
 use Rattle.std.proofs.lemmas.List.Sums.{sum_by_push}
+use Rattle.std.proofs.lemmas.Bool.{and_from}
 use Rattle.acl_perm.proofs.Bools.{and_true}
 use Rattle.acl_perm.specs.Ascii.{comma, hash, line_feed}
 use Rattle.acl_perm.specs.Lines.{cut_at, is_all_blank, is_blank, spans, Span}
@@ -33,18 +34,13 @@ pub record IsEntryAgain (by : WhoField) (text : List ℕ) (a : Ace) : Type 0 whe
 
 -- ---- the bytes of a text
 
--- two tests that hold both hold together
-both_true : (a b : Bool) → a ≡ true → b ≡ true → (a && b) ≡ true
-both_true true b p q = q
-both_true false b p q = p
-
 -- texts one after the other pass a test that each of them passes
 each_pass : (test : ℕ → Bool) (text : Ace → List ℕ) (list : List Ace)
     → AllByRecursion (λ a. list_all test (text a) ≡ true) list → list_all test (flat_map text list) ≡ true
 each_pass test text [] each = refl
 each_pass test text (a ∷ list) each =
     ap (list_all test) (flat_map-cons text a list) ∙ list_all-append test (text a) (flat_map text list)
-    ∙ both_true _ _ each.0 (each_pass test text list each.1)
+    ∙ and_from _ _ each.0 (each_pass test text list each.1)
 
 -- with a byte after it that passes a test, a text passes the test
 after_pass : (test : ℕ → Bool) (mark : ℕ) (entry : Ace → List ℕ) (list : List Ace) → test mark ≡ true
@@ -71,7 +67,7 @@ separated_pass test feed mark LineFeeds entry list each =
 separated_pass test feed mark Commas entry [] each = refl
 separated_pass test feed mark Commas entry (a ∷ list) each =
     list_all-append test (entry a) (flat_map (λ b. comma ∷ entry b) list)
-    ∙ both_true _ _ each.0 (each_pass test (λ b. comma ∷ entry b) list
+    ∙ and_from _ _ each.0 (each_pass test (λ b. comma ∷ entry b) list
     (before_pass test comma entry list mark each.1))
 
 -- ---- commas between entries
@@ -140,7 +136,7 @@ comma_items by entry written a list each =
       separated_in_line by entry written a list each =
           let pass = all_in_line by entry written (a ∷ list) each in
           list_all-append is_in_line (entry a) (flat_map (λ b. comma ∷ entry b) list)
-          ∙ both_true _ _ pass.0 (each_pass is_in_line (λ b. comma ∷ entry b) list
+          ∙ and_from _ _ pass.0 (each_pass is_in_line (λ b. comma ∷ entry b) list
           (before_pass is_in_line comma entry list refl pass.1))
 
 -- entries that are read again add their ACEs

@@ -10,7 +10,7 @@ use Rattle.acl_perm.specs.Devices.{one_more}
 use Rattle.acl_perm.specs.Pieces.{WritesFrom}
 use Rattle.acl_perm.specs.declared.whole.WriteFault.{WriteFault}
 use Rattle.acl_forms.specs.FormWrites.{WritesIfHeld}
-use Rattle.acl_forms.specs.ToolsWritten.{longest_tools_text, tools_ace_fault, tools_entry_text, tools_fault, tools_fault_from, tools_line, tools_text}
+use Rattle.acl_forms.specs.ToolsWritten.{longest_tools_text, tools_ace_fault, tools_entry_text, tools_fault, tools_fault_from, tools_line, tools_text, fault_or}
 use Rattle.acl_forms.specs.NfsWritten.{nfs_entry_text, nfs_text}
 use Rattle.acl_forms.specs.declared.fault.FormFault.{FormFault}
 use Rattle.acl_forms.specs.declared.fault.FormReason.{FormReason}
@@ -23,6 +23,12 @@ use Rattle.acl_forms.specs.declared.style.LetterStyle.{LetterStyle}
 use Rattle.acl_forms.specs.declared.writing.WrittenForm.{WrittenForm}
 use Rattle.acl_forms.specs.declared.writing.WrittenForm.TheVariants.{Nfs, Tools}
 use Rattle.acl_forms.specs.internal.TextWriting.{entries_left, entry_of, separator_of}
+
+-- if there is no fault, the first ACE has none, and those after it have none
+pub no_fault : (place : ℕ) (o : Option FormReason) (others : Option FormFault) → fault_or place o others ≡ None
+    → (o ≡ None) × (others ≡ None)
+no_fault place None others e = (refl, e)
+no_fault place (Some reason) others e = absurd cc
 
 -- the fault of the next ACE is the fault of the ACEs that are left
 pub ace_refused : (object : ObjectKind) (place done : ℕ) (list rest : List Ace) (a : Ace) (reason : FormReason)

@@ -12,7 +12,7 @@ use Rattle.acl_perm.specs.Kind.{kind_number}
 use Rattle.acl_perm.specs.Profile.{full}
 use Rattle.acl_perm.specs.declared.kind.Kind.{Kind}
 use Rattle.acl_perm.specs.declared.kind.Kind.TheVariants.{Allow, Deny}
-use Rattle.acl_nfs4.proofs.Exports.{each_push, front_accepted}
+use Rattle.acl_nfs4.proofs.Exports.{each_push, front_accepted, bind-ok, bind_then, ok_is, is_who-decimal, is_who-everyone, is_who-group, is_who-owner}
 use Rattle.acl_nfs4.specs.Ace.{Ace}
 use Rattle.acl_nfs4.specs.Fields.{count_of, flags_of, kind_of, mask_of}
 use Rattle.acl_nfs4.specs.Limits.{most_aces, most_weight}
@@ -34,8 +34,8 @@ use Rattle.acl_forms.specs.declared.acl41_ids.IdAce.{IdAce}
 use Rattle.acl_forms.specs.declared.acl41_ids.Whom.{Whom}
 use Rattle.acl_forms.specs.declared.acl41_ids.Whom.TheVariants.{Owner, Group, Everyone, Account}
 use Rattle.acl_forms.specs.internal.IdAces.{ReadAs, ace_by_id, whom_name, flags_and_list}
-use Rattle.acl_forms.proofs.WhoLemmas.{is_who-decimal, is_who-everyone, is_who-group, is_who-owner, reads_who, says_who}
-use Rattle.acl_forms.proofs.WordLemmas.{Takes, Takes-then, bind-ok, bind_then, flags_again, flags_found, ok_is, place_at, word_again, word_takes}
+use Rattle.acl_forms.proofs.WhoLemmas.{reads_who, says_who}
+use Rattle.acl_forms.proofs.WordLemmas.{Takes, Takes-then, flags_again, flags_found, place_at, word_again, word_takes}
 
 -- ---- what each word says
 
@@ -164,8 +164,8 @@ ace_takes weight p x fits e =
     (takes_words weight p k f s m w fits ke fe se me we))))))
 
 -- the five words of an ACE before other bytes
-regrouped : (a b c d e f : List ℕ) → (a ++ (b ++ (c ++ (d ++ e)))) ++ f ≡ a ++ (b ++ (c ++ (d ++ (e ++ f))))
-regrouped a b c d e f = simp append_assoc
+pub five_regrouped : (a b c d e f : List ℕ) → (a ++ (b ++ (c ++ (d ++ e)))) ++ f ≡ a ++ (b ++ (c ++ (d ++ (e ++ f))))
+five_regrouped a b c d e f = simp append_assoc
 
 -- the words of an ACE that has an id
 pub with_words : {C : Type 0} (o : Option (ℕ × ℕ)) → IsSome o → ((x : ℕ × ℕ) → o ≡ Some x → C) → C
@@ -187,7 +187,7 @@ ace_again weight at a rest is id light = with_words (whom_words a.who) id (λ x 
     let small = within_le all_rights a.mask is.mask in
     ap (λ (t : List ℕ). id_ace_at weight (place_at at (t ++ rest))) (sym (piece_of a x e))
     ∙ ap (λ (t : List ℕ). id_ace_at weight (place_at at t))
-    (regrouped (word (kind_number a.kind)) (word a.flags) (word x.0) (word a.mask) (word x.1) rest)
+    (five_regrouped (word (kind_number a.kind)) (word a.flags) (word x.0) (word a.mask) (word x.1) rest)
     ∙ bind-ok _ (word_again (λ n. listed (kind_of n)) at (kind_number a.kind) r1 a.kind (kind_lt a.kind)
     (listed_again _ a.kind (kind_again a.kind)))
     ∙ bind-ok _ (word_again (λ n. listed (flags_of full n)) (at + 4) a.flags r2 a.flags (omega (arith, low))
@@ -312,7 +312,7 @@ pub is_who-whom : (w : Whom) → IsWho (whom_name w)
 is_who-whom Owner = is_who-owner
 is_who-whom Group = is_who-group
 is_who-whom Everyone = is_who-everyone
-is_who-whom (Account id) = is_who-decimal id.value id.within
+is_who-whom (Account id) = is_who-decimal id.value (omega (arith, id.within))
 
 -- each ACE that the code makes of words may be in a list
 pub good_ace : (a : IdAce) → a.flags.bits ≤ 255 → IsAce full (ace_by_id a)

@@ -13,7 +13,7 @@ use Rattle.std.proofs.lemmas.Slice.Eq.{bytes_eq-Decides}
 use Rattle.acl_perm.proofs.Bools.{and_true}
 use Rattle.acl_perm.proofs.Meetings.{bytes_eq_same}
 use Rattle.acl_perm.specs.Profile.{full}
-use Rattle.acl_nfs4.proofs.Exports.{weight-cons}
+use Rattle.acl_nfs4.proofs.Exports.{weight-cons, same_is, is_who-decimal}
 use Rattle.acl_nfs4.specs.Ace.{Ace}
 use Rattle.acl_nfs4.specs.Renamed.{ace_by, bad_row, bad_row_after, is_account, is_good_row, is_of_group, is_row_of, new_name, renamed, same_sort, who_by, NameRow}
 use Rattle.acl_nfs4.specs.Spelling.{IsAccepted, IsAce, weight}
@@ -32,15 +32,9 @@ use Rattle.acl_forms.specs.declared.form.Form.TheVariants.{NfsTools, NfsText, Nf
 use Rattle.acl_forms.specs.declared.who_field.WhoField.TheVariants as source
 use Rattle.acl_forms.proofs.FormsAgain.{reads_back}
 use Rattle.acl_forms.proofs.NfsAgain.{is_number-decimal}
-use Rattle.acl_forms.proofs.WhoLemmas.{bytes_eq-unequal, id_is, is_who-decimal, not_decimal}
+use Rattle.acl_forms.proofs.WhoLemmas.{bytes_eq-unequal, id_is, not_decimal}
 
 -- ---- tables of names
-
--- two sorts that the test finds the same are the same
-same_is : (a b : Bool) → same_sort a b ≡ true → a ≡ b
-same_is true b e = sym e
-same_is false true e = absurd cc
-same_is false false e = refl
 
 -- a sort is the same as itself
 same_self : (a : Bool) → same_sort a a ≡ true
@@ -495,7 +489,7 @@ no_special n is = rw (
 
 -- the digits of an id are the name of a user or a group
 digits_account : (n : ℕ) → IsId n → is_account (decimal n) ≡ true
-digits_account n is = rw (is_who-decimal n is, no_special n is) refl
+digits_account n is = rw (is_who-decimal n (omega (arith, is)), no_special n is) refl
 
 -- if nothing is there, the test says so
 none_said : (o : Option (List ℕ)) → (IsSome o → ⊥) → is_none o ≡ true

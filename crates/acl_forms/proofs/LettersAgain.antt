@@ -1,18 +1,17 @@
 -- The letters of a set stand for the set.
-use Rattle.std.proofs.Common.{◌≡◌, ◌∙◌, ◌+◌, ◌*◌, ◌<◌, ◌^◌, ℕ, Bool, true, false, cond, eqb, zero, suc, List, [], ◌∷◌, Result, Ok, refl, sym, ap, arith}
+use Rattle.std.proofs.Common.{◌≡◌, ◌∙◌, ◌+◌, ◌^◌, ℕ, Bool, true, false, cond, eqb, List, [], ◌∷◌, Result, Ok, refl, sym, ap}
 use Rattle.std.specs.Prelude.{◌==◌, bit_and, bit_or, filter, map}
 use Rattle.std.specs.List.{AllByRecursion, list_all}
-use Rattle.std.specs.Int.{bit_at}
 use Rattle.std.specs.Int.Bits.{and_zero_r, or_zero_l, or_zero_r}
 use Rattle.std.proofs.lemmas.Bool.{eq-eqb, eqb-true}
 use Rattle.std.proofs.lemmas.Nat.{and_assoc, and_comm}
-use Rattle.std.proofs.lemmas.Nat.Bits.{and_pow, bit_at-lt}
-use Rattle.std.proofs.Math.Bool.{and-or_distrib_left, or_assoc as either_assoc}
+use Rattle.std.proofs.Math.Bool.{or_assoc as either_assoc}
 use Rattle.acl_perm.proofs.Bools.{and_true}
-use Rattle.acl_perm.proofs.Sets.{has_bit-and, has_bit-or, same_set}
+use Rattle.acl_perm.proofs.Sets.{has_bit-or, same_set}
 use Rattle.acl_perm.specs.Bits.{has_bit}
 use Rattle.acl_perm.specs.internal.Steps.{◌>>=◌}
 use Rattle.acl_nfs4.specs.Within.{IsWithin}
+use Rattle.acl_nfs4.proofs.Exports.{and_or, bit_missing}
 use Rattle.acl_forms.specs.Letters.{flag_letters, letter_bits, letters_from, right_letters, single_letters}
 use Rattle.acl_forms.specs.ToolsWritten.{letters_of}
 use Rattle.acl_forms.specs.declared.fault.ReadFault.{ReadFault}
@@ -31,21 +30,6 @@ all_of (row ∷ rows) = bit_or row.bits (all_of rows)
 -- the union of three sets may be grouped in either way
 pub or_assoc : (a b c : ℕ) → bit_or (bit_or a b) c ≡ bit_or a (bit_or b c)
 or_assoc a b c = same_set _ _ (λ k. simp has_bit-or (either_assoc (has_bit a k) (has_bit b k) (has_bit c k)))
-
--- the part of a set that is in a union is the union of its parts in both sets
-pub and_or : (a b c : ℕ) → bit_and a (bit_or b c) ≡ bit_or (bit_and a b) (bit_and a c)
-and_or a b c = same_set _ _ (λ k.
-    simp (has_bit-and, has_bit-or) (and-or_distrib_left (has_bit a k) (has_bit b k) (has_bit c k)))
-
--- a binary digit times a number is the number or 0
-zero_and : (d p : ℕ) → d < 2 → (eqb (d * p) p ≡ false) → d * p ≡ 0
-zero_and zero p lt h = omega arith
-zero_and (suc zero) p lt h = let same : 1 * p ≡ p = omega arith in grind arith
-zero_and (suc (suc d)) p lt h = absurd (omega (arith, lt))
-
--- a set has a bit, or the intersection with the bit is empty
-pub bit_missing : (set k : ℕ) → eqb (bit_and set (2 ^ k)) (2 ^ k) ≡ false → bit_and set (2 ^ k) ≡ 0
-bit_missing set k h = rw (and_pow set k) (zero_and (bit_at set k) (2 ^ k) (bit_at-lt set k) (rw (and_pow set k) at h))
 
 -- a set that has no bit of a whole has no part of it but the empty one
 pub no_part : (set whole bits : ℕ) → bit_and set whole ≡ 0 → bit_and bits whole ≡ bits → bit_and set bits ≡ bits

@@ -8,7 +8,6 @@ pub mod AnyAces
 pub mod PartAnswers
 pub mod PartWords
 pub mod WholeLists
-pub mod Exits
 pub mod ReadAnswers
 pub mod LetterLemmas
 pub mod EntryCuts

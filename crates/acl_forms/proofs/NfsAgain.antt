@@ -7,14 +7,14 @@ use Rattle.std.specs.List.{AllByRecursion, list_all, list_any, slice_split}
 use Rattle.std.specs.Int.Bits.{or_zero_l, or_zero_r}
 use Rattle.std.specs.Str.{bytes_eq}
 use Rattle.std.specs.Str.Parse.{AllDigits, digits_value}
-use Rattle.std.proofs.lemmas.Bool.{eqb-true, le-leb, not-true}
+use Rattle.std.proofs.lemmas.Bool.{eqb-true, le-leb, not-true, or_parts}
 use Rattle.std.proofs.lemmas.Bool.Decides.{nat_tests}
 use Rattle.std.proofs.lemmas.Fmt.{decimal_is_IsNumeral, decimal_nonempty}
 use Rattle.std.proofs.lemmas.Nat.{and_assoc}
 use Rattle.std.proofs.lemmas.List.Folds.{list_all-append}
 use Rattle.std.proofs.lemmas.List.Splits.{slice_split_at, slice_split_none}
 use Rattle.std.proofs.lemmas.Str.Parse.{digit_from_value}
-use Rattle.acl_perm.proofs.Bools.{and_true}
+use Rattle.acl_perm.proofs.Bools.{and_true, not_false}
 use Rattle.acl_perm.proofs.Meetings.{bytes_eq_same}
 use Rattle.acl_perm.specs.Ascii.{colon}
 use Rattle.acl_perm.specs.Bits.{has_bit, identifier_group}
@@ -31,6 +31,7 @@ use Rattle.acl_nfs4.specs.Limits.{most_aces, most_weight}
 use Rattle.acl_nfs4.specs.Spelling.{IsAccepted, IsAce, weight}
 use Rattle.acl_nfs4.specs.Who.{everyone_name, group_name, is_plain, is_special, IsWho, owner_name, principal_of}
 use Rattle.acl_nfs4.specs.Within.{IsWithin}
+use Rattle.acl_nfs4.proofs.Exports.{and_or, bit_missing}
 use Rattle.acl_forms.specs.Acl41Ids.{id_of_digits}
 use Rattle.acl_forms.specs.Letters.{letters_from, nfs_flag_letters, nfs_right_letters, no_letter}
 use Rattle.acl_forms.specs.NfsRules.{nfs_rules, SpellsNfsText}
@@ -48,14 +49,15 @@ use Rattle.acl_forms.specs.declared.style.LetterStyle.{LetterStyle}
 use Rattle.acl_forms.specs.declared.style.Style.{Style}
 use Rattle.acl_forms.specs.declared.who_field.WhoField.{WhoField}
 use Rattle.acl_forms.specs.declared.who_field.WhoField.TheVariants as source
-use Rattle.acl_forms.proofs.LettersAgain.{and_or, bit_missing, ReadAgain}
+use Rattle.acl_forms.proofs.LettersAgain.{ReadAgain}
 use Rattle.acl_forms.proofs.NfsLemmas.{good_nfs_ace}
 use Rattle.acl_forms.proofs.TextLemmas.{one_list}
 use Rattle.acl_forms.proofs.StyledLetters.{styled_pass, styled_read}
 use Rattle.acl_forms.proofs.CommasAgain.{separated_again, separated_pass, IsEntryAgain}
 use Rattle.acl_forms.proofs.TextsAgain.{part_at}
-use Rattle.acl_forms.proofs.ToolsAgain.{all_not, all_pass, apart_sets, either_false, is_inside, is_no_colon, no_fault, no_place, not_refused, plain_who, rights_within, who_pass}
+use Rattle.acl_forms.proofs.ToolsAgain.{all_not, all_pass, apart_sets, is_inside, is_no_colon, no_place, not_refused, plain_who, rights_within, who_pass, ace_with}
 use Rattle.acl_forms.proofs.WhoLemmas.{id_is, no_id, not_decimal}
+use Rattle.acl_forms.proofs.FormLemmas.{no_fault}
 
 -- ---- blanks
 
@@ -325,12 +327,12 @@ id_again who n e =
 -- ---- the parts of an entry
 
 -- a part without a colon, and a colon after it
-split_more : (part rest : List ℕ) → list_all is_no_colon part ≡ true
+pub split_more : (part rest : List ℕ) → list_all is_no_colon part ≡ true
     → slice_split (λ b. b == colon) (part ++ colon ∷ rest) ≡ part ∷ slice_split (λ b. b == colon) rest
 split_more part rest h = slice_split_at (λ b. b == colon) part colon rest (all_not (λ b. b == colon) part h) refl
 
 -- a part without a colon
-split_last : (part : List ℕ) → list_all is_no_colon part ≡ true → slice_split (λ b. b == colon) part ≡ part ∷ []
+pub split_last : (part : List ℕ) → list_all is_no_colon part ≡ true → slice_split (λ b. b == colon) part ≡ part ∷ []
 split_last part h = slice_split_none (λ b. b == colon) part (all_not (λ b. b == colon) part h)
 
 -- the fields after the principal
@@ -376,10 +378,6 @@ flags_kept letters flags =
 
 kind_kept : (kind : Kind) → trimmed (kind_word kind) ≡ kind_word kind
 kind_kept kind = kept (kind_word kind) (kind_pass is_no_blank refl refl kind)
-
--- an ACE of its parts
-abbrev ace_with : Kind → ℕ → ℕ → List ℕ → Ace
-ace_with kind flags mask name = record { kind = kind; flags = flags; mask = mask; who = name }
 
 -- fields are read as an ACE
 read_again : (letters : LetterStyle) (by : WhoField) (a : Ace) (fields : NfsFields) → AreFieldsOf letters a fields
@@ -617,11 +615,6 @@ read_account letters by tag a word h name within is = record {
   again = λ list column room light. account_again letters by tag a word list column h name within is room light;
 }
 
--- if a negation is false, what is negated is true
-not_false : (b : Bool) → not b ≡ false → b ≡ true
-not_false true e = refl
-not_false false e = absurd cc
-
 -- if no test answers true, the first two do not
 none_true : (r s i : Bool) → cond r (Some Retention) (cond s (Some Separator) (cond i (Some Id) None)) ≡ None
     → (r ≡ false) × (s ≡ false)
@@ -651,7 +644,7 @@ read_ace : (letters : LetterStyle) (by : WhoField) (a : Ace) → IsAce full a �
 read_ace letters by a is none =
     let no = none_true (meets a.mask 0x600) (is_cut_who a.who) (is_id_cut (id_of_digits a.who)) none in
     let within = rights_within a.mask is.mask (apart_sets a.mask 0x600 no.0) in
-    let apart = either_false (list_any is_separator a.who) (not (bytes_eq (trimmed a.who) a.who)) no.1 in
+    let apart = or_parts (list_any is_separator a.who) (not (bytes_eq (trimmed a.who) a.who)) no.1 in
     let same : trimmed a.who ≡ a.who = bytes_eq_same (trimmed a.who) a.who (not_false _ apart.1) in
     let pass = who_pass a.who (plain_who a.who is.who) apart.0 in
     who_cases (IsEntryAgain by (nfs_entry_text letters a) (as_nfs_written a)) a.who

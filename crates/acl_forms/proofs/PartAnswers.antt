@@ -2,12 +2,12 @@
 use Rattle.std.proofs.Common.{◌≡◌, ◌∙◌, ℕ, List, Result, Ok, Err, ap, sym, subst, inl, inr}
 use Rattle.std.specs.Prelude.{IfOk}
 use Rattle.acl_nfs4.specs.Ace.{Ace}
+use Rattle.acl_nfs4.proofs.Exports.{ok_is}
 use Rattle.acl_forms.specs.Part.{PlacedAce, IsReadAsPart, RefusesPart, SpellsPart, kept, left_out}
 use Rattle.acl_forms.specs.declared.fault.ReadFault.{ReadFault}
 use Rattle.acl_forms.specs.declared.part.Part.{Part}
 use Rattle.acl_forms.specs.declared.part.left_out.LeftOut.{LeftOut}
 use Rattle.acl_forms.specs.internal.AnyAces.{IsPartReadAs}
-use Rattle.acl_forms.proofs.WordLemmas.{ok_is}
 
 -- a part that is read is that of what is spelled
 pub part_found : (Spells : ℕ → List PlacedAce → Type 0) (said : Result (ℕ × List PlacedAce) ReadFault)

@@ -9,11 +9,10 @@ use Rattle.std.proofs.lemmas.Bool.Decides.{nat_tests}
 use Rattle.std.proofs.lemmas.List.{drop_at, length-replicate, length-take, take-append-drop, take_at}
 use Rattle.std.proofs.lemmas.List.Concat.{flat_map-cons}
 use Rattle.std.proofs.lemmas.List.Sums.{sum_by-cons, sum_by_push}
-use Rattle.acl_perm.proofs.Bools.{and_true}
 use Rattle.acl_perm.specs.Bits.{all_flags, all_rights}
 use Rattle.acl_perm.specs.Profile.{full}
 use Rattle.acl_posix.specs.Id.{IsId, greatest_id}
-use Rattle.acl_nfs4.proofs.Exports.{IsBytes-drop}
+use Rattle.acl_nfs4.proofs.Exports.{IsBytes-drop, bytes_are_zeros, bind-ok, bind_then, guard_ok, ok_is, is_who-decimal}
 use Rattle.acl_nfs4.specs.AccessPart.{AnyAce, IsAnyAce, IsAnyWho, any_piece}
 use Rattle.acl_nfs4.specs.Ace.{Ace}
 use Rattle.acl_nfs4.specs.Fields.{count_of, flags_of, mask_of, padding_of, unless, who_len_of, who_reason}
@@ -39,10 +38,9 @@ use Rattle.acl_forms.specs.declared.part.Part.{Part}
 use Rattle.acl_forms.specs.declared.part.left_out.LeftOut.{LeftOut}
 use Rattle.acl_forms.specs.internal.AnyAces.{IsPartReadAs}
 use Rattle.acl_forms.proofs.AnyNames.{known_who}
-use Rattle.acl_forms.proofs.IdLemmas.{count_again, count_is, ended, flags_accepted, flags_are, listed_again, listed_ok, mask_again, mask_is, special_accepted, special_is, within_le}
+use Rattle.acl_forms.proofs.IdLemmas.{count_again, count_is, ended, flags_accepted, flags_are, listed_again, listed_ok, mask_again, mask_is, special_accepted, special_is, within_le, five_regrouped}
 use Rattle.acl_forms.proofs.PartAnswers.{part_found, part_only}
-use Rattle.acl_forms.proofs.WhoLemmas.{is_who-decimal}
-use Rattle.acl_forms.proofs.WordLemmas.{Takes, Takes-then, bind-ok, bind_then, flags_again, flags_found, guard_ok, ok_is, place_at, word_again, word_takes}
+use Rattle.acl_forms.proofs.WordLemmas.{Takes, Takes-then, flags_again, flags_found, place_at, word_again, word_takes}
 
 -- ---- any bytes
 
@@ -319,15 +317,6 @@ name_again : (type_number : ℕ) (who : List ℕ) → IsAnyWho who → is_unknow
     → who_by_name type_number who ≡ Ok who
 name_again type_number who is known = rw (is.utf8, is.plain, known) refl
 
--- bytes that are all zero are as many zeros
-bytes_are_zeros : (bytes : List ℕ) → list_all (λ b. eqb b 0) bytes ≡ true → bytes ≡ replicate (length bytes) 0
-bytes_are_zeros [] e = refl
-bytes_are_zeros (b ∷ bytes) e =
-    let h = and_true (eqb b 0) (list_all (λ b. eqb b 0) bytes) e in
-    let first : b ≡ 0 = eqb-true _ _ h.0 in
-    let others : bytes ≡ replicate (length bytes) 0 = bytes_are_zeros bytes h.1 in
-    cc
-
 -- padding that was read is zero
 padding_is : (bytes : List ℕ) (x : Unit {0}) → listed (padding_of bytes) ≡ Ok x → bytes ≡ replicate (length bytes) 0
 padding_is bytes x e =
@@ -467,7 +456,7 @@ id_is type_number n who e = by (nat_le n greatest_id) refl e
         → SaysNumber type_number 0 n who
     by true t e =
         let is : IsId n = leb-true n greatest_id t in
-        let known = known_who (decimal n) (is_who-decimal n is) in
+        let known = known_who (decimal n) (is_who-decimal n (omega (arith, is))) in
         subst (SaysNumber type_number 0 n) (ok_is (decimal n) who e)
         (record { names = by_id n is; known = rw known refl })
     by false t e = absurd cc
@@ -544,10 +533,6 @@ takes_words bits p t f s m w fits te fe se me we =
       known = says.known;
       light = mask.2;
     }
-
--- the five words of an ACE before other bytes
-five_regrouped : (a b c d e f : List ℕ) → (a ++ (b ++ (c ++ (d ++ e)))) ++ f ≡ a ++ (b ++ (c ++ (d ++ (e ++ f))))
-five_regrouped a b c d e f = simp append_assoc
 
 -- an ACE of nfsacl41i is read if and only if it is spelled
 pub reader_by_number : IsReader SpellsById ace_by_number

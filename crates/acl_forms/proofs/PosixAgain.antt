@@ -5,6 +5,7 @@ use Rattle.std.specs.List.{AllByRecursion, flat_map, list_all, slice_split}
 use Rattle.std.proofs.lemmas.List.Concat.{flat_map-cons}
 use Rattle.std.proofs.lemmas.List.Folds.{list_all-append}
 use Rattle.std.proofs.lemmas.List.Splits.{slice_split_at, slice_split_none}
+use Rattle.std.proofs.lemmas.Bool.{and_from}
 use Rattle.acl_perm.proofs.Bools.{and_true}
 use Rattle.acl_perm.specs.Ascii.{comma, hash, line_feed}
 use Rattle.acl_perm.specs.Lines.{Span, is_all_blank, is_blank, spans}
@@ -17,7 +18,7 @@ use Rattle.acl_forms.specs.PosixText.{PlacedEntry}
 use Rattle.acl_forms.specs.Texts.{AddEach, HasNoNul, SpellsByRules, entries_among, items_in, items_of}
 unfoldable use Rattle.acl_forms.specs.Texts.{cut_entries, line_items}
 use Rattle.acl_forms.specs.declared.fault.ReadFault.{ReadFault}
-use Rattle.acl_forms.proofs.PosixEntriesAgain.{IsEntryText, both, is_in_entry, placed_at}
+use Rattle.acl_forms.proofs.PosixEntriesAgain.{IsEntryText, is_in_entry, placed_at}
 use Rattle.acl_forms.proofs.TextsAgain.{part_at}
 use Rattle.acl_forms.proofs.ToolsAgain.{all_not, all_pass, no_place}
 
@@ -136,7 +137,7 @@ in_row text h = all_pass is_in_entry is_row text (λ b i. byte b i) h where
   byte b i =
       let one = and_true (not (b == line_feed)) _ i in
       let two = and_true (not (b == hash)) _ one.1 in
-      both _ _ one.0 (both _ _ two.0 (and_true (not (b == comma)) _ two.1).1)
+      and_from _ _ one.0 (and_from _ _ two.0 (and_true (not (b == comma)) _ two.1).1)
 
 -- texts with commas before them are bytes of such a text
 behind_row : (table : Table) (text : Tag × ℕ → List ℕ) (es : List (Tag × ℕ)) → AreTexts table text es
@@ -145,7 +146,7 @@ behind_row table text [] each = refl
 behind_row table text (e ∷ es) each =
     ap (list_all is_row) (flat_map-cons (λ x. comma ∷ text x) e es)
     ∙ list_all-append is_row (comma ∷ text e) (flat_map (λ x. comma ∷ text x) es)
-    ∙ both _ _ (in_row (text e) each.0.inside) (behind_row table text es each.1)
+    ∙ and_from _ _ (in_row (text e) each.0.inside) (behind_row table text es each.1)
 
 -- the parts between the commas are the texts
 comma_split : (table : Table) (text : Tag × ℕ → List ℕ) (e : Tag × ℕ) (es : List (Tag × ℕ))
@@ -174,7 +175,7 @@ comma_items table text part e es each =
     let whole = joined text (e ∷ es) in
     let row : list_all is_row whole ≡ true =
     list_all-append is_row (text e) (flat_map (λ x. comma ∷ text x) es)
-    ∙ both _ _ (in_row (text e) each.0.inside) (behind_row table text es each.1) in
+    ∙ and_from _ _ (in_row (text e) each.0.inside) (behind_row table text es each.1) in
     let feed = slice_split_none (λ b. b == line_feed) whole (all_not (λ b. b == line_feed) whole
     (all_pass is_row (λ b. not (b == line_feed)) whole (λ b h. (and_true (not (b == line_feed)) _ h).0) row)) in
     let mark = no_place (λ b. b == hash) whole (all_pass is_row (λ b. not (b == hash)) whole
@@ -191,7 +192,7 @@ commas_no_nul table text e es each =
     let whole = joined text (e ∷ es) in
     let row : list_all is_row whole ≡ true =
     list_all-append is_row (text e) (flat_map (λ x. comma ∷ text x) es)
-    ∙ both _ _ (in_row (text e) each.0.inside) (behind_row table text es each.1) in
+    ∙ and_from _ _ (in_row (text e) each.0.inside) (behind_row table text es each.1) in
     no_place (λ b. b == 0) whole (all_pass is_row (λ b. not (b == 0)) whole
     (λ b h. (and_true (not (b == hash)) _ (and_true (not (b == line_feed)) _ h).1).1) row)
 
@@ -202,8 +203,8 @@ lines_pass table text [] each = refl
 lines_pass table text (e ∷ es) each =
     ap (list_all (λ b. not (b == 0))) (flat_map-cons (line_by text) e es)
     ∙ list_all-append (λ b. not (b == 0)) (line_by text e) (flat_map (line_by text) es)
-    ∙ both _ _ (list_all-append (λ b. not (b == 0)) (text e) (line_feed ∷ [])
-    ∙ both _ _ (zero_free (text e) each.0.inside) refl) (lines_pass table text es each.1)
+    ∙ and_from _ _ (list_all-append (λ b. not (b == 0)) (text e) (line_feed ∷ [])
+    ∙ and_from _ _ (zero_free (text e) each.0.inside) refl) (lines_pass table text es each.1)
 
 -- ---- what the texts spell
 

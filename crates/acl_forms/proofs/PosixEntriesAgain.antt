@@ -7,11 +7,10 @@ use Rattle.std.specs.Fmt.{decimal}
 use Rattle.std.specs.List.{list_all, list_any, slice_split}
 use Rattle.std.specs.Str.{bytes_eq}
 use Rattle.std.specs.Str.Parse.{digits_value}
-use Rattle.std.proofs.lemmas.Bool.{le-leb}
+use Rattle.std.proofs.lemmas.Bool.{le-leb, and_from, or_parts}
 use Rattle.std.proofs.lemmas.Bool.Decides.{nat_tests}
 use Rattle.std.proofs.lemmas.Fmt.{decimal_is_IsNumeral, decimal_nonempty}
 use Rattle.std.proofs.lemmas.List.Folds.{list_all-append}
-use Rattle.std.proofs.lemmas.List.Splits.{slice_split_at, slice_split_none}
 use Rattle.acl_perm.proofs.Bools.{and_true}
 use Rattle.acl_perm.proofs.Meetings.{bytes_eq_same}
 use Rattle.acl_perm.specs.Ascii.{colon, comma, hash, line_feed}
@@ -29,17 +28,18 @@ use Rattle.acl_posix.specs.Texts.{long_word}
 use Rattle.acl_posix.specs.declared.field.TagWord.{TagWord}
 use Rattle.acl_posix.specs.declared.field.TagWord.TheVariants.{Group, User}
 use Rattle.acl_posix.specs.declared.text_fault.Part.{Part}
+use Rattle.acl_posix.specs.internal.Reading.{tag_with}
 use Rattle.acl_forms.specs.NfsText.{id_alone}
 use Rattle.acl_forms.specs.PosixNames.{is_shown}
-use Rattle.acl_forms.specs.PosixText.{PlacedEntry, PosixFields, has_qualifier, permissions_read, qualified_tag, word_read}
+use Rattle.acl_forms.specs.PosixText.{PlacedEntry, PosixFields, has_qualifier, permissions_read, word_read}
 unfoldable use Rattle.acl_forms.specs.PosixText.{last_id, named_word, pair_read, posix_entry, posix_fields, tag_read}
 use Rattle.acl_forms.specs.PosixWritten.{id_field, id_reason_of, is_name_separator, name_reason, named_reason, three_fields, written_qualifier}
 use Rattle.acl_forms.specs.declared.posix_text.style.TarStyle.{TarStyle}
-use Rattle.acl_forms.proofs.NfsAgain.{is_no_blank, is_number-decimal, kept}
+use Rattle.acl_forms.proofs.NfsAgain.{is_no_blank, is_number-decimal, kept, split_last, split_more}
 use Rattle.acl_forms.proofs.PosixLemmas.{by_word}
 use Rattle.acl_forms.proofs.PosixWrites.{no_first}
 use Rattle.acl_forms.proofs.TextsAgain.{part_at}
-use Rattle.acl_forms.proofs.ToolsAgain.{all_not, all_pass, either_false, is_no_colon}
+use Rattle.acl_forms.proofs.ToolsAgain.{all_pass, is_no_colon}
 
 -- ---- bytes
 
@@ -47,17 +47,12 @@ use Rattle.acl_forms.proofs.ToolsAgain.{all_not, all_pass, either_false, is_no_c
 abbrev pub is_in_entry : ℕ → Bool
 is_in_entry b = not (b == line_feed) && (not (b == hash) && (not (b == comma) && not (b == 0)))
 
--- two tests that hold both hold together
-pub both : (a b : Bool) → a ≡ true → b ≡ true → (a && b) ≡ true
-both true b p q = q
-both false b p q = p
-
 -- the bytes of a name that is written are inside an entry, and no colons
 name_pass : (name : List ℕ) → list_any is_name_separator name ≡ false
     → (list_all is_in_entry name ≡ true) × (list_all is_no_colon name ≡ true)
 name_pass [] apart = (refl, refl)
 name_pass (b ∷ name) apart =
-    let first = either_false (is_name_separator b) (list_any is_name_separator name) apart in
+    let first = or_parts (is_name_separator b) (list_any is_name_separator name) apart in
     let inside : is_in_entry b ≡ true = grind (arith, nat_tests, first.0) in
     let no_colon : is_no_colon b ≡ true = grind (arith, nat_tests, first.0) in
     let others = name_pass name first.1 in (rw (inside, others.0) refl, rw (no_colon, others.1) refl)
@@ -226,15 +221,6 @@ fields_at part column word q perm id = record {
   id = id;
 }
 
--- a part without a colon, and a colon after it
-split_more : (part rest : List ℕ) → list_all is_no_colon part ≡ true
-    → slice_split (λ b. b == colon) (part ++ colon ∷ rest) ≡ part ∷ slice_split (λ b. b == colon) rest
-split_more part rest h = slice_split_at (λ b. b == colon) part colon rest (all_not (λ b. b == colon) part h) refl
-
--- a part without a colon
-split_last : (part : List ℕ) → list_all is_no_colon part ≡ true → slice_split (λ b. b == colon) part ≡ part ∷ []
-split_last part h = slice_split_none (λ b. b == colon) part (all_not (λ b. b == colon) part h)
-
 -- an entry of three fields
 abbrev three : List ℕ → List ℕ → List ℕ → List ℕ
 three word q perm = word ++ colon ∷ (q ++ colon ∷ perm)
@@ -298,7 +284,7 @@ three_inside : (word q last : List ℕ) → list_all is_in_entry word ≡ true �
     → list_all is_in_entry last ≡ true → list_all is_in_entry (three word q last) ≡ true
 three_inside word q last a b c =
     list_all-append is_in_entry word (colon ∷ (q ++ colon ∷ last))
-    ∙ both _ _ a (list_all-append is_in_entry q (colon ∷ last) ∙ both _ _ b c)
+    ∙ and_from _ _ a (list_all-append is_in_entry q (colon ∷ last) ∙ and_from _ _ b c)
 
 -- an entry with its qualifier alone is read by it
 pub by_qualifier : (table : Table) (tag : Tag) (perm : ℕ) (name : Option (List ℕ)) → IsEntry (tag, perm)
@@ -328,7 +314,7 @@ by_qualifier table tag perm name within has q =
 
 -- an entry with a name and an id is read by the id
 by_id : (table : Table) (w : TagWord) (tag : Tag) (id perm : ℕ) (name : List ℕ) → IsId id → IsPerm perm
-    → (tag_row tag).word ≡ w → has_qualifier w ≡ true → qualified_tag w id ≡ tag → is_shown name ≡ true
+    → (tag_row tag).word ≡ w → has_qualifier w ≡ true → tag_with w id ≡ tag → is_shown name ≡ true
     → IsQualifier name
     → IsEntryText table (three (long_word tag) name (perm_text perm ++ colon ∷ decimal id)) (tag, perm)
 by_id table w tag id perm name is_id is_perm word_of_tag has tag_is shown q =
@@ -342,7 +328,7 @@ by_id table w tag id perm name is_id is_perm word_of_tag has tag_is shown q =
     record {
       inside = three_inside word name (text ++ colon ∷ decimal id) is.inside q.inside
           (list_all-append is_in_entry text (colon ∷ decimal id)
-          ∙ both _ _ (perm_pass is_in_entry refl refl refl refl perm) digits.inside);
+          ∙ and_from _ _ (perm_pass is_in_entry refl refl refl refl perm) digits.inside);
       some = some;
       again = λ part column.
           let at = column + length word + 1 in

@@ -37,7 +37,7 @@ use Rattle.acl_forms.specs.Texts.{SpellsByRules}
 use Rattle.acl_forms.specs.declared.posix_text.style.TarStyle.TheVariants.{Gnu, Star}
 use Rattle.acl_forms.proofs.PosixAgain.{AreTexts, commas_spell, joined, lines_spell, placed_are, placed_from}
 use Rattle.acl_forms.proofs.PosixEntriesAgain.{HasName, IsShownName, by_qualifier, held_qualifier, star_entry}
-use Rattle.acl_forms.proofs.PosixWrites.{first_held}
+use Rattle.acl_forms.proofs.FormLemmas.{no_fault}
 
 -- ---- the texts of entries
 
@@ -101,7 +101,7 @@ star_texts : (table : Table) (names : NamesOfIds) (place : ℕ) (es : List (Tag 
     → posix_fault_from names Star place es ≡ None → AreTexts table (star_of names) es
 star_texts table names place [] within held = tt
 star_texts table names place (e ∷ es) within held =
-    let both = first_held place (named_reason Star e.0 (tag_name names e.0)) _ held in (
+    let both = no_fault place (named_reason Star e.0 (tag_name names e.0)) _ held in (
       star_entry table e.0 e.1 (tag_name names e.0) within.0 (shown_of names e.0)
           (held_qualifier Star e.0 (tag_name names e.0) within.0.0 both.0),
       star_texts table names (place + 1) es within.1 both.1,
@@ -112,7 +112,7 @@ gnu_texts : (table : Table) (names : NamesOfIds) (place : ℕ) (es : List (Tag �
     → AllByRecursion IsEntry es → posix_fault_from names Gnu place es ≡ None → AreTexts table (gnu_of names) es
 gnu_texts table names place [] has within held = tt
 gnu_texts table names place (e ∷ es) has within held =
-    let both = first_held place (named_reason Gnu e.0 (tag_name names e.0)) _ held in (
+    let both = no_fault place (named_reason Gnu e.0 (tag_name names e.0)) _ held in (
       by_qualifier table e.0 e.1 (tag_name names e.0) within.0 (has_of table names e.0 has)
           (held_qualifier Gnu e.0 (tag_name names e.0) within.0.0 both.0),
       gnu_texts table names (place + 1) es has within.1 both.1,

@@ -12,8 +12,6 @@ use Rattle.acl_posix.specs.Tag.{Tag, tag_of}
 use Rattle.acl_posix.specs.declared.entry.Entry.{Entry}
 use Rattle.acl_forms.specs.PosixNames.{NamesOfIds, tag_name}
 use Rattle.acl_forms.specs.PosixWritten.{entries_text, id_reason_of, is_base, is_cut_name, longest_name, name_reason, named_reason, pieces_if, posix_fault_from}
-use Rattle.acl_forms.specs.ToolsWritten.{fault_or}
-use Rattle.acl_forms.specs.declared.fault.FormFault.{FormFault}
 use Rattle.acl_forms.specs.declared.fault.FormReason.{FormReason}
 use Rattle.acl_forms.specs.declared.fault.FormReason.TheVariants.{Separator, TooLong}
 use Rattle.acl_forms.specs.declared.posix_text.style.TarStyle.{TarStyle}
@@ -21,23 +19,18 @@ use Rattle.acl_forms.specs.declared.posix_text.style.TarStyle.TheVariants.{Star}
 use Rattle.acl_forms.specs.internal.AttributeEntries.{most_entries}
 use Rattle.acl_forms.specs.internal.PosixWriting.{IsShortName, piece_if}
 use Rattle.acl_forms.proofs.AttributeOrder.{few_entries}
+use Rattle.acl_forms.proofs.FormLemmas.{no_fault}
 
 -- ---- what the text can hold
-
--- if no entry has a fault, none of them has a reason
-pub first_held : (place : ℕ) (o : Option FormReason) (others : Option FormFault) → fault_or place o others ≡ None
-    → (o ≡ None) × (others ≡ None)
-first_held place None others e = (refl, e)
-first_held place (Some reason) others e = absurd cc
 
 -- an entry of an ACL that the text can hold has no reason
 held_at : (names : NamesOfIds) (style : TarStyle) (place : ℕ) (es : List Entry) (i : ℕ) (d : Entry) → i < length es
     → posix_fault_from names style place (pairs es) ≡ None
     → named_reason style (tag_of (get_or es i d).tag) (tag_name names (tag_of (get_or es i d).tag)) ≡ None
 held_at names style place [] i d lt e = absurd (omega (arith, lt))
-held_at names style place (x ∷ es) zero d lt e = (first_held place _ _ e).0
+held_at names style place (x ∷ es) zero d lt e = (no_fault place _ _ e).0
 held_at names style place (x ∷ es) (suc i) d lt e =
-    held_at names style (place + 1) es i d (omega (arith, lt)) (first_held place _ _ e).1
+    held_at names style (place + 1) es i d (omega (arith, lt)) (no_fault place _ _ e).1
 
 -- of two reasons that are not there, the first is not there
 pub no_first : (a b : Option FormReason) → option_or a b ≡ None → a ≡ None

@@ -7,6 +7,7 @@ use Rattle.std.proofs.lemmas.Bool.{eqb-true}
 use Rattle.acl_perm.proofs.Bools.{and_true}
 use Rattle.acl_perm.specs.Ascii.{hyphen}
 use Rattle.acl_perm.specs.internal.Steps.{◌>>=◌}
+use Rattle.acl_nfs4.proofs.Exports.{bit_missing}
 use Rattle.acl_forms.specs.Letters.{letter_bits, letters_from}
 use Rattle.acl_forms.specs.NfsWritten.{letter_or_hyphen, styled_letters}
 use Rattle.acl_forms.specs.declared.fault.ReadFault.{ReadFault}
@@ -15,7 +16,7 @@ use Rattle.acl_forms.specs.declared.letters.Letter.{Letter}
 use Rattle.acl_forms.specs.declared.object.ObjectKind.{ObjectKind}
 use Rattle.acl_forms.specs.declared.style.LetterStyle.{LetterStyle}
 use Rattle.acl_forms.specs.declared.style.LetterStyle.TheVariants.{Compact, Full}
-use Rattle.acl_forms.proofs.LettersAgain.{all_of, bit_missing, joined, left_out, letters_pass, letters_read, AreBits, ReadAgain}
+use Rattle.acl_forms.proofs.LettersAgain.{all_of, joined, left_out, letters_pass, letters_read, AreBits, ReadAgain}
 
 -- a hyphen stands for no bit in a table
 abbrev pub IsNoLetter : List Letter → ObjectKind → ReadReason → Type 0

@@ -1,11 +1,12 @@
 -- Texts of one entry a line are read again, line by line.
-use Rattle.std.proofs.Common.{◌≡◌, ◌∙◌, ◌+◌, ◌<◌, ◌≤◌, ℕ, Bool, true, false, List, [], ◌∷◌, ◌++◌, length, Result, Ok, refl, ap, subst, arith, append-nil, append_assoc, length-append}
-use Rattle.std.specs.Prelude.{◌&&◌, ◌==◌, count_ones, map, not}
+use Rattle.std.proofs.Common.{◌≡◌, ◌∙◌, ◌+◌, ◌<◌, ◌≤◌, ℕ, true, false, List, [], ◌∷◌, ◌++◌, length, Result, Ok, refl, ap, subst, arith, append-nil, append_assoc, length-append}
+use Rattle.std.specs.Prelude.{◌==◌, count_ones, map, not}
 use Rattle.std.specs.List.{All, AllByRecursion, flat_map, list_all, slice_split}
 use Rattle.std.proofs.lemmas.List.Concat.{flat_map-cons}
 use Rattle.std.proofs.lemmas.List.Folds.{list_all-append}
 use Rattle.std.proofs.lemmas.List.Splits.{slice_split_at}
 use Rattle.std.proofs.lemmas.List.Sums.{sum_by_push}
+use Rattle.std.proofs.lemmas.Bool.{and_from}
 use Rattle.acl_perm.specs.Ascii.{line_feed}
 use Rattle.acl_perm.specs.Lines.{cut_at, Span, spans}
 use Rattle.acl_nfs4.proofs.Exports.{weight-cons}
@@ -77,11 +78,6 @@ each_again rules entry written list (a ∷ more) column empty same each room lig
           (append_assoc list (written a ∷ []) (map written more)) rest,
     )
 
--- two tests that hold both hold together
-both_true : (a b : Bool) → a ≡ true → b ≡ true → (a && b) ≡ true
-both_true true b p q = q
-both_true false b p q = p
-
 -- if no line has a zero byte, no text has one
 pub no_nul : (line : Ace → List ℕ) (list : List Ace)
     → AllByRecursion (λ a. list_all (λ b. not (b == 0)) (line a) ≡ true) list
@@ -90,4 +86,4 @@ no_nul line [] each = refl
 no_nul line (a ∷ list) each =
     ap (list_all (λ b. not (b == 0))) (flat_map-cons line a list)
     ∙ list_all-append (λ b. not (b == 0)) (line a) (flat_map line list)
-    ∙ both_true _ _ each.0 (no_nul line list each.1)
+    ∙ and_from _ _ each.0 (no_nul line list each.1)

@@ -1,10 +1,10 @@
 -- The text that is written for a list spells the list.
-use Rattle.std.proofs.Common.{◌≡◌, ◌∙◌, ◌+◌, ◌<◌, ◌≤◌, ℕ, Bool, true, false, cond, List, [], ◌∷◌, ◌++◌, length, Option, None, Some, Result, Ok, refl, sym, ap, subst, arith}
+use Rattle.std.proofs.Common.{◌≡◌, ◌∙◌, ◌+◌, ◌<◌, ◌≤◌, ℕ, Bool, true, false, cond, List, [], ◌∷◌, ◌++◌, length, None, Some, Result, Ok, refl, sym, ap, subst, arith}
 use Rattle.std.specs.Prelude.{◌&&◌, ◌||◌, ◌==◌, ◌↔◌, bit_and, bit_or, count_ones, map, nat_le, nat_lt, not, position, if◌then◌else◌}
 use Rattle.std.specs.List.{All, AllByRecursion, list_all, list_any, position_or_len, slice_split}
 use Rattle.std.specs.Int.Bits.{or_zero_l}
 use Rattle.std.specs.Str.{bytes_eq, is_utf8}
-use Rattle.std.proofs.lemmas.Bool.{le-ltb, not-true}
+use Rattle.std.proofs.lemmas.Bool.{le-ltb, not-true, or_parts}
 use Rattle.std.proofs.lemmas.Bool.Decides.{nat_tests}
 use Rattle.std.proofs.lemmas.List.Elements.{All-weaker}
 use Rattle.std.proofs.lemmas.List.Folds.{list_all-append}
@@ -26,13 +26,13 @@ use Rattle.acl_perm.specs.Bits.{has_bit, identifier_group}
 use Rattle.acl_perm.specs.Principal.{everyone, group, group_named, owner, user}
 use Rattle.acl_nfs4.specs.Who.{everyone_name, group_name, is_no_who_len, is_plain, is_unknown_special, IsWho, owner_name, principal_of}
 use Rattle.acl_nfs4.specs.Within.{IsWithin}
+use Rattle.acl_nfs4.proofs.Exports.{and_or}
 use Rattle.acl_forms.specs.Letters.{flag_letters, letters_from, right_letters, single_letters}
 use Rattle.acl_forms.specs.Texts.{cut_entries, line_items}
 use Rattle.acl_forms.specs.ToolsRules.{is_break, tools_rules, SpellsTools}
 use Rattle.acl_forms.specs.ToolsText.{tools_ace, Fields, entry_fields_of, fields_read, four, kind_read, tools_entry, unless_refused, with_group_flag}
-use Rattle.acl_forms.specs.ToolsWritten.{as_written, fault_or, flags_written, is_no_file_ace, is_separator, kind_letter, letters_of, longest_tools_text, longest_tools_who, meets, tools_ace_fault, tools_entry_text, tools_fault, tools_fault_from, tools_line, tools_text, IsSameButGroup}
+use Rattle.acl_forms.specs.ToolsWritten.{as_written, flags_written, is_no_file_ace, is_separator, kind_letter, letters_of, longest_tools_text, longest_tools_who, meets, tools_ace_fault, tools_entry_text, tools_fault, tools_fault_from, tools_line, tools_text, IsSameButGroup}
 use Rattle.acl_forms.specs.declared.fault.FormFault.{FormFault}
-use Rattle.acl_forms.specs.declared.fault.FormReason.{FormReason}
 use Rattle.acl_forms.specs.declared.fault.FormReason.TheVariants.{Inherited, NotDirectory, Retention, Separator, TooLong}
 use Rattle.acl_forms.specs.declared.fault.ReadFault.{ReadFault}
 use Rattle.acl_forms.specs.declared.fault.ReadReason.TheVariants as reasons
@@ -42,7 +42,8 @@ use Rattle.acl_forms.proofs.EntryLemmas.{good_fields}
 use Rattle.acl_forms.proofs.LetterLemmas.{within_union}
 use Rattle.acl_forms.proofs.TextLemmas.{one_list}
 use Rattle.acl_forms.proofs.TextsAgain.{each_again, no_nul, part_at, IsReadAgain}
-use Rattle.acl_forms.proofs.LettersAgain.{and_or, flags_read, letters_pass, rights_read, SuitsFile}
+use Rattle.acl_forms.proofs.LettersAgain.{flags_read, letters_pass, rights_read, SuitsFile}
+use Rattle.acl_forms.proofs.FormLemmas.{no_fault}
 
 -- ---- what an ACE that the form holds is
 
@@ -110,18 +111,13 @@ plain_who name h = no_control _ _ _ _ (is_no_who_len (length name)) (is_utf8 nam
 pub inside_byte : (b : ℕ) → is_plain b ≡ true → is_separator b ≡ false → (is_inside b ≡ true) × (is_no_colon b ≡ true)
 inside_byte b plain other = (grind (arith, nat_tests), grind (arith, nat_tests))
 
--- if one of two tests answers false together, each does
-pub either_false : (a b : Bool) → (a || b) ≡ false → (a ≡ false) × (b ≡ false)
-either_false true b e = absurd cc
-either_false false b e = (refl, e)
-
 -- the bytes of a who are inside an entry, and no colons
 pub who_pass : (name : List ℕ) → list_all is_plain name ≡ true → list_any is_separator name ≡ false
     → (list_all is_inside name ≡ true) × (list_all is_no_colon name ≡ true)
 who_pass [] plain apart = (refl, refl)
 who_pass (b ∷ name) plain apart =
     let first = and_true (is_plain b) (list_all is_plain name) plain in
-    let second = either_false (is_separator b) (list_any is_separator name) apart in
+    let second = or_parts (is_separator b) (list_any is_separator name) apart in
     let byte = inside_byte b first.0 second.0 in
     let others = who_pass name first.1 second.1 in (rw (byte.0, others.0) refl, rw (byte.1, others.1) refl)
 
@@ -260,14 +256,8 @@ kind_again : (kind : Kind) (column : ℕ)
 kind_again Allow column = refl
 kind_again Deny column = refl
 
--- if there is no fault, the first ACE has none, and those after it have none
-pub no_fault : (place : ℕ) (o : Option FormReason) (others : Option FormFault) → fault_or place o others ≡ None
-    → (o ≡ None) × (others ≡ None)
-no_fault place None others e = (refl, e)
-no_fault place (Some reason) others e = absurd cc
-
 -- an ACE of its parts
-abbrev ace_with : Kind → ℕ → ℕ → List ℕ → Ace
+abbrev pub ace_with : Kind → ℕ → ℕ → List ℕ → Ace
 ace_with kind flags mask name = record { kind = kind; flags = flags; mask = mask; who = name }
 
 -- the fields of the entry of an ACE, with their places

@@ -17,6 +17,7 @@ use Rattle.acl_nfs4.specs.Ace.{Ace}
 use Rattle.acl_nfs4.specs.Spelling.{IsAccepted, IsAce, piece, weight, word}
 use Rattle.acl_nfs4.specs.Who.{IsWho, everyone_name, group_name, is_no_who_len, is_plain, is_unknown_special, owner_name}
 use Rattle.acl_nfs4.specs.declared.xdr.fault.Reason.TheVariants as list
+use Rattle.acl_nfs4.proofs.Exports.{ok_is}
 use Rattle.acl_forms.specs.Acl41.{IsAcl41}
 use Rattle.acl_forms.specs.Acl41Ids.{EachHasId, IsAcl41Ids, id_piece, id_who, special_who, whom_words}
 unfoldable use Rattle.acl_forms.specs.Acl41Ids.{id_who_of}
@@ -30,7 +31,6 @@ use Rattle.acl_forms.specs.declared.fault.ReadReason.TheVariants as reason
 use Rattle.acl_forms.proofs.AnyNames.{known_who}
 use Rattle.acl_forms.proofs.IdLemmas.{piece_of, with_words}
 use Rattle.acl_forms.proofs.WhoLemmas.{ReadsWho, reads_who}
-use Rattle.acl_forms.proofs.WordLemmas.{ok_is}
 
 -- an ALLOW or a DENY among ACEs of any type
 abbrev pub any_of : Ace → AnyAce

@@ -1,12 +1,11 @@
 -- A word that is read is the word that was written, and what was written is read again.
-use Rattle.std.proofs.Common.{◌≡◌, ◌∙◌, ◌+◌, ◌<◌, ◌≤◌, ◌^◌, ◌++◌, ℕ, List, Bool, true, false, cond, ltb, Result, Ok, Err, length, take, drop, arith, refl, ap, sym, subst, append_assoc, length-append}
+use Rattle.std.proofs.Common.{◌≡◌, ◌∙◌, ◌+◌, ◌<◌, ◌≤◌, ◌^◌, ◌++◌, ℕ, List, false, ltb, Result, Ok, Err, length, take, drop, arith, refl, ap, sym, subst, append_assoc, length-append}
 use Rattle.std.proofs.lemmas.Bool.{cases_lt, le-ltb, ltb-false, le-leb}
 use Rattle.std.proofs.Common.{inl, inr}
 use Rattle.std.proofs.lemmas.Bool.Decides.{nat_tests}
 use Rattle.std.proofs.lemmas.List.{get_or-take, get_or_past, length-take, take-append-drop}
 use Rattle.std.proofs.lemmas.Nat.{be_bytes_4, from_be_bytes-to_be_bytes_4}
-use Rattle.acl_perm.specs.internal.Steps.{◌>>=◌}
-use Rattle.acl_nfs4.proofs.Exports.{IsBytes-drop}
+use Rattle.acl_nfs4.proofs.Exports.{IsBytes-drop, guard_ok, ok_is}
 use Rattle.acl_nfs4.specs.Fields.{number}
 use Rattle.acl_nfs4.specs.Spelling.{word}
 use Rattle.acl_nfs4.specs.internal.Progress.{IsBytes}
@@ -26,30 +25,6 @@ IsBytes-take n bytes h i =
     ]
 
 -- ---- steps
-
--- if two steps give a value, what follows from each value of the first follows
-pub bind_then : {A B E C : Type 0} (r : Result A E) (f : A → Result B E) (y : B) → (r >>= f) ≡ Ok y
-    → ((x : A) → r ≡ Ok x → f x ≡ Ok y → C) → C
-bind_then (Ok x) f y e go = go x refl e
-bind_then (Err d) f y e go = absurd cc
-
--- a step that gives a value continues with that value
-pub bind-ok : {A B E : Type 0} {r : Result A E} (f : A → Result B E) {x : A} → r ≡ Ok x → (r >>= f) ≡ f x
-bind-ok {A = A} {E = E} f e = ap (λ (s : Result A E). s >>= f) e
-
--- if a test did not refuse, it was false, and the value is that of the other branch
-pub guard_ok : {A E : Type 0} (b : Bool) (d : E) (r : Result A E) (y : A) → cond b (Err d) r ≡ Ok y
-    → (b ≡ false) × (r ≡ Ok y)
-guard_ok true d r y e = absurd cc
-guard_ok false d r y e = (refl, e)
-
--- a value, as a result of a given type
-abbrev pub ok : {A E : Type 0} → A → Result A E
-ok x = Ok x
-
--- equal results have equal values
-pub ok_is : {A E : Type 0} (x y : A) → ok {A = A} {E = E} x ≡ ok y → x ≡ y
-ok_is x y e = cc
 
 -- ---- words
 

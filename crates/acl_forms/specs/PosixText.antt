@@ -7,12 +7,13 @@ use Rattle.acl_perm.specs.Lines.{Span, cut_at, is_all_blank, start_of, trimmed}
 use Rattle.acl_perm.specs.internal.Steps.{◌>>=◌}
 use Rattle.acl_posix.specs.Fields.{id_in, is_default, permissions_of, word_of}
 use Rattle.acl_posix.specs.Names.{Ids, Table, is_number}
-use Rattle.acl_posix.specs.Tag.{Tag, user_obj, user, group_obj, group, mask, other}
+use Rattle.acl_posix.specs.Tag.{Tag}
 use Rattle.acl_posix.specs.TextFault.{qualifier_names}
 use Rattle.acl_posix.specs.declared.field.TagWord.{TagWord}
 use Rattle.acl_posix.specs.declared.field.TagWord.TheVariants as word
 use Rattle.acl_posix.specs.declared.text_fault.Part.{Part}
 use Rattle.acl_posix.specs.declared.text_fault.Part.TheVariants.{Default}
+use Rattle.acl_posix.specs.internal.Reading.{tag_alone, tag_with}
 use Rattle.acl_forms.specs.NfsText.{id_alone, is_other_number}
 use Rattle.acl_forms.specs.ReadFaults.{read_fault_at}
 use Rattle.acl_forms.specs.declared.fault.ReadFault.{ReadFault}
@@ -65,20 +66,6 @@ permissions_in bytes = if length bytes == 0 then None else permissions_of bytes
 abbrev pub permissions_read : Span → Result ℕ ReadFault
 permissions_read field = ok_or (permissions_in (trimmed field.bytes)) (field_refused field reasons.Permission)
 
--- the tag of a word without a qualifier
-abbrev pub unqualified_tag : TagWord → Tag
-unqualified_tag word.User = user_obj
-unqualified_tag word.Group = group_obj
-unqualified_tag word.Mask = mask
-unqualified_tag word.Other = other
-
--- the tag of a word with an id, if the word can have one
-abbrev pub qualified_tag : TagWord → ℕ → Tag
-qualified_tag word.User id = user id
-qualified_tag word.Group id = group id
-qualified_tag word.Mask id = mask
-qualified_tag word.Other id = other
-
 -- whether a qualifier may follow a word
 abbrev pub has_qualifier : TagWord → Bool
 has_qualifier word.User = true
@@ -99,8 +86,8 @@ id_read (Some ids) field =
 -- the tag of a word and the field of a qualifier
 unfoldable pub tag_read : Table → TagWord → Span → Result Tag ReadFault
 tag_read names tag_word field =
-    if length (trimmed field.bytes) == 0 then Ok (unqualified_tag tag_word)
-    else id_read (qualifier_names names tag_word) field >>= λ id. Ok (qualified_tag tag_word id)
+    if length (trimmed field.bytes) == 0 then Ok (tag_alone tag_word)
+    else id_read (qualifier_names names tag_word) field >>= λ id. Ok (tag_with tag_word id)
 
 -- the word of an entry with four fields, if an id may end the entry: it has a qualifier, and may have one
 unfoldable pub named_word : ℕ → TagWord → Span → Result TagWord ReadFault
@@ -125,7 +112,7 @@ pair_by_id start names tag_word fields (Some field) = do
   named ← named_word start tag_word fields.qualifier
   perm ← permissions_read fields.permissions
   id ← last_id fields.qualifier field
-  Ok (qualified_tag named id, perm)
+  Ok (tag_with named id, perm)
 
 -- the tag and the permissions of the fields of an entry that begins here, or the first fault
 unfoldable pub pair_read : ℕ → Table → PosixFields → Result (Tag × ℕ) ReadFault

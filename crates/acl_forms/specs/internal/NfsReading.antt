@@ -14,10 +14,6 @@ use Rattle.acl_forms.specs.declared.nfs_text.entry.EntryAce.{EntryAce}
 use Rattle.acl_forms.specs.declared.nfs_text.entry.EntryWho.{EntryWho}
 use Rattle.acl_forms.specs.declared.nfs_text.entry.EntryWho.TheVariants.{Named, Numbered}
 
--- the first number above all ids
-abbrev pub no_id : ℕ
-no_id = 4294967295
-
 -- the fields after the principal
 pub record TailFields : Type 0 where
   pub rights : Span

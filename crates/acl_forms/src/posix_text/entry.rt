@@ -5,7 +5,8 @@ ghost use Rattle.acl_nfs4.specs.internal.Reading.{Gives};
 ghost use Rattle.acl_posix.specs.Entries.{pair_of};
 ghost use Rattle.acl_posix.specs.Names.{Table};
 ghost use Rattle.acl_posix.specs.Tag.{tag_of};
-ghost use Rattle.acl_forms.specs.PosixText.{pair_by_id, field_refused, has_qualifier, last_id, named_word, pair_read, permissions_in, permissions_read, posix_entry, qualifier_reason, unqualified_tag, tag_read, qualified_tag, word_read};
+ghost use Rattle.acl_posix.specs.internal.Reading.{tag_alone, tag_with};
+ghost use Rattle.acl_forms.specs.PosixText.{pair_by_id, field_refused, has_qualifier, last_id, named_word, pair_read, permissions_in, permissions_read, posix_entry, qualifier_reason, tag_read, word_read};
 ghost use Rattle.acl_forms.specs.internal.PosixReading.{parts_viewed, placed, PartsFit};
 
 use crate::fault::{ReadFault, ReadReason};
@@ -88,7 +89,7 @@ fn numbered_pair(
     let word = named_word(start, word, fields.qualifier)?;
     let perm = permissions_at(fields.permissions)?;
     let id = last_id(fields.qualifier, field)?;
-    let tag = qualified_tag(word, id);
+    let tag = tag_with(word, id);
     Ok(Entry { tag, perm })
 }
 
@@ -129,7 +130,7 @@ fn tag_at(field: Piece<'_>, word: TagWord, names: &Names) -> Result<Tag, ReadFau
 {
     let qualifier = trimmed(field.bytes);
     if qualifier.is_empty() {
-        return Ok(unqualified_tag(word));
+        return Ok(tag_alone(word));
     }
     let id = match word {
         TagWord::Mask | TagWord::Other => return Err(refused(field, ReadReason::Qualifier)),
@@ -138,7 +139,7 @@ fn tag_at(field: Piece<'_>, word: TagWord, names: &Names) -> Result<Tag, ReadFau
         TagWord::Group => names.group(qualifier),
     };
     match id {
-        Some(id) => Ok(qualified_tag(word, id)),
+        Some(id) => Ok(tag_with(word, id)),
         None => Err(refused(field, qualifier_reason(qualifier))),
     }
 }
@@ -191,8 +192,8 @@ fn has_qualifier(word: TagWord) -> bool
     matches!(word, TagWord::User | TagWord::Group)
 }
 
-fn unqualified_tag(word: TagWord) -> Tag
-    ensures { tag_of result ≡ unqualified_tag word }
+fn tag_alone(word: TagWord) -> Tag
+    ensures { tag_of result ≡ tag_alone word }
 {
     match word {
         TagWord::User => Tag::UserObj,
@@ -202,8 +203,8 @@ fn unqualified_tag(word: TagWord) -> Tag
     }
 }
 
-fn qualified_tag(word: TagWord, id: Id) -> Tag
-    ensures { tag_of result ≡ qualified_tag word id.value }
+fn tag_with(word: TagWord, id: Id) -> Tag
+    ensures { tag_of result ≡ tag_with word id.value }
 {
     match word {
         TagWord::User => Tag::User(id),

@@ -2,7 +2,7 @@ use Rattle.std.proofs.Common.{◌∙◌, inr, arith, ap, sym}
 use Rattle.acl_forms.specs.Acl41.IsAcl41Fault.{of_flags}
 use Rattle.acl_forms.specs.Words.{acl_flags_of, word_at}
 use Rattle.acl_forms.proofs.Acl41Lemmas.{list_fault}
-use Rattle.acl_forms.proofs.Exits.{exit_is}
+use Rattle.acl_nfs4.proofs.Exits.{exit_is}
 use Rattle.acl_forms.proofs.acl41.read_acl41.Goals as goal
 
 pub returns-in_err-flags-clause-fault : goal.returns-in_err-flags-clause-fault

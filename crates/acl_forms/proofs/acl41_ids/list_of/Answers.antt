@@ -1,7 +1,7 @@
 use Rattle.std.proofs.Common.{[], ◌∷◌, ◌<◌, ◌∙◌, arith, inr, length-append, sym}
 use Rattle.acl_forms.specs.internal.Cursor.{cursor_place}
 use Rattle.acl_forms.specs.internal.IdAces.{ace_by_id}
-use Rattle.acl_forms.proofs.Exits.{exit_is}
+use Rattle.acl_nfs4.proofs.Exits.{exit_is}
 use Rattle.acl_forms.proofs.IdLemmas.{ids_done, ids_more, ids_stop}
 use Rattle.acl_forms.proofs.acl41_ids.list_of.Goals as goal
 

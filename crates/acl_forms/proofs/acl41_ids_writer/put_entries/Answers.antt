@@ -1,7 +1,7 @@
 use Rattle.std.proofs.Common.{ap, arith, length, ◌∙◌}
 use Rattle.acl_perm.proofs.PieceLemmas.{out_cut, out_more}
 use Rattle.acl_nfs4.specs.Ace.{ace}
-use Rattle.acl_forms.proofs.Exits.{exit_is}
+use Rattle.acl_nfs4.proofs.Exits.{exit_is}
 use Rattle.acl_forms.proofs.IdWrites.{next_piece, piece_len}
 use Rattle.acl_forms.proofs.acl41_ids_writer.put_entries.Goals as goal
 

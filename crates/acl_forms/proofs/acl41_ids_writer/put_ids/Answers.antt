@@ -1,5 +1,5 @@
 use Rattle.std.proofs.Common.{arith}
-use Rattle.acl_forms.proofs.Exits.{exit_is}
+use Rattle.acl_nfs4.proofs.Exits.{exit_is}
 use Rattle.acl_forms.proofs.IdWrites.{head_cut, head_then}
 use Rattle.acl_forms.proofs.acl41_ids_writer.put_ids.Goals as goal
 

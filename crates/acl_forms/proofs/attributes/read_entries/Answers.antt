@@ -1,6 +1,6 @@
 use Rattle.std.proofs.Common.{inr, length, refl, ◌-◌}
 use Rattle.acl_forms.proofs.AttributeLemmas.{entry_refused, read_whole, some_bytes}
-use Rattle.acl_forms.proofs.Exits.{exit_is}
+use Rattle.acl_nfs4.proofs.Exits.{exit_is}
 use Rattle.acl_forms.proofs.attributes.read_entries.Goals as goal
 
 pub returns-in_err-next_entry-clause-fault : goal.returns-in_err-next_entry-clause-fault

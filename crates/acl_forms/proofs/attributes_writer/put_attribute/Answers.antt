@@ -4,7 +4,7 @@ use Rattle.acl_perm.specs.Pieces.{WritesFrom}
 use Rattle.acl_posix.specs.Attribute.{entry_bytes}
 use Rattle.acl_posix.specs.Tag.{Tag}
 use Rattle.acl_forms.proofs.AttributeWrites.{entries_fit, version_cut, version_then}
-use Rattle.acl_forms.proofs.Exits.{exit_is}
+use Rattle.acl_nfs4.proofs.Exits.{exit_is}
 use Rattle.acl_forms.proofs.attributes_writer.put_attribute.Goals as goal
 
 pub put_entries-requires : goal.put_entries-requires

@@ -5,7 +5,7 @@ use Rattle.acl_perm.proofs.PieceLemmas.{next_fits, out_all, out_cut, out_more, o
 use Rattle.acl_posix.specs.Attribute.{entry_bytes}
 use Rattle.acl_posix.specs.Entries.{pairs}
 use Rattle.acl_posix.specs.declared.entry.Entry.{Entry}
-use Rattle.acl_forms.proofs.Exits.{exit_is}
+use Rattle.acl_nfs4.proofs.Exits.{exit_is}
 use Rattle.acl_forms.proofs.AttributeWrites.{entry_next}
 use Rattle.acl_forms.proofs.attributes_writer.put_entries.Goals as goal
 

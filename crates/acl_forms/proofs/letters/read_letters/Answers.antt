@@ -1,5 +1,5 @@
 use Rattle.std.proofs.Common.{arith, sym, ◌∙◌}
-use Rattle.acl_forms.proofs.Exits.{exit_is}
+use Rattle.acl_nfs4.proofs.Exits.{exit_is}
 use Rattle.acl_forms.proofs.LetterLemmas.{letters_done, letters_fail, letters_next}
 use Rattle.acl_forms.proofs.letters.read_letters.Goals as goal
 

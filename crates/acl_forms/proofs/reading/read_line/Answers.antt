@@ -1,7 +1,7 @@
 use Rattle.std.proofs.Common.{inr, sym}
 use Rattle.acl_perm.specs.Lines.{span_of}
 use Rattle.acl_forms.proofs.EntryLemmas.{commented}
-use Rattle.acl_forms.proofs.Exits.{exit_is}
+use Rattle.acl_nfs4.proofs.Exits.{exit_is}
 use Rattle.acl_forms.proofs.reading.read_line.Goals as goal
 
 pub returns-in_err-judge_comment : goal.returns-in_err-judge_comment

@@ -2,7 +2,7 @@ use Rattle.std.proofs.Common.{ap, List, Option, refl, subst, ◌∙◌}
 use Rattle.acl_perm.specs.Lines.{Span, span_of}
 use Rattle.acl_perm.specs.declared.lines.Piece.{Piece}
 use Rattle.acl_forms.proofs.EntryCuts.{all_read, goes_on, items_in_parts, items_next, no_parts, part_fits, part_next, parts_left, stops}
-use Rattle.acl_forms.proofs.Exits.{exit_is}
+use Rattle.acl_nfs4.proofs.Exits.{exit_is}
 use Rattle.acl_forms.specs.TextReading.{part_items, RestFits}
 use Rattle.acl_forms.proofs.reading.read_parts.Goals as goal
 

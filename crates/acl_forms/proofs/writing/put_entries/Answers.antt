@@ -3,7 +3,7 @@ use Rattle.acl_perm.proofs.PieceLemmas.{out_cut, out_more}
 use Rattle.acl_nfs4.specs.Ace.{Ace, ace}
 use Rattle.acl_forms.specs.declared.writing.WrittenForm.{WrittenForm}
 use Rattle.acl_forms.specs.internal.TextWriting.{after_each, between, entries_left, entry_of, separator_of}
-use Rattle.acl_forms.proofs.Exits.{exit_is}
+use Rattle.acl_nfs4.proofs.Exits.{exit_is}
 use Rattle.acl_forms.proofs.writing.put_entries.Goals as goal
 
 -- the text of ACEs is the piece of the first and the text of the others

@@ -1,6 +1,6 @@
 use Rattle.std.proofs.Common.{inr}
 use Rattle.acl_perm.specs.Lines.{span_of}
-use Rattle.acl_forms.proofs.Exits.{exit_is}
+use Rattle.acl_nfs4.proofs.Exits.{exit_is}
 use Rattle.acl_forms.proofs.NfsLemmas.{bad_nfs_ace, bad_nfs_fields, good_nfs_ace}
 use Rattle.acl_forms.specs.internal.NfsReading.{entry_ace, entry_viewed}
 use Rattle.acl_forms.proofs.nfs_text.entry.add_nfs_entry.Goals as goal

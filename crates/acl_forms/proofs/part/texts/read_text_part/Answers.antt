@@ -1,6 +1,6 @@
 use Rattle.std.proofs.Common.{refl}
 use Rattle.acl_forms.proofs.AnyTexts.{part_fails, part_made}
-use Rattle.acl_forms.proofs.Exits.{exit_is}
+use Rattle.acl_nfs4.proofs.Exits.{exit_is}
 use Rattle.acl_forms.proofs.part.texts.read_text_part.Goals as goal
 
 pub returns-in_err-read : goal.returns-in_err-read

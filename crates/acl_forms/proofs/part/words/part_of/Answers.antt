@@ -2,7 +2,7 @@ use Rattle.std.proofs.Common.{◌<◌, ◌≤◌, arith, inr, refl}
 use Rattle.acl_forms.specs.internal.AnyAces.{any_ace_of, reader_of}
 use Rattle.acl_forms.specs.internal.Cursor.{cursor_place}
 use Rattle.acl_forms.proofs.AnyAces.{kept_most, sofar_all, sofar_more, sofar_none, sofar_stop}
-use Rattle.acl_forms.proofs.Exits.{exit_is}
+use Rattle.acl_nfs4.proofs.Exits.{exit_is}
 use Rattle.acl_forms.proofs.part.words.part_of.Goals as goal
 
 pub loop-place-init : goal.loop-place-init

@@ -1,5 +1,5 @@
 use Rattle.std.specs.Prelude.{map}
-use Rattle.acl_forms.proofs.Exits.{exit_is}
+use Rattle.acl_nfs4.proofs.Exits.{exit_is}
 use Rattle.acl_forms.proofs.PosixLemmas.{default_found, list_refused, parts_refused}
 use Rattle.acl_forms.proofs.TextLemmas.{held_read}
 use Rattle.acl_forms.specs.internal.PosixReading.{placed}

@@ -1,5 +1,5 @@
 use Rattle.std.specs.Prelude.{map}
-use Rattle.acl_forms.proofs.Exits.{exit_is}
+use Rattle.acl_nfs4.proofs.Exits.{exit_is}
 use Rattle.acl_forms.proofs.PosixLemmas.{access_refused, default_refused, entries_refused, file_found}
 use Rattle.acl_forms.proofs.TextLemmas.{held_read}
 use Rattle.acl_forms.specs.internal.PosixReading.{placed}

@@ -1,6 +1,6 @@
 use Rattle.std.proofs.Common.{ap, arith, length, ◌∙◌}
 use Rattle.acl_perm.proofs.PieceLemmas.{out_cut, out_more}
-use Rattle.acl_forms.proofs.Exits.{exit_is}
+use Rattle.acl_nfs4.proofs.Exits.{exit_is}
 use Rattle.acl_forms.proofs.PosixWrites.{piece_next, short_at}
 use Rattle.acl_forms.specs.internal.PosixWriting.{chosen}
 use Rattle.acl_forms.proofs.posix_text.writer.put_pass.Goals as goal

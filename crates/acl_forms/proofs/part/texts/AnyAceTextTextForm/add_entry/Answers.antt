@@ -4,7 +4,7 @@ use Rattle.acl_forms.specs.PartTexts.{placed_ace}
 use Rattle.acl_forms.specs.internal.AnyAces.{any_ace_of}
 use Rattle.acl_forms.specs.internal.AnyTexts.{any_entry_of}
 use Rattle.acl_forms.proofs.AnyTexts.{entry_fails, entry_gives}
-use Rattle.acl_forms.proofs.Exits.{exit_is}
+use Rattle.acl_nfs4.proofs.Exits.{exit_is}
 use Rattle.acl_forms.proofs.part.texts.AnyAceTextTextForm.add_entry.Goals as goal
 
 pub ace_at-requires-clause-weight : goal.ace_at-requires-clause-weight
