@@ -1,27 +1,17 @@
 -- The entry that decides is one of the entries of a valid ACL.
-use Rattle.std.proofs.Common.{◌≡◌, ℕ, Bool, true, false, cond, List, [], ◌∷◌, Option, Some, None, ap, refl, sym, subst}
+use Rattle.std.proofs.Common.{◌≡◌, ℕ, Bool, true, false, cond, List, [], ◌∷◌, Option, Some, None, refl, sym, subst}
 use Rattle.std.specs.Prelude.{◌==◌, IfSome, IsSome, option_map, not, if◌then◌else◌}
-use Rattle.std.specs.Cmp.{nat_cmp_is}
 use Rattle.std.specs.FinMap as set
 use Rattle.std.specs.FinMap.Entries as sorted
 use Rattle.std.specs.List as list
-use Rattle.std.specs.Ordering.{eq_by_cmp, is_eq, nat_cmp}
-use Rattle.std.specs.declared.cmp.Ordering.TheVariants.{Equal}
-use Rattle.acl_posix.specs.Check.{Object, Requester, any_matches, contains, tag_matches}
+use Rattle.std.specs.Ordering.{eq_by_cmp}
+use Rattle.acl_posix.specs.Check.{Object, Requester, any_matches}
 use Rattle.acl_posix.specs.Deciding.{decider, first_match}
 use Rattle.acl_posix.specs.Entries.{Entries}
-use Rattle.acl_posix.specs.Tag.{Tag, group, group_obj, mask, other, tag_cmp, user, user_obj}
+use Rattle.acl_posix.specs.Tag.{Tag, group, group_obj, other, tag_cmp, user, user_obj}
 use Rattle.acl_posix.specs.Valid.{IsValid, missing}
+use Rattle.acl_eval.proofs.Passes.{eq_by_cmp-refl}
 use Rattle.aclck_c.specs.internal.Deciders.{HasEntry}
-
--- a tag is found equal to itself
-eq_by_cmp-refl : (tag : Tag) → eq_by_cmp tag_cmp tag tag ≡ true
-eq_by_cmp-refl user_obj = refl
-eq_by_cmp-refl (user id) = ap is_eq (sym (nat_cmp_is id id Equal refl))
-eq_by_cmp-refl group_obj = refl
-eq_by_cmp-refl (group id) = ap is_eq (sym (nat_cmp_is id id Equal refl))
-eq_by_cmp-refl mask = refl
-eq_by_cmp-refl other = refl
 
 -- what is found after an entry is found with it too
 later : (q : Tag) (e : Tag × ℕ) (es : List (Tag × ℕ)) → IsSome (sorted.find tag_cmp q es)

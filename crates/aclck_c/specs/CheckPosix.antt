@@ -2,11 +2,8 @@
 use Rattle.std.specs.Prelude.{◌≤◌, ℕ, All, List}
 use Rattle.acl_posix.specs.Check.{Object, Requester}
 use Rattle.acl_posix.specs.Id.{IsId}
+use Rattle.acl_eval.specs.PosixForOwner.{object_for}
 use Rattle.aclck_c.specs.declared.posix.check.RawPosixQuestion.{RawPosixQuestion}
-
--- the owner and the owning group of the object
-abbrev pub object_of : ℕ → ℕ → Object
-object_of owner group = record { user = owner; group = group }
 
 -- who requests access
 abbrev pub requester_with_ids : ℕ → List ℕ → Requester
@@ -14,7 +11,7 @@ requester_with_ids user groups = record { user = user; groups = groups }
 
 -- the object that a question is about
 abbrev pub object_asked : RawPosixQuestion → Object
-object_asked q = object_of q.owner q.group
+object_asked q = object_for q.owner q.group
 
 -- who a question is about
 abbrev pub requester_asking : RawPosixQuestion → Requester

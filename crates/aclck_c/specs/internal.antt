@@ -18,6 +18,8 @@ pub mod FormParts
 pub mod IdFailures
 -- why a list has no POSIX ACL
 pub mod PosixFailures
+-- the table of the reasons
+pub mod Reasons
 -- the first difference of two lists
 pub mod Reports
 -- names that are exchanged

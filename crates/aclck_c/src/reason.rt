@@ -1,7 +1,8 @@
 //! The reasons of `enum aclck_reason` of `aclck.h`: their numbers, and their names, as the program prints them.
-ghost use Rattle.std.specs.Prelude.{◌≡◌, option_map};
+ghost use Rattle.std.specs.Prelude.{◌≡◌, ◌==◌, find, option_copied, option_map};
 ghost use Rattle.aclck_c.specs.Refusal.{reason_number};
-ghost use Rattle.aclck_c.specs.Words.{reason_name};
+ghost use Rattle.aclck_c.specs.Words.{reason_name, reasons};
+ghost use Rattle.aclck_c.specs.internal.Reasons.{reasons_of};
 
 use acl_nfs4::Reason;
 
@@ -118,56 +119,90 @@ pub(crate) fn reason_number(reason: Reason) -> u32
     }
 }
 
+// A reason: its number and its name.
+#[derive(Clone, Copy)]
+struct ReasonRow {
+    number: u32,
+    name: &'static [u8],
+}
+
+macro_rules! row {
+    ($number:ident, $name:literal) => {
+        ReasonRow {
+            number: $number,
+            name: $name,
+        }
+    };
+}
+
+// The reasons in ascending order of their numbers.
+static REASONS: [ReasonRow; 45] = [
+    row!(TRUNCATED, b"Truncated"),
+    row!(TOO_MANY_ACES, b"TooManyAces"),
+    row!(AUDIT_OR_ALARM, b"AuditOrAlarm"),
+    row!(ACE_TYPE, b"AceType"),
+    row!(FLAG_BITS, b"FlagBits"),
+    row!(MASK_BITS, b"MaskBits"),
+    row!(TOO_HEAVY, b"TooHeavy"),
+    row!(WHO_LENGTH, b"WhoLength"),
+    row!(WHO_UTF8, b"WhoUtf8"),
+    row!(WHO_CONTROL, b"WhoControl"),
+    row!(SPECIAL_WHO, b"SpecialWho"),
+    row!(PADDING, b"Padding"),
+    row!(TRAILING_BYTES, b"TrailingBytes"),
+    row!(READ, b"Read"),
+    row!(MEMORY, b"Memory"),
+    row!(FIELDS, b"Fields"),
+    row!(FLAG, b"Flag"),
+    row!(MASK, b"Mask"),
+    row!(TAG, b"Tag"),
+    row!(QUALIFIER, b"Qualifier"),
+    row!(ID, b"Id"),
+    row!(UNKNOWN_NAME, b"UnknownName"),
+    row!(PERMISSION, b"Permission"),
+    row!(EMPTY_ENTRY, b"EmptyEntry"),
+    row!(MULTI, b"Multi"),
+    row!(DUPLICATE, b"Duplicate"),
+    row!(MISS, b"Miss"),
+    row!(LIMITS, b"Limits"),
+    row!(SIZE, b"Size"),
+    row!(VERSION, b"Version"),
+    row!(ORDER, b"Order"),
+    row!(MERGED, b"Merged"),
+    row!(ACL_FLAG_BITS, b"AclFlagBits"),
+    row!(IFLAG_BITS, b"IflagBits"),
+    row!(NOT_DIRECTORY, b"NotDirectory"),
+    row!(EMPTY, b"Empty"),
+    row!(ID_DIFFERS, b"IdDiffers"),
+    row!(COMMENT, b"Comment"),
+    row!(NUL, b"Nul"),
+    row!(TOO_LONG, b"TooLong"),
+    row!(NO_ID, b"NoId"),
+    row!(INHERITED, b"Inherited"),
+    row!(RETENTION, b"Retention"),
+    row!(SEPARATOR, b"Separator"),
+    row!(ACL_FLAGS, b"AclFlags"),
+];
+
+// Returns the table, so that a clause can give its rows.
+fn reasons() -> &'static [ReasonRow]
+    ensures { reasons_of result.now ≡ reasons }
+{
+    &REASONS
+}
+
+fn row_of(rows: &[ReasonRow], number: u32) -> Option<&ReasonRow>
+    ensures { option_copied result ≡ find (λ row. number == row.number) rows.now }
+{
+    rows.iter().find(|row| number == row.number)
+}
+
 /// Returns the name of the reason with this number, or `None` if there is no such reason.
 pub(crate) fn reason_name(number: u32) -> Option<&'static [u8]>
     ensures { option_map (λ name. name.now) result ≡ reason_name number }
 {
-    match number {
-        TRUNCATED => Some(b"Truncated"),
-        TOO_MANY_ACES => Some(b"TooManyAces"),
-        AUDIT_OR_ALARM => Some(b"AuditOrAlarm"),
-        ACE_TYPE => Some(b"AceType"),
-        FLAG_BITS => Some(b"FlagBits"),
-        MASK_BITS => Some(b"MaskBits"),
-        TOO_HEAVY => Some(b"TooHeavy"),
-        WHO_LENGTH => Some(b"WhoLength"),
-        WHO_UTF8 => Some(b"WhoUtf8"),
-        WHO_CONTROL => Some(b"WhoControl"),
-        SPECIAL_WHO => Some(b"SpecialWho"),
-        PADDING => Some(b"Padding"),
-        TRAILING_BYTES => Some(b"TrailingBytes"),
-        READ => Some(b"Read"),
-        MEMORY => Some(b"Memory"),
-        FIELDS => Some(b"Fields"),
-        FLAG => Some(b"Flag"),
-        MASK => Some(b"Mask"),
-        TAG => Some(b"Tag"),
-        QUALIFIER => Some(b"Qualifier"),
-        ID => Some(b"Id"),
-        UNKNOWN_NAME => Some(b"UnknownName"),
-        PERMISSION => Some(b"Permission"),
-        EMPTY_ENTRY => Some(b"EmptyEntry"),
-        MULTI => Some(b"Multi"),
-        DUPLICATE => Some(b"Duplicate"),
-        MISS => Some(b"Miss"),
-        LIMITS => Some(b"Limits"),
-        SIZE => Some(b"Size"),
-        VERSION => Some(b"Version"),
-        ORDER => Some(b"Order"),
-        MERGED => Some(b"Merged"),
-        ACL_FLAG_BITS => Some(b"AclFlagBits"),
-        IFLAG_BITS => Some(b"IflagBits"),
-        NOT_DIRECTORY => Some(b"NotDirectory"),
-        EMPTY => Some(b"Empty"),
-        ID_DIFFERS => Some(b"IdDiffers"),
-        COMMENT => Some(b"Comment"),
-        NUL => Some(b"Nul"),
-        TOO_LONG => Some(b"TooLong"),
-        NO_ID => Some(b"NoId"),
-        INHERITED => Some(b"Inherited"),
-        RETENTION => Some(b"Retention"),
-        SEPARATOR => Some(b"Separator"),
-        ACL_FLAGS => Some(b"AclFlags"),
-        _ => None,
+    match row_of(reasons(), number) {
+        Some(row) => Some(row.name),
+        None => None,
     }
 }

@@ -258,7 +258,8 @@ pub extern "C" fn aclck_holders(
 }
 
 fn holders_in(alloc: Global, acl: &[u8], bit: Mask, profile: Profile) -> Result<Vec<u8>, Failure>
-    ensures ok { IfOk result (λ text. NamesHolders (profile_of profile) bit.bits acl.now text.items) }
+    ensures ok { IfOk result
+        (λ text. NamesHolders (profile_of profile) bit.bits acl.now text.items) }
     ensures err { IfErr result (IsListFailure (profile_of profile) acl.now 0) }
 {
     let list = list_of(alloc, acl, profile)?;

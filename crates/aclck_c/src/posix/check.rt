@@ -2,7 +2,8 @@
 ghost use Rattle.acl_posix.specs.Check.{ids};
 ghost use Rattle.acl_posix.specs.Id.{IsId};
 ghost use Rattle.acl_posix.specs.Programs.{Checks};
-ghost use Rattle.aclck_c.specs.CheckPosix.{AreGoodIds, AreNumbers, object_asked, object_of, requester_asking, requester_with_ids};
+ghost use Rattle.acl_eval.specs.PosixForOwner.{object_for};
+ghost use Rattle.aclck_c.specs.CheckPosix.{AreGoodIds, AreNumbers, object_asked, requester_asking, requester_with_ids};
 ghost use Rattle.aclck_c.specs.Status as status;
 ghost use Rattle.std.specs.Prelude.{◌≡◌, ◌↔◌};
 ghost use Rattle.aclck_c.specs.Common.{All, IfErr, IfOk, IfSome, IsSome, IsTrue, ReadsFile, GivesAnswer, IsTruthOf, IsRefusedPosix, SpellsFile, IsFileFailure};
@@ -108,7 +109,7 @@ fn decide(
     groups: &[Id],
 ) -> Result<bool, Failure>
     ensures ok { IfOk result (Checks (SpellsFile text.now)
-        (object_of request.now.owner.value request.now.group.value)
+        (object_for request.now.owner.value request.now.group.value)
         (requester_with_ids request.now.user.value (ids groups.now)) request.now.want.bits) }
     ensures err { IfErr result (IsFileFailure text.now) }
 {

@@ -1,5 +1,6 @@
 //! What POSIX entries in canonical order grant, and their mode. No call takes memory.
-ghost use Rattle.aclck_c.specs.CheckPosix.{AreGoodIds, object_asked, object_of, requester_asking, requester_with_ids};
+ghost use Rattle.acl_eval.specs.PosixForOwner.{object_for};
+ghost use Rattle.aclck_c.specs.CheckPosix.{AreGoodIds, object_asked, requester_asking, requester_with_ids};
 ghost use Rattle.acl_posix.specs.RawEntries.{raw_tag_number};
 ghost use Rattle.acl_posix.specs.Tag.{tag_of};
 ghost use Rattle.aclck_c.specs.Entries.{ChecksEntries, DecideEntries, HaveMode, IsPlaced, IsTagPlaced, no_posix_decision, view_refusal};
@@ -56,7 +57,7 @@ pub extern "C" fn aclck_entries_check(
 #[tactic(auto, using(crate::proofs::EntriesFailures::view_failure))]
 fn decide(entries: &[RawEntry], request: &PosixRequest, groups: &[u32]) -> Result<bool, Failure>
     ensures ok { IfOk result (ChecksEntries entries.now
-        (object_of request.now.owner.value request.now.group.value)
+        (object_for request.now.owner.value request.now.group.value)
         (requester_with_ids request.now.user.value groups.now) request.now.want.bits) }
     ensures err { IfErr result (AreViewFailure entries.now) }
 {
@@ -129,7 +130,7 @@ fn decision_of(
     groups: &[u32],
 ) -> Result<RawPosixDecision, Failure>
     ensures ok { IfOk result (DecideEntries entries.now
-        (object_of request.now.owner.value request.now.group.value)
+        (object_for request.now.owner.value request.now.group.value)
         (requester_with_ids request.now.user.value groups.now) request.now.want.bits) }
     ensures err { IfErr result (AreViewFailure entries.now) }
 {

@@ -1,0 +1,7 @@
+-- The table of the reasons as code holds it (this library's own). No public clause cites it.
+use Rattle.std.specs.Prelude.{ℕ, List, map}
+use Rattle.aclck_c.specs.declared.reason.ReasonRow.{ReasonRow}
+
+-- the numbers and the names of the rows
+abbrev pub reasons_of : List ReasonRow → List (ℕ × List ℕ)
+reasons_of rows = map (λ row. (row.number, row.name.now)) rows
