@@ -129,7 +129,7 @@ impl Camp {
 
 // By place in one list, one more than the greatest place in the other list of the counted principals before the place;
 // or zeros if the camp does not want the side. First, only the principals just before each place count.
-#[tactic(auto, using(crate::proofs::comparison::TableFacts::table_ends))]
+#[tactic(auto)]
 fn table(
     alloc: Global,
     placings: &[Placing],

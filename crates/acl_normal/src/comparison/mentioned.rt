@@ -144,7 +144,7 @@ fn add<'a>(whole: &mut Vec<Principal<'a>>, found: Option<Principal<'a>>) -> Resu
 }
 
 // Which of the numbered principals each ACE names.
-#[tactic(auto, using(crate::proofs::comparison::MentionedWhoms::whoms_more))]
+#[tactic(auto)]
 fn whoms(
     alloc: Global,
     aces: &[AceRef<'_>],
