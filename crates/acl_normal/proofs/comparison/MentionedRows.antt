@@ -190,6 +190,3 @@ row_inside aces rows table i row d end r l ri e t =
   where
     inside : i < length (aces_in aces)
     inside = omega (arith, l, length-map aces ace)
-
--- the steps of the table
-pub ruleset table_steps = (table_noted, row_inside)

@@ -144,12 +144,6 @@ places_more refs others x places new i p lt at h is inv = record {
     found j z l = subst (HasSameWho refs (slice_index_or others j z)) (sym (ap (λ v. slice_index_or v j 0) is))
         (here j z l (cases_lt j i))
 
--- after the last ACE the places are those of all ACEs
-pub places_all : (refs others : List AceRef) (places : List ℕ) (i : ℕ) → length others ≤ i
-    → ArePlacesOf refs others i places → i ≤ length others → ArePlacesOf refs others (length others) places
-places_all refs others places i le h ge =
-    let e : i ≡ length others = omega arith in subst (λ v. ArePlacesOf refs others v places) e h
-
 -- with the copies there are at least as many values as before
 pub copies_long : (ws : List Whom) {now : List Whom} (places : List ℕ) → now ≡ with_copies ws places
     → length ws ≤ length now
@@ -177,6 +171,3 @@ joined_mentions list other {aces} {shown} (Ok m) se ae h =
       whoms = subst (λ v. AreWhoms (principals m.principals.items) v m.whoms.items) both h.whoms;
     }
 joined_mentions list other {aces} {shown} (Err e) se ae h = h
-
--- the places, ACE by ACE
-pub ruleset place_steps = (places_start, places_more, places_all)

@@ -252,9 +252,6 @@ unwanted q w size n rows table off is e = record {
       ∙ sym (ap (λ t. cond t (most_before q w k rows) 0) off);
 }
 
--- where the two loops of a table begin and end
-pub ruleset table_ends = (scatter_start, summed_done, unwanted)
-
 -- a number is below another that counts if and only if this counts and the number is below it
 counted_below : (t : Bool) (v x : ℕ) → nat_lt v (cond t x 0) ≡ (t && nat_lt v x)
 counted_below true v x = refl

@@ -81,7 +81,7 @@ fn joined<'a>(
 }
 
 // By row, the principal that the ACEs of the row mention, if they mention it.
-#[tactic(auto, using(crate::proofs::comparison::MentionedRows::table_steps))]
+#[tactic(auto)]
 fn by_row<'a>(
     alloc: Global,
     aces: &[AceRef<'a>],

@@ -12,7 +12,7 @@ const NEAR: usize = 32;
 
 /// Returns, by place in the other list, the place of an ACE of the list that names the same principal. Returns `None`
 /// if one of these places is not near the place after the one before.
-#[tactic(auto, using(crate::proofs::comparison::SamePlacesLemmas::place_steps))]
+#[tactic(auto)]
 pub(crate) fn same_places(
     alloc: Global,
     list: &[AceRef<'_>],
