@@ -26,16 +26,24 @@ pub(crate) fn unused_ids(
     requires { AreSmall columns.now acl.now }
     ensures { IfOk result (AreUnused (used_numbers columns.now acl.now)) }
 {
+    let mut used = used_ids(alloc, columns, acl)?;
+    let one = unused_id(&used);
+    used.push(one)?;
+    let next = unused_id(&used);
+    Ok(Unused { one, next })
+}
+
+// The ids of the keys of all columns and of the entries, and 0 for each without an id.
+fn used_ids(alloc: Global, columns: &Columns, acl: &PosixAcl) -> Result<Vec<Id>, AllocError>
+    ensures { IfOk result (λ used. ids used.items ≡ used_numbers columns.now acl.now) }
+{
     let mut used = Vec::new(alloc);
     add_keys(&mut used, &columns.read)?;
     add_keys(&mut used, &columns.write)?;
     add_keys(&mut used, &columns.append)?;
     add_keys(&mut used, &columns.execute)?;
     add_entries(&mut used, acl)?;
-    let one = unused_id(&used);
-    used.push(one)?;
-    let next = unused_id(&used);
-    Ok(Unused { one, next })
+    Ok(used)
 }
 
 // Adds the ids of the keys, and 0 for a key without an id.
