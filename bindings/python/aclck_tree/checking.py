@@ -3,7 +3,6 @@
 from __future__ import annotations
 
 import argparse
-import os
 from typing import Dict, Iterator, List, NamedTuple, Optional, Set, Tuple
 
 from . import mentions
@@ -12,10 +11,11 @@ from .commands import TOGETHER, Counted, asker_of, count_by, opened, people_of, 
 from .errors import NO, REFUSED, YES, tell
 from .globs import Matcher
 from .judging import Breach, Judge, Verdict
+from .naming import Named, Naming
 from .people import stranger_of
 from .policies import Rule, names_in, read_policy
 from .questions import left_out
-from .text import Output, Row, plural, quoted, quoted_path
+from .text import Output, Row, plural, quoted
 
 
 class Applied(NamedTuple):
@@ -144,6 +144,7 @@ class _Check:
     def __init__(self, asker: Asker, rules: List[Rule]) -> None:
         self.asker = asker
         self.policy = Policy(asker, rules)
+        self.naming = Naming(asker.snapshot)
         self.counts: Dict[str, int] = {}
         self._known: Dict[_Key, List[_Found]] = {}
 
@@ -174,14 +175,14 @@ class _Check:
                        one, breaches) for one, breaches in rows]
         return self._known[key]
 
-    def rows(self, path: bytes, found: _Found) -> Iterator[Row]:
+    def rows(self, name: Named, found: _Found) -> Iterator[Row]:
         """Yields a row for each breach."""
         rule = self.policy.rules[found.applied.rule]
         place = found.applied.exemption
         excepted = None if place is None else rule.exemptions[place].reason
         for one in found.breaches:
             yield {"verdict": found.verdict if place is not None else one.verdict.value, "rule": rule.name,
-                   "path": os.fsdecode(path), "bound": one.bound, "on": one.on or None, "who": one.who or None,
+                   **name.row(), "bound": one.bound, "on": one.on or None, "who": one.who or None,
                    "known": one.is_known, "rights": one.rights or None, "place": one.place,
                    "decided_by": one.decided_by or None, "reason": one.reason or None, "exception": excepted}
 
@@ -196,7 +197,7 @@ def policy(args: argparse.Namespace) -> int:
     snapshot = opened(args.snapshot)
     check = _Check(asker_of(args, snapshot, people_of(args, snapshot)), rules)
     counts = check.count()
-    out = Output(args.form, _COLUMNS, lambda row: None)
+    out = Output(args.form, check.naming.columns(*_COLUMNS), lambda row: None)
     classes: Dict[_Found, Counted] = {}
     tally: Dict[str, int] = {}
     for key, one in counts.items():
@@ -220,12 +221,12 @@ def policy(args: argparse.Namespace) -> int:
 
 def _put_each(args: argparse.Namespace, check: _Check, out: Output) -> None:
     for key, tree, path in check.keys():
-        full = check.asker.snapshot.trees[tree].full(path)
+        name = check.naming.name(check.asker.snapshot.trees[tree], path)
         for found in check.found(key):
             if found.verdict != _KEPT and args.form == "text":
-                _put_text(out, check, found, Counted(1, full))
+                _put_text(out, check, found, Counted(1, name))
             elif found.verdict != _KEPT:
-                for row in check.rows(full, found):
+                for row in check.rows(name, found):
                     out.put(row)
 
 
@@ -233,7 +234,7 @@ def _put_text(out: Output, check: _Check, found: _Found, one: Counted) -> None:
     rule, place = check.policy.rules[found.applied.rule], found.applied.exemption
     others = f" and {plural(one.objects - 1, 'other object')}" if one.objects > 1 else ""
     excepted = "" if place is None else f" ({rule.exemptions[place].reason})"
-    out.note(f"{found.verdict}: {quoted_path(one.first)}{others}, rule {quoted(rule.name)}{excepted}")
+    out.note(f"{found.verdict}: {one.first.words()}{others}, rule {quoted(rule.name)}{excepted}")
     for breach in found.breaches:
         out.note(f"    {words_of(breach)}")
 

@@ -6,6 +6,7 @@ only objects that its shard has. So no snapshot can hide or replace an object of
 
 from __future__ import annotations
 
+import datetime
 import heapq
 import itertools
 import os
@@ -14,7 +15,7 @@ from typing import Dict, Iterator, List, NamedTuple, Optional, Sequence, Set, Tu
 
 from .errors import TreeError
 from .portions import MIXED, Device, Portion, above
-from .snapshot import Found, Snapshot, Tree
+from .snapshot import TIME, Found, Snapshot, Tree
 from .text import quoted, quoted_path
 from .writer import Writer
 
@@ -26,6 +27,9 @@ MOST_LINKS = 2**53
 
 AT_ONCE = 1000
 """How many objects are written at once."""
+
+APART = datetime.timedelta(hours=1)
+"""How long it may be that no portion of a tree is read, until `merge` says that their scans are far apart."""
 
 
 class Source(NamedTuple):
@@ -42,7 +46,7 @@ class Source(NamedTuple):
 
     def name(self) -> str:
         """Returns the host and the place of the tree."""
-        return f"{quoted(self.tree.host)}:{quoted_path(self.tree.place)}"
+        return self.tree.words()
 
 
 def gathered(snapshots: Sequence[Snapshot]) -> List[List[Source]]:
@@ -86,6 +90,36 @@ def _judge_shards(sources: List[Source], shards: int) -> None:
         raise TreeError(f"of the {shards} shards of {sources[0].name()}, "
                         f"{', '.join(absent[:SHOWN])}{more} {'is' if len(absent) == 1 else 'are'} absent")
     sources.sort(key=lambda source: source.portion.shard if source.portion else 0)
+
+
+def far_apart(sources: Sequence[Source]) -> Optional[str]:
+    """Returns a line about the longest time between two scans of the portions of one tree, if it is long. Raises
+    TreeError if a time is none."""
+    if len(sources) == 1:
+        return None
+    spans = sorted((_span(source), place) for place, source in enumerate(sources))
+    (_, latest), before = spans[0]
+    longest, line = APART, None
+    for (began, ended), place in spans[1:]:
+        if began - latest > longest:
+            longest, one, other = began - latest, sources[before], sources[place]
+            line = (f"{one.place} and {other.place} have portions of {one.name()} of two times: one scan ended at "
+                    f"{quoted(one.tree.ended or one.tree.began)}, and the other began at {quoted(other.tree.began)}")
+        if ended > latest:
+            latest, before = ended, place
+    return line
+
+
+def _span(source: Source) -> Tuple[datetime.datetime, datetime.datetime]:
+    """Returns when the scan of a portion began and ended. One that was killed has no end, and a clock that was set back
+    can give an end before the beginning."""
+    tree = source.tree
+    try:
+        began, ended = (datetime.datetime.strptime(text, TIME) for text in (tree.began, tree.ended or tree.began))
+    except ValueError:
+        words = " or ".join(map(quoted, filter(None, (tree.began, tree.ended))))
+        raise TreeError(f"{source.place}: {words} is no time at which a scan began or ended") from None
+    return began, max(began, ended)
 
 
 _Row = Tuple[bool, int, bytes]

@@ -16,9 +16,10 @@ from .ask import DENIED, UNKNOWN, Answer, Asker, Options
 from .compare import same as same_of
 from .errors import NO, REFUSED, YES, TreeError, UsageError, tell
 from .lists import Kind
+from .naming import Named, Naming, name_in
 from .people import Person, listed_person, one_person, passwd_files, people_file, snapshot_people, system_people
 from .snapshot import Snapshot, Tree
-from .text import Output, Row, plural, quoted, quoted_path, table
+from .text import Output, Row, plural, quoted, quoted_path, quoted_place, table
 
 
 @dataclass
@@ -102,10 +103,10 @@ def _without_ids(asker: Asker) -> Dict[str, Set[mentions.Name]]:
 
 
 class Counted(NamedTuple):
-    """How many objects have a face, and the whole path of the first."""
+    """How many objects have a face, and the name of the first."""
 
     objects: int
-    first: bytes
+    first: Named
 
 
 _Key = TypeVar("_Key")
@@ -116,13 +117,14 @@ def count_by(snapshot: Snapshot, objects: Iterable[Tuple[_Key, int, bytes]]) -> 
     paths."""
     places: Dict[_Key, int] = {}
     counts: List[int] = []
-    firsts: List[bytes] = []
+    firsts: List[Named] = []
+    naming = Naming(snapshot)
     for key, tree, path in objects:
         place = places.get(key)
         if place is None:
             places[key] = len(places)
             counts.append(1)
-            firsts.append(snapshot.trees[tree].full(path))
+            firsts.append(naming.name(snapshot.trees[tree], path))
         else:
             counts[place] += 1
     return dict(zip(places, map(Counted, counts, firsts)))
@@ -131,8 +133,8 @@ def count_by(snapshot: Snapshot, objects: Iterable[Tuple[_Key, int, bytes]]) -> 
 def counted(snapshot: Snapshot, glob: Optional[str]) -> Dict[int, Counted]:
     """Counts the objects of each face. With a pattern, only objects whose whole path matches it count."""
     if glob is None:
-        faces = snapshot.faces()
-        return {face: Counted(count, snapshot.trees[faces[face].tree].full(first))
+        faces, naming = snapshot.faces(), Naming(snapshot)
+        return {face: Counted(count, naming.name(snapshot.trees[faces[face].tree], first))
                 for face, (count, first) in snapshot.face_counts().items()}
     return count_by(snapshot, ((face, tree, path) for tree, path, _, face in selected(snapshot, glob)))
 
@@ -227,7 +229,7 @@ def find(snapshot: Snapshot, path: str) -> Tuple[Tree, bytes, int]:
         raise TreeError(f"{quoted(path)}: not in the snapshot")
     places = {(tree.host, _whole(_normal(tree.place), below)) for tree, below, _ in found}
     if len(places) > 1:
-        names = [f"{quoted(host)}:{quoted_path(place)}" for host, place in sorted(places)]
+        names = [quoted_place(host, place) for host, place in sorted(places)]
         more = f" and {len(names) - _SHOWN:,} more" if len(names) > _SHOWN else ""
         raise TreeError(f"{quoted(path)}: this path is in several trees: {', '.join(names[:_SHOWN])}{more}")
     if len({tree.place for tree, _, _ in found}) < len(found) or not _are_alike(snapshot, found):
@@ -276,17 +278,18 @@ def same(args: argparse.Namespace) -> int:
         known = counts.get(key, Counted(0, one.first))
         counts[key] = Counted(known.objects + one.objects, min(known.first, one.first))
     classes, places = same_of(asker, counts)
-    out = Output(args.form, ["class", "kind", "path", "refused"],
-                 lambda row: f"{row['class']} {quoted(row['path'])}{_refused(row)}")
+    naming = Naming(snapshot)
+    out = Output(args.form, naming.columns("class", "kind", "path", "refused"),
+                 lambda row: f"{row['class']} {name_in(row)}{_refused(row)}")
     if args.form != "text" or args.each:
         for tree, path, is_directory, face in selected(snapshot, args.path):
             place = places[asker.faces[face].list, is_directory and args.inherit]
             out.put({"class": place + 1, "kind": classes[place].kind,
-                     "path": os.fsdecode(snapshot.trees[tree].full(path)), "refused": classes[place].refused})
+                     **naming.name(snapshot.trees[tree], path).row(), "refused": classes[place].refused})
     else:
         lines = [("CLASS", "OBJECTS", "LISTS", "KIND", "FIRST OF THEM")]
         lines += [(str(place + 1), f"{one.objects:,}", f"{len(one.lists):,}", one.kind,
-                   quoted_path(one.first) + (f" ({one.refused})" if one.refused else ""))
+                   one.first.words() + (f" ({one.refused})" if one.refused else ""))
                   for place, one in enumerate(classes)]
         for line in table(lines, right=[0, 1, 2]):
             out.note(line)
@@ -300,13 +303,14 @@ def _refused(row: Row) -> str:
 def info(args: argparse.Namespace) -> int:
     """Writes what a snapshot has: its trees, counts, and each step that failed."""
     snapshot = Snapshot(args.snapshot)
-    out = Output(args.form, ["tree", "path", "step", "message"],
-                 lambda row: f"failed to {quoted(row['step'])} {quoted(row['path'])}: {row['message']}")
+    naming = Naming(snapshot)
+    out = Output(args.form, naming.columns("tree", "path", "step", "message"),
+                 lambda row: f"failed to {quoted(row['step'])} {name_in(row)}: {row['message']}")
     for tree in snapshot.trees.values():
         portion = snapshot.portions.get(tree.tree)
         state = ("whole" if tree.whole else "partial") + (f", {portion.words()}" if portion else "")
         ended = quoted(tree.ended) if tree.ended else "no end"
-        out.note(f"{quoted(tree.host)}:{quoted_path(tree.place)}, scanned as {quoted_path(tree.root)} from "
+        out.note(f"{tree.words()}, scanned as {quoted_path(tree.root)} from "
                  f"{quoted(tree.began)} to {ended} by aclck-tree {quoted(tree.version)}: {state}, "
                  f"{plural(tree.links, 'link')} not followed")
     kinds = snapshot.count_kinds()
@@ -314,6 +318,6 @@ def info(args: argparse.Namespace) -> int:
     out.note(f"{plural(snapshot.count(), 'object')} ({directories}), {plural(len(snapshot.lists()), 'distinct list')}, "
              f"{len(snapshot.faces()):,} with owner and group")
     for number, path, step, message in snapshot.errors():
-        whole = snapshot.trees[number].full(path)
-        out.put({"tree": number, "path": os.fsdecode(whole), "step": step, "message": message})
+        name = naming.name(snapshot.trees[number], path)
+        out.put({"tree": number, **name.row(), "step": step, "message": message})
     return YES if snapshot.is_complete() else REFUSED

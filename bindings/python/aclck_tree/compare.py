@@ -9,6 +9,7 @@ from aclck import Difference, NfsAcl, PosixAcl
 
 from .ask import Asker
 from .lists import Asked, RefusedList
+from .naming import Named
 from .text import quoted
 
 Meaning = Tuple[str, bytes]
@@ -63,21 +64,21 @@ def _default_entries(acl: PosixAcl) -> bytes:
 
 @dataclass
 class SameClass:
-    """Objects that grant the same: their number, the first path, and the numbers of their distinct lists."""
+    """Objects that grant the same: their number, the name of the first, and the numbers of their distinct lists."""
 
     kind: str
     refused: Optional[str]
-    first: bytes
+    first: Named
     lists: List[int] = field(default_factory=list)
     objects: int = 0
 
 
-def same(asker: Asker, counts: Mapping[Tuple[int, bool], Tuple[int, bytes]],
+def same(asker: Asker, counts: Mapping[Tuple[int, bool], Tuple[int, Named]],
          ) -> Tuple[List[SameClass], Dict[Tuple[int, bool], int]]:
     """Returns the classes, greatest first, those of one size by their first paths, and those of refused lists last; and
     the place of the class of each list.
 
-    A count has the objects and the path of the first. The key of a count and of a place is the number of a list, and
+    A count has the objects and the name of the first. The key of a count and of a place is the number of a list, and
     whether what will be made below counts too.
     """
     classes: Dict[Tuple[str, bytes, bool], SameClass] = {}

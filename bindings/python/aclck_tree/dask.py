@@ -13,6 +13,7 @@ from __future__ import annotations
 
 import json
 import os
+import re
 import shutil
 import subprocess
 import sys
@@ -31,10 +32,18 @@ _START = ("import sys; sys.path[:] = filter(None, sys.path); import runpy; "
 where anybody may write if it is /tmp, for example."""
 
 
+_HOST = re.compile(rb'"host": "(?:[^"\\]|\\.)*", ')
+"""The host of a row. In JSON, nothing else than the key has these letters between quotes and a colon behind them."""
+
+
 class _Done(NamedTuple):
     status: int
     out: bytes
     printed: str
+
+    def last_line(self) -> str:
+        """Returns the last line on standard error."""
+        return self.printed.strip().rpartition("\n")[2]
 
 
 def _run(module: str, words: Sequence[str]) -> _Done:
@@ -53,12 +62,17 @@ def _submitted(client: Any, module: str, lines: Sequence[Sequence[str]]) -> List
 
 def _told(done: _Done) -> TreeError:
     """Returns the error that the last line on standard error says."""
-    line = done.printed.strip().rpartition("\n")[2]
+    line = done.last_line()
     text = line[len(_HEAD):] if line.startswith(_HEAD) else line
     return UsageError(text) if done.status == USAGE else TreeError(text)
 
 
 _HEAD = "aclck-tree: "
+
+
+def _tell_all(done: _Done) -> None:
+    """Writes what a process said on standard error about its snapshots."""
+    sys.stderr.writelines(line for line in done.printed.splitlines(True) if line.startswith(_HEAD))
 
 
 def scan(client: Any, tree: str, output: str, shards: int, directory: str, *options: str) -> int:
@@ -74,9 +88,11 @@ def scan(client: Any, tree: str, output: str, shards: int, directory: str, *opti
             done: _Done = future.result()
             if done.status == USAGE or not os.path.exists(one):
                 raise _told(done)
-        done = _run("__main__", ["merge", *paths, "-o", output])
-        if done.printed.startswith(_HEAD):
+        # A path that begins with a slash cannot look like the beginning of an error.
+        done = _run("__main__", ["merge", *paths, "-o", os.path.abspath(output)])
+        if done.last_line().startswith(_HEAD):
             raise _told(done)
+        _tell_all(done)
         return done.status
     finally:
         shutil.rmtree(folder, ignore_errors=True)
@@ -87,16 +103,20 @@ def _ask(client: Any, word: str, lines: Sequence[Sequence[str]], options: Sequen
     the order of the snapshots, and returns the exit status that one command about all of them has."""
     judges = _submitted(client, "partition", [["judge", *paths] for paths in zip(*lines)])
     futures = _submitted(client, "partition", [[word, *paths, *options, "--json"] for paths in lines])
+    has_hosts = False
     for judge in judges:
-        if judge.result().status != YES:
-            raise _told(judge.result())
+        judged: _Done = judge.result()
+        if judged.status != YES:
+            raise _told(judged)
+        has_hosts |= json.loads(judged.out)["hosts"] > 1
     found = []
     while futures:
         done: _Done = futures.pop(0).result()  # the workers forget the rows then
         rows, _, last = done.out.rstrip(b"\n").rpartition(b"\n")
         if done.status == USAGE:
             raise _told(done)
-        sys.stderr.writelines(line for line in done.printed.splitlines(True) if line.startswith(_HEAD))
+        _tell_all(done)
+        rows = rows if has_hosts else _HOST.sub(b"", rows)
         file.write(rows.decode("ascii") + ("\n" if rows else ""))
         found.append(json.loads(last))
     unmatched = set.intersection(*(set(one["unmatched"]) for one in found)) if found else set()

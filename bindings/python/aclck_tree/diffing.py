@@ -3,7 +3,6 @@
 from __future__ import annotations
 
 import argparse
-import os
 from typing import Dict, Iterator, Optional, Set
 
 from aclck import mask_text
@@ -11,6 +10,7 @@ from aclck import mask_text
 from .changes import Change, Compared, ChangeKind, ObjectChange
 from .commands import Counted, Tally, asker_of, opened, people_of, status_of
 from .errors import NO, REFUSED, YES
+from .naming import Named, Naming, name_in
 from .pairing import pair_trees
 from .snapshot import Snapshot, Tree
 from .text import Output, Row, plural, quoted
@@ -28,25 +28,25 @@ _COLUMNS = ["change", "path", "whom", "gained", "lost", "unclear", "note", "on",
 class _Diff:
     """Writes changes: with `each` each object by itself, and otherwise each class of objects in one place."""
 
-    def __init__(self, args: argparse.Namespace) -> None:
+    def __init__(self, args: argparse.Namespace, naming: Naming) -> None:
         self._is_text = args.form == "text"
         self.each = args.each or not self._is_text
-        self._out = Output(args.form, _COLUMNS, _text)
+        self._out = Output(args.form, naming.columns(*_COLUMNS), _text)
         self._classes: Dict[ObjectChange, Counted] = {}
         self._tally = Tally()
         self._has_refused = False
 
-    def add(self, change: ObjectChange, path: bytes, count: int = 1) -> None:
-        """Takes objects that changed in one way, with the whole path of the first."""
+    def add(self, change: ObjectChange, name: Named, count: int = 1) -> None:
+        """Takes objects that changed in one way, with the name of the first."""
         self._tally.add(change.kind, count)
         self._has_refused |= change.is_refused
         if change.kind is ChangeKind.SAME:
             return
         if self.each:
-            self._put(change, path)
+            self._put(change, name)
             return
         known = self._classes.get(change)
-        self._classes[change] = Counted(known.objects + count, known.first) if known else Counted(count, path)
+        self._classes[change] = Counted(known.objects + count, known.first) if known else Counted(count, name)
 
     def end(self) -> None:
         """Writes the classes: the objects that are gone, those that came, and the others, greatest first."""
@@ -56,24 +56,23 @@ class _Diff:
             self._put(change, one.first, one.objects - 1)
         self._classes.clear()
 
-    def _put(self, change: ObjectChange, path: bytes, others: int = 0) -> None:
-        self._out.put({**self._row(change.kind, path, change.note, others=others),
+    def _put(self, change: ObjectChange, name: Named, others: int = 0) -> None:
+        self._out.put({**self._row(change.kind, name, change.note, others=others),
                        "direction": change.direction or None})
         for one in change.changes:
             for whom in [one.whom] if self._is_text else [(name,) for name in one.whom]:
-                self._out.put(self._row(change.kind, path, one.note, one._replace(whom=whom)))
+                self._out.put(self._row(change.kind, name, one.note, one._replace(whom=whom)))
 
-    def _row(self, kind: ChangeKind, path: bytes, note: str, change: Optional[Change] = None, others: int = 0) -> Row:
-        row: Row = {"change": kind.value, "path": os.fsdecode(path), "note": note, "whom": None, "on": None,
-                    "direction": None}
+    def _row(self, kind: ChangeKind, name: Named, note: str, change: Optional[Change] = None, others: int = 0) -> Row:
+        row: Row = {"change": kind.value, **name.row(), "note": note, "whom": None, "on": None, "direction": None}
         if change:
             row["on"] = change.on or None
             row["whom"] = change.whom if self._is_text else str(change.whom[0])
         if self._is_text:
             row["others"] = others
-        for name in ("gained", "lost", "unclear"):
-            mask = getattr(change, name) if change else 0
-            row[name] = mask_text(mask) if mask else None
+        for way in ("gained", "lost", "unclear"):
+            mask = getattr(change, way) if change else 0
+            row[way] = mask_text(mask) if mask else None
         return row
 
     def status(self) -> int:
@@ -93,16 +92,17 @@ def diff(args: argparse.Namespace) -> int:
     people = people_of(args, new)
     before = people if args.people or args.passwd or args.getent else people_of(args, old)
     compared = Compared(asker_of(args, old, before), asker_of(args, new, people))
-    out = _Diff(args)
+    naming = Naming(old, new)
+    out = _Diff(args, naming)
     for snapshot, side, word in ((old, 0, "first"), (new, 1, "second")):
         for tree in _unpaired(snapshot, {pair[side] for pair in pairs}):
             note = f"host {quoted(tree.host)}; this tree of the {word} snapshot has no pair"
-            out.add(ObjectChange(ChangeKind.UNPAIRED, note), tree.place)
+            out.add(ObjectChange(ChangeKind.UNPAIRED, note), Named(tree.place, naming.host(tree)))
     joined = old.join(new, pairs, compared.alike(pairs))
     for one in joined.changes(out.each):
         snapshot = new if one.new else old
-        out.add(compared.change(one.old, one.new), snapshot.trees[one.tree].full(one.path), one.objects)
-    out.add(ObjectChange(ChangeKind.SAME), b"", joined.unchanged)
+        out.add(compared.change(one.old, one.new), naming.name(snapshot.trees[one.tree], one.path), one.objects)
+    out.add(ObjectChange(ChangeKind.SAME), Named(b""), joined.unchanged)
     out.end()
     return status_of(out.status(), old, new)
 
@@ -116,7 +116,7 @@ def _text(row: Row) -> str:
         noun = "other tree" if row["change"] == ChangeKind.UNPAIRED.value else "other object"
         others = f" and {plural(row['others'], noun)}" if row["others"] else ""
         notes = "; ".join(filter(None, (row["direction"], row["note"])))
-        return f"{row['change']}: {quoted(row['path'])}{others}{f' ({notes})' if notes else ''}"
+        return f"{row['change']}: {name_in(row)}{others}{f' ({notes})' if notes else ''}"
     is_one = len(row["whom"]) == 1
     words = (("gained", "gain"), ("lost", "lose"), ("unclear", "may gain or lose"))
     parts = [f"{verb}{'s' if is_one and key != 'unclear' else ''} {row[key]}" for key, verb in words if row[key]]

@@ -25,13 +25,12 @@ from .ask import Asker, Options
 from .commands import opened, people_of, status_of
 from .errors import YES, DeviceError, TreeError, UsageError
 from .people import HIGHEST_ID, Person
-from .snapshot import Face, Snapshot, Tree
+from .snapshot import TIME, Face, Snapshot, Tree
 from .text import plural, quoted, quoted_line, quoted_path
 
 LONGEST_NAME = 1000
 """How many bytes the name of a host may have, which is a key of a table."""
 
-_TIME = "%Y-%m-%dT%H:%M:%SZ"
 
 _WHY = re.compile(r"^psql:<stdin>:[0-9]+: [^:]*: +aclck-tree: (.*)", re.MULTILINE)
 """How psql reports an error that the script raises. The word for an error is in the language of the server."""
@@ -182,7 +181,7 @@ class _Hash:
 
 def _time(source: _Source, text: str) -> str:
     try:
-        return datetime.datetime.strptime(text, _TIME).isoformat() + "Z"
+        return datetime.datetime.strptime(text, TIME).isoformat() + "Z"
     except ValueError:
         raise TreeError(f"{source.snapshot.place}: {quoted(text)} is no time at which a scan began or ended") from None
 

@@ -11,7 +11,7 @@ import sys
 from typing import Callable, Iterator, Optional, Protocol, Sequence, Tuple
 
 from . import accounts
-from .combining import gathered, join
+from .combining import far_apart, gathered, join
 from .errors import REFUSED, YES, DeviceError, TreeError, UsageError, tell
 from .files import refuse_what_is_no_file
 from .listed import ListedScan, entries, opened_list
@@ -158,11 +158,14 @@ def merge(args: argparse.Namespace) -> int:
     """Joins snapshots, and portions of one tree."""
     snapshots = [Snapshot(place) for place in args.snapshot]
     cut = gathered([snapshot for snapshot in snapshots if snapshot.portions])
+    lines = list(filter(None, map(far_apart, cut)))
     with new_snapshot(args.output) as writer:
         for snapshot in snapshots:
             if not snapshot.portions:
                 merge_into(writer, snapshot)
         for sources in cut:
             join(writer, sources)
+    for line in lines:
+        tell(line)
     sys.stderr.write(f"{_made(writer)}\n")
     return YES if all(snapshot.is_complete() for snapshot in snapshots) else REFUSED

@@ -14,7 +14,7 @@ from .page_script import SCRIPT
 from .page_style import STYLE
 from .people import Person
 from .rows import Level, Name, Row, Shown, columns_of, shortened, shown
-from .text import plural, quoted, quoted_line, quoted_path
+from .text import plural, quoted, quoted_host, quoted_line, quoted_path
 
 if TYPE_CHECKING:
     from .report import Places, Report
@@ -73,7 +73,7 @@ def page(report: Report) -> Iterator[str]:
     labels = "".join(f"#access td:nth-child({place})::before{{content:{_css_string(name + ': ')}}}\n"
                      for place, (name, _) in enumerate(heads, 3))
     style = STYLE + "@media print, (max-width: 40rem) {\n" + labels + "}\n"
-    names = ", ".join(f"{quoted(tree.host)}:{quoted_path(tree.place)}" for tree in report.snapshot.trees.values())
+    names = ", ".join(tree.words() for tree in report.snapshot.trees.values())
     title = escaped(f"Access in {shortened(names)}")
     yield "<!DOCTYPE html>\n<html lang=en><head><meta charset=utf-8>\n"
     yield "<meta http-equiv=Content-Security-Policy content=\"default-src 'none'; base-uri 'none'; form-action 'none'; "
@@ -99,7 +99,7 @@ def _summary(report: Report) -> Iterator[str]:
            "It does not ask whether somebody gets past the folders above an object. ")
     yield "What a server grants beyond a list, as to root, is not counted.</p>\n"
     for tree in report.snapshot.trees.values():
-        where = f"{quoted(tree.host)}:{quoted_path(tree.place)}"
+        where = tree.words()
         portion = report.snapshot.portions.get(tree.tree)
         if portion:
             yield f"<p class=warning>Of {escaped(where)}, the scan has {portion.words()}.</p>\n"
@@ -272,7 +272,8 @@ def _scan(report: Report) -> Iterator[str]:
     rows = [("Distinct lists", f"{len(asked):,}"), ("AUDIT and ALARM ACEs left out", f"{left_out:,}"),
             ("Steps that failed", f"{len(errors):,}")]
     for tree in snapshot.trees.values():
-        rows.append((f"{tree.host}:{shortened(quoted_path(tree.place))}", f"{tree.began} to {tree.ended or 'no end'}"))
+        where = f"{quoted_host(tree.host)}:{shortened(quoted_path(tree.place))}"
+        rows.append((where, f"{tree.began} to {tree.ended or 'no end'}"))
     for name, value in rows:
         yield f"<tr><th scope=row>{escaped(name)}<td>{escaped(value)}\n"
     yield "</tbody></table>\n"

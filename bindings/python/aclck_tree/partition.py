@@ -1,17 +1,19 @@
 """Runs a command about one of several snapshots that are asked together, for `dask.py`:
-`python -m aclck_tree.partition WORD ..`. After the rows, the last line says what the answer about all of them depends
-on. The word `judge` says whether the shards among some snapshots are all there."""
+`python -m aclck_tree.partition WORD ..`. Each row has its host. After the rows, the last line says what the answer
+about all of them depends on. The word `judge` says whether the shards among some snapshots are all there, and writes
+how many hosts the snapshots have."""
 
 from __future__ import annotations
 
 import json
 import sys
-from typing import List
+from typing import List, Set
 
 from .__main__ import main, parser_of
 from .combining import gathered
 from .commands import TOGETHER
 from .errors import USAGE, YES, TreeError, tell
+from .naming import Naming
 from .snapshot import Snapshot
 
 
@@ -30,7 +32,7 @@ def _fault(words: List[str]) -> str:
 
 
 def _ask(words: List[str]) -> int:
-    TOGETHER.is_on = True
+    TOGETHER.is_on = Naming.is_always_with_host = True
     status = main(words)
     fault = _fault(words) if status < USAGE else ""
     if fault:
@@ -43,11 +45,17 @@ def _ask(words: List[str]) -> int:
 
 
 def _judge(places: List[str]) -> int:
+    hosts: Set[str] = set()
+    cut: List[Snapshot] = []
     try:
-        gathered([snapshot for snapshot in map(Snapshot, places) if snapshot.portions])
+        for snapshot in map(Snapshot, places):
+            hosts.update(tree.host for tree in snapshot.trees.values())
+            cut += [snapshot] if snapshot.portions else []
+        gathered(cut)
     except TreeError as error:
         tell(str(error))
         return error.status
+    sys.stdout.write(json.dumps({"hosts": len(hosts)}) + "\n")
     return YES
 
 

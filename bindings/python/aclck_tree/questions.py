@@ -28,12 +28,13 @@ from .commands import (
 )
 from .errors import NO, REFUSED, YES, tell
 from .lists import Asked, Kind, RefusedList
+from .naming import Named, Naming, name_in
 from .people import Person
 from .reach import reached
 from .reasons import Why, why_request
 from .reasons import why as why_of
 from .snapshot import Tree
-from .text import Output, Row, plural, quoted, quoted_path, table
+from .text import Output, Row, plural, quoted, table
 
 
 def left_out(asker: Asker, faces: Iterable[int]) -> str:
@@ -63,6 +64,7 @@ class Question:
         self.want = want
         self.glob = glob
         self.is_reach = is_reach
+        self.naming = Naming(asker.snapshot)
         self._own: Dict[int, Found] = {}
 
     def _objects(self) -> Iterator[Tuple[int, bytes, int, Optional[Answers]]]:
@@ -73,11 +75,11 @@ class Question:
             return reached(self.asker, None if self.glob is None else Paths(snapshot, self.glob).has)
         return ((tree, path, face, None) for tree, path, _, face in selected(snapshot, self.glob))
 
-    def objects(self) -> Iterator[Tuple[bytes, Basis]]:
-        """Yields the whole path of each object, and what the answer about it depends on."""
+    def objects(self) -> Iterator[Tuple[Named, Basis]]:
+        """Yields the name of each object, and what the answer about it depends on."""
         trees = self.asker.snapshot.trees
         for tree, path, face, above in self._objects():
-            yield trees[tree].full(path), Basis(face, above)
+            yield self.naming.name(trees[tree], path), Basis(face, above)
 
     def counts(self) -> Dict[Basis, Counted]:
         """Counts the objects about which the answer depends on the same."""
@@ -153,12 +155,12 @@ def who(args: argparse.Namespace) -> int:
             continue
         for answer, bits in ((GRANTED, found.granted), (DENIED, found.denied), (UNKNOWN, found.unknown)):
             tally.add(answer.value, one.objects * ones(bits))
-    out = Output(args.form, ["path", "granted", "unknown", "refused"],
-                 lambda row: f"{quoted(row['path'])}: {_who_text(row)}")
+    out = Output(args.form, question.naming.columns("path", "granted", "unknown", "refused"),
+                 lambda row: f"{name_in(row)}: {_who_text(row)}")
     if args.form != "text" or args.each:
         row_of = functools.lru_cache(max(16, MOST_NAMES // max(1, len(people))))(functools.partial(_who_row, question))
-        for path, basis in question.objects():
-            out.put({"path": os.fsdecode(path), **row_of(basis)})
+        for name, basis in question.objects():
+            out.put({**name.row(), **row_of(basis)})
     else:
         _who_classes(out, question, counts)
     objects = sum(one.objects for one in counts.values())
@@ -201,7 +203,7 @@ def _who_classes(out: Output, question: Question, counts: Dict[Basis, Counted]) 
         classes[key] = Counted(known.objects + one.objects, min(known.first, one.first)), basis
     ordered = sorted(classes.values(), key=lambda pair: (-pair[0].objects, pair[0].first))
     heads = [("OBJECTS", "FIRST OF THEM")]
-    heads += [(f"{one.objects:,}", quoted_path(one.first)) for one, _ in ordered]
+    heads += [(f"{one.objects:,}", one.first.words()) for one, _ in ordered]
     right, left = (max(len(head[place]) for head in heads) for place in (0, 1))
     texts = itertools.chain(["WHO"], (_who_text(_who_row(question, basis)) for _, basis in ordered))
     for (objects, first), text in zip(heads, texts):
@@ -215,14 +217,14 @@ def may(args: argparse.Namespace) -> int:
     question = Question(asker, want_of(args.may, args.any), args.path, args.reach)
     answers: Dict[Basis, Tuple[Answer, str]] = {}
     counts: Dict[Basis, int] = {}
-    out = Output(args.form, ["answer", "path", "reason"], _may_text)
-    for path, basis in question.objects():
+    out = Output(args.form, question.naming.columns("answer", "path", "reason"), _may_text)
+    for name, basis in question.objects():
         if basis not in answers:
             answers[basis], counts[basis] = _may_answer(question, basis), 0
         counts[basis] += 1
         answer, reason = answers[basis]
         if args.all or answer is not DENIED:
-            out.put({"answer": answer.value, "path": os.fsdecode(path), "reason": reason})
+            out.put({"answer": answer.value, **name.row(), "reason": reason})
     tally = Tally()
     for basis, count in counts.items():
         tally.add(answers[basis][0].value, count)
@@ -241,7 +243,7 @@ def _may_answer(question: Question, basis: Basis) -> Tuple[Answer, str]:
 
 def _may_text(row: Row) -> str:
     reason = f" {row['reason']}" if row["reason"] else ""
-    return f"{row['answer']}{reason}: {quoted(row['path'])}"
+    return f"{row['answer']}{reason}: {name_in(row)}"
 
 
 def why(args: argparse.Namespace) -> int:
@@ -252,32 +254,33 @@ def why(args: argparse.Namespace) -> int:
     asker = asker_of(args, snapshot, [person])
     tree, path, number = find(snapshot, args.path)
     face = asker.faces[number]
-    found = why_of(asker, face, person)
+    found, naming = why_of(asker, face, person), Naming(snapshot)
+    name = naming.name(tree, path)
     if isinstance(found, RefusedList):
-        tell(f"{quoted_path(tree.full(path))}: refused {found.reason}")
+        tell(f"{name.words()}: refused {found.reason}")
         return REFUSED
     owner, group = asker.owner_and_group(face, asker.kind(face.list))
-    out = Output(args.form, ["right", "answer", "place", "decided_by", "directory"], lambda row: "")
+    out = Output(args.form, naming.columns("right", "answer", "place", "decided_by", "directory"), lambda row: "")
     wanted = want_of(args.may) if args.may else None
     if wanted:
         found = [*(one for one in found if _is_asked(one.right, wanted)), *why_request(asker, face, person, wanted)]
-    out.note(f"{quoted_path(tree.full(path))}: owner {quoted(owner)}, group {quoted(group)}")
+    out.note(f"{name.words()}: owner {quoted(owner)}, group {quoted(group)}")
     if args.form == "text":
         lines = [(one.right, one.answer.value, _place(one), one.text) for one in found]
         for line in table(lines, right=[2]):
             out.note(line)
     for one in found if args.form != "text" else []:
-        out.put(_why_row(one, None))
+        out.put(_why_row(one, name.host, None))
     stop = _stopped(asker, tree, path, person)
     if stop:
         at, one = stop
         verb = "stops" if one.answer is DENIED else "may stop"
         if args.form == "text":
             place = "" if one.place is None else f" {one.place}"
-            out.note(f"{quoted_path(at)} {verb} {quoted(person.name)}: {one.right} {one.answer.value}{place}: "
-                     f"{one.text}")
+            out.note(f"{naming.name(tree, at).words()} {verb} {quoted(person.name)}: {one.right} {one.answer.value}"
+                     f"{place}: {one.text}")
         else:
-            out.put(_why_row(one, at))
+            out.put(_why_row(one, name.host, tree.full(at)))
     answers = {one.answer for one in found} | ({stop[1].answer} if stop else set())
     is_known = answers.isdisjoint((UNKNOWN, Answer.REFUSED))
     return status_of(REFUSED if not is_known else NO if DENIED in answers else YES, snapshot)
@@ -287,14 +290,15 @@ def _place(one: Why) -> str:
     return "" if one.place is None else str(one.place)
 
 
-def _why_row(one: Why, directory: Optional[bytes]) -> Row:
+def _why_row(one: Why, host: Optional[str], directory: Optional[bytes]) -> Row:
     return {"right": one.right, "answer": one.answer.value, "place": one.place, "decided_by": one.text,
-            "directory": None if directory is None else os.fsdecode(directory)}
+            "directory": None if directory is None else os.fsdecode(directory),
+            **({} if host is None else {"host": host})}
 
 
 def _stopped(asker: Asker, tree: Tree, path: bytes, person: Person) -> Optional[Tuple[bytes, Why]]:
-    """Returns the first directory from the root down that does not let a person pass, and what decides that there: one
-    that denies it, or else one of which it is not known."""
+    """Returns the path below the root of the first directory from the root down that does not let a person pass, and
+    what decides that there: one that denies it, or else one of which it is not known."""
     unsure: Optional[Tuple[bytes, Why]] = None
     for directory in _above(path):
         known = asker.snapshot.find(tree.tree, directory)
@@ -304,9 +308,9 @@ def _stopped(asker: Asker, tree: Tree, path: bytes, person: Person) -> Optional[
         else:
             one = next(one for one in found if one.right in ("EXECUTE", "x"))
         if one.answer is DENIED:
-            return tree.full(directory), one
+            return directory, one
         if one.answer is UNKNOWN and not unsure:
-            unsure = tree.full(directory), one
+            unsure = directory, one
     return unsure
 
 

@@ -18,13 +18,14 @@ from .files import replaced
 from .findings import Finding, everyone_words, findings, special_bits_words
 from .judging import Verdict
 from .lists import Asked, Kind, RefusedList
+from .naming import Naming
 from .page import page
 from .people import HIGHEST_ID, Person, stranger_of
 from .policies import read_policy
 from .reach import reached
 from .rows import NAMED, Cells, Level, Name, Rows, level_by, level_of, name_of, questions_of
 from .snapshot import Face, Snapshot
-from .text import Form, Output, quoted
+from .text import Form, Output, quoted, quoted_host
 
 
 @dataclass
@@ -94,7 +95,7 @@ class Report:
                          *findings(self.asker, self.snapshot.directory_faces(), stranger)]
         self.found: Dict[str, Dict[str, Places]] = {finding.key: {} for finding in self.findings}
         self._has_posix = any(self.asker.kind(face.list) is Kind.POSIX for face in self.faces.values())
-        self._has_hosts = len({tree.host for tree in self.snapshot.trees.values()}) > 1
+        self.naming = Naming(self.snapshot)
         self._users: Dict[Tuple[int, Kind], Dict[str, Tuple[int, ...]]] = {}
         self._cells: Dict[Tuple[bytes, Level], Cells] = {}
         self._levels: Dict[Tuple[int, int, int, bool], bytes] = {}
@@ -127,8 +128,8 @@ class Report:
 
     def name(self, tree: int, path: bytes) -> str:
         """Returns the whole path of an object as the page shows it, with the host if there are several."""
-        found = self.snapshot.trees[tree]
-        return (f"{quoted(found.host)}:" if self._has_hosts else "") + name_of(found.full(path))
+        name = self.naming.name(self.snapshot.trees[tree], path)
+        return ("" if name.host is None else f"{quoted_host(name.host)}:") + name_of(name.path)
 
     def objects(self) -> Iterator[Tuple[int, bytes, _Values]]:
         """Yields the tree and the path of each object that the report is about, and what it has in common with others,
@@ -314,11 +315,11 @@ def report(args: argparse.Namespace) -> int:
 
 
 def _put_findings(args: argparse.Namespace, made: Report, file: TextIO) -> None:
-    out = Output(args.form, ["finding", "path", "what"], lambda row: "", file)
+    out = Output(args.form, made.naming.columns("finding", "path", "what"), lambda row: "", file)
     known: Dict[_Values, List[Tuple[Finding, str]]] = {}
     for tree, path, values in made.objects():
         if values not in known:
             known[values] = list(made.words(Alike(*values)))
         for finding, words in known[values]:
-            full = os.fsdecode(made.snapshot.trees[tree].full(path))
-            out.put({"finding": finding.key, "path": full, "what": words})
+            name = made.naming.name(made.snapshot.trees[tree], path)
+            out.put({"finding": finding.key, **name.row(), "what": words})

@@ -19,7 +19,7 @@ from .errors import DeviceError, TreeError
 from .handles import OBJECT, Directory, Handles, Held, at_one_time, open_list, open_root, read_names
 from .portions import MIXED, Device, Portion
 from .progress import Progress
-from .snapshot import Account, Found, ListForm, StoredList, Tree
+from .snapshot import TIME, Account, Found, ListForm, StoredList, Tree
 from .writer import Writer
 
 SLOW = 0.0002
@@ -291,7 +291,7 @@ def _words(error: OSError) -> str:
 
 def utc_now() -> str:
     """Returns the time as a snapshot has it."""
-    return datetime.datetime.now(datetime.timezone.utc).strftime("%Y-%m-%dT%H:%M:%SZ")
+    return datetime.datetime.now(datetime.timezone.utc).strftime(TIME)
 
 
 class Scan:

@@ -40,12 +40,16 @@ from .errors import TreeError
 from .joined import Joined
 from .portions import Device, Portion
 from .schema import judge
+from .text import quoted_place
 
 _OBJECTS = "objects INDEXED BY objects_by_path"
 """Objects with their trees and paths from the index, in which these are judged."""
 
 _MODE = "mode & 4095"
 """A mode as a whole number."""
+
+TIME = "%Y-%m-%dT%H:%M:%SZ"
+"""The form of the times at which a scan began and ended, in UTC. A snapshot of others can have any text there."""
 
 STEP = 100_000
 """After how many instructions of SQLite the work is counted."""
@@ -74,6 +78,10 @@ class Tree:
     def full(self, path: bytes) -> bytes:
         """Returns the whole path of an object from its path below the root."""
         return self.root.rstrip(b"/") + b"/" + path if path else self.root
+
+    def words(self) -> str:
+        """Returns the host and the place as bash reads them, on one line."""
+        return quoted_place(self.host, self.place)
 
 
 class ListForm(str, enum.Enum):

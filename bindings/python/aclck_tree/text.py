@@ -72,6 +72,18 @@ def quoted_path(path: bytes) -> str:
     return quoted(os.fsdecode(path))
 
 
+def quoted_host(host: str) -> str:
+    """Returns the name of a host, for a colon and a path behind it. A name with a colon is between quotes, so that
+    neither the name nor the path can look like another host."""
+    shown = quoted(host)
+    return f"'{shown}'" if ":" in shown and shown == host else shown
+
+
+def quoted_place(host: str, path: bytes) -> str:
+    """Returns a host and a path on it as bash reads them, on one line."""
+    return f"{quoted_host(host)}:{quoted_path(path)}"
+
+
 class Output:
     """Writes answers, each as a line of text, a line of CSV, or a JSON object."""
 
