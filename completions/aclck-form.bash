@@ -8,8 +8,7 @@ _aclck_form() {
     COMPREPLY=()
     case $previous in
         --names | '<' | '>' | '>>')
-            compopt -o filenames 2> /dev/null
-            mapfile -t COMPREPLY < <(compgen -f -- "$current")
+            compopt -o default 2> /dev/null  # bash itself offers files: a name can have several lines
             return ;;
         --drop) forms='flags access default' ;;
         --flags) forms='none AUTO_INHERIT PROTECTED DEFAULTED' ;;

@@ -47,8 +47,7 @@ _aclck_tree() {
     if [[ $current == -* ]]; then
         mapfile -t COMPREPLY < <(compgen -W "${_aclck_tree_options[$word]} --help" -- "$current")
     else
-        compopt -o filenames 2> /dev/null
-        mapfile -t COMPREPLY < <(compgen -f -- "$current")
+        compopt -o default 2> /dev/null  # bash itself offers files: a name can have several lines
     fi
 }
 
