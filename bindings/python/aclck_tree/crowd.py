@@ -4,7 +4,7 @@ from __future__ import annotations
 
 import enum
 import struct
-from typing import Dict, Iterable, Iterator, List, NamedTuple, Optional, Sequence, Tuple, Union
+from typing import Dict, FrozenSet, Iterable, Iterator, List, NamedTuple, Optional, Sequence, Tuple, Union
 
 from aclck import ALL, Ace, AceFlag, NfsAcl, Requesters
 
@@ -131,23 +131,47 @@ def _possible(view: View, person: Identity) -> Granted:
     return Granted(found.allowed, found.allowed | found.unknown)
 
 
-def alike(old: View, new: View, one: Identity, other: Identity, rights: int) -> int:
-    """Returns those of some rights that two lists grant somebody in the same cases of who is a member of their special
-    names. Each side has its own names for the same person."""
-    def are_alike(mask: int) -> bool:
-        return _left(old, one, mask).means_the_same(_left(new, other, mask))
-    if are_alike(rights):
-        return rights
-    return sum(right for right in _RIGHTS if rights & right and are_alike(right))
+_Keys = FrozenSet[Tuple[Optional[bool], str]]
+"""Whom some ACEs name, as the keys of `Asked.by_who`."""
 
 
-def _left(view: View, person: Identity, rights: int) -> NfsAcl:
+class Alike:
+    """Two lists with special names. What is said about somebody depends only on the ACEs that match, which are the same
+    ones for most people."""
+
+    def __init__(self, old: View, new: View) -> None:
+        self._old, self._new = old, new
+        self._known: Dict[Tuple[_Keys, _Keys, int], int] = {}
+
+    def rights(self, one: Identity, other: Identity, rights: int) -> int:
+        """Returns those of some rights that both lists grant somebody in the same cases of who is a member of their
+        special names. Each side has its own names for the same person."""
+        key = _matching(self._old, one), _matching(self._new, other), rights
+        if key not in self._known:
+            self._known[key] = self._alike(*key)
+        return self._known[key]
+
+    def _alike(self, one: _Keys, other: _Keys, rights: int) -> int:
+        def are_alike(mask: int) -> bool:
+            return _left(self._old, one, mask).means_the_same(_left(self._new, other, mask))
+        if are_alike(rights):
+            return rights
+        return sum(right for right in _RIGHTS if rights & right and are_alike(right))
+
+
+def _matching(view: View, person: Identity) -> _Keys:
+    """Returns whom the ACEs name that match somebody who is a member of no special name."""
+    keys = {(None, "EVERYONE@"), (False, person.user), *((True, group) for group in person.groups)}
+    keys.update((None, who) for who, is_meant in (("OWNER@", person.user == view.owner),
+                                                  ("GROUP@", view.group in person.groups)) if is_meant)
+    return frozenset(keys & view.asked.by_who.keys())
+
+
+def _left(view: View, matching: _Keys, rights: int) -> NfsAcl:
     """Returns what is left of a list if only some rights and one person count: the ACEs of special names, as groups,
     and those that match the person, for everyone (RFC 8881, section 6.2.1)."""
     names = {group: f"{name}?" for name, group in view.asked.specials}
-    keys = {(None, "EVERYONE@"), (False, person.user), *((True, group) for group in (*person.groups, *names))}
-    keys.update((None, who) for who, is_meant in (("OWNER@", person.user == view.owner),
-                                                  ("GROUP@", view.group in person.groups)) if is_meant)
+    keys = matching | {(True, group) for group in names}
     found = sorted(one for key in keys for one in view.asked.by_who.get(key, ()))
     return NfsAcl.from_aces(
         Ace(ace.kind, AceFlag.IDENTIFIER_GROUP if ace.who in names else AceFlag(0), ace.mask & rights,

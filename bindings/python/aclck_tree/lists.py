@@ -117,10 +117,8 @@ class Asked:
 
     def lines(self) -> List[str]:
         """Returns the text of each ACE, with the special names as they were found."""
-        lines = str(self.acl).split("\n")[:-1]
-        for name, group in self.specials:
-            lines = [line[:-len(group)] + name if line.endswith(" " + group) else line for line in lines]
-        return lines
+        lines, names = str(self.acl).split("\n")[:-1], {group: name for name, group in self.specials}
+        return [line[:-len(ace.who)] + names.get(ace.who, ace.who) for line, ace in zip(lines, self.acl)]
 
 
 @dataclass(frozen=True)

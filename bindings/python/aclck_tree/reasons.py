@@ -10,6 +10,7 @@ from .ask import DENIED, GRANTED, UNKNOWN, Answer, Asker, Identity, Want, check
 from .lists import POSIX_MASKS, Asked, Kind, RefusedList
 from .people import Person
 from .snapshot import Face
+from .text import quoted
 
 
 class Why(NamedTuple):
@@ -26,7 +27,7 @@ def why_nfs(asker: Asker, face: Face, asked: Asked, person: Person) -> List[Why]
     identity = asker.identity(person, face, Kind.NFS4)
     assert identity
     lines = asked.lines()
-    names = ", ".join(name for name, _ in asked.specials)
+    names = ", ".join(quoted(name) for name, _ in asked.specials)
     possible = asker.possible(face, asked, identity, ALL) if asked.specials else None
     fewest, most = (identity._replace(groups=groups) for groups in asked.fewest_and_most(identity.groups))
     rows = []

@@ -9,7 +9,7 @@ from aclck import ALL
 
 from .ask import Identity
 from .counterparts import is_same_owner, who_at
-from .crowd import AT_ONCE, NOTHING, Asking, Crowd, Granted, Missing, alike
+from .crowd import AT_ONCE, NOTHING, Alike, Asking, Crowd, Granted, Missing
 from .lists import POSIX_MASKS, Kind
 from .sides import Place, Question, Side
 from .text import quoted
@@ -89,25 +89,25 @@ def _in_each(found: Sequence[Optional[Granted]]) -> Optional[Granted]:
 def differences(question: Question, rows: Sequence[Requester], old: Crowd, new: Crowd) -> Iterator[Affected]:
     """Yields those of the rows for whom something differs. Usually whole parts of the rows are equal."""
     is_sure = all(len(place.views) == 1 and not place.views[0].asked.specials for place in question.places())
+    alike = Alike(question.old.views[0], question.new.views[0]) if question.old and question.new else None
     start = 0
     for before, after in zip(_granted_at(question.old, old), _granted_at(question.new, new)):
         if not is_sure or before != after or None in before:
             for row, one, other in zip(rows[start:start + len(before)], before, after):
-                found = _effect(question, row, one or _ID_NOT_KNOWN, other or _ID_NOT_KNOWN)
+                found = _effect(question, row, one or _ID_NOT_KNOWN, other or _ID_NOT_KNOWN, alike)
                 if any(found):
                     yield row, found
         start += len(before)
 
 
-def _effect(question: Question, row: Requester, one: Granted, other: Granted) -> Effect:
+def _effect(question: Question, row: Requester, one: Granted, other: Granted, alike: Optional[Alike]) -> Effect:
     """Returns what differs for a row. Of rights that depend on special names on both sides, it is asked whether they do
     so alike."""
     gained, lost, unclear = _difference(one, other)
     on_both = one.unknown & other.unknown
-    if on_both and question.old and question.new and isinstance(row.old, Identity) and isinstance(row.new, Identity):
-        views = question.old.views, question.new.views
-        if len(views[0]) == len(views[1]) == 1:
-            unclear &= ~alike(views[0][0], views[1][0], row.old, row.new, on_both)
+    if on_both and alike and isinstance(row.old, Identity) and isinstance(row.new, Identity):
+        if all(len(place.views) == 1 for place in question.places()):
+            unclear &= ~alike.rights(row.old, row.new, on_both)
     return gained, lost, unclear
 
 
