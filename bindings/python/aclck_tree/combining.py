@@ -1,7 +1,8 @@
 """Joins the snapshots of portions of a tree: shards into what one scan gives, and lists into one list.
 
 A snapshot can come from anybody. Shards are joined only if they are all there, each once, were cut alike, and each has
-only objects that its shard has. So no snapshot can hide or replace an object of another one.
+only objects that its shard has. So no snapshot can hide or replace an object of another one, and none changes the paths
+or the accounts of another one.
 """
 
 from __future__ import annotations
@@ -146,12 +147,11 @@ class _Rows:
 
 
 def _meanings(rows: Sequence[_Row]) -> Dict[object, object]:
-    """Returns the name of each id and the id of each group. If an account is there twice, the first counts."""
+    """Returns the name of each id and the id of each name. If an account is there twice, the first counts."""
     found: Dict[object, object] = {}
     for is_group, number, name in rows:
         found.setdefault((is_group, number), name)
-        if is_group:
-            found.setdefault(name, number)
+        found.setdefault((is_group, name), number)
     return found
 
 
@@ -209,8 +209,10 @@ def join(writer: Writer, sources: Sequence[Source]) -> None:
     ends = [tree.ended for tree in trees]
     links = min(sum(tree.links for tree in trees), MOST_LINKS)
     accounts = _joined_accounts(sources)
+    # Nobody can change the paths of other portions by what he typed.
+    is_typed_alike = len({os.path.normpath(tree.root) for tree in trees}) == 1
     number = writer.add_tree(replace(
-        trees[0], began=min(tree.began for tree in trees), ended=None if None in ends else max(filter(None, ends)),
+        trees[0], root=trees[0].root if is_typed_alike else trees[0].place, began=min(tree.began for tree in trees), ended=None if None in ends else max(filter(None, ends)),
         whole=all(tree.whole for tree in trees), links=links))
     portion = sources[0].portion
     devices = _joined_devices(sources)
