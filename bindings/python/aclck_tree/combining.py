@@ -209,10 +209,11 @@ def join(writer: Writer, sources: Sequence[Source]) -> None:
     ends = [tree.ended for tree in trees]
     links = min(sum(tree.links for tree in trees), MOST_LINKS)
     accounts = _joined_accounts(sources)
-    # Nobody can change the paths of other portions by what he typed.
+    # Who scanned one portion cannot change the paths of the others by another way to type the tree.
     is_typed_alike = len({os.path.normpath(tree.root) for tree in trees}) == 1
     number = writer.add_tree(replace(
-        trees[0], root=trees[0].root if is_typed_alike else trees[0].place, began=min(tree.began for tree in trees), ended=None if None in ends else max(filter(None, ends)),
+        trees[0], root=trees[0].root if is_typed_alike else trees[0].place,
+        began=min(tree.began for tree in trees), ended=None if None in ends else max(filter(None, ends)),
         whole=all(tree.whole for tree in trees), links=links))
     portion = sources[0].portion
     devices = _joined_devices(sources)

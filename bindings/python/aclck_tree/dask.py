@@ -108,6 +108,7 @@ def _ask(client: Any, word: str, lines: Sequence[Sequence[str]], options: Sequen
         judged: _Done = judge.result()
         if judged.status != YES:
             raise _told(judged)
+        _tell_all(judged)
         has_hosts |= json.loads(judged.out)["hosts"] > 1
     found = []
     while futures:

@@ -8,7 +8,7 @@ import functools
 import os
 import stat
 import sys
-from typing import Callable, Iterator, Optional, Protocol, Sequence, Tuple
+from typing import Callable, Dict, Iterator, List, Optional, Protocol, Sequence, Tuple
 
 from . import accounts
 from .combining import far_apart, gathered, join
@@ -18,7 +18,7 @@ from .listed import ListedScan, entries, opened_list
 from .portions import LONGEST_KEY, MOST_SHARDS, read_shard
 from .progress import Progress
 from .scan import Options, Scan
-from .snapshot import Account, Snapshot
+from .snapshot import Account, Snapshot, Tree
 from .text import plural, quoted
 from .writer import Writer, new_snapshot
 from .writer import merge as merge_into
@@ -154,6 +154,21 @@ def _made(writer: Writer) -> str:
     return f"{quoted(writer.place)}: {plural(writer.objects, 'object')}, {plural(writer.lists, 'distinct list')}"
 
 
+def _several_times(snapshots: Sequence[Snapshot]) -> Iterator[str]:
+    """Yields the line about the first of the whole trees that some snapshots have at several times, if there is one."""
+    times: Dict[Tuple[str, bytes], List[Tree]] = {}
+    for snapshot in snapshots:
+        for number, tree in snapshot.trees.items():
+            if number not in snapshot.portions:
+                times.setdefault((tree.host, tree.place), []).append(tree)
+    several = [trees for trees in times.values() if len(trees) > 1]
+    for trees in several[:1]:
+        more = f" (and {plural(len(several) - 1, 'other tree')} at several times)" if len(several) > 1 else ""
+        first, last = (quoted(end(one.began for one in trees)) for end in (min, max))
+        yield (f"{trees[0].words()} is there at {len(trees):,} times, from {first} to {last}{more}: each answer is about "
+               "all of them")
+
+
 def merge(args: argparse.Namespace) -> int:
     """Joins snapshots, and portions of one tree."""
     snapshots = [Snapshot(place) for place in args.snapshot]
@@ -165,7 +180,7 @@ def merge(args: argparse.Namespace) -> int:
                 merge_into(writer, snapshot)
         for sources in cut:
             join(writer, sources)
-    for line in lines:
+    for line in [*lines, *_several_times(snapshots)]:
         tell(line)
     sys.stderr.write(f"{_made(writer)}\n")
     return YES if all(snapshot.is_complete() for snapshot in snapshots) else REFUSED

@@ -10,7 +10,7 @@ import sys
 from typing import List, Set
 
 from .__main__ import main, parser_of
-from .combining import gathered
+from .combining import far_apart, gathered
 from .commands import TOGETHER
 from .errors import USAGE, YES, TreeError, tell
 from .naming import Naming
@@ -51,7 +51,8 @@ def _judge(places: List[str]) -> int:
         for snapshot in map(Snapshot, places):
             hosts.update(tree.host for tree in snapshot.trees.values())
             cut += [snapshot] if snapshot.portions else []
-        gathered(cut)
+        for line in filter(None, map(far_apart, gathered(cut))):
+            tell(line)
     except TreeError as error:
         tell(str(error))
         return error.status
