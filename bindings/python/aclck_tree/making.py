@@ -165,8 +165,8 @@ def _several_times(snapshots: Sequence[Snapshot]) -> Iterator[str]:
     for trees in several[:1]:
         more = f" (and {plural(len(several) - 1, 'other tree')} at several times)" if len(several) > 1 else ""
         first, last = (quoted(end(one.began for one in trees)) for end in (min, max))
-        yield (f"{trees[0].words()} is there at {len(trees):,} times, from {first} to {last}{more}: each answer is about "
-               "all of them")
+        yield (f"{trees[0].words()} is there at {len(trees):,} times, from {first} to {last}{more}: each answer is "
+               "about all of them")
 
 
 def merge(args: argparse.Namespace) -> int:
