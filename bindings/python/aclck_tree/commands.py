@@ -25,9 +25,11 @@ from .text import Output, Row, plural, quoted, quoted_path, quoted_place, table
 @dataclass
 class Together:
     """What a command finds out about snapshots that are asked together with others (`partition.py`). A shard then
-    stands for its tree. Whether nothing was asked, and whether a rule matches nothing, depends on all of them."""
+    stands for its tree. Whether nothing was asked, and whether a rule matches nothing, depends on all of them. A
+    command that reached its end has answered."""
 
     is_on: bool = False
+    is_answered: bool = False
     is_empty: bool = False
     unmatched: List[str] = field(default_factory=list)
     snapshots: List[Snapshot] = field(default_factory=list)
@@ -53,6 +55,7 @@ def opened(place: str) -> Snapshot:
 def status_of(status: int, *snapshots: Snapshot) -> int:
     """Returns an exit status, which is 2 if a snapshot lacks something: also if it has only a shard of a tree. Of two
     snapshots, none may have only the paths of a list: nobody knows what is absent."""
+    TOGETHER.is_answered = True
     if not TOGETHER.is_on and any(one.has_shards() for one in snapshots):
         return REFUSED
     if len(snapshots) > 1 and any(portion.is_list for one in snapshots for portion in one.portions.values()):

@@ -114,7 +114,7 @@ def _ask(client: Any, word: str, lines: Sequence[Sequence[str]], options: Sequen
     while futures:
         done: _Done = futures.pop(0).result()  # the workers forget the rows then
         rows, _, last = done.out.rstrip(b"\n").rpartition(b"\n")
-        if done.status == USAGE:
+        if done.status == USAGE or not json.loads(last)["answered"]:
             raise _told(done)
         _tell_all(done)
         rows = rows if has_hosts else _HOST.sub(b"", rows)

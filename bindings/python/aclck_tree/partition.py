@@ -34,11 +34,12 @@ def _fault(words: List[str]) -> str:
 def _ask(words: List[str]) -> int:
     TOGETHER.is_on = Naming.is_always_with_host = True
     status = main(words)
-    fault = _fault(words) if status < USAGE else ""
+    fault = _fault(words) if status < USAGE and TOGETHER.is_answered else ""
     if fault:
         tell(fault)
         status = USAGE
-    found = {"status": status, "empty": TOGETHER.is_empty, "unmatched": TOGETHER.unmatched}
+    found = {"status": status, "answered": TOGETHER.is_answered, "empty": TOGETHER.is_empty,
+             "unmatched": TOGETHER.unmatched}
     sys.stdout.write(json.dumps(found) + "\n")
     sys.stdout.flush()
     return status
