@@ -153,14 +153,15 @@ def _judge_values(place: str, rows: Rows, size: int, tables: Dict[str, Dict[str,
     counts: Dict[str, int] = {}
     for name, columns in tables.items():
         lengths = [f"TOTAL(length({one}))" for one, column in columns.items() if "BLOB" in column.declaration]
-        # A COUNT(*) without anything else is one instruction, which nothing could end.
-        query = f"SELECT COUNT(*), {' + '.join(lengths) or 'TOTAL(0)'} FROM {name}"
-        counts[name], length = next(rows(f"{query} NOT INDEXED"))
+        conditions = [f"({column.condition.format(one)})" for one, column in columns.items()]
+        conditions += [f"({_ROWS[name]})"] if name in _ROWS else []
+        # Only rows whose conditions are true count as good: one that is NULL is as bad as one that is false.
+        good = f"COUNT(CASE WHEN {' AND '.join(conditions)} THEN 1 END)"
+        query = f"SELECT COUNT(*), {' + '.join(lengths) or 'TOTAL(0)'}, {good} FROM {name} NOT INDEXED"
+        counts[name], length, judged = next(rows(query))
         total += LEAST_ROW * counts[name] + length
         if total > size:
             raise TreeError(f"{place}: damaged: the table {name} has more rows than the file has room for")
-        conditions = [f"({column.condition.format(one)})" for one, column in columns.items()]
-        conditions += [f"({_ROWS[name]})"] if name in _ROWS else []
-        if any(rows(f"SELECT 1 FROM {name} WHERE NOT ({' AND '.join(conditions)}) IS TRUE LIMIT 1")):
+        if judged != counts[name]:
             raise TreeError(f"{place}: damaged: the table {name} has a value that no scan writes")
     return counts["objects"]
