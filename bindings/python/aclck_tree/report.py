@@ -8,7 +8,7 @@ import itertools
 import os
 import sys
 from dataclasses import dataclass, field, replace
-from typing import Dict, Iterable, Iterator, List, NamedTuple, Optional, Set, TextIO, Tuple
+from typing import Any, Dict, Iterable, Iterator, List, NamedTuple, Optional, Set, TextIO, Tuple
 
 from .ask import DENIED, GRANTED, UNKNOWN, Answers, Asker, Want
 from .checking import Applied, Policy, tell_slips, verdict_of, words_of
@@ -64,12 +64,12 @@ class Alike(NamedTuple):
     is_folder: bool
     bits: int
     face: int
-    above: Optional[Answers]
-    rules: Tuple[Applied, ...]
+    above: Optional[Answers] = None
+    rules: Tuple[Applied, ...] = ()
 
 
-_Values = Tuple[bool, int, int, Optional[Answers], Tuple[Applied, ...]]
-"""The values of an `Alike`. One for each object is quicker than an `Alike` for each."""
+_Object = Tuple[Any, ...]
+"""An object: its tree, its path, and the values of its `Alike`. An `Alike` for each object would be slower."""
 
 
 class Report:
@@ -104,8 +104,9 @@ class Report:
 
     def _walk(self) -> Rows:
         rows = Rows()
-        kinds: Dict[_Values, _Kind] = {}
-        for tree, path, values in self.objects():
+        kinds: Dict[_Object, _Kind] = {}
+        for one in self.objects():
+            tree, path, values = one[0], one[1], one[2:]
             kind = kinds.get(values)
             if kind is None:
                 kind = kinds[values] = self._kind(Alike(*values))
@@ -131,15 +132,19 @@ class Report:
         name = self.naming.name(self.snapshot.trees[tree], path)
         return ("" if name.host is None else f"{quoted_host(name.host)}:") + name_of(name.path)
 
-    def objects(self) -> Iterator[Tuple[int, bytes, _Values]]:
-        """Yields the tree and the path of each object that the report is about, and what it has in common with others,
-        in the order of trees and paths."""
-        paths = None if self.glob is None else Paths(self.snapshot, self.glob)
-        reach = (one[3] for one in reached(self.asker)) if self.is_reach else itertools.repeat(None)
-        for (tree, path, is_folder, mode, face), above in zip(self.snapshot.objects(), reach):
-            if paths is None or paths.has(tree, path):
-                rules = self.policy.applied(tree, path, is_folder) if self.policy else ()
-                yield tree, path, (is_folder, mode & 0o7000, face, above, rules)
+    def objects(self) -> Iterator[_Object]:
+        """Yields each object that the report is about, in the order of trees and paths."""
+        found: Iterator[_Object] = self.snapshot.objects(0o7000)
+        if self.is_reach or self.policy:
+            reach = (one[3] for one in reached(self.asker)) if self.is_reach else itertools.repeat(None)
+            found = ((*one, above) for one, above in zip(found, reach))
+        if self.glob is not None:
+            paths = Paths(self.snapshot, self.glob)
+            found = (one for one in found if paths.has(*one[:2]))
+        if self.policy:
+            applied = self.policy.applied
+            found = ((*one, applied(*one[:3])) for one in found)
+        return found
 
     def _kind(self, one: Alike) -> _Kind:
         self.lists.add(self.faces[one.face].list)
@@ -316,8 +321,9 @@ def report(args: argparse.Namespace) -> int:
 
 def _put_findings(args: argparse.Namespace, made: Report, file: TextIO) -> None:
     out = Output(args.form, made.naming.columns("finding", "path", "what"), lambda row: "", file)
-    known: Dict[_Values, List[Tuple[Finding, str]]] = {}
-    for tree, path, values in made.objects():
+    known: Dict[_Object, List[Tuple[Finding, str]]] = {}
+    for one in made.objects():
+        tree, path, values = one[0], one[1], one[2:]
         if values not in known:
             known[values] = list(made.words(Alike(*values)))
         for finding, words in known[values]:

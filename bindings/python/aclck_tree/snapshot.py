@@ -251,10 +251,10 @@ class Snapshot:
         """Returns the faces that directories have."""
         return {row[0] for row in self._rows("SELECT DISTINCT face FROM objects WHERE kind = 'd'")}
 
-    def objects(self) -> Iterator[Tuple[int, bytes, bool, int, int]]:
-        """Yields of all objects the tree, the path, whether it is a directory (1 or 0), the mode and the face, in the
-        order of trees and paths."""
-        return self._rows(f"SELECT tree, path, kind = 'd', {_MODE}, face FROM {_OBJECTS} ORDER BY tree, path")
+    def objects(self, bits: int = 0o7777) -> Iterator[Tuple[int, bytes, bool, int, int]]:
+        """Yields of all objects the tree, the path, whether it is a directory (1 or 0), these bits of the mode, and the
+        face, in the order of trees and paths."""
+        return self._rows(f"SELECT tree, path, kind = 'd', mode & ?, face FROM {_OBJECTS} ORDER BY tree, path", (bits,))
 
     def objects_in(self, tree: int) -> Iterator[Tuple[bytes, bytes, int, int]]:
         """Yields the path, kind, mode and face of the objects of a tree, in the order of paths."""
