@@ -82,7 +82,7 @@ def _kinds() -> List[Finding]:
 def findings(asker: Asker, directories: Set[int], stranger: Person) -> List[Finding]:
     """Returns all findings; `directories` are the faces that directories have, and `stranger` is somebody whom nothing
     names."""
-    faces = asker.snapshot.faces()
+    faces = asker.faces
     kinds = _kinds()
     refused, everyone, readable, _, no_account, children, special, idle = kinds
     of_directories = {faces[number].list for number in directories}

@@ -83,7 +83,7 @@ class Report:
         self.is_reach = is_reach
         self.snapshot: Snapshot = asker.snapshot
         self.people = asker.people
-        self.faces = self.snapshot.faces()
+        self.faces = asker.faces
         self._nobody = _id_of_nobody(asker)
         self._owner, self._stranger = len(self.people), len(self.people) + 1
         stored = (asker.stored(number) for number in {face.list for face in self.faces.values()})

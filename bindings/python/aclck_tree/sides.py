@@ -22,7 +22,7 @@ class Side:
 
     def __init__(self, asker: Asker) -> None:
         self.asker = asker
-        self.faces = asker.snapshot.faces()
+        self.faces = asker.faces
         lists = [asker.stored(number) for number in asker.snapshot.lists()]
         self._names: Dict[Tuple[int, str, int], str] = {}
         self._strangers: List[Person] = []
