@@ -204,11 +204,6 @@ pub none_answer : (both : TwoLists) (v z : ℕ) → AreAlikeTo both [] → IsFir
 none_answer both v z empty l le m e =
     fast_none both.direction both.first both.second (all_mentioned both) v z empty l le m (omega arith)
 
--- the number of the first member of a pair is that of a mentioned principal
-pub member_within : (both : TwoLists) (z : ℕ) → IsFirstMember both z → (z ≡ length (all_mentioned both) → ⊥)
-    → z < length (all_mentioned both)
-member_within both z m n = omega (arith, m.within)
-
 -- the number of its first partner is that of a mentioned principal
 pub partner_within : (both : TwoLists) {v z w : ℕ} → IsFirstSingle both v → length (all_mentioned both) ≤ v
     → IsFirstMember both z → z < length (all_mentioned both) → IsFirstPartner both z w

@@ -1,5 +1,5 @@
 -- The ACEs of a list that have a right, and principals that none of these ACEs names.
-use Rattle.acl_normal.proofs.Common.{[], Ace, ace, AceRef, aces_in, AllByRecursion, ap, append-nil, append_assoc, AreWhoms, arith, at_drop_more, Bool, cases_eq, cases_lt, column, cond, drop, drop_all, drop_more, eq-eqb, eqb-true, Everyone, everyone, false, false≢true, get_or-append_seam, get_or-map, get_or-set_other, get_or-set_same, get_or_append_left, has_bit, inl, inr, is_allow, is_granted_to, IsWhom, length, length-append, length-map, length-replicate, length-set, List, map, map-append, Mask, mask_numbers, ne_eqb, no_ace, Nobody, One, Principal, principal, principal_eq, principal_of, principals, refl, replicate, same_answers, slice_index_or, slice_set, subst, suc, sym, takes_part, true, TwoLists, Whom, zero, ℕ, ◌&&◌, ◌++◌, ◌+◌, ◌<◌, ◌==◌, ◌||◌, ◌∙◌, ◌∷◌, ◌≡◌, ◌≤◌, ◌⊎◌}
+use Rattle.acl_normal.proofs.Common.{[], Ace, ace, AceRef, aces_in, AllByRecursion, ap, append-nil, append_assoc, AreWhoms, arith, at_drop_more, Bool, cases_eq, cases_lt, column, cond, drop, drop_all, drop_more, eq-eqb, eqb-true, Everyone, everyone, false, false≢true, get_or-append_seam, get_or-map, get_or-set_other, get_or-set_same, get_or_append_left, has_bit, inl, inr, is_allow, is_granted_to, IsWhom, length, length-append, length-map, length-set, List, map, map-append, Mask, mask_numbers, ne_eqb, no_ace, Nobody, One, Principal, principal, principal_eq, principal_of, principals, refl, same_answers, slice_index_or, slice_set, subst, sym, takes_part, true, TwoLists, Whom, ℕ, ◌&&◌, ◌++◌, ◌+◌, ◌<◌, ◌==◌, ◌||◌, ◌∙◌, ◌∷◌, ◌≡◌, ◌≤◌, ◌⊎◌}
 use Rattle.std.proofs.lemmas.Bool.{cases_order, or_parts}
 use Rattle.acl_normal.proofs.Each.{all_at, all_from}
 use Rattle.acl_normal.proofs.comparison.SetEvaluation.{granted_to-cons}
@@ -8,6 +8,7 @@ use Rattle.acl_normal.specs.internal.comparison.FirstPlaces.{hits, IsWhomWithin,
 use Rattle.acl_normal.specs.internal.comparison.Columns.{AddRights, AddsTo, AreColumnsOf, AreNumbersOf, AreRightsByNumber, IsLeftOut, IsUnnamed, all_renumbered, names_number, mask_at_number, renumbered, with_right}
 use Rattle.acl_normal.specs.internal.comparison.TwoLists.{all_mentioned, principal_at}
 use Rattle.acl_normal.specs.declared.comparison.columns.Columns.{Columns}
+use Rattle.acl_normal.proofs.rows.MaskNumbers.{bits_set}
 
 -- an ACE that has the bit and takes part is the first of the column, and any other is not in it
 column_first : (a : Ace) (list : List Ace) (bit : ℕ)
@@ -94,13 +95,6 @@ unnamed_of whole list ws k bit all h lt inside absent = record {
       ∙ unnamed_hits (slice_index_or ws i Nobody) k (first_fails _ _ (h.each k bit i lt absent li) has) ∙ sym w.all);
 }
 
--- the masks with one that is replaced, as numbers
-numbers_set : (masks : List Mask) (i : ℕ) (m : Mask)
-    → mask_numbers (slice_set masks i m) ≡ slice_set (mask_numbers masks) i m.bits
-numbers_set [] i m = refl
-numbers_set (x ∷ masks) zero m = refl
-numbers_set (x ∷ masks) (suc i) m = ap (λ v. x.bits ∷ v) (numbers_set masks i m)
-
 -- if the mask at a named number is united with some rights, these are added there
 pub adds_one : {old new : List Mask} {i more : ℕ} (m : Mask) {d : Mask} → i < length old → d ≡ slice_index_or old i d
     → ((bit : ℕ) → has_bit m.bits bit ≡ (has_bit d.bits bit || has_bit more bit)) → new ≡ slice_set old i m
@@ -108,7 +102,7 @@ pub adds_one : {old new : List Mask} {i more : ℕ} (m : Mask) {d : Mask} → i 
 adds_one {old} {new} {i} {more} m {d} lt at union is = record {
   count = ap length is ∙ length-set old i m;
   each = λ k bit lk. ap (λ v. has_bit (slice_index_or (mask_numbers v) k 0) bit) is
-      ∙ ap (λ v. has_bit (slice_index_or v k 0) bit) (numbers_set old i m) ∙ go k bit (cases_eq k i);
+      ∙ ap (λ v. has_bit (slice_index_or v k 0) bit) (bits_set old i m) ∙ go k bit (cases_eq k i);
 }
   where
     or_none : (x : Bool) → (x || false) ≡ x
@@ -130,17 +124,6 @@ adds_one {old} {new} {i} {more} m {d} lt at union is = record {
     go k bit (inr n) =
         ap (λ v. has_bit v bit) (get_or-set_other (mask_numbers old) i k m.bits 0 n)
         ∙ sym (rw (ne_eqb k i n) (or_none (has_bit (mask_at_number old k) bit)))
-
--- if nobody is named by a number, nothing is added
-pub adds_none : (w : Whom) {more : ℕ} {old : List Mask} → ((k : ℕ) → names_number w k ≡ false) → AddsTo w more old old
-adds_none w none = record { count = refl; each = λ k bit lk. rw (none k) (or_none _) }
-  where
-    or_none : (x : Bool) → x ≡ (x || false)
-    or_none x = grind arith
-
--- before the first ACE nothing was added
-pub add_start : {list : List Ace} {ws : List Whom} {old : List Mask} → AddRights 0 list ws old old
-add_start = record { count = refl; before = λ k bit lk e. e; each = λ k bit i lk e li. absurd (omega (arith, li)) }
 
 -- after one more ACE, its rights were added too
 pub add_more : (list : List Ace) (ws : List Whom) {start old new : List Mask} (i : ℕ)
@@ -183,16 +166,6 @@ rights_by_number both first second count here there one two = record {
 }
 
 -- ---- the numbers of the principals that have a right
-
--- no number is below the first one
-pub numbers_start : {rights : List Mask} {bit n : ℕ} {places : List ℕ} → places ≡ replicate n 0 → n ≡ length rights
-    → AreNumbersOf rights bit 0 [] places
-numbers_start {rights} {bit} {n} is e = record {
-  count = ap length is ∙ length-replicate n 0 ∙ e;
-  below = λ j l. absurd (omega (arith, l));
-  rising = λ i j l m. absurd (omega (arith, m));
-  place = λ k l. absurd (omega (arith, l));
-}
 
 -- a number without the right changes nothing
 pub numbers_skip : (rights : List Mask) {bit n : ℕ} {d : Mask} {numbers places : List ℕ}

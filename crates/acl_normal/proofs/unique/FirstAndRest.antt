@@ -1,9 +1,9 @@
 -- What comes first in a list, and what is emitted from the rest.
-use Rattle.acl_normal.proofs.Common.{Ace, Bool, Column, ColumnKey, HasOnceColumns, IsAlike, IsEmission, IsOnce, IsStep, Kind, List, Principal, Some, ace_key, ap, arith, column, false, first_kind, has_bit, is_either, is_free, may_overlap, principal_of, refl, subst, sym, true, without_principal, ℕ, ⊎_elim, ◌∙◌, ◌∷◌, ◌≡◌}
+use Rattle.acl_normal.proofs.Common.{Ace, Bool, Column, ColumnKey, IsAlike, IsEmission, IsOnce, IsStep, Kind, List, Principal, Some, ace_key, ap, arith, column, false, first_kind, has_bit, is_either, is_free, may_overlap, principal_of, refl, subst, sym, true, without_principal, ℕ, ⊎_elim, ◌∙◌, ◌∷◌, ◌≡◌}
 use Rattle.acl_normal.proofs.unique.Names.{overlaps_back, overlaps_itself}
 use Rattle.acl_normal.proofs.unique.FirstKind.{first_kind_same}
 use Rattle.acl_normal.proofs.unique.Irreducible.{either_is}
-use Rattle.acl_normal.proofs.unique.Shorter.{lacks_principal, once_without, without_other}
+use Rattle.acl_normal.proofs.unique.Shorter.{lacks_principal, without_other}
 use Rattle.acl_normal.proofs.unique.Free.{ahead_from_free, same_free, skip_head}
 use Rattle.acl_normal.proofs.unique.Columns.{column_lacking, column_with}
 
@@ -74,11 +74,3 @@ emission_step xs rest ns a once step h = record {
 
     same : (k : ColumnKey) (b : ℕ) → is_free (column xs b) k ≡ is_free (column (a ∷ ns) b) k
     same k b = same_free (column xs b) (column (a ∷ ns) b) k (once b) (once_emitted xs rest ns a step h b) (alike b)
-
--- what is left of a list has each principal once at each bit
-pub once_left : (xs rest : List Ace) (a : Ace) → HasOnceColumns xs → IsStep xs a rest → HasOnceColumns rest
-once_left xs rest a once step b = go (has_bit a.mask b) refl
-  where
-    go : (t : Bool) → has_bit a.mask b ≡ t → IsOnce (column rest b)
-    go true e = rw (step.taken b e) (once_without (principal_of a) (column xs b) (once b))
-    go false e = rw (step.kept b e) (once b)

@@ -1,6 +1,6 @@
 -- Settled columns, and that they are irreducible.
-use Rattle.acl_normal.proofs.Common.{[], Allow, ap, arith, Bool, Column, Deny, everyone, false, false_from_ne_true, first_kind, HasName, HaveNames, inl, inr, is_either, is_either_or_everyone, IsAlike, IsIrreducible, IsOnce, Kind, may_overlap, None, Option, Principal, principal_eq, refl, Some, subst, sym, true, unwrap_or, verdict, without_principal, ◌++◌, ◌||◌, ◌∙◌, ◌∷◌, ◌≡◌, ◌⊎◌, same_Some}
-use Rattle.acl_normal.proofs.unique.Names.{principal_eq_same, overlaps_itself, overlaps_everyone}
+use Rattle.acl_normal.proofs.Common.{[], Allow, ap, arith, Bool, Column, Deny, everyone, false, false_from_ne_true, first_kind, HasName, HaveNames, inl, inr, is_either, is_either_or_everyone, IsIrreducible, IsOnce, Kind, may_overlap, None, Option, Principal, principal_eq, refl, Some, subst, sym, true, unwrap_or, verdict, without_principal, ◌++◌, ◌||◌, ◌∙◌, ◌∷◌, ◌≡◌, ◌⊎◌, same_Some}
+use Rattle.acl_normal.proofs.unique.Names.{principal_eq_same, overlaps_itself}
 use Rattle.acl_normal.proofs.unique.FirstKind.{first_kind_same, only_at}
 use Rattle.acl_normal.proofs.unique.Shorter.{without_key, without_other}
 use Rattle.acl_normal.proofs.unique.Irreducible.{first_kind_without}
@@ -31,25 +31,6 @@ pub record IsSettled (c : Column) (d : Kind) : Type 0 where
       → (q : Principal) × IsWitness c d p q
   pub deny_first : (p : Principal) → first_kind (is_either p p) c ≡ Some Deny
       → first_kind (is_either p everyone) c ≡ Some Deny
-
--- what is alike a settled column is settled
-pub settled_alike : (c e : Column) (d : Kind) → IsAlike c e → IsSettled c d → IsSettled e d
-settled_alike c e d a h = record {
-  everyone_is = sym (a everyone everyone refl) ∙ h.everyone_is;
-  needed = λ p n i. moved p (h.needed p n (a p p (overlaps_itself p) ∙ i));
-  deny_first = λ p i. sym (a p everyone (overlaps_everyone p)) ∙ h.deny_first p (a p p (overlaps_itself p) ∙ i);
-}
-  where
-    moved : (p : Principal) → (q : Principal) × IsWitness c d p q → (q : Principal) × IsWitness e d p q
-    moved p (q, w) = (
-      q,
-      record {
-        not_everyone = w.not_everyone;
-        overlap = w.overlap;
-        kind = sym (a q q (overlaps_itself q)) ∙ w.kind;
-        after = sym (a p q w.overlap) ∙ w.after;
-      },
-    )
 
 -- where each of two tests finds an ALLOW first, so do both together
 both_allow : (m n : Principal → Bool) (c : Column) → first_kind m c ≡ Some Allow → first_kind n c ≡ Some Allow

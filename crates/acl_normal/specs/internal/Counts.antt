@@ -3,10 +3,6 @@ use Rattle.std.specs.Prelude.{ℕ, ◌+◌, zero, suc, List, length}
 use Rattle.acl_nfs4.specs.Ace.{Ace}
 use Rattle.acl_eval.specs.Column.{column}
 
--- the number of bits of the word that holds a mask
-abbrev pub mask_width : ℕ
-mask_width = 32
-
 -- the number of keys of the first n bits together
 abbrev pub count_left : ℕ → List Ace → ℕ
 count_left zero list = 0
