@@ -221,7 +221,8 @@ first_in : (used : List ℕ) (object : Object) (requester : Requester) (one next
 first_in used object requester one next a b c i = record {
   owner = λ h. ap (λ (x : Bool). x || is_owner_tag b || is_owner_tag c) h;
   user = λ id e. user_is object requester a id _ e i.first;
-  groups = λ n h. is_member-append_left n _ (groups_for one c) (is_member-append_left n (groups_for one a) (groups_for one b) h);
+  groups = λ n h. is_member-append_left n _ (groups_for one c)
+      (is_member-append_left n (groups_for one a) (groups_for one b) h);
 }
 
 second_in : (used : List ℕ) (object : Object) (requester : Requester) (one next : ℕ) (a b c : Tag)
@@ -230,7 +231,8 @@ second_in used object requester one next a b c i = record {
   owner = λ h. ap (λ (x : Bool). (is_owner_tag a || x) || is_owner_tag c) h
       ∙ ap (λ (x : Bool). x || is_owner_tag c) (or_true_right (is_owner_tag a));
   user = λ id e. keeps_asker object requester a _ i.first (user_is object requester b id _ e i.second);
-  groups = λ n h. is_member-append_left n _ (groups_for one c) (is_member-append_right n (groups_for one a) (groups_for one b) h);
+  groups = λ n h. is_member-append_left n _ (groups_for one c)
+      (is_member-append_right n (groups_for one a) (groups_for one b) h);
 }
 
 third_in : (used : List ℕ) (object : Object) (requester : Requester) (one next : ℕ) (a b c : Tag)

@@ -74,15 +74,16 @@ eqb-not_member n m (x ∷ xs) lacking has =
     by rest differs true e h = eqb_comm n m ∙ ap (λ (y : ℕ). y == n) (sym (eqb-true x m e)) ∙ differs
     by rest differs false e h = rest h
 
--- a member of the first of two lists is a member of both together, and so is one of the second
+-- a member of the first of two lists is a member of both together
 pub is_member-append_left : (n : ℕ) (xs ys : List ℕ) → is_member n xs ≡ true → is_member n (xs ++ ys) ≡ true
 is_member-append_left n xs ys h = list_any-append (λ (x : ℕ). x == n) xs ys ∙ ap (λ (b : Bool). b || is_member n ys) h
 
+-- a member of the second of two lists is a member of both together
 pub is_member-append_right : (n : ℕ) (xs ys : List ℕ) → is_member n ys ≡ true → is_member n (xs ++ ys) ≡ true
 is_member-append_right n xs ys h = list_any-append (λ (x : ℕ). x == n) xs ys ∙ ap (λ (b : Bool). is_member n xs || b) h
     ∙ or_true_right (is_member n xs)
 
--- the number of the tag of a key is among them
+-- the number of the tag of a key is among the numbers of the tags of the keys
 pub is_member-numbers : (t : Tag) (keys : TagColumn) → has_tag t keys ≡ true
     → is_member (qualifier t) (key_numbers keys) ≡ true
 is_member-numbers t [] h = absurd cc

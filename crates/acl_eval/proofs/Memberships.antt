@@ -164,7 +164,8 @@ module _ (suffix : List ℕ) (list : List Ace) (v : Assignment) (s : Situation) 
           none_of_three (bytes_eq w owner_name) (bytes_eq w group_name) (bytes_eq w everyone_name) none
 
       flag : has_bit (bit_or a.flags identifier_group_alone) identifier_group ≡ true
-      flag = has_bit-or a.flags identifier_group_alone identifier_group ∙ or_true_right (has_bit a.flags identifier_group)
+      flag =
+          has_bit-or a.flags identifier_group_alone identifier_group ∙ or_true_right (has_bit a.flags identifier_group)
 
   -- the ACE with a group matches as the assignment says
   same_match : (a : Ace) → AlwaysHas list a → is_misnamed suffix a ≡ false → has_taken_name suffix list a ≡ false

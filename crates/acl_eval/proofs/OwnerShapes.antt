@@ -421,7 +421,8 @@ for_column o g r list bit keys known c right column few k is = record {
         ∙ sym (bit_by_tags list (object_for o g) v.requester bit v.asked)
         ∙ column.decides (object_for o g) v.requester v.asked
         ∙ column_decided_by-same n m (keys_of keys) false (λ t h. agree_tag o g ns object requester v t
-        (is_member-append_right (qualifier t) (list_ids list) (key_numbers (keys_of keys)) (is_member-numbers t (keys_of keys) h)))
+        (is_member-append_right (qualifier t) (list_ids list) (key_numbers (keys_of keys))
+        (is_member-numbers t (keys_of keys) h)))
 
     by : (object : Object) (requester : Requester) → IsAsked object requester
         → (b : Bool) → (requester.user == object.user) ≡ b

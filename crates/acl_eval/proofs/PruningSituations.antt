@@ -80,7 +80,8 @@ ids_of_first list s t = record {
   users = λ id h. is_member-append_right id (list_ids list) (s.users ++ (s.groups ++ (t.users ++ t.groups)))
       (is_member-append_left id s.users (s.groups ++ (t.users ++ t.groups)) h);
   groups = λ id h. is_member-append_right id (list_ids list) (s.users ++ (s.groups ++ (t.users ++ t.groups)))
-      (is_member-append_right id s.users (s.groups ++ (t.users ++ t.groups)) (is_member-append_left id s.groups (t.users ++ t.groups) h));
+      (is_member-append_right id s.users (s.groups ++ (t.users ++ t.groups))
+      (is_member-append_left id s.groups (t.users ++ t.groups) h));
 }
 
 -- the users and groups of the second shape are among all ids

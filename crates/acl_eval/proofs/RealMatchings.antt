@@ -209,6 +209,7 @@ filter_ids m (x ∷ xs) ok = by (filter_ids m xs ok) (m (tag.group x)) refl
     by rest true e = (ok.ids (tag.group x) e, rest)
     by rest false e = rest
 
+-- groups that are ids still are with the owning group, if it is an id
 pub with_ids_too : (b : Bool) (own : ℕ) (groups : List ℕ) → IsId own → AllByRecursion IsId groups
     → AllByRecursion IsId (groups_with b own groups)
 with_ids_too true own groups is rest = (is, rest)
@@ -220,6 +221,7 @@ pub own_with : (b : Bool) (own : ℕ) (groups : List ℕ) → is_member own grou
 own_with true own groups lacks = ap (λ (c : Bool). c || is_member own groups) (eq-eqb own own refl)
 own_with false own groups lacks = lacks
 
+-- any other group is among them if it was
 pub other_with : (b : Bool) (own id : ℕ) (groups : List ℕ) → (own == id) ≡ false
     → is_member id (groups_with b own groups) ≡ is_member id groups
 other_with true own id groups differ = ap (λ (c : Bool). c || is_member id groups) differ

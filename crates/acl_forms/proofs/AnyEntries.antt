@@ -67,7 +67,8 @@ who_again type_number who is =
 -- an id is a who that an ACE of any type may have
 pub id_again : (at type_number : ℕ) (id : Id) → judged_at at (who_of_type type_number (decimal id.value))
     ≡ Ok (decimal id.value)
-id_again at type_number id = rw (who_again type_number (decimal id.value) (is_who-decimal id.value (omega (arith, id.within)))) refl
+id_again at type_number id =
+    rw (who_again type_number (decimal id.value) (is_who-decimal id.value (omega (arith, id.within)))) refl
 
 -- what has no image is nothing
 map_none : {A B : Type 0} (f : A → B) (o : Option A) → option_map f o ≡ None → o ≡ None

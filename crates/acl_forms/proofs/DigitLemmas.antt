@@ -9,7 +9,8 @@ use Rattle.acl_posix.specs.declared.id.Id.{Id}
 unfoldable use Rattle.acl_posix.specs.Fields.{id_of}
 
 -- digits spell an id if and only if they spell its number
-pub same_number : (digits : List ℕ) (spelled : Option Id) (id : Id) → option_map (λ (i : Id). i.value) spelled ≡ id_of digits
+pub same_number : (digits : List ℕ) (spelled : Option Id) (id : Id)
+    → option_map (λ (i : Id). i.value) spelled ≡ id_of digits
     → option_eq (λ (i j : Id). i.value == j.value) spelled (Some id) ≡ (digits_value 10 digits == id.value)
 unfolding id_of
 same_number digits (Some spelled) id e = by (nat_le (digits_value 10 digits) greatest_id) e
