@@ -18,3 +18,5 @@ pub mod Shorter
 pub mod Unshadowed
 -- the rights that a reduction leaves are those that are needed
 pub mod NeededRights
+-- how many rights the reductions of lists have
+pub mod RightCounts

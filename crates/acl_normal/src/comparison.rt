@@ -24,7 +24,7 @@ mod situation;
 pub(crate) mod small_set;
 
 use acl_perm::Mask;
-pub use comparing::{compare, compare_views};
+pub use comparing::{compare, compare_views, same, same_views};
 pub use exceeding::{excess, excess_of_views};
 pub use implying::{implies, implies_of_view};
 pub use requester_names::RequesterNames;

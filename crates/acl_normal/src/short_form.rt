@@ -1,6 +1,8 @@
-//! The normal form of a short list, without queues and without a heap.
-ghost use Rattle.std.specs.Prelude.{◌≡◌};
-ghost use Rattle.acl_normal.specs.Common.{aces_in, aces_with, AreRowNumbers, column, emitted_aces, IfOk, IsNormalFormOf, IsReducedOf, IsTidy, length, ℕ};
+//! The normal form of a short list, without queues and without a heap, and whether two short lists have one normal form.
+ghost use Rattle.std.specs.Prelude.{◌<◌, ◌↔◌, ◌≡◌};
+ghost use Rattle.acl_normal.specs.Common.{aces_in, aces_with, all_rights, AreRowNumbers, column, emitted_aces, full, IfOk, IsAccepted, IsNormalFormOf, IsReducedOf, IsTidy, IsTrue, length, SameGrants, vec_len, ℕ};
+ghost use Rattle.acl_normal.specs.internal.Counts.{rights_together};
+ghost use Rattle.acl_normal.specs.internal.Limits.{list_limit};
 ghost use Rattle.acl_normal.specs.internal.emit.Short.{AreLeftOf};
 
 use crate::emit::emission::Emitted;
@@ -15,15 +17,69 @@ use acl_nfs4::{AceRef, Acl, AclView};
 use acl_perm::Mask;
 use std::alloc::{AllocError, Global};
 
+/// The rights of the ACEs of a list that are needed, and the rows of their principals, both by place.
+#[derive(Drop)]
+struct NeededRights {
+    masks: Vec<Mask>,
+    rows: Vec<usize>,
+}
+
 /// Returns the normal form of a list. It takes time that grows with the square of the number of ACEs, and takes the
 /// least for a short list.
 pub(crate) fn short_form(alloc: Global, list: &AclView<'_>) -> Result<Acl, AllocError>
     ensures { IfOk result (λ form. IsNormalFormOf list.now form) }
 {
     let aces = collect(alloc, list)?;
-    let rows = counted_rows(alloc, &aces)?;
-    let masks = reduced_masks(alloc, &aces, &rows)?;
-    form_of_masks(alloc, &aces, &masks, &rows)
+    let needed = needed_rights(alloc, &aces)?;
+    form_of_masks(alloc, &aces, &needed.masks, &needed.rows)
+}
+
+/// Returns whether two lists have one normal form, which is whether they grant the same. It takes time that grows with
+/// the square of the number of ACEs.
+pub(crate) fn have_one_form(
+    alloc: Global,
+    list: &[AceRef<'_>],
+    other: &[AceRef<'_>],
+) -> Result<bool, AllocError>
+    requires list { IsAccepted full (aces_in list.now) }
+    requires other { IsAccepted full (aces_in other.now) }
+    ensures { IfOk result (λ answer. IsTrue answer
+        ↔ SameGrants all_rights (aces_in list.now) (aces_in other.now)) }
+{
+    let needed = needed_rights(alloc, list)?;
+    let other_needed = needed_rights(alloc, other)?;
+    // Lists that grant the same need as many rights. To count the rights takes less time than to emit both forms.
+    if count_rights(&needed.masks) != count_rights(&other_needed.masks) {
+        return Ok(false);
+    }
+    let form = form_of_masks(alloc, list, &needed.masks, &needed.rows)?;
+    let other_form = form_of_masks(alloc, other, &other_needed.masks, &other_needed.rows)?;
+    Ok(form == other_form)
+}
+
+// The rights that are needed, and the rows.
+fn needed_rights(alloc: Global, aces: &[AceRef<'_>]) -> Result<NeededRights, AllocError>
+    requires { IsAccepted full (aces_in aces.now) }
+    ensures masks { IfOk result (λ needed. vec_len needed.masks ≡ length aces.now) }
+    ensures rows { IfOk result (λ needed. AreRowNumbers (aces_in aces.now) needed.rows.items) }
+    ensures reduced { IfOk result (λ needed. IsReducedOf (aces_in aces.now)
+        (aces_with aces.now needed.masks.items)) }
+{
+    let rows = counted_rows(alloc, aces)?;
+    let masks = reduced_masks(alloc, aces, &rows)?;
+    Ok(NeededRights { masks, rows })
+}
+
+// The number of rights that the masks have together.
+fn count_rights(masks: &[Mask]) -> usize
+    requires { length masks.now < list_limit }
+    ensures { result ≡ rights_together masks.now }
+{
+    let mut count = 0;
+    for mask in masks {
+        count += mask.bits.count_ones() as usize;
+    }
+    count
 }
 
 // The normal form of the ACEs, if they need only the rights of these masks.

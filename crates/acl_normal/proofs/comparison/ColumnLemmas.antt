@@ -1,5 +1,5 @@
 -- The ACEs of a list that have a right, and principals that none of these ACEs names.
-use Rattle.acl_normal.proofs.Common.{[], Ace, ace, AceRef, aces_in, AllByRecursion, ap, append-nil, append_assoc, AreWhoms, arith, at_drop_more, Bool, cases_eq, cases_lt, column, cond, drop, drop_all, drop_more, eq-eqb, eqb-true, Everyone, everyone, false, false≢true, get_or-append_seam, get_or-map, get_or-set_other, get_or-set_same, get_or_append_left, has_bit, inl, inr, is_allow, is_granted_to, IsWhom, length, length-append, length-map, length-set, List, map, map-append, Mask, mask_numbers, ne_eqb, no_ace, Nobody, One, Principal, principal, principal_eq, principal_of, principals, refl, same_answers, slice_index_or, slice_set, subst, sym, takes_part, true, TwoLists, Whom, ℕ, ◌&&◌, ◌++◌, ◌+◌, ◌<◌, ◌==◌, ◌||◌, ◌∙◌, ◌∷◌, ◌≡◌, ◌≤◌, ◌⊎◌}
+use Rattle.acl_normal.proofs.Common.{[], Ace, ace, AceRef, aces_in, AllByRecursion, ap, append-nil, append_assoc, AreWhoms, arith, at_drop_more, Bool, cases_eq, cases_lt, column, cond, drop, drop_all, drop_more, eq-eqb, eqb-true, Everyone, everyone, false, false≢true, get_or-append_seam, get_or-map, get_or-set_other, get_or-set_same, get_or_append_left, has_bit, inl, inr, is_allow, is_granted_to, IsWhom, length, length-append, length-map, length-set, List, map, map-append, Mask, mask_numbers, ne_eqb, no_ace, Nobody, One, Principal, principal_eq, principal_of, principals, refl, same_answers, slice_index_or, slice_set, subst, sym, takes_part, true, TwoLists, Whom, ℕ, ◌&&◌, ◌++◌, ◌+◌, ◌<◌, ◌==◌, ◌||◌, ◌∙◌, ◌∷◌, ◌≡◌, ◌≤◌, ◌⊎◌}
 use Rattle.std.proofs.lemmas.Bool.{cases_order, or_parts}
 use Rattle.acl_normal.proofs.Each.{all_at, all_from}
 use Rattle.acl_normal.proofs.comparison.SetEvaluation.{granted_to-cons}

@@ -31,7 +31,7 @@ names_back [] h = tt
 names_back (a ∷ xs) h = (h.0, names_back xs h.1)
 
 -- a list with the outline of a list with names has names
-names_kept : (xs ys : List Ace) → nothing_left ys ≡ nothing_left xs → HasNames xs → HasNames ys
+pub names_kept : (xs ys : List Ace) → nothing_left ys ≡ nothing_left xs → HasNames xs → HasNames ys
 names_kept xs ys e h = names_back ys (subst HasNames (sym e) (names_on xs h))
 
 -- ---- no bit outside the sixteen

@@ -10,8 +10,9 @@ use super::Difference;
 use super::compared::Compared;
 use super::direction::Direction;
 use super::mentioned::mentioned;
-use crate::normal_form::{SHORT, normalize_view};
+use crate::normal_form::SHORT;
 use crate::reduce::collected::collect;
+use crate::short_form::have_one_form;
 use acl_nfs4::{AceRef, Acl, AclView};
 use std::alloc::{AllocError, Global};
 
@@ -64,29 +65,54 @@ pub fn compare_views(
     ensures requester { IfOk result (λ r. IfSome r (λ d. TellsApart first.now second.now
         (situation_of d) d.bit.bits d.first_grants)) }
 {
-    let is_same = have_one_form(alloc, first, second)?;
-    if is_same {
+    let list = collect(alloc, first)?;
+    let other = collect(alloc, second)?;
+    // For two short lists that grant the same, this takes less time than the search takes to find no difference.
+    if list.len() <= SHORT && other.len() <= SHORT && have_one_form(alloc, &list, &other)? {
         Ok(None)
     } else {
-        searched(alloc, Direction::Either, first, second)
+        searched_among(alloc, Direction::Either, &list, &other)
     }
 }
 
-// Returns true only if both lists are short and have the same normal form. This is found in less time than the search
-// takes to find no difference.
-fn have_one_form(
+/// Returns whether two lists grant the same in every situation, as [`compare`] does, but names no situation in which
+/// they do not. So it takes less time for two short lists that differ. Fails if memory runs out.
+///
+/// ```rust
+/// let first = parse_text(alloc, b"DENY - WRITE_DATA bob\nALLOW - READ_DATA OWNER@\n")?;
+/// let second = parse_text(alloc, b"ALLOW - READ_DATA OWNER@\n")?;
+/// assert!(rt; same(alloc, &first, &second)?);
+/// ```
+pub fn same(alloc: Global, first: &Acl, second: &Acl) -> Result<bool, AllocError>
+    ensures answer { IfOk result (λ answer. IsTrue answer
+        ↔ SameGrants all_rights first.now second.now) }
+    // For equal lists memory never runs out.
+    ensures equal { first.now ≡ second.now → IsOk result }
+{
+    if *first == *second {
+        return Ok(true);
+    }
+    same_views(alloc, &first.view(), &second.view())
+}
+
+/// Returns whether the lists of two views grant the same in every situation, as [`same`] does for two owned lists. It
+/// copies neither list. Unlike `same`, it does not look first whether the lists are equal, so that it may run out of
+/// memory for equal lists too.
+pub fn same_views(
     alloc: Global,
     first: &AclView<'_>,
     second: &AclView<'_>,
 ) -> Result<bool, AllocError>
-    ensures { IfOk result (λ answer. IsTrue answer → SameGrants all_rights first.now second.now) }
+    ensures answer { IfOk result (λ answer. IsTrue answer
+        ↔ SameGrants all_rights first.now second.now) }
 {
     if first.len() > SHORT || second.len() > SHORT {
-        return Ok(false);
+        let difference = compare_views(alloc, first, second)?;
+        return Ok(difference.is_none());
     }
-    let form = normalize_view(alloc, first)?;
-    let other = normalize_view(alloc, second)?;
-    Ok(form == other)
+    let list = collect(alloc, first)?;
+    let other = collect(alloc, second)?;
+    have_one_form(alloc, &list, &other)
 }
 
 /// Returns the first small situation in which two lists differ in a direction. The lists are borrowed for the same

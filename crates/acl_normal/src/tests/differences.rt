@@ -4,7 +4,7 @@
 use super::harness::{
     ALLOW, AceRow, DENY, EXECUTE, GROUP, INHERIT_ONLY, READ_DATA, WRITE_DATA, built, kept, passes,
 };
-use crate::{Difference, compare, plain};
+use crate::{Difference, compare, plain, same};
 use acl_eval::grants;
 use acl_nfs4::{Acl, PushFault};
 use acl_perm::Mask;
@@ -239,13 +239,14 @@ fn is_found_plainly(
     Ok(is_expected(&found, expected))
 }
 
-/// Both searches find the first small situation of each pair.
+/// Both searches find the first small situation of each pair, and `same` says whether there is one.
 pub fn worked_pairs(rt: &impl Abort, alloc: Global) -> Result<(), PushFault> {
     for (rows, others, expected) in &PAIRS {
         let first = built(alloc, rows)?;
         let second = built(alloc, others)?;
         assert!(rt; kept(is_found(alloc, &first, &second, *expected))?);
         assert!(rt; kept(is_found_plainly(alloc, &first, &second, *expected))?);
+        assert!(rt; kept(same(alloc, &first, &second))? == expected.is_none());
     }
     Ok(())
 }

@@ -60,6 +60,15 @@ mod ample {
     }
 
     #[test]
+    fn a_deny_of_a_user_whom_no_ace_allows_changes_nothing(rt: HostRuntime) -> Result<(), Fail> {
+        let alloc = rt.alloc();
+        let first = parse_text(alloc, b"DENY - WRITE_DATA bob\nALLOW - READ_DATA OWNER@\n")?;
+        let second = parse_text(alloc, b"ALLOW - READ_DATA OWNER@\n")?;
+        assert!(rt; same(alloc, &first, &second)?);
+        Ok(())
+    }
+
+    #[test]
     fn a_list_without_the_deny_of_bob_grants_him_more(rt: HostRuntime) -> Result<(), Fail> {
         let alloc = rt.alloc();
         let policy = parse_text(

@@ -1,6 +1,5 @@
-use Rattle.std.specs.List.{All}
 use Rattle.std.proofs.lemmas.List.Elements.{All-push}
-use Rattle.acl_normal.proofs.Common.{Emitted, ace_key, aces_in, aces_with, ap, column, plain_key, principal_of, ace, refl, subst, sym, slice_index_or, take_all, ◌∙◌}
+use Rattle.acl_normal.proofs.Common.{Emitted, aces_in, aces_with, ap, column, principal_of, ace, refl, subst, sym, slice_index_or, take_all, ◌∙◌}
 use Rattle.acl_normal.specs.internal.emit.Short.{AreLeftOf, IsLeftOf}
 use Rattle.acl_normal.proofs.emit.Risen.{shown_end, shown_here}
 use Rattle.acl_normal.proofs.emit.ShortTurns.{left_columns, left_flags, left_key, left_named}
