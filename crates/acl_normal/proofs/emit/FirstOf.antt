@@ -1,14 +1,14 @@
 -- What comes first in a list, found ACE by ACE from the front.
-use Rattle.acl_normal.proofs.Common.{Ace, Bool, Column, ColumnKey, Emitted, Equal, Greater, HasEmptyColumns, HasOnceColumns, IsOnce, Kind, Less, List, None, Option, Ordering, Principal, Some, [], ace_key, and_false_right, and_parts, ap, append-nil, arith, bit_or, column, compare_keys, cond, conflicts, conflicts_before, emitted_ace, emitted_aces, false, false_from_ne_true, false≢true, first_kind, flags_for, has_bit, has_bit-or, has_opposite, is_either, is_free, is_le, is_user, key_eq, key_order, key_record, kind_eq, may_overlap, not, or_cases, ordering_reverse, other_kind, plain_key, principal_eq, principal_of, refl, same_answers, subst, sym, true, ℕ, ⊎_elim, ◌&&◌, ◌++◌, ◌||◌, ◌∙◌, ◌∷◌, ◌≡◌, ◌≢◌}
+use Rattle.acl_normal.proofs.Common.{Ace, Bool, Column, ColumnKey, Equal, Greater, HasEmptyColumns, HasOnceColumns, IsOnce, Kind, Less, List, None, Option, Ordering, Principal, Some, [], ace_key, and_false_right, and_parts, ap, append-nil, arith, bit_or, column, compare_keys, cond, conflicts, conflicts_before, false, false_from_ne_true, false≢true, first_kind, flags_for, has_bit, has_bit-or, has_opposite, is_either, is_free, is_le, key_eq, key_order, key_record, may_overlap, not, or_cases, ordering_reverse, other_kind, principal_of, refl, same_answers, subst, sym, true, ℕ, ⊎_elim, ◌&&◌, ◌++◌, ◌||◌, ◌∙◌, ◌∷◌, ◌≡◌, ◌≢◌}
 use Rattle.std.proofs.Math.Bool.{or_assoc, or-false}
 use Rattle.acl_normal.specs.declared.reduce.needless.Later.{Later}
-use Rattle.acl_normal.specs.internal.Needed.{HasNoLater, NotesLater, is_of_kind_and_class, opposes, some_of}
+use Rattle.acl_normal.specs.internal.Needed.{HasNoLater, NotesLater, is_of_kind_and_class, later_mask, opposes, some_of}
 use Rattle.acl_normal.specs.internal.emit.Short.{AreFreeAfter, ComesFirst, IsFirstLeft, lesser_by, lesser_of}
 use Rattle.acl_normal.proofs.reduce.Passes.{free-append}
 use Rattle.acl_normal.proofs.reduce.Unneeded.{AreLater, opposite_is}
 use Rattle.acl_normal.proofs.unique.Bits.{no_bits, no_bits_of_zero}
 use Rattle.acl_normal.proofs.unique.Candidates.{lt_le}
-use Rattle.acl_normal.proofs.unique.Columns.{column-append, column-cons, column_lacking, column_with}
+use Rattle.acl_normal.proofs.unique.Columns.{column-append, column-cons, column_with}
 use Rattle.acl_normal.proofs.unique.Free.{head_is_free}
 use Rattle.acl_normal.proofs.unique.Keys.{key_equal, key_itself}
 use Rattle.acl_normal.proofs.unique.Names.{key_eq_itself, key_eq_same, overlaps_back}
@@ -250,6 +250,29 @@ noted_more l new seen y flags so more k users b =
         last true = refl
         last false = refl
     go false = ap (λ t. some_of k users (column seen b) || t) (and_false_right (is_of_kind_and_class k users (ace_key y)))
+
+-- an ACE without rights has no right
+no_rights : (y : Ace) (b : ℕ) → y.mask ≡ 0 → has_bit y.mask b ≡ false
+no_rights y b none = ap (λ m. has_bit m b) none ∙ no_bits_of_zero b
+
+-- with an ACE without rights, what came first still comes first
+pub first_past : (seen : List Ace) (y : Ace) → y.flags ≡ flags_for (principal_of y) → y.mask ≡ 0 → (o : Option Ace)
+    → IsFirstLeft seen o → IsFirstLeft (seen ++ y ∷ []) o
+first_past seen y flags none = first_kept seen y y flags refl (λ b. free b (has_bit y.mask b) (no_rights y b none)) none
+  where
+    free : (b : ℕ) (t : Bool) → t ≡ false → t ≡ (t && not (conflicts_before (column seen b) (ace_key y)))
+    free b false e = refl
+    free b true e = cc
+
+-- with an ACE without rights, the masks have the rights that they had
+pub noted_past : (l : Later) (seen : List Ace) (y : Ace) → y.flags ≡ flags_for (principal_of y) → y.mask ≡ 0
+    → AreLater l seen → AreLater l (seen ++ y ∷ [])
+noted_past l seen y flags none so =
+    noted_more l l seen y flags so (λ k users b.
+    sym (ap (λ t. has_bit (later_mask l k users) b || (is_of_kind_and_class k users (ace_key y) && t))
+    (no_rights y b none)
+    ∙ ap (λ t. has_bit (later_mask l k users) b || t) (and_false_right (is_of_kind_and_class k users (ace_key y)))
+    ∙ or-false (has_bit (later_mask l k users) b)))
 
 -- the rights of an ACE that no noted right of an overlapping principal opposes are those on which it is free
 pub free_is : (l : Later) (whole seen rest : List Ace) (y : Ace) (m : ℕ) → whole ≡ seen ++ y ∷ rest

@@ -1,6 +1,5 @@
 -- A short list: what is left of it, turn by turn.
-use Rattle.acl_normal.proofs.Common.{Ace, AceRef, AreRowNumbers, Bool, IsAlike, IsEmission, IsNormalFormOf, IsReducedOf, ace, aces_in, is_principal_of, Emitted, Equal, Greater, HasOnceColumns, IfSome, IsDifference, IsMask, IsMask-lt, IsRowOf, IsStep, Kind, Less, List, None, Option, Ordering, Principal, Some, [], ace_key, ap, arith, bits_from_mask, cases_eq, column, compare_keys, cond, count_left, drop, drop_more, emitted_ace, emitted_aces, false, false≢true, flags_for, get_or-set_other, get_or-set_same, has_bit, inl, inr, is_inherit_only, kind_rank, length, length-set, map, map-append, nat_cmp, nat_cmp_is, not, option_map, ordering_reverse, plain_key, principal, principal_cmp, principal_eq, principal_exact, principal_of, principal_order, refl, row_of, slice_index_or, slice_set, subst, sym, take, take_all, take_more, take_out, true, without, without_bits, without_principal, ℕ, ◌&&◌, ◌++◌, ◌+◌, ◌<◌, ◌∙◌, ◌∷◌, ◌≡◌, ◌≢◌, ◌≤◌, ◌⊎◌}
-use Rattle.std.specs.Prelude.{All}
+use Rattle.acl_normal.proofs.Common.{Ace, AceRef, AreRowNumbers, Bool, IsAlike, IsEmission, IsNormalFormOf, IsReducedOf, ace, aces_in, is_principal_of, Emitted, Equal, Greater, IsDifference, IsMask, IsMask-lt, IsRowOf, IsStep, Less, List, Ordering, Principal, [], ace_key, ap, arith, bits_from_mask, cases_eq, column, compare_keys, cond, count_left, drop, drop_more, emitted_ace, emitted_aces, false, flags_for, get_or-set_other, get_or-set_same, has_bit, inl, inr, is_inherit_only, kind_rank, length, length-set, map-append, nat_cmp, nat_cmp_is, ordering_reverse, plain_key, principal, principal_cmp, principal_eq, principal_exact, principal_of, principal_order, refl, row_of, slice_index_or, slice_set, subst, sym, take, take_all, take_more, take_out, true, without_bits, without_principal, ℕ, ◌++◌, ◌+◌, ◌<◌, ◌∙◌, ◌∷◌, ◌≡◌, ◌≢◌, ◌≤◌, ◌⊎◌}
 use Rattle.std.specs.Ordering.{ordering_then}
 use Rattle.std.proofs.lemmas.List.{drop-set-lt, take_more_set}
 use Rattle.acl_perm.proofs.Sets.{some_bit}

@@ -42,9 +42,12 @@ fn first_of<'a>(left: &[Emitted<'a>]) -> Option<Emitted<'a>>
     let mut before = no_later();
     let mut first: Option<Emitted<'a>> = None;
     for item in left {
-        let free = item.mask.difference(opposite(before, item.key));
-        first = with_free(first, item, free);
-        before = noted(before, item.key, item.mask);
+        // Without rights an ACE is not free, and blocks no other.
+        if item.mask.bits != 0 {
+            let free = item.mask.difference(opposite(before, item.key));
+            first = with_free(first, item, free);
+            before = noted(before, item.key, item.mask);
+        }
     }
     first
 }

@@ -1,4 +1,4 @@
-use Rattle.acl_normal.proofs.Common.{Ace, count_left, emitted_ace, emitted_aces, HasOnceColumns, List, principal_of, subst, sym, take_out, ap, ◌∙◌, ◌<◌, ◌≡◌}
+use Rattle.acl_normal.proofs.Common.{count_left, emitted_ace, emitted_aces, HasOnceColumns, principal_of, subst, sym, take_out, ap, ◌∙◌, ◌<◌, ◌≡◌}
 use Rattle.acl_normal.proofs.emit.ShortTurns.{fewer_left, first_step}
 use Rattle.acl_normal.proofs.emit.SoFar.{Completes, completes_all, completes_more}
 use Rattle.acl_normal.proofs.rows.TakeOut.{once_taken}
