@@ -1,14 +1,14 @@
 //! The normal form of a short list, without queues and without a heap, and whether two short lists have one normal form.
 ghost use Rattle.std.specs.Prelude.{◌<◌, ◌↔◌, ◌≡◌};
-ghost use Rattle.acl_normal.specs.Common.{aces_in, aces_with, all_rights, AreRowNumbers, column, emitted_aces, full, IfOk, IsAccepted, IsNormalFormOf, IsReducedOf, IsTidy, IsTrue, length, SameGrants, vec_len, ℕ};
+ghost use Rattle.acl_normal.specs.Common.{aces_in, aces_with, all_cleared, all_rights, AreRowNumbers, column, emitted_ace, emitted_aces, full, IfOk, IsAccepted, IsNormalFormOf, IsReducedOf, IsTidy, IsTrue, left, length, SameGrants, vec_len, ℕ};
 ghost use Rattle.acl_normal.specs.internal.Counts.{rights_together};
 ghost use Rattle.acl_normal.specs.internal.Limits.{list_limit};
 ghost use Rattle.acl_normal.specs.internal.emit.Short.{AreLeftOf};
 
 use crate::emit::emission::Emitted;
-use crate::emit::rising::{cleared, rises};
+use crate::emit::rising::rises;
 use crate::emit::short::drain_short;
-use crate::normal_form::written;
+use crate::normal_form::{ace_of, written};
 use crate::reduce::collected::collect;
 use crate::reduce::reduced_masks;
 use crate::rows::counted::counted_rows;
@@ -31,7 +31,8 @@ pub(crate) fn short_form(alloc: Global, list: &AclView<'_>) -> Result<Acl, Alloc
 {
     let aces = collect(alloc, list)?;
     let needed = needed_rights(alloc, &aces)?;
-    form_of_masks(alloc, &aces, &needed.masks, &needed.rows)
+    let form = emitted(alloc, &aces, &needed.masks, &needed.rows)?;
+    written(alloc, &form)
 }
 
 /// Returns whether two lists have one normal form, which is whether they grant the same. It takes time that grows with
@@ -52,9 +53,9 @@ pub(crate) fn have_one_form(
     if count_rights(&needed.masks) != count_rights(&other_needed.masks) {
         return Ok(false);
     }
-    let form = form_of_masks(alloc, list, &needed.masks, &needed.rows)?;
-    let other_form = form_of_masks(alloc, other, &other_needed.masks, &other_needed.rows)?;
-    Ok(form == other_form)
+    let form = emitted(alloc, list, &needed.masks, &needed.rows)?;
+    let other_form = emitted(alloc, other, &other_needed.masks, &other_needed.rows)?;
+    Ok(are_equal(&form, &other_form))
 }
 
 // The rights that are needed, and the rows.
@@ -82,27 +83,27 @@ fn count_rights(masks: &[Mask]) -> usize
     count
 }
 
-// The normal form of the ACEs, if they need only the rights of these masks.
-fn form_of_masks(
+// The ACEs of the normal form, if only the rights of these masks are needed.
+fn emitted<'a>(
     alloc: Global,
-    aces: &[AceRef<'_>],
+    aces: &[AceRef<'a>],
     masks: &[Mask],
     rows: &[usize],
-) -> Result<Acl, AllocError>
+) -> Result<Vec<Emitted<'a>>, AllocError>
     requires masks { length masks.now ≡ length aces.now }
     requires rows { AreRowNumbers (aces_in aces.now) rows.now }
     requires reduced { IsReducedOf (aces_in aces.now) (aces_with aces.now masks.now) }
-    ensures { IfOk result (λ form. IsNormalFormOf (aces_in aces.now) form) }
+    ensures { IfOk result (λ form.
+        IsNormalFormOf (aces_in aces.now) (emitted_aces form.items)) }
 {
-    if rises(aces, masks, rows) {
-        return cleared(alloc, aces, masks);
-    }
     let mut left = left_of(alloc, aces, masks, rows)?;
-    let form = drain_short(alloc, &mut left)?;
-    written(alloc, &form)
+    if rises(aces, masks, rows) {
+        return Ok(left);
+    }
+    drain_short(alloc, &mut left)
 }
 
-// By place, what is to be emitted.
+// What is to be emitted, in the order of the list.
 fn left_of<'a>(
     alloc: Global,
     aces: &[AceRef<'a>],
@@ -112,17 +113,47 @@ fn left_of<'a>(
     requires masks { length masks.now ≡ length aces.now }
     requires rows { AreRowNumbers (aces_in aces.now) rows.now }
     requires tidy { IsTidy (aces_with aces.now masks.now) }
+    ensures list { IfOk result (λ v. emitted_aces v.items
+        ≡ all_cleared (left (aces_with aces.now masks.now))) }
     ensures columns { IfOk result (λ v. (b : ℕ)
         → column (emitted_aces v.items) b ≡ column (aces_with aces.now masks.now) b) }
     ensures rows { IfOk result (λ v. AreLeftOf (aces_in aces.now) v.items) }
 {
     let mut left = Vec::with_capacity(alloc, aces.len())?;
     for (place, ace) in aces.iter().enumerate() {
-        left.push(Emitted {
-            key: key(ace),
-            mask: masks[place],
-            row: rows[place],
-        })?;
+        let mask = masks[place];
+        if mask.bits != 0 {
+            left.push(Emitted {
+                key: key(ace),
+                mask,
+                row: rows[place],
+            })?;
+        }
     }
     Ok(left)
+}
+
+// Whether both are the same ACEs.
+fn are_equal(list: &[Emitted<'_>], other: &[Emitted<'_>]) -> bool
+    ensures { IsTrue result ↔ (emitted_aces list.now ≡ emitted_aces other.now) }
+{
+    if list.len() != other.len() {
+        return false;
+    }
+    for (place, item) in list.iter().enumerate() {
+        if !is_same(item, &other[place]) {
+            return false;
+        }
+    }
+    true
+}
+
+fn is_same(item: &Emitted<'_>, other: &Emitted<'_>) -> bool
+    ensures { IsTrue result ↔ (emitted_ace item.now ≡ emitted_ace other.now) }
+{
+    let (ace, other) = (ace_of(*item), ace_of(*other));
+    ace.kind == other.kind
+        && ace.flags == other.flags
+        && ace.mask == other.mask
+        && ace.who == other.who
 }

@@ -130,6 +130,10 @@ masks_left (a ∷ xs) = go (a.mask == 0) refl (masks_left xs)
     go true h ih = rw h ih
     go false h ih = rw h (eqb-false a.mask 0 h, ih)
 
+-- what is left of a quiet list has its columns, with cleared flags
+pub columns_left : (b : ℕ) (xs : List Ace) → IsQuiet xs → column (all_cleared (left xs)) b ≡ column xs b
+columns_left b xs quiet = column_cleared b (left xs) (quiet_left xs quiet) ∙ column_left b xs
+
 -- if the keys of what is left rise, what is left is what is emitted, with cleared flags
 pub rising_emission : (xs : List Ace) → HasOnceColumns xs → IsQuiet xs → IsRising (left xs)
     → IsEmission xs (all_cleared (left xs))
@@ -143,7 +147,7 @@ rising_emission xs once quiet rising = record {
 }
   where
     same : (b : ℕ) → column (all_cleared (left xs)) b ≡ column xs b
-    same b = column_cleared b (left xs) (quiet_left xs quiet) ∙ column_left b xs
+    same b = columns_left b xs quiet
 
 -- what is left of an irreducible list is normal, with cleared flags, and grants the same, if its keys rise
 pub rising_form : (xs : List Ace) → IsIrreducibleList (left xs) → HasOnceColumns xs → IsQuiet xs

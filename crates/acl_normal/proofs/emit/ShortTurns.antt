@@ -1,21 +1,23 @@
 -- A short list: what is left of it, turn by turn.
-use Rattle.acl_normal.proofs.Common.{Ace, AceRef, AreRowNumbers, Bool, IsAlike, IsEmission, IsNormalFormOf, IsReducedOf, ace, aces_in, is_principal_of, Emitted, Equal, Greater, IsDifference, IsMask, IsMask-lt, IsRowOf, IsStep, Less, List, Ordering, Principal, [], ace_key, ap, arith, bits_from_mask, cases_eq, column, compare_keys, cond, count_left, drop, drop_more, emitted_ace, emitted_aces, false, flags_for, get_or-set_other, get_or-set_same, has_bit, inl, inr, is_inherit_only, kind_rank, length, length-set, map-append, nat_cmp, nat_cmp_is, ordering_reverse, plain_key, principal, principal_cmp, principal_eq, principal_exact, principal_of, principal_order, refl, row_of, slice_index_or, slice_set, subst, sym, take, take_all, take_more, take_out, true, without_bits, without_principal, ℕ, ◌++◌, ◌+◌, ◌<◌, ◌∙◌, ◌∷◌, ◌≡◌, ◌≢◌, ◌≤◌, ◌⊎◌}
+use Rattle.acl_normal.proofs.Common.{Ace, AceRef, AreRowNumbers, Bool, IsAlike, IsEmission, IsNormalFormOf, IsReducedOf, ace, aces_in, is_principal_of, Emitted, Equal, Greater, IsDifference, IsMask, IsMask-lt, IsRowOf, IsStep, Less, List, Mask, Ordering, Principal, [], ace_key, ap, arith, bits_from_mask, cases_eq, column, compare_keys, cond, count_left, drop, drop_more, emitted_ace, emitted_aces, false, flags_for, get_or-set_other, get_or-set_same, has_bit, inl, inr, is_inherit_only, kind_rank, length, length-set, map-append, nat_cmp, nat_cmp_is, ordering_reverse, plain_key, principal, principal_cmp, principal_eq, principal_exact, principal_of, principal_order, refl, row_of, slice_index_or, slice_set, subst, sym, take, take_all, take_more, take_out, true, without_bits, without_principal, ℕ, ◌++◌, ◌+◌, ◌<◌, ◌∙◌, ◌∷◌, ◌≡◌, ◌≢◌, ◌≤◌, ◌⊎◌}
 use Rattle.std.specs.Ordering.{ordering_then}
 use Rattle.std.proofs.lemmas.List.{drop-set-lt, take_more_set}
 use Rattle.acl_perm.proofs.Sets.{some_bit}
 use Rattle.acl_normal.proofs.five_forms.Writing.{split_at}
 use Rattle.acl_normal.specs.internal.emit.Ready.{emitted}
+use Rattle.acl_normal.specs.internal.emit.Rising.{cleared}
+use Rattle.acl_normal.proofs.Whoms.{who_is}
+use Rattle.acl_normal.proofs.emit.Risen.{shown}
 use Rattle.acl_normal.specs.internal.emit.Short.{AreLeftOf, ComesFirst, IsLeftOf}
 use Rattle.acl_normal.proofs.emit.KeyNames.{IsNamed, emitted_principal}
 use Rattle.acl_normal.proofs.emit.Leaving.{left_normal}
 use Rattle.acl_normal.proofs.reduce.FirstMasks.{named_there, row_here}
 use Rattle.acl_normal.proofs.rows.ByPlace.{index_is, length_of}
-use Rattle.acl_normal.proofs.unique.Normal.{counts_mask}
 use Rattle.acl_normal.proofs.unique.Taken.{form_of_reduced}
 use Rattle.acl_normal.proofs.rows.Rows.{row_less, row_same}
 use Rattle.acl_normal.proofs.rows.TakeOut.{column_taken}
 use Rattle.acl_normal.proofs.unique.Bits.{below, difference_is}
-use Rattle.acl_normal.proofs.unique.Columns.{column-append, column_has, column_lacking, column_lacks, column_with, no_inherit_only}
+use Rattle.acl_normal.proofs.unique.Columns.{no_inherit_only}
 use Rattle.acl_normal.proofs.unique.Free.{ahead_from_free}
 use Rattle.acl_normal.proofs.unique.Names.{overlaps_itself, principal_eq_itself, principal_eq_same}
 use Rattle.acl_normal.proofs.unique.Shorter.{without_no_longer, without_shorter}
@@ -203,29 +205,15 @@ left_named aces rows place x e numbers l is names row = record {
     at : slice_index_or whole place (ace x) ≡ ace x
     at = index_is aces place x l is
 
--- what is made of the ACE at the next place adds its rights to the columns
-pub left_columns : (xs : List Ace) (i : ℕ) (x : Ace) (es new : List Emitted) (e : Emitted) → i < length xs
-    → slice_index_or xs i x ≡ x → (is_inherit_only x ≡ true → x.mask ≡ 0) → ace_key (emitted_ace e) ≡ ace_key x
-    → (emitted_ace e).flags ≡ flags_for (principal_of (emitted_ace e)) → e.mask.bits ≡ x.mask → new ≡ es ++ e ∷ []
-    → ((b : ℕ) → column (emitted_aces es) b ≡ column (take i xs) b)
-    → (b : ℕ) → column (emitted_aces new) b ≡ column (take (i + 1) xs) b
-left_columns xs i x es new e l is quiet key flags mask pushed so b =
-    ap (λ v. column (emitted_aces v) b) pushed
-    ∙ ap (λ v. column v b) (map-append emitted_ace es (e ∷ []))
-    ∙ column-append b (emitted_aces es) (emitted_ace e ∷ [])
-    ∙ ap (λ c. c ++ column (emitted_ace e ∷ []) b) (so b)
-    ∙ ap (λ c. column (take i xs) b ++ c) (one (has_bit x.mask b) refl)
-    ∙ sym (column-append b (take i xs) (x ∷ []))
-    ∙ ap (λ v. column v b) (sym (take_more xs i x l ∙ ap (λ v. take i xs ++ v ∷ []) is))
-  where
-    one : (t : Bool) → has_bit x.mask b ≡ t → column (emitted_ace e ∷ []) b ≡ column (x ∷ []) b
-    one true h =
-        column_with b (emitted_ace e) [] flags (ap (λ m. has_bit m b) mask ∙ h)
-        ∙ ap (λ k. k ∷ []) key
-        ∙ sym (column_has b x [] (counts_mask b x quiet ∙ h))
-    one false h =
-        column_lacking b (emitted_ace e) [] flags (ap (λ m. has_bit m b) mask ∙ h)
-        ∙ sym (column_lacks b x [] (counts_mask b x quiet ∙ h))
+-- what is made of an ACE of the code and a mask is the ACE with this mask, and with cleared flags
+pub left_cleared : (x : AceRef) (m : Mask) (e : Emitted) → principal e.key.principal ≡ principal_of (ace x)
+    → e.key.kind ≡ x.kind → e.mask ≡ m → emitted_ace e ≡ cleared (shown x m)
+left_cleared x m e names kind mask =
+    ap (λ p. emitted (p, e.key.kind) e.mask.bits) names
+    ∙ ap (λ k. emitted (principal_of (ace x), k) e.mask.bits) kind
+    ∙ ap (λ (n : Mask). emitted (principal_of (ace x), x.kind) n.bits) mask
+    ∙ ap (λ w. record { kind = x.kind; flags = flags_for (principal_of (ace x)); mask = m.bits; who = w })
+    (who_is (ace x))
 
 -- what is emitted from a list with the columns of a reduced list is the normal form
 pub short_formed : (list xs es ns : List Ace) → IsReducedOf list xs → ((b : ℕ) → column es b ≡ column xs b)

@@ -1,4 +1,4 @@
-use Rattle.acl_normal.proofs.Common.{aces_in, all_rights, ap, arith, equivalence, false≢true, SameGrants, subst, sym, ◌∙◌}
+use Rattle.acl_normal.proofs.Common.{aces_in, all_rights, ap, arith, emitted_aces, equivalence, false≢true, SameGrants, subst, sym, ◌∙◌}
 use Rattle.acl_normal.specs.internal.Counts.{rights_together}
 use Rattle.acl_normal.proofs.reduce.RightCounts.{as_many_rights}
 use Rattle.acl_normal.proofs.short_form.have_one_form.Goals as goal
@@ -22,14 +22,18 @@ pub returns : goal.returns
 returns c =
     let list = aces_in c.args.list.now in
     let other = aces_in c.args.other.now in
-    let form = c.in_ok-form.form in
-    let other_form = c.in_ok-other_form.other_form in
+    let form = emitted_aces c.in_ok-form.form.items in
+    let other_form = emitted_aces c.in_ok-other_form.other_form.items in
     let here = c.in_ok-form.ensures in
     let there = c.in_ok-other_form.ensures in
+    let equal = c.are_equal.ensures in
+    let shown = ap emitted_aces c.deref-7.ensures.value in
+    let other_shown = ap emitted_aces c.deref-8.ensures.value in
     let is = equivalence all_rights in (
       λ same. is.transitive list form other here.grants
           (is.symmetric other form
-          (subst (SameGrants all_rights other) (sym (c.eq.ensures.exact.0 same)) there.grants)),
-      λ same. c.eq.ensures.exact.1
-          (here.only other_form there.normal (is.transitive list other other_form same there.grants)),
+          (subst (SameGrants all_rights other) (sym (sym shown ∙ equal.0 same ∙ other_shown)) there.grants)),
+      λ same. equal.1
+          (shown ∙ here.only other_form there.normal (is.transitive list other other_form same there.grants)
+          ∙ sym other_shown),
     )

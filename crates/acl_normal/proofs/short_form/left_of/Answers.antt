@@ -1,10 +1,11 @@
 use Rattle.std.proofs.lemmas.List.Elements.{All-push}
-use Rattle.acl_normal.proofs.Common.{Emitted, aces_in, aces_with, ap, column, principal_of, ace, refl, subst, sym, slice_index_or, take_all, ◌∙◌}
+use Rattle.acl_normal.proofs.Common.{Emitted, aces_in, aces_with, ap, arith, column, emitted_aces, map-append, emitted_ace, refl, slice_index_or, subst, sym, [], ◌++◌, ◌∙◌, ◌∷◌}
 use Rattle.acl_normal.specs.internal.emit.Short.{AreLeftOf, IsLeftOf}
-use Rattle.acl_normal.proofs.emit.Risen.{shown_end, shown_here}
-use Rattle.acl_normal.proofs.emit.ShortTurns.{left_columns, left_flags, left_key, left_named}
-use Rattle.acl_normal.proofs.rows.ByPlace.{quiet_index}
+use Rattle.acl_normal.proofs.emit.Risen.{all_places, cleared_more, cleared_past, shown_end, shown_here}
+use Rattle.acl_normal.proofs.emit.RisingKeys.{columns_left}
+use Rattle.acl_normal.proofs.emit.ShortTurns.{left_cleared, left_named}
 use Rattle.acl_normal.proofs.short_form.left_of.Goals as goal
+use Rattle.acl_normal.proofs.short_form.left_of.Goals.{then-mask-ne0+in_ok-push, else-mask-ne0}
 
 pub loop-place-preserved : goal.loop-place-preserved
 loop-place-preserved c =
@@ -12,27 +13,41 @@ loop-place-preserved c =
     let masks = c.args.masks.now in
     let place = c.loop-place.place in
     let x = c.index-aces-place.result in
+    let m = c.index-masks-place.result in
+    let whole = aces_in aces in
     let here = shown_here aces masks c.requires.masks c.loop-place-test.true c.index-aces-place.is
     c.index-masks-place.is in
-    let e : Emitted = record {
-      key = c.key.result;
-      mask = c.index-masks-place.result;
-      row = slice_index_or c.args.rows.now place 0;
-    } in
-    let left = left_named aces c.args.rows.now place x e c.requires.rows c.loop-place-test.true c.index-aces-place.is
-    c.key.ensures.principal refl in
-    record {
-      columns = left_columns (aces_with aces masks) place _ c.loop-place.left.items c.push.new.self.items e here.within
-          here.item (quiet_index _ _ c.requires.tidy.quiet here.within here.item)
-          (left_key e left ∙ ap (λ p. (p, e.key.kind)) c.key.ensures.principal
-          ∙ ap (λ k. (principal_of (ace x), k)) c.key.ensures.kind)
-          (left_flags e left) refl c.in_ok-push.ensures.items c.loop-place.invariant.columns;
-      rows = subst (AreLeftOf (aces_in aces)) (sym c.in_ok-push.ensures.items)
-          (All-push (IsLeftOf (aces_in aces)) c.loop-place.left.items e c.loop-place.invariant.rows left);
-    }
+    elim c.if-mask-ne0.branch [
+      | then-mask-ne0+in_ok-push w ↦
+          let e : Emitted = record { key = w.key.result; mask = m; row = slice_index_or c.args.rows.now place 0 } in
+          let own = left_named aces c.args.rows.now place x e c.requires.rows c.loop-place-test.true
+          c.index-aces-place.is w.key.ensures.principal refl in
+          rw w.left-is (record {
+            list = cleared_more (aces_with aces masks) here.within here.item w.if-mask-ne0.true
+                c.loop-place.invariant.list
+                (ap emitted_aces w.in_ok-push.ensures.items
+                ∙ map-append emitted_ace c.loop-place.left.items (e ∷ [])
+                ∙ ap (λ a. emitted_aces c.loop-place.left.items ++ a ∷ [])
+                (left_cleared x m e w.key.ensures.principal w.key.ensures.kind refl));
+            rows = subst (AreLeftOf whole) (sym w.in_ok-push.ensures.items)
+                (All-push (IsLeftOf whole) c.loop-place.left.items e c.loop-place.invariant.rows own);
+          })
+      | else-mask-ne0 w ↦ rw w.left-is (record {
+        list = cleared_past (aces_with aces masks) here.within (omega (arith, here.mask, w.if-mask-ne0))
+            c.loop-place.invariant.list;
+        rows = c.loop-place.invariant.rows;
+      })
+    ]
+
+pub returns-clause-list : goal.returns-clause-list
+returns-clause-list c =
+    all_places (aces_with c.args.aces.now c.args.masks.now)
+    (shown_end c.args.aces.now c.args.masks.now c.loop-place.place c.requires.masks c.loop-place-test.false)
+    c.loop-place.invariant.list
 
 pub returns-clause-columns : goal.returns-clause-columns
 returns-clause-columns c = λ b.
-    c.loop-place.invariant.columns b
-    ∙ ap (λ v. column v b) (take_all c.loop-place.place (aces_with c.args.aces.now c.args.masks.now)
-    (shown_end c.args.aces.now c.args.masks.now c.loop-place.place c.requires.masks c.loop-place-test.false))
+    ap (λ v. column v b) (all_places (aces_with c.args.aces.now c.args.masks.now)
+    (shown_end c.args.aces.now c.args.masks.now c.loop-place.place c.requires.masks c.loop-place-test.false)
+    c.loop-place.invariant.list)
+    ∙ columns_left b (aces_with c.args.aces.now c.args.masks.now) c.requires.tidy.quiet
