@@ -1,7 +1,7 @@
 -- A short list: what is left of it, turn by turn.
 use Rattle.acl_normal.proofs.Common.{Ace, AceRef, AreRowNumbers, Bool, IsAlike, IsEmission, IsNormalFormOf, IsReducedOf, ace, aces_in, is_principal_of, Emitted, Equal, Greater, IsDifference, IsMask, IsMask-lt, IsRowOf, IsStep, Less, List, Mask, Ordering, Principal, [], ace_key, ap, arith, bits_from_mask, cases_eq, column, compare_keys, cond, count_left, drop, drop_more, emitted_ace, emitted_aces, false, flags_for, get_or-set_other, get_or-set_same, has_bit, inl, inr, is_inherit_only, kind_rank, length, length-set, map-append, nat_cmp, nat_cmp_is, ordering_reverse, plain_key, principal, principal_cmp, principal_eq, principal_exact, principal_of, principal_order, refl, row_of, slice_index_or, slice_set, subst, sym, take, take_all, take_more, take_out, true, without_bits, without_principal, ℕ, ◌++◌, ◌+◌, ◌<◌, ◌∙◌, ◌∷◌, ◌≡◌, ◌≢◌, ◌≤◌, ◌⊎◌}
 use Rattle.std.specs.Ordering.{ordering_then}
-use Rattle.std.proofs.lemmas.List.{drop-set-lt, take_more_set}
+use Rattle.std.proofs.lemmas.List.{drop-set-lt, set-get_or, take_more_set}
 use Rattle.acl_perm.proofs.Sets.{some_bit}
 use Rattle.acl_normal.proofs.five_forms.Writing.{split_at}
 use Rattle.acl_normal.specs.internal.emit.Ready.{emitted}
@@ -160,6 +160,14 @@ taken_more p m old now place x y l count here is h =
           ∙ ap (λ v. take_out p m (emitted_aces v)) (sym (take_more old place x below));
       rest = drop-set-lt (place + 1) now place y (omega arith) ∙ next.1;
     }
+
+-- an ACE that has none of the rights stays as it is
+pub taken_past : (p : Principal) (m : ℕ) (old now : List Emitted) (place : ℕ) (x : Emitted) → place < length now
+    → length now ≡ length old → x ≡ slice_index_or now place x → emitted_ace x ≡ without_bits p m (emitted_ace x)
+    → HasTaken p m old now place → HasTaken p m old now (place + 1)
+taken_past p m old now place x l count here is h =
+    subst (λ v. HasTaken p m old v (place + 1)) (ap (slice_set now place) here ∙ set-get_or now place x)
+    (taken_more p m old now place x x l count here is h)
 
 -- after the last place the rights were taken from all
 pub taken_all : (p : Principal) (m : ℕ) (old now : List Emitted) (place : ℕ) → length now ≤ place

@@ -119,20 +119,22 @@ fn take_from(left: &mut [Emitted<'_>], gone: &Emitted<'_>)
     ensures rows { (xs : List Ace) → AreLeftOf xs left.old → AreLeftOf xs left.new }
 {
     for place in 0..left.len() {
-        left[place] = without(left[place], gone);
+        let item = left[place];
+        // Most ACEs are of other principals, and stay as they are.
+        if item.row == gone.row {
+            left[place] = without(item, gone);
+        }
     }
 }
 
-/// Returns what is left of one ACE without the rights of an emitted one, which both have only if they have one row.
+/// Returns what is left of one ACE without the rights of an emitted one of the same principal.
 fn without<'a>(item: Emitted<'a>, gone: &Emitted<'_>) -> Emitted<'a>
-    requires { (xs : List Ace) × IsLeftOf xs item × IsLeftOf xs gone.now }
+    requires left { (xs : List Ace) × IsLeftOf xs item × IsLeftOf xs gone.now }
+    requires same { item.row ≡ gone.now.row }
     ensures list { emitted_ace result ≡ without_bits (principal gone.now.key.principal)
         gone.now.mask.bits (emitted_ace item.entry) }
     ensures row { (xs : List Ace) → IsLeftOf xs item.entry → IsLeftOf xs result }
 {
-    if item.row != gone.row {
-        return item;
-    }
     Emitted {
         mask: item.mask.difference(gone.mask),
         ..item
