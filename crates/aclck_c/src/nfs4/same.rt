@@ -1,8 +1,7 @@
 //! Whether two lists grant everybody the same.
 ghost use Rattle.aclck_c.specs.Compare.{AreSameOrNot};
 ghost use Rattle.aclck_c.specs.Status as status;
-ghost use Rattle.std.specs.Prelude.{◌↔◌};
-ghost use Rattle.aclck_c.specs.Common.{IfErr, IfOk, IsNone, IsTrue, profile_of, ReadsTwoLists, GivesAnswer, IsTruthOf, profile_from, IsPairFailure, IsProfileOption};
+ghost use Rattle.aclck_c.specs.Common.{IfErr, IfOk, profile_of, ReadsTwoLists, GivesAnswer, IsTruthOf, profile_from, IsPairFailure, IsProfileOption};
 
 use crate::failure::Failure;
 use crate::nfs4::compare::{are_equal, second_view_of, view_of};
@@ -10,7 +9,7 @@ use crate::options::profile_from;
 use crate::out::truth_number;
 use crate::refusal::Refusal;
 use crate::status::{BAD_ARGUMENT, DONE};
-use acl_normal::{Difference, compare_views};
+use acl_normal::same_views;
 use acl_perm::Profile;
 use std::alloc::Global;
 
@@ -54,12 +53,5 @@ fn are_same(alloc: Global, first: &[u8], second: &[u8], profile: Profile) -> Res
         return Ok(true);
     }
     let other = second_view_of(second, profile)?;
-    let difference = compare_views(alloc, &list, &other)?;
-    Ok(is_none(&difference))
-}
-
-fn is_none(difference: &Option<Difference>) -> bool
-    ensures { IsTrue result ↔ IsNone difference.now }
-{
-    difference.is_none()
+    Ok(same_views(alloc, &list, &other)?)
 }

@@ -12,6 +12,5 @@ returns-then-are_equal-clause-ok c =
 
 pub returns-clause-ok : goal.returns-clause-ok
 returns-clause-ok c =
-    let same = c.in_ok-difference.ensures.same in
-    same_or_not c.is_none.result c.in_ok-list.ensures.ok c.in_ok-other.ensures.ok
-    (λ is. same.0 (c.is_none.ensures.0 is), λ all. c.is_none.ensures.1 (same.1 all))
+    same_or_not c.in_ok-same_views.field-0 c.in_ok-list.ensures.ok c.in_ok-other.ensures.ok
+    c.in_ok-same_views.ensures.answer
