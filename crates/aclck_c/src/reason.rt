@@ -184,6 +184,16 @@ static REASONS: [ReasonRow; 45] = [
     row!(ACL_FLAGS, b"AclFlags"),
 ];
 
+/// Returns the name of the reason with this number, or `None` if there is no such reason.
+pub(crate) fn reason_name(number: u32) -> Option<&'static [u8]>
+    ensures { option_map (λ name. name.now) result ≡ reason_name number }
+{
+    match row_of(reasons(), number) {
+        Some(row) => Some(row.name),
+        None => None,
+    }
+}
+
 // Returns the table, so that a clause can give its rows.
 fn reasons() -> &'static [ReasonRow]
     ensures { reasons_of result.now ≡ reasons }
@@ -195,14 +205,4 @@ fn row_of(rows: &[ReasonRow], number: u32) -> Option<&ReasonRow>
     ensures { option_copied result ≡ find (λ row. number == row.number) rows.now }
 {
     rows.iter().find(|row| number == row.number)
-}
-
-/// Returns the name of the reason with this number, or `None` if there is no such reason.
-pub(crate) fn reason_name(number: u32) -> Option<&'static [u8]>
-    ensures { option_map (λ name. name.now) result ≡ reason_name number }
-{
-    match row_of(reasons(), number) {
-        Some(row) => Some(row.name),
-        None => None,
-    }
 }
