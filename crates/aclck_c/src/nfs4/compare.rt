@@ -63,9 +63,11 @@ pub extern "C" fn aclck_compare(
 ) -> u32
     ensures input { ReadsTwoLists (profile_from options) first.now second.now
         (IsProfileOption options) status.done_or_short fault.old fault.new result }
-    ensures answer { WritesBytes (AreCompared (profile_from options) first.now second.now difference.new)
+    ensures answer { WritesBytes
+        (AreCompared (profile_from options) first.now second.now difference.new)
         out.old out.new 0 difference.new.names result }
-    ensures failed { (result ≢ status.done) → (result ≢ status.short) → difference.new ≡ not_compared }
+    ensures failed { (result ≢ status.done) → (result ≢ status.short)
+        → difference.new ≡ not_compared }
 {
     *difference = NOT_COMPARED;
     let Some(profile) = profile_from(options) else {
