@@ -1,4 +1,4 @@
-//! The normal form of a short list, without queues and without a heap, and whether two short lists have one normal form.
+//! The normal form of a short list, without queues and without a heap, and whether two short lists have one form.
 ghost use Rattle.std.specs.Prelude.{◌<◌, ◌↔◌, ◌≡◌};
 ghost use Rattle.acl_normal.specs.Common.{aces_in, aces_with, all_cleared, all_rights, AreRowNumbers, column, emitted_ace, emitted_aces, full, IfOk, IsAccepted, IsNormalFormOf, IsReducedOf, IsTidy, IsTrue, left, length, SameGrants, vec_len, ℕ};
 ghost use Rattle.acl_normal.specs.internal.Counts.{rights_together};

@@ -83,7 +83,8 @@ reduced_irreducible c names =
     only_at HasName c has.before has.after e.0 e.1 has.is names)) (reduced_settled c)
 
 -- no column with names that decides as an irreducible one has fewer keys
-pub irreducible_fewest : (c d : Column) → IsOnce c → IsIrreducible c → HaveNames d → SameVerdicts c d → length c ≤ length d
+pub irreducible_fewest : (c d : Column) → IsOnce c → IsIrreducible c → HaveNames d → SameVerdicts c d
+    → length c ≤ length d
 irreducible_fewest c d once irr names same =
     omega (arith, alike_length c (reduced d) once (reduced_once d) alike, reduced_shorter d)
   where

@@ -22,7 +22,8 @@ weight_of_masks (a ∷ aces) [] h = absurd (omega (arith, h))
 weight_of_masks (a ∷ aces) (m ∷ masks) h =
     omega (
       arith,
-      weight-cons (record { kind = a.kind; flags = a.flags.bits; mask = m.bits; who = a.who.now }) (aces_with aces masks),
+      weight-cons (record { kind = a.kind; flags = a.flags.bits; mask = m.bits; who = a.who.now })
+          (aces_with aces masks),
       sum_by-cons (λ (m : Mask). count_ones m.bits) m masks,
       weight_of_masks aces masks (omega (arith, h)),
     )

@@ -8,6 +8,7 @@ ghost use Rattle.acl_normal.specs.internal.emit.Emissions.{HasOnceColumns};
 ghost use Rattle.acl_normal.specs.internal.emit.Short.{AreFreeAfter, AreLeftOf, IsFirstLeft, IsLeftOf, lesser_of};
 
 use crate::emit::emission::Emitted;
+use crate::normal_form::SHORT;
 use crate::reduce::needless::{no_later, noted, opposite};
 use acl_perm::{Kind, Mask};
 use std::alloc::{AllocError, Global};
@@ -23,7 +24,8 @@ pub(crate) fn drain_short<'a>(
     requires rows { (xs : List Ace) × AreLeftOf xs left.old }
     ensures { IfOk result (λ v. IsEmission (emitted_aces left.old) (emitted_aces v.items)) }
 {
-    let mut out = Vec::with_capacity(alloc, left.len())?;
+    // Rights of one ACE may be emitted at several places, so there may be more ACEs than are left.
+    let mut out = Vec::with_capacity(alloc, SHORT)?;
     // The label names the loop for its proof.
     'emitted: while let Some(next) = first_of(left) {
         out.push(next)?;
