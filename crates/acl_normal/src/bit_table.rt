@@ -63,6 +63,7 @@ pub fn table(alloc: Global, list: &Acl, right: Mask) -> Result<Vec<Row>, AllocEr
 }
 
 /// Returns the rows of a right of the list of a view, as [`table`] does of an owned list. It does not copy the list.
+/// Fails if memory runs out.
 pub fn table_of_view(alloc: Global, list: &AclView<'_>, right: Mask) -> Result<Vec<Row>, AllocError>
     ensures rows { IfOk result (λ rows. (b : ℕ) → IsLowest b right.bits
         → IsTable b list.now rows.items) }

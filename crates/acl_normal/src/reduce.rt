@@ -30,6 +30,7 @@ pub fn needed(alloc: Global, list: &Acl) -> Result<Vec<Mask>, AllocError>
 }
 
 /// Returns the needed rights of the list of a view, as [`needed`] does of an owned list. It does not copy the list.
+/// Fails if memory runs out.
 pub fn needed_of_view(alloc: Global, list: &AclView<'_>) -> Result<Vec<Mask>, AllocError>
     ensures needed { IfOk result (λ masks.
         AreNeeded list.now (map (λ m. m.bits) masks.items)) }

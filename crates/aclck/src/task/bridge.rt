@@ -9,9 +9,10 @@ use acl_perm::{Sink, Source};
 use acl_posix::Names;
 use std::alloc::Global;
 
-/// Writes the XDR of the NFSv4 list of the access ACL of the file that the input spells (this library's own,
-/// over POSIX.1e draft 17, section 23, and RFC 8881, section 6.2.1). The default ACL does not change the list, but if
-/// it is invalid, the input is refused. Nothing is written before the list is ready.
+/// Writes the XDR of the NFSv4 list of the access ACL of the file that the input spells (this library's own, over
+/// POSIX.1e draft 17, section 23, and RFC 8881, section 6.2.1). The default ACL does not change the list, but if it is
+/// invalid, the input is refused. Nothing is written before the list is ready. Fails if the input is refused, if a read
+/// or a write fails, or if memory runs out.
 pub fn run_bridge<S: Source, K: Sink>(
     alloc: Global,
     source: &mut S,

@@ -10,7 +10,7 @@ use std::alloc::Global;
 
 /// Writes the canonical text of the file that the input spells, with the mask of its access ACL calculated, and added
 /// if there is none (POSIX.1e draft 17, section 23.4); the default ACL stays. Nothing is written before the input is
-/// accepted.
+/// accepted. Fails if the input is refused, if a read or a write fails, or if memory runs out.
 pub fn run_calc_mask<S: Source, K: Sink>(
     alloc: Global,
     source: &mut S,

@@ -93,7 +93,8 @@ fn mask_value(word: &str) -> Option<Mask>
 
 /// Writes whether the list that the whole input spells grants the requester of the task the mask on its object (RFC
 /// 8881, section 6.2.1): `granted`, or `denied` and No. Nothing is written before the input is accepted as a list of
-/// the profile. Nothing is read after a refusal.
+/// the profile. Nothing is read after a refusal. Fails if the input is refused, if a read or a write fails, or if
+/// memory runs out.
 pub fn run_check_nfs<S: Source, K: Sink>(
     alloc: Global,
     source: &mut S,

@@ -128,7 +128,8 @@ fn count(bytes: &[u8], letter: u8) -> usize
 
 /// Writes whether the access ACL of the file that the input spells grants the requester of the task the permissions on
 /// its object (acl(5), "ACCESS CHECK ALGORITHM"; POSIX.1e draft 17, section 23): `granted`, or `denied` and No. Nothing
-/// is written before the whole input is accepted, with its default part.
+/// is written before the whole input is accepted, with its default part. Fails if the input is refused, if a read or a
+/// write fails, or if memory runs out.
 pub fn run_check_posix<S: Source, K: Sink>(
     alloc: Global,
     source: &mut S,

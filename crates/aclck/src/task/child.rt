@@ -44,7 +44,8 @@ fn kind_value(word: &str) -> Option<ChildKind>
 
 /// Writes the bytes that spell the list that a new file or directory gets from the list of its directory, which the
 /// whole input spells (this library's own, in the manner of RFC 8881, section 6.4). Nothing is written before the input
-/// is accepted as a list of the profile. Nothing is read after a refusal.
+/// is accepted as a list of the profile. Nothing is read after a refusal. Fails if the input is refused, if a read or a
+/// write fails, or if memory runs out.
 pub fn run_child<S: Source, K: Sink>(
     alloc: Global,
     source: &mut S,

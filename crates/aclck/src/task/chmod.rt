@@ -32,7 +32,7 @@ pub(crate) fn read(alloc: Global, matches: &ArgMatches<'_>) -> Result<Chmod, Lin
 
 /// Writes the canonical text of the file that the input spells, with the mode of its access ACL set (acl(5),
 /// "CORRESPONDENCE BETWEEN ACL ENTRIES AND FILE PERMISSION BITS"); the default ACL stays. Nothing is written before the
-/// input is accepted.
+/// input is accepted. Fails if the input is refused, if a read or a write fails, or if memory runs out.
 pub fn run_chmod<S: Source, K: Sink>(
     alloc: Global,
     source: &mut S,

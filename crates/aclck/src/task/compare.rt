@@ -18,7 +18,8 @@ use std::alloc::{AllocError, Global};
 /// Writes whether the two lists that the whole input spells, one after the other, grant the same (this library's own,
 /// over RFC 8881, section 6.2.1): `same`; or the first small situation in which they differ, the lowest right on which
 /// they differ there, what both answer, and No. A fault counts from the start of the input. Nothing is written before
-/// the input is accepted as lists of the profile. Nothing is read after a refusal.
+/// the input is accepted as lists of the profile. Nothing is read after a refusal. Fails if the input is refused, if a
+/// read or a write fails, or if memory runs out.
 pub fn run_compare<S: Source, K: Sink>(
     alloc: Global,
     source: &mut S,

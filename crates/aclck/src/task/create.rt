@@ -33,7 +33,8 @@ pub(crate) fn read(alloc: Global, matches: &ArgMatches<'_>) -> Result<Create, Li
 
 /// Writes the canonical text of a new object in the directory that the input spells: a file, or a directory if `dir` of
 /// the task is true (acl(5), "OBJECT CREATION AND DEFAULT ACLs"). The umask is ignored if the directory has a default
-/// ACL. Nothing is written before the input is accepted.
+/// ACL. Nothing is written before the input is accepted. Fails if the input is refused, if a read or a write fails, or
+/// if memory runs out.
 pub fn run_create<S: Source, K: Sink>(
     alloc: Global,
     source: &mut S,

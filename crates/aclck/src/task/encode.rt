@@ -11,7 +11,7 @@ use std::alloc::Global;
 
 /// Reads the whole input as the text of a list, and writes the bytes that spell the list (RFC 4506 over RFC 8881,
 /// section 6.2.1; the text is this library's own). Nothing is written before the input is accepted as the text of a
-/// list of the profile.
+/// list of the profile. Fails if the input is refused, if a read or a write fails, or if memory runs out.
 pub fn run_encode<S: Source, K: Sink>(
     alloc: Global,
     source: &mut S,

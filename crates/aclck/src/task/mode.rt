@@ -11,6 +11,7 @@ use std::alloc::Global;
 
 /// Writes the mode of the list that the whole input spells (RFC 8881, section 6.3.2), as three octal digits and a line
 /// feed. Nothing is written before the input is accepted as a list of the profile. Nothing is read after a refusal.
+/// Fails if the input is refused, if a read or a write fails, or if memory runs out.
 pub fn run_mode<S: Source, K: Sink>(
     alloc: Global,
     source: &mut S,

@@ -48,7 +48,8 @@ pub(crate) fn run<S: Source, K: Sink>(
 
 /// Writes the bytes that spell the normal form of the list that the whole input spells: the one list that grants the
 /// same in every situation and is normal (this library's own, over RFC 8881, section 6.2.1). Nothing is written before
-/// the input is accepted as a list of the profile. Nothing is read after a refusal.
+/// the input is accepted as a list of the profile. Nothing is read after a refusal. Fails if the input is refused, if a
+/// read or a write fails, or if memory runs out.
 pub fn run_normalize<S: Source, K: Sink>(
     alloc: Global,
     source: &mut S,
@@ -66,7 +67,8 @@ pub fn run_normalize<S: Source, K: Sink>(
 /// Writes the bytes that spell the five normal forms of the list that the whole input spells, one after the other: of
 /// the list itself, of a new file, of a new directory, and of a new file and a new directory in that new directory
 /// (this library's own, over RFC 8881, section 6.2.1). Nothing is written before the input is accepted as a list of the
-/// profile and all five are made. Nothing is read after a refusal.
+/// profile and all five are made. Nothing is read after a refusal. Fails if the input is refused, if a read or a write
+/// fails, or if memory runs out.
 pub fn run_normalize_inherit<S: Source, K: Sink>(
     alloc: Global,
     source: &mut S,

@@ -8,7 +8,8 @@ use acl_perm::{Profile, Sink, Source};
 use std::alloc::Global;
 
 /// Writes the text of the list that the whole input spells (this library's own, over RFC 8881, section 6.2.1). Nothing
-/// is written before the input is accepted as a list of the profile. Nothing is read after a refusal.
+/// is written before the input is accepted as a list of the profile. Nothing is read after a refusal. Fails if the
+/// input is refused, if a read or a write fails, or if memory runs out.
 pub fn run_show_nfs<S: Source, K: Sink>(
     alloc: Global,
     source: &mut S,

@@ -45,7 +45,8 @@ fn form_value(word: &str) -> Option<Form>
 }
 
 /// Writes the text in a form of the file that the input spells (acl(5), "LONG TEXT FORM", "SHORT TEXT FORM"), with a
-/// line feed after the short text. Nothing is written before the input is accepted.
+/// line feed after the short text. Nothing is written before the input is accepted. Fails if the input is refused, if a
+/// read or a write fails, or if memory runs out.
 pub fn run_show_posix<S: Source, K: Sink>(
     alloc: Global,
     source: &mut S,

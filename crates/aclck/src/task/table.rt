@@ -52,7 +52,7 @@ fn right_named(word: &[u8]) -> Option<Mask>
 /// Writes the rows of one right of the list that the whole input spells: one line for each ACE of its normal form that
 /// has the right, in order, with the place in the given list from which it comes (this library's own, over RFC 8881,
 /// section 6.2.1). Nothing is written before the input is accepted as a list of the profile. Nothing is read after a
-/// refusal.
+/// refusal. Fails if the input is refused, if a read or a write fails, or if memory runs out.
 pub fn run_table<S: Source, K: Sink>(
     alloc: Global,
     source: &mut S,
