@@ -5,7 +5,8 @@ use Rattle.acl_normal.proofs.comparison.TableFacts.{scatter_more, scatter_start,
 use Rattle.acl_normal.specs.internal.comparison.PlaceTables.{IsScattered}
 
 pub returns-then-not-wants : goal.returns-then-not-wants
-returns-then-not-wants c = unwanted _ _ _ _ _ _ (sym c.if-not-wants.ensures) (c.in_ok-table.ensures.items_if_clones_equal (λ y e. e)) refl
+returns-then-not-wants c = unwanted _ _ _ _ _ _ (sym c.if-not-wants.ensures)
+    (c.in_ok-table.ensures.items_if_clones_equal (λ y e. e)) refl
 
 pub loop-placing-init : goal.loop-placing-init
 loop-placing-init c = scatter_start _ _ _ _ _ (c.in_ok-table.ensures.items_if_clones_equal (λ y e. e)) refl
