@@ -151,20 +151,6 @@ fn perform_at<'a, 'w: 'a, S: Source, K: Sink>(
         K.contents K.failure_count out.old out.new result }
 {
     let task = Task::read(alloc, name, matches, words)?;
-    run_task(alloc, &task, source, out)
-}
-
-// Runs a command. A fault of the run is a fault of the command.
-fn run_task<S: Source, K: Sink>(
-    alloc: Global,
-    task: &Task<'_>,
-    source: &mut S,
-    out: &mut K,
-) -> Result<Outcome, CommandFault>
-    ensures { RunsTask (Some (task_held task.now))
-        S.remaining S.failure_count source.old source.new
-        K.contents K.failure_count out.old out.new result }
-{
     Ok(task.run(alloc, source, out)?)
 }
 
