@@ -119,7 +119,7 @@ fn perform<'a, S: Source, K: Sink>(
     perform_named(alloc, name, &matches, source, out)
 }
 
-// Collects the words outside options, and runs the command with them.
+// Reads all values of a command before it runs the command, so that no input is read if one of them is bad.
 fn perform_named<S: Source, K: Sink>(
     alloc: Global,
     name: Name,
@@ -132,25 +132,8 @@ fn perform_named<S: Source, K: Sink>(
         S.remaining S.failure_count source.old source.new
         K.contents K.failure_count out.old out.new result }
 {
-    let texts = words_in(alloc, matches)?;
-    perform_at(alloc, name, matches, texts.as_slice(), source, out)
-}
-
-// Reads all values of a command before it runs the command, so that no input is read if one of them is bad. `words`
-// are the words outside options.
-fn perform_at<'a, 'w: 'a, S: Source, K: Sink>(
-    alloc: Global,
-    name: Name,
-    matches: &ArgMatches<'w>,
-    words: &'a [&'a [u8]],
-    source: &mut S,
-    out: &mut K,
-) -> Result<Outcome, CommandFault>
-    ensures { RunsTask (task_in name (rows_in matches.now) (texts words.entry.now))
-        S.remaining S.failure_count source.old source.new
-        K.contents K.failure_count out.old out.new result }
-{
-    let task = Task::read(alloc, name, matches, words)?;
+    let words = words_in(alloc, matches)?;
+    let task = Task::read(alloc, name, matches, &words)?;
     Ok(task.run(alloc, source, out)?)
 }
 
