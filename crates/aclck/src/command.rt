@@ -109,12 +109,8 @@ fn perform<'a, S: Source, K: Sink>(
     ensures unnamed { is_command (texts words.entry.now) ≡ false
         → result ≡ Err CommandFault.Usage }
 {
-    let Some(word) = words.first() else {
-        return Err(CommandFault::Usage);
-    };
-    let Some(name) = Name::of(word) else {
-        return Err(CommandFault::Usage);
-    };
+    let named = words.first().and_then(|word| Name::of(word));
+    let name = named.ok_or(CommandFault::Usage)?;
     let matches = name.matches(alloc, words)?;
     perform_named(alloc, name, &matches, source, out)
 }
