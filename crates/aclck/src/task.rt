@@ -1,5 +1,5 @@
 //! The commands: one row per command in each table, and one file per command.
-ghost use Rattle.std.specs.Prelude.{◌≡◌, IfErr, IfOk, OnOk, false, find, map, true};
+ghost use Rattle.std.specs.Prelude.{◌≡◌, IfErr, IfOk, OnOk, false, find, map, option_copied, true};
 ghost use Rattle.std.specs.Str.{bytes_eq};
 ghost use Rattle.clap.specs.Words.{app_of};
 ghost use Rattle.aclck.specs.Run.{Runs};
@@ -87,7 +87,7 @@ impl Name {
     pub(crate) fn of(word: &str) -> Option<Name>
         ensures { result ≡ command_named word.now }
     {
-        find_name(&NAMES, word)
+        find_name(&NAMES, word).copied()
     }
 
     /// Returns the values that the command takes from the words, whose first is its own name. Fails with `Usage` if it
@@ -112,12 +112,6 @@ impl Name {
         ensures sound { is_sound (definition_of self).terms ≡ true }
     {
         command_from(alloc, self.word(), self.arguments())
-    }
-
-    fn is_named(self, word: &str) -> bool
-        ensures { result ≡ bytes_eq (command_word self) word.now }
-    {
-        self.word() == word
     }
 
     // The word that names the command.
@@ -167,15 +161,10 @@ impl Name {
 }
 
 // Returns the first of some commands that has this word.
-fn find_name(names: &[Name], word: &str) -> Option<Name>
-    ensures { result ≡ find (λ n. bytes_eq (command_word n) word.now) names.now }
+fn find_name<'a>(names: &'a [Name], word: &str) -> Option<&'a Name>
+    ensures { option_copied result ≡ find (λ n. bytes_eq (command_word n) word.now) names.now }
 {
-    for name in names {
-        if name.is_named(word) {
-            return Some(*name);
-        }
-    }
-    None
+    names.iter().find(|name| name.word() == word)
 }
 
 /// A command with its values, ready to run.
