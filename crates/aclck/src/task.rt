@@ -1,7 +1,6 @@
 //! The commands: one row per command in each table, and one file per command.
 ghost use Rattle.std.specs.Prelude.{◌≡◌, IfErr, IfOk, OnOk, false, find, map, option_copied, true};
 ghost use Rattle.std.specs.Str.{bytes_eq};
-ghost use Rattle.clap.specs.Words.{app_of};
 ghost use Rattle.aclck.specs.Run.{Runs};
 ghost use Rattle.aclck.specs.Line.{ReadsValues, is_taken, rows_at, rows_in, texts};
 ghost use Rattle.aclck.specs.internal.Held.{is_sound, term};
@@ -35,14 +34,14 @@ use check_nfs::run_check_nfs;
 use check_posix::run_check_posix;
 use child::run_child;
 use chmod::run_chmod;
-use clap::{ArgMatches, Command};
+use clap::ArgMatches;
 use compare::run_compare;
 use create::run_create;
 use encode::run_encode;
 use mode::run_mode;
 use show_nfs::run_show_nfs;
 use show_posix::run_show_posix;
-use std::alloc::{AllocError, Global};
+use std::alloc::Global;
 use table::run_table;
 use values::{BitTable, CheckNfs, CheckPosix, Child, Chmod, Create, Normalize, ShowPosix};
 
@@ -103,15 +102,8 @@ impl Name {
         ensures usage { IfErr result (λ e. e ≡ LineFault.Usage
             → is_taken (app_named self) (texts words.entry.now) ≡ false) }
     {
-        let command = self.command(alloc)?;
+        let command = command_from(alloc, self.word(), self.arguments())?;
         parse(command, words)
-    }
-
-    fn command<'a>(self, alloc: Global) -> Result<Command<'a>, AllocError>
-        ensures app { IfOk result (λ c. app_of c ≡ app_named self) }
-        ensures sound { is_sound (definition_of self).terms ≡ true }
-    {
-        command_from(alloc, self.word(), self.arguments())
     }
 
     // The word that names the command.
