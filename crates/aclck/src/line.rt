@@ -2,7 +2,7 @@
 ghost use Rattle.std.specs.Prelude.{◌≡◌, ◌≢◌, [], IfErr, IfOk, OnOk, codes, false, map, option_map, true, unwrap_or};
 ghost use Rattle.std.specs.Option.{option_map_or};
 ghost use Rattle.std.specs.Str.{bytes_eq};
-ghost use Rattle.clap.specs.Words.{app_of, is_simple_and_free, kind_of, rule_of, with_rule};
+ghost use Rattle.clap.specs.Words.{app_of, is_simple_and_free, kind_of, rule_of};
 ghost use Rattle.aclck.specs.Line.{app_from, is_given, is_taken, plain_app, rows_at, rows_in, rule_from, term_id, text_if_any, texts, value_of, words_of};
 ghost use Rattle.aclck.specs.internal.Held.{term};
 ghost use Rattle.aclck.specs.declared.line.LineFault.TheVariants.{Memory};
@@ -79,7 +79,7 @@ pub(crate) fn command_from<'a>(
 {
     let mut command = plain_command(alloc, name);
     for argument in table {
-        command = with_argument(alloc, command, *argument)?;
+        command = command.arg(arg_of(alloc, *argument))?;
     }
     Ok(command)
 }
@@ -89,17 +89,6 @@ fn plain_command<'a>(alloc: Global, name: &'a str) -> Command<'a>
     ensures { app_of result ≡ plain_app name.entry.now }
 {
     Command::new(alloc, name).disable_help_flag(true)
-}
-
-fn with_argument<'a>(
-    alloc: Global,
-    command: Command<'a>,
-    argument: Argument,
-) -> Result<Command<'a>, AllocError>
-    ensures { IfOk result (λ c.
-        app_of c ≡ with_rule (app_of command.entry) (rule_from (term argument))) }
-{
-    command.arg(arg_of(alloc, argument))
 }
 
 fn arg_of<'a>(alloc: Global, argument: Argument) -> Arg<'a>
@@ -150,17 +139,7 @@ fn line_fault(error: &clap::Error) -> LineFault
 pub(crate) fn is_set(matches: &ArgMatches<'_>, flag: Argument) -> bool
     ensures { result ≡ is_given (term flag) (rows_in matches.now) }
 {
-    is_true(text_of(matches, flag))
-}
-
-fn is_true(text: Option<&str>) -> bool
-    ensures { result ≡ option_map_or (λ t. bytes_eq t (codes "true"))
-        (text_if_any text.entry) false }
-{
-    match text {
-        Some(text) => text == "true",
-        None => false,
-    }
+    text_of(matches, flag).is_some_and(|text| text == "true")
 }
 
 /// Returns the first value of an option: its default value if it is absent, and `None` if it has no default.

@@ -1,4 +1,5 @@
-use Rattle.std.proofs.Common.{◌∙◌}
+use Rattle.std.proofs.Common.{ap, ◌∙◌}
+use Rattle.clap.specs.Words.{app_of, with_rule}
 use Rattle.aclck.proofs.LineLemmas.{no_terms, one_more_argument}
 use Rattle.aclck.proofs.line.command_from.Goals as goal
 
@@ -8,4 +9,5 @@ loop-argument-init c = c.plain_command-command.ensures ∙ no_terms _
 pub loop-argument-preserved : goal.loop-argument-preserved
 loop-argument-preserved c =
     one_more_argument c.args.name.now c.args.table.now c.loop-argument.argument-index _ c.loop-argument.invariant
-    c.in_ok-command.ensures c.loop-argument-test.true
+    (c.in_ok-command.ensures.shape c.arg_of.ensures.local
+    ∙ ap (with_rule (app_of c.loop-argument.command)) c.arg_of.ensures.rule) c.loop-argument-test.true
