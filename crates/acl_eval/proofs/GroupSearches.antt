@@ -35,9 +35,11 @@ any_around p names at d lt =
 half_below : (n : ℕ) → 0 < n → n / 2 < n
 half_below n some = omega arith
 
+-- the front of a list of at most n + 1 names has at most n
 front_shorter : (names : List (List ℕ)) (n : ℕ) → length names ≤ suc n → length (take (length names / 2) names) ≤ n
 front_shorter names n le = omega (arith, length-take (length names / 2) names)
 
+-- its rear, behind the middle, has at most n as well
 rear_shorter : (names : List (List ℕ)) (n : ℕ) → length names ≤ suc n
     → length (drop (length names / 2 + 1) names) ≤ n
 rear_shorter names n le = omega (arith, length-drop (length names / 2 + 1) names)
@@ -54,6 +56,7 @@ by_order Greater front rear = rear
 same_before : (name middle other : List ℕ) → bytes_eq name other ≡ true → is_before other middle ≡ is_before name middle
 same_before name middle other e = ap (λ (n : List ℕ). is_before n middle) (sym ((bytes_eq-Decides name other).0 e))
 
+-- a name comes after another exactly if a name equal to it does
 same_after : (name middle other : List ℕ) → bytes_eq name other ≡ true → is_before middle other ≡ is_before middle name
 same_after name middle other e = ap (λ (n : List ℕ). is_before middle n) (sym ((bytes_eq-Decides name other).0 e))
 
@@ -235,7 +238,7 @@ counted_among Said names name h = found_among (length names) names name h
 by_bytes : IsStrictWeakOrder (λ (x y : List ℕ). is_lt (slice_cmp nat_cmp x y))
 by_bytes = ranks_by nat_list_cmp_total (λ (x : List ℕ). x)
 
--- the front and the rear of names in order are in order
+-- the front of names in order is in order
 front_rises : (names : List (List ℕ)) (at : ℕ) → AreRisingNames names → AreRisingNames (take at names)
 front_rises names at up k d low lt =
     let within : k + 1 < length names = omega (arith, lt, length-take at names) in
@@ -243,6 +246,7 @@ front_rises names at up k d low lt =
     rw (get_or-take at names (k + 1) d small, get_or-take at names k d (omega (arith, small)))
     (up k d (omega arith) within)
 
+-- the rear of names in order is in order
 rear_rises : (names : List (List ℕ)) (at : ℕ) → AreRisingNames names → AreRisingNames (drop at names)
 rear_rises names at up k d low lt =
     let within : at + k + 1 < length names = omega (arith, lt, length-drop at names) in

@@ -32,6 +32,7 @@ IsFlagOf a group = ⊤
 IsFlagOf a (group_named name) = has_bit a.flags identifier_group ≡ true
 IsFlagOf a everyone = ⊤
 
+-- each ACE has this flag, or lacks it, as its principal wants
 flag_of : (a : Ace) → IsFlagOf a (principal_of a)
 flag_of a = by (bytes_eq a.who owner_name) (bytes_eq a.who group_name) (bytes_eq a.who everyone_name)
     (has_bit a.flags identifier_group) refl refl refl refl

@@ -112,6 +112,7 @@ group_out shape g other s (group v) =
 group_out shape g other s mask = refl
 group_out shape g other s other = refl
 
+-- what may match when a user or a group is taken out: this one as well, if more requesters come to the entry
 out_matches : (shape : EntryShape) (name entry : Tag) → is_named name ≡ true → is_shared entry ≡ true → (t : Tag)
     → may_match (taken_out name shape) entry t
     ≡ (may_match shape entry t || (is_asked_more entry name && eq_by_cmp tag_cmp t name))
@@ -145,7 +146,7 @@ same_answer shape name entry keys n s more =
 
 -- ---- places
 
--- the test of order at 0, and at the numbers that follow two numbers
+-- no number is below 0
 none_below : (n : ℕ) → nat_lt n 0 ≡ false
 none_below n = by (nat_lt n 0) refl
   where
@@ -153,6 +154,7 @@ none_below n = by (nat_lt n 0) refl
     by true e = let lt = ltb-true n 0 e in absurd (omega (arith, lt))
     by false e = refl
 
+-- 0 is below each number that follows another
 zero_below : (n : ℕ) → nat_lt 0 (1 + n) ≡ true
 zero_below n = by (nat_lt 0 (1 + n)) refl
   where
@@ -160,6 +162,7 @@ zero_below n = by (nat_lt 0 (1 + n)) refl
     by true e = refl
     by false e = let le = ltb-false 0 (1 + n) e in absurd (omega (arith, le))
 
+-- two numbers are in the order of those that follow them
 next_below : (m n : ℕ) → nat_lt (1 + m) (1 + n) ≡ nat_lt m n
 next_below m n = by (nat_lt (1 + m) (1 + n)) (nat_lt m n) refl refl
   where
@@ -251,6 +254,7 @@ record AreAllBefore (decided denied : Places) : Type 0 where
   of_append : not (nat_lt denied.append decided.append) ≡ true
   of_execute : not (nat_lt denied.execute decided.execute) ≡ true
 
+-- all four parts hold if the test of places passes
 all_before : (decided denied : Places) → are_before decided denied ≡ true → AreAllBefore decided denied
 all_before decided denied h =
     let one = and_true (not (nat_lt denied.read decided.read)) _ h in

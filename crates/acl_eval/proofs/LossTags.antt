@@ -110,6 +110,7 @@ record IsOneOf (wanted : Wanted) (E : Entries) (t : Tag) (fact : JudgedTag → T
   tag : tag_of one.tag ≡ t
   has : fact one
 
+-- a tag that is among those of some judged tags is that of one of them
 one_of : (wanted : Wanted) (E : Entries) (t : Tag) (fact : JudgedTag → Type 0) (tags : List JudgedTag)
     → AllByRecursion (IsJudgedTag wanted E) tags → AllByRecursion fact tags
     → list_any (eq_by_cmp tag_cmp t) (map (λ one. tag_of one.tag) tags) ≡ true → IsOneOf wanted E t fact
@@ -123,6 +124,7 @@ one_of wanted E t fact (x ∷ tags) judged all h =
 
 -- ---- the tests
 
+-- two judged tags pass the test if the check denies by the second rather than grant by the first
 passes : (wanted : Wanted) (E : Entries) (unused : Unused) (one denied : JudgedTag) → IsJudgedTag wanted E one
     → IsJudgedTag wanted E denied → IsPassed (search_of wanted E unused) (tag_of one.tag) (tag_of denied.tag)
     → is_passed one denied ≡ true
@@ -141,6 +143,7 @@ passes wanted E unused one denied j d (inr same) =
 all_three : (x y z : Bool) → x ≡ false → y ≡ true → z ≡ false → (not x && (y && not z)) ≡ true
 all_three x y z p q r = rw (p, q, r) refl
 
+-- a test that none of three holds passes if none does
 not_two : (x y z : Bool) → x ≡ false → y ≡ false → z ≡ false → (not x && (not y && not z)) ≡ true
 not_two x y z p q r = rw (p, q, r) refl
 

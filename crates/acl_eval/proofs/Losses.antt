@@ -155,6 +155,7 @@ record IsShared (shape : EntryShape) (object : Object) (requester : Requester) :
   there : is_in_shape shape entry ≡ true
   looks : looks_at shape object requester entry ≡ true
 
+-- it does for each requester who is not the owner and has no USER entry
 some_shared : (shape : EntryShape) (object : Object) (requester : Requester) → is_in_class shape object requester ≡ true
     → IsShared shape object requester
 some_shared shape object requester class = elim (cases_Bool (is_member object.group requester.groups)) [
@@ -382,7 +383,7 @@ may_be_out shape (group g) e n s =
 may_be_out shape mask e n s = absurd (false≢true n)
 may_be_out shape other e n s = absurd (false≢true n)
 
--- it is neither the owning group nor a group of the rest
+-- a user or a group is not GROUP_OBJ
 pub not_owning : (name : Tag) → is_named name ≡ true → eq_by_cmp tag_cmp group_obj name ≡ false
 not_owning user_obj n = absurd (false≢true n)
 not_owning (user u) n = refl
@@ -391,6 +392,7 @@ not_owning (group g) n = refl
 not_owning mask n = absurd (false≢true n)
 not_owning other n = absurd (false≢true n)
 
+-- a group of the rest is not the one that was taken out
 not_rest : (shape : EntryShape) (name : Tag) (h : ℕ) → is_member h (taken_out name shape).groups ≡ true
     → eq_by_cmp tag_cmp (group h) name ≡ false
 not_rest shape name h there = elim (cases_Bool (eq_by_cmp tag_cmp (group h) name)) [
@@ -442,6 +444,7 @@ had : (list : List Ace) (t : EntryShape) (e : Tag) (object : Object) (requester 
     → AlwaysHas list t e want
 had list t e object requester want one g = subst (λ (x : Tag). AlwaysHas list t x want) (one g.entry g.looks) g.has
 
+-- if nothing is lost without a name, the shared entries keep what they had, and have what its entry had
 entries_kept : (list : List Ace) (shape : EntryShape) (name : Tag) → IsNameOf shape name
     → LosesNothing list shape (taken_out name shape) → KeepsEntries list shape name
 entries_kept list shape name is loses e shared there want few has =

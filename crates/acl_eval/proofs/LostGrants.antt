@@ -107,6 +107,7 @@ record IsSomeEntry (test : Tag → Bool) (es : List (Tag × ℕ)) (fact : Tag �
   has : fact tag
   again : (one : Tag → Bool) → one tag ≡ true → list_any (λ entry. one entry.0) es ≡ true
 
+-- if some entry passes the test, there is such an entry
 some_entry : (test : Tag → Bool) (es : List (Tag × ℕ)) (has : Tag → Type 0)
     → AllByRecursion (λ entry. has entry.0) es → list_any (λ entry. test entry.0) es ≡ true → IsSomeEntry test es has
 some_entry test [] has all h = absurd (false≢true h)
@@ -179,6 +180,7 @@ group_meets object requester (group id) h = h
 group_meets object requester mask h = absurd (false≢true h)
 group_meets object requester other h = refl
 
+-- of the entries of groups with these numbers, only such match in the second situation as match in the first
 matches_within : (used : List ℕ) (object : Object) (requester : Requester) (object' : Object) (requester' : Requester)
     → IsWithin used object requester object' requester' → (t : Tag) → is_member (qualifier t) used ≡ true
     → tag_matches object'.group requester'.groups t ≡ true → tag_matches object.group requester.groups t ≡ true
@@ -224,7 +226,7 @@ less_both true true c f h = h
 less_both true false c f h = absurd (false≢true (f refl))
 less_both false b c f h = refl
 
--- facts about the second situation
+-- the second requester is not the owner, if the first is not
 not_owner : (E : Entries) (used : List ℕ) (object : Object) (requester : Requester) (object' : Object)
     (requester' : Requester) → is_member (qualifier user_obj) used ≡ true
     → IsWithin used object requester object' requester' → (requester.user == object.user) ≡ false
@@ -232,6 +234,7 @@ not_owner : (E : Entries) (used : List ℕ) (object : Object) (requester : Reque
 not_owner E used object requester object' requester' u w h =
     less_false (requester'.user == object'.user) (requester.user == object.user) (w user_obj u) h
 
+-- the second requester has no USER entry, if the first has none
 no_entry : (E : Entries) (used : List ℕ) (object : Object) (requester : Requester) (object' : Object)
     (requester' : Requester) → ((t : Tag) → fin.contains_key E t ≡ true → is_member (qualifier t) used ≡ true)
     → IsWithin used object requester object' requester' → fin.contains_key E (user requester.user) ≡ false
@@ -288,6 +291,7 @@ few_level E id = by (is_some (fin.get E (group id)))
     by true = omega arith
     by false = omega arith
 
+-- an entry that matches by a group decides at the level of groups
 level_class : (E : Entries) (og : ℕ) (gs : List ℕ) (t : Tag) → tag_matches og gs t ≡ true → is_some (fin.get E t) ≡ true
     → level E t ≡ 1
 level_class E og gs user_obj m there = absurd (false≢true m)
@@ -313,6 +317,7 @@ lacks_class E og want gs other whole m h = absurd (false≢true m)
 abbrev IsPassedBy : Entries → ℕ → Tag → Tag → Type 0
 IsPassedBy E want t c = (level E t < level E c) ⊎ ((level E t ≡ level E c) × (lacks E want t ≡ true))
 
+-- so it is for each tag and USER_OBJ, if USER_OBJ lacks the permission
 passed_owner : (E : Entries) (want : ℕ) (t : Tag) → entry_contains E user_obj want ≡ false
     → IsPassedBy E want t user_obj
 passed_owner E want user_obj h = inr (refl, ap (λ (b : Bool). not b) h)

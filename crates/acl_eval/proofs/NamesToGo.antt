@@ -115,6 +115,7 @@ record AreAnswered (columns : Columns) (shape : EntryShape) (t : Tag) (perm : �
   of_append : has_bit perm write ≡ true → answer shape t columns.append.items ≡ true
   of_execute : has_bit perm execute ≡ true → answer shape t columns.execute.items ≡ true
 
+-- the pass over the columns of a list answers so for an entry that always has these permissions
 answers_of : (list : List Ace) (columns : Columns) (shape : EntryShape) (t : Tag) (perm : ℕ) → AreColumns list columns
     → HasIds shape → size_of shape ≤ most_names → is_in_shape shape t ≡ true → IsPerm perm
     → AlwaysHas list shape t perm → AreAnswered columns shape t perm
@@ -136,6 +137,7 @@ record IsStanding (name entry : JudgedEntry) : Type 0 where
   part : contains entry.perm.bits name.perm.bits ≡ true
   before : is_asked_more (tag_of entry.tag) (tag_of name.tag) ≡ true → are_before entry.decided name.denied ≡ true
 
+-- so stands a shared entry that passes the test and is not that of the name
 standing : (name entry : JudgedEntry) → stands_without name entry ≡ true → is_shared (tag_of entry.tag) ≡ true
     → eq_by_cmp tag_cmp (tag_of entry.tag) (tag_of name.tag) ≡ false → IsStanding name entry
 standing name entry h s d =

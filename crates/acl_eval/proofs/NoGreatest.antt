@@ -70,19 +70,23 @@ rule_first k t p list object requester b some is named asked =
 abbrev Rule : Type 0
 Rule = Kind × (Tag × ℕ)
 
+-- the ACEs of rules, one after the other
 abbrev rules_list : List Rule → List Ace
 rules_list [] = []
 rules_list ((k, (t, p)) ∷ rules) = ace_of k t p ++ rules_list rules
 
+-- the keys of a right: the tags and kinds of the rules that have it, in order
 abbrev rules_column : List Rule → ℕ → TagColumn
 rules_column [] b = []
 rules_column ((k, (t, p)) ∷ rules) b =
     if has_bit (image p) b then (t, k) ∷ rules_column rules b else rules_column rules b
 
+-- each rule has a permission, and a tag that names by an id or not at all and is not MASK
 abbrev AreRules : List Rule → Type 0
 AreRules [] = ⊤
 AreRules ((k, (t, p)) ∷ rules) = ((p == 0) ≡ false) × IsTag t × (t ≡ mask → ⊥) × AreRules rules
 
+-- what the ACEs of rules grant is what the keys of the right decide
 rules_decide : (rules : List Rule) (object : Object) (requester : Requester) (b : ℕ) → AreRules rules
     → IsAsked object requester → grants_bit (rules_list rules) (by_name object requester) b
     ≡ column_decided_by (tag_meets object requester) (rules_column rules b) false
@@ -121,6 +125,7 @@ image_part p want b lp lw h hb = elim (image_right want b lw hb) [
   ]
 ]
 
+-- a valid ACL of a shape is sound for rules if the permissions of each entry pass
 sound_by_passes : (rules : List Rule) (shape : EntryShape) (E : Entries) → AreRules rules → IsValid E → HasShape shape E
     → ((t : Tag) → is_in_shape shape t ≡ true → (p : ℕ) × (p < 8) × (fin.get E t ≡ Some p) × Passes rules shape t p)
     → IsSound (rules_list rules) E
@@ -134,7 +139,7 @@ sound_by_passes rules shape E are valid s each object requester asked want few a
     (rules_column rules bit) (tag_meets-certain shape object requester at.entry at.looks)
     (may_match-meets shape object requester at.entry at.looks) (passes bit (image_part p want bit small few part hb))
 
--- no permission has no right, read has READ_DATA, and write has WRITE_DATA and APPEND_DATA
+-- without permissions there is no right
 no_right : (b : ℕ) → has_bit (image 0) b ≡ true → ⊥
 no_right b h = elim (image_right 0 b (omega arith) h) [
   | inl at ↦ false≢true at.1
@@ -144,6 +149,7 @@ no_right b h = elim (image_right 0 b (omega arith) h) [
   ]
 ]
 
+-- the right of read is READ_DATA
 read_right : (b : ℕ) → has_bit (image 4) b ≡ true → b ≡ 0
 read_right b h = elim (image_right 4 b (omega arith) h) [
   | inl at ↦ at.0
@@ -153,6 +159,7 @@ read_right b h = elim (image_right 4 b (omega arith) h) [
   ]
 ]
 
+-- the rights of write are WRITE_DATA and APPEND_DATA
 write_right : (b : ℕ) → has_bit (image 2) b ≡ true → (b ≡ 1) ⊎ (b ≡ 2)
 write_right b h = elim (image_right 2 b (omega arith) h) [
   | inl at ↦ absurd (false≢true at.1)
@@ -183,6 +190,7 @@ at_class A object requester want valid whole apart unnamed =
 abbrev object_of : ℕ → Object
 object_of owner = record { user = owner; group = 3 }
 
+-- a requester with this id, in these groups
 abbrev asks : ℕ → List ℕ → Requester
 asks u gs = record { user = u; groups = gs }
 
@@ -192,6 +200,7 @@ record IsOwner (free owner : ℕ) : Type 0 where
   not_user : (1 == owner) ≡ false
   not_free : (free == owner) ≡ false
 
+-- for each other user there is such an owner
 some_owner : (free : ℕ) → (owner : ℕ) × IsOwner free owner
 some_owner free = by (free == 0) refl
   where
@@ -206,6 +215,7 @@ some_owner free = by (free == 0) refl
     )
     by false e = (0, record { is_id = omega arith; not_user = refl; not_free = e })
 
+-- numbers that differ do so in the other order
 eqb-comm_false : (m n : ℕ) → (m == n) ≡ false → (n == m) ≡ false
 eqb-comm_false m n h = grind (arith, nat_tests)
 
@@ -250,25 +260,31 @@ some_cond : (b : Bool) (n : ℕ) → is_some (cond b (Some n) None) ≡ (b || fa
 some_cond true n = refl
 some_cond false n = refl
 
+-- the shape with entries for the user 1 and the group 2
 abbrev user_and_group : EntryShape
 user_and_group = record { users = 1 ∷ []; groups = 2 ∷ [] }
 
+-- the shape with an entry for the group 2 alone
 abbrev group_alone : EntryShape
 group_alone = record { users = []; groups = 2 ∷ [] }
 
--- the five entries with a user and a group, and the four with a group
+-- the entries of an ACL for the user 1 and the group 2, with these permissions
 abbrev full_set : ℕ → ℕ → ℕ → ℕ → ℕ → ℕ → List (Tag × ℕ)
 full_set o u g n m r = (user_obj, o) ∷ (user 1, u) ∷ (group_obj, g) ∷ (group 2, n) ∷ (mask, m) ∷ (other, r) ∷ []
 
+-- the entries of an ACL for the group 2 alone
 abbrev group_set : ℕ → ℕ → ℕ → ℕ → ℕ → List (Tag × ℕ)
 group_set o g n m r = (user_obj, o) ∷ (group_obj, g) ∷ (group 2, n) ∷ (mask, m) ∷ (other, r) ∷ []
 
+-- the entries of an ACL for neither, with a MASK
 abbrev bare_set : ℕ → ℕ → ℕ → ℕ → List (Tag × ℕ)
 bare_set o g m r = (user_obj, o) ∷ (group_obj, g) ∷ (mask, m) ∷ (other, r) ∷ []
 
+-- what a set has for a tag is what its list of entries has
 found : (ps : List (Tag × ℕ)) (t : Tag) → fin.get (as_set ps) t ≡ fin.find tag_cmp t ps
 found ps t = fin.get-from_entries tags_total ps t
 
+-- a full set has entries for the user and the group
 full_shape : (o u g n m r : ℕ) → HasShape user_and_group (as_set (full_set o u g n m r))
 full_shape o u g n m r = record {
   users = λ id. ap (λ (x : Option ℕ). is_some x) (found (full_set o u g n m r) (user id))
@@ -277,6 +293,7 @@ full_shape o u g n m r = record {
       ∙ some_cond (eq_by_cmp tag_cmp (group id) (group 2)) n ∙ ap (λ (b : Bool). b || false) (is_eq-nat_cmp id 2);
 }
 
+-- a set with a group has an entry for the group alone
 group_shape : (o g n m r : ℕ) → HasShape group_alone (as_set (group_set o g n m r))
 group_shape o g n m r = record {
   users = λ id. ap (λ (x : Option ℕ). is_some x) (found (group_set o g n m r) (user id));
@@ -284,6 +301,7 @@ group_shape o g n m r = record {
       ∙ some_cond (eq_by_cmp tag_cmp (group id) (group 2)) n ∙ ap (λ (b : Bool). b || false) (is_eq-nat_cmp id 2);
 }
 
+-- a bare set has an entry for neither
 bare_shape : (o g m r : ℕ) → HasShape empty_shape (as_set (bare_set o g m r))
 bare_shape o g m r = record {
   users = λ id. ap (λ (x : Option ℕ). is_some x) (found (bare_set o g m r) (user id));
@@ -296,33 +314,38 @@ valid_with_mask : (E : Entries) → fin.contains_key E user_obj ≡ true → fin
 unfolding missing
 valid_with_mask E a b c m = rw (a, b, c, m, and_false_right (list_any is_named (fin.keys E))) refl
 
+-- a full set is valid
 full_valid : (o u g n m r : ℕ) → IsValid (as_set (full_set o u g n m r))
 full_valid o u g n m r = let at = found (full_set o u g n m r) in
     valid_with_mask (as_set (full_set o u g n m r)) (ap (λ (x : Option ℕ). is_some x) (at user_obj))
     (ap (λ (x : Option ℕ). is_some x) (at group_obj)) (ap (λ (x : Option ℕ). is_some x) (at other))
     (ap (λ (x : Option ℕ). is_some x) (at mask))
 
+-- a set with a group is valid
 group_valid : (o g n m r : ℕ) → IsValid (as_set (group_set o g n m r))
 group_valid o g n m r = let at = found (group_set o g n m r) in
     valid_with_mask (as_set (group_set o g n m r)) (ap (λ (x : Option ℕ). is_some x) (at user_obj))
     (ap (λ (x : Option ℕ). is_some x) (at group_obj)) (ap (λ (x : Option ℕ). is_some x) (at other))
     (ap (λ (x : Option ℕ). is_some x) (at mask))
 
+-- a bare set is valid
 bare_valid : (o g m r : ℕ) → IsValid (as_set (bare_set o g m r))
 bare_valid o g m r = let at = found (bare_set o g m r) in
     valid_with_mask (as_set (bare_set o g m r)) (ap (λ (x : Option ℕ). is_some x) (at user_obj))
     (ap (λ (x : Option ℕ). is_some x) (at group_obj)) (ap (λ (x : Option ℕ). is_some x) (at other))
     (ap (λ (x : Option ℕ). is_some x) (at mask))
 
--- what the entries have passes
+-- an entry without permissions passes
 none_passes : (rules : List Rule) (shape : EntryShape) (t : Tag) → Passes rules shape t 0
 none_passes rules shape t b h = absurd (no_right b h)
 
+-- an entry with read passes if the pass answers for READ_DATA
 read_passes : (rules : List Rule) (shape : EntryShape) (t : Tag)
     → always (is_certain t) (may_match shape t) (rules_column rules 0) ≡ true → Passes rules shape t 4
 read_passes rules shape t one b h = subst
     (λ (n : ℕ). always (is_certain t) (may_match shape t) (rules_column rules n) ≡ true) (sym (read_right b h)) one
 
+-- an entry with write passes if the pass answers for WRITE_DATA and APPEND_DATA
 write_passes : (rules : List Rule) (shape : EntryShape) (t : Tag)
     → always (is_certain t) (may_match shape t) (rules_column rules 1) ≡ true
     → always (is_certain t) (may_match shape t) (rules_column rules 2) ≡ true → Passes rules shape t 2
@@ -335,11 +358,12 @@ write_passes rules shape t one two b h = elim (write_right b h) [
 one_member : (n id : ℕ) → is_member id (n ∷ []) ≡ true → n ≡ id
 one_member n id h = eqb-true n id (sym (or_false_right (n == id)) ∙ h)
 
--- the entry of each tag of a full set, of a set with a group, and of a bare set
+-- each entry of a set has permissions that pass
 abbrev Each : List Rule → EntryShape → Entries → Type 0
 Each rules shape E = (t : Tag) → is_in_shape shape t ≡ true
     → (p : ℕ) × (p < 8) × (fin.get E t ≡ Some p) × Passes rules shape t p
 
+-- so it is for a full set, if its five entries pass
 full_each : (rules : List Rule) (o u g n m r : ℕ) → o < 8 → u < 8 → g < 8 → n < 8 → r < 8
     → Passes rules user_and_group user_obj o → Passes rules user_and_group (user 1) u
     → Passes rules user_and_group group_obj g → Passes rules user_and_group (group 2) n
@@ -359,6 +383,7 @@ full_each rules o u g n m r lo lu lg ln lr po pu pg pn pr (group id) h = subst
 full_each rules o u g n m r lo lu lg ln lr po pu pg pn pr mask h = absurd (false≢true h)
 full_each rules o u g n m r lo lu lg ln lr po pu pg pn pr other h = (r, lr, found (full_set o u g n m r) other, pr)
 
+-- so it is for a set with a group, if its four entries pass
 group_each : (rules : List Rule) (o g n m r : ℕ) → o < 8 → g < 8 → n < 8 → r < 8
     → Passes rules group_alone user_obj o → Passes rules group_alone group_obj g → Passes rules group_alone (group 2) n
     → Passes rules group_alone other r → Each rules group_alone (as_set (group_set o g n m r))
@@ -372,6 +397,7 @@ group_each rules o g n m r lo lg ln lr po pg pn pr (group id) h = subst
 group_each rules o g n m r lo lg ln lr po pg pn pr mask h = absurd (false≢true h)
 group_each rules o g n m r lo lg ln lr po pg pn pr other h = (r, lr, found (group_set o g n m r) other, pr)
 
+-- so it is for a bare set, if its three entries pass
 bare_each : (rules : List Rule) (o g m r : ℕ) → o < 8 → g < 8 → r < 8
     → Passes rules empty_shape user_obj o → Passes rules empty_shape group_obj g → Passes rules empty_shape other r
     → Each rules empty_shape (as_set (bare_set o g m r))
@@ -416,6 +442,7 @@ stranger_has o v g n m r owner u want few apart differ h = granted user_and_grou
     (all_contain want few) (rw (apart, differ) refl)
     (ap (λ (x : Option ℕ). is_contained x want) (found (full_set o v g n m r) other) ∙ h)
 
+-- a member of the group has what others have, if neither the user nor the group has an entry
 member_has : (o g m r owner u want : ℕ) → IsPerm want → (u == owner) ≡ false → contains r want ≡ true
     → grants (as_set (bare_set o g m r)) (object_of owner) (asks u (2 ∷ [])) want ≡ true
 member_has o g m r owner u want few apart h = granted empty_shape (as_set (bare_set o g m r))
@@ -435,35 +462,48 @@ decided_so rules A free owner u gs want b are sound o is all few right allowed =
 
 -- ---- a user and a group, one permission
 
-abbrev rules_1 : List Rule
-rules_1 = (Allow, (group 2, 4)) ∷ (Deny, (user 1, 4)) ∷ (Allow, (other, 4)) ∷ []
+-- the rules of the list that denies a user: the group may read, the user may not, and others may
+abbrev user_rules : List Rule
+user_rules = (Allow, (group 2, 4)) ∷ (Deny, (user 1, 4)) ∷ (Allow, (other, 4)) ∷ []
 
-are_1 : AreRules rules_1
-are_1 = (refl, omega arith, λ e. absurd cc, (refl, omega arith, λ e. absurd cc, (refl, tt, λ e. absurd cc, tt)))
+-- they are rules
+are_user_rules : AreRules user_rules
+are_user_rules = (
+  refl,
+  omega arith,
+  λ e. absurd cc,
+  (refl, omega arith, λ e. absurd cc, (refl, tt, λ e. absurd cc, tt)),
+)
 
-list_1 : rules_list rules_1 ≡ denied_user
+-- their ACEs are the list
+user_list : rules_list user_rules ≡ denied_user
 unfolding denied_user ace_of
-list_1 = refl
+user_list = refl
 
-first_1 : IsSound (rules_list rules_1) all_but_the_user
+-- the ACL in which everyone but the user may read is sound
+user_first : IsSound (rules_list user_rules) all_but_the_user
 unfolding image all_but_the_user
-first_1 = sound_by_passes rules_1 user_and_group (as_set (full_set 0 0 4 4 4 4)) are_1 (full_valid 0 0 4 4 4 4)
-    (full_shape 0 0 4 4 4 4) (full_each rules_1 0 0 4 4 4 4 (omega arith) (omega arith) (omega arith) (omega arith)
-    (omega arith) (none_passes rules_1 user_and_group user_obj) (none_passes rules_1 user_and_group (user 1))
-    (read_passes rules_1 user_and_group group_obj refl) (read_passes rules_1 user_and_group (group 2) refl)
-    (read_passes rules_1 user_and_group other refl))
+user_first = sound_by_passes user_rules user_and_group (as_set (full_set 0 0 4 4 4 4)) are_user_rules
+    (full_valid 0 0 4 4 4 4) (full_shape 0 0 4 4 4 4)
+    (full_each user_rules 0 0 4 4 4 4 (omega arith) (omega arith) (omega arith) (omega arith) (omega arith)
+    (none_passes user_rules user_and_group user_obj) (none_passes user_rules user_and_group (user 1))
+    (read_passes user_rules user_and_group group_obj refl) (read_passes user_rules user_and_group (group 2) refl)
+    (read_passes user_rules user_and_group other refl))
 
-second_1 : IsSound (rules_list rules_1) members_alone
+-- the ACL in which the members of the group alone may read is sound
+user_second : IsSound (rules_list user_rules) members_alone
 unfolding image members_alone
-second_1 = sound_by_passes rules_1 group_alone (as_set (group_set 0 0 4 4 0)) are_1 (group_valid 0 0 4 4 0)
-    (group_shape 0 0 4 4 0) (group_each rules_1 0 0 4 4 0 (omega arith) (omega arith) (omega arith) (omega arith)
-    (none_passes rules_1 group_alone user_obj) (none_passes rules_1 group_alone group_obj)
-    (read_passes rules_1 group_alone (group 2) refl) (none_passes rules_1 group_alone other))
+user_second = sound_by_passes user_rules group_alone (as_set (group_set 0 0 4 4 0)) are_user_rules
+    (group_valid 0 0 4 4 0) (group_shape 0 0 4 4 0)
+    (group_each user_rules 0 0 4 4 0 (omega arith) (omega arith) (omega arith) (omega arith)
+    (none_passes user_rules group_alone user_obj) (none_passes user_rules group_alone group_obj)
+    (read_passes user_rules group_alone (group 2) refl) (none_passes user_rules group_alone other))
 
-none_1 : (A : Entries) → IsAcl A → LeavesSomeOut A → IsSound (rules_list rules_1) A
+-- no sound ACL is above both: in it the user would read while in no group
+user_none : (A : Entries) → IsAcl A → LeavesSomeOut A → IsSound (rules_list user_rules) A
     → GrantsNothingMore all_but_the_user A → GrantsNothingMore members_alone A → ⊥
 unfolding image all_but_the_user members_alone
-none_1 A acl out sound first second =
+user_none A acl out sound first second =
     let (owner, o) = some_owner out.free in
     let reads : grants A (object_of owner) (asks 1 (2 ∷ [])) 4 ≡ true =
     lifted members_alone A out.free owner 1 (2 ∷ []) 4 second o (omega arith) (omega arith)
@@ -475,50 +515,61 @@ none_1 A acl out sound first second =
       | inl named ↦ own_entry A owner 1 (2 ∷ []) [] 4 acl.valid refl o.not_user named reads
       | inr nameless ↦ no_entry A owner out.free 1 [] 4 acl.valid refl o.not_free o.not_user out.unnamed nameless others
     ] in
-    false≢true (decided_so rules_1 A out.free owner 1 [] 4 0 are_1 sound o (omega arith) tt (omega arith) refl alone)
+    false≢true (decided_so user_rules A out.free owner 1 [] 4 0 are_user_rules sound o (omega arith) tt (omega arith)
+    refl alone)
 
 -- for the list that denies a user, no ACL is above both
 pub user_case : HaveNoneAbove denied_user all_but_the_user members_alone
-user_case = subst (λ (l : List Ace). HaveNoneAbove l all_but_the_user members_alone) list_1
-    (record { first_sound = first_1; second_sound = second_1; none = none_1 })
+user_case = subst (λ (l : List Ace). HaveNoneAbove l all_but_the_user members_alone) user_list
+    (record { first_sound = user_first; second_sound = user_second; none = user_none })
 
 -- ---- a user and a group, two permissions
 
-abbrev rules_2 : List Rule
-rules_2 = (Allow, (group 2, 4)) ∷ (Allow, (user 1, 2)) ∷ []
+-- the rules of the list with two permissions: the group may read, and the user may write
+abbrev permissions_rules : List Rule
+permissions_rules = (Allow, (group 2, 4)) ∷ (Allow, (user 1, 2)) ∷ []
 
-are_2 : AreRules rules_2
-are_2 = (refl, omega arith, λ e. absurd cc, (refl, omega arith, λ e. absurd cc, tt))
+-- they are rules
+are_permissions_rules : AreRules permissions_rules
+are_permissions_rules = (refl, omega arith, λ e. absurd cc, (refl, omega arith, λ e. absurd cc, tt))
 
-list_2 : rules_list rules_2 ≡ two_permissions
+-- their ACEs are the list
+permissions_list : rules_list permissions_rules ≡ two_permissions
 unfolding two_permissions ace_of
-list_2 = refl
+permissions_list = refl
 
-first_2 : IsSound (rules_list rules_2) user_writes
+-- the ACL in which the user may write and the other members may read is sound
+permissions_first : IsSound (rules_list permissions_rules) user_writes
 unfolding image user_writes
-first_2 = sound_by_passes rules_2 user_and_group (as_set (full_set 0 2 0 4 6 0)) are_2 (full_valid 0 2 0 4 6 0)
-    (full_shape 0 2 0 4 6 0) (full_each rules_2 0 2 0 4 6 0 (omega arith) (omega arith) (omega arith) (omega arith)
-    (omega arith) (none_passes rules_2 user_and_group user_obj) (write_passes rules_2 user_and_group (user 1) refl refl)
-    (none_passes rules_2 user_and_group group_obj) (read_passes rules_2 user_and_group (group 2) refl)
-    (none_passes rules_2 user_and_group other))
+permissions_first = sound_by_passes permissions_rules user_and_group (as_set (full_set 0 2 0 4 6 0))
+    are_permissions_rules (full_valid 0 2 0 4 6 0) (full_shape 0 2 0 4 6 0)
+    (full_each permissions_rules 0 2 0 4 6 0 (omega arith) (omega arith) (omega arith) (omega arith) (omega arith)
+    (none_passes permissions_rules user_and_group user_obj)
+    (write_passes permissions_rules user_and_group (user 1) refl refl)
+    (none_passes permissions_rules user_and_group group_obj)
+    (read_passes permissions_rules user_and_group (group 2) refl) (none_passes permissions_rules user_and_group other))
 
-second_2 : IsSound (rules_list rules_2) members_alone
+-- the ACL in which the members of the group alone may read is sound
+permissions_second : IsSound (rules_list permissions_rules) members_alone
 unfolding image members_alone
-second_2 = sound_by_passes rules_2 group_alone (as_set (group_set 0 0 4 4 0)) are_2 (group_valid 0 0 4 4 0)
-    (group_shape 0 0 4 4 0) (group_each rules_2 0 0 4 4 0 (omega arith) (omega arith) (omega arith) (omega arith)
-    (none_passes rules_2 group_alone user_obj) (none_passes rules_2 group_alone group_obj)
-    (read_passes rules_2 group_alone (group 2) refl) (none_passes rules_2 group_alone other))
+permissions_second = sound_by_passes permissions_rules group_alone (as_set (group_set 0 0 4 4 0)) are_permissions_rules
+    (group_valid 0 0 4 4 0) (group_shape 0 0 4 4 0)
+    (group_each permissions_rules 0 0 4 4 0 (omega arith) (omega arith) (omega arith) (omega arith)
+    (none_passes permissions_rules group_alone user_obj) (none_passes permissions_rules group_alone group_obj)
+    (read_passes permissions_rules group_alone (group 2) refl) (none_passes permissions_rules group_alone other))
 
--- a stranger in no group may_match-meets not write
+-- a stranger in no group may not write
 stranger_writes : (owner u : ℕ) → (u == 1) ≡ false
-    → column_decided_by (tag_meets (object_of owner) (asks u [])) (rules_column rules_2 1) false ≡ false
+    → column_decided_by (tag_meets (object_of owner) (asks u [])) (rules_column permissions_rules 1) false ≡ false
 unfolding image
 stranger_writes owner u differ = rw differ refl
 
-none_2 : (A : Entries) → IsAcl A → LeavesSomeOut A → IsSound (rules_list rules_2) A → GrantsNothingMore user_writes A
+-- no sound ACL is above both: in it the user would read while in no group, or a stranger would write
+permissions_none : (A : Entries) → IsAcl A → LeavesSomeOut A → IsSound (rules_list permissions_rules) A
+    → GrantsNothingMore user_writes A
     → GrantsNothingMore members_alone A → ⊥
 unfolding image user_writes members_alone
-none_2 A acl out sound first second =
+permissions_none A acl out sound first second =
     let (owner, o) = some_owner out.free in
     let reads : grants A (object_of owner) (asks 1 (2 ∷ [])) 4 ≡ true =
     lifted members_alone A out.free owner 1 (2 ∷ []) 4 second o (omega arith) (omega arith)
@@ -528,76 +579,90 @@ none_2 A acl out sound first second =
     (user_has 0 2 0 4 6 0 owner 2 (omega arith) o.not_user refl refl) in
     elim (cases_Bool (fin.contains_key A (user 1))) [
       | inl named ↦
-          false≢true (decided_so rules_2 A out.free owner 1 [] 4 0 are_2 sound o (omega arith) tt (omega arith)
-          refl (own_entry A owner 1 (2 ∷ []) [] 4 acl.valid refl o.not_user named reads))
+          false≢true (decided_so permissions_rules A out.free owner 1 [] 4 0 are_permissions_rules sound o
+          (omega arith) tt (omega arith) refl (own_entry A owner 1 (2 ∷ []) [] 4 acl.valid refl o.not_user named reads))
       | inr nameless ↦ false≢true (sym (stranger_writes owner out.free out.another)
-          ∙ decided_so rules_2 A out.free owner out.free [] 2 1 are_2 sound o out.is_id tt (omega arith) refl
-          (no_entry A owner 1 out.free [] 2 acl.valid refl o.not_user o.not_free nameless out.unnamed writes))
+          ∙ decided_so permissions_rules A out.free owner out.free [] 2 1 are_permissions_rules sound o out.is_id tt
+          (omega arith) refl (no_entry A owner 1 out.free [] 2 acl.valid refl o.not_user o.not_free nameless
+          out.unnamed writes))
     ]
 
 -- for the list with two permissions, no ACL is above both
 pub permissions_case : HaveNoneAbove two_permissions user_writes members_alone
-permissions_case = subst (λ (l : List Ace). HaveNoneAbove l user_writes members_alone) list_2
-    (record { first_sound = first_2; second_sound = second_2; none = none_2 })
+permissions_case = subst (λ (l : List Ace). HaveNoneAbove l user_writes members_alone) permissions_list
+    (record { first_sound = permissions_first; second_sound = permissions_second; none = permissions_none })
 
 -- ---- two groups, two permissions
 
-abbrev rules_3 : List Rule
-rules_3 = (Allow, (group 2, 4)) ∷ (Deny, (group_obj, 2)) ∷ (Allow, (other, 2)) ∷ []
+-- the rules of the list with two groups: the group may read, the owning group may not write, and others may
+abbrev groups_rules : List Rule
+groups_rules = (Allow, (group 2, 4)) ∷ (Deny, (group_obj, 2)) ∷ (Allow, (other, 2)) ∷ []
 
-are_3 : AreRules rules_3
-are_3 = (refl, omega arith, λ e. absurd cc, (refl, tt, λ e. absurd cc, (refl, tt, λ e. absurd cc, tt)))
+-- they are rules
+are_groups_rules : AreRules groups_rules
+are_groups_rules = (refl, omega arith, λ e. absurd cc, (refl, tt, λ e. absurd cc, (refl, tt, λ e. absurd cc, tt)))
 
-list_3 : rules_list rules_3 ≡ two_groups
+-- their ACEs are the list
+groups_list : rules_list groups_rules ≡ two_groups
 unfolding two_groups ace_of
-list_3 = refl
+groups_list = refl
 
-first_3 : IsSound (rules_list rules_3) members_read
+-- the ACL in which members of the group may read, and who is in neither group may write, is sound
+groups_first : IsSound (rules_list groups_rules) members_read
 unfolding image members_read
-first_3 = sound_by_passes rules_3 group_alone (as_set (group_set 0 0 4 4 2)) are_3 (group_valid 0 0 4 4 2)
-    (group_shape 0 0 4 4 2) (group_each rules_3 0 0 4 4 2 (omega arith) (omega arith) (omega arith) (omega arith)
-    (none_passes rules_3 group_alone user_obj) (none_passes rules_3 group_alone group_obj)
-    (read_passes rules_3 group_alone (group 2) refl) (write_passes rules_3 group_alone other refl refl))
+groups_first = sound_by_passes groups_rules group_alone (as_set (group_set 0 0 4 4 2)) are_groups_rules
+    (group_valid 0 0 4 4 2) (group_shape 0 0 4 4 2)
+    (group_each groups_rules 0 0 4 4 2 (omega arith) (omega arith) (omega arith) (omega arith)
+    (none_passes groups_rules group_alone user_obj) (none_passes groups_rules group_alone group_obj)
+    (read_passes groups_rules group_alone (group 2) refl) (write_passes groups_rules group_alone other refl refl))
 
-second_3 : IsSound (rules_list rules_3) others_write
+-- the ACL in which all but the owning group may write is sound
+groups_second : IsSound (rules_list groups_rules) others_write
 unfolding image others_write
-second_3 = sound_by_passes rules_3 empty_shape (as_set (bare_set 0 0 0 2)) are_3 (bare_valid 0 0 0 2)
-    (bare_shape 0 0 0 2) (bare_each rules_3 0 0 0 2 (omega arith) (omega arith) (omega arith)
-    (none_passes rules_3 empty_shape user_obj) (none_passes rules_3 empty_shape group_obj)
-    (write_passes rules_3 empty_shape other refl refl))
+groups_second = sound_by_passes groups_rules empty_shape (as_set (bare_set 0 0 0 2)) are_groups_rules
+    (bare_valid 0 0 0 2) (bare_shape 0 0 0 2) (bare_each groups_rules 0 0 0 2 (omega arith) (omega arith) (omega arith)
+    (none_passes groups_rules empty_shape user_obj) (none_passes groups_rules empty_shape group_obj)
+    (write_passes groups_rules empty_shape other refl refl))
 
--- which entries match requesters who are in no group, in the group 2, or also in the owning group
+-- no entry of a group matches who is in no group
 matches_none : (A : Entries) → any_matches A 3 [] ≡ false
 matches_none A = sym (contains_empty A 3 []) ∙ sym (any_group A 3 0 [])
 
+-- an entry matches who is in the group 2 alone if and only if the group has an entry
 matches_one : (A : Entries) → any_matches A 3 (2 ∷ []) ≡ fin.contains_key A (group 2)
 matches_one A = sym (contains_empty A 3 (2 ∷ [])) ∙ sym (any_group A 3 0 (2 ∷ []))
     ∙ or_false_right (entry_contains A (group 2) 0) ∙ contains_nothing (fin.get A (group 2))
 
+-- one matches who is also in the owning group, if the group 2 has an entry
 matches_two : (A : Entries) → fin.contains_key A (group 2) ≡ true → any_matches A 3 (2 ∷ 3 ∷ []) ≡ true
 matches_two A there = sym (contains_empty A 3 (2 ∷ 3 ∷ [])) ∙ sym (any_group A 3 0 (2 ∷ 3 ∷ []))
     ∙ ap (λ (b : Bool). b || list_any (group_contains A 3 0) (3 ∷ []))
     (contains_nothing (fin.get A (group 2)) ∙ there)
 
+-- who is in the group 2 alone has what its entry has
 contains_one : (A : Entries) (want : ℕ) → any_contains A 3 (2 ∷ []) want ≡ entry_contains A (group 2) want
 contains_one A want = sym (any_group A 3 want (2 ∷ [])) ∙ or_false_right (entry_contains A (group 2) want)
 
+-- who is also in the owning group has at least what the entry of the group 2 has
 contains_two : (A : Entries) (want : ℕ) → entry_contains A (group 2) want ≡ true
     → any_contains A 3 (2 ∷ 3 ∷ []) want ≡ true
 contains_two A want h = sym (any_group A 3 want (2 ∷ 3 ∷ []))
     ∙ ap (λ (b : Bool). b || list_any (group_contains A 3 want) (3 ∷ [])) h
 
--- the part of a choice that is cond-then
+-- a choice whose test passes is its first part
 cond-then : (m x y : Bool) → m ≡ true → cond m x y ≡ true → x ≡ true
 cond-then m x y e h = sym (ap (λ (b : Bool). cond b x y) e) ∙ h
 
+-- a choice whose test fails is its second part
 cond-else : (m x y : Bool) → m ≡ false → cond m x y ≡ true → y ≡ true
 cond-else m x y e h = sym (ap (λ (b : Bool). cond b x y) e) ∙ h
 
-none_3 : (A : Entries) → IsAcl A → LeavesSomeOut A → IsSound (rules_list rules_3) A → GrantsNothingMore members_read A
+-- no sound ACL is above both: in it a member of both groups would write, or a stranger would read
+groups_none : (A : Entries) → IsAcl A → LeavesSomeOut A → IsSound (rules_list groups_rules) A
+    → GrantsNothingMore members_read A
     → GrantsNothingMore others_write A → ⊥
 unfolding image members_read others_write
-none_3 A acl out sound first second =
+groups_none A acl out sound first second =
     let (owner, o) = some_owner out.free in
     let u : ℕ = out.free in
     let reads : grants A (object_of owner) (asks u (2 ∷ [])) 4 ≡ true =
@@ -612,17 +677,17 @@ none_3 A acl out sound first second =
       | inl named ↦
           let both = and_true (entry_contains A (group 2) 2) (mask_contains A 2)
           (rw (sym (contains_one A 2)) (cond-then _ _ _ (matches_one A ∙ named) (sym (at (2 ∷ []) 2 refl) ∙ writes))) in
-          false≢true (decided_so rules_3 A out.free owner u (2 ∷ 3 ∷ []) 2 1 are_3 sound o out.is_id
+          false≢true (decided_so groups_rules A out.free owner u (2 ∷ 3 ∷ []) 2 1 are_groups_rules sound o out.is_id
           (omega arith, (omega arith, tt)) (omega arith) refl (at (2 ∷ 3 ∷ []) 2 refl
           ∙ rw (matches_two A named, contains_two A 2 both.0, both.1) refl))
       | inr nameless ↦
           let others : entry_contains A other 4 ≡ true =
           cond-else _ _ _ (matches_one A ∙ nameless) (sym (at (2 ∷ []) 4 refl) ∙ reads) in
-          false≢true (decided_so rules_3 A out.free owner u [] 4 0 are_3 sound o out.is_id tt (omega arith) refl
-          (at [] 4 refl ∙ rw (matches_none A) others))
+          false≢true (decided_so groups_rules A out.free owner u [] 4 0 are_groups_rules sound o out.is_id tt
+          (omega arith) refl (at [] 4 refl ∙ rw (matches_none A) others))
     ]
 
 -- for the list with two groups, no ACL is above both
 pub groups_case : HaveNoneAbove two_groups members_read others_write
-groups_case = subst (λ (l : List Ace). HaveNoneAbove l members_read others_write) list_3
-    (record { first_sound = first_3; second_sound = second_3; none = none_3 })
+groups_case = subst (λ (l : List Ace). HaveNoneAbove l members_read others_write) groups_list
+    (record { first_sound = groups_first; second_sound = groups_second; none = groups_none })

@@ -37,7 +37,7 @@ differ t u apart_from = elim (cases_Bool (eq_by_cmp tag_cmp t u)) [
 not_equal : (m n : ℕ) → (m == n) ≡ false → m ≡ n → ⊥
 not_equal m n e same = true≢false (sym (eq-eqb m n same) ∙ e)
 
--- it is neither the owner's id nor that of the owning group
+-- it is not USER with the owner's id
 known_no_owner : (o g : ℕ) (t : Tag) → eq_by_cmp tag_cmp (known_tag o g t) (tag.user o) ≡ false
 known_no_owner o g tag.user_obj = refl
 known_no_owner o g (tag.user id) = by (id == o) refl
@@ -55,6 +55,7 @@ known_no_owner o g (tag.group id) = by (id == g)
 known_no_owner o g tag.mask = refl
 known_no_owner o g tag.other = refl
 
+-- it is not GROUP with the id of the owning group
 known_no_group : (o g : ℕ) (t : Tag) → eq_by_cmp tag_cmp (known_tag o g t) (tag.group g) ≡ false
 known_no_group o g tag.user_obj = refl
 known_no_group o g (tag.user id) = by (id == o)
@@ -173,6 +174,7 @@ other_user o g id keys out has = elim (cases_Bool (o == id)) [
   | inr differs ↦ differs
 ]
 
+-- no key has the id of the owning group
 other_group : (o g id : ℕ) (keys : TagColumn) → IsOutside o g keys → has_tag (tag.group id) keys ≡ true
     → (g == id) ≡ false
 other_group o g id keys out has = elim (cases_Bool (g == id)) [
@@ -192,6 +194,7 @@ owner_meets o g groups keys out (tag.group id) has = refl
 owner_meets o g groups keys out tag.mask has = refl
 owner_meets o g groups keys out tag.other has = refl
 
+-- what matches whenever the check looks at USER_OBJ matches the owner
 certain_meets : (test : Tag → Bool) (t : Tag) → is_certain tag.user_obj t ≡ true → owner_test test t ≡ true
 certain_meets test tag.user_obj h = refl
 certain_meets test (tag.user id) h = absurd (false≢true h)
@@ -200,6 +203,7 @@ certain_meets test (tag.group id) h = absurd (false≢true h)
 certain_meets test tag.mask h = absurd (false≢true h)
 certain_meets test tag.other h = refl
 
+-- any other tag that matches the owner is that of a group
 others_are_groups : (test : Tag → Bool) (t : Tag) → owner_test test t ≡ true → is_certain tag.user_obj t ≡ false
     → is_group_tag t ≡ true
 others_are_groups test tag.user_obj h c = absurd (true≢false c)
@@ -219,9 +223,11 @@ as_known o g groups keys known adds =
     (λ t has. sym (known_meets o g (owner_in o groups) t))
     ∙ sym (adds.decides (tag_meets (object_for o g) (owner_in o groups)))
 
+-- where there are no keys, none names the owner or the owning group by id
 none_outside : (o g : ℕ) → IsOutside o g []
 none_outside o g = record { no_owner = refl; no_group = refl }
 
+-- if the pass of the owner's entry grants a right, the owner always has it
 owned_granted : (o g : ℕ) (keys known : List TagKey) → AddsKnown o g keys [] known
     → always (is_certain tag.user_obj) is_group_tag (keys_of known) ≡ true → IsAlwaysOwned o g (keys_of keys)
 owned_granted o g keys known adds answers groups ids =
@@ -301,6 +307,7 @@ extra_meets o g x keys out is tag.mask has = by x is
     by (Some tag.other) is = absurd (false≢true is.0)
 extra_meets o g x keys out is tag.other has = refl
 
+-- if the owner always has a right, the pass of the owner's entry grants it
 granted_owned : (o g : ℕ) (keys known : List TagKey) → IsId g → AddsKnown o g keys [] known
     → IsAlwaysOwned o g (keys_of keys) → always (is_certain tag.user_obj) is_group_tag (keys_of known) ≡ true
 granted_owned o g keys known own adds all =

@@ -103,6 +103,7 @@ record SameRest (a b : Ace) : Type 0 where
   flags : b.flags ≡ a.flags
   mask : b.mask ≡ a.mask
 
+-- an ACE read for such an object differs at most in whom it names
 known_rest : (o g : ℕ) (x : Option Tag) (a : Ace) → SameRest a (known_as o g x a)
 known_rest o g None a = record { kind = refl; flags = refl; mask = refl }
 known_rest o g (Some tag.user_obj) a = record { kind = refl; flags = refl; mask = refl }
@@ -126,6 +127,7 @@ known_rest o g (Some tag.other) a = record { kind = refl; flags = refl; mask = r
 abbrev pub known_matching : ℕ → ℕ → Matching → Matching
 known_matching o g m = λ t. m (known_tag o g t)
 
+-- one more key decides alike in both matchings, by its known tag in the one, if the keys behind it do
 known_key : (o g : ℕ) (m : Matching) (x : Option Tag) (kind : Kind) (keys others : TagColumn)
     → column_decided_by m keys false ≡ column_decided_by (known_matching o g m) others false
     → column_decided_by m (put (option_map (known_tag o g) x) kind keys) false
@@ -134,6 +136,7 @@ known_key o g m None kind keys others rest = rest
 known_key o g m (Some t) kind keys others rest =
     ap (λ (b : Bool). if m (known_tag o g t) then is_allow kind else b) rest
 
+-- the ACEs read for such an object grant in a matching what the list grants in the other
 known_grants : (o g : ℕ) (m : Matching) (list : List Ace) (bit : ℕ)
     → tags_grant (map (known_ace o g) list) m bit ≡ tags_grant list (known_matching o g m) bit
 known_grants o g m [] bit = refl
@@ -166,6 +169,7 @@ known_grants o g m (x ∷ list) bit =
 abbrev pub right_of : OwnerRights → ℕ → Bool
 right_of r bit = if bit == 0 then r.read else (if bit == 1 then r.write else (if bit == 2 then r.append else r.execute))
 
+-- a kind chosen by a right of the owner allows if and only if the owner has the right
 owner_kind : (b : Bool) → is_allow (if b then Allow else Deny) ≡ b
 owner_kind true = refl
 owner_kind false = refl
@@ -202,6 +206,7 @@ pub record IsMoved (o g : ℕ) (ns : List ℕ) (m : Matching) : Type 0 where
   pub asked : IsAsked (object_for o g) requester
   pub agree : Agree ns (tag_meets (object_for o g) requester) (known_matching o g m)
 
+-- those of some ids that pass a test are ids
 kept_ids : (p : ℕ → Bool) (groups : List ℕ) → AllByRecursion IsId groups → AllByRecursion IsId (filter p groups)
 kept_ids p [] all = tt
 kept_ids p (x ∷ groups) all = by (kept_ids p groups all.1) (p x)
@@ -216,6 +221,7 @@ abbrev moved_groups : ℕ → Object → Requester → List ℕ
 moved_groups g object requester =
     groups_with (is_member object.group requester.groups) g (filter (λ id. not (id == g)) requester.groups)
 
+-- the owning group is among them if and only if the requester is in that of the object
 own_moved : (g : ℕ) (object : Object) (requester : Requester)
     → is_member g (moved_groups g object requester) ≡ is_member object.group requester.groups
 own_moved g object requester = own_with (is_member object.group requester.groups) g
@@ -223,6 +229,7 @@ own_moved g object requester = own_with (is_member object.group requester.groups
     (filter_member (λ id. not (id == g)) requester.groups g
     ∙ rw (eq-eqb g g refl) (and_false_right (is_member g requester.groups)))
 
+-- a group is among them if and only if its tag matches, or GROUP_OBJ for the owning group
 group_moved : (g : ℕ) (object : Object) (requester : Requester) (id : ℕ) (b : Bool) → (id == g) ≡ b
     → is_member id (moved_groups g object requester)
     ≡ tag_meets object requester (if b then tag.group_obj else tag.group id)

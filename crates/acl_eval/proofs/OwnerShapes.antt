@@ -77,6 +77,7 @@ pub record IsFor (o g : ℕ) (r : OwnerRights) (list : List Ace) : Type 0 where
   pub short : length list ≤ most_aces
   pub rights : (bit : ℕ) → IsRight bit → (right_of r bit ≡ true) ↔ OwnerGets o g list bit
 
+-- the rights of permissions are among the four
 is_right : (want bit : ℕ) → IsPerm want → has_bit (image want) bit ≡ true → IsRight bit
 is_right want bit small h = elim (image_right want bit small h) [
   | inl is ↦ subst IsRight (sym is.0) read_is
@@ -89,6 +90,7 @@ is_right want bit small h = elim (image_right want bit small h) [
   ]
 ]
 
+-- such an object and its owner are given by ids, if the owner's groups are ids
 asked_owner : (o g : ℕ) (groups : List ℕ) → IsId o → IsId g → All IsId groups
     → IsAsked (object_for o g) (owner_in o groups)
 asked_owner o g groups is_o is_g all = record { owner = is_o; owning_group = is_g; asker = is_o; groups = all }
@@ -145,6 +147,7 @@ record SameOn (s : EntryShape) (m n : Matching) : Type 0 where
   owning : m tag.group_obj ≡ n tag.group_obj
   groups : (id : ℕ) → is_member id s.groups ≡ true → m (tag.group id) ≡ n (tag.group id)
 
+-- so they do if the matchings are exchanged
 same_back : (s : EntryShape) (m n : Matching) → SameOn s m n → SameOn s n m
 same_back s m n a = record {
   owner = sym a.owner;
@@ -153,10 +156,12 @@ same_back s m n a = record {
   groups = λ id h. sym (a.groups id h);
 }
 
+-- who is neither the owner nor a user of the shape in the one is neither in the other
 same_rest : (s : EntryShape) (m n : Matching) → SameOn s m n → IsRest s.users m → IsRest s.users n
 same_rest s m n a r =
     record { owner = sym a.owner ∙ r.owner; others = λ id h. sym (a.users id h) ∙ r.others id h }
 
+-- the check looks at the same entries
 same_looks : (s : EntryShape) (m n : Matching) (e : Tag) → SameOn s m n → Looks s m e → Looks s n e
 same_looks s m n tag.user_obj a l = sym a.owner ∙ l
 same_looks s m n (tag.user id) a l = (sym a.owner ∙ l.0, l.1, sym (a.users id l.1) ∙ l.2)
@@ -166,6 +171,7 @@ same_looks s m n tag.mask a l = absurd l
 same_looks s m n tag.other a l =
     (same_rest s m n a l.0, sym a.owning ∙ l.1, λ id h. sym (a.groups id h) ∙ l.2 id h)
 
+-- the matching for such an object is the same for a shape that lacks the owner and the owning group
 known_on : (o g : ℕ) (s : EntryShape) (m : Matching) → Lacks o g s → SameOn s m (known_matching o g m)
 known_on o g s m lacks = record {
   owner = refl;
@@ -215,6 +221,7 @@ looks_home o g list s t object requester e lacks v l =
     (agree_looks (all_ids list s t) (tag_meets (object_for o g) v.requester) (known_matching o g m) t e v.agree
     (ids_of_second list s t) (looks_of t (object_for o g) v.requester e l)))
 
+-- what the list grants after the move, the list for such an object grants before it to all but the owner
 grant_home : (o g : ℕ) (r : OwnerRights) (list : List Ace) (s t : EntryShape) (object : Object) (requester : Requester)
     (want : ℕ) → IsPerm want → IsAsked object requester → (requester.user == object.user) ≡ false
     → (v : IsMoved o g (all_ids list s t) (tag_meets object requester))
@@ -329,6 +336,7 @@ part_lacks o g whole part p lacks = record {
 pub out_lacks_too : (o g : ℕ) (name : Tag) (s : EntryShape) → Lacks o g s → Lacks o g (taken_out name s)
 out_lacks_too o g name s lacks = part_lacks o g s (taken_out name s) (out_part name s) lacks
 
+-- a pruning by the list for such an object is a pruning for the object
 steps_known : (o g : ℕ) (r : OwnerRights) (list : List Ace) (s t : EntryShape) → Prunes (list_for o g r list) s t
     → IsFor o g r list → Lacks o g s → IsSmall s → PrunesFor o g list s t
 steps_known o g r list a b (none s) c lacks small = for_owner.none s
@@ -377,6 +385,7 @@ sound_for o g list s acl best requester asked want small allowed =
 
 -- ---- the columns
 
+-- after the move, a tag with one of the ids matches as the tag that stands for it did before
 agree_tag : (o g : ℕ) (ns : List ℕ) (object : Object) (requester : Requester)
     → (v : IsMoved o g ns (tag_meets object requester)) (t : Tag) → is_member (qualifier t) ns ≡ true
     → tag_meets (object_for o g) v.requester t ≡ known_matching o g (tag_meets object requester) t

@@ -62,6 +62,7 @@ unnamed_left t name (e ∷ left) d h = by (unnamed_left t name left d) (eq_by_cm
     by rest false q (inr more) = ap (λ (b : Bool). eq_by_cmp tag_cmp (tag_of e.tag) t || b) (rest more)
         ∙ or_true_right (eq_by_cmp tag_cmp (tag_of e.tag) t)
 
+-- a tag that is neither USER nor GROUP is not that of a name
 not_name : (t name : Tag) → is_named t ≡ false → is_named name ≡ true → eq_by_cmp tag_cmp t name ≡ false
 not_name t name f n = elim (cases_Bool (eq_by_cmp tag_cmp t name)) [
   | inl same ↦ absurd (true≢false (sym n ∙ (ap is_named (sym (same_tag t name same)) ∙ f)))
@@ -152,7 +153,7 @@ fewer left name found =
 
 -- ---- the entries at the start
 
--- the users and the groups, if one entry more is behind them
+-- the users, if one entry more is behind them
 users_behind : (left : List JudgedEntry) (e : JudgedEntry)
     → users_left (left ++ e ∷ []) ≡ users_left left ++ user_before (tag_of e.tag) []
 users_behind [] e = refl
@@ -167,6 +168,7 @@ users_behind (x ∷ left) e = ap (user_before (tag_of x.tag)) (users_behind left
     by mask xs ys = refl
     by other xs ys = refl
 
+-- the groups, if one entry more is behind them
 groups_behind : (left : List JudgedEntry) (e : JudgedEntry)
     → groups_left (left ++ e ∷ []) ≡ groups_left left ++ group_before (tag_of e.tag) []
 groups_behind [] e = refl
@@ -181,6 +183,7 @@ groups_behind (x ∷ left) e = ap (group_before (tag_of x.tag)) (groups_behind l
     by mask xs ys = refl
     by other xs ys = refl
 
+-- what some element passes, some element passes if one more is behind them
 some_behind : {X : Type 0} (p : X → Bool) (xs : List X) (x : X) → list_any p xs ≡ true
     → list_any p (xs ++ x ∷ []) ≡ true
 some_behind p xs x h = list_any-append p xs (x ∷ []) ∙ ap (λ (b : Bool). b || list_any p (x ∷ [])) h
@@ -207,6 +210,7 @@ one_number list i id lt at =
     ap (λ (n : ℕ). take i (ids list) ++ n ∷ []) (sym (id_at list i id lt at))
     ∙ sym (take_more (ids list) i 0 (omega (arith, lt, length-ids list)))
 
+-- numbers with none behind them are the same numbers
 append-nil : (xs : List ℕ) → xs ++ [] ≡ xs
 append-nil [] = refl
 append-nil (x ∷ xs) = ap (λ (ns : List ℕ). x ∷ ns) (append-nil xs)

@@ -53,6 +53,7 @@ seen s m (tag.group id) = m (tag.group id) && is_member id s.groups
 seen s m tag.mask = m tag.mask
 seen s m tag.other = m tag.other
 
+-- it is a matching, too
 seen_matching : (s : EntryShape) (m : Matching) → IsMatching m → IsMatching (seen s m)
 seen_matching s m ok = record {
   everyone = ok.everyone;
@@ -75,7 +76,7 @@ and_holds false b h = refl
 
 -- ---- the names of a list decide what it grants
 
--- no bit is in the empty set, and the rights of permissions are among those of all permissions
+-- no bit is in the empty set
 no_right : (want bit : ℕ) → IsPerm want → has_bit (image want) bit ≡ true → has_bit 0 bit ≡ false
 no_right want bit small h = elim (image_right want bit small h) [
   | inl is ↦ subst (λ (b : ℕ). has_bit 0 b ≡ false) (sym is.0) refl
@@ -88,6 +89,7 @@ no_right want bit small h = elim (image_right want bit small h) [
   ]
 ]
 
+-- the rights of permissions are among those of all permissions
 some_right : (want bit : ℕ) → IsPerm want → has_bit (image want) bit ≡ true → has_bit (image all_permissions) bit ≡ true
 some_right want bit small h = elim (image_right want bit small h) [
   | inl is ↦ subst (λ (b : ℕ). has_bit (image 7) b ≡ true) (sym is.0) (rights.read_data.same 7 (omega arith))
@@ -130,6 +132,7 @@ named_alike s m (group_named name) h = by (id_by_digits name) (found_id name)
         (h id (omega (arith, is.0)) (sym ((bytes_eq-Decides (decimal id) name).0 is.1)))
 named_alike s m everyone h = refl
 
+-- a list grants a right alike in both matchings, if the shape has its names
 seen_bit : (s : EntryShape) (m : Matching) (list : List Ace) (want bit : ℕ) → HasNamesOf s list → IsPerm want
     → has_bit (image want) bit ≡ true → tags_grant list m bit ≡ tags_grant list (seen s m) bit
 seen_bit s m [] want bit names small right = refl
@@ -163,6 +166,7 @@ record AreBoth (s t both : EntryShape) : Type 0 where
   users : (id : ℕ) → is_member id both.users ≡ (is_member id s.users && is_member id t.users)
   groups : (id : ℕ) → is_member id both.groups ≡ (is_member id s.groups && is_member id t.groups)
 
+-- who is neither the owner nor a user of both shapes is none of the second in what the first sees
 both_rest : (s t both : EntryShape) (m : Matching) → AreBoth s t both → IsRest both.users m → IsRest t.users (seen s m)
 both_rest s t both m a r = record {
   owner = r.owner;
@@ -172,6 +176,7 @@ both_rest s t both m a r = record {
   ];
 }
 
+-- who is neither the owner nor a user of the second in what the first sees is none of both
 rest_both : (s t both : EntryShape) (m : Matching) → AreBoth s t both → IsRest t.users (seen s m) → IsRest both.users m
 rest_both s t both m a r = record {
   owner = r.owner;
@@ -180,6 +185,7 @@ rest_both s t both m a r = record {
       and_holds (m (tag.user id)) (is_member id s.users) two.0 ∙ r.others id two.1;
 }
 
+-- at an entry at which the check looks for both, it looks for the second in what the first sees
 both_looks : (s t both : EntryShape) (m : Matching) (e : Tag) → AreBoth s t both → Looks both m e → Looks t (seen s m) e
 both_looks s t both m tag.user_obj a l = l
 both_looks s t both m (tag.user id) a l =
@@ -199,6 +205,7 @@ both_looks s t both m tag.other a l = (
   ],
 )
 
+-- at an entry at which it looks for the second in what the first sees, it looks for both
 looks_both : (s t both : EntryShape) (m : Matching) (e : Tag) → AreBoth s t both → Looks t (seen s m) e → Looks both m e
 looks_both s t both m tag.user_obj a l = l
 looks_both s t both m (tag.user id) a l =
@@ -233,7 +240,7 @@ both_gives list s t both m want a names small g = record {
 abbrev numbers_of : Entries → List ℕ
 numbers_of acl = map (λ e. qualifier e.0) (fin.entries acl)
 
--- the number of a tag that is there is among them, and the tag has an id
+-- the number of a tag that is there is among them
 entry_number : (q : Tag) (es : List (Tag × ℕ)) → list_any (eq_by_cmp tag_cmp q) (map (λ e. e.0) es) ≡ true
     → is_member (qualifier q) (map (λ e. qualifier e.0) es) ≡ true
 entry_number q [] h = absurd (false≢true h)
@@ -244,6 +251,7 @@ entry_number q (e ∷ es) h = elim (or_cases (eq_by_cmp tag_cmp q e.0) _ h) [
       ∙ or_true_right (qualifier e.0 == qualifier q)
 ]
 
+-- the qualifier of a tag that is there is an id
 entry_tag : (q : Tag) (es : List (Tag × ℕ)) → AllByRecursion IsEntry es
     → list_any (eq_by_cmp tag_cmp q) (map (λ e. e.0) es) ≡ true → IsTag q
 entry_tag q [] all h = absurd (false≢true h)
@@ -260,12 +268,14 @@ wide acl = record { users = numbers_of acl; groups = numbers_of acl }
 abbrev own_shape : Entries → EntryShape
 own_shape acl = shape_among (wide acl) acl
 
+-- the ACL has this shape
 own_shaped : (acl : Entries) → HasShape (own_shape acl) acl
 own_shaped acl = among_shape (wide acl) acl (record {
   users = λ id h. entry_number (tag.user id) (fin.entries acl) (sym (fin.contains_key-keys acl (tag.user id)) ∙ h);
   groups = λ id h. entry_number (tag.group id) (fin.entries acl) (sym (fin.contains_key-keys acl (tag.group id)) ∙ h);
 })
 
+-- it is small, if the ACL has at most 65,535 entries
 own_small : (acl : Entries) → IsAcl acl → length (fin.entries acl) ≤ 65535 → IsSmall (own_shape acl)
 own_small acl valid few =
     let shaped = own_shaped acl in

@@ -171,6 +171,7 @@ pruning_loses_nothing list a b (next one two name n there loses rest) = λ objec
     pruning_loses_nothing list (taken_out name one) two rest object requester asked want small
     (loses object requester asked want small g)
 
+-- an entry that stays has what it had before the pruning
 entries_stay : (list : List Ace) (one two : EntryShape) → Prunes list one two → HasFewIds one → (entry : Tag)
     → is_in_shape two entry ≡ true → (want : ℕ) → IsPerm want
     → AlwaysHas list one entry want → AlwaysHas list two entry want

@@ -49,6 +49,7 @@ pub alike_always : (list second : List Ace) (s : EntryShape) (e : Tag) (want : �
 alike_always list second s e want a small has object requester asked l =
     (a object requester want asked small).0 (has object requester asked l)
 
+-- what the ACL of a shape grants for one of them, it grants for the other
 alike_gives : (list second : List Ace) (s : EntryShape) (object : Object) (requester : Requester) (want : ℕ)
     → GrantSamePermissions list second → IsPerm want → ShapeGrants list s object requester want
     → ShapeGrants second s object requester want
@@ -58,12 +59,14 @@ alike_gives list second s object requester want a small g = record {
   has = alike_always list second s g.entry want a small g.has;
 }
 
+-- where nothing is lost for one of them, nothing is lost for the other
 alike_loses : (list second : List Ace) (s t : EntryShape) → GrantSamePermissions list second → LosesNothing list s t
     → LosesNothing second s t
 alike_loses list second s t a loses object requester asked want small g =
     alike_gives list second t object requester want a small (loses object requester asked want small
     (alike_gives second list s object requester want (alike_back list second a) small g))
 
+-- a pruning by one of them is a pruning by the other
 alike_prunes : (list second : List Ace) (s t : EntryShape) → Prunes list s t → GrantSamePermissions list second
     → Prunes second s t
 alike_prunes list second x y (none s) a = none s
@@ -90,6 +93,7 @@ alike_grants list second s best one_more object requester want a small is other_
     (sound_entry list s best object requester want is.valid is.shaped small
     (λ o r asked yes. best_sound list s best is o r asked want small yes) allowed))
 
+-- the ACLs of one shape for both answer alike
 alike_answers : (list second : List Ace) (s : EntryShape) (best one_more : Entries) → GrantSamePermissions list second
     → IsBest list s best → IsBest second s one_more → AnswerAlike best one_more
 alike_answers list second s best one_more a is other_is want small object requester p = same_answers _ _

@@ -58,6 +58,7 @@ name_in table shape a (group_named name) is known counts users groups = by (id_o
         (groups n (counted_group_is table a n counts (ap (group_id_in table) is ∙ e)))
 name_in table shape a everyone is known counts users groups = tt
 
+-- a shape with the users and the groups that a list names has those of the list with digits for its names
 names_in : (table : Table) (list : List Ace) (shape : EntryShape) → HaveIds table list → AreNamed table list shape
     → HasNamesOf shape (with_ids table list)
 names_in table [] shape known n = tt

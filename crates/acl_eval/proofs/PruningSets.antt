@@ -48,6 +48,7 @@ always_set list t e want small each m ok l bit has =
     let r = single_right want bit small has in
     each r.one r.is r.small r.within m ok l bit r.has
 
+-- what has a set has each part of it
 always_one : (list : List Ace) (t : EntryShape) (e : Tag) (want one : ℕ)
     → ((b : ℕ) → has_bit (image one) b ≡ true → has_bit (image want) b ≡ true) → HasAlways (granted_to list) t e want
     → HasAlways (granted_to list) t e one
@@ -75,6 +76,7 @@ contains_set p want small each = (subset_test p want).1 (λ k hk. elim (small_bi
     place_of : (w k j : ℕ) → k ≡ j → has_bit w k ≡ true → has_bit w j ≡ true
     place_of w k j same h = subst (λ (n : ℕ). has_bit w n ≡ true) same h
 
+-- so do those of an entry that is there
 contained_set : (o : Option ℕ) (want : ℕ) → IsPerm want → is_some o ≡ true
     → ((one : ℕ) → IsSingle one → IsPerm one
     → ((b : ℕ) → has_bit (image one) b ≡ true → has_bit (image want) b ≡ true) → is_contained o one ≡ true)
@@ -141,6 +143,7 @@ owner_alone (group id) = false
 owner_alone mask = false
 owner_alone other = true
 
+-- it is a matching
 owner_alone_matching : IsMatching owner_alone
 owner_alone_matching = record { everyone = refl; one = λ u v h g. absurd (false≢true h); ids = by }
   where
@@ -152,6 +155,7 @@ owner_alone_matching = record { everyone = refl; one = λ u v h g. absurd (false
     by mask h = tt
     by other h = tt
 
+-- the check looks at USER_OBJ alone
 owner_only : (t : EntryShape) (x : Tag) → Looks t owner_alone x → x ≡ user_obj
 owner_only t user_obj l = refl
 owner_only t (user id) l = absurd (true≢false l.0)
@@ -170,6 +174,7 @@ user_only t m v ok outside is there (group id) l = absurd (true≢false (sym is 
 user_only t m v ok outside is there mask l = absurd l
 user_only t m v ok outside is there other l = absurd (true≢false (sym is ∙ l.0.others v there))
 
+-- for each shared entry of a shape there is such a matching
 shared_only : (t : EntryShape) (e : Tag) → HasIds t → is_shared e ≡ true → is_in_shape t e ≡ true → LooksOnly t e
 shared_only t e ids shared there = record {
   matching = alone e;
@@ -178,6 +183,7 @@ shared_only t e ids shared there = record {
   only = λ x l. alone_only t e x shared there l;
 }
 
+-- for each entry of a shape there is such a matching
 looks_only : (t : EntryShape) (e : Tag) → HasIds t → is_in_shape t e ≡ true → LooksOnly t e
 looks_only t user_obj ids there =
     record { matching = owner_alone; ok = owner_alone_matching; looks = refl; only = owner_only t }
@@ -297,6 +303,7 @@ rest_given list s t acl m other want a p small shared rest l has =
       | inr not_there ↦ not_there
     ]
 
+-- what a shared entry of a part gives, the whole gives
 shared_given : (list : List Ace) (s t : EntryShape) (acl : Entries) (m : Matching) (e : Tag) (want : ℕ)
     → Agrees list t acl
     → IsPart t s → IsMatching m → IsPerm want → is_shared e ≡ true → Looks s m e → HasAlways (granted_to list) s e want
@@ -311,6 +318,7 @@ shared_given list s t acl m e want a p ok small shared l has =
           (record { owner = rest.owner; others = none_passes (λ id. m (user id)) t.users lacking }) l has
     ]
 
+-- what a part gives, the whole gives
 part_given : (list : List Ace) (s t : EntryShape) (acl : Entries) (m : Matching) (want : ℕ) → Agrees list t acl
     → IsPart t s → IsMatching m → IsPerm want → Gives (granted_to list) s m want → Gives (granted_to list) t m want
 part_given list s t acl m want a p ok small g = by g.entry g.looks g.has

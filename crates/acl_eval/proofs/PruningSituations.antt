@@ -317,12 +317,15 @@ abbrev pub with_ids_only : Requester → Requester
 with_ids_only requester =
     record { user = requester.user; groups = filter (λ g. ltb g (suc greatest_id)) requester.groups }
 
+-- an id passes the test
 id_test : (n : ℕ) → IsId n → ltb n (suc greatest_id) ≡ true
 id_test n is = grind (arith, nat_tests)
 
+-- what passes the test is an id
 IsId-test : (n : ℕ) → ltb n (suc greatest_id) ≡ true → IsId n
 IsId-test n h = grind (arith, nat_tests)
 
+-- the groups that are left are ids
 only_ids : (groups : List ℕ) → AllByRecursion IsId (filter (λ g. ltb g (suc greatest_id)) groups)
 only_ids [] = tt
 only_ids (g ∷ groups) = by (only_ids groups) (ltb g (suc greatest_id)) refl
@@ -349,6 +352,7 @@ same_group : (groups : List ℕ) (id : ℕ) → IsId id
 same_group groups id is = filter_member (λ g. ltb g (suc greatest_id)) groups id
     ∙ rw (id_test id is) (and_true_right (is_member id groups))
 
+-- the tags with ids match this requester as they match the one with all groups
 only_agree : (object : Object) (requester : Requester) (ns : List ℕ) → AreParties object requester
     → ((id : ℕ) → is_member id ns ≡ true → IsId id)
     → Agree ns (tag_meets object (with_ids_only requester)) (tag_meets object requester)

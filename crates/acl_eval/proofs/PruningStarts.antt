@@ -31,6 +31,7 @@ pub record SameNames (s t : EntryShape) : Type 0 where
 pub same_turned : (s t : EntryShape) → SameNames s t → SameNames t s
 same_turned s t a = record { part = a.whole; whole = a.part }
 
+-- two shapes with the names of a third have the same names
 same_through : (s t u : EntryShape) → SameNames s t → SameNames t u → SameNames s u
 same_through s t u a b = record { part = part_of_part s t u a.part b.part; whole = part_of_part u t s b.whole a.whole }
 
@@ -49,6 +50,7 @@ out_of_both (group g) s t p = record {
 out_of_both mask s t p = p
 out_of_both other s t p = p
 
+-- they still have the same without one name
 same_out : (name : Tag) (s t : EntryShape) → SameNames s t → SameNames (taken_out name s) (taken_out name t)
 same_out name s t a = record { part = out_of_both name s t a.part; whole = out_of_both name t s a.whole }
 
@@ -63,6 +65,7 @@ same_gives f s t m want a g =
       has = has_part f t s g.entry want a.whole there g.has;
     }
 
+-- if a shape gives all that another gives, so it is for shapes with the same names
 same_below : (f : Granting) (s t x y : EntryShape) → SameNames s x → SameNames t y → Below f s t → Below f x y
 same_below f s t x y a b below m want ok small g =
     same_gives f t y m want b (below m want ok small (same_gives f x s m want (same_turned s x a) g))
@@ -141,6 +144,7 @@ without x m = λ t. m t && not (eq_by_cmp tag_cmp t x)
 without_other : (x t : Tag) (m : Matching) → eq_by_cmp tag_cmp t x ≡ false → without x m t ≡ m t
 without_other x t m differ = rw differ (and_true_right (m t))
 
+-- a tag that did not match does not match
 without_fails : (x t : Tag) (m : Matching) → m t ≡ false → without x m t ≡ false
 without_fails x t m outside = rw outside refl
 
@@ -153,7 +157,7 @@ not_everyone (group g) n = refl
 not_everyone mask n = absurd (false≢true n)
 not_everyone other n = absurd (false≢true n)
 
--- it is a matching, and alike for a shape that lacks the name
+-- it is a matching, if the tag is USER or GROUP
 without_matching : (x : Tag) (m : Matching) → is_named x ≡ true → IsMatching m → IsMatching (without x m)
 without_matching x m n ok = record {
   everyone = without_other x other m (not_everyone x n) ∙ ok.everyone;
@@ -161,6 +165,7 @@ without_matching x m n ok = record {
   ids = λ t h. ok.ids t (and_true (m t) _ h).0;
 }
 
+-- for a shape that lacks the name, it is alike
 without_alike : (x : Tag) (m : Matching) (one : EntryShape) → is_named x ≡ true → is_in_shape one x ≡ false
     → AlikeFor one m (without x m)
 without_alike x m one n lacks = record {
@@ -335,6 +340,7 @@ cut_all f one s decide ids p =
 abbrev both_starts : EntryShape → EntryShape → EntryShape
 both_starts one three = record { users = one.users ++ three.users; groups = one.groups ++ three.groups }
 
+-- their users and groups are ids if those of each are
 both_ids : (one three : EntryShape) → HasIds one → HasIds three → HasIds (both_starts one three)
 both_ids one three a b = record {
   users = λ id h. member_of_two id one.users three.users (a.users id) (b.users id) h;

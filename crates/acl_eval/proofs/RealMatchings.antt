@@ -50,6 +50,7 @@ pub record IsWithinIds (ns : List ℕ) (s : EntryShape) : Type 0 where
   pub users : (id : ℕ) → is_member id s.users ≡ true → is_member id ns ≡ true
   pub groups : (id : ℕ) → is_member id s.groups ≡ true → is_member id ns ≡ true
 
+-- who is neither the owner nor a user of the shape in the one is neither in the other
 agree_rest : (ns : List ℕ) (m n : Matching) (s : EntryShape) → Agree ns m n → IsWithinIds ns s → IsRest s.users m
     → IsRest s.users n
 agree_rest ns m n s a w r = record {
@@ -96,11 +97,13 @@ abbrev IsNumbered : List ℕ → Option Tag → Type 0
 IsNumbered ns None = ⊤
 IsNumbered ns (Some t) = is_member (qualifier t) ns ≡ true
 
+-- if the numbers that begin with that of a tag are among some, so is that of the tag
 is_first : (o : Option Tag) (rest ns : List ℕ)
     → ((id : ℕ) → is_member id (number_first o rest) ≡ true → is_member id ns ≡ true) → IsNumbered ns o
 is_first None rest ns h = tt
 is_first (Some t) rest ns h = h (qualifier t) (ap (λ (b : Bool). b || is_member (qualifier t) rest) (eq-eqb _ _ refl))
 
+-- so are the numbers that follow it
 is_later : (o : Option Tag) (rest ns : List ℕ)
     → ((id : ℕ) → is_member id (number_first o rest) ≡ true → is_member id ns ≡ true)
     → (id : ℕ) → is_member id rest ≡ true → is_member id ns ≡ true
@@ -113,16 +116,19 @@ abbrev pub AgreeAt : Matching → Matching → Option Tag → Type 0
 AgreeAt m n None = ⊤
 AgreeAt m n (Some t) = m t ≡ n t
 
+-- they agree on the tag of a user, if its number is among those on which they agree
 agree_user : (ns : List ℕ) (m n : Matching) (o : Option ℕ) → Agree ns m n
     → IsNumbered ns (option_map (λ id. tag.user id) o) → AgreeAt m n (option_map (λ id. tag.user id) o)
 agree_user ns m n None a h = tt
 agree_user ns m n (Some id) a h = a.users id h
 
+-- they agree on the tag of a group, if its number is among them
 agree_group : (ns : List ℕ) (m n : Matching) (o : Option ℕ) → Agree ns m n
     → IsNumbered ns (option_map (λ id. tag.group id) o) → AgreeAt m n (option_map (λ id. tag.group id) o)
 agree_group ns m n None a h = tt
 agree_group ns m n (Some id) a h = a.groups id h
 
+-- they agree on the tag of each principal, if its number is among them
 agree_at : (ns : List ℕ) (m n : Matching) (p : Principal) → Agree ns m n → IsNumbered ns (digits_tag p)
     → AgreeAt m n (digits_tag p)
 agree_at ns m n owner a h = a.owner

@@ -49,13 +49,15 @@ not_mask shape other h = refl
 
 -- ---- the three entries
 
--- the parts of a mode that was made of them
+-- the owner's part of a mode of three parts is the first
 owner_is : (a b c : ℕ) → a < 8 → b < 8 → c < 8 → owner_part (mode_of_parts a b c) ≡ a
 owner_is a b c p q r = omega (arith, p, q, r)
 
+-- its group's part is the second
 group_is : (a b c : ℕ) → a < 8 → b < 8 → c < 8 → group_part (mode_of_parts a b c) ≡ b
 group_is a b c p q r = omega (arith, p, q, r)
 
+-- its others' part is the third
 others_are : (a b c : ℕ) → a < 8 → b < 8 → c < 8 → others_part (mode_of_parts a b c) ≡ c
 others_are a b c p q r = omega (arith, p, q, r)
 
@@ -256,7 +258,7 @@ finished list shape E F some filled is leaves stays acl = record {
       (leaves E entry (ap (λ (G : Entries). fin.get G entry.0) (sym is) ∙ at));
 }
 
--- a shape of no users and no groups
+-- a shape of no users and no groups has no users
 empty_users : (shape : EntryShape) → size_of shape ≤ 0 → shape.users ≡ []
 empty_users shape small = by shape.users small
   where
@@ -264,6 +266,7 @@ empty_users shape small = by shape.users small
     by [] h = refl
     by (x ∷ xs) h = absurd (omega (arith, h))
 
+-- and no groups
 empty_groups : (shape : EntryShape) → size_of shape ≤ 0 → shape.groups ≡ []
 empty_groups shape small = by shape.groups small
   where

@@ -91,12 +91,13 @@ shorter {X} test keep (y ∷ xs) x h k = by (shorter test keep xs x) (test y) (k
 abbrev pub is_kept : Tag → JudgedEntry → Bool
 is_kept name e = not (eq_by_cmp tag_cmp (tag_of e.tag) name)
 
--- the users and the groups with or without an entry before the others
+-- the users with or without an entry before the others
 chosen_users : (b : Bool) (e : JudgedEntry) (left : List JudgedEntry)
     → users_left (cond b (e ∷ left) left) ≡ cond b (user_before (tag_of e.tag) (users_left left)) (users_left left)
 chosen_users true e left = refl
 chosen_users false e left = refl
 
+-- the groups with or without an entry before the others
 chosen_groups : (b : Bool) (e : JudgedEntry) (left : List JudgedEntry)
     → groups_left (cond b (e ∷ left) left) ≡ cond b (group_before (tag_of e.tag) (groups_left left)) (groups_left left)
 chosen_groups true e left = refl
@@ -113,7 +114,7 @@ chosen_number : (v u : ℕ) (left xs : List ℕ) → left ≡ shape_without u xs
 chosen_number v u left xs h = ap (λ (b : Bool). cond (not b) (v ∷ left) left) (eqb_comm u v)
     ∙ ap (λ (ns : List ℕ). cond (not (v == u)) (v ∷ ns) ns) h
 
--- one entry more
+-- one entry more: the users, if one user is taken out
 user_without : (u : ℕ) (t : Tag) (left xs : List ℕ) → left ≡ shape_without u xs
     → cond (not (eq_by_cmp tag_cmp t (user u))) (user_before t left) left ≡ shape_without u (user_before t xs)
 user_without u user_obj left xs h = h
@@ -124,6 +125,7 @@ user_without u (group v) left xs h = h
 user_without u mask left xs h = h
 user_without u other left xs h = h
 
+-- one entry more: the users stay, if a group is taken out
 user_stays : (g : ℕ) (t : Tag) (left xs : List ℕ) → left ≡ xs
     → cond (not (eq_by_cmp tag_cmp t (group g))) (user_before t left) left ≡ user_before t xs
 user_stays g user_obj left xs h = h
@@ -133,6 +135,7 @@ user_stays g (group v) left xs h = chosen_same _ left ∙ h
 user_stays g mask left xs h = h
 user_stays g other left xs h = h
 
+-- one entry more: the groups, if one group is taken out
 group_without : (g : ℕ) (t : Tag) (left xs : List ℕ) → left ≡ shape_without g xs
     → cond (not (eq_by_cmp tag_cmp t (group g))) (group_before t left) left ≡ shape_without g (group_before t xs)
 group_without g user_obj left xs h = h
@@ -143,6 +146,7 @@ group_without g (group v) left xs h =
 group_without g mask left xs h = h
 group_without g other left xs h = h
 
+-- one entry more: the groups stay, if a user is taken out
 group_stays : (u : ℕ) (t : Tag) (left xs : List ℕ) → left ≡ xs
     → cond (not (eq_by_cmp tag_cmp t (user u))) (group_before t left) left ≡ group_before t xs
 group_stays u user_obj left xs h = h
@@ -152,24 +156,27 @@ group_stays u (group v) left xs h = ap (λ (ns : List ℕ). v ∷ ns) h
 group_stays u mask left xs h = h
 group_stays u other left xs h = h
 
--- all entries
+-- all entries: the users, if one user is taken out
 users_without : (u : ℕ) (left : List JudgedEntry)
     → users_left (filter (is_kept (user u)) left) ≡ shape_without u (users_left left)
 users_without u [] = refl
 users_without u (e ∷ left) = chosen_users (is_kept (user u) e) e (filter (is_kept (user u)) left)
     ∙ user_without u (tag_of e.tag) _ _ (users_without u left)
 
+-- all entries: the users stay, if a group is taken out
 users_stay : (g : ℕ) (left : List JudgedEntry) → users_left (filter (is_kept (group g)) left) ≡ users_left left
 users_stay g [] = refl
 users_stay g (e ∷ left) = chosen_users (is_kept (group g) e) e (filter (is_kept (group g)) left)
     ∙ user_stays g (tag_of e.tag) _ _ (users_stay g left)
 
+-- all entries: the groups, if one group is taken out
 groups_without : (g : ℕ) (left : List JudgedEntry)
     → groups_left (filter (is_kept (group g)) left) ≡ shape_without g (groups_left left)
 groups_without g [] = refl
 groups_without g (e ∷ left) = chosen_groups (is_kept (group g) e) e (filter (is_kept (group g)) left)
     ∙ group_without g (tag_of e.tag) _ _ (groups_without g left)
 
+-- all entries: the groups stay, if a user is taken out
 groups_stay : (u : ℕ) (left : List JudgedEntry) → groups_left (filter (is_kept (user u)) left) ≡ groups_left left
 groups_stay u [] = refl
 groups_stay u (e ∷ left) = chosen_groups (is_kept (user u) e) e (filter (is_kept (user u)) left)
@@ -195,7 +202,7 @@ out_shape other left n = absurd (false≢true n)
 
 -- ---- entries and members
 
--- a user is among the ids if and only if an entry has its tag
+-- with one tag more, a user is among the ids if the tag is that of the user or it was among them
 user_has : (id : ℕ) (t : Tag) (xs : List ℕ)
     → is_member id (user_before t xs) ≡ (eq_by_cmp tag_cmp t (user id) || is_member id xs)
 user_has id user_obj xs = refl
@@ -205,6 +212,7 @@ user_has id (group v) xs = refl
 user_has id mask xs = refl
 user_has id other xs = refl
 
+-- with one tag more, a group is among the ids if the tag is that of the group or it was among them
 group_has : (id : ℕ) (t : Tag) (xs : List ℕ)
     → is_member id (group_before t xs) ≡ (eq_by_cmp tag_cmp t (group id) || is_member id xs)
 group_has id user_obj xs = refl
@@ -214,11 +222,13 @@ group_has id (group v) xs = ap (λ (b : Bool). b || is_member id xs) (eqb_comm v
 group_has id mask xs = refl
 group_has id other xs = refl
 
+-- a user is among the ids if and only if an entry has its tag
 user_member : (id : ℕ) (left : List JudgedEntry) → is_member id (users_left left) ≡ has_entry (user id) left
 user_member id [] = refl
 user_member id (e ∷ left) = user_has id (tag_of e.tag) (users_left left)
     ∙ ap (λ (b : Bool). eq_by_cmp tag_cmp (tag_of e.tag) (user id) || b) (user_member id left)
 
+-- a group is among the ids if and only if an entry has its tag
 group_member : (id : ℕ) (left : List JudgedEntry) → is_member id (groups_left left) ≡ has_entry (group id) left
 group_member id [] = refl
 group_member id (e ∷ left) = group_has id (tag_of e.tag) (groups_left left)

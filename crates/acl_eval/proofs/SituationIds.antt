@@ -53,7 +53,7 @@ IsTag-key t (k ∷ keys) h = by (IsTag-key t keys) (eq_by_cmp tag_cmp t (tag_of 
     by rest true e h = subst IsTag (sym (same_tag t (tag_of k.whom) e)) (IsTag-code k.whom)
     by rest false e h = rest h
 
--- the user of a tag is an id, and so are its groups
+-- the user of a tag, or another one if it has none, is an id
 user_id : (t : Tag) (e : Option ℕ) (free : ℕ) → IsTag t → IsId (unwrap_or e free)
     → IsId (unwrap_or (option_or (user_in t) e) free)
 user_id user_obj e free is rest = rest
@@ -63,6 +63,7 @@ user_id (group id) e free is rest = rest
 user_id mask e free is rest = rest
 user_id other e free is rest = rest
 
+-- the user of a tag, or a free one if it has none, is an id
 own_user_id : (t : Tag) (free : ℕ) → IsTag t → IsId free → IsId (unwrap_or (user_in t) free)
 own_user_id user_obj free is f = f
 own_user_id (user id) free is f = is
@@ -71,6 +72,7 @@ own_user_id (group id) free is f = f
 own_user_id mask free is f = f
 own_user_id other free is f = f
 
+-- the groups of a tag are ids, with other ids behind them
 group_ids : (own : ℕ) (t : Tag) (rest : List ℕ) → IsTag t → IsId own → AllByRecursion IsId rest
     → AllByRecursion IsId (groups_for own t ++ rest)
 group_ids own user_obj rest is o h = h
@@ -85,17 +87,20 @@ abbrev pub IsTagged : Option Tag → Type 0
 IsTagged None = ⊤
 IsTagged (Some x) = IsTag x
 
+-- so it is if the tag besides is one of the keys
 IsTagged-extra : (keys : List TagKey) (possible : Tag → Bool) (extra : Option Tag)
     → IsExtra possible (keys_of keys) extra
     → IsTagged extra
 IsTagged-extra keys possible None besides = tt
 IsTagged-extra keys possible (Some x) besides = IsTag-key x keys besides.1
 
+-- the user who requests access is an id
 IsId-asker : (entry : Tag) (extra : Option Tag) (free : ℕ) → IsTag entry → IsTagged extra → IsId free
     → IsId (asker entry extra free)
 IsId-asker entry None free is besides f = own_user_id entry free is f
 IsId-asker entry (Some x) free is besides f = user_id x (user_in entry) free besides (own_user_id entry free is f)
 
+-- the groups of the tag besides are ids
 besides_ids : (own : ℕ) (extra : Option Tag) → IsTagged extra → IsId own → AllByRecursion IsId (extra_groups own extra)
 besides_ids own None besides o = tt
 besides_ids own (Some x) besides o =
@@ -109,6 +114,7 @@ besides_ids own (Some x) besides o =
     nothing own mask = refl
     nothing own other = refl
 
+-- the owner of the object is an id
 IsId-owner : (entry : Tag) (n next : ℕ) → IsId n → IsId next → IsId (if is_owner_tag entry then n else next)
 IsId-owner user_obj n next h g = h
 IsId-owner (user id) n next h g = g

@@ -47,6 +47,7 @@ abbrev pub IsFound : ℕ → List ℕ → Option ℕ → Type 0
 IsFound k name None = (id : ℕ) → id < k → bytes_eq (decimal id) name ≡ false
 IsFound k name (Some id) = (id < k) × (bytes_eq (decimal id) name ≡ true)
 
+-- so it is for the number that is found below a bound
 found_below : (k : ℕ) (name : List ℕ) → IsFound k name (digits_below k name)
 unfolding digits_below
 found_below zero name = λ id lt. absurd (omega (arith, lt))
@@ -189,6 +190,7 @@ not_same m t d outside is = elim (cases_Bool (eq_by_cmp tag_cmp t d)) [
   | inr differ ↦ differ
 ]
 
+-- a tag that does not match does not match without groups
 without_groups : (m : Matching) (t : Tag) → m t ≡ false → no_groups m t ≡ false
 without_groups m tag.user_obj h = h
 without_groups m (tag.user id) h = h
@@ -197,6 +199,7 @@ without_groups m (tag.group id) h = refl
 without_groups m tag.mask h = h
 without_groups m tag.other h = h
 
+-- nor does it match with one group that matches in place of the others
 with_another : (m : Matching) (d t : Tag) → m t ≡ false → m d ≡ true → with_group d m t ≡ false
 with_another m d tag.user_obj h is = h
 with_another m d (tag.user id) h is = h
@@ -205,6 +208,7 @@ with_another m d (tag.group id) h is = not_same m (tag.group id) d h is
 with_another m d tag.mask h is = h
 with_another m d tag.other h is = h
 
+-- nor for a stranger in one group that matches
 alone_another : (m : Matching) (d t : Tag) → m tag.other ≡ true → m t ≡ false → m d ≡ true → alone d t ≡ false
 alone_another m d tag.user_obj e h is = refl
 alone_another m d (tag.user id) e h is = refl
@@ -213,6 +217,7 @@ alone_another m d (tag.group id) e h is = not_same m (tag.group id) d h is
 alone_another m d tag.mask e h is = refl
 alone_another m d tag.other e h is = absurd (true≢false (sym e ∙ h))
 
+-- with one group in place of the others, this group matches
 own_group : (m : Matching) (d : Tag) → is_group_tag d ≡ true → with_group d m d ≡ true
 own_group m tag.user_obj h = absurd (false≢true h)
 own_group m (tag.user id) h = absurd (false≢true h)
@@ -221,6 +226,7 @@ own_group m (tag.group id) h = eq_by_cmp-refl (tag.group id)
 own_group m tag.mask h = absurd (false≢true h)
 own_group m tag.other h = absurd (false≢true h)
 
+-- a tag of no group matches without groups as before
 not_a_group : (m : Matching) (d : Tag) → is_group_tag d ≡ false → no_groups m d ≡ m d
 not_a_group m tag.user_obj h = refl
 not_a_group m (tag.user id) h = refl
@@ -229,6 +235,7 @@ not_a_group m (tag.group id) h = absurd (true≢false h)
 not_a_group m tag.mask h = refl
 not_a_group m tag.other h = refl
 
+-- what is granted without groups is granted with them, or one group is enough to deny it
 one_key : (keys : TagColumn) (m : Matching) → m tag.other ≡ true → column_decided_by (no_groups m) keys false ≡ true
     → (column_decided_by m keys false ≡ true) ⊎ OneKey keys m
 one_key [] m all h = absurd (false≢true h)

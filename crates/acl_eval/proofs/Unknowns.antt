@@ -478,13 +478,15 @@ is_none None a d = refl
 is_none (Some Deny) a d = absurd (d refl)
 is_none (Some Allow) a d = absurd (a refl)
 
--- different answers
+-- no answer is not Allow
 none_allow : None ≡ Some Allow → ⊥
 none_allow e = cc
 
+-- Deny is not Allow
 deny_allow : Some Deny ≡ Some Allow → ⊥
 deny_allow e = cc
 
+-- no answer is not Deny
 none_deny : None ≡ Some Deny → ⊥
 none_deny e = cc
 

@@ -84,6 +84,7 @@ record IsGoodRest (before : List NameRow) (r : NameRow) (rest : List NameRow) : 
   pub good : is_good_row (new_name before) r ≡ true
   pub others : bad_row_after (before ++ r ∷ []) rest ≡ None
 
+-- so it is if no row after some rows is bad
 good_rest : (before rest : List NameRow) (r : NameRow) → bad_row_after before (r ∷ rest) ≡ None
     → IsGoodRest before r rest
 good_rest before rest r e = by (is_good_row (new_name before) r) refl e
@@ -291,6 +292,7 @@ record AreAccounts (old new : List ℕ) : Type 0 where
   pub from : is_account old ≡ true
   pub to : is_account new ≡ true
 
+-- so they are if no row of the table is bad
 accounts : (before rows : List NameRow) (g : Bool) (x y : List ℕ) → bad_row_after before rows ≡ None
     → new_name rows g x ≡ Some y → AreAccounts x y
 accounts before [] g x y good e = absurd cc

@@ -205,6 +205,7 @@ record IsSpecialWord (tag : NfsTag) (name word : List ℕ) : Type 0 where
 no_digits : (b : ℕ) (bs : List ℕ) → 57 < b → id_of_digits (b ∷ bs) ≡ None
 no_digits b bs high = sym (no_id (b ∷ bs) (λ n is e. not_decimal n b bs is high (sym e)))
 
+-- `owner@` is the word of OWNER@
 owner_word : IsSpecialWord Owner owner_name (codes "owner@")
 owner_word = record {
   word_of = refl;
@@ -216,6 +217,7 @@ owner_word = record {
   word_is = record { inside = refl; no_colon = refl; no_blank = refl; some = omega arith };
 }
 
+-- `group@` is the word of GROUP@
 group_word : IsSpecialWord OwningGroup group_name (codes "group@")
 group_word = record {
   word_of = refl;
@@ -227,6 +229,7 @@ group_word = record {
   word_is = record { inside = refl; no_colon = refl; no_blank = refl; some = omega arith };
 }
 
+-- `everyone@` is the word of EVERYONE@
 everyone_word : IsSpecialWord Everyone everyone_name (codes "everyone@")
 everyone_word = record {
   word_of = refl;
@@ -282,12 +285,13 @@ group_flags flags within met = record {
   word_is = record { inside = refl; no_colon = refl; no_blank = refl; some = omega arith };
 }
 
--- the word of a kind is inside an entry, without a colon, and is read as the kind
+-- the bytes of the word of a kind pass a test that those of `allow` and `deny` pass
 kind_pass : (test : ℕ → Bool) → list_all test (codes "allow") ≡ true → list_all test (codes "deny") ≡ true
     → (kind : Kind) → list_all test (kind_word kind) ≡ true
 kind_pass test allow deny Allow = allow
 kind_pass test allow deny Deny = deny
 
+-- the word of a kind is read as the kind
 kind_again : (kind : Kind) (field : Span) → field.bytes ≡ kind_word kind → nfs_kind field ≡ Ok kind
 kind_again Allow field e = rw e refl
 kind_again Deny field e = rw e refl
@@ -367,15 +371,17 @@ record AreFieldsOf (letters : LetterStyle) (a : Ace) (fields : NfsFields) : Type
   pub flags : fields.flags.bytes ≡ flags_text letters a.flags
   pub kind : fields.kind.bytes ≡ kind_word a.kind
 
--- the letters of a table have no blanks
+-- the letters of rights have no blanks around them
 rights_kept : (letters : LetterStyle) (mask : ℕ) → trimmed (rights_text letters mask) ≡ rights_text letters mask
 rights_kept letters mask =
     kept (rights_text letters mask) (styled_pass letters is_no_blank (nfs_right_letters []) mask refl refl)
 
+-- the letters of flags have no blanks around them
 flags_kept : (letters : LetterStyle) (flags : ℕ) → trimmed (flags_text letters flags) ≡ flags_text letters flags
 flags_kept letters flags =
     kept (flags_text letters flags) (styled_pass letters is_no_blank (nfs_flag_letters []) flags refl refl)
 
+-- the word of a kind has no blanks around it
 kind_kept : (kind : Kind) → trimmed (kind_word kind) ≡ kind_word kind
 kind_kept kind = kept (kind_word kind) (kind_pass is_no_blank refl refl kind)
 

@@ -24,20 +24,23 @@ use Rattle.acl_forms.proofs.ToolsAgain.{all_not, all_pass, no_place}
 
 -- ---- bytes inside entries
 
--- bytes inside an entry are no line feeds, no commas, no `#` and no zeros
+-- no byte inside an entry is a line feed
 feed_free : (text : List ℕ) → list_all is_in_entry text ≡ true → list_all (λ b. not (b == line_feed)) text ≡ true
 feed_free text h =
     all_pass is_in_entry (λ b. not (b == line_feed)) text (λ b i. (and_true (not (b == line_feed)) _ i).0) h
 
+-- no byte inside an entry is `#`
 hash_free : (text : List ℕ) → list_all is_in_entry text ≡ true → list_all (λ b. not (b == hash)) text ≡ true
 hash_free text h = all_pass is_in_entry (λ b. not (b == hash)) text
     (λ b i. (and_true (not (b == hash)) _ (and_true (not (b == line_feed)) _ i).1).0) h
 
+-- no byte inside an entry is a comma
 comma_free : (text : List ℕ) → list_all is_in_entry text ≡ true → list_all (λ b. not (b == comma)) text ≡ true
 comma_free text h = all_pass is_in_entry (λ b. not (b == comma)) text
     (λ b i. (and_true (not (b == comma)) _ (and_true (not (b == hash)) _ (and_true (not (b == line_feed)) _ i).1).1).0)
     h
 
+-- no byte inside an entry is zero
 zero_free : (text : List ℕ) → list_all is_in_entry text ≡ true → list_all (λ b. not (b == 0)) text ≡ true
 zero_free text h = all_pass is_in_entry (λ b. not (b == 0)) text
     (λ b i. (and_true (not (b == comma)) _ (and_true (not (b == hash)) _ (and_true (not (b == line_feed)) _ i).1).1).1)

@@ -109,6 +109,7 @@ record IsWordOf (w : TagWord) (word : List ℕ) : Type 0 where
   pub no_colon : list_all is_no_colon word ≡ true
   pub some : (rest : List ℕ) → is_all_blank (word ++ rest) ≡ false
 
+-- so it is for the word of each tag, in full
 word_at : (tag : Tag) → IsWordOf (tag_row tag).word (long_word tag)
 unfolding trimmed word_of
 word_at user_obj = record { read = refl; no_mark = refl; inside = refl; no_colon = refl; some = λ rest. refl }

@@ -49,23 +49,27 @@ star_of names e = three_fields e (tag_name names e.0) ++ id_field e.0 (tag_name 
 abbrev pub gnu_of : NamesOfIds → Tag × ℕ → List ℕ
 gnu_of names e = three_fields e (tag_name names e.0)
 
--- a name that is written is shown
+-- a user's name that is kept if it is shown is shown
 shown_user : (id : ℕ) (name : List ℕ) (b : Bool) → is_shown name ≡ b → IsShownName (user id) (cond b (Some name) None)
 shown_user id name true e = e
 shown_user id name false e = tt
 
+-- a group's name that is kept if it is shown is shown
 shown_group : (id : ℕ) (name : List ℕ) (b : Bool) → is_shown name ≡ b → IsShownName (group id) (cond b (Some name) None)
 shown_group id name true e = e
 shown_group id name false e = tt
 
+-- what is kept of a user's name that may be absent is shown
 user_name : (id : ℕ) (o : Option (List ℕ)) → IsShownName (user id) (option_and_then if_shown o)
 user_name id None = tt
 user_name id (Some name) = shown_user id name (is_shown name) refl
 
+-- what is kept of a group's name that may be absent is shown
 group_name : (id : ℕ) (o : Option (List ℕ)) → IsShownName (group id) (option_and_then if_shown o)
 group_name id None = tt
 group_name id (Some name) = shown_group id name (is_shown name) refl
 
+-- the name that is written for a tag is shown
 shown_of : (names : NamesOfIds) (tag : Tag) → IsShownName tag (tag_name names tag)
 shown_of names (user id) = user_name id (fin.get names.users id)
 shown_of names (group id) = group_name id (fin.get names.groups id)
@@ -74,17 +78,19 @@ shown_of names group_obj = tt
 shown_of names mask = tt
 shown_of names other = tt
 
--- a name that is written is in the table, with the id of its tag
+-- a user's name that is written is in the table, with the id of its tag
 has_user : (table : Table) (names : NamesOfIds) (id : ℕ) (o : Option (List ℕ)) → HasNamesOfIds table names
     → shown_name names.users id ≡ o → IsShownName (user id) o → HasName table (user id) o
 has_user table names id None has e shown = tt
 has_user table names id (Some name) has e shown = (shown, has.users id name e)
 
+-- a group's name that is written is in the table, with the id of its tag
 has_group : (table : Table) (names : NamesOfIds) (id : ℕ) (o : Option (List ℕ)) → HasNamesOfIds table names
     → shown_name names.groups id ≡ o → IsShownName (group id) o → HasName table (group id) o
 has_group table names id None has e shown = tt
 has_group table names id (Some name) has e shown = (shown, has.groups id name e)
 
+-- the name that is written for a tag is in the table, with the id of the tag
 has_of : (table : Table) (names : NamesOfIds) (tag : Tag) → HasNamesOfIds table names
     → HasName table tag (tag_name names tag)
 has_of table names (user id) has =
@@ -259,6 +265,7 @@ not_first : (e : Tag × ℕ) (es : List (Tag × ℕ)) → is_owner e.0 ≡ false
 unfolding IsStrictlySortedBy
 not_first e es differ sorted = no_owner (e ∷ es) (differ, after e.0 es sorted.0)
 
+-- so do sorted entries in which the owner's is found
 owner_first : (es : List (Tag × ℕ)) → IsSorted es → (find tag_cmp user_obj es ≡ None → ⊥) → BeginsWithOwner es
 unfolding IsStrictlySortedBy
 owner_first [] sorted some = absurd (some refl)
@@ -373,7 +380,7 @@ star_spelled names table part acl h held =
 
 -- ---- parts
 
--- the entries without a mark belong to their part, and to no other
+-- entries placed in the access part belong to it
 own_part : (text : Tag × ℕ → List ℕ) (column : ℕ) (es : List (Tag × ℕ))
     → of_part Access (placed_from text Access column es) ≡ placed_from text Access column es
 own_part text column [] = refl
@@ -381,6 +388,7 @@ own_part text column (e ∷ es) =
     ap (λ (l : List PlacedEntry). record { part = Access; at = column; pair = e } ∷ l)
     (own_part text (column + length (text e) + 1) es)
 
+-- none of them belongs to the default part
 no_default : (text : Tag × ℕ → List ℕ) (column : ℕ) (es : List (Tag × ℕ))
     → of_part Default (placed_from text Access column es) ≡ []
 no_default text column [] = refl

@@ -56,6 +56,7 @@ tests_pass false false false mask e = absurd cc
 tests_pass false false true false e = absurd cc
 tests_pass false false true true e = (refl, refl)
 
+-- so they are in an ACE of which no number is refused
 one_fits : (p : Profile) (a : RawAce) → number_fault p a ≡ None
     → IsWithin p.flags a.flags × IsWithin p.masks a.mask
 one_fits p a e =

@@ -14,6 +14,7 @@ use Rattle.acl_posix.proofs.tag.Tags.{length-tags_of}
 
 -- ---- users whom a set names
 
+-- the tag with a user is USER
 is_user : (t : Tag) (u : ℕ) → user_id t ≡ Some u → t ≡ user u
 is_user (user id) u h = ap (λ (o : Option ℕ). user (unwrap_or o u)) h
 is_user tag u h = absurd cc
@@ -26,6 +27,7 @@ named_at E j u lt is = fin.contains_key-keys E (user u)
     (ap (eq_by_cmp tag_cmp (user u)) (is_user (tag_at (fin.entries E) j) u is)
     ∙ (eq_by_cmp_equiv tags_total).refl (user u))
 
+-- an answer given if a test passes is absent only if it fails
 unanswered : {X : Type 0} (f : Bool) (x : X) → cond f (Some x) None ≡ None → f ≡ false
 unanswered true x h = absurd cc
 unanswered false x h = refl
@@ -35,6 +37,7 @@ pub unnamed : (E : Entries) (u r : ℕ) → user_answer E u r ≡ None → fin.c
 unfolding user_answer
 unnamed E u r h = unanswered (fin.contains_key E (user u)) _ h
 
+-- of two tests of which one passes, not both fail
 neither : (f h : Bool) → (f || h) ≡ true → f ≡ false → h ≡ false → ⊥
 neither f h any p q = grind (arith, any, p, q)
 
@@ -54,10 +57,12 @@ to_named A B og r in_a in_b u named =
       | inr b ↦ in_b u b
     ]
 
+-- if neither of two tests passes, the first fails
 neither_left : (f h : Bool) → (f || h) ≡ false → f ≡ false
 neither_left false h is = refl
 neither_left true h is = absurd cc
 
+-- if neither of two tests passes, the second fails
 neither_right : (f h : Bool) → (f || h) ≡ false → h ≡ false
 neither_right false h is = is
 neither_right true h is = absurd cc
@@ -76,6 +81,7 @@ from_groups A B og u r gs not h = record {
   denied = answer_unnamed B og u r gs (neither_right (fin.contains_key A (user u)) _ not) ∙ h.denied;
 }
 
+-- a test passes or fails
 either_way : (b : Bool) → (b ≡ true) ⊎ (b ≡ false)
 either_way true = inl refl
 either_way false = inr refl
@@ -93,10 +99,12 @@ to_anybody A B og r named others u gs h = elim (either_way (either_names A B u))
 
 -- ---- the access check by these answers
 
+-- a choice is the answer given if the test passes, or the other value
 answered_or : (f x s : Bool) → cond f x s ≡ unwrap_or (cond f (Some x) None) s
 answered_or true x s = refl
 answered_or false x s = refl
 
+-- the access check: the permissions of USER_OBJ for the owner, and the answer to others for others
 grants_is : (E : Entries) (o : Object) (q : Requester) (r : ℕ) → grants E o q r
     ≡ cond (q.user == o.user) (entry_contains E user_obj r) (answer_of E o.group q.user q.groups r)
 unfolding grants user_answer stranger_grants
@@ -137,6 +145,7 @@ made_owner A B r d same is_request a b = record {
   asks = ap (λ (p : Perm). p.bits) is_request;
 }
 
+-- what the first grants and the second does not deny, the second grants
 granted_too : (a b : Bool) → (a ≡ true → b ≡ false → ⊥) → a ≡ true → b ≡ true
 granted_too a true never is = refl
 granted_too a false never is = absurd (never is refl)
@@ -155,13 +164,14 @@ grants_no_more A B r owner others o q parties granted =
 
 -- ---- another owning group
 
--- the groups of a requester, with one owning group in place of another
+-- a group before others, with one owning group in place of another
 abbrev put_one : Bool → Bool → ℕ → ℕ → List ℕ → List ℕ
 put_one true true og g gs = og ∷ gs
 put_one true false og g gs = og ∷ (g ∷ gs)
 put_one false true og g gs = gs
 put_one false false og g gs = g ∷ gs
 
+-- the groups of a requester, with one owning group in place of another
 abbrev moved : ℕ → ℕ → List ℕ → List ℕ
 moved og was [] = []
 moved og was (g ∷ gs) = put_one (g == was) (g == og) og g (moved og was gs)
@@ -177,6 +187,7 @@ one_moved f e false true false og g gs rest is own same apart = rw (own, apart r
 one_moved f e go false true og g gs rest is own same apart = rw (same refl, is) refl
 one_moved f e go false false og g gs rest is own same apart = rw (apart refl, is) refl
 
+-- an entry that is not there contains nothing
 absent_contains : (E : Entries) (t : Tag) (r : ℕ) → fin.contains_key E t ≡ false → entry_contains E t r ≡ false
 absent_contains E t r not = none_contains (fin.get E t) r not
   where
@@ -195,12 +206,14 @@ any_moved E og was r (g ∷ gs) not =
     (any_moved E og was r gs not) (rw (eq-eqb og og refl, none) refl)
     (λ same. ap e (eqb-true g og same) ∙ none) (λ other. rw other refl)
 
+-- so does the answer to one who is not the owner and whom no USER entry names
 stranger_moved : (E : Entries) (og was r : ℕ) (gs : List ℕ) → fin.contains_key E (group og) ≡ false
     → stranger_grants E og (moved og was gs) r ≡ stranger_grants E was gs r
 stranger_moved E og was r gs not =
     stranger_parts E og r (moved og was gs)
     ∙ rw (any_moved E og was 0 gs not, any_moved E og was r gs not) (sym (stranger_parts E was r gs))
 
+-- so does the answer to each who is not the owner
 answer_moved : (E : Entries) (og was u r : ℕ) (gs : List ℕ) → fin.contains_key E (group og) ≡ false
     → answer_of E og u (moved og was gs) r ≡ answer_of E was u gs r
 answer_moved E og was u r gs not =

@@ -25,6 +25,7 @@ joined answer (g ∷ gs) = join (answer g) (joined answer gs)
 abbrev part : Bool → Bool → Bool → Bool → Bool → Option Bool
 part f masked m k go = cond f (Some (cond masked (m && k) go)) None
 
+-- the answers to two groups together: one of the groups has the request
 some_either : (masked m k l go : Bool)
     → join (Some (cond masked (m && k) go)) (Some (cond masked (m && l) go)) ≡ Some (cond masked (m && (k || l)) go)
 some_either true true k l go = refl
@@ -32,6 +33,7 @@ some_either true false k l go = refl
 some_either false m k l true = refl
 some_either false m k l false = refl
 
+-- the same if they may be absent, and a group that has the request matches
 join_parts : (f h masked m k l go : Bool) → (k ≡ true → f ≡ true) → (l ≡ true → h ≡ true)
     → join (part f masked m k go) (part h masked m l go) ≡ part (f || h) masked m (k || l) go
 join_parts true true masked m k l go p q = some_either masked m k l go
@@ -46,6 +48,7 @@ contains_none : (o : Option ℕ) (r : ℕ) → is_contained o r ≡ true → is_
 contains_none None r h = absurd cc
 contains_none (Some p) r h = rw (and_zero_r p) refl
 
+-- one of two passes if the second does
 or_right : (a : Bool) {b : Bool} → b ≡ true → (a || b) ≡ true
 or_right true h = refl
 or_right false h = h
@@ -59,6 +62,7 @@ has_match E og r g h = elim (or_true ((g == og) && entry_contains E group_obj r)
   | inr held ↦ or_right _ (contains_none (fin.get E (group g)) r held)
 ]
 
+-- if a group passes a test, a group passes each test that is weaker
 any_weaker : (p q : ℕ → Bool) → ((g : ℕ) → p g ≡ true → q g ≡ true) → (gs : List ℕ) → list_any p gs ≡ true
     → list_any q gs ≡ true
 any_weaker p q to [] h = absurd cc
@@ -80,6 +84,7 @@ joined_is E og r (g ∷ gs) =
     (entry_contains E group_obj r) (has_match E og r g)
     (any_weaker (group_contains E og r) (group_contains E og 0) (has_match E og r) gs)
 
+-- the answer in parts, or another if no group matches
 unwrap_part : (f masked m k go o : Bool)
     → unwrap_or (part f masked m k go) o ≡ cond f (cond masked (m && k) go) o
 unwrap_part true masked m k go o = refl
@@ -111,24 +116,28 @@ stranger_is E og r gs =
 
 -- ---- the answers to several groups
 
+-- two answers together are one of them
 join_either : (a b : Option Bool) (c : Bool) → join a b ≡ Some c → (a ≡ Some c) ⊎ (b ≡ Some c)
 join_either None b c h = inr h
 join_either (Some x) None c h = inl h
 join_either (Some true) (Some y) c h = inl h
 join_either (Some false) (Some y) c h = inr h
 
+-- two answers together grant if the first grants
 join_left : (a b : Option Bool) → a ≡ Some true → join a b ≡ Some true
 join_left None b h = absurd cc
 join_left (Some true) None h = refl
 join_left (Some true) (Some y) h = refl
 join_left (Some false) b h = absurd cc
 
+-- two answers together grant if the second grants
 join_right : (a b : Option Bool) → b ≡ Some true → join a b ≡ Some true
 join_right None b h = h
 join_right (Some x) None h = absurd cc
 join_right (Some true) (Some y) h = refl
 join_right (Some false) (Some y) h = h
 
+-- two answers together are absent only if both are
 join_none : (a b : Option Bool) → join a b ≡ None → (a ≡ None) × (b ≡ None)
 join_none None b h = (refl, h)
 join_none (Some x) None h = absurd cc
@@ -169,6 +178,7 @@ joined_never y b never (g ∷ gs) h = elim (join_either (y g) (joined y gs) b h)
 pub with_none : (E : Entries) (og r : ℕ) → stranger_grants E og [] r ≡ entry_contains E other r
 with_none E og r = stranger_is E og r []
 
+-- an answer together with none is the answer
 join_alone : (a : Option Bool) → join a None ≡ a
 join_alone None = refl
 join_alone (Some x) = refl
@@ -188,6 +198,7 @@ with_two E og r g h = stranger_is E og r (g ∷ (h ∷ []))
 
 -- ---- which groups match an entry
 
+-- an answer given if a test passes is there only if it does
 cond_some : {X : Type 0} (f : Bool) (x y : X) → cond f (Some x) None ≡ Some y → f ≡ true
 cond_some true x y h = refl
 cond_some false x y h = absurd cc
@@ -198,6 +209,7 @@ answer_matches : (E : Entries) (og r g : ℕ) (b : Bool) → group_answer E og r
 unfolding group_answer
 answer_matches E og r g b h = cond_some (group_contains E og 0 g) _ b h
 
+-- permissions that contain a request are there
 contained_some : (o : Option ℕ) (r : ℕ) → is_contained o r ≡ true → is_some o ≡ true
 contained_some None r h = absurd cc
 contained_some (Some p) r h = refl
@@ -235,6 +247,7 @@ none_answered A B og r own others owning entry g h = elim (answered_at A og r g 
 
 -- ---- what one set grants and another denies
 
+-- a group is an excess if the first set grants by it and the second denies, OTHER for an answer that is absent
 with_answers : (A B : Entries) (og r g : ℕ) (a b : Option Bool) → group_answer A og r g ≡ a → group_answer B og r g ≡ b
     → unwrap_or a (entry_contains A other r) ≡ true → unwrap_or b (entry_contains B other r) ≡ false
     → IsGroupExcess A B og r (g ∷ [])
@@ -278,11 +291,13 @@ excess_two A B og r g h grants denies =
           ∙ ap (λ (x : Option Bool). unwrap_or (join None x) p) denies.own_is;
     }
 
+-- an answer that is there and does not deny grants
 grants_left : (y : Option Bool) → (y ≡ Some false → ⊥) → (y ≡ None → ⊥) → y ≡ Some true
 grants_left None f n = absurd (n refl)
 grants_left (Some true) f n = refl
 grants_left (Some false) f n = absurd (f refl)
 
+-- what the first set grants the second does not deny, if so it is for their answers and for OTHER
 settled : (a b : Option Bool) (o p : Bool) → (a ≡ Some true → b ≡ Some true)
     → (o ≡ true → a ≡ None → b ≡ Some false → ⊥) → (o ≡ true → p ≡ false → ⊥)
     → unwrap_or a o ≡ true → unwrap_or b p ≡ false → ⊥
@@ -308,6 +323,7 @@ no_excess A B og r others both denied granted gs h =
     (λ o. joined_none x y (λ g n f. denied o g (record { own_is = f; others_is = n })) gs)
     others (sym (stranger_is A og r gs) ∙ h.granted) (sym (stranger_is B og r gs) ∙ h.denied)
 
+-- what no answer denies and OTHER grants is not denied
 not_denied : (b : Option Bool) (p : Bool) → (b ≡ Some false → ⊥) → p ≡ true → unwrap_or b p ≡ false → ⊥
 not_denied None p never o d = absurd cc
 not_denied (Some true) p never o d = absurd cc
@@ -349,6 +365,7 @@ pub reached_one : (E : Entries) (og r g : ℕ) (b : Bool) → group_answer E og 
 reached_one E og r g b is =
     with_one E og r g ∙ ap (λ (x : Option Bool). unwrap_or x (entry_contains E other r)) is
 
+-- what neither the answer is nor that of OTHER is not the result
 unwrapped : (a : Option Bool) (o b : Bool) → (a ≡ Some b → ⊥) → (o ≡ b → ⊥) → unwrap_or a o ≡ b → ⊥
 unwrapped None o b never differs h = differs h
 unwrapped (Some x) o b never differs h = never (ap (λ (y : Bool). Some y) h)
