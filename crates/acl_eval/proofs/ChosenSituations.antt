@@ -1,5 +1,5 @@
 -- The situation of three tags, in which only their principals match; and that a loss is found in one of these.
-use Rattle.std.proofs.Common.{◌≡◌, ◌+◌, ℕ, Bool, true, false, List, ◌++◌, refl, sym, ap, subst, ◌∙◌, inl, inr}
+use Rattle.std.proofs.Common.{◌≡◌, ℕ, Bool, true, false, List, ◌++◌, refl, sym, ap, subst, ◌∙◌, inl, inr}
 use Rattle.std.proofs.lemmas.Bool.{cases_Bool, eq-eqb, eqb-true, false≢true, or_cases, true≢false}
 use Rattle.std.proofs.lemmas.List.Folds.{list_any-append}
 use Rattle.std.specs.Prelude.{◌⊎◌, ◌==◌, ◌&&◌, ◌||◌, if◌then◌else◌, not}
@@ -38,6 +38,7 @@ used_apart used n m u f e = true≢false (sym u ∙ (ap (λ (k : ℕ). is_member
 abbrev IsAsker : List ℕ → Requester → ℕ → ℕ → Type 0
 IsAsker used requester one n = (n ≡ one) ⊎ ((n ≡ requester.user) × (is_member n used ≡ true))
 
+-- so is the user of a used tag that matches, or the same one if the tag has no user
 asker_or : (used : List ℕ) (object : Object) (requester : Requester) (one : ℕ) (t : Tag) (rest : ℕ)
     → tag_meets object requester t ≡ true → is_member (qualifier t) used ≡ true → IsAsker used requester one rest
     → IsAsker used requester one (user_or t rest)
@@ -48,6 +49,7 @@ asker_or used object requester one (group id) rest m u h = h
 asker_or used object requester one mask rest m u h = h
 asker_or used object requester one other rest m u h = h
 
+-- the user chosen for three tags is the requester, or has the unused id
 chosen_asker : (used : List ℕ) (object : Object) (requester : Requester) (one next : ℕ) (a b c : Tag)
     → IsChoice used object requester one next a b c → IsAsker used requester one (chosen_user one a b c)
 chosen_asker used object requester one next a b c i =
@@ -74,6 +76,7 @@ or_cases-three false true c h = inr (inl refl)
 or_cases-three false false true h = inr (inr refl)
 or_cases-three false false false h = absurd (false≢true h)
 
+-- a requester whom the tag of OWNER@ matches is the owner
 owner_meets : (object : Object) (requester : Requester) (t : Tag) → is_owner_tag t ≡ true
     → tag_meets object requester t ≡ true → (requester.user == object.user) ≡ true
 owner_meets object requester user_obj h m = m
@@ -195,6 +198,7 @@ record IsIn (object : Object) (requester : Requester) (one : ℕ) (a b c t : Tag
   groups : (n : ℕ) → is_member n (groups_for one t) ≡ true
       → is_member n ((groups_for one a ++ groups_for one b) ++ groups_for one c) ≡ true
 
+-- such a tag that matches the requester matches in the chosen situation, too
 chosen_meets : (object : Object) (requester : Requester) (one next : ℕ) (a b c t : Tag)
     → IsIn object requester one a b c t → tag_meets object requester t ≡ true
     → tag_meets (chosen_object one next a b c) (chosen_requester one a b c) t ≡ true
@@ -210,12 +214,14 @@ chosen_meets object requester one next a b c (group id) i m =
 chosen_meets object requester one next a b c mask i m = absurd (false≢true m)
 chosen_meets object requester one next a b c other i m = refl
 
+-- the user of a USER tag that matches is the requester
 user_is : (object : Object) (requester : Requester) (t : Tag) (id rest : ℕ) → t ≡ user id
     → tag_meets object requester t ≡ true → user_or t rest ≡ requester.user
 user_is object requester t id rest e m =
     ap (λ (u : Tag). user_or u rest) e
     ∙ sym (eqb-true requester.user id (ap (tag_meets object requester) (sym e) ∙ m))
 
+-- the situation has the user, or the group, of the first of its three tags
 first_in : (used : List ℕ) (object : Object) (requester : Requester) (one next : ℕ) (a b c : Tag)
     → IsChoice used object requester one next a b c → IsIn object requester one a b c a
 first_in used object requester one next a b c i = record {
@@ -225,6 +231,7 @@ first_in used object requester one next a b c i = record {
       (is_member-append_left n (groups_for one a) (groups_for one b) h);
 }
 
+-- it has those of the second
 second_in : (used : List ℕ) (object : Object) (requester : Requester) (one next : ℕ) (a b c : Tag)
     → IsChoice used object requester one next a b c → IsIn object requester one a b c b
 second_in used object requester one next a b c i = record {
@@ -235,6 +242,7 @@ second_in used object requester one next a b c i = record {
       (is_member-append_right n (groups_for one a) (groups_for one b) h);
 }
 
+-- it has those of the third
 third_in : (used : List ℕ) (object : Object) (requester : Requester) (one next : ℕ) (a b c : Tag)
     → IsChoice used object requester one next a b c → IsIn object requester one a b c c
 third_in used object requester one next a b c i = record {

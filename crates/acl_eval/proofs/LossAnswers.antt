@@ -1,7 +1,6 @@
 -- What a search answers is a loss, and without an answer nothing is lost.
-use Rattle.std.proofs.Common.{◌≡◌, ◌≤◌, ◌<◌, ◌+◌, ℕ, Bool, true, false, List, [], ◌∷◌, ◌++◌, Option, None, Some, refl, sym, ap, subst, ◌∙◌, arith, inl, inr, length}
+use Rattle.std.proofs.Common.{◌≡◌, ◌≤◌, ◌+◌, ℕ, Bool, true, false, List, [], ◌∷◌, ◌++◌, Option, None, Some, refl, sym, ap, subst, ◌∙◌, arith, inl, inr, length}
 use Rattle.std.proofs.lemmas.Bool.{cases_lt, false≢true, true≢false}
-use Rattle.std.proofs.lemmas.List.{length-append, length-map, map-append}
 use Rattle.std.proofs.lemmas.List.Elements.{All-from_recursion}
 use Rattle.std.specs.Prelude.{◌↔◌, Err, IfOk, IfSome, Ok, Result}
 use Rattle.std.specs.List.{AllByRecursion}
@@ -9,12 +8,11 @@ use Rattle.std.specs.FinMap as fin
 use Rattle.acl_perm.proofs.Bools.{and_true, not_true}
 use Rattle.acl_perm.specs.Bits.{IsPerm, has_bit}
 use Rattle.acl_perm.specs.Situation.{Situation}
-use Rattle.acl_perm.specs.declared.kind.Kind.{Kind}
 use Rattle.acl_posix.specs.Check.{Object, Requester, grants, ids, is_member}
 use Rattle.acl_posix.specs.Entries.{Entries}
 use Rattle.acl_posix.specs.Id.{IsId}
 use Rattle.acl_posix.specs.Names.{Table}
-use Rattle.acl_posix.specs.Tag.{Tag, qualifier, tag_of}
+use Rattle.acl_posix.specs.Tag.{Tag, qualifier}
 use Rattle.acl_posix.specs.Valid.{IsValid}
 use Rattle.acl_posix.specs.declared.id.Id.{Id}
 use Rattle.acl_nfs4.specs.Ace.{Ace}
@@ -23,7 +21,7 @@ use Rattle.acl_eval.specs.BridgeLaws.{IsAsked, IsSingle, by_name}
 use Rattle.acl_eval.specs.Grant.{Grant, grants_bit}
 use Rattle.acl_eval.specs.LostGrants.{AreMoreThan, IsExact, IsLossOf, KeepsSingles, lost_object, lost_requester}
 use Rattle.acl_eval.specs.ToPosix.{IsSound, size_of}
-use Rattle.acl_eval.specs.internal.LossBody.{AreKept, AreSmall, AreUnused, IsBounded, IsFound, IsFoundOr, IsKeptWith, LossSearch, chosen_object, chosen_requester, entry_numbers, is_lost, key_numbers, most_used, search_of, used_numbers}
+use Rattle.acl_eval.specs.internal.LossBody.{AreKept, AreSmall, AreUnused, IsBounded, IsFound, IsFoundOr, IsKeptWith, LossSearch, chosen_object, chosen_requester, entry_numbers, is_lost, key_numbers, search_of, used_numbers}
 use Rattle.acl_eval.specs.internal.ShapeBody.{AreColumns, IsColumnOf, has_tag, keys_of}
 use Rattle.acl_eval.specs.declared.losing.LostGrant.{LostGrant}
 use Rattle.acl_eval.specs.declared.losing.unused.Unused.{Unused}
@@ -34,7 +32,7 @@ use Rattle.acl_eval.specs.declared.tag_column.TagKey.{TagKey}
 use Rattle.acl_eval.proofs.ChosenSituations.{nothing_lost}
 use Rattle.acl_eval.proofs.Images.{image_right, rights}
 use Rattle.acl_eval.proofs.ShapeChecks.{all_contain}
-use Rattle.acl_eval.proofs.UnusedIds.{entries_named, not_with}
+use Rattle.acl_eval.proofs.UnusedIds.{entries_named}
 use Rattle.acl_eval.proofs.FreeIds.{is_member-numbers, is_member-append_left, is_member-append_right}
 
 -- ---- the rights of a permission
@@ -97,10 +95,12 @@ pub record IsSearchOf (list : List Ace) (E : Entries) (bit second : ℕ) (want :
   pub perm : wanted.perm.bits ≡ want
   pub valid : IsValid E
 
+-- the numbers of a list of ids are ids
 all_ids : (list : List Id) → AllByRecursion IsId (ids list)
 all_ids [] = tt
 all_ids (x ∷ list) = (x.within, all_ids list)
 
+-- the object and the requester of a loss are given by ids
 asked_of : (lost : LostGrant) → IsAsked (lost_object lost) (lost_requester lost)
 asked_of lost = record {
   owner = lost.owner.within;
@@ -192,6 +192,7 @@ kept list E bit second want wanted unused used is u first two entries all object
 
 -- ---- exact
 
+-- read, write or execute alone is a set of permissions
 single_perm : (want : ℕ) → IsSingle want → IsPerm want
 single_perm want (inl e) = omega (arith, e)
 single_perm want (inr (inl e)) = omega (arith, e)
@@ -227,6 +228,7 @@ record AreParts (r w a x e : List ℕ) : Type 0 where
   execute : (n : ℕ) → is_member n x ≡ true → is_member n ((((r ++ w) ++ a) ++ x) ++ e) ≡ true
   entries : (n : ℕ) → is_member n e ≡ true → is_member n ((((r ++ w) ++ a) ++ x) ++ e) ≡ true
 
+-- the numbers of each of five lists are among those of all five
 parts : (r w a x e : List ℕ) → AreParts r w a x e
 parts r w a x e = record {
   read = λ n h. is_member-append_left n (((r ++ w) ++ a) ++ x) e
@@ -317,6 +319,7 @@ KeepsRights list E bit second want = (object : Object) (requester : Requester) �
     → grants_bit list (by_name object requester) bit ≡ true → grants_bit list (by_name object requester) second ≡ true
     → grants E object requester want ≡ true
 
+-- an ACL that keeps read, write and execute keeps each of them wherever the list grants its rights
 all_kept : (list : List Ace) (E : Entries) → KeepsRights list E 0 0 4 → KeepsRights list E 1 2 2
     → KeepsRights list E 5 5 1 → KeepsSingles list E
 all_kept list E read write execute object requester want asked single granted = by want single granted
@@ -399,73 +402,3 @@ few_entries most table list given E few columns b e small are = record {
   execute = are.execute.few;
   listed = let le = b.bounded.0 e in omega (arith, le, small);
 }
-
--- ---- two unused ids
-
--- the numbers after the keys of one more column
-pub keys_added : (old new : List Id) (given keys : List TagKey) (xs : List ℕ)
-    → ids new ≡ ids old ++ key_numbers (keys_of given) → given ≡ keys → ids old ≡ xs
-    → ids new ≡ xs ++ key_numbers (keys_of keys)
-keys_added old new given keys xs e same h =
-    e ∙ (ap (λ (ys : List ℕ). ys ++ key_numbers (keys_of given)) h
-    ∙ ap (λ (ks : List TagKey). xs ++ key_numbers (keys_of ks)) same)
-
--- how many these are
-key_count : (keys : List TagKey) → length (key_numbers (keys_of keys)) ≡ length keys
-key_count keys = length-map (keys_of keys) (λ key. qualifier key.0)
-    ∙ length-map {B = Tag × Kind} keys (λ key. (tag_of key.whom, key.kind))
-
--- the used numbers are fewer than there may be
-pub few_used : (columns : Columns) (E : Entries) (used : List Id) → AreSmall columns E
-    → ids used ≡ used_numbers columns E → length used < most_used
-few_used columns E used small is =
-    let r = key_count columns.read.items in
-    let w = key_count columns.write.items in
-    let a = key_count columns.append.items in
-    let x = key_count columns.execute.items in
-    let e : length (entry_numbers (fin.entries E)) ≡ length (fin.entries E) =
-    length-map (fin.entries E) (λ entry. qualifier entry.0) in
-    let rs = key_numbers (keys_of columns.read.items) in
-    let ws = key_numbers (keys_of columns.write.items) in
-    let ps = key_numbers (keys_of columns.append.items) in
-    let xs = key_numbers (keys_of columns.execute.items) in
-    let es = entry_numbers (fin.entries E) in
-    let one = length-append rs ws in
-    let two = length-append (rs ++ ws) ps in
-    let three = length-append ((rs ++ ws) ++ ps) xs in
-    let four = length-append (((rs ++ ws) ++ ps) ++ xs) es in
-    let same : length (ids used) ≡ length used = length-map used (λ (id : Id). id.value) in
-    let whole : length (ids used) ≡ length ((((rs ++ ws) ++ ps) ++ xs) ++ es) = ap (λ (ys : List ℕ). length ys) is in
-    omega (
-      arith,
-      r,
-      w,
-      a,
-      x,
-      e,
-      one,
-      two,
-      three,
-      four,
-      same,
-      whole,
-      small.read,
-      small.write,
-      small.append,
-      small.execute,
-      small.listed,
-    )
-
--- the second id is not among those with the first one, so both are unused, and they differ
-pub both_unused : (columns : Columns) (E : Entries) (used more : List Id) (unused : Unused)
-    → ids used ≡ used_numbers columns E → more ≡ used ++ unused.one ∷ []
-    → is_member unused.one.value (ids used) ≡ false → is_member unused.next.value (ids more) ≡ false
-    → AreUnused (used_numbers columns E) unused
-both_unused columns E used more unused is pushed one next =
-    let two = not_with unused.next.value unused.one.value (ids used) (ids more)
-    (ap (λ (xs : List Id). ids xs) pushed ∙ map-append (λ (id : Id). id.value) used (unused.one ∷ [])) next in
-    record {
-      differ = two.1;
-      one = ap (is_member unused.one.value) (sym is) ∙ one;
-      next = ap (is_member unused.next.value) (sym is) ∙ two.0;
-    }

@@ -1,5 +1,5 @@
 -- What the bytes of a prepared list decide, ACE by ACE.
-use Rattle.std.proofs.Common.{◌≡◌, ℕ, cond, arith, Bool, true, false, List, [], ◌∷◌, ◌++◌, ◌+◌, ◌<◌, refl, sym, ap, ◌∙◌, length, length-append}
+use Rattle.std.proofs.Common.{◌≡◌, ℕ, cond, arith, Bool, true, false, List, [], ◌∷◌, ◌++◌, ◌<◌, refl, sym, ap, ◌∙◌, length, length-append}
 use Rattle.std.proofs.lemmas.Bool.{eqb-true, false≢true}
 use Rattle.std.proofs.Math.Bool.{and-false}
 use Rattle.std.specs.Prelude.{◌&&◌, ◌||◌, ◌==◌, not, filter, if◌then◌else◌}

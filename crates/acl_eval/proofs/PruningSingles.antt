@@ -1,6 +1,6 @@
 -- Read, write or execute alone: what a shape gives of these decides what it gives of any set of permissions, and where
 -- a pruning ends.
-use Rattle.std.proofs.Common.{◌≡◌, ◌≤◌, ℕ, true, false, List, refl, sym, subst, ◌∙◌, arith, inl, inr, length}
+use Rattle.std.proofs.Common.{◌≡◌, ◌≤◌, ℕ, true, List, refl, sym, subst, ◌∙◌, arith, inl, inr, length}
 use Rattle.std.proofs.lemmas.Bool.{cases_Bool, eq-eqb, eqb-true, false≢true, true≢false}
 use Rattle.std.specs.Prelude.{◌⊎◌, ◌==◌}
 use Rattle.std.specs.List.{list_any}
@@ -160,6 +160,7 @@ record SomeEntry (s : EntryShape) (m : Matching) : Type 0 where
   entry : Tag
   looks : Looks s m entry
 
+-- for each shape and each matching there is such an entry
 some_entry : (s : EntryShape) (m : Matching) → SomeEntry s m
 some_entry s m = elim (cases_Bool (m user_obj)) [
   | inl owns ↦ record { entry = user_obj; looks = owns }

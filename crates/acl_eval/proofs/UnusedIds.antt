@@ -1,8 +1,7 @@
 -- Ids that no column and no entry has.
-use Rattle.std.proofs.Common.{◌≡◌, ◌≤◌, ◌<◌, ◌+◌, ℕ, Bool, true, false, List, [], ◌∷◌, ◌++◌, refl, sym, ap, subst, ◌∙◌, arith, inl, inr, drop, get_or, length}
-use Rattle.std.proofs.lemmas.Bool.{eq-eqb, true≢false, or_parts}
+use Rattle.std.proofs.Common.{◌≡◌, ◌≤◌, ◌<◌, ◌+◌, ℕ, Bool, true, List, [], ◌∷◌, ◌++◌, refl, sym, ap, subst, ◌∙◌, arith, inl, inr, drop, get_or, length}
+use Rattle.std.proofs.lemmas.Bool.{eq-eqb, true≢false}
 use Rattle.std.proofs.lemmas.List.{append_assoc, at_drop_more, length-map, map-append}
-use Rattle.std.proofs.lemmas.List.Folds.{list_any-append}
 use Rattle.std.proofs.lemmas.Bool.{cases_lt}
 use Rattle.std.specs.Prelude.{◌↔◌, ◌==◌, ◌||◌, IsTrue, map}
 use Rattle.std.specs.FinMap as fin
@@ -43,14 +42,6 @@ entries_named (e ∷ es) used more = (
   entries_named es used
       (λ n h. more n (ap (λ (b : Bool). (qualifier e.0 == n) || b) h ∙ or_true_right (qualifier e.0 == n))),
 )
-
--- what is not a member of a list with one more element
-pub not_with : (n m : ℕ) (xs ys : List ℕ) → ys ≡ xs ++ m ∷ [] → is_member n ys ≡ false
-    → (is_member n xs ≡ false) × ((m == n) ≡ false)
-not_with n m xs ys is h =
-    let two = or_parts (is_member n xs) (is_member n (m ∷ []))
-    (sym (list_any-append (λ (x : ℕ). x == n) xs (m ∷ [])) ∙ (ap (is_member n) (sym is) ∙ h)) in
-    (two.0, (or_parts (m == n) false two.1).0)
 
 -- ---- loops over keys and over entries
 

@@ -7,7 +7,6 @@ use Rattle.acl_perm.specs.Ascii.{colon}
 use Rattle.acl_perm.specs.Lines.{blanks_before, end_trimmed, is_all_blank, is_blank, start_of, trimmed, IsCut, Span, span_of}
 use Rattle.acl_perm.specs.declared.lines.Piece.{Piece}
 use Rattle.acl_nfs4.specs.Ace.{Ace}
-use Rattle.acl_nfs4.specs.declared.xdr.fault.Reason.TheVariants as list
 use Rattle.acl_forms.specs.NfsText.{fields_by_tag, named_fields, nfs_ace, nfs_entry, nfs_fields_of, nfs_fields_read, nfs_tag_of, special_fields, tag_special, trimmed_span, NfsFields}
 use Rattle.acl_forms.specs.ReadFaults.{read_fault_at}
 use Rattle.acl_forms.specs.ToolsText.{taken}

@@ -21,12 +21,6 @@ pub from_splits : {X : Type 0} (P : X → Type 0) (xs : List X)
 from_splits P [] h = tt
 from_splits P (x ∷ xs) h = (h [] x xs refl, from_splits P xs (λ l y r e. h (x ∷ l) y r (ap (λ v. x ∷ v) e)))
 
--- what holds of each element of a list holds of each element after the first n
-pub all_drop : {X : Type 0} (P : X → Type 0) (n : ℕ) (xs : List X) → AllByRecursion P xs → AllByRecursion P (drop n xs)
-all_drop P zero xs h = h
-all_drop P (suc n) [] h = h
-all_drop P (suc n) (x ∷ xs) h = all_drop P n xs h.1
-
 -- what holds of two lists, place by place, holds at each place
 pub zip_at : {A B : Type 0} (R : A → B → Type 0) (xs : List A) (ys : List B) (i : ℕ) (d : A) (e : B) → i < length xs
     → AllZip R xs ys → R (slice_index_or xs i d) (slice_index_or ys i e)
@@ -34,14 +28,6 @@ zip_at R [] _ i d e l z = absurd (omega (arith, l))
 zip_at R (x ∷ xs) (y ∷ ys) zero d e l z = z.0
 zip_at R (x ∷ xs) (y ∷ ys) (suc i) d e l z = zip_at R xs ys i d e (omega (arith, l)) z.1
 zip_at R (x ∷ xs) [] i d e l z = absurd z
-
--- what holds of two lists, place by place, holds of both without their first n elements
-pub zip_drop : {A B : Type 0} (R : A → B → Type 0) (n : ℕ) (xs : List A) (ys : List B) → AllZip R xs ys
-    → AllZip R (drop n xs) (drop n ys)
-zip_drop R zero xs ys z = z
-zip_drop R (suc n) [] [] z = z
-zip_drop R (suc n) (x ∷ xs) (y ∷ ys) z = zip_drop R n xs ys z.1
-zip_drop R (suc n) _ _ z = absurd z
 
 -- what holds of two pairs of lists, place by place, holds of both together
 pub zip_append : {A B : Type 0} (R : A → B → Type 0) (xs vs : List A) (ys ws : List B) → AllZip R xs ys → AllZip R vs ws

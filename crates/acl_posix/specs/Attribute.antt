@@ -2,7 +2,7 @@
 -- (include/uapi/linux/posix_acl_xattr.h and posix_acl.h, version 2), and which of them are an ACL (posix_acl_from_xattr
 -- and posix_acl_valid of fs/posix_acl.c). The kernel does not judge that a user or group occurs once, as acl(5), "VALID
 -- ACLs", says. The order of the faults, and that places count from 0, are this library's own.
-use Rattle.std.specs.Prelude.{ℕ, ◌≡◌, ◌<◌, ◌-◌, ◌+◌, ◌/◌, ◌%◌, ◌++◌, ◌⊎◌, List, [], length, drop, map, Option, Some, None, nat_lt, not, ◌==◌, if◌then◌else◌}
+use Rattle.std.specs.Prelude.{ℕ, ◌≡◌, ◌<◌, ◌-◌, ◌/◌, ◌%◌, ◌++◌, ◌⊎◌, List, [], length, drop, map, Option, Some, None, nat_lt, not, ◌==◌, if◌then◌else◌}
 use Rattle.std.specs.List.{flat_map}
 use Rattle.std.specs.Simd.{first_chunks}
 use Rattle.std.specs.FinMap as set

@@ -1,5 +1,5 @@
 -- What the reader of a part keeps while it reads: this library's own. No public clause cites it.
-use Rattle.std.specs.Prelude.{Result, Ok, Err, ◌≡◌, ◌&&◌, ◌+◌, ◌≤◌, ◌⊎◌, ℕ, Bool, List, All, length, map, not, ◌==◌}
+use Rattle.std.specs.Prelude.{Result, Ok, Err, ◌≡◌, ◌&&◌, ◌≤◌, ◌⊎◌, ℕ, Bool, List, All, length, map, not, ◌==◌}
 use Rattle.std.specs.BTreeSet.{BTreeSet, contains_by}
 use Rattle.std.specs.Borrow.{Bor}
 use Rattle.std.specs.Cmp.Lexicographic.{slice_cmp}

@@ -45,7 +45,8 @@ module _ (seen : List Ace) (y z : Ace) (flags : y.flags ≡ flags_for (principal
     (free : AreFreeAfter seen y z.mask) where
   -- with one ACE more, its own key is also free on the rights on which nothing before it conflicts
   free_next : (e : ColumnKey) (b : ℕ)
-      → is_free (column (seen ++ y ∷ []) b) e ≡ (is_free (column seen b) e || (key_eq (ace_key z) e && has_bit z.mask b))
+      → is_free (column (seen ++ y ∷ []) b) e
+      ≡ (is_free (column seen b) e || (key_eq (ace_key z) e && has_bit z.mask b))
   free_next e b = ap (λ c. is_free c e) (column_last seen y b flags) ∙ go (has_bit y.mask b) refl
     where
       marked : (t : Bool) → has_bit y.mask b ≡ t
@@ -249,7 +250,8 @@ noted_more l new seen y flags so more k users b =
         last : (t : Bool) → (t && true) ≡ (t || false)
         last true = refl
         last false = refl
-    go false = ap (λ t. some_of k users (column seen b) || t) (and_false_right (is_of_kind_and_class k users (ace_key y)))
+    go false =
+        ap (λ t. some_of k users (column seen b) || t) (and_false_right (is_of_kind_and_class k users (ace_key y)))
 
 -- an ACE without rights has no right
 no_rights : (y : Ace) (b : ℕ) → y.mask ≡ 0 → has_bit y.mask b ≡ false

@@ -66,6 +66,7 @@ pub counted_more : (hs : List HeadedPrincipal) (i : ℕ) (h : HeadedPrincipal) (
 counted_more hs i h p count new t l is so less more =
     more
     ∙ ap (λ n. cond t (n + 1) n) so
-    ∙ ap (λ u. cond u (count_below p (headed_names (take i hs)) + 1) (count_below p (headed_names (take i hs)))) (sym less)
+    ∙ ap (λ u. cond u (count_below p (headed_names (take i hs)) + 1) (count_below p (headed_names (take i hs))))
+    (sym less)
     ∙ sym (count_push p (headed_names (take i hs)) (principal h.principal))
     ∙ sym (ap (count_below p) (names_more hs i h l is))

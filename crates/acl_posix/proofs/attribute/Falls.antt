@@ -2,7 +2,6 @@
 use Rattle.acl_posix.proofs.Common.{[], as_set, Entries, IsValidList, Option, Some, ap, arith, cases_lt, Entry, get_or, inl, inr, length, List, None, other, pairs, rank, subst, drop, take, take_rest, Tag, tag_at, tag_of, ℕ, ◌+◌, ◌-◌, ◌<◌, ◌≤◌, ◌∙◌, ◌≡◌}
 use Rattle.acl_posix.proofs.tag.Tags.{tag_read}
 use Rattle.acl_posix.specs.declared.raw_entry.RawEntry.{RawEntry}
-use Rattle.acl_posix.specs.declared.attribute_fault.AttributeFault.TheVariants as attribute
 use Rattle.acl_posix.specs.RawEntries.{AreEntries, raw_pairs}
 use Rattle.acl_posix.specs.Attribute.{attribute_raws, frame_fault, HoldsAcl, IsAttributeOf, IsFall, IsFirstFall, IsInvalidAttribute, NeverFalls, stored_raws}
 

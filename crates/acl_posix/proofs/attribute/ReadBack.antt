@@ -1,5 +1,5 @@
 -- What is written for an ACL means that ACL.
-use Rattle.acl_posix.proofs.Common.{[], All, ap, arith, as_set, Entries, false, greatest_id, group, group_obj, IsDistinct, IsEntry, IsPerm, IsSorted, IsTag, IsValid, length, Less, Less-from_sorted, List, map, mask, nat_cmp, nat_lt, nat_tests, None, ordering_then, other, qualifier, rank, refl, subst, sym, Tag, tag_at, tag_cmp, tag_row, tags, unwrap_or, user, user_obj, zero, suc, ℕ, ◌*◌, ◌+◌, ◌++◌, ◌%◌, ◌/◌, ◌-◌, ◌<◌, ◌^◌, ◌∙◌, ◌∷◌, ◌≡◌, ◌≤◌}
+use Rattle.acl_posix.proofs.Common.{[], All, ap, arith, as_set, Entries, false, greatest_id, group, group_obj, IsDistinct, IsEntry, IsPerm, IsSorted, IsTag, IsValid, length, Less, Less-from_sorted, List, map, mask, nat_cmp, nat_lt, nat_tests, None, ordering_then, other, qualifier, rank, refl, subst, sym, Tag, tag_at, tag_cmp, tag_row, tags, unwrap_or, user, user_obj, zero, suc, ℕ, ◌*◌, ◌++◌, ◌%◌, ◌/◌, ◌-◌, ◌<◌, ◌^◌, ◌∙◌, ◌∷◌, ◌≡◌, ◌≤◌}
 use Rattle.std.specs.List.{flat_map}
 use Rattle.std.specs.Simd.{first_chunks}
 use Rattle.std.specs.FinMap as fin

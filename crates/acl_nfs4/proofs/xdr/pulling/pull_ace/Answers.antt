@@ -18,15 +18,15 @@ returns-in_err-placed g c = rw (exit_is c.from_residual-in_err-placed.result c.f
 
 pub returns-in_err-fill-2 : goal.returns-in_err-fill-2
 returns-in_err-fill-2 g c =
-    let d = who_drawn c.in_ok-words.ensures.drawn _ (λ z. z.now) c.who_of.result c.in_ok-placed.field-0 c.in_ok-fill.ensures
-    (omega arith) c.in_ok-placed.ensures c.who_of.ensures in
+    let d = who_drawn c.in_ok-words.ensures.drawn _ (λ z. z.now) c.who_of.result c.in_ok-placed.field-0
+    c.in_ok-fill.ensures (omega arith) c.in_ok-placed.ensures c.who_of.ensures in
     rw (exit_is c.from_residual-in_err-fill-2.result c.from_residual-in_err-fill-2.ensures.1)
     (padding_lacks c.in_ok-words.ensures.drawn _ d c.in_err-fill-2.ensures (omega arith) (omega arith))
 
 pub returns-in_err-placed-2 : goal.returns-in_err-placed-2
 returns-in_err-placed-2 g c =
-    let d = who_drawn c.in_ok-words.ensures.drawn _ (λ z. z.now) c.who_of.result c.in_ok-placed.field-0 c.in_ok-fill.ensures
-    (omega arith) c.in_ok-placed.ensures c.who_of.ensures in
+    let d = who_drawn c.in_ok-words.ensures.drawn _ (λ z. z.now) c.who_of.result c.in_ok-placed.field-0
+    c.in_ok-fill.ensures (omega arith) c.in_ok-placed.ensures c.who_of.ensures in
     rw (exit_is c.from_residual-in_err-placed-2.result c.from_residual-in_err-placed-2.ensures.1)
     (padding_refused c.in_ok-words.ensures.drawn _ d c.padding_of.result c.in_ok-fill-2.ensures (omega arith)
     c.in_err-placed-2.ensures c.padding_of.ensures (omega arith))

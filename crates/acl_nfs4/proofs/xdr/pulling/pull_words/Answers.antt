@@ -7,14 +7,17 @@ use Rattle.acl_nfs4.proofs.xdr.OneFault.{len_never}
 use Rattle.acl_nfs4.proofs.xdr.pulling.pull_words.Goals as goal
 
 pub returns-in_err-pull_head-clause-drawn : goal.returns-in_err-pull_head-clause-drawn
-returns-in_err-pull_head-clause-drawn g c = rw (exit_is c.from_residual.result c.from_residual.ensures.1) c.in_err-pull_head.ensures
+returns-in_err-pull_head-clause-drawn g c =
+    rw (exit_is c.from_residual.result c.from_residual.ensures.1) c.in_err-pull_head.ensures
 
 pub returns-in_err-rights-clause-drawn : goal.returns-in_err-rights-clause-drawn
-returns-in_err-rights-clause-drawn g c = rw (exit_is c.from_residual-in_err-rights.result c.from_residual-in_err-rights.ensures.1)
+returns-in_err-rights-clause-drawn g c =
+    rw (exit_is c.from_residual-in_err-rights.result c.from_residual-in_err-rights.ensures.1)
     (mask_lacks c.in_ok-pull_head.ensures c.in_err-rights.ensures refl)
 
 pub returns-in_err-mask-clause-drawn : goal.returns-in_err-mask-clause-drawn
-returns-in_err-mask-clause-drawn g c = rw (exit_is c.from_residual-in_err-mask.result c.from_residual-in_err-mask.ensures.1)
+returns-in_err-mask-clause-drawn g c =
+    rw (exit_is c.from_residual-in_err-mask.result c.from_residual-in_err-mask.ensures.1)
     (mask_refused c.in_ok-pull_head.ensures c.mask_of.result c.in_ok-rights.ensures c.mask_of.ensures.exact
     c.in_err-mask.ensures refl)
 

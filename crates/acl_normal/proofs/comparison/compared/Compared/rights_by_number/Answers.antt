@@ -16,7 +16,12 @@ add_rights-requires-2-clause-whoms c =
 pub add_rights-requires-clause-within : goal.add_rights-requires-clause-within
 add_rights-requires-clause-within c = whoms_within (principals c.self.inside.mentioned.now)
     (aces_in c.self.inside.first.now) c.self.inside.first_whoms.now
-    (omega (arith, c.in_ok-rights.ensures.len, c.in_ok-rights.rights.ok.0, length-map c.self.inside.mentioned.now principal))
+    (omega (
+      arith,
+      c.in_ok-rights.ensures.len,
+      c.in_ok-rights.rights.ok.0,
+      length-map c.self.inside.mentioned.now principal,
+    ))
     c.self.invariant.first_whoms
 
 pub add_rights-requires-2-clause-within : goal.add_rights-requires-2-clause-within
