@@ -23,6 +23,7 @@ use Rattle.acl_eval.proofs.Images.{Belongs, same_below, image_bit, rights}
 use Rattle.acl_eval.proofs.ValidChecks.{mask_contains, plain, plain_check}
 use Rattle.acl_eval.proofs.Agree.{IsRight, agrees}
 use Rattle.acl_eval.proofs.Members.{any_implies}
+use Rattle.acl_eval.proofs.Singles.{single_cases}
 
 -- the permission of a bit below 3 has the rights that belong to the bit
 right_at : (j b : ℕ) → j < 3 → Belongs j b → IsRight (2 ^ j) j b
@@ -100,15 +101,16 @@ image_granted E object requester want j b access a right lt has = (
 -- the list grants one permission if and only if the check grants it
 pub grants_singles : GrantsSingles
 unfolding image
-grants_singles entries object requester want access a (inl r) = rw r
-    (image_granted entries object requester 4 2 0 access a (right_at 2 0 (omega arith) rights.read_data)
-    (omega arith) refl)
-grants_singles entries object requester want access a (inr (inl w)) = rw w
-    (image_granted entries object requester 2 1 1 access a (right_at 1 1 (omega arith) rights.write_data)
-    (omega arith) refl)
-grants_singles entries object requester want access a (inr (inr x)) = rw x
-    (image_granted entries object requester 1 0 5 access a (right_at 0 5 (omega arith) rights.execute)
-    (omega arith) refl)
+grants_singles entries object requester want access a single = elim (single_cases want single) [
+  | inl r ↦ rw r (image_granted entries object requester 4 2 0 access a
+      (right_at 2 0 (omega arith) rights.read_data) (omega arith) refl)
+  | inr more ↦ elim more [
+    | inl w ↦ rw w (image_granted entries object requester 2 1 1 access a
+        (right_at 1 1 (omega arith) rights.write_data) (omega arith) refl)
+    | inr x ↦ rw x (image_granted entries object requester 1 0 5 access a
+        (right_at 0 5 (omega arith) rights.execute) (omega arith) refl)
+  ]
+]
 
 -- a set that has one of the bits of permissions contains the permission of that bit
 contains_bit : (want j : ℕ) → j < 3 → has_bit want j ≡ true → contains want (2 ^ j) ≡ true

@@ -7,7 +7,6 @@ use Rattle.std.specs.List.{AllByRecursion}
 use Rattle.std.specs.Str.{bytes_eq}
 use Rattle.std.specs.Str.Parse.{digits_value}
 use Rattle.acl_perm.specs.Bits.{has_bit, identifier_group}
-use Rattle.acl_perm.specs.Kind.{kind_number}
 use Rattle.acl_perm.specs.Order.{principal_name, principal_rank}
 use Rattle.acl_perm.specs.Principal.{Principal, owner, user, group, group_named, everyone}
 use Rattle.acl_perm.specs.Profile.{full}
@@ -18,6 +17,7 @@ use Rattle.acl_nfs4.specs.Spelling.{IsAce}
 use Rattle.acl_nfs4.specs.Who.{everyone_name, group_name, owner_name, principal_of}
 use Rattle.acl_eval.specs.Column.{takes_part}
 use Rattle.acl_eval.specs.Ids.{HasId, HaveIds, IsSomeId, digits_or, id_of_name, principal_id, with_id, with_ids}
+use Rattle.acl_eval.specs.Prepared.{sort_number}
 use Rattle.acl_eval.specs.PreparedIds.{id_ace_number}
 use Rattle.acl_eval.specs.internal.IdsBody.{AreIdParts, IsIdPart, by_id, id_or_zero, principal_from}
 use Rattle.acl_eval.proofs.BridgeNames.{not_everyone, not_group, not_owner}
@@ -109,15 +109,14 @@ kept table (group_named name) h = by (id_of_name table.groups name) h
     by None h = absurd h
 kept table everyone h = record { rank = refl; id = refl; below = omega arith; named = refl }
 
--- the number of an ACE with the digits of its id, from the rank of the principal and the id
-pub number_with_id : (table : Table) (a : Ace) (n rank id : ℕ) → HasId table (principal_of a)
-    → n ≡ a.mask + 2 ^ 28 * (kind_number a.kind + 2 * rank) + 2 ^ 32 * id → rank ≡ principal_rank (principal_of a)
-    → id ≡ id_or_zero (principal_id table (principal_of a))
-    → n ≡ id_ace_number (principal_of (with_id table a)) a.kind a.mask
-number_with_id table a n rank id known is rank_is id_is =
+-- the number of an ACE with the digits of its id, from the sort of the ACE and the id
+pub number_with_id : (table : Table) (a : Ace) (mask sort id : ℕ) → HasId table (principal_of a) → mask ≡ a.mask
+    → sort ≡ sort_number (principal_of a) a.kind → id ≡ id_or_zero (principal_id table (principal_of a))
+    → mask + 2 ^ 28 * sort + 2 ^ 32 * id ≡ id_ace_number (principal_of (with_id table a)) a.kind a.mask
+number_with_id table a mask sort id known mask_is sort_is id_is =
     let k = kept table (principal_of a) known in
     let same = with_id_names table a known in
-    rw (same, k.id, k.rank, is, rank_is, id_is) refl
+    rw (same, k.id, k.rank, mask_is, sort_is, id_is) refl
 
 -- ---- the ACEs of a list
 

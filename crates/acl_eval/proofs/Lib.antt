@@ -12,6 +12,7 @@ pub mod Same
 pub mod GrantedRights
 pub mod Unknowns
 pub mod Requests
+pub mod RightsOf
 pub mod Children
 pub mod MarkedChildren
 pub mod FlagByFlag
@@ -22,13 +23,13 @@ pub mod Runs
 pub mod Images
 pub mod BridgeNames
 pub mod IdGroups
-pub mod IdDigits
 pub mod IdBytes
 pub mod IdNames
 pub mod EntryCounts
 pub mod EntryRuns
 pub mod Agree
 pub mod BridgeLaws
+pub mod Singles
 pub mod Parts
 pub mod Accepted
 pub mod BridgeWeight

@@ -2,7 +2,7 @@
 use Rattle.std.proofs.Common.{◌≡◌, ◌≤◌, ◌+◌, ℕ, Bool, true, false, List, [], ◌∷◌, ◌++◌, Option, None, Some, refl, sym, ap, subst, ◌∙◌, arith, inl, inr, length}
 use Rattle.std.proofs.lemmas.Bool.{cases_lt, false≢true, true≢false}
 use Rattle.std.proofs.lemmas.List.Elements.{All-from_recursion}
-use Rattle.std.specs.Prelude.{◌↔◌, Err, IfOk, IfSome, Ok, Result}
+use Rattle.std.specs.Prelude.{◌⊎◌, ◌↔◌, Err, IfOk, IfSome, Ok, Result}
 use Rattle.std.specs.List.{AllByRecursion}
 use Rattle.std.specs.FinMap as fin
 use Rattle.acl_perm.proofs.Bools.{and_true, not_true}
@@ -17,7 +17,7 @@ use Rattle.acl_posix.specs.Valid.{IsValid}
 use Rattle.acl_posix.specs.declared.id.Id.{Id}
 use Rattle.acl_nfs4.specs.Ace.{Ace}
 use Rattle.acl_eval.specs.Bridge.{image}
-use Rattle.acl_eval.specs.BridgeLaws.{IsAsked, IsSingle, by_name}
+use Rattle.acl_eval.specs.BridgeLaws.{IsAsked, by_name}
 use Rattle.acl_eval.specs.Grant.{Grant, grants_bit}
 use Rattle.acl_eval.specs.LostGrants.{AreMoreThan, IsExact, IsLossOf, KeepsSingles, lost_object, lost_requester}
 use Rattle.acl_eval.specs.ToPosix.{IsSound, size_of}
@@ -32,6 +32,7 @@ use Rattle.acl_eval.specs.declared.tag_column.TagKey.{TagKey}
 use Rattle.acl_eval.proofs.ChosenSituations.{nothing_lost}
 use Rattle.acl_eval.proofs.Images.{image_right, rights}
 use Rattle.acl_eval.proofs.ShapeChecks.{all_contain}
+use Rattle.acl_eval.proofs.Singles.{single_cases, single_execute, single_read, single_small, single_write}
 use Rattle.acl_eval.proofs.UnusedIds.{entries_named}
 use Rattle.acl_eval.proofs.FreeIds.{is_member-numbers, is_member-append_left, is_member-append_right}
 
@@ -139,7 +140,7 @@ found list E bit second want wanted unused lost is f =
 pub found_read : (list : List Ace) (E : Entries) (lost : LostGrant) → IsRefused list E 0 0 4 lost → IsLossOf list E lost
 found_read list E lost r = record {
   asked = r.asked;
-  single = inl r.perm;
+  single = single_read lost.perm.bits r.perm;
   granted = rw r.perm (grant_read list (by_name (lost_object lost) (lost_requester lost)) r.one);
   denied = r.denied;
   few = r.few;
@@ -150,7 +151,7 @@ pub found_write : (list : List Ace) (E : Entries) (lost : LostGrant) → IsRefus
     → IsLossOf list E lost
 found_write list E lost r = record {
   asked = r.asked;
-  single = inr (inl r.perm);
+  single = single_write lost.perm.bits r.perm;
   granted = rw r.perm (grant_write list (by_name (lost_object lost) (lost_requester lost)) r.one r.two);
   denied = r.denied;
   few = r.few;
@@ -161,7 +162,7 @@ pub found_execute : (list : List Ace) (E : Entries) (lost : LostGrant) → IsRef
     → IsLossOf list E lost
 found_execute list E lost r = record {
   asked = r.asked;
-  single = inr (inr r.perm);
+  single = single_execute lost.perm.bits r.perm;
   granted = rw r.perm (grant_execute list (by_name (lost_object lost) (lost_requester lost)) r.one);
   denied = r.denied;
   few = r.few;
@@ -192,17 +193,11 @@ kept list E bit second want wanted unused used is u first two entries all object
 
 -- ---- exact
 
--- read, write or execute alone is a set of permissions
-single_perm : (want : ℕ) → IsSingle want → IsPerm want
-single_perm want (inl e) = omega (arith, e)
-single_perm want (inr (inl e)) = omega (arith, e)
-single_perm want (inr (inr e)) = omega (arith, e)
-
 -- a sound ACL is exact if and only if it grants each single permission that the list grants
 pub sound_is_exact : (list : List Ace) (E : Entries) → IsSound list E → KeepsSingles list E ↔ IsExact list E
 sound_is_exact list E sound = (
   λ keeps object requester want asked single.
-      (keeps object requester want asked single, sound object requester asked want (single_perm want single)),
+      (keeps object requester want asked single, sound object requester asked want (single_small want single)),
   λ exact object requester want asked single. (exact object requester want asked single).0,
 )
 
@@ -322,9 +317,9 @@ KeepsRights list E bit second want = (object : Object) (requester : Requester) �
 -- an ACL that keeps read, write and execute keeps each of them wherever the list grants its rights
 all_kept : (list : List Ace) (E : Entries) → KeepsRights list E 0 0 4 → KeepsRights list E 1 2 2
     → KeepsRights list E 5 5 1 → KeepsSingles list E
-all_kept list E read write execute object requester want asked single granted = by want single granted
+all_kept list E read write execute object requester want asked single granted = by want (single_cases want single) granted
   where
-    by : (want : ℕ) → IsSingle want → Grant list (by_name object requester) (image want)
+    by : (want : ℕ) → (want ≡ 4) ⊎ ((want ≡ 2) ⊎ (want ≡ 1)) → Grant list (by_name object requester) (image want)
         → grants E object requester want ≡ true
     by want (inl e) g =
         subst (λ (w : ℕ). Grant list (by_name object requester) (image w) → grants E object requester w ≡ true)

@@ -27,7 +27,7 @@ use Rattle.acl_eval.specs.declared.tag_column.Columns.{Columns}
 use Rattle.acl_eval.proofs.Losses.{but_keeps, member_but}
 use Rattle.acl_eval.proofs.OwnerLists.{OwnerRights, list_for, list_for_length}
 use Rattle.acl_eval.proofs.OwnerShapes.{IsFor, Lacks, RuleFor, always_all, lacks_at_end, looks_home, looks_moved, owner_looks, part_lacks, to_known}
-use Rattle.acl_eval.proofs.PruningExact.{single_small}
+use Rattle.acl_eval.proofs.Singles.{single_small}
 use Rattle.acl_eval.proofs.PruningGroups.{with_all_groups, with_fewer_groups}
 use Rattle.acl_eval.proofs.PruningKept.{looks_of}
 use Rattle.acl_eval.proofs.PruningMaximal.{longer_is_maximal}

@@ -11,7 +11,7 @@ use Rattle.acl_eval.specs.Pruning.{PrunesTo}
 use Rattle.acl_eval.specs.PruningLaws.{HasFewIds, IsAmong, IsExactFor}
 use Rattle.acl_eval.specs.ToPosix.{EntryShape, IsBest}
 use Rattle.acl_eval.proofs.BridgeLaws.{grants_singles, keeps_grants}
-use Rattle.acl_eval.proofs.PruningExact.{single_small}
+use Rattle.acl_eval.proofs.Singles.{single_small}
 use Rattle.acl_eval.proofs.PruningGroups.{with_all_groups, with_fewer_groups}
 use Rattle.acl_eval.proofs.PruningMaximal.{end_is_maximal}
 use Rattle.acl_eval.proofs.PruningSets.{no_more_sets}

@@ -40,6 +40,7 @@ use Rattle.acl_eval.proofs.PruningSituations.{IsSmall, agree_gives, all_ids, amo
 use Rattle.acl_eval.proofs.PruningSteps.{Gives}
 use Rattle.acl_eval.proofs.RealMatchings.{AgreeAt, agree_back, agree_granted, column_of, filter_member, put_agrees, with_bit}
 use Rattle.acl_eval.proofs.ShapeChecks.{best_sound}
+use Rattle.acl_eval.proofs.Singles.{single_small}
 use Rattle.acl_eval.proofs.TagMatchings.{IsFound, digits_tag, found_id, granted_to, id_by_digits, tag_keys, tags_grant}
 
 -- ---- matchings without other names
@@ -293,16 +294,6 @@ own_small acl valid few =
     }
 
 -- ---- the law
-
--- a single permission is a set
-pub single_small : (want : ℕ) → IsSingle want → IsPerm want
-single_small want is = elim is [
-  | inl four ↦ omega (arith, four)
-  | inr more ↦ elim more [
-    | inl two ↦ omega (arith, two)
-    | inr one ↦ omega (arith, one)
-  ]
-]
 
 -- the entries of the ACL for names of the list give all that the list grants
 exact_gives : (list : List Ace) (one : EntryShape) (acl : Entries) (m : Matching) (want : ℕ) → length list ≤ most_listed

@@ -34,6 +34,7 @@ use Rattle.acl_eval.proofs.PruningSituations.{IsSmall, all_ids, agree_gives, amo
 use Rattle.acl_eval.proofs.PruningSteps.{Gives, HasAlways, alone_gives, has_part}
 use Rattle.acl_eval.proofs.RealMatchings.{agree_back, agree_granted, agree_looks}
 use Rattle.acl_eval.proofs.ShapeChecks.{all_contain, best_sound, granted, held, holding, holds, looked, some_member}
+use Rattle.acl_eval.proofs.Singles.{single_execute, single_read, single_write}
 use Rattle.acl_eval.proofs.TagMatchings.{granted_to}
 use Rattle.acl_eval.proofs.ValidChecks.{mask_contains, valid_is_complete}
 
@@ -60,12 +61,12 @@ contains_set : (p want : ℕ) → IsPerm want
     → ((b : ℕ) → has_bit (image one) b ≡ true → has_bit (image want) b ≡ true) → contains p one ≡ true)
     → contains p want ≡ true
 contains_set p want small each = (subset_test p want).1 (λ k hk. elim (small_bit want k small hk) [
-  | inl at ↦ place k 0 at ((subset_test p 1).0 (each 1 (inr (inr refl)) (omega arith)
+  | inl at ↦ place k 0 at ((subset_test p 1).0 (each 1 (single_execute 1 refl) (omega arith)
       (execute_within want small (place_of want k 0 at hk))) 0 refl)
   | inr more ↦ elim more [
-    | inl at ↦ place k 1 at ((subset_test p 2).0 (each 2 (inr (inl refl)) (omega arith)
+    | inl at ↦ place k 1 at ((subset_test p 2).0 (each 2 (single_write 2 refl) (omega arith)
         (write_within want small (place_of want k 1 at hk))) 1 refl)
-    | inr at ↦ place k 2 at ((subset_test p 4).0 (each 4 (inl refl) (omega arith)
+    | inr at ↦ place k 2 at ((subset_test p 4).0 (each 4 (single_read 4 refl) (omega arith)
         (read_within want small (place_of want k 2 at hk))) 2 refl)
   ]
 ])

@@ -19,6 +19,7 @@ use Rattle.acl_eval.proofs.PruningEnds.{OneGroupDenies}
 use Rattle.acl_eval.proofs.PruningSituations.{IsSmall, always_has, has_always, most_listed}
 use Rattle.acl_eval.proofs.PruningSteps.{Below, Gives, Granting, IsPruned, Steps, no_step, one_more, step_leaves, step_stays}
 use Rattle.acl_eval.proofs.ShapeChecks.{some_member}
+use Rattle.acl_eval.proofs.Singles.{single_cases, single_execute, single_read, single_write}
 use Rattle.acl_eval.proofs.TagMatchings.{granted_to, one_group_denies}
 
 -- ---- one permission
@@ -26,12 +27,12 @@ use Rattle.acl_eval.proofs.TagMatchings.{granted_to, one_group_denies}
 -- the set is one permission, or it is not
 decide_single : (want : ℕ) → IsSingle want ⊎ (IsSingle want → ⊥)
 decide_single want = elim (cases_Bool (want == 4)) [
-  | inl four ↦ inl (inl (eqb-true want 4 four))
+  | inl four ↦ inl (single_read want (eqb-true want 4 four))
   | inr not_four ↦ elim (cases_Bool (want == 2)) [
-    | inl two ↦ inl (inr (inl (eqb-true want 2 two)))
+    | inl two ↦ inl (single_write want (eqb-true want 2 two))
     | inr not_two ↦ elim (cases_Bool (want == 1)) [
-      | inl one ↦ inl (inr (inr (eqb-true want 1 one)))
-      | inr not_one ↦ inr (λ is. elim is [
+      | inl one ↦ inl (single_execute want (eqb-true want 1 one))
+      | inr not_one ↦ inr (λ is. elim (single_cases want is) [
         | inl four ↦ true≢false (sym (eq-eqb want 4 four) ∙ not_four)
         | inr more ↦ elim more [
           | inl two ↦ true≢false (sym (eq-eqb want 2 two) ∙ not_two)
@@ -101,7 +102,7 @@ pub single_right : (want bit : ℕ) → IsPerm want → has_bit (image want) bit
 single_right want bit small h = elim (image_right want bit small h) [
   | inl at ↦ record {
     one = 4;
-    is = inl refl;
+    is = single_read 4 refl;
     small = omega arith;
     has = at_place (image 4) bit 0 at.0 (rights.read_data.same 4 (omega arith));
     within = read_within want small at.1;
@@ -109,7 +110,7 @@ single_right want bit small h = elim (image_right want bit small h) [
   | inr more ↦ elim more [
     | inl at ↦ record {
       one = 2;
-      is = inr (inl refl);
+      is = single_write 2 refl;
       small = omega arith;
       has = at_place (image 2) bit 1 at.0 (rights.write_data.same 2 (omega arith));
       within = write_within want small at.1;
@@ -117,14 +118,14 @@ single_right want bit small h = elim (image_right want bit small h) [
     | inr rest ↦ elim rest [
       | inl at ↦ record {
         one = 2;
-        is = inr (inl refl);
+        is = single_write 2 refl;
         small = omega arith;
         has = at_place (image 2) bit 2 at.0 (rights.append_data.same 2 (omega arith));
         within = write_within want small at.1;
       }
       | inr at ↦ record {
         one = 1;
-        is = inr (inr refl);
+        is = single_execute 1 refl;
         small = omega arith;
         has = at_place (image 1) bit 5 at.0 (rights.execute.same 1 (omega arith));
         within = execute_within want small at.1;

@@ -6,10 +6,10 @@ use Rattle.std.specs.Borrow.{Bor}
 use Rattle.std.specs.Cmp.Lexicographic.{slice_cmp}
 use Rattle.std.specs.Ordering.{nat_cmp}
 use Rattle.std.specs.Str.{bytes_eq}
-use Rattle.std.proofs.lemmas.Bool.{cases_eq, cases_lt, true≢false}
+use Rattle.std.proofs.lemmas.Bool.{cases_eq, true≢false}
 use Rattle.std.proofs.lemmas.List.{get_or-set_other, get_or-set_same, map-append, take-append-drop}
 use Rattle.acl_perm.proofs.Meetings.{bytes_eq_same, itself}
-use Rattle.acl_perm.proofs.Sets.{IsMask-lt, bits_from_mask, right_below, some_bit}
+use Rattle.acl_perm.proofs.Sets.{IsMask-lt, some_bit}
 use Rattle.acl_perm.specs.Bits.{has_bit, IsDifference, IsMask}
 use Rattle.acl_perm.specs.Situation.{Situation}
 use Rattle.acl_perm.specs.declared.kind.Kind.{Kind}
@@ -259,30 +259,6 @@ pub allowed_here : (aces : List AceRef) (s : Situation) (bit : ℕ) (out : List 
     → HasPassed aces s bit out 0 place → AllowsFrom aces s bit place (all_but out)
     → answer_under (all_but out) (map ace aces) s bit ≡ Some Allow
 allowed_here aces s bit out place passed allows = passed (all_but out) (all_but_leaves out) ∙ allows
-
--- the rights below a place of a bit are allowed, and so is the right at the place
-pub allowed_more : (aces : List AceRef) (s : Situation) (request right : ℕ) (out : List ℕ → Bool)
-    → (has_bit request right ≡ true → answer_under (all_but out) (map ace aces) s right ≡ Some Allow)
-    → ((bit : ℕ) → bit < right → has_bit request bit ≡ true
-    → answer_under (all_but out) (map ace aces) s bit ≡ Some Allow)
-    → (bit : ℕ) → bit < right + 1 → has_bit request bit ≡ true
-    → answer_under (all_but out) (map ace aces) s bit ≡ Some Allow
-allowed_more aces s request right out here before bit lt asked = elim (cases_lt bit right) [
-  | inl low ↦ before bit low asked
-  | inr high ↦
-      let same : right ≡ bit = omega (arith, lt, high) in
-      subst (λ (b : ℕ). has_bit request b ≡ true → answer_under (all_but out) (map ace aces) s b ≡ Some Allow) same here
-      asked
-]
-
--- each right is allowed, so the request is granted
-pub says_granted : (aces : List AceRef) (s : Situation) (request last : ℕ) (out : List ℕ → Bool) → IsMask request
-    → 21 ≤ last → ((bit : ℕ) → bit < last → has_bit request bit ≡ true
-    → answer_under (all_but out) (map ace aces) s bit ≡ Some Allow)
-    → GrantsUnder (all_but out) (map ace aces) s request
-says_granted aces s request last out within past allowed bit asked =
-    let below : bit < 21 = right_below bit (bits_from_mask request bit within asked) in
-    allowed bit (omega (arith, below, past)) asked
 
 -- ---- the answer for a request
 

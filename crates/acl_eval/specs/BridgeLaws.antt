@@ -1,7 +1,9 @@
 -- What the list of a POSIX ACL grants (this library's own), compared with the access check of acl(5), "ACCESS CHECK
 -- ALGORITHM".
-use Rattle.std.specs.Prelude.{ℕ, ◌≡◌, ◌<◌, ◌↔◌, ◌⊎◌, map, All, IsTrue}
+use Rattle.std.specs.Prelude.{ℕ, ◌↔◌, map, All, Contains, IsTrue}
 use Rattle.std.specs.Fmt.{decimal}
+use Rattle.acl_perm.specs.Bits.{IsPerm}
+use Rattle.acl_perm.specs.Numbers.{permissions_in_order}
 use Rattle.acl_perm.specs.Situation.{Situation}
 use Rattle.acl_posix.specs.Id.{IsId}
 use Rattle.acl_posix.specs.Entries.{Entries}
@@ -28,7 +30,7 @@ by_name object requester = record {
 
 -- read, write or execute alone
 abbrev pub IsSingle : ℕ → Type 0
-IsSingle want = (want ≡ 4) ⊎ (want ≡ 2) ⊎ (want ≡ 1)
+IsSingle want = Contains permissions_in_order want
 
 -- the list grants one permission if and only if the check grants it
 abbrev pub GrantsSingles : Type 0
@@ -40,7 +42,7 @@ GrantsSingles = (entries : Entries) (object : Object) (requester : Requester) (w
 -- the list grants together what the check grants together
 abbrev pub KeepsGrants : Type 0
 KeepsGrants = (entries : Entries) (object : Object) (requester : Requester) (want : ℕ)
-    → IsAcl entries → IsAsked object requester → want < 8
+    → IsAcl entries → IsAsked object requester → IsPerm want
     → IsTrue (grants entries object requester want)
     → Grant (bridge_list entries) (by_name object requester) (image want)
 

@@ -39,14 +39,18 @@ lost_object lost = record { user = lost.owner.value; group = lost.group.value }
 abbrev pub lost_requester : LostGrant → Requester
 lost_requester lost = record { user = lost.user.value; groups = ids lost.groups.items }
 
+-- the most groups of a requester who loses something
+abbrev pub most_lost_groups : ℕ
+most_lost_groups = 3
+
 -- the permission is read, write or execute alone; the list grants its rights to the requester on the object, and the
--- ACL does not grant the permission; the requester is in at most three groups
+-- ACL does not grant the permission; the requester is in few groups
 pub record IsLossOf (list : List Ace) (entries : Entries) (lost : LostGrant) : Type 0 where
   pub asked : IsAsked (lost_object lost) (lost_requester lost)
   pub single : IsSingle lost.perm.bits
   pub granted : Grant list (by_name (lost_object lost) (lost_requester lost)) (image lost.perm.bits)
   pub denied : IsFalse (grants entries (lost_object lost) (lost_requester lost) lost.perm.bits)
-  pub few : length lost.groups.items ≤ 3
+  pub few : length lost.groups.items ≤ most_lost_groups
 
 -- the users and the groups that the list names, each once, and the entries of the ACL are together more than a bound
 pub record AreMoreThan (most : ℕ) (table : Table) (list : List Ace) (entries : Entries) : Type 0 where

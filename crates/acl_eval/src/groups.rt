@@ -40,7 +40,8 @@ pub(crate) struct Groups<'a> {
     names: &'a [&'a [u8]],
     order: Order<'a>,
     ghost known: { order ≡ Known → AreInOrder names.now },
-    ghost copied: { (copy : Bor (List (Bor (List ℕ)))) → order ≡ Copied copy → IsSortedCopy names.now copy.now },
+    ghost copied: { (copy : Bor (List (Bor (List ℕ)))) → order ≡ Copied copy
+        → IsSortedCopy names.now copy.now },
 }
 
 impl<'a> Groups<'a> {

@@ -1,14 +1,13 @@
 //! An ACE in the bytes of a prepared list of ids: a number of eight bytes.
-ghost use Rattle.std.specs.Prelude.{◌≡◌, ◌++◌, ◌<◌, ◌+◌, ◌*◌, ◌^◌, ◌%◌, ◌==◌, if◌then◌else◌, IfSome, IsSome, List, ℕ, OnOk, length, option_map};
-ghost use Rattle.acl_perm.specs.Kind.{kind_number};
+ghost use Rattle.std.specs.Prelude.{◌≡◌, ◌++◌, ◌<◌, IfSome, IsSome, List, ℕ, OnOk, length, option_map};
 ghost use Rattle.acl_nfs4.specs.Ace.{Ace, ace};
 ghost use Rattle.acl_nfs4.specs.Who.{principal_of};
-ghost use Rattle.acl_perm.specs.declared.kind.Kind.TheVariants.{Allow, Deny};
 ghost use Rattle.acl_eval.specs.Ids.{HasId, with_id};
 ghost use Rattle.acl_eval.specs.PreparedIds.{id_ace, id_ace_number};
-ghost use Rattle.acl_eval.specs.internal.IdsBody.{IsIdPart, IsIdReadAs, id_or_zero};
+ghost use Rattle.acl_eval.specs.internal.IdsBody.{IsIdPart, IsIdReadAs, id_or_zero, id_principal, principal_from};
 
 use crate::id_names::principal_id;
+use crate::prepared_ace::{kind_of, sort_of};
 use acl_nfs4::AceRef;
 use acl_perm::{Kind, Mask};
 use acl_posix::{Id, Names};
@@ -19,14 +18,22 @@ const SORT: u64 = 1 << 28;
 
 const ID: u64 = 1 << 32;
 
-/// An ACE that was read from a prepared list of ids, and the bytes after it. The rank says whom the ACE names, and the
-/// id is that of a user or of a group.
+/// Whom an ACE of a prepared list of ids names: the owner, a user by id, the owning group, a group by id, or everyone.
+#[derive(Clone, Copy)]
+pub(crate) enum IdPrincipal {
+    Owner,
+    User(u32),
+    Group,
+    GroupNamed(u32),
+    Everyone,
+}
+
+/// An ACE that was read from a prepared list of ids, and the bytes after it.
 #[derive(Clone, Copy)]
 pub(crate) struct IdAce<'a> {
     pub mask: Mask,
     pub kind: Kind,
-    pub rank: u32,
-    pub id: u32,
+    pub whom: IdPrincipal,
     pub rest: &'a [u8],
 }
 
@@ -51,8 +58,9 @@ fn number_of_ace(names: &Names, item: &AceRef<'_>) -> u64
         item.now.mask.bits }
 {
     let whom = item.principal();
+    let sort = sort_of(whom, item.kind);
     let id = id_or_zero(principal_id(names, whom));
-    number_of(item.mask, item.kind, whom.rank(), id)
+    item.mask.bits() as u64 + SORT * sort + ID * id as u64
 }
 
 fn id_or_zero(id: Option<Id>) -> u32
@@ -62,15 +70,6 @@ fn id_or_zero(id: Option<Id>) -> u32
         Some(id) => id.value,
         None => 0,
     }
-}
-
-// Returns the number of an ACE of a principal with this rank and this id.
-fn number_of(mask: Mask, kind: Kind, rank: u8, id: u32) -> u64
-    requires { rank < 5 }
-    ensures { result ≡ mask.bits + 2 ^ 28 * (kind_number kind + 2 * rank) + 2 ^ 32 * id }
-{
-    let sort = kind.number() as u64 + 2 * rank as u64;
-    mask.bits() as u64 + SORT * sort + ID * id as u64
 }
 
 /// Returns the ACE that the bytes begin with, or `None` if they begin with none.
@@ -87,20 +86,21 @@ pub(crate) fn first_id_ace(bytes: &[u8]) -> Option<IdAce<'_>>
     Some(IdAce {
         mask,
         kind: kind_of(sort),
-        rank: (sort / 2) as u32,
-        id: (number / ID) as u32,
+        whom: principal_from(sort / 2, (number / ID) as u32),
         rest,
     })
 }
 
-// Returns the kind of an ACE of this sort.
+// Returns the principal of this rank, by this id if it is a user or a group.
 #[inline(always)]
-fn kind_of(sort: u64) -> Kind
-    ensures { result ≡ (if sort % 2 == 0 then Allow else Deny) }
+fn principal_from(rank: u64, id: u32) -> IdPrincipal
+    ensures { id_principal result ≡ principal_from rank id }
 {
-    if sort % 2 == 0 {
-        Kind::Allow
-    } else {
-        Kind::Deny
+    match rank {
+        0 => IdPrincipal::Owner,
+        1 => IdPrincipal::User(id),
+        2 => IdPrincipal::Group,
+        3 => IdPrincipal::GroupNamed(id),
+        _ => IdPrincipal::Everyone,
     }
 }

@@ -1,17 +1,12 @@
 //! The ids of the names of a list: by a table, or by their own digits.
 ghost use Rattle.std.specs.Prelude.{◌≡◌, false, option_map, true};
-ghost use Rattle.std.specs.Char.{is_ascii_digit};
-ghost use Rattle.std.specs.List.{list_all};
 ghost use Rattle.acl_perm.specs.Principal.{principal};
-ghost use Rattle.acl_posix.specs.Fields as fields;
 ghost use Rattle.acl_posix.specs.Names.{is_number};
 ghost use Rattle.acl_eval.specs.Ids.{HasId, has_leading_zero, id_in_digits, id_of_name, is_unknown, principal_id};
 
 use acl_perm::Principal;
+use acl_posix::internal::{is_number, read_id};
 use acl_posix::{Id, Names};
-
-// The greatest id.
-const GREATEST: u64 = 4_294_967_294;
 
 /// Returns whether the principal is a user or a group without an id.
 pub(crate) fn is_unknown(names: &Names, whom: Principal<'_>) -> bool
@@ -61,22 +56,10 @@ fn id_in_digits(name: &[u8]) -> Option<Id>
     ensures { option_map (λ id. id.value) result ≡ id_in_digits name.now }
 {
     if is_number(name) && !has_leading_zero(name) {
-        id_of_digits(name)
+        read_id(name)
     } else {
         None
     }
-}
-
-fn is_number(name: &[u8]) -> bool
-    ensures { result ≡ is_number name.now }
-{
-    !name.is_empty() && are_digits(name)
-}
-
-fn are_digits(name: &[u8]) -> bool
-    ensures { result ≡ list_all is_ascii_digit name.now }
-{
-    name.iter().all(|byte| byte.is_ascii_digit())
 }
 
 fn has_leading_zero(name: &[u8]) -> bool
@@ -84,19 +67,4 @@ fn has_leading_zero(name: &[u8]) -> bool
     ensures { result ≡ has_leading_zero name.now }
 {
     name[0] == b'0' && name.len() != 1
-}
-
-// Returns the id that the digits spell, or `None` if their number is above the greatest id.
-fn id_of_digits(digits: &[u8]) -> Option<Id>
-    requires { is_number digits.now ≡ true }
-    ensures { option_map (λ id. id.value) result ≡ fields.id_of digits.now }
-{
-    let mut value = 0u64;
-    for digit in digits {
-        value = value * 10 + u64::from(*digit - b'0');
-        if value > GREATEST {
-            return None;
-        }
-    }
-    Id::new(value as u32)
 }

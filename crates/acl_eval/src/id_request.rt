@@ -1,5 +1,5 @@
 //! A requester, and an object with its owner and group, by their ids.
-ghost use Rattle.std.specs.Prelude.{◌≡◌, ◌==◌, ◌↔◌, if◌then◌else◌, IfSome, IsSome, IsTrue, map};
+ghost use Rattle.std.specs.Prelude.{◌≡◌, ◌==◌, ◌↔◌, IfSome, IsSome, IsTrue, map};
 ghost use Rattle.std.specs.Fmt.{decimal};
 ghost use Rattle.std.specs.List.{list_any};
 ghost use Rattle.std.specs.Str.{bytes_eq};
@@ -7,7 +7,9 @@ ghost use Rattle.std.specs.Ordering.{nat_cmp};
 ghost use Rattle.std.proofs.lemmas.Map.Keys.{IsStrictlySortedBy-prop};
 ghost use Rattle.acl_perm.specs.Situation.{is_one_of, matches};
 ghost use Rattle.acl_eval.specs.Ids.{AreRising};
-ghost use Rattle.acl_eval.specs.internal.IdsBody.{principal_from};
+ghost use Rattle.acl_eval.specs.internal.IdsBody.{id_principal};
+
+use crate::id_ace::IdPrincipal;
 
 // Up to this number of groups, a look-up one by one is faster than a binary search.
 const FEW: usize = 16;
@@ -51,35 +53,18 @@ impl<'a> IdRequester<'a> {
         }
     }
 
-    /// Returns whether the ACE of a principal matches the requester of an object. The principal is given by its rank,
-    /// and by the id of the user or of the group.
+    /// Returns whether the ACE of a principal matches the requester of an object.
     #[inline(always)]
-    pub(crate) fn is_match(&self, object: IdObject, rank: u32, id: u32) -> bool
-        ensures { result ≡ matches (id_situation object self.now) (principal_from rank id) }
+    pub(crate) fn is_match(&self, object: IdObject, whom: IdPrincipal) -> bool
+        ensures { result ≡ matches (id_situation object self.now) (id_principal whom) }
     {
-        match rank {
-            0 | 1 => is_same(self.user, object.owner_or(rank, id)),
-            2 | 3 => is_among(self.groups, object.group_or(rank, id)),
-            _ => true,
+        match whom {
+            IdPrincipal::Owner => is_same(self.user, object.owner),
+            IdPrincipal::User(id) => is_same(self.user, id),
+            IdPrincipal::Group => is_among(self.groups, object.group),
+            IdPrincipal::GroupNamed(id) => is_among(self.groups, id),
+            IdPrincipal::Everyone => true,
         }
-    }
-}
-
-impl IdObject {
-    // Returns the owner for the rank of OWNER@, and otherwise the id.
-    #[inline(always)]
-    fn owner_or(self, rank: u32, id: u32) -> u32
-        ensures { result ≡ (if rank == 0 then self.owner else id) }
-    {
-        if rank == 0 { self.owner } else { id }
-    }
-
-    // Returns the owning group for the rank of GROUP@, and otherwise the id.
-    #[inline(always)]
-    fn group_or(self, rank: u32, id: u32) -> u32
-        ensures { result ≡ (if rank == 2 then self.group else id) }
-    {
-        if rank == 2 { self.group } else { id }
     }
 }
 

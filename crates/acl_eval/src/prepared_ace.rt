@@ -1,16 +1,16 @@
 //! An ACE in the bytes of a prepared list: a number of eight bytes, and the name of a user or of a group.
-ghost use Rattle.std.specs.Prelude.{◌≡◌, ◌++◌, ◌<◌, ◌+◌, ◌*◌, ◌^◌, ◌%◌, ◌==◌, if◌then◌else◌, IfSome, IsSome, List, ℕ, OnOk, length};
-ghost use Rattle.acl_perm.specs.Kind.{kind_number};
+ghost use Rattle.std.specs.Prelude.{◌≡◌, ◌++◌, ◌<◌, ◌≤◌, ◌%◌, ◌==◌, if◌then◌else◌, IfSome, IsSome, List, ℕ, OnOk, length};
 ghost use Rattle.acl_perm.specs.Order.{principal_name, principal_rank};
 ghost use Rattle.acl_perm.specs.Principal as plain;
 ghost use Rattle.acl_perm.specs.Principal.{principal};
 ghost use Rattle.acl_perm.specs.Profile.{full};
 ghost use Rattle.acl_perm.specs.declared.kind.Kind.TheVariants.{Allow, Deny};
 ghost use Rattle.acl_nfs4.specs.Ace.{Ace, ace};
+ghost use Rattle.acl_nfs4.specs.Limits.{longest_who};
 ghost use Rattle.acl_nfs4.specs.Spelling.{IsAce};
 ghost use Rattle.acl_nfs4.specs.Who.{IsWho, principal_of};
 ghost use Rattle.acl_eval.specs.Prepared.{ace_number, ends_key, name_key, prepared_ace, short_key, sort_number};
-ghost use Rattle.acl_eval.specs.internal.PreparedBody.{IsReadAs};
+ghost use Rattle.acl_eval.specs.internal.PreparedBody.{IsReadAs, sort_count};
 
 use acl_nfs4::AceRef;
 use acl_perm::{Kind, Mask, Principal};
@@ -47,21 +47,27 @@ pub(crate) fn push_prepared(bytes: &mut Vec<u8>, item: &AceRef<'_>) -> Result<()
     ensures { OnOk result (bytes.new.items ≡ bytes.old.items ++ prepared_ace (ace item.now)) }
 {
     let whom = item.principal();
-    let name = whom.name();
-    let number = number_of(whom.rank(), item.kind, item.mask, name);
+    let number = number_of(whom, item.kind, item.mask);
     bytes.extend_from_slice(&number.to_le_bytes())?;
-    bytes.extend_from_slice(name)
+    bytes.extend_from_slice(whom.name())
 }
 
-// Returns the number of an ACE with a principal of this rank and this name.
-fn number_of(rank: u8, kind: Kind, mask: Mask, name: &[u8]) -> u64
-    requires rank { rank < 5 }
-    requires name { length name.now < 2 ^ 16 }
-    ensures { result ≡ mask.bits + 2 ^ 32 * (kind_number kind + 2 * rank)
-        + 2 ^ 40 * name_key name.now + 2 ^ 48 * length name.now }
+// Returns the number of an ACE.
+fn number_of(whom: Principal<'_>, kind: Kind, mask: Mask) -> u64
+    requires { length (principal_name (principal whom)) ≤ longest_who }
+    ensures { result ≡ ace_number (principal whom.entry) kind mask.bits }
 {
-    let sort = kind.number() as u64 + 2 * rank as u64;
+    let name = whom.name();
+    let sort = sort_of(whom, kind);
     mask.bits() as u64 + SORT * sort + KEY * name_key(name) as u64 + LENGTH * name.len() as u64
+}
+
+/// Returns the kind of an ACE, and which of the five principals it names, as one number.
+pub(crate) fn sort_of(whom: Principal<'_>, kind: Kind) -> u64
+    ensures value { result ≡ sort_number (principal whom.entry) kind }
+    ensures small { result < sort_count }
+{
+    kind.number() as u64 + 2 * whom.rank() as u64
 }
 
 /// Returns the key of a name: a byte that two different names seldom share. It is computed from both ends of the name,
@@ -120,9 +126,9 @@ pub(crate) fn first_prepared(bytes: &[u8]) -> Option<PreparedAce<'_>>
     })
 }
 
-// Returns the kind of an ACE of this sort.
+/// Returns the kind of an ACE of this sort.
 #[inline(always)]
-fn kind_of(sort: u64) -> Kind
+pub(crate) fn kind_of(sort: u64) -> Kind
     ensures { result ≡ (if sort % 2 == 0 then Allow else Deny) }
 {
     if sort % 2 == 0 {

@@ -107,16 +107,14 @@ fn judge<'a>(
     ensures says { Says aces.now (is_out out.now)
         (λ v. GrantsUnder v (map ace aces.now) (asked_situation standing.now) mask.bits) result }
 {
-    for bit in 0..Bit::COUNT {
-        let right = Bit { bit };
-        if right.is_in(mask) {
-            let mut place = places[bit];
-            let step = descend(aces, standing, right, out, &mut place);
-            places[bit] = place;
-            match step {
-                Step::Granted => {}
-                _ => return step,
-            }
+    for right in mask.rights() {
+        let bit = Bit::from(right);
+        let mut place = places[bit.bit];
+        let step = descend(aces, standing, bit, out, &mut place);
+        places[bit.bit] = place;
+        match step {
+            Step::Granted => {}
+            _ => return step,
         }
     }
     Step::Granted

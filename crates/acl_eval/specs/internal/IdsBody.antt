@@ -12,6 +12,8 @@ use Rattle.acl_nfs4.specs.Who.{principal_of}
 use Rattle.acl_eval.specs.Column.{takes_part}
 use Rattle.acl_eval.specs.Ids.{digits_or, id_of_name}
 use Rattle.acl_eval.specs.declared.id_ace.IdAce.{IdAce}
+use Rattle.acl_eval.specs.declared.id_ace.IdPrincipal.{IdPrincipal}
+use Rattle.acl_eval.specs.declared.id_ace.IdPrincipal.TheVariants as code
 
 -- the id, or 0 if there is none
 abbrev pub id_or_zero : Option ℕ → ℕ
@@ -25,6 +27,14 @@ principal_from rank id = if rank == 0 then owner
     else (if rank == 2 then group
     else (if rank == 3 then group_named (decimal id) else everyone)))
 
+-- whom an ACE names, with the digits of an id for its name
+abbrev pub id_principal : IdPrincipal → Principal
+id_principal code.Owner = owner
+id_principal (code.User id) = user (decimal id)
+id_principal code.Group = group
+id_principal (code.GroupNamed id) = group_named (decimal id)
+id_principal code.Everyone = everyone
+
 -- the same principal, with the digits of its id in place of the name
 abbrev pub by_id : Table → Principal → Principal
 by_id table owner = owner
@@ -37,7 +47,7 @@ by_id table everyone = everyone
 pub record IsIdReadAs (a : Ace) (read : IdAce) : Type 0 where
   pub mask : read.mask.bits ≡ a.mask
   pub kind : read.kind ≡ a.kind
-  pub whom : principal_from read.rank read.id ≡ principal_of a
+  pub whom : id_principal read.whom ≡ principal_of a
 
 -- a valid ACE that takes part, and whose name is the digits of an id
 pub record IsIdPart (a : Ace) : Type 0 where

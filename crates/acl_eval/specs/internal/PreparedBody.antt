@@ -16,6 +16,10 @@ use Rattle.acl_eval.specs.internal.GrantingBody.{is_undecided}
 use Rattle.acl_eval.specs.declared.granting.GrantedSoFar.{GrantedSoFar}
 use Rattle.acl_eval.specs.declared.prepared_ace.PreparedAce.{PreparedAce}
 
+-- how many numbers a sort can be: two kinds of each of the five principals
+abbrev pub sort_count : ℕ
+sort_count = 10
+
 -- what was read is this ACE
 pub record IsReadAs (a : Ace) (read : PreparedAce) : Type 0 where
   pub mask : read.mask.bits ≡ a.mask

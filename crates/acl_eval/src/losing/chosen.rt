@@ -2,7 +2,7 @@
 ghost use Rattle.std.specs.Prelude.{◌≡◌, ◌≤◌, ◌+◌, ◌++◌, ◌==◌, IfOk, OnOk, false, length};
 ghost use Rattle.acl_posix.specs.Check.{ids};
 ghost use Rattle.acl_posix.specs.Tag.{tag_of};
-ghost use Rattle.acl_eval.specs.LostGrants.{lost_object, lost_requester};
+ghost use Rattle.acl_eval.specs.LostGrants.{lost_object, lost_requester, most_lost_groups};
 ghost use Rattle.acl_eval.specs.internal.LossBody.{chosen_object, chosen_requester, groups_for, is_lost, is_met, is_owner_tag, user_or};
 ghost use Rattle.acl_eval.specs.internal.ShapeBody.{column_decided_by, keys_of};
 
