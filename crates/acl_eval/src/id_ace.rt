@@ -4,7 +4,7 @@ ghost use Rattle.acl_nfs4.specs.Ace.{Ace, ace};
 ghost use Rattle.acl_nfs4.specs.Who.{principal_of};
 ghost use Rattle.acl_eval.specs.Ids.{HasId, with_id};
 ghost use Rattle.acl_eval.specs.PreparedIds.{id_ace, id_ace_number};
-ghost use Rattle.acl_eval.specs.internal.IdsBody.{IsIdPart, IsIdReadAs, id_or_zero, id_principal, principal_from};
+ghost use Rattle.acl_eval.specs.internal.IdsBody.{IsIdPart, IsIdReadAs, id_or_zero, id_principal, principal_read};
 
 use crate::id_names::principal_id;
 use crate::prepared_ace::{kind_of, sort_of};
@@ -33,8 +33,25 @@ pub(crate) enum IdPrincipal {
 pub(crate) struct IdAce<'a> {
     pub mask: Mask,
     pub kind: Kind,
-    pub whom: IdPrincipal,
     pub rest: &'a [u8],
+    rank: u32,
+    id: u32,
+}
+
+impl IdAce<'_> {
+    /// Returns whom the ACE names, which is asked only if the ACE has a right that is not decided yet.
+    #[inline(always)]
+    pub(crate) fn whom(&self) -> IdPrincipal
+        ensures { id_principal result ≡ principal_read self.now }
+    {
+        match self.rank {
+            0 => IdPrincipal::Owner,
+            1 => IdPrincipal::User(self.id),
+            2 => IdPrincipal::Group,
+            3 => IdPrincipal::GroupNamed(self.id),
+            _ => IdPrincipal::Everyone,
+        }
+    }
 }
 
 /// Adds the bytes of an ACE at the end, with the id of its name. If memory runs out, it may have added some of them.
@@ -86,21 +103,8 @@ pub(crate) fn first_id_ace(bytes: &[u8]) -> Option<IdAce<'_>>
     Some(IdAce {
         mask,
         kind: kind_of(sort),
-        whom: principal_from(sort / 2, (number / ID) as u32),
         rest,
+        rank: (sort / 2) as u32,
+        id: (number / ID) as u32,
     })
-}
-
-// Returns the principal of this rank, by this id if it is a user or a group.
-#[inline(always)]
-fn principal_from(rank: u64, id: u32) -> IdPrincipal
-    ensures { id_principal result ≡ principal_from rank id }
-{
-    match rank {
-        0 => IdPrincipal::Owner,
-        1 => IdPrincipal::User(id),
-        2 => IdPrincipal::Group,
-        3 => IdPrincipal::GroupNamed(id),
-        _ => IdPrincipal::Everyone,
-    }
 }

@@ -188,7 +188,7 @@ impl GrantedSoFar {
             ≡ left_in (id_situation object requester.now) self (a ∷ list) bit }
     {
         let decided = self.left.intersection(item.mask);
-        if decided.bits() == 0 || !requester.is_match(object, item.whom) {
+        if decided.bits() == 0 || !requester.is_match(object, item.whom()) {
             return self;
         }
         self.decide(item.kind, item.mask)

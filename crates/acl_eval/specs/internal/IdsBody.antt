@@ -43,11 +43,15 @@ by_id table group = group
 by_id table (group_named name) = group_named (digits_or (id_of_name table.groups name) name)
 by_id table everyone = everyone
 
+-- whom an ACE names that was read
+abbrev pub principal_read : IdAce → Principal
+principal_read read = principal_from read.rank read.id
+
 -- what was read is this ACE
 pub record IsIdReadAs (a : Ace) (read : IdAce) : Type 0 where
   pub mask : read.mask.bits ≡ a.mask
   pub kind : read.kind ≡ a.kind
-  pub whom : id_principal read.whom ≡ principal_of a
+  pub whom : principal_read read ≡ principal_of a
 
 -- a valid ACE that takes part, and whose name is the digits of an id
 pub record IsIdPart (a : Ace) : Type 0 where

@@ -22,8 +22,7 @@ returns-clause-first c = λ a more is e.
         record {
           mask = c.in_ok-mask.ensures.value ∙ l.numbers.mask;
           kind = c.kind_of.ensures ∙ kind_read (principal_of a) a.kind _ l.numbers.sort;
-          whom = c.principal_from.ensures
-              ∙ rw (rank_read (principal_of a) a.kind _ l.numbers.sort, l.numbers.id) is.named;
+          whom = rw (rank_read (principal_of a) a.kind _ l.numbers.sort, l.numbers.id) is.named;
         },
         l.behind,
       ),
