@@ -1,7 +1,7 @@
 //! The result of an engine.
 ghost use Rattle.std.specs.Prelude.{◌≡◌};
 ghost use Rattle.acl_nfs4.specs.Spelling.{spelling};
-ghost use Rattle.aclck.specs.Answer.{origin_of, decision_line, is_input_fault, is_yes, run_fault_of};
+ghost use Rattle.aclck.specs.Answer.{origin_of, decision_line, is_yes, run_fault_of};
 ghost use Rattle.aclck.specs.internal.Writing.{WritesText};
 
 use acl_nfs4::{AceTextFault, Acl, Fault, ReadFault, WriteFault};
@@ -90,18 +90,8 @@ pub enum Origin {
 }
 
 impl RunFault {
-    /// Returns whether the input is refused: memory did not run out, and no read or write failed.
-    pub(crate) fn is_input_fault(self) -> bool
-        ensures { result ≡ is_input_fault self }
-    {
-        match self.origin() {
-            Origin::Input => true,
-            Origin::Source | Origin::Sink(_) | Origin::Memory => false,
-        }
-    }
-
     /// Returns where the fault comes from. The exit status follows from this.
-    fn origin(self) -> Origin
+    pub(crate) fn origin(self) -> Origin
         ensures { result ≡ origin_of self }
     {
         match self {

@@ -5,7 +5,7 @@ ghost use Rattle.aclck.specs.Task.{is_command, task_held, task_in, task_of};
 ghost use Rattle.aclck.specs.Command.{RunsWords};
 ghost use Rattle.aclck.specs.internal.Performing.{RunsTask, command_fault_of, status_of};
 
-use crate::answer::{Outcome, RunFault};
+use crate::answer::{Origin, Outcome, RunFault};
 use crate::line::{LineFault, other_words};
 use crate::task::{Name, Task};
 use acl_perm::{Sink, Source, put_all};
@@ -54,18 +54,6 @@ impl From<AllocError> for CommandFault {
     }
 }
 
-impl CommandFault {
-    // Returns 3 for usage, 2 for a refused input, and 4 for a device or memory.
-    fn status(self) -> u8
-        ensures { result ≡ status_of self }
-    {
-        match self {
-            CommandFault::Usage => 3,
-            CommandFault::Run(fault) => { if fault.is_input_fault() { 2 } else { 4 } }
-        }
-    }
-}
-
 /// Runs the command that the words name, which come without the program's name, and returns the exit status: 0 done,
 /// granted or the same, 1 denied or different, 2 the input is refused, 3 usage, 4 a device or memory. From 2 on, one
 /// line on `err` says why; a fault of `err` changes nothing.
@@ -87,12 +75,19 @@ pub fn command<S: Source, K: Sink, E: Sink>(
     }
 }
 
-/// Returns the exit status of a fault, and writes one line on `err` that says why.
+/// Returns the exit status of a fault, 3 for usage, 2 for a refused input, and 4 for a device or memory, and writes one
+/// line on `err` that says why.
 pub(crate) fn fail<E: Sink>(err: &mut E, fault: CommandFault) -> u8
     ensures { result ≡ status_of fault }
 {
     report(err, fault);
-    fault.status()
+    match fault {
+        CommandFault::Usage => 3,
+        CommandFault::Run(fault) => match fault.origin() {
+            Origin::Input => 2,
+            Origin::Source | Origin::Sink(_) | Origin::Memory => 4,
+        },
+    }
 }
 
 // Runs the command that the words name.
@@ -137,15 +132,7 @@ fn perform_named<S: Source, K: Sink>(
 fn words_in<'a>(alloc: Global, matches: &ArgMatches<'a>) -> Result<Vec<&'a [u8]>, AllocError>
     ensures { IfOk result (λ v. texts v.items ≡ words_of (rows_in matches.now)) }
 {
-    match other_words(matches) {
-        Some(words) => bytes_of(alloc, words),
-        None => Ok(Vec::new(alloc)),
-    }
-}
-
-fn bytes_of<'a>(alloc: Global, words: &[&'a str]) -> Result<Vec<&'a [u8]>, AllocError>
-    ensures { IfOk result (λ v. texts v.items ≡ texts words.now) }
-{
+    let words = other_words(matches).unwrap_or(&[]);
     let mut all = Vec::new(alloc);
     for word in words {
         all.push(word.as_bytes())?;

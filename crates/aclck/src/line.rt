@@ -3,7 +3,7 @@ ghost use Rattle.std.specs.Prelude.{◌≡◌, ◌≢◌, [], IfErr, IfOk, OnOk,
 ghost use Rattle.std.specs.Option.{option_map_or};
 ghost use Rattle.std.specs.Str.{bytes_eq};
 ghost use Rattle.clap.specs.Words.{app_of, is_simple_and_free, kind_of, rule_of};
-ghost use Rattle.aclck.specs.Line.{app_from, is_given, is_taken, plain_app, rows_at, rows_in, rule_from, term_id, text_if_any, texts, value_of, words_of};
+ghost use Rattle.aclck.specs.Line.{app_from, is_given, is_taken, rows_at, rows_in, rule_from, term_id, text_if_any, texts, value_of, words_of};
 ghost use Rattle.aclck.specs.internal.Held.{term};
 ghost use Rattle.aclck.specs.declared.line.LineFault.TheVariants.{Memory};
 
@@ -77,18 +77,12 @@ pub(crate) fn command_from<'a>(
 ) -> Result<Command<'a>, AllocError>
     ensures { IfOk result (λ c. app_of c ≡ app_from name.entry.now (map term table.now)) }
 {
-    let mut command = plain_command(alloc, name);
+    // Without help, `--help` and `-h` are unknown options.
+    let mut command = Command::new(alloc, name).disable_help_flag(true);
     for argument in table {
         command = command.arg(arg_of(alloc, *argument))?;
     }
     Ok(command)
-}
-
-// Returns a command without arguments. It has no help: `--help` and `-h` are unknown options.
-fn plain_command<'a>(alloc: Global, name: &'a str) -> Command<'a>
-    ensures { app_of result ≡ plain_app name.entry.now }
-{
-    Command::new(alloc, name).disable_help_flag(true)
 }
 
 fn arg_of<'a>(alloc: Global, argument: Argument) -> Arg<'a>

@@ -11,11 +11,10 @@ mod task;
 mod tests;
 mod words;
 
-use acl_perm::{Counted, Sink, Source};
+use acl_perm::Counted;
 use answer::RunFault;
 use command::{CommandFault, command, fail};
 use line::LineFault;
-use std::alloc::Global;
 use std::process::ExitCode;
 use std::{env, io};
 
@@ -24,7 +23,14 @@ fn main(rt: HostRuntime) -> ExitCode {
     let mut out = Counted::new(rt.stdout());
     let mut err = Counted::new(rt.stderr());
     let status = match collect_words(&rt) {
-        Ok(words) => run_words(rt.alloc(), &words, &mut source, &mut out, &mut err),
+        Ok(words) => {
+            // `command` takes slices of words, but the system returns owned strings.
+            let texts = words.iter().map(|word| word.as_str());
+            match texts.collect::<Vec<&str>>(rt.alloc()) {
+                Ok(texts) => command(rt.alloc(), &texts, &mut source, &mut out, &mut err),
+                Err(_) => fail(&mut err, CommandFault::Run(RunFault::Memory)),
+            }
+        }
         Err(fault) => fail(&mut err, CommandFault::from(fault)),
     };
     ExitCode::from(status)
@@ -36,20 +42,5 @@ fn collect_words(rt: &HostRuntime) -> Result<Vec<String>, LineFault> {
         Ok(args) => Ok(args.skip(1).collect::<Vec<String>>(rt.alloc())?),
         Err(e) if e.kind() == io::ErrorKind::OutOfMemory => Err(LineFault::Memory),
         Err(_) => Err(LineFault::Usage),
-    }
-}
-
-// `command` takes slices of words, but the system returns owned strings.
-fn run_words<S: Source, K: Sink, E: Sink>(
-    alloc: Global,
-    words: &[String],
-    source: &mut S,
-    out: &mut K,
-    err: &mut E,
-) -> u8 {
-    let texts = words.iter().map(|word| word.as_str());
-    match texts.collect::<Vec<&str>>(alloc) {
-        Ok(texts) => command(alloc, texts.as_slice(), source, out, err),
-        Err(_) => fail(err, CommandFault::Run(RunFault::Memory)),
     }
 }

@@ -39,6 +39,7 @@ use compare::run_compare;
 use create::run_create;
 use encode::run_encode;
 use mode::run_mode;
+use normalize::{run_normalize, run_normalize_inherit};
 use show_nfs::run_show_nfs;
 use show_posix::run_show_posix;
 use std::alloc::Global;
@@ -233,7 +234,10 @@ impl<'a> Task<'a> {
             Task::Mode(profile) => run_mode(alloc, source, sink, *profile),
             Task::Bridge(names) => run_bridge(alloc, source, sink, names),
             Task::Table(v) => run_table(alloc, source, sink, *v),
-            Task::Normalize(v) => normalize::run(alloc, source, sink, *v),
+            Task::Normalize(v) if v.inherit => run_normalize_inherit(
+                alloc, source, sink, v.profile,
+            ),
+            Task::Normalize(v) => run_normalize(alloc, source, sink, v.profile),
             Task::Compare(profile) => run_compare(alloc, source, sink, *profile),
         }
     }

@@ -1,9 +1,7 @@
 //! `check-nfs`: whether a list grants a request.
-ghost use Rattle.std.specs.Prelude.{◌≡◌, ◌↔◌, IsTrue};
-ghost use Rattle.acl_eval.specs.Grant.{Grant};
-ghost use Rattle.acl_eval.specs.Situation.{situation};
-ghost use Rattle.aclck.specs.Common.{IfOk, ReadsValues, RunsCommand, is_yes, option_and_then, option_map, rows_in, text_if_any, texts};
-ghost use Rattle.aclck.specs.Values.{mask_value, mask_within};
+ghost use Rattle.std.specs.Prelude.{◌≡◌};
+ghost use Rattle.aclck.specs.Common.{ReadsValues, RunsCommand, option_and_then, option_map, rows_in, text_if_any, texts};
+ghost use Rattle.aclck.specs.Values.{mask_within};
 ghost use Rattle.aclck.specs.commands.CheckNfs.{check_nfs, check_nfs_held, check_nfs_in, object_named, object_names, requester_named, requester_names};
 
 use crate::answer::{Outcome, RunFault, decision_line, write_answer};
@@ -14,10 +12,10 @@ use crate::words::options::{GROUP, MASK, OWNER, PROFILE, USER};
 use crate::words::profile::profile_in;
 use crate::words::values::within;
 use acl_eval::{Object, Requester, grants_for_many_groups};
-use acl_nfs4::{Acl, read_mask};
+use acl_nfs4::read_mask;
 use acl_perm::{Mask, Sink, Source};
 use clap::ArgMatches;
-use std::alloc::{AllocError, Global};
+use std::alloc::Global;
 
 /// The options of `check-nfs`. Its other words are the groups of the requester.
 pub(crate) const ARGUMENTS: [Argument; 6] = [OWNER, GROUP, USER, MASK, PROFILE, Argument::Words];
@@ -69,26 +67,19 @@ fn requester_of_bytes<'a>(user: &'a [u8], groups: &'a [&'a [u8]]) -> Option<Requ
     Requester::new(user, groups)
 }
 
-// Returns the value of `--mask`. The rights are those of the profile, and the mask may have no other.
+// Returns the value of `--mask`: `none`, or names of rights with `|` between them. The rights are those of the profile,
+// and the mask may have no other.
+#[tactic(auto, unfolding(crate::specs::Values::mask_value))]
 fn mask_in(word: Option<&str>, rights: Mask) -> Option<Mask>
     ensures { option_map (λ mask. mask.bits) result
         ≡ option_and_then (mask_within rights.bits) (text_if_any word.entry) }
 {
-    within(rights, mask_value(word?)?)
-}
-
-// The value of `--mask`: `none`, or names of rights with `|` between them. None if the word is neither.
-#[tactic(auto, unfolding(crate::specs::Values::mask_value))]
-fn mask_value(word: &str) -> Option<Mask>
-    ensures { option_map (λ mask. mask.bits) result ≡ mask_value word.now }
-{
-    if word == "none" {
-        Some(Mask::NONE)
-    } else if word == "-" {
-        None
-    } else {
-        read_mask(word.as_bytes())
-    }
+    let mask = match word? {
+        "none" => Mask::NONE,
+        "-" => return None,
+        names => read_mask(names.as_bytes())?,
+    };
+    within(rights, mask)
 }
 
 /// Writes whether the list that the whole input spells grants the requester of the task the mask on its object (RFC
@@ -106,16 +97,8 @@ pub fn run_check_nfs<S: Source, K: Sink>(
         K.contents K.failure_count sink.old sink.new result }
 {
     let list = read_list(alloc, source, task.profile)?;
-    let outcome = decide(alloc, &list, task)?;
-    write_answer(sink, outcome, decision_line(outcome))
-}
-
-// Returns Yes if the list grants the request. The groups are put into a table where that saves time.
-fn decide(alloc: Global, list: &Acl, task: &CheckNfs<'_>) -> Result<Outcome, AllocError>
-    ensures { IfOk result (λ outcome. IsTrue (is_yes outcome)
-        ↔ Grant list.now (situation task.now.object task.now.requester) task.now.mask.bits) }
-{
     let mask = task.mask;
     let granted = grants_for_many_groups(alloc, &list.view(), &task.object, &task.requester, mask)?;
-    Ok(Outcome::of(granted))
+    let outcome = Outcome::of(granted);
+    write_answer(sink, outcome, decision_line(outcome))
 }

@@ -1,11 +1,11 @@
 //! `compare`: whether two lists grant the same, and where they differ.
-ghost use Rattle.std.specs.Prelude.{◌≡◌, ◌++◌, codes, flat_map, map, unwrap_or};
+ghost use Rattle.std.specs.Prelude.{◌≡◌, ◌++◌, unwrap_or};
 ghost use Rattle.acl_nfs4.specs.BitNames.{first_name};
 ghost use Rattle.acl_nfs4.specs.Rights.{rights};
 ghost use Rattle.acl_normal.specs.Difference.{situation_of};
 ghost use Rattle.aclck.specs.Common.{[], IfOk, OnOk, RunsCommand, profile_of};
 ghost use Rattle.aclck.specs.Answer.{decision};
-ghost use Rattle.aclck.specs.commands.Compare.{Compares, answer_lines, compare, compare_line, difference_text, situation_lines};
+ghost use Rattle.aclck.specs.commands.Compare.{Compares, compare, compare_line, situation_lines};
 ghost use Rattle.aclck.specs.internal.Compared.{compared_text};
 
 use crate::answer::{Outcome, RunFault, write_answer};
@@ -47,28 +47,24 @@ fn answer_of(alloc: Global, lists: &TwoLists) -> Result<Comparison, AllocError>
         Compares lists.now.first lists.now.second answer.outcome answer.text.items) }
 {
     let difference = compare(alloc, &lists.first, &lists.second)?;
-    let text = text_of_answer(alloc, &difference)?;
+    let text = text_of(alloc, &difference)?;
     let outcome = Outcome::of(difference.is_none());
     Ok(Comparison { outcome, text })
 }
 
-// Returns `same` with a line feed, or the lines of the difference.
-fn text_of_answer(alloc: Global, difference: &Option<Difference>) -> Result<Vec<u8>, AllocError>
+// Returns `same` with a line feed, or the lines of the difference: the object and the requester, the right on which the
+// lists differ, and what each list answers.
+fn text_of(alloc: Global, difference: &Option<Difference>) -> Result<Vec<u8>, AllocError>
     ensures { IfOk result (λ text. text.items ≡ compared_text difference.now) }
 {
-    match difference {
-        None => Vec::from_slice(alloc, b"same\n"),
-        Some(found) => text_of_difference(alloc, found),
-    }
-}
-
-fn text_of_difference(alloc: Global, found: &Difference) -> Result<Vec<u8>, AllocError>
-    ensures { IfOk result (λ text. text.items
-        ≡ difference_text (situation_of found.now) found.now.bit.bits found.now.first_grants) }
-{
+    let Some(found) = difference else {
+        return Vec::from_slice(alloc, b"same\n");
+    };
     let mut text = Vec::from_slice(alloc, b"differ\n")?;
     add_situation(&mut text, found)?;
-    add_answers(&mut text, found)?;
+    add_line(&mut text, b"mask", right_name(found.bit))?;
+    add_line(&mut text, b"first", decision(found.first_grants))?;
+    add_line(&mut text, b"second", decision(!found.first_grants))?;
     Ok(text)
 }
 
@@ -80,25 +76,7 @@ fn add_situation(text: &mut Vec<u8>, found: &Difference) -> Result<(), AllocErro
     add_line(text, b"owner", &found.owner)?;
     add_line(text, b"group", &found.group)?;
     add_line(text, b"user", &found.user)?;
-    add_members(text, &found.groups)
-}
-
-// Adds the right on which the lists differ, and what each list answers.
-fn add_answers(text: &mut Vec<u8>, found: &Difference) -> Result<(), AllocError>
-    ensures { OnOk result (text.new.items
-        ≡ text.old.items ++ answer_lines found.now.bit.bits found.now.first_grants) }
-{
-    add_line(text, b"mask", right_name(found.bit))?;
-    add_line(text, b"first", decision(found.first_grants))?;
-    add_line(text, b"second", decision(!found.first_grants))
-}
-
-// Adds one line for each group.
-fn add_members(text: &mut Vec<u8>, groups: &[Vec<u8>]) -> Result<(), AllocError>
-    ensures { OnOk result (text.new.items ≡ text.old.items
-        ++ flat_map (compare_line (codes "member")) (map (λ g. g.items) groups.now)) }
-{
-    for group in groups {
+    for group in &found.groups {
         add_line(text, b"member", group)?;
     }
     Ok(())
@@ -119,10 +97,7 @@ fn add_line(text: &mut Vec<u8>, word: &[u8], value: &[u8]) -> Result<(), AllocEr
 fn right_name(bit: Mask) -> &'static [u8]
     ensures { result.now ≡ unwrap_or (first_name rights bit.bits) [] }
 {
-    match bit_name(bit) {
-        Some(name) => name.as_bytes(),
-        None => b"",
-    }
+    bit_name(bit).unwrap_or("").as_bytes()
 }
 
 fn decision(is_granted: bool) -> &'static [u8]

@@ -28,24 +28,6 @@ pub(crate) fn read(matches: &ArgMatches<'_>) -> Result<Normalize, LineFault>
     Ok(Normalize { inherit, profile })
 }
 
-/// Writes the normal form of the list that the whole input spells, or its five normal forms if inheritance counts.
-pub(crate) fn run<S: Source, K: Sink>(
-    alloc: Global,
-    source: &mut S,
-    sink: &mut K,
-    values: Normalize,
-) -> Result<Outcome, RunFault>
-    ensures { RunsCommand normalize (normalize_held values)
-        S.remaining S.failure_count source.old source.new
-        K.contents K.failure_count sink.old sink.new result }
-{
-    if values.inherit {
-        run_normalize_inherit(alloc, source, sink, values.profile)
-    } else {
-        run_normalize(alloc, source, sink, values.profile)
-    }
-}
-
 /// Writes the bytes that spell the normal form of the list that the whole input spells: the one list that grants the
 /// same in every situation and is normal (this library's own, over RFC 8881, section 6.2.1). Nothing is written before
 /// the input is accepted as a list of the profile. Nothing is read after a refusal. Fails if the input is refused, if a

@@ -1,7 +1,7 @@
 //! `show-posix`: the text of a file in a form.
 ghost use Rattle.std.specs.Prelude.{◌≡◌};
 ghost use Rattle.aclck.specs.Common.{ReadsValues, RunsCommand, rows_in};
-ghost use Rattle.aclck.specs.commands.ShowPosix.{form_value, show_posix, show_posix_held, show_posix_in};
+ghost use Rattle.aclck.specs.commands.ShowPosix.{show_posix, show_posix_held, show_posix_in};
 
 use crate::answer::{Outcome, RunFault};
 use crate::input::posix::{read_file, write_file};
@@ -19,29 +19,18 @@ pub(crate) const ARGUMENTS: [Argument; 2] = [FORM, Argument::Words];
 
 /// Returns the form and the names. Fails with `Usage` if the form is bad or a name is refused, and with `Memory` if
 /// memory runs out.
-#[tactic(auto, unfolding(crate::specs::commands::ShowPosix::show_posix_in))]
+#[tactic(auto, unfolding(crate::specs::commands::ShowPosix::show_posix_in, crate::specs::commands::ShowPosix::form_value))]
 pub(crate) fn read(alloc: Global, matches: &ArgMatches<'_>) -> Result<ShowPosix, LineFault>
     ensures { ReadsValues show_posix_held (show_posix_in (rows_in matches.now)) result }
 {
-    Ok(ShowPosix {
-        form: text_of(matches, FORM)
-            .and_then(form_value)
-            .ok_or(LineFault::Usage)?,
-        names: names_in(alloc, matches)?,
-    })
-}
-
-// The value of `--form`: `canonical`, `shown` or `short`. None if the word is none of these.
-#[tactic(auto, unfolding(crate::specs::commands::ShowPosix::form_value))]
-fn form_value(word: &str) -> Option<Form>
-    ensures { result ≡ form_value word.now }
-{
-    match word {
-        "canonical" => Some(Form::Canonical),
-        "shown" => Some(Form::Shown),
-        "short" => Some(Form::Short),
-        _ => None,
-    }
+    let form = match text_of(matches, FORM) {
+        Some("canonical") => Form::Canonical,
+        Some("shown") => Form::Shown,
+        Some("short") => Form::Short,
+        _ => return Err(LineFault::Usage),
+    };
+    let names = names_in(alloc, matches)?;
+    Ok(ShowPosix { form, names })
 }
 
 /// Writes the text in a form of the file that the input spells (acl(5), "LONG TEXT FORM", "SHORT TEXT FORM"), with a

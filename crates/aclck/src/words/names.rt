@@ -1,9 +1,7 @@
 //! Words that name users and groups: `u:NAME=ID` and `g:NAME=ID`.
-ghost use Rattle.std.specs.Prelude.{◌≡◌, [], None, Some, option_map, unwrap_or};
-ghost use Rattle.acl_posix.specs.Grammar.{colon};
-ghost use Rattle.acl_posix.specs.Names.{empty_table};
-ghost use Rattle.aclck.specs.Line.{ReadsValues, rows_in, texts};
-ghost use Rattle.aclck.specs.NameWords.{equals_sign, first_cut, last_cut, named_id, names_in, with_words};
+ghost use Rattle.std.specs.Prelude.{◌≡◌, option_map};
+ghost use Rattle.aclck.specs.Line.{ReadsValues, rows_in};
+ghost use Rattle.aclck.specs.NameWords.{equals_sign, last_cut, named_id, names_in};
 ghost use Rattle.aclck.specs.internal.Adding.{cut_of, line_fault_of, named_of, Adds};
 
 use crate::line::{Argument, LineFault, other_words};
@@ -47,22 +45,7 @@ struct NamedId<'a> {
 pub(crate) fn names_in(alloc: Global, matches: &ArgMatches<'_>) -> Result<Names, LineFault>
     ensures { ReadsValues (λ n. n) (names_in (rows_in matches.now)) result }
 {
-    names_given(alloc, other_words(matches))
-}
-
-fn names_given(alloc: Global, words: Option<&[&str]>) -> Result<Names, LineFault>
-    ensures { ReadsValues (λ n. n) (with_words empty_table
-        (unwrap_or (option_map (λ ws. texts ws.now) words.entry) [])) result }
-{
-    match words {
-        Some(words) => names_of(alloc, words),
-        None => Ok(Names::new(alloc)),
-    }
-}
-
-fn names_of(alloc: Global, words: &[&str]) -> Result<Names, LineFault>
-    ensures { ReadsValues (λ n. n) (with_words empty_table (texts words.now)) result }
-{
+    let words = other_words(matches).unwrap_or(&[]);
     let mut names = Names::new(alloc);
     for word in words {
         add_word(&mut names, word)?;
@@ -74,15 +57,7 @@ fn names_of(alloc: Global, words: &[&str]) -> Result<Names, LineFault>
 fn add_word(names: &mut Names, word: &str) -> Result<(), LineFault>
     ensures { Adds names.old (named_id word.now) names.new result }
 {
-    match named_id(word) {
-        Some(named) => add_name(names, named),
-        None => Err(LineFault::Usage),
-    }
-}
-
-fn add_name(names: &mut Names, named: NamedId<'_>) -> Result<(), LineFault>
-    ensures { Adds names.old (Some (named_of named.entry)) names.new result }
-{
+    let named = named_id(word).ok_or(LineFault::Usage)?;
     match named.half {
         Half::Users => names.add_user(named.name.as_bytes(), named.id)?,
         Half::Groups => names.add_group(named.name.as_bytes(), named.id)?,
@@ -97,7 +72,7 @@ fn named_id<'a>(word: &'a str) -> Option<NamedId<'a>>
     ensures { option_map named_of result ≡ named_id word.entry.now }
 {
     let (front, id) = last_cut(word)?;
-    let (half, name) = first_cut(front)?;
+    let (half, name) = front.split_once(':')?;
     let half = match half {
         "u" => Half::Users,
         "g" => Half::Groups,
@@ -111,10 +86,4 @@ fn last_cut<'a>(word: &'a str) -> Option<(&'a str, &'a str)>
     ensures { option_map cut_of result ≡ last_cut equals_sign word.entry.now }
 {
     word.rsplit_once('=')
-}
-
-fn first_cut<'a>(word: &'a str) -> Option<(&'a str, &'a str)>
-    ensures { option_map cut_of result ≡ first_cut colon word.entry.now }
-{
-    word.split_once(':')
 }

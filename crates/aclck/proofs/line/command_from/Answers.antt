@@ -1,10 +1,15 @@
-use Rattle.std.proofs.Common.{ap, ◌∙◌}
+use Rattle.std.proofs.Common.{ap, arith, rules, ◌∙◌, ◌≡◌}
+use Rattle.std.proofs.lemmas.Grind.{common_steps}
 use Rattle.clap.specs.Words.{app_of, with_rule}
+use Rattle.aclck.specs.Line.{plain_app}
 use Rattle.aclck.proofs.LineLemmas.{no_terms, one_more_argument}
 use Rattle.aclck.proofs.line.command_from.Goals as goal
 
 pub loop-argument-init : goal.loop-argument-init
-loop-argument-init c = c.plain_command-command.ensures ∙ no_terms _
+loop-argument-init c =
+    let made : app_of c.disable_help_flag-command.result ≡ plain_app c.args.name.now =
+    first_of (search rules, grind (arith, common_steps)) in
+    made ∙ no_terms _
 
 pub loop-argument-preserved : goal.loop-argument-preserved
 loop-argument-preserved c =

@@ -1,3 +1,5 @@
+use Rattle.std.proofs.Common.{arith, rules}
+use Rattle.std.proofs.lemmas.Grind.{common_steps}
 use Rattle.aclck.specs.commands.CheckNfs.{CheckNfsAnswer, check_nfs_held}
 use Rattle.aclck.proofs.WritingLemmas.{written_after_reading}
 use Rattle.aclck.proofs.task.check_nfs.run_check_nfs.Goals as goal
@@ -7,6 +9,10 @@ returns g c =
     let read = c.in_ok-list.ensures in
     written_after_reading (CheckNfsAnswer (check_nfs_held c.args.task.now)) c.write_answer.result c.write_answer.ensures
     read.found (λ input spelled. (
-      record { list = c.in_ok-list.list; spelled = spelled; answer = c.in_ok-outcome.ensures },
+      record {
+        list = c.in_ok-list.list;
+        spelled = spelled;
+        answer = first_of (search rules, grind (arith, common_steps));
+      },
       c.decision_line.ensures,
     )) read.bound read.whole read.reads
