@@ -1,5 +1,6 @@
 pub mod ZeroFront
 pub mod Fields
+pub mod ReadFields
 pub mod Lists
 pub mod Body
 pub mod Faults

@@ -1,5 +1,5 @@
-//! The limits of a list, the one test of each, and for each a private function that returns it, so that a clause can
-//! give its value.
+//! The limits of a list, tests of them, and for each limit a private function that returns it, so that a clause can give
+//! its value.
 ghost use Rattle.std.specs.Prelude.{◌≡◌, nat_le, nat_lt};
 ghost use Rattle.acl_nfs4.specs.Limits.{longest_who, most_aces, most_weight};
 
@@ -11,14 +11,6 @@ pub const MOST_WEIGHT: u32 = 65_536;
 
 /// The greatest number of bytes in a who.
 pub const LONGEST_WHO: usize = 1024;
-
-/// Returns whether a list has more ACEs than it may have.
-#[inline(always)]
-pub(crate) fn is_too_long(count: u32) -> bool
-    ensures { result ≡ nat_lt most_aces count }
-{
-    count > MOST_ACES
-}
 
 /// Returns whether a list with this number of ACEs can take no more.
 #[inline(always)]

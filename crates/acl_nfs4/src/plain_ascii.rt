@@ -16,11 +16,13 @@ pub(crate) fn begins_plain_ascii(bytes: &[u8], len: usize) -> bool
     requires { len ≤ length bytes.now }
     ensures { IsTrue result → list_all is_plain_ascii (take len bytes.now) ≡ true }
 {
-    if len <= LOAD && bytes.len() >= LOAD {
-        is_front_plain::<LOAD>(bytes, len)
-    } else {
-        is_plain_ascii(&bytes[..len])
+    if len > LOAD || bytes.len() < LOAD {
+        return is_plain_ascii(&bytes[..len]);
     }
+    // The first byte that is not plain is after the front.
+    let above = Simd::<u8, LOAD>::from_slice(bytes) - Simd::<u8, LOAD>::splat(0x20);
+    let beyond = above.simd_ge(Simd::<u8, LOAD>::splat(0x5f)).to_bitmask();
+    beyond.trailing_zeros() as usize >= len
 }
 
 /// Returns whether all bytes are plain ASCII. `true` is certain; after `false`, `judge_bytes` of `who` looks at each
@@ -32,34 +34,11 @@ pub(crate) fn is_plain_ascii(bytes: &[u8]) -> bool
 {
     match bytes.len() {
         0..4 => bytes.iter().all(|byte| *byte >= 0x20 && *byte < 0x7f),
-        4..8 => ends_are_plain::<4>(bytes),
-        8..LOAD => ends_are_plain::<8>(bytes),
+        // The first bytes and the last ones, which may overlap.
+        4..8 => are_plain::<4>(bytes, 0) & are_plain::<4>(bytes, bytes.len() - 4),
+        8..LOAD => are_plain::<8>(bytes, 0) & are_plain::<8>(bytes, bytes.len() - 8),
         _ => is_long_plain(bytes),
     }
-}
-
-// Returns whether the first `len` of the first N bytes are plain ASCII: the first byte that is not is after them.
-#[inline(always)]
-fn is_front_plain<const N: usize>(bytes: &[u8], len: usize) -> bool
-    requires lanes { N ≤ most_lanes }
-    requires inside { N ≤ length bytes.now }
-    requires most { len ≤ N }
-    ensures { IsTrue result → ArePlain bytes.now 0 len }
-{
-    let above = Simd::<u8, N>::from_slice(bytes) - Simd::<u8, N>::splat(0x20);
-    let beyond = above.simd_ge(Simd::<u8, N>::splat(0x5f)).to_bitmask();
-    beyond.trailing_zeros() as usize >= len
-}
-
-// Returns whether N to 2 N bytes are plain ASCII: the first N and the last N of them, which may overlap.
-#[inline(always)]
-fn ends_are_plain<const N: usize>(bytes: &[u8]) -> bool
-    requires lanes { N ≤ most_lanes }
-    requires least { N ≤ length bytes.now }
-    requires most { length bytes.now ≤ N + N }
-    ensures { IsTrue result → ArePlain bytes.now 0 (length bytes.now) }
-{
-    are_plain::<N>(bytes, 0) & are_plain::<N>(bytes, bytes.len() - N)
 }
 
 // Returns whether 16 bytes or more are plain ASCII. The last 16 are judged whole, also if some of them were judged

@@ -1,15 +1,14 @@
 //! Which bytes are valid as a who, wherever an ACE comes from.
-ghost use Rattle.std.specs.Prelude.{◌≡◌, ◌≤◌, ◌++◌, IsTrue, None, length, take, false, true};
-ghost use Rattle.std.specs.Str.{is_utf8};
+ghost use Rattle.std.specs.Prelude.{◌≡◌, ◌≤◌, ◌++◌, length, false, true};
 ghost use Rattle.std.specs.List.{list_all};
 ghost use Rattle.acl_nfs4.specs.AccessPart.{IsAnyWho};
 ghost use Rattle.acl_nfs4.specs.internal.PartReading.{is_good_suffix};
 ghost use Rattle.acl_nfs4.specs.internal.Reading.{Judges, text_fault};
 ghost use Rattle.acl_nfs4.specs.Renamed.{is_account};
-ghost use Rattle.acl_nfs4.specs.Who.{ends_in_at, is_plain, is_special, is_unknown_special, is_no_who_len, who_fault};
+ghost use Rattle.acl_nfs4.specs.Who.{is_plain, is_special, is_unknown_special, is_no_who_len, who_fault};
 
 use crate::limits::LONGEST_WHO;
-use crate::plain_ascii::{begins_plain_ascii, is_plain_ascii};
+use crate::plain_ascii::is_plain_ascii;
 
 /// The special identifier of the owner (RFC 8881, section 6.2.1.5).
 pub const OWNER_NAME: &str = "OWNER@";
@@ -60,7 +59,7 @@ pub(crate) fn is_account_after(name: &[u8], suffix: &[u8]) -> bool
 fn is_text_suffix(suffix: &[u8]) -> bool
     ensures { result ≡ is_good_suffix suffix.now }
 {
-    !suffix.is_empty() && judge_any_text(suffix).is_ok() && !has_at(suffix)
+    !suffix.is_empty() && judge_any_text(suffix).is_ok() && suffix[suffix.len() - 1] != b'@'
 }
 
 /// Returns whether no who has this many bytes.
@@ -100,23 +99,13 @@ pub(crate) fn judge_any_text(who: &[u8]) -> Result<(), WhoFault>
     judge_bytes(who)
 }
 
-/// Returns whether the first `len` bytes are a who of plain ASCII, by a test of many bytes at once. `true` is certain;
-/// after `false`, `judge_text` decides.
-#[inline(always)]
-pub(crate) fn begins_plain_who(bytes: &[u8], len: usize) -> bool
-    requires some { is_no_who_len len ≡ false }
-    requires inside { len ≤ length bytes.now }
-    ensures { IsTrue result → who_fault (take len bytes.now) ≡ None }
-{
-    begins_plain_ascii(bytes, len) && !is_unknown_special(&bytes[..len])
-}
-
 // Refuses bytes that are not UTF-8, or that have a control byte.
+#[tactic(auto, using(crate::proofs::plain_ascii::PlainText::text_tests))]
 #[inline(never)]
 fn judge_bytes(who: &[u8]) -> Result<(), WhoFault>
     ensures { Judges result (text_fault who.now) }
 {
-    if !is_text(who) {
+    if str::from_utf8(who).is_err() {
         return Err(WhoFault::Utf8);
     }
     if !is_plain_text(who) {
@@ -125,23 +114,10 @@ fn judge_bytes(who: &[u8]) -> Result<(), WhoFault>
     Ok(())
 }
 
-#[tactic(auto, using(crate::proofs::plain_ascii::PlainText::text_tests))]
-fn is_text(bytes: &[u8]) -> bool
-    ensures { result ≡ is_utf8 bytes.now }
-{
-    str::from_utf8(bytes).is_ok()
-}
-
 fn is_plain_text(bytes: &[u8]) -> bool
     ensures { result ≡ list_all is_plain bytes.now }
 {
-    bytes.iter().all(|byte| is_plain_byte(*byte))
-}
-
-fn is_plain_byte(byte: u8) -> bool
-    ensures { result ≡ is_plain byte }
-{
-    byte >= 0x20 && byte != 0x7f
+    bytes.iter().all(|byte| *byte >= 0x20 && *byte != 0x7f)
 }
 
 /// Returns whether a who ends in `@` and is none of the three special identifiers.
@@ -150,15 +126,7 @@ pub(crate) fn is_unknown_special(who: &[u8]) -> bool
     requires { 1 ≤ length who.now }
     ensures { result ≡ is_unknown_special who.now }
 {
-    has_at(who) && !is_special_who(who)
-}
-
-#[inline(always)]
-fn has_at(who: &[u8]) -> bool
-    requires { 1 ≤ length who.now }
-    ensures { result ≡ ends_in_at who.now }
-{
-    who[who.len() - 1] == b'@'
+    who[who.len() - 1] == b'@' && !is_special_who(who)
 }
 
 #[inline(never)]

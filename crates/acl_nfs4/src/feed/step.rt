@@ -2,14 +2,13 @@
 ghost use Rattle.std.specs.Prelude.{◌≡◌, ◌<◌, length};
 ghost use Rattle.acl_perm.specs.Profile.{profile_of};
 ghost use Rattle.acl_nfs4.specs.Stream.{Feeds, IsCutShort, more};
-ghost use Rattle.acl_nfs4.specs.declared.feed.step.Stage.TheVariants.{Done, Open, Refused};
-ghost use Rattle.acl_nfs4.specs.declared.feed.fed.Fed.TheVariants as fed;
 ghost use Rattle.acl_nfs4.specs.internal.Progress.{IsFeed, IsProgress, Judged, state_of};
 ghost use Rattle.acl_nfs4.specs.internal.Reading.{offset_limit};
 
 use crate::feed::fed::Fed;
 use crate::feed::scan::{Progress, Reach, scan};
 use crate::feed::stream::StreamBytes;
+use crate::list::aces::word_in;
 use crate::xdr::fault::{Fault, Reason};
 use crate::xdr::judges;
 use acl_perm::Profile;
@@ -30,45 +29,6 @@ pub(crate) struct Step {
     pub fed: Fed,
 }
 
-impl Step {
-    // Returns the step for a stream that is cut short. If no more comes, it has this fault.
-    fn open(fault: Fault, progress: Progress) -> Step
-        ensures { result ≡ record { stage = Open fault; progress = progress; fed = fed.More } }
-    {
-        Step {
-            stage: Stage::Open(fault),
-            progress,
-            fed: Fed::More,
-        }
-    }
-
-    // Returns the step for a list that ends in the piece, after `taken` bytes of it.
-    fn done(taken: usize, progress: Progress) -> Step
-        ensures { result ≡ record { stage = Done; progress = progress; fed = fed.Done taken } }
-    {
-        Step {
-            stage: Stage::Done,
-            progress,
-            fed: Fed::Done { taken },
-        }
-    }
-
-    // Returns the step for a stream that has this fault, whatever follows.
-    fn refused(fault: Fault, progress: Progress) -> Step
-        ensures { result ≡ record {
-          stage = Refused fault;
-          progress = progress;
-          fed = fed.Refused fault;
-        } }
-    {
-        Step {
-            stage: Stage::Refused(fault),
-            progress,
-            fed: Fed::Refused(fault),
-        }
-    }
-}
-
 /// Adds one more piece to bytes that are cut short. It cuts off the bytes after a list, so that a feed that is done
 /// holds the list alone.
 pub(crate) fn advance(
@@ -85,17 +45,39 @@ pub(crate) fn advance(
 {
     let before = text.len();
     match text.extend(piece) {
-        Err(_) => Step::refused(Fault::at_front(Reason::Memory), from),
+        Err(_) => {
+            let fault = Fault::at_front(Reason::Memory);
+            Step {
+                stage: Stage::Refused(fault),
+                progress: from,
+                fed: Fed::Refused(fault),
+            }
+        }
         Ok(()) => {
             let reach = judge(text, from, profile);
+            let progress = reach.progress;
             match reach.fault {
                 None => {
-                    text.cut(reach.progress.used);
-                    Step::done(4 + reach.progress.used - before, reach.progress)
+                    text.cut(progress.used);
+                    Step {
+                        stage: Stage::Done,
+                        progress,
+                        fed: Fed::Done {
+                            taken: 4 + progress.used - before,
+                        },
+                    }
                 }
                 Some(fault) => match fault.reason {
-                    Reason::Truncated => Step::open(fault, reach.progress),
-                    _ => Step::refused(fault, reach.progress),
+                    Reason::Truncated => Step {
+                        stage: Stage::Open(fault),
+                        progress,
+                        fed: Fed::More,
+                    },
+                    _ => Step {
+                        stage: Stage::Refused(fault),
+                        progress,
+                        fed: Fed::Refused(fault),
+                    },
                 },
             }
         }
@@ -109,11 +91,11 @@ fn judge(text: &StreamBytes, from: Progress, profile: Profile) -> Reach
     ensures judged { Judged (profile_of profile) text.now result.progress result.fault }
     ensures fits { length text.now < offset_limit }
 {
-    match text.count() {
-        None => Reach::at_fault(from, Fault::at_front(Reason::Truncated)),
-        Some(number) => match judges::count_of(number) {
-            Err(reason) => Reach::at_fault(from, Fault::at_front(reason)),
-            Ok(count) => scan(text.body(), count, from, profile),
-        },
+    if text.filled < 4 {
+        return Reach::at_fault(from, Fault::at_front(Reason::Truncated));
+    }
+    match judges::count_of(word_in(&text.head, 0)) {
+        Err(reason) => Reach::at_fault(from, Fault::at_front(reason)),
+        Ok(count) => scan(&text.body, count, from, profile),
     }
 }

@@ -1,20 +1,18 @@
 //! The bytes of a stream so far.
-ghost use Rattle.std.specs.Prelude.{◌≡◌, ◌+◌, ◌≤◌, ◌<◌, ◌↔◌, [], IsSome, IfSome, length, take};
+ghost use Rattle.std.specs.Prelude.{◌≡◌, ◌+◌, ◌≤◌, [], length, take};
 ghost use Rattle.acl_nfs4.specs.internal.Appending.{Extended};
 ghost use Rattle.acl_nfs4.specs.Spelling.{word_size};
-ghost use Rattle.acl_nfs4.specs.internal.Progress.{IsBytes, after_word, first_number};
-ghost use Rattle.acl_nfs4.specs.internal.Reading.{offset_limit};
+ghost use Rattle.acl_nfs4.specs.internal.Progress.{after_word};
 
-use byteorder::{BigEndian, ByteOrder};
 use std::alloc::{AllocError, Global};
 use std::marker::Model;
 
 /// The bytes of a stream so far. The first word needs no memory, and the bytes after it are in a vector.
 #[derive(Drop)]
 pub(crate) struct StreamBytes {
-    head: [u8; 4],
-    filled: usize,
-    body: Vec<u8>,
+    pub head: [u8; 4],
+    pub filled: usize,
+    pub body: Vec<u8>,
 }
 
 impl Model for StreamBytes {
@@ -43,26 +41,6 @@ impl StreamBytes {
         ensures { result ≡ length self.now }
     {
         self.filled + self.body.len()
-    }
-
-    /// Returns the number that the first word spells, or `None` if fewer than four bytes have arrived.
-    pub(crate) fn count(&self) -> Option<u32>
-        ensures whole { IsSome result ↔ (word_size ≤ length self.now) }
-        ensures value { IfSome result (λ n. n ≡ first_number self.now) }
-        ensures bytes { IsBytes self.now }
-        ensures fits { length self.now < offset_limit }
-    {
-        if self.filled < 4 {
-            return None;
-        }
-        Some(BigEndian::read_u32(&self.head))
-    }
-
-    /// Returns the bytes after the first word.
-    pub(crate) fn body(&self) -> &[u8]
-        ensures { result.now ≡ after_word self.now }
-    {
-        &self.body
     }
 
     /// Appends one more piece. Fails if memory runs out, and then leaves the bytes as they were.

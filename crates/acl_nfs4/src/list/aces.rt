@@ -2,7 +2,6 @@
 ghost use Rattle.std.specs.Prelude.{◌≡◌, ◌+◌, ◌≤◌, ◌↔◌, ℕ, IsTrue, List, ◌++◌, length};
 ghost use Rattle.acl_perm.specs.Profile.{full, profile_of};
 ghost use Rattle.acl_nfs4.specs.Ace.{Ace, ace};
-ghost use Rattle.acl_nfs4.specs.internal.Reading.{kind_from};
 ghost use Rattle.acl_nfs4.specs.Limits.{most_weight};
 ghost use Rattle.acl_nfs4.specs.Spelling.{piece, word_size, Fits, IsAce};
 ghost use Rattle.acl_nfs4.specs.Spelling as spelled;
@@ -87,7 +86,11 @@ fn first_ace(bytes: &[u8]) -> FirstAce<'_>
     ensures { (a : Ace) (more : List ℕ) → IsAce full a → bytes.now ≡ piece a ++ more
         → (ace result.ace ≡ a) × (result.rest.now ≡ more) }
 {
-    let kind = kind_named(word_in(bytes, 0));
+    let kind = if word_in(bytes, 0) == 0 {
+        Kind::Allow
+    } else {
+        Kind::Deny
+    };
     let flags = Flags {
         bits: word_in(bytes, 4) as u8,
     };
@@ -105,12 +108,6 @@ fn first_ace(bytes: &[u8]) -> FirstAce<'_>
         who,
     };
     FirstAce { ace, rest }
-}
-
-fn kind_named(number: u32) -> Kind
-    ensures { result ≡ kind_from number }
-{
-    if number == 0 { Kind::Allow } else { Kind::Deny }
 }
 
 // An ACE, and the bytes after it.

@@ -1,5 +1,5 @@
 //! The sets that fields name by the names of a table.
-ghost use Rattle.std.specs.Prelude.{◌≡◌, ◌==◌, IfSome, find, option_copied, position};
+ghost use Rattle.std.specs.Prelude.{◌≡◌, ◌==◌, IfSome, find, option_copied};
 ghost use Rattle.std.specs.List.{slice_split};
 ghost use Rattle.acl_nfs4.specs.BitNames.{bar, bit_in, bits_in, is_name_of, set_named};
 ghost use Rattle.acl_nfs4.specs.internal.NameTable.{IsFieldCut, bit_name_of, set_within, bit_names_of};
@@ -52,7 +52,7 @@ fn bits_in(table: &[BitName], field: &[u8]) -> Option<u32>
 fn cut(field: &[u8]) -> FirstWord<'_>
     ensures { IsFieldCut field.now result.word.now (option_copied result.after) }
 {
-    match bar_in(field) {
+    match place_of(field, b'|') {
         Some(place) => FirstWord {
             word: &field[..place],
             after: Some(&field[place + 1..]),
@@ -62,12 +62,6 @@ fn cut(field: &[u8]) -> FirstWord<'_>
             after: None,
         },
     }
-}
-
-fn bar_in(field: &[u8]) -> Option<usize>
-    ensures { result ≡ position (λ b. b == bar) field.now }
-{
-    place_of(field, b'|')
 }
 
 // Returns `None` if no row of the table has the word as a name.

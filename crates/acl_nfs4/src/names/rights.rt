@@ -22,12 +22,6 @@ pub fn read_mask(field: &[u8]) -> Option<Mask>
     // The definition that computes has the same result.
     ensures value { option_map (λ mask. mask.bits) result ≡ mask_named field.now }
 {
-    mask_in(field)
-}
-
-fn mask_in(field: &[u8]) -> Option<Mask>
-    ensures { option_map (λ mask. mask.bits) result ≡ mask_named field.now }
-{
     Mask::new(set_in(&RIGHTS, field)?)
 }
 

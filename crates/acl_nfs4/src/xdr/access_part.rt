@@ -19,7 +19,7 @@ use crate::who::{is_unknown_special, judge_any_text};
 use crate::xdr::cursor::Cursor;
 use crate::xdr::fault::{Fault, Reason};
 use crate::xdr::judges::{self, who_reason};
-use crate::xdr::reading::{bytes, flags, mask, offset_of, padding, placed, who_len, word};
+use crate::xdr::reading::{bytes, offset_of, padding, placed, word};
 use acl_perm::{Flags, Kind, Mask, Profile};
 use std::alloc::{AllocError, Global};
 use std::marker::Model;
@@ -211,8 +211,8 @@ fn count(cursor: &mut Cursor<'_>) -> Result<u32, Fault>
         (word_field count_of (place cursor.old)) }
     ensures small { IfOk result (λ x. x ≤ most_aces) }
 {
-    let offset = offset_of(cursor);
-    placed(offset, judges::count_of(word(cursor)?))
+    let (offset, number) = word(cursor)?;
+    placed(offset, judges::count_of(number))
 }
 
 // Reads the next ACE, of any type.
@@ -228,10 +228,14 @@ fn any_ace<'a>(
     ensures light { IfOk result (λ x. weight + count_ones x.mask.bits ≤ most_weight) }
     ensures named { IfOk result (λ x. IsAnyWho x.who.now) }
 {
-    let type_number = any_type(cursor)?;
-    let flags = flags(cursor, profile)?;
-    let mask = mask(cursor, weight, profile)?;
-    let len = who_len(cursor)?;
+    let (offset, number) = word(cursor)?;
+    let type_number = placed(offset, type_of(number))?;
+    let (offset, number) = word(cursor)?;
+    let flags = placed(offset, judges::flags_of(number, profile))?;
+    let (offset, number) = word(cursor)?;
+    let mask = placed(offset, judges::mask_of(number, weight, profile))?;
+    let (offset, number) = word(cursor)?;
+    let len = placed(offset, judges::who_len_of(number))?;
     let who = any_who(cursor, len)?;
     padding(cursor, len)?;
     Ok(AnyAceRef {
@@ -240,13 +244,6 @@ fn any_ace<'a>(
         mask,
         who,
     })
-}
-
-fn any_type(cursor: &mut Cursor<'_>) -> Result<u32, Fault>
-    ensures { Gives (λ x. (x, place cursor.new)) result (word_field type_of (place cursor.old)) }
-{
-    let offset = offset_of(cursor);
-    placed(offset, type_of(word(cursor)?))
 }
 
 // Returns the number as the number of a type, or refuses it.

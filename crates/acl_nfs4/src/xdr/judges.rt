@@ -8,7 +8,7 @@ ghost use Rattle.acl_nfs4.specs.internal.Reading.{Gives, low_bytes};
 ghost use Rattle.acl_nfs4.specs.Spelling.{pad_len, word_size};
 ghost use Rattle.acl_nfs4.specs.Who.{is_no_who_len};
 
-use crate::limits::{is_too_heavy, is_too_long};
+use crate::limits::{MOST_ACES, is_too_heavy};
 use crate::who::{WhoFault, is_no_who_len, judge_text};
 use crate::xdr::fault::Reason;
 use acl_perm::{Flags, Kind, Mask, Profile};
@@ -20,7 +20,7 @@ pub(crate) fn count_of(number: u32) -> Result<u32, Reason>
     ensures exact { Gives (λ x. x) result (count_of number) }
     ensures small { IfOk result (λ x. x ≤ most_aces) }
 {
-    if is_too_long(number) {
+    if number > MOST_ACES {
         return Err(Reason::TooManyAces);
     }
     Ok(number)

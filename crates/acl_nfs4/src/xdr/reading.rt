@@ -1,7 +1,7 @@
 //! Reads the fields of a list in memory, one after the other, and reports the offset of a field that is refused.
 ghost use Rattle.std.specs.Prelude.{◌≡◌, ◌+◌, ◌≤◌, Ok, IfOk, IfSome, count_ones, false};
 ghost use Rattle.acl_perm.specs.Profile.{profile_of};
-ghost use Rattle.acl_nfs4.specs.Fields.{kind_of, flags_of, mask_of, who_len_of, who_of, padding_of};
+ghost use Rattle.acl_nfs4.specs.Fields.{who_of, padding_of};
 ghost use Rattle.acl_nfs4.specs.Limits.{most_weight};
 ghost use Rattle.acl_nfs4.specs.internal.Reading.{Gives, Placed, field, word_field, ace_at};
 ghost use Rattle.acl_nfs4.specs.Spelling.{pad_len};
@@ -10,11 +10,12 @@ ghost use Rattle.acl_nfs4.specs.internal.Cursor.{place};
 ghost use Rattle.acl_nfs4.specs.Ace.{ace};
 
 use crate::ace::AceRef;
-use crate::who::begins_plain_who;
+use crate::plain_ascii::begins_plain_ascii;
+use crate::who::is_unknown_special;
 use crate::xdr::cursor::Cursor;
 use crate::xdr::fault::{Fault, Reason};
 use crate::xdr::judges::{self, begins_zero, pad_len};
-use acl_perm::{Flags, Kind, Mask, Profile};
+use acl_perm::Profile;
 use byteorder::{BigEndian, ByteOrder};
 
 // Reads the next ACE. `plain_ace` reads most ACEs. Any other ACE is judged field by field, which also says which field
@@ -55,10 +56,14 @@ fn plain_ace<'a>(cursor: &mut Cursor<'a>, weight: u32, profile: Profile) -> Opti
     if cursor.rest.len() < 36 {
         return None;
     }
-    let kind = kind(cursor).ok()?;
-    let flags = flags(cursor, profile).ok()?;
-    let mask = mask(cursor, weight, profile).ok()?;
-    let len = who_len(cursor).ok()?;
+    let (_, number) = word(cursor).ok()?;
+    let kind = judges::kind_of(number).ok()?;
+    let (_, number) = word(cursor).ok()?;
+    let flags = judges::flags_of(number, profile).ok()?;
+    let (_, number) = word(cursor).ok()?;
+    let mask = judges::mask_of(number, weight, profile).ok()?;
+    let (_, number) = word(cursor).ok()?;
+    let len = judges::who_len_of(number).ok()?;
     let who = plain_who(cursor, len)?;
     plain_padding(cursor, len)?;
     Some(AceRef {
@@ -78,7 +83,7 @@ fn plain_who<'a>(cursor: &mut Cursor<'a>, len: usize) -> Option<&'a [u8]>
 {
     let rest = cursor.rest;
     let who = bytes(cursor, len).ok()?;
-    if begins_plain_who(rest, len) {
+    if begins_plain_ascii(rest, len) && !is_unknown_special(who) {
         Some(who)
     } else {
         None
@@ -109,10 +114,14 @@ fn fields<'a>(cursor: &mut Cursor<'a>, weight: u32, profile: Profile) -> Result<
         (ace_at (profile_of profile) weight (place cursor.old)) }
     ensures light { IfOk result (λ x. weight + count_ones x.mask.bits ≤ most_weight) }
 {
-    let kind = kind(cursor)?;
-    let flags = flags(cursor, profile)?;
-    let mask = mask(cursor, weight, profile)?;
-    let len = who_len(cursor)?;
+    let (offset, number) = word(cursor)?;
+    let kind = placed(offset, judges::kind_of(number))?;
+    let (offset, number) = word(cursor)?;
+    let flags = placed(offset, judges::flags_of(number, profile))?;
+    let (offset, number) = word(cursor)?;
+    let mask = placed(offset, judges::mask_of(number, weight, profile))?;
+    let (offset, number) = word(cursor)?;
+    let len = placed(offset, judges::who_len_of(number))?;
     let who = who(cursor, len)?;
     padding(cursor, len)?;
     Ok(AceRef {
@@ -123,51 +132,16 @@ fn fields<'a>(cursor: &mut Cursor<'a>, weight: u32, profile: Profile) -> Result<
     })
 }
 
+// Reads the next word, and says at which offset it is.
 #[inline(always)]
-fn kind(cursor: &mut Cursor<'_>) -> Result<Kind, Fault>
-    ensures { Gives (λ x. (x, place cursor.new)) result (word_field kind_of (place cursor.old)) }
-{
-    let offset = offset_of(cursor);
-    placed(offset, judges::kind_of(word(cursor)?))
-}
-
-#[inline(always)]
-pub(crate) fn flags(cursor: &mut Cursor<'_>, profile: Profile) -> Result<Flags, Fault>
-    ensures { Gives (λ x. (x.bits, place cursor.new)) result
-        (word_field (flags_of (profile_of profile)) (place cursor.old)) }
-{
-    let offset = offset_of(cursor);
-    placed(offset, judges::flags_of(word(cursor)?, profile))
-}
-
-#[inline(always)]
-pub(crate) fn mask(cursor: &mut Cursor<'_>, weight: u32, profile: Profile) -> Result<Mask, Fault>
-    requires { weight ≤ most_weight }
-    ensures exact { Gives (λ x. (x.bits, place cursor.new)) result
-        (word_field (mask_of (profile_of profile) weight) (place cursor.old)) }
-    ensures light { IfOk result (λ x. weight + count_ones x.bits ≤ most_weight) }
-{
-    let offset = offset_of(cursor);
-    placed(offset, judges::mask_of(word(cursor)?, weight, profile))
-}
-
-#[inline(always)]
-pub(crate) fn who_len(cursor: &mut Cursor<'_>) -> Result<usize, Fault>
-    ensures exact { Gives (λ x. (x, place cursor.new)) result
-        (word_field who_len_of (place cursor.old)) }
-    ensures some { IfOk result (λ x. is_no_who_len x ≡ false) }
-{
-    let offset = offset_of(cursor);
-    placed(offset, judges::who_len_of(word(cursor)?))
-}
-
-#[inline(always)]
-pub(crate) fn word(cursor: &mut Cursor<'_>) -> Result<u32, Fault>
-    ensures { Gives (λ x. (x, place cursor.new)) result
+pub(crate) fn word(cursor: &mut Cursor<'_>) -> Result<(u64, u32), Fault>
+    ensures number { Gives (λ x. (x.1, place cursor.new)) result
         (word_field (λ n. Ok n) (place cursor.old)) }
+    ensures offset { IfOk result (λ x. x.0 ≡ (place cursor.old).at) }
 {
+    let offset = offset_of(cursor);
     let front = bytes(cursor, 4)?;
-    Ok(BigEndian::read_u32(front))
+    Ok((offset, BigEndian::read_u32(front)))
 }
 
 #[inline(always)]

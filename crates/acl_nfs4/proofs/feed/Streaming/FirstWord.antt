@@ -1,5 +1,5 @@
 -- A stream whose first word is kept apart from the bytes after it.
-use Rattle.acl_nfs4.proofs.Common.{[], ap, append-nil, append_assoc, arith, cases_lt, drop, drop_all, drop_at, inl, inr, IsBytes, IsText, length, length-append, length-drop, length-take, List, put_mid, refl, same_len_mid, subst, sym, take, take-append-add, take-append-drop, take_all, ℕ, ◌++◌, ◌+◌, ◌-◌, ◌<◌, ◌∙◌, ◌≡◌, ◌≤◌}
+use Rattle.acl_nfs4.proofs.Common.{[], ap, append-nil, append_assoc, arith, cases_lt, drop, drop_all, drop_at, inl, inr, IsBytes, IsText, length, length-append, length-drop, length-take, List, put_mid, refl, same_len_mid, subst, sym, take, take-append-add, take-append-drop, take_all, take_at, ℕ, ◌++◌, ◌+◌, ◌-◌, ◌<◌, ◌∙◌, ◌≡◌, ◌≤◌}
 use Rattle.std.proofs.lemmas.Slice.{take-put_mid}
 use Rattle.acl_nfs4.proofs.xdr.Fields.{IsBytes-take, bytes_append}
 
@@ -15,6 +15,34 @@ behind_word head body filled is =
       | inr all ↦ sym (drop_at (take filled head) body 4
           (omega (arith, length-take filled head, is.word, is.inside, all)))
     ]
+
+-- as long as the first word is not whole, the stream is shorter than it
+pub short_word : (head body text : List ℕ) (filled : ℕ) → IsText head filled body → take filled head ++ body ≡ text
+    → filled < 4 → length text < 4
+short_word head body text filled is e few = omega (
+  arith,
+  ap length e,
+  length-append (take filled head) body,
+  length-take filled head,
+  ap length (is.begun few),
+  few,
+)
+
+-- a first word that is whole is that of the stream
+pub record HasWord (head text : List ℕ) : Type 0 where
+  pub long : 4 ≤ length text
+  pub first : take 4 text ≡ take 4 head
+
+-- if the first word is whole, the stream begins with it
+pub whole_word : (head body text : List ℕ) (filled : ℕ) → IsText head filled body → take filled head ++ body ≡ text
+    → 4 ≤ filled → HasWord head text
+whole_word head body text filled is e all =
+    let n : length (take filled head) ≡ 4 = omega (arith, length-take filled head, is.word, is.inside, all) in
+    let same : filled ≡ 4 = omega (arith, is.inside, all) in
+    record {
+      long = omega (arith, ap length e, length-append (take filled head) body, n);
+      first = ap (take 4) (sym e) ∙ take_at (take filled head) body 4 n ∙ ap (λ (k : ℕ). take k head) same;
+    }
 
 -- a cut after the first word leaves fields that still hold a stream
 pub cut_text : (head body kept : List ℕ) (filled used : ℕ) → kept ≡ take used body → IsText head filled body

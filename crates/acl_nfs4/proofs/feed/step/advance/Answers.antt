@@ -8,8 +8,8 @@ pub judge-reach-requires : goal.judge-reach-requires
 judge-reach-requires c = rw c.in-Ok.ensures
     (progress_grows (profile_of c.args.profile) c.args.text.now c.args.piece.now c.args.from c.requires.progress)
 
-pub overflow_sub-reach : goal.overflow_sub-reach
-overflow_sub-reach c =
+pub overflow_sub-result : goal.overflow_sub-result
+overflow_sub-result c =
     let e = ended (profile_of c.args.profile) c.args.text.now c.args.piece.now c.extend.new.self
     c.judge-reach.result.progress _ (code_profile c.args.profile (omega arith)) c.in-Ok.ensures
     c.judge-reach.ensures.judged c.in-None.is c.requires.cut in
@@ -22,8 +22,7 @@ returns-in-None-clause-feeds c =
     c.judge-reach.ensures.judged c.in-None.is c.requires.cut in
     let n : length c.args.text.now ≡ c.len-before.result = sym c.len-before.ensures in
     let list : List Ace =
-    aces_of c.judge-reach.result.progress.seen (body_in c.extend.new.self c.judge-reach.result.progress) in
-    rw c.done.ensures (
+    aces_of c.judge-reach.result.progress.seen (body_in c.extend.new.self c.judge-reach.result.progress) in (
       list,
       ap (λ (t : List ℕ). done (aces_of c.judge-reach.result.progress.seen t)) c.cut.ensures,
       subst (λ (k : ℕ). 4 + c.judge-reach.result.progress.used - k ≤ length c.args.piece.now) n e.within,
@@ -35,15 +34,15 @@ pub returns-in-Truncated-clause-feed : goal.returns-in-Truncated-clause-feed
 returns-in-Truncated-clause-feed c =
     let j : Judged (profile_of c.args.profile) c.extend.new.self c.judge-reach.result.progress (Some c.in-Some.fault) =
     rw c.in-Some.is at c.judge-reach.ensures.judged in
-    rw c.open.ensures (record {
+    record {
       profile = code_profile c.args.profile (omega arith);
       cut = j;
       why = c.in-Truncated.is;
       progress = c.judge-reach.ensures.progress;
-    })
+    }
 
-pub overflow_add-reach : goal.overflow_add-reach
-overflow_add-reach c =
+pub overflow_add-result : goal.overflow_add-result
+overflow_add-result c =
     let whole = judged_whole (profile_of c.args.profile) c.extend.new.self c.judge-reach.result.progress _
     c.judge-reach.ensures.judged c.in-None.is in
     omega (arith, whole.inside, c.judge-reach.ensures.fits)
