@@ -21,7 +21,7 @@ use Rattle.acl_nfs4.specs.declared.xdr.fault.Reason.TheVariants as list
 use Rattle.acl_posix.specs.declared.id.Id.{Id}
 use Rattle.acl_nfs4.proofs.Exports.{bind-ok, bind_then, guard_ok, ok_is, is_who-decimal}
 use Rattle.acl_forms.specs.Acl41Ids.{listed}
-use Rattle.acl_forms.specs.Letters.{flag_letters, letters_from, nfs_flag_letters, nfs_right_letters, no_letter, right_letters}
+use Rattle.acl_forms.specs.Letters.{flag_letters, nfs_flag_letters, nfs_right_letters, no_letter, right_letters, set_of_letters}
 use Rattle.acl_forms.specs.NfsText.{NfsFields, flags_by_tag, nfs_fields_read, nfs_kind, nfs_type, tag_special, who_by_tag}
 unfoldable use Rattle.acl_forms.specs.NfsText.{nfs_ace, nfs_entry}
 use Rattle.acl_forms.specs.Part.{is_unknown_deny}
@@ -108,9 +108,9 @@ unfolding tools_ace tools_any_ace
 tools_again object fields a e =
     bind_then (kind_read fields.kind) _ a e (λ kind ke e1.
     bind_then (type_read fields.kind) (kind_at fields.kind.column) kind ke (λ number ne ae.
-    bind_then (letters_from flag_letters object reasons.Flag fields.flags.column 0 fields.flags.bytes) _ a e1
+    bind_then (set_of_letters flag_letters object reasons.Flag fields.flags.column fields.flags.bytes) _ a e1
     (λ flags fe e2.
-    bind_then (letters_from right_letters object reasons.Mask fields.rights.column 0 fields.rights.bytes) _ a e2
+    bind_then (set_of_letters right_letters object reasons.Mask fields.rights.column fields.rights.bytes) _ a e2
     (λ mask me e3.
     let who = fields.who.bytes in
     let is = ok_is _ _ e3 in
@@ -135,9 +135,9 @@ nfs_again : (source : WhoField) (fields : NfsFields) (a : Ace) → nfs_ace sourc
     → nfs_any_ace source fields ≡ Ok (any_of a)
 unfolding nfs_ace nfs_any_ace
 nfs_again source fields a e =
-    bind_then (letters_from (nfs_right_letters no_letter) Directory reasons.Mask fields.rights.column 0
+    bind_then (set_of_letters (nfs_right_letters no_letter) Directory reasons.Mask fields.rights.column
     fields.rights.bytes) _ a e (λ mask me e1.
-    bind_then (letters_from (nfs_flag_letters no_letter) Directory reasons.Flag fields.flags.column 0
+    bind_then (set_of_letters (nfs_flag_letters no_letter) Directory reasons.Flag fields.flags.column
     fields.flags.bytes) _ a e1 (λ flags fe e2.
     bind_then (nfs_kind fields.kind) _ a e2 (λ kind ke e3.
     bind_then (nfs_type fields.kind) (kind_at fields.kind.column) kind ke (λ number ne ae.

@@ -19,7 +19,7 @@ use Rattle.acl_forms.specs.Part.{IsReadAsPart, PlacedAce, RefusesPart, SpellsPar
 unfoldable use Rattle.acl_forms.specs.Part.{left_out_from}
 use Rattle.acl_forms.specs.PartTexts.{EntryReader, any_type_rules, placed_ace}
 use Rattle.acl_forms.specs.ReadFaults.{no_memory_left}
-use Rattle.acl_forms.specs.TextReading.{FailsAsRead, IsHeld, text_read}
+use Rattle.acl_forms.specs.internal.TextReading.{FailsAsRead, IsHeld, text_read}
 use Rattle.acl_forms.specs.Texts.{AddEach, IsFaultByRules, SpellsByRules, TextRules, item_read, items_in, whole_text}
 unfoldable use Rattle.acl_forms.specs.Texts.{comment_fault, cut_entries, line_items}
 use Rattle.acl_forms.specs.declared.fault.ReadFault.{ReadFault}

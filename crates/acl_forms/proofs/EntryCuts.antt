@@ -10,7 +10,7 @@ use Rattle.acl_perm.specs.Counts.{count_limit}
 use Rattle.acl_perm.specs.Lines.{cut_at, ColumnsFit, IsCut, Span, span_of, spans}
 use Rattle.acl_perm.specs.declared.lines.Piece.{Piece}
 use Rattle.acl_forms.proofs.TextLemmas.{read_append}
-use Rattle.acl_forms.specs.TextReading.{FailsAsRead, IsHeld, IsEntryCut, IsEntryRest, part_items, read_items, RestFits}
+use Rattle.acl_forms.specs.internal.TextReading.{FailsAsRead, IsHeld, IsEntryCut, IsEntryRest, part_items, read_items, RestFits}
 use Rattle.acl_forms.specs.Texts.{cut_entries, entries_among, items_of, TextRules}
 use Rattle.acl_forms.specs.declared.fault.ReadFault.{ReadFault}
 

@@ -10,7 +10,7 @@ use Rattle.acl_nfs4.specs.Ace.{Ace}
 use Rattle.acl_nfs4.specs.Push.{push_refusal, PushAnswers}
 use Rattle.acl_nfs4.specs.declared.list.push_fault.PushFault.{PushFault}
 use Rattle.acl_nfs4.specs.declared.list.push_fault.PushFault.TheVariants as push
-use Rattle.acl_forms.specs.TextReading.{AddsItems, AddsOne, FailsAsRead, part_items, read_items}
+use Rattle.acl_forms.specs.internal.TextReading.{AddsItems, AddsOne, FailsAsRead, part_items, read_items}
 use Rattle.acl_forms.specs.Texts.{comment_fault, entries_of, items_of, line_items, TextRules}
 use Rattle.acl_forms.specs.ToolsText.{tools_ace, Fields, fields_read, four, refused_at, taken, tools_entry, unless_refused}
 use Rattle.acl_forms.specs.declared.fault.ReadFault.{ReadFault}

@@ -1,16 +1,17 @@
 -- What fields of letters stand for.
 use Rattle.std.proofs.Common.{◌≡◌, ◌∙◌, ◌+◌, ◌≤◌, ◌<◌, ℕ, Bool, true, false, cond, length, drop, get_or, List, [], ◌∷◌, None, Some, Result, Ok, Err, refl, sym, ap}
-use Rattle.std.specs.Prelude.{◌&&◌, ◌||◌, ◌==◌, bit_and, bit_or, find, IfOk}
+use Rattle.std.specs.Prelude.{◌&&◌, ◌||◌, ◌==◌, bit_and, bit_or, filter_map, find, fold}
 use Rattle.std.specs.List.{list_all}
+use Rattle.std.specs.Result.{result_err, result_ok}
 use Rattle.std.proofs.lemmas.Bool.{eqb-true}
 use Rattle.std.proofs.lemmas.List.{at_drop_all, at_drop_more}
 use Rattle.std.proofs.lemmas.Nat.{and_le_r}
 use Rattle.acl_perm.proofs.Bools.{and_true}
 use Rattle.acl_perm.proofs.Sets.{has_bit-and, has_bit-or, same_set}
-use Rattle.acl_perm.specs.Bits.{all_flags, all_rights, has_bit, IsMask}
+use Rattle.acl_perm.specs.Bits.{all_flags, all_rights, has_bit, IsFlags, IsMask}
 use Rattle.acl_perm.specs.internal.Steps.{◌>>=◌}
 use Rattle.acl_nfs4.specs.Within.{is_within, IsWithin}
-use Rattle.acl_forms.specs.Letters.{flag_letters, letter_bits, letters_from, nfs_flag_letters, nfs_right_letters, no_letter, right_letters, row_bits}
+use Rattle.acl_forms.specs.Letters.{bits_of_each, flag_letters, letter_bits, nfs_flag_letters, nfs_right_letters, no_letter, right_letters, row_bits, set_of_letters, unless_faults}
 use Rattle.acl_forms.specs.ReadFaults.{read_fault_at}
 use Rattle.acl_forms.specs.declared.fault.ReadFault.{ReadFault}
 use Rattle.acl_forms.specs.declared.fault.ReadReason.{ReadReason}
@@ -18,6 +19,7 @@ use Rattle.acl_forms.specs.declared.fault.ReadReason.TheVariants.{NotDirectory}
 use Rattle.acl_forms.specs.declared.letters.Letter.{Letter}
 use Rattle.acl_forms.specs.declared.object.ObjectKind.{ObjectKind}
 use Rattle.acl_forms.specs.declared.object.ObjectKind.TheVariants.{File, Directory}
+use Rattle.acl_forms.specs.internal.LetterReading.{letters_from}
 
 -- ---- sets within sets
 
@@ -93,36 +95,62 @@ letters_within whole table object wrong at set (letter ∷ letters) all rows ins
       | Err fault ↦ λ is more. absurd cc
     ] refl e
 
+-- ---- one letter after the other gives what all letters give
+
+-- the letters that are read after a set give the union of their sets with it, or the first fault
+union_after : (table : List Letter) (object : ObjectKind) (wrong : ReadReason) (at set : ℕ) (letters : List ℕ)
+    → unless_faults (filter_map result_err (bits_of_each table object wrong at letters))
+    (fold bit_or set (filter_map result_ok (bits_of_each table object wrong at letters)))
+    ≡ letters_from table object wrong at set letters
+unfolding letters_from
+union_after table object wrong at set [] = refl
+union_after table object wrong at set (letter ∷ letters) =
+    let others = bits_of_each table object wrong (at + 1) letters in
+    elim (letter_bits table object wrong at letter)
+    as (λ r. unless_faults (filter_map result_err (r ∷ others)) (fold bit_or set (filter_map result_ok (r ∷ others)))
+    ≡ (r >>= λ bits. letters_from table object wrong (at + 1) (bit_or set bits) letters)) [
+      | Ok bits ↦ union_after table object wrong (at + 1) (bit_or set bits) letters
+      | Err fault ↦ refl
+    ]
+
+-- the set for which letters stand is that of the letters one after the other
+pub letters_union : (table : List Letter) (object : ObjectKind) (wrong : ReadReason) (at : ℕ) (letters : List ℕ)
+    → set_of_letters table object wrong at letters ≡ letters_from table object wrong at 0 letters
+unfolding set_of_letters
+letters_union table object wrong at letters = union_after table object wrong at 0 letters
+
+-- ---- what the letters of a table stand for
+
 -- the letters of rights stand for a mask
-pub rights_mask : (object : ObjectKind) (wrong : ReadReason) (at : ℕ) (letters : List ℕ) (r : Result ℕ ReadFault)
-    → r ≡ letters_from right_letters object wrong at 0 letters → IfOk r IsMask
-rights_mask object wrong at letters (Ok mask) e =
-    letters_within all_rights right_letters object wrong at 0 letters mask refl refl (sym e)
-rights_mask object wrong at letters (Err fault) e = tt
+pub rights_mask : (object : ObjectKind) (wrong : ReadReason) (at : ℕ) (letters : List ℕ) (mask : ℕ)
+    → Ok mask ≡ set_of_letters right_letters object wrong at letters → IsMask mask
+rights_mask object wrong at letters mask e =
+    letters_within all_rights right_letters object wrong at 0 letters mask refl refl
+    (sym (e ∙ letters_union _ object wrong at letters))
 
 -- the letters of flags stand for a byte
-pub flags_small : (object : ObjectKind) (wrong : ReadReason) (at : ℕ) (letters : List ℕ) (r : Result ℕ ReadFault)
-    → r ≡ letters_from flag_letters object wrong at 0 letters → IfOk r (λ flags. flags ≤ 255)
-flags_small object wrong at letters (Ok flags) e =
-    let inside = letters_within all_flags flag_letters object wrong at 0 letters flags refl refl (sym e) in
+pub flags_small : (object : ObjectKind) (wrong : ReadReason) (at : ℕ) (letters : List ℕ) (flags : ℕ)
+    → Ok flags ≡ set_of_letters flag_letters object wrong at letters → IsFlags flags
+flags_small object wrong at letters flags e =
+    let inside = letters_within all_flags flag_letters object wrong at 0 letters flags refl refl
+    (sym (e ∙ letters_union _ object wrong at letters)) in
     let le : bit_and flags all_flags ≤ all_flags = and_le_r flags all_flags in rw inside at le
-flags_small object wrong at letters (Err fault) e = tt
 
 -- the letters of rights of FreeBSD stand for a mask
-pub nfs_rights_mask : (object : ObjectKind) (wrong : ReadReason) (at : ℕ) (letters : List ℕ) (r : Result ℕ ReadFault)
-    → r ≡ letters_from (nfs_right_letters no_letter) object wrong at 0 letters → IfOk r IsMask
-nfs_rights_mask object wrong at letters (Ok mask) e =
-    letters_within all_rights (nfs_right_letters no_letter) object wrong at 0 letters mask refl refl (sym e)
-nfs_rights_mask object wrong at letters (Err fault) e = tt
+pub nfs_rights_mask : (object : ObjectKind) (wrong : ReadReason) (at : ℕ) (letters : List ℕ) (mask : ℕ)
+    → Ok mask ≡ set_of_letters (nfs_right_letters no_letter) object wrong at letters → IsMask mask
+nfs_rights_mask object wrong at letters mask e =
+    letters_within all_rights (nfs_right_letters no_letter) object wrong at 0 letters mask refl refl
+    (sym (e ∙ letters_union _ object wrong at letters))
 
 -- the letters of flags of FreeBSD stand for a byte
-pub nfs_flags_small : (object : ObjectKind) (wrong : ReadReason) (at : ℕ) (letters : List ℕ) (r : Result ℕ ReadFault)
-    → r ≡ letters_from (nfs_flag_letters no_letter) object wrong at 0 letters → IfOk r (λ flags. flags ≤ 255)
-nfs_flags_small object wrong at letters (Ok flags) e =
+pub nfs_flags_small : (object : ObjectKind) (wrong : ReadReason) (at : ℕ) (letters : List ℕ) (flags : ℕ)
+    → Ok flags ≡ set_of_letters (nfs_flag_letters no_letter) object wrong at letters → IsFlags flags
+nfs_flags_small object wrong at letters flags e =
     let inside =
-    letters_within all_flags (nfs_flag_letters no_letter) object wrong at 0 letters flags refl refl (sym e) in
+    letters_within all_flags (nfs_flag_letters no_letter) object wrong at 0 letters flags refl refl
+    (sym (e ∙ letters_union _ object wrong at letters)) in
     let le : bit_and flags all_flags ≤ all_flags = and_le_r flags all_flags in rw inside at le
-nfs_flags_small object wrong at letters (Err fault) e = tt
 
 -- ---- one letter after the other
 

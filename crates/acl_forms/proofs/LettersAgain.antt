@@ -12,8 +12,10 @@ use Rattle.acl_perm.specs.Bits.{has_bit}
 use Rattle.acl_perm.specs.internal.Steps.{◌>>=◌}
 use Rattle.acl_nfs4.specs.Within.{IsWithin}
 use Rattle.acl_nfs4.proofs.Exports.{and_or, bit_missing}
-use Rattle.acl_forms.specs.Letters.{flag_letters, letter_bits, letters_from, right_letters, single_letters}
+use Rattle.acl_forms.specs.Letters.{flag_letters, letter_bits, right_letters, set_of_letters, single_letters}
 use Rattle.acl_forms.specs.ToolsWritten.{letters_of}
+use Rattle.acl_forms.specs.internal.LetterReading.{letters_from}
+use Rattle.acl_forms.proofs.LetterLemmas.{letters_union}
 use Rattle.acl_forms.specs.declared.fault.ReadFault.{ReadFault}
 use Rattle.acl_forms.specs.declared.fault.ReadReason.{ReadReason}
 use Rattle.acl_forms.specs.declared.letters.Letter.{Letter}
@@ -208,17 +210,19 @@ rights_again File wrong set suits = (
 
 -- the letters of the flags of an ACE stand for the flags
 pub flags_read : (object : ObjectKind) (wrong : ReadReason) (at set : ℕ) → SuitsFile object 0x0f set
-    → IsWithin 0xff set → letters_from flag_letters object wrong at 0 (letters_of flag_letters set) ≡ Ok set
+    → IsWithin 0xff set → set_of_letters flag_letters object wrong at (letters_of flag_letters set) ≡ Ok set
 flags_read object wrong at set suits within =
-    letters_read flag_letters flag_letters (0 ∷ 1 ∷ 2 ∷ 3 ∷ 4 ∷ 5 ∷ 6 ∷ 7 ∷ []) object wrong at 0 set
+    letters_union flag_letters object wrong at (letters_of flag_letters set)
+    ∙ letters_read flag_letters flag_letters (0 ∷ 1 ∷ 2 ∷ 3 ∷ 4 ∷ 5 ∷ 6 ∷ 7 ∷ []) object wrong at 0 set
     (flags_again object wrong set suits) refl
     ∙ ap (λ (n : ℕ). Ok n) (or_zero_l (bit_and set 0xff) ∙ within)
 
 -- the letters of the rights of an ACE stand for the rights
 pub rights_read : (object : ObjectKind) (wrong : ReadReason) (at set : ℕ) → SuitsFile object 0x40 set
-    → IsWithin 0x1f01ff set → letters_from right_letters object wrong at 0 (letters_of (single_letters []) set) ≡ Ok set
+    → IsWithin 0x1f01ff set → set_of_letters right_letters object wrong at (letters_of (single_letters []) set) ≡ Ok set
 rights_read object wrong at set suits within =
-    letters_read right_letters (single_letters [])
+    letters_union right_letters object wrong at (letters_of (single_letters []) set)
+    ∙ letters_read right_letters (single_letters [])
     (0 ∷ 1 ∷ 2 ∷ 6 ∷ 16 ∷ 5 ∷ 7 ∷ 8 ∷ 3 ∷ 4 ∷ 17 ∷ 18 ∷ 19 ∷ 20 ∷ []) object wrong at 0 set
     (rights_again object wrong set suits) refl
     ∙ ap (λ (n : ℕ). Ok n) (or_zero_l (bit_and set 0x1f01ff) ∙ within)

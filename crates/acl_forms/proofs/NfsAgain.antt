@@ -33,12 +33,12 @@ use Rattle.acl_nfs4.specs.Who.{everyone_name, group_name, is_plain, is_special, 
 use Rattle.acl_nfs4.specs.Within.{IsWithin}
 use Rattle.acl_nfs4.proofs.Exports.{and_or, bit_missing}
 use Rattle.acl_forms.specs.Acl41Ids.{id_of_digits}
-use Rattle.acl_forms.specs.Letters.{letters_from, nfs_flag_letters, nfs_right_letters, no_letter}
+use Rattle.acl_forms.specs.Letters.{nfs_flag_letters, nfs_right_letters, no_letter, set_of_letters}
 use Rattle.acl_forms.specs.NfsRules.{nfs_rules, SpellsNfsText}
 use Rattle.acl_forms.specs.NfsText.{fields_of_parts, flags_by_tag, id_alone, is_other_number, nfs_ace, nfs_entry, nfs_fields_of, nfs_fields_read, nfs_kind, nfs_tag_of, tag_special, trimmed_span, who_by_tag, who_of_fields, NfsFields}
 use Rattle.acl_forms.specs.NfsWritten.{account_word, as_nfs_written, id_after, is_cut_who, is_id_cut, kept_flags, kind_word, nfs_ace_fault, nfs_entry_text, nfs_fault_from, nfs_text, nfs_text_fault, principal_text, special_word, styled_letters, IsSameButSpecialGroup}
 use Rattle.acl_forms.specs.ToolsText.{unless_refused}
-use Rattle.acl_forms.specs.ToolsWritten.{is_separator, meets}
+use Rattle.acl_forms.specs.ToolsWritten.{is_separator, meets, retention_rights}
 use Rattle.acl_forms.specs.declared.fault.FormReason.TheVariants.{Id, Retention, Separator}
 use Rattle.acl_forms.specs.declared.fault.ReadReason.{ReadReason}
 use Rattle.acl_forms.specs.declared.fault.ReadReason.TheVariants as reasons
@@ -49,6 +49,7 @@ use Rattle.acl_forms.specs.declared.style.LetterStyle.{LetterStyle}
 use Rattle.acl_forms.specs.declared.style.Style.{Style}
 use Rattle.acl_forms.specs.declared.who_field.WhoField.{WhoField}
 use Rattle.acl_forms.specs.declared.who_field.WhoField.TheVariants as source
+use Rattle.acl_forms.proofs.LetterLemmas.{letters_union}
 use Rattle.acl_forms.proofs.LettersAgain.{ReadAgain}
 use Rattle.acl_forms.proofs.NfsLemmas.{good_nfs_ace}
 use Rattle.acl_forms.proofs.TextLemmas.{one_list}
@@ -166,19 +167,21 @@ flags_text letters flags = styled_letters letters (nfs_flag_letters []) flags
 
 -- the letters of rights stand for the rights
 mask_again : (letters : LetterStyle) (at set : ℕ) → IsWithin 0x1f01ff set
-    → letters_from (nfs_right_letters no_letter) Directory reasons.Mask at 0 (rights_text letters set) ≡ Ok set
+    → set_of_letters (nfs_right_letters no_letter) Directory reasons.Mask at (rights_text letters set) ≡ Ok set
 mask_again letters at set within =
-    styled_read letters (nfs_right_letters no_letter) (nfs_right_letters [])
+    letters_union (nfs_right_letters no_letter) Directory reasons.Mask at (rights_text letters set)
+    ∙ styled_read letters (nfs_right_letters no_letter) (nfs_right_letters [])
     (0 ∷ 1 ∷ 5 ∷ 2 ∷ 16 ∷ 6 ∷ 7 ∷ 8 ∷ 3 ∷ 4 ∷ 17 ∷ 18 ∷ 19 ∷ 20 ∷ []) Directory reasons.Mask at 0 set
     (rights_again reasons.Mask set) refl (λ at. refl)
     ∙ ap (λ (n : ℕ). Ok n) (or_zero_l (bit_and set 0x1f01ff) ∙ within)
 
 -- the letters of flags stand for the flags but IDENTIFIER_GROUP
 flags_read_again : (letters : LetterStyle) (at set : ℕ)
-    → letters_from (nfs_flag_letters no_letter) Directory reasons.Flag at 0 (flags_text letters set)
+    → set_of_letters (nfs_flag_letters no_letter) Directory reasons.Flag at (flags_text letters set)
     ≡ Ok (bit_and set 0xbf)
 flags_read_again letters at set =
-    styled_read letters (nfs_flag_letters no_letter) (nfs_flag_letters []) (0 ∷ 1 ∷ 3 ∷ 2 ∷ 4 ∷ 5 ∷ 7 ∷ []) Directory
+    letters_union (nfs_flag_letters no_letter) Directory reasons.Flag at (flags_text letters set)
+    ∙ styled_read letters (nfs_flag_letters no_letter) (nfs_flag_letters []) (0 ∷ 1 ∷ 3 ∷ 2 ∷ 4 ∷ 5 ∷ 7 ∷ []) Directory
     reasons.Flag at 0 set (flags_again reasons.Flag set) refl (λ at. refl)
     ∙ ap (λ (n : ℕ). Ok n) (or_zero_l (bit_and set 0xbf))
 
@@ -391,9 +394,9 @@ read_again : (letters : LetterStyle) (by : WhoField) (a : Ace) (fields : NfsFiel
     → nfs_ace by fields ≡ Ok (ace_with a.kind (flags_by_tag fields.tag (bit_and a.flags 0xbf)) a.mask a.who)
 unfolding nfs_ace
 read_again letters by a fields h within name =
-    let mask = ap (letters_from (nfs_right_letters no_letter) Directory reasons.Mask fields.rights.column 0) h.rights
+    let mask = ap (set_of_letters (nfs_right_letters no_letter) Directory reasons.Mask fields.rights.column) h.rights
     ∙ mask_again letters fields.rights.column a.mask within in
-    let flags = ap (letters_from (nfs_flag_letters no_letter) Directory reasons.Flag fields.flags.column 0) h.flags
+    let flags = ap (set_of_letters (nfs_flag_letters no_letter) Directory reasons.Flag fields.flags.column) h.flags
     ∙ flags_read_again letters fields.flags.column a.flags in
     rw (mask, flags, kind_again a.kind fields.kind h.kind, name) refl
 
@@ -648,8 +651,8 @@ who_cases C who on_owner on_group on_everyone on_none =
 read_ace : (letters : LetterStyle) (by : WhoField) (a : Ace) → IsAce full a → nfs_ace_fault a ≡ None
     → IsEntryAgain by (nfs_entry_text letters a) (as_nfs_written a)
 read_ace letters by a is none =
-    let no = none_true (meets a.mask 0x600) (is_cut_who a.who) (is_id_cut (id_of_digits a.who)) none in
-    let within = rights_within a.mask is.mask (apart_sets a.mask 0x600 no.0) in
+    let no = none_true (meets a.mask retention_rights) (is_cut_who a.who) (is_id_cut (id_of_digits a.who)) none in
+    let within = rights_within a.mask is.mask (apart_sets a.mask retention_rights no.0) in
     let apart = or_parts (list_any is_separator a.who) (not (bytes_eq (trimmed a.who) a.who)) no.1 in
     let same : trimmed a.who ≡ a.who = bytes_eq_same (trimmed a.who) a.who (not_false _ apart.1) in
     let pass = who_pass a.who (plain_who a.who is.who) apart.0 in

@@ -24,7 +24,7 @@ use Rattle.acl_forms.specs.PosixRules.IsPosixTextFault.{of_access, of_default, o
 use Rattle.acl_forms.specs.PosixRules.IsDefaultTextFault.{of_list, of_parts}
 use Rattle.acl_forms.specs.PosixText.{PlacedEntry, PosixFields, pair_by_id, fields_in, pair_read, word_read}
 use Rattle.acl_forms.specs.ReadFaults.{no_memory_left, read_fault_at}
-use Rattle.acl_forms.specs.TextReading.{FailsAsRead, text_read}
+use Rattle.acl_forms.specs.internal.TextReading.{FailsAsRead, text_read}
 use Rattle.acl_forms.specs.Texts.{IsFaultByRules, SpellsByRules}
 use Rattle.acl_forms.specs.declared.fault.ReadFault.{ReadFault}
 use Rattle.acl_forms.specs.declared.fault.ReadReason.TheVariants as reasons

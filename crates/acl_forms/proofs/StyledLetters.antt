@@ -8,7 +8,7 @@ use Rattle.acl_perm.proofs.Bools.{and_true}
 use Rattle.acl_perm.specs.Ascii.{hyphen}
 use Rattle.acl_perm.specs.internal.Steps.{◌>>=◌}
 use Rattle.acl_nfs4.proofs.Exports.{bit_missing}
-use Rattle.acl_forms.specs.Letters.{letter_bits, letters_from}
+use Rattle.acl_forms.specs.Letters.{letter_bits}
 use Rattle.acl_forms.specs.NfsWritten.{letter_or_hyphen, styled_letters}
 use Rattle.acl_forms.specs.declared.fault.ReadFault.{ReadFault}
 use Rattle.acl_forms.specs.declared.fault.ReadReason.{ReadReason}
@@ -16,6 +16,7 @@ use Rattle.acl_forms.specs.declared.letters.Letter.{Letter}
 use Rattle.acl_forms.specs.declared.object.ObjectKind.{ObjectKind}
 use Rattle.acl_forms.specs.declared.style.LetterStyle.{LetterStyle}
 use Rattle.acl_forms.specs.declared.style.LetterStyle.TheVariants.{Compact, Full}
+use Rattle.acl_forms.specs.internal.LetterReading.{letters_from}
 use Rattle.acl_forms.proofs.LettersAgain.{all_of, joined, left_out, letters_pass, letters_read, AreBits, ReadAgain}
 
 -- a hyphen stands for no bit in a table

@@ -6,7 +6,7 @@ use Rattle.std.proofs.lemmas.Bool.Decides.{nat_tests}
 use Rattle.acl_perm.specs.Lines.{Span}
 use Rattle.acl_perm.specs.internal.Steps.{◌>>=◌}
 use Rattle.acl_forms.specs.ReadFaults.{read_fault_at, no_memory_left}
-use Rattle.acl_forms.specs.TextReading.{FailsAsRead, IsHeld, if_enough, read_items, text_read, unless_nul}
+use Rattle.acl_forms.specs.internal.TextReading.{FailsAsRead, IsHeld, if_enough, read_items, text_read, unless_nul}
 use Rattle.acl_forms.specs.Texts.{AddEach, HasNoNul, item_read, items_in, IsFaultByRules, SpellsByRules, TextRules}
 use Rattle.acl_forms.specs.Texts.IsFaultByRules.{few, nul, of_item}
 use Rattle.acl_forms.specs.declared.fault.ReadFault.{ReadFault}

@@ -27,11 +27,11 @@ use Rattle.acl_perm.specs.Principal.{everyone, group, group_named, owner, user}
 use Rattle.acl_nfs4.specs.Who.{everyone_name, group_name, is_no_who_len, is_plain, is_unknown_special, IsWho, owner_name, principal_of}
 use Rattle.acl_nfs4.specs.Within.{IsWithin}
 use Rattle.acl_nfs4.proofs.Exports.{and_or}
-use Rattle.acl_forms.specs.Letters.{flag_letters, letters_from, right_letters, single_letters}
+use Rattle.acl_forms.specs.Letters.{flag_letters, right_letters, set_of_letters, single_letters}
 use Rattle.acl_forms.specs.Texts.{cut_entries, line_items}
 use Rattle.acl_forms.specs.ToolsRules.{is_break, tools_rules, SpellsTools}
 use Rattle.acl_forms.specs.ToolsText.{tools_ace, Fields, entry_fields_of, fields_read, four, kind_read, tools_entry, unless_refused, with_group_flag}
-use Rattle.acl_forms.specs.ToolsWritten.{as_written, flags_written, is_no_file_ace, is_separator, kind_letter, letters_of, longest_tools_text, longest_tools_who, meets, tools_ace_fault, tools_entry_text, tools_fault, tools_fault_from, tools_line, tools_text, IsSameButGroup}
+use Rattle.acl_forms.specs.ToolsWritten.{as_written, delete_child, flags_written, inheritance_flags, inherited_flag, is_no_file_ace, is_separator, kind_letter, letters_of, longest_tools_text, longest_tools_who, meets, retention_rights, tools_ace_fault, tools_entry_text, tools_fault, tools_fault_from, tools_line, tools_text, IsSameButGroup}
 use Rattle.acl_forms.specs.declared.fault.FormFault.{FormFault}
 use Rattle.acl_forms.specs.declared.fault.FormReason.TheVariants.{Inherited, NotDirectory, Retention, Separator, TooLong}
 use Rattle.acl_forms.specs.declared.fault.ReadFault.{ReadFault}
@@ -49,10 +49,10 @@ use Rattle.acl_forms.proofs.FormLemmas.{no_fault}
 
 -- an ACE without a fault
 record IsHeld (object : ObjectKind) (a : Ace) : Type 0 where
-  pub kept : bit_and a.mask 0x600 ≡ 0
+  pub kept : bit_and a.mask retention_rights ≡ 0
   pub apart : list_any is_separator a.who ≡ false
-  pub flags : SuitsFile object 0x0f a.flags
-  pub mask : SuitsFile object 0x40 a.mask
+  pub flags : SuitsFile object inheritance_flags a.flags
+  pub mask : SuitsFile object delete_child a.mask
 
 -- if no test answers true, no test does
 none_true : (i r s d l : Bool) → cond i (Some Inherited) (cond r (Some Retention) (cond s (Some Separator)
@@ -69,22 +69,22 @@ apart_sets set other e = grind (arith, nat_tests)
 
 -- an ACE for files meets no set of directories alone
 suits : (object : ObjectKind) (a : Ace) → is_no_file_ace object a ≡ false
-    → SuitsFile object 0x0f a.flags × SuitsFile object 0x40 a.mask
+    → SuitsFile object inheritance_flags a.flags × SuitsFile object delete_child a.mask
 suits Directory a e = (tt, tt)
-suits File a e = by (meets a.flags 0x0f) (meets a.mask 0x40) refl refl e where
-  by : (f m : Bool) → meets a.flags 0x0f ≡ f → meets a.mask 0x40 ≡ m → (f || m) ≡ false
-      → (bit_and a.flags 0x0f ≡ 0) × (bit_and a.mask 0x40 ≡ 0)
+suits File a e = by (meets a.flags inheritance_flags) (meets a.mask delete_child) refl refl e where
+  by : (f m : Bool) → meets a.flags inheritance_flags ≡ f → meets a.mask delete_child ≡ m → (f || m) ≡ false
+      → (bit_and a.flags inheritance_flags ≡ 0) × (bit_and a.mask delete_child ≡ 0)
   by true m p q e = absurd cc
   by false true p q e = absurd cc
-  by false false p q e = (apart_sets a.flags 0x0f p, apart_sets a.mask 0x40 q)
+  by false false p q e = (apart_sets a.flags inheritance_flags p, apart_sets a.mask delete_child q)
 
 -- an ACE without a fault is held
 held : (object : ObjectKind) (a : Ace) → tools_ace_fault object a ≡ None → IsHeld object a
 held object a e =
-    let no = none_true (meets a.flags 0x80) (meets a.mask 0x600) (list_any is_separator a.who) (is_no_file_ace object a)
+    let no = none_true (meets a.flags inherited_flag) (meets a.mask retention_rights) (list_any is_separator a.who) (is_no_file_ace object a)
     (nat_lt longest_tools_who (length a.who)) e in
     let suit = suits object a no.2 in
-    record { kept = apart_sets a.mask 0x600 no.0; apart = no.1; flags = suit.0; mask = suit.1 }
+    record { kept = apart_sets a.mask retention_rights no.0; apart = no.1; flags = suit.0; mask = suit.1 }
 
 -- ---- the bytes of an entry
 
@@ -225,8 +225,8 @@ flags_within name flags h =
     ]
 
 -- the flags that are written suit a file if those of the ACE do
-flags_suit : (object : ObjectKind) (name : List ℕ) (flags : ℕ) → SuitsFile object 0x0f flags
-    → SuitsFile object 0x0f (with_group_flag name flags)
+flags_suit : (object : ObjectKind) (name : List ℕ) (flags : ℕ) → SuitsFile object inheritance_flags flags
+    → SuitsFile object inheritance_flags (with_group_flag name flags)
 flags_suit Directory name flags h = tt
 flags_suit File name flags h =
     elim (bytes_eq name group_name) as (λ t. bit_and (cond t (bit_or flags 0x40) flags) 0x0f ≡ 0) [
@@ -286,13 +286,13 @@ ace_again : (object : ObjectKind) (a : Ace) (column : ℕ) → IsHeld object a �
 unfolding tools_ace
 ace_again object a column h is =
     let fields = fields_at column a in
-    let mask_read = letters_from right_letters object reasons.Mask fields.rights.column 0 fields.rights.bytes in
+    let mask_read = set_of_letters right_letters object reasons.Mask fields.rights.column fields.rights.bytes in
     let flags = flags_read object reasons.Flag fields.flags.column (flags_written a)
     (flags_suit object a.who a.flags h.flags) (flags_within a.who a.flags is.flags) in
     let mask = rights_read object reasons.Mask fields.rights.column a.mask h.mask
     (rights_within a.mask is.mask h.kept) in
     ap (λ (r : Result Kind ReadFault). r >>= λ k.
-    letters_from flag_letters object reasons.Flag fields.flags.column 0 fields.flags.bytes >>= λ f.
+    set_of_letters flag_letters object reasons.Flag fields.flags.column fields.flags.bytes >>= λ f.
     mask_read >>= λ m. Ok (ace_with k (with_group_flag a.who f) m a.who)) (kind_again a.kind column)
     ∙ ap (λ (r : Result ℕ ReadFault). r >>= λ f. mask_read >>= λ m.
     Ok (ace_with a.kind (with_group_flag a.who f) m a.who)) flags

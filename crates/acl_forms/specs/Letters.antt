@@ -1,8 +1,9 @@
 -- The letters that stand for flags and rights in the texts of nfs4-acl-tools (nfs4_acl(5), and the sources of version
 -- 0.4.2 where the page says nothing) and in those of FreeBSD, ZFS and archives (setfacl(1) of FreeBSD, "NFSv4 ACL
 -- ENTRIES", and archive_entry_acl(3) of libarchive), and what a field of letters stands for.
-use Rattle.std.specs.Prelude.{◌==◌, ◌+◌, ℕ, List, [], ◌∷◌, Option, None, Some, Result, Ok, Err, bit_or, find, if◌then◌else◌}
-use Rattle.acl_perm.specs.internal.Steps.{◌>>=◌}
+use Rattle.std.specs.Prelude.{◌==◌, ℕ, List, [], ◌∷◌, Option, None, Some, Result, Ok, Err, bit_or, filter_map, find, fold, map, if◌then◌else◌}
+use Rattle.std.specs.List.{enumerate_from}
+use Rattle.std.specs.Result.{result_err, result_ok}
 use Rattle.acl_forms.specs.ReadFaults.{read_fault_at}
 use Rattle.acl_forms.specs.declared.fault.ReadFault.{ReadFault}
 use Rattle.acl_forms.specs.declared.fault.ReadReason.{ReadReason}
@@ -103,9 +104,20 @@ row_bits File wrong at (Some row) = if row.on_files == 0 then Err (read_fault_at
 abbrev pub letter_bits : List Letter → ObjectKind → ReadReason → ℕ → ℕ → Result ℕ ReadFault
 letter_bits table object wrong at letter = row_bits object wrong at (find (λ row. row.letter == letter) table)
 
--- the union of the bits for which the letters of a field from a place on stand with a set, or the first fault
-unfoldable pub letters_from : List Letter → ObjectKind → ReadReason → ℕ → ℕ → List ℕ → Result ℕ ReadFault
-letters_from table object wrong at set [] = Ok set
-letters_from table object wrong at set (letter ∷ letters) = do
-  bits ← letter_bits table object wrong at letter
-  letters_from table object wrong (at + 1) (bit_or set bits) letters
+-- the bits for which each letter of a field stands, or its fault, if the first letter is at this place
+abbrev pub bits_of_each : List Letter → ObjectKind → ReadReason → ℕ → List ℕ → List (Result ℕ ReadFault)
+bits_of_each table object wrong at letters =
+    map (λ placed. letter_bits table object wrong placed.0 placed.1) (enumerate_from at letters)
+
+-- a set, unless there is a fault: then the first one
+abbrev pub unless_faults : List ReadFault → ℕ → Result ℕ ReadFault
+unless_faults [] set = Ok set
+unless_faults (fault ∷ faults) set = Err fault
+
+-- the union of the bits for which letters stand, or the first fault
+abbrev pub union_of : List (Result ℕ ReadFault) → Result ℕ ReadFault
+union_of each = unless_faults (filter_map result_err each) (fold bit_or 0 (filter_map result_ok each))
+
+-- the set for which the letters of a field stand, or the first fault, if the first letter is at this place
+unfoldable pub set_of_letters : List Letter → ObjectKind → ReadReason → ℕ → List ℕ → Result ℕ ReadFault
+set_of_letters table object wrong at letters = union_of (bits_of_each table object wrong at letters)

@@ -16,7 +16,6 @@ pub mod NfsText
 pub mod NfsRules
 pub mod PosixText
 pub mod PosixRules
-pub mod TextReading
 pub mod ToolsWritten
 pub mod NfsWritten
 pub mod PosixNames

@@ -16,7 +16,7 @@ use Rattle.acl_nfs4.specs.Ace.{Ace}
 use Rattle.acl_nfs4.specs.Limits.{most_aces}
 use Rattle.acl_nfs4.specs.Who.{everyone_name, group_name, is_special, owner_name}
 use Rattle.acl_nfs4.specs.declared.xdr.fault.Reason.TheVariants as list
-use Rattle.acl_forms.specs.Letters.{letters_from, nfs_flag_letters, nfs_right_letters, no_letter}
+use Rattle.acl_forms.specs.Letters.{nfs_flag_letters, nfs_right_letters, no_letter, set_of_letters}
 use Rattle.acl_forms.specs.ReadFaults.{read_fault_at}
 use Rattle.acl_forms.specs.ToolsText.{kind_at, taken}
 use Rattle.acl_forms.specs.declared.fault.ReadFault.{ReadFault}
@@ -179,8 +179,8 @@ who_by_tag source fields None = who_of_fields source fields.who fields.id
 -- the ACE of fields, or the first fault: in the permissions, the flags, the type, the id or the name
 unfoldable pub nfs_ace : WhoField → NfsFields → Result Ace ReadFault
 nfs_ace source fields = do
-  mask ← letters_from (nfs_right_letters no_letter) Directory reasons.Mask fields.rights.column 0 fields.rights.bytes
-  flags ← letters_from (nfs_flag_letters no_letter) Directory reasons.Flag fields.flags.column 0 fields.flags.bytes
+  mask ← set_of_letters (nfs_right_letters no_letter) Directory reasons.Mask fields.rights.column fields.rights.bytes
+  flags ← set_of_letters (nfs_flag_letters no_letter) Directory reasons.Flag fields.flags.column fields.flags.bytes
   kind ← nfs_kind fields.kind
   who ← who_by_tag source fields (tag_special fields.tag)
   Ok (record { kind = kind; flags = flags_by_tag fields.tag flags; mask = mask; who = who })

@@ -1,11 +1,11 @@
 -- The text of a list as libarchive prints it with ids, in four styles, but with a line feed after the last entry too
 -- where no comma separates the entries (archive_acl_to_text in the source of libarchive 3.6.2); and the lists that this
 -- text cannot hold. The reasons, and their order, are this library's own.
-use Rattle.std.specs.Prelude.{◌≡◌, ◌||◌, ◌+◌, ℕ, Bool, false, not, List, [], ◌∷◌, ◌++◌, codes, map, nat_lt, bit_and, ◌==◌, Option, None, Some, if◌then◌else◌}
+use Rattle.std.specs.Prelude.{◌≡◌, ◌||◌, ◌+◌, ◌-◌, ℕ, Bool, false, not, List, [], ◌∷◌, ◌++◌, codes, map, nat_lt, bit_and, ◌==◌, Option, None, Some, if◌then◌else◌}
 use Rattle.std.specs.List.{flat_map, list_any}
 use Rattle.std.specs.Str.{bytes_eq}
 use Rattle.acl_perm.specs.Ascii.{colon, comma, hyphen, line_feed}
-use Rattle.acl_perm.specs.Bits.{identifier_group_alone}
+use Rattle.acl_perm.specs.Bits.{all_flags, identifier_group_alone}
 use Rattle.acl_perm.specs.Lines.{trimmed}
 use Rattle.acl_perm.specs.declared.kind.Kind.{Kind}
 use Rattle.acl_perm.specs.declared.kind.Kind.TheVariants.{Deny, Allow}
@@ -13,7 +13,7 @@ use Rattle.acl_nfs4.specs.Ace.{Ace}
 use Rattle.acl_nfs4.specs.Who.{everyone_name, group_name, is_special, owner_name}
 use Rattle.acl_forms.specs.Acl41Ids.{id_of_digits}
 use Rattle.acl_forms.specs.Letters.{nfs_flag_letters, nfs_right_letters}
-use Rattle.acl_forms.specs.ToolsWritten.{fault_or, is_separator, letters_of, meets}
+use Rattle.acl_forms.specs.ToolsWritten.{fault_or, is_separator, letters_of, meets, retention_rights}
 use Rattle.acl_forms.specs.declared.fault.FormFault.{FormFault}
 use Rattle.acl_forms.specs.declared.fault.FormReason.{FormReason}
 use Rattle.acl_forms.specs.declared.fault.FormReason.TheVariants.{Id, Retention, Separator}
@@ -79,7 +79,7 @@ nfs_text style list = separated style.separator (nfs_entry_text style.letters) l
 
 -- the flags that are written: not IDENTIFIER_GROUP of a special identifier, where the flag has no effect
 abbrev pub kept_flags : List ℕ → ℕ → ℕ
-kept_flags who flags = if is_special who then bit_and flags 0xbf else flags
+kept_flags who flags = if is_special who then bit_and flags (all_flags - identifier_group_alone) else flags
 
 -- the ACE that the entry spells
 abbrev pub as_nfs_written : Ace → Ace
@@ -109,7 +109,7 @@ is_id_cut (Some id) = nat_lt greatest_kept_id id
 
 -- the first reason for which the form cannot hold an ACE
 abbrev pub nfs_ace_fault : Ace → Option FormReason
-nfs_ace_fault a = if meets a.mask 0x600 then Some Retention
+nfs_ace_fault a = if meets a.mask retention_rights then Some Retention
     else (if is_cut_who a.who then Some Separator
     else (if is_id_cut (id_of_digits a.who) then Some Id else None))
 

@@ -10,7 +10,7 @@ use Rattle.acl_nfs4.specs.Fields.{who_len_of}
 use Rattle.acl_nfs4.specs.Limits.{most_weight}
 use Rattle.acl_nfs4.specs.declared.xdr.fault.Reason.TheVariants as list
 use Rattle.acl_forms.specs.Acl41Ids.{listed}
-use Rattle.acl_forms.specs.Letters.{flag_letters, letters_from, nfs_flag_letters, nfs_right_letters, no_letter, right_letters}
+use Rattle.acl_forms.specs.Letters.{flag_letters, nfs_flag_letters, nfs_right_letters, no_letter, right_letters, set_of_letters}
 use Rattle.acl_forms.specs.NfsRules.{nfs_rules}
 use Rattle.acl_forms.specs.NfsText.{NfsFields, flags_by_tag, nfs_fields_read, nfs_type, tag_special, who_by_tag}
 use Rattle.acl_forms.specs.Part.{PlacedAce, any_weight}
@@ -53,8 +53,8 @@ EntryReader = ℕ → ℕ → Span → Result AnyAce ReadFault
 unfoldable pub tools_any_ace : ObjectKind → Fields → Result AnyAce ReadFault
 tools_any_ace object fields = do
   number ← type_read fields.kind
-  flags ← letters_from flag_letters object reasons.Flag fields.flags.column 0 fields.flags.bytes
-  mask ← letters_from right_letters object reasons.Mask fields.rights.column 0 fields.rights.bytes
+  flags ← set_of_letters flag_letters object reasons.Flag fields.flags.column fields.flags.bytes
+  mask ← set_of_letters right_letters object reasons.Mask fields.rights.column fields.rights.bytes
   Ok (record {
     type_number = number;
     flags = with_group_flag fields.who.bytes flags;
@@ -72,8 +72,8 @@ tools_any_entry object count weight entry = do
 -- the ACE of fields of FreeBSD, ZFS and archives, or the first fault, as `nfs_ace` has them
 unfoldable pub nfs_any_ace : WhoField → NfsFields → Result AnyAce ReadFault
 nfs_any_ace source fields = do
-  mask ← letters_from (nfs_right_letters no_letter) Directory reasons.Mask fields.rights.column 0 fields.rights.bytes
-  flags ← letters_from (nfs_flag_letters no_letter) Directory reasons.Flag fields.flags.column 0 fields.flags.bytes
+  mask ← set_of_letters (nfs_right_letters no_letter) Directory reasons.Mask fields.rights.column fields.rights.bytes
+  flags ← set_of_letters (nfs_flag_letters no_letter) Directory reasons.Flag fields.flags.column fields.flags.bytes
   number ← nfs_type fields.kind
   who ← who_by_tag source fields (tag_special fields.tag)
   Ok (record { type_number = number; flags = flags_by_tag fields.tag flags; mask = mask; who = who })

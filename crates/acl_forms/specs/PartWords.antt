@@ -20,7 +20,7 @@ use Rattle.acl_forms.specs.AclFlags.{IsAclFlags}
 use Rattle.acl_forms.specs.Acl41Ids.{id_who, listed, nothing_after, special_of}
 use Rattle.acl_forms.specs.Part.{PlacedAce, any_weight, is_unknown_deny}
 use Rattle.acl_forms.specs.ReadFaults.{read_fault_at}
-use Rattle.acl_forms.specs.Words.{WordPlace, acl_flags_of, start, word_at}
+use Rattle.acl_forms.specs.Words.{WordPlace, acl_flags_of, head_size, start, word_at}
 use Rattle.acl_forms.specs.declared.fault.ReadFault.{ReadFault}
 use Rattle.acl_forms.specs.declared.fault.ReadReason.{ReadReason}
 use Rattle.acl_forms.specs.declared.fault.ReadReason.TheVariants as reason
@@ -83,7 +83,7 @@ pub record SpellsAces (Spells : AnyAce → List ℕ → Type 0) (set : ℕ) (lis
 -- the bytes spell flags and these ACEs, each at its place; the first one is after two words
 abbrev pub SpellsWhole : (AnyAce → List ℕ → Type 0) → ℕ → List PlacedAce → List ℕ → Type 0
 SpellsWhole Spells set list bytes =
-    (spelled : List SpelledAce) × (list ≡ placed_from 8 spelled) × SpellsAces Spells set spelled bytes
+    (spelled : List SpelledAce) × (list ≡ placed_from head_size spelled) × SpellsAces Spells set spelled bytes
 
 -- ---- the first fault of bytes
 

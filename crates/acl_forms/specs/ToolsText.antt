@@ -14,7 +14,7 @@ use Rattle.acl_nfs4.specs.Who.{group_name}
 use Rattle.acl_nfs4.specs.declared.list.push_fault.PushFault.{PushFault}
 use Rattle.acl_nfs4.specs.declared.list.push_fault.PushFault.TheVariants as push
 use Rattle.acl_nfs4.specs.declared.xdr.fault.Reason.TheVariants as list
-use Rattle.acl_forms.specs.Letters.{flag_letters, letters_from, right_letters}
+use Rattle.acl_forms.specs.Letters.{flag_letters, right_letters, set_of_letters}
 use Rattle.acl_forms.specs.ReadFaults.{read_fault_at, no_memory_left}
 use Rattle.acl_forms.specs.declared.fault.ReadFault.{ReadFault}
 use Rattle.acl_forms.specs.declared.fault.ReadReason.TheVariants as reasons
@@ -87,8 +87,8 @@ fields_read count entry = ok_or (entry_fields_of entry) (read_fault_at entry.col
 unfoldable pub tools_ace : ObjectKind → Fields → Result Ace ReadFault
 tools_ace object fields = do
   kind ← kind_read fields.kind
-  flags ← letters_from flag_letters object reasons.Flag fields.flags.column 0 fields.flags.bytes
-  mask ← letters_from right_letters object reasons.Mask fields.rights.column 0 fields.rights.bytes
+  flags ← set_of_letters flag_letters object reasons.Flag fields.flags.column fields.flags.bytes
+  mask ← set_of_letters right_letters object reasons.Mask fields.rights.column fields.rights.bytes
   Ok (record { kind = kind; flags = with_group_flag fields.who.bytes flags; mask = mask; who = fields.who.bytes })
 
 -- the ACE that an entry spells as the next one of a list, or the entry's first fault: in the number of its fields, the

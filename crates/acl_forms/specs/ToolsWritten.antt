@@ -65,9 +65,29 @@ is_separator b = b == comma || b == colon || b == hash
 abbrev pub meets : ℕ → ℕ → Bool
 meets set other = not (bit_and set other == 0)
 
+-- the flag INHERITED
+abbrev pub inherited_flag : ℕ
+inherited_flag = 0x80
+
+-- the flags of inheritance: FILE_INHERIT, DIRECTORY_INHERIT, NO_PROPAGATE_INHERIT and INHERIT_ONLY
+abbrev pub inheritance_flags : ℕ
+inheritance_flags = 0x0f
+
+-- the right DELETE_CHILD
+abbrev pub delete_child : ℕ
+delete_child = 0x40
+
+-- the rights WRITE_RETENTION and WRITE_RETENTION_HOLD
+abbrev pub retention_rights : ℕ
+retention_rights = 0x600
+
 -- an ACE has a flag of inheritance, or DELETE_CHILD, which have no meaning on files
+abbrev pub is_for_directories : Ace → Bool
+is_for_directories a = meets a.flags inheritance_flags || meets a.mask delete_child
+
+-- an ACE of a file has what has no meaning on files
 abbrev pub is_no_file_ace : ObjectKind → Ace → Bool
-is_no_file_ace File a = meets a.flags 0x0f || meets a.mask 0x40
+is_no_file_ace File a = is_for_directories a
 is_no_file_ace Directory a = false
 
 -- the tool can read this many bytes of a who
@@ -80,8 +100,8 @@ longest_tools_text = 65535
 
 -- the first reason for which the form cannot hold an ACE
 abbrev pub tools_ace_fault : ObjectKind → Ace → Option FormReason
-tools_ace_fault object a = if meets a.flags 0x80 then Some Inherited
-    else (if meets a.mask 0x600 then Some Retention
+tools_ace_fault object a = if meets a.flags inherited_flag then Some Inherited
+    else (if meets a.mask retention_rights then Some Retention
     else (if list_any is_separator a.who then Some Separator
     else (if is_no_file_ace object a then Some NotDirectory
     else (if nat_lt longest_tools_who (length a.who) then Some TooLong else None))))

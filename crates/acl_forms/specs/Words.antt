@@ -21,6 +21,10 @@ pub record WordPlace : Type 0 where
 abbrev pub start : List ℕ → WordPlace
 start bytes = record { at = 0; rest = bytes }
 
+-- the bytes before the ACEs: the word of the flags, and the word of the list's length
+abbrev pub head_size : ℕ
+head_size = word_size + word_size
+
 -- what a whole word means and the place after it, or why the word is refused
 abbrev pub judged_word : {A : Type 0} → WordPlace → Result A ReadReason → Result (A × WordPlace) ReadFault
 judged_word p (Ok x) = Ok (x, record { at = p.at + word_size; rest = drop word_size p.rest })

@@ -10,6 +10,10 @@ pub mod AnyAces
 pub mod AnyTexts
 -- entries of an attribute while they are read and written
 pub mod AttributeEntries
+-- the letters of a field while they are read
+pub mod LetterReading
+-- texts of entries while they are read
+pub mod TextReading
 -- the fields of an entry of a text of FreeBSD, ZFS and archives
 pub mod NfsReading
 -- the fields and the entries of a text of a POSIX ACL

@@ -1,7 +1,7 @@
 //! The forms of text whose entries are ACEs.
 ghost use Rattle.std.specs.Prelude.{◌≡◌};
 ghost use Rattle.acl_nfs4.specs.Ace.{Ace};
-ghost use Rattle.acl_forms.specs.TextReading.{ace_rules};
+ghost use Rattle.acl_forms.specs.internal.TextReading.{ace_rules};
 
 use crate::fault::ReadFault;
 use crate::nfs_text::entry::add_nfs_entry;

@@ -11,6 +11,7 @@ ghost use Rattle.acl_nfs4.specs.Limits.{most_aces};
 ghost use Rattle.acl_nfs4.specs.Spelling.{word};
 ghost use Rattle.acl_forms.specs.Acl41Ids.{acl41_ids_bytes, acl41_ids_fault, id_of_digits, id_piece, whom_words};
 ghost use Rattle.acl_forms.specs.FormWrites.{WritesIfHeld};
+ghost use Rattle.acl_forms.specs.Words.{head_size};
 
 use crate::acl_flags::AclFlags;
 use crate::fault::{FormFault, FormReason};
@@ -104,7 +105,7 @@ fn head_of(flags: AclFlags, count: u32) -> [u8; 8]
 fn put_entries<K: Sink>(sink: &mut K, start: u64, aces: Aces<'_>) -> Result<u64, WriteFault>
     requires ids { acl41_ids_fault aces ≡ None }
     requires few { length aces ≤ most_aces }
-    requires first { start ≤ 8 }
+    requires first { start ≤ head_size }
     ensures written { WritesFrom (K.contents sink.old) (K.contents sink.new) start
         (flat_map id_piece aces.entry) result }
     ensures none_failed { OnOk result (K.failure_count sink.new ≡ K.failure_count sink.old) }

@@ -9,7 +9,7 @@ ghost use Rattle.acl_forms.specs.Ids as spec;
 ghost use Rattle.acl_forms.specs.Ids.{IsIdTaken, IsNameTaken, IsGoodName, IsIdNameFault, MayAdd, SpellsNamed, WritesNumbered, has_ids, id_for_name, id_row, name_for_id, names_to_ids_in, of_form_write};
 ghost use Rattle.acl_forms.specs.internal.IdEntries.{entry_row, name_row, table_of};
 ghost use Rattle.acl_forms.specs.ReadFaults.{no_memory_left};
-ghost use Rattle.acl_forms.specs.Words.{ReadsForm, RefusesForm};
+ghost use Rattle.acl_forms.specs.Words.{IfForm, ReadsForm, RefusesForm};
 ghost use Rattle.acl_forms.specs.declared.fault.ReadFault.{ReadFault};
 
 use crate::acl_flags::AclFlags;
@@ -162,8 +162,8 @@ impl<'a> Ids<'a> {
         form: Form,
         bytes: &[u8],
     ) -> Result<(AclFlags, Acl), ReadFault>
-        ensures found { IfOk result
-            (λ read. SpellsNamed form self.now read.0.bits read.1 bytes.now) }
+        ensures found { IfForm result
+            (λ flags list. SpellsNamed form self.now flags list bytes.now) }
         // If the bytes spell flags and a list, these are returned.
         ensures only { (flags : ℕ) (list : List Ace)
             → SpellsNamed form self.now flags list bytes.now → ReadsForm result flags list }

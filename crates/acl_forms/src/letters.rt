@@ -1,12 +1,13 @@
 //! Tables of letters that stand for flags or rights, and fields of such letters.
 ghost use Rattle.std.specs.Prelude.{◌≡◌, ◌==◌, [], find, option_copied};
 ghost use Rattle.acl_perm.specs.Lines.{span_of, ColumnsFit};
-ghost use Rattle.acl_forms.specs.Letters.{flag_letters, letter_bits, letters_from, nfs_flag_letters, nfs_right_letters, right_letters, single_letters};
+ghost use Rattle.acl_forms.specs.Letters.{flag_letters, letter_bits, nfs_flag_letters, nfs_right_letters, right_letters, set_of_letters, single_letters};
 ghost use Rattle.acl_forms.specs.ReadFaults.{read_fault_at};
 
 use crate::fault::{ReadFault, ReadReason};
 use crate::object::ObjectKind;
 use acl_perm::internal::Piece;
+use acl_perm::{Flags, Mask};
 
 /// A letter, the bits that it stands for on directories, and those on files: no bits if it has no meaning there.
 #[derive(Clone, Copy)]
@@ -16,95 +17,124 @@ pub(crate) struct Letter {
     pub on_files: u32,
 }
 
-// A letter that stands for the same bits on files and on directories.
+// A letter that stands for the same set on files and on directories.
 macro_rules! both {
-    ($letter:literal, $bits:literal) => {
+    ($letter:literal, $set:expr) => {
         Letter {
             letter: $letter,
-            bits: $bits,
-            on_files: $bits,
+            bits: $set.bits as u32,
+            on_files: $set.bits as u32,
         }
     };
 }
 
 // A letter that has no meaning on files.
 macro_rules! directory {
-    ($letter:literal, $bits:literal) => {
+    ($letter:literal, $set:expr) => {
         Letter {
             letter: $letter,
-            bits: $bits,
+            bits: $set.bits as u32,
             on_files: 0,
         }
     };
 }
 
+// The rights for which the letters `rntcy` stand.
+const READING: Mask = Mask {
+    bits: Mask::READ_DATA.bits
+        | Mask::READ_NAMED_ATTRS.bits
+        | Mask::READ_ATTRIBUTES.bits
+        | Mask::READ_ACL.bits
+        | Mask::SYNCHRONIZE.bits,
+};
+
+// The rights for which the letters `watTNcCy` stand.
+const WRITING: Mask = Mask {
+    bits: Mask::WRITE_DATA.bits
+        | Mask::APPEND_DATA.bits
+        | Mask::READ_ATTRIBUTES.bits
+        | Mask::WRITE_ATTRIBUTES.bits
+        | Mask::WRITE_NAMED_ATTRS.bits
+        | Mask::READ_ACL.bits
+        | Mask::WRITE_ACL.bits
+        | Mask::SYNCHRONIZE.bits,
+};
+
+// The rights for which the letters `xtcy` stand.
+const EXECUTING: Mask = Mask {
+    bits: Mask::EXECUTE.bits
+        | Mask::READ_ATTRIBUTES.bits
+        | Mask::READ_ACL.bits
+        | Mask::SYNCHRONIZE.bits,
+};
+
 /// The letters of flags, in the order in which nfs4_getfacl prints them.
 pub(crate) static FLAG_LETTERS: [Letter; 8] = [
-    directory!(b'f', 0x01),
-    directory!(b'd', 0x02),
-    directory!(b'n', 0x04),
-    directory!(b'i', 0x08),
-    both!(b'S', 0x10),
-    both!(b'F', 0x20),
-    both!(b'g', 0x40),
-    both!(b'I', 0x80),
+    directory!(b'f', Flags::FILE_INHERIT),
+    directory!(b'd', Flags::DIRECTORY_INHERIT),
+    directory!(b'n', Flags::NO_PROPAGATE_INHERIT),
+    directory!(b'i', Flags::INHERIT_ONLY),
+    both!(b'S', Flags::SUCCESSFUL_ACCESS),
+    both!(b'F', Flags::FAILED_ACCESS),
+    both!(b'g', Flags::IDENTIFIER_GROUP),
+    both!(b'I', Flags::INHERITED),
 ];
 
 /// The letters of rights, in the order in which nfs4_getfacl prints them, and then the three that stand for several
 /// rights.
 pub(crate) static RIGHT_LETTERS: [Letter; 17] = [
-    both!(b'r', 0x1),
-    both!(b'w', 0x2),
-    both!(b'a', 0x4),
-    directory!(b'D', 0x40),
-    both!(b'd', 0x1_0000),
-    both!(b'x', 0x20),
-    both!(b't', 0x80),
-    both!(b'T', 0x100),
-    both!(b'n', 0x8),
-    both!(b'N', 0x10),
-    both!(b'c', 0x2_0000),
-    both!(b'C', 0x4_0000),
-    both!(b'o', 0x8_0000),
-    both!(b'y', 0x10_0000),
-    both!(b'R', 0x12_0089),
+    both!(b'r', Mask::READ_DATA),
+    both!(b'w', Mask::WRITE_DATA),
+    both!(b'a', Mask::APPEND_DATA),
+    directory!(b'D', Mask::DELETE_CHILD),
+    both!(b'd', Mask::DELETE),
+    both!(b'x', Mask::EXECUTE),
+    both!(b't', Mask::READ_ATTRIBUTES),
+    both!(b'T', Mask::WRITE_ATTRIBUTES),
+    both!(b'n', Mask::READ_NAMED_ATTRS),
+    both!(b'N', Mask::WRITE_NAMED_ATTRS),
+    both!(b'c', Mask::READ_ACL),
+    both!(b'C', Mask::WRITE_ACL),
+    both!(b'o', Mask::WRITE_OWNER),
+    both!(b'y', Mask::SYNCHRONIZE),
+    both!(b'R', READING),
     Letter {
         letter: b'W',
-        bits: 0x16_01d6,
-        on_files: 0x16_0196,
+        bits: WRITING.bits | Mask::DELETE_CHILD.bits,
+        on_files: WRITING.bits,
     },
-    both!(b'X', 0x12_00a0),
+    both!(b'X', EXECUTING),
 ];
 
 /// The letters of flags, in the order in which FreeBSD and libarchive print them, and `-`, which stands for none.
 pub(crate) static NFS_FLAG_LETTERS: [Letter; 8] = [
-    both!(b'f', 0x01),
-    both!(b'd', 0x02),
-    both!(b'i', 0x08),
-    both!(b'n', 0x04),
-    both!(b'S', 0x10),
-    both!(b'F', 0x20),
-    both!(b'I', 0x80),
-    both!(b'-', 0),
+    both!(b'f', Flags::FILE_INHERIT),
+    both!(b'd', Flags::DIRECTORY_INHERIT),
+    both!(b'i', Flags::INHERIT_ONLY),
+    both!(b'n', Flags::NO_PROPAGATE_INHERIT),
+    both!(b'S', Flags::SUCCESSFUL_ACCESS),
+    both!(b'F', Flags::FAILED_ACCESS),
+    both!(b'I', Flags::INHERITED),
+    both!(b'-', Flags::NONE),
 ];
 
 /// The letters of rights, in the order in which libarchive prints them, and `-`, which stands for none.
 pub(crate) static NFS_RIGHT_LETTERS: [Letter; 15] = [
-    both!(b'r', 0x1),
-    both!(b'w', 0x2),
-    both!(b'x', 0x20),
-    both!(b'p', 0x4),
-    both!(b'd', 0x1_0000),
-    both!(b'D', 0x40),
-    both!(b'a', 0x80),
-    both!(b'A', 0x100),
-    both!(b'R', 0x8),
-    both!(b'W', 0x10),
-    both!(b'c', 0x2_0000),
-    both!(b'C', 0x4_0000),
-    both!(b'o', 0x8_0000),
-    both!(b's', 0x10_0000),
-    both!(b'-', 0),
+    both!(b'r', Mask::READ_DATA),
+    both!(b'w', Mask::WRITE_DATA),
+    both!(b'x', Mask::EXECUTE),
+    both!(b'p', Mask::APPEND_DATA),
+    both!(b'd', Mask::DELETE),
+    both!(b'D', Mask::DELETE_CHILD),
+    both!(b'a', Mask::READ_ATTRIBUTES),
+    both!(b'A', Mask::WRITE_ATTRIBUTES),
+    both!(b'R', Mask::READ_NAMED_ATTRS),
+    both!(b'W', Mask::WRITE_NAMED_ATTRS),
+    both!(b'c', Mask::READ_ACL),
+    both!(b'C', Mask::WRITE_ACL),
+    both!(b'o', Mask::WRITE_OWNER),
+    both!(b's', Mask::SYNCHRONIZE),
+    both!(b'-', Mask::NONE),
 ];
 
 // Returns the table, so that a clause can give its rows.
@@ -143,7 +173,7 @@ pub(crate) fn nfs_right_letters() -> &'static [Letter]
 }
 
 /// Returns the bits for which the letters of a field stand, or the first letter that the table does not have for the
-/// object.
+/// object. The set is a number, since the table may be that of the flags or that of the rights.
 pub(crate) fn read_letters(
     table: &[Letter],
     object: ObjectKind,
@@ -151,7 +181,7 @@ pub(crate) fn read_letters(
     field: Piece<'_>,
 ) -> Result<u32, ReadFault>
     requires { ColumnsFit field }
-    ensures { result ≡ letters_from table.now object wrong field.entry.column 0
+    ensures { result ≡ set_of_letters table.now object wrong field.entry.column
         field.entry.bytes.now }
 {
     let mut set = 0;

@@ -2,7 +2,7 @@
 ghost use Rattle.std.specs.Prelude.{◌≡◌, ◌==◌, [], ◌≤◌, List, MatchResult, length, position};
 ghost use Rattle.acl_perm.specs.Ascii.{hash};
 ghost use Rattle.acl_perm.specs.Lines.{span_of, ColumnsFit};
-ghost use Rattle.acl_forms.specs.TextReading.{text_read, read_items, AddsItems, IsHeld, FailsAsRead, IsEntryCut, JudgesComment, part_items};
+ghost use Rattle.acl_forms.specs.internal.TextReading.{text_read, read_items, AddsItems, IsHeld, FailsAsRead, IsEntryCut, JudgesComment, part_items};
 ghost use Rattle.acl_forms.specs.Texts.{comment_fault, cut_entries, entries_among, entries_of, items_in, items_of, line_items};
 
 use crate::fault::{ReadFault, ReadReason};
@@ -11,7 +11,7 @@ use acl_perm::internal::{Piece, place_of};
 use std::alloc::Global;
 
 /// Returns the list of what the entries of a text spell.
-#[tactic(auto, unfolding(crate::specs::TextReading::text_read))]
+#[tactic(auto, unfolding(crate::specs::internal::TextReading::text_read))]
 pub(crate) fn read_text<F: TextForm>(
     alloc: Global,
     text: &[u8],

@@ -2,7 +2,7 @@
 ghost use Rattle.std.specs.Prelude.{◌≡◌, List, [], length};
 ghost use Rattle.acl_perm.specs.Lines.{span_of, ColumnsFit};
 ghost use Rattle.acl_forms.specs.Texts.{TextRules};
-ghost use Rattle.acl_forms.specs.TextReading.{AddsOne};
+ghost use Rattle.acl_forms.specs.internal.TextReading.{AddsOne};
 
 use crate::fault::ReadFault;
 use acl_perm::internal::Piece;

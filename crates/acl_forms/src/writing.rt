@@ -13,7 +13,7 @@ ghost use Rattle.acl_forms.specs.internal.TextWriting.{entries_left, entry_of, s
 use crate::letters::Letter;
 use crate::style::{EntrySeparator, LetterStyle, Style};
 use crate::{nfs_text, tools};
-use acl_nfs4::{AceRef, Aces};
+use acl_nfs4::{AceRef, Aces, Flags, Mask};
 use acl_perm::internal::put_next;
 use acl_perm::{Sink, WriteFault};
 use arrayvec::ArrayVec;
@@ -23,6 +23,11 @@ use arrayvec::ArrayVec;
 pub(crate) type Line = ArrayVec<u8, LINE_ROOM>;
 
 pub(crate) const LINE_ROOM: usize = 1080;
+
+/// The two rights of retention, for which no text of entries has a letter.
+pub(crate) const RETENTION: Mask = Mask {
+    bits: Mask::WRITE_RETENTION.bits | Mask::WRITE_RETENTION_HOLD.bits,
+};
 
 /// A form of text that is written entry by entry.
 #[derive(Clone, Copy)]
@@ -95,7 +100,8 @@ pub(crate) fn add(line: &mut Line, bytes: &[u8])
     let _ = line.try_extend_from_slice(bytes);
 }
 
-/// Adds the letters of the rows whose bits a set has, in a style.
+/// Adds the letters of the rows whose bits a set has, in a style. The set is a number, since the table may be that of
+/// the flags or that of the rights.
 pub(crate) fn add_styled(line: &mut Line, table: &[Letter], set: u32, letters: LetterStyle)
     requires room { array_vec_len line.old + length table.now ≤ text_line_room }
     ensures text { line.new.items ≡ line.old.items ++ styled_letters letters table.now set }
@@ -136,9 +142,16 @@ fn add_columns(line: &mut Line, table: &[Letter], set: u32)
     }
 }
 
-/// Returns whether two sets have a bit in common.
-pub(crate) fn meets(set: u32, other: u32) -> bool
-    ensures { result ≡ meets set other }
+/// Returns whether two sets have a flag in common.
+pub(crate) fn shares_flag(flags: Flags, others: Flags) -> bool
+    ensures { result ≡ meets flags.bits others.bits }
 {
-    set & other != 0
+    flags.bits & others.bits != 0
+}
+
+/// Returns whether two sets have a right in common.
+pub(crate) fn shares_right(mask: Mask, others: Mask) -> bool
+    ensures { result ≡ meets mask.bits others.bits }
+{
+    mask.bits & others.bits != 0
 }

@@ -7,7 +7,7 @@ use Rattle.acl_nfs4.specs.Spelling as spelled
 use Rattle.acl_nfs4.specs.Spelling.{IsAccepted}
 use Rattle.acl_forms.specs.Part.{PlacedAce, any_weight, kept, left_out}
 use Rattle.acl_forms.specs.PartTexts.{EntryReader, any_type_rules, nfs_any_entry, tools_any_entry}
-use Rattle.acl_forms.specs.TextReading.{ace_rules}
+use Rattle.acl_forms.specs.internal.TextReading.{ace_rules}
 use Rattle.acl_forms.specs.Texts.{TextRules}
 use Rattle.acl_forms.specs.declared.ace_text.AceText.{AceText}
 use Rattle.acl_forms.specs.declared.ace_text.AceText.TheVariants.{Nfs, Tools}

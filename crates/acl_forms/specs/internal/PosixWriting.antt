@@ -6,6 +6,7 @@ use Rattle.acl_forms.specs.PosixWritten.{is_base, longest_name, posix_piece}
 use Rattle.acl_forms.specs.declared.posix_text.style.TarStyle.{TarStyle}
 use Rattle.acl_forms.specs.declared.posix_text.writer.Pass.{Pass}
 use Rattle.acl_forms.specs.declared.posix_text.writer.Pass.TheVariants.{All, Base, Others}
+use Rattle.acl_forms.specs.internal.TextWriting.{longest_word, perm_letters}
 
 -- the test of the entries of a pass
 abbrev pub chosen : Pass → Tag → Bool
@@ -19,7 +20,7 @@ piece_if names style test e = if test e.0 then posix_piece names style e else []
 
 -- the most bytes of the longest word, a name and three permissions, with two colons between them
 abbrev pub named_room : ℕ
-named_room = 5 + 1 + longest_name + 1 + 3
+named_room = longest_word + 1 + longest_name + 1 + perm_letters
 
 -- a name, if there is one, has room in a line
 abbrev pub IsShortName : Option (List ℕ) → Type 0

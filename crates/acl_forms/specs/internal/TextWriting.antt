@@ -15,6 +15,18 @@ use Rattle.acl_forms.specs.declared.writing.WrittenForm.TheVariants.{Nfs, Tools}
 abbrev pub text_line_room : ℕ
 text_line_room = 1080
 
+-- the most bytes of the word of a special identifier
+abbrev pub longest_special_word : ℕ
+longest_special_word = 9
+
+-- the most bytes of the word of a tag, of a kind, or before a name
+abbrev pub longest_word : ℕ
+longest_word = 5
+
+-- the letters of permissions
+abbrev pub perm_letters : ℕ
+perm_letters = 3
+
 -- the most bytes of a colon and the digits of an id
 abbrev pub id_room : ℕ
 id_room = 1 + most_digits

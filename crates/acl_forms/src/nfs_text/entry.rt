@@ -1,14 +1,13 @@
 //! The ACE that an entry spells, or what is wrong with it.
 ghost use Rattle.std.specs.Prelude.{◌≡◌, ◌<◌, ◌≤◌, IfOk, option_map};
-ghost use Rattle.acl_perm.specs.Bits.{IsFlags, IsMask};
 ghost use Rattle.acl_perm.specs.Lines.{span_of, ColumnsFit};
 ghost use Rattle.acl_nfs4.specs.Limits.{most_aces, most_weight};
 ghost use Rattle.acl_nfs4.specs.internal.Reading.{Gives};
-ghost use Rattle.acl_forms.specs.Letters.{letters_from, nfs_flag_letters, nfs_right_letters, no_letter};
+ghost use Rattle.acl_forms.specs.Letters.{nfs_flag_letters, nfs_right_letters, no_letter, set_of_letters};
 ghost use Rattle.acl_nfs4.specs.Who.{is_special};
 ghost use Rattle.acl_forms.specs.NfsText.{nfs_ace, nfs_entry, nfs_fields_read, nfs_kind, nfs_type, tag_special, unless_special, who_by_tag, who_of_fields};
 ghost use Rattle.acl_forms.specs.PartTexts.{nfs_any_ace, nfs_any_entry};
-ghost use Rattle.acl_forms.specs.TextReading.{AddsOne};
+ghost use Rattle.acl_forms.specs.internal.TextReading.{AddsOne};
 ghost use Rattle.acl_forms.specs.ToolsText.{taken};
 ghost use Rattle.acl_forms.specs.internal.AnyAces.{IsWithinLimits, any_ace_of, any_entry};
 ghost use Rattle.acl_forms.specs.internal.NfsReading.{entry_ace, entry_name, entry_viewed, TailFits};
@@ -136,13 +135,10 @@ fn ace_of(fields: EntryParts<'_>, source: WhoField) -> Result<EntryAce<'_>, Read
     let flags = flags_at(fields.tail.flags)?;
     let kind = kind_at(fields.tail.kind)?;
     let who = who_at(fields, source)?;
-    let flags = Flags {
-        bits: fields.tag.with_flags(flags) as u8,
-    };
     Ok(EntryAce {
         kind,
-        flags,
-        mask: Mask { bits: mask },
+        flags: fields.tag.with_flags(flags),
+        mask,
         who,
     })
 }
@@ -157,48 +153,45 @@ fn any_ace_of(fields: EntryParts<'_>, source: WhoField) -> Result<AnyEntry<'_>, 
     let flags = flags_at(fields.tail.flags)?;
     let type_number = type_at(fields.tail.kind)?;
     let who = who_at(fields, source)?;
-    let flags = Flags {
-        bits: fields.tag.with_flags(flags) as u8,
-    };
     Ok(AnyEntry {
         type_number,
-        flags,
-        mask: Mask { bits: mask },
+        flags: fields.tag.with_flags(flags),
+        mask,
         who,
     })
 }
 
 // Returns the rights for which a field stands.
 #[inline(always)]
-fn mask_at(field: Piece<'_>) -> Result<u32, ReadFault>
+fn mask_at(field: Piece<'_>) -> Result<Mask, ReadFault>
     requires { ColumnsFit field }
-    ensures exact { result ≡ letters_from (nfs_right_letters no_letter)
-        Directory reasons.Mask field.entry.column 0 field.entry.bytes.now }
-    ensures within { IfOk result IsMask }
+    ensures { Gives (λ mask. mask.bits) result (set_of_letters (nfs_right_letters no_letter)
+        Directory reasons.Mask field.entry.column field.entry.bytes.now) }
 {
     // The letters mean the same on files.
-    read_letters(
+    let bits = read_letters(
         &NFS_RIGHT_LETTERS,
         ObjectKind::Directory,
         ReadReason::Mask,
         field,
-    )
+    )?;
+    Ok(Mask { bits })
 }
 
 // Returns the flags for which a field stands.
 #[inline(always)]
-fn flags_at(field: Piece<'_>) -> Result<u32, ReadFault>
+fn flags_at(field: Piece<'_>) -> Result<Flags, ReadFault>
     requires { ColumnsFit field }
-    ensures exact { result ≡ letters_from (nfs_flag_letters no_letter)
-        Directory reasons.Flag field.entry.column 0 field.entry.bytes.now }
-    ensures small { IfOk result IsFlags }
+    ensures { Gives (λ flags. flags.bits) result (set_of_letters (nfs_flag_letters no_letter)
+        Directory reasons.Flag field.entry.column field.entry.bytes.now) }
 {
-    read_letters(
+    let bits = read_letters(
         &NFS_FLAG_LETTERS,
         ObjectKind::Directory,
         ReadReason::Flag,
         field,
-    )
+    )?;
+    Ok(Flags { bits: bits as u8 })
 }
 
 // Returns the kind for which a field stands.

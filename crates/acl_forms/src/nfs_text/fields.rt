@@ -1,14 +1,14 @@
 //! The fields of an entry.
 ghost use Rattle.std.specs.Prelude.{◌≡◌, IfOk, IfSome, option_map};
 ghost use Rattle.std.specs.Str.{bytes_eq};
-ghost use Rattle.acl_perm.specs.Bits.{IsFlags};
 ghost use Rattle.acl_perm.specs.Lines.{span_of, ColumnsFit};
 ghost use Rattle.acl_nfs4.specs.internal.Reading.{Gives};
 ghost use Rattle.acl_forms.specs.NfsText.{fields_by_tag, flags_by_tag, named_fields, nfs_fields_of, nfs_tag_of, special_fields, tag_special, trimmed_span};
-ghost use Rattle.acl_forms.specs.TextReading.{RestFits};
+ghost use Rattle.acl_forms.specs.internal.TextReading.{RestFits};
 ghost use Rattle.acl_forms.specs.internal.NfsReading.{entry_viewed, parts_of_rest, parts_in, tail_of_parts, tail_viewed, tail_with_id, TailFits};
 
 use crate::fault::{ReadFault, ReadReason};
+use acl_nfs4::Flags;
 use acl_nfs4::internal::{EVERYONE_NAME, GROUP_NAME, OWNER_NAME};
 use acl_perm::internal::{Piece, trimmed};
 
@@ -72,13 +72,11 @@ impl NfsTag {
     }
 
     /// Returns the flags of an entry with this tag.
-    pub(crate) fn with_flags(self, flags: u32) -> u32
-        requires { IsFlags flags }
-        ensures value { result ≡ flags_by_tag self flags }
-        ensures small { IsFlags result }
+    pub(crate) fn with_flags(self, flags: Flags) -> Flags
+        ensures { result.bits ≡ flags_by_tag self flags.bits }
     {
         match self {
-            NfsTag::NamedGroup => flags | 0x40,
+            NfsTag::NamedGroup => flags.union(Flags::IDENTIFIER_GROUP),
             _ => flags,
         }
     }

@@ -10,7 +10,7 @@ ghost use Rattle.acl_forms.specs.FormWrites.{WritesIfHeld};
 ghost use Rattle.acl_forms.specs.Letters.{nfs_flag_letters, nfs_right_letters};
 ghost use Rattle.acl_forms.specs.NfsWritten.{account_word, id_after, is_cut_who, is_id_cut, kind_word, nfs_ace_fault, nfs_entry_text, nfs_fault_from, nfs_text, nfs_text_fault, principal_text, special_word};
 ghost use Rattle.acl_forms.specs.ToolsWritten.{letters_of};
-ghost use Rattle.acl_forms.specs.internal.TextWriting.{id_room, text_line_room};
+ghost use Rattle.acl_forms.specs.internal.TextWriting.{id_room, longest_special_word, longest_word, text_line_room};
 
 use crate::acl41_ids_writer::id_in_digits;
 use crate::fault::{FormFault, FormReason};
@@ -18,9 +18,11 @@ use crate::form_write::FormWriteFault;
 use crate::letters::{nfs_flag_letters, nfs_right_letters};
 use crate::style::{LetterStyle, Style};
 use crate::tools::writer::has_separator;
-use crate::writing::{Line, WrittenForm, add, add_styled, meets, put_entries};
+use crate::writing::{
+    Line, RETENTION, WrittenForm, add, add_styled, put_entries, shares_flag, shares_right,
+};
 use acl_nfs4::internal::{EVERYONE_NAME, GROUP_NAME, OWNER_NAME};
-use acl_nfs4::{AceRef, Aces, AclView, Kind};
+use acl_nfs4::{AceRef, Aces, AclView, Flags, Kind};
 use acl_perm::Sink;
 use acl_perm::internal::trimmed;
 
@@ -90,7 +92,7 @@ fn first_fault(aces: Aces<'_>) -> Option<FormFault>
 fn ace_fault(item: AceRef<'_>) -> Option<FormReason>
     ensures { result ≡ nfs_ace_fault (ace item.entry) }
 {
-    if meets(item.mask.bits(), 0x600) {
+    if shares_right(item.mask, RETENTION) {
         Some(FormReason::Retention)
     } else if is_cut_who(item.who) {
         Some(FormReason::Separator)
@@ -142,12 +144,13 @@ fn add_principal(line: &mut Line, item: AceRef<'_>)
     requires short { length item.who.now ≤ longest_who }
     ensures text { line.new.items
         ≡ line.old.items ++ principal_text (ace item.entry) (special_word item.entry.who.now) }
-    ensures len { array_vec_len line.new ≤ array_vec_len line.old + length item.entry.who.now + 9 }
+    ensures len { array_vec_len line.new
+        ≤ array_vec_len line.old + length item.entry.who.now + longest_special_word }
 {
     match special_word(item.who) {
         Some(word) => add(line, word),
         None => {
-            add(line, account_word(item.flags.bits() as u32));
+            add(line, account_word(item.flags));
             line.push(b':');
             add(line, item.who);
         }
@@ -172,7 +175,7 @@ fn add_id(line: &mut Line, who: &[u8])
 // Returns the word of a special identifier.
 fn special_word(who: &[u8]) -> Option<&'static [u8]>
     ensures value { option_map (λ word. word.now) result ≡ special_word who.now }
-    ensures short { IfSome result (λ word. length word.now ≤ 9) }
+    ensures short { IfSome result (λ word. length word.now ≤ longest_special_word) }
 {
     if who == OWNER_NAME.as_bytes() {
         Some(b"owner@")
@@ -186,11 +189,11 @@ fn special_word(who: &[u8]) -> Option<&'static [u8]>
 }
 
 // Returns the word before a name.
-fn account_word(flags: u32) -> &'static [u8]
-    ensures value { result.now ≡ account_word flags }
-    ensures short { length result.now ≤ 5 }
+fn account_word(flags: Flags) -> &'static [u8]
+    ensures value { result.now ≡ account_word flags.bits }
+    ensures short { length result.now ≤ longest_word }
 {
-    if meets(flags, 0x40) {
+    if shares_flag(flags, Flags::IDENTIFIER_GROUP) {
         b"group"
     } else {
         b"user"
@@ -199,7 +202,7 @@ fn account_word(flags: u32) -> &'static [u8]
 
 fn kind_word(kind: Kind) -> &'static [u8]
     ensures value { result.now ≡ kind_word kind }
-    ensures short { length result.now ≤ 5 }
+    ensures short { length result.now ≤ longest_word }
 {
     match kind {
         Kind::Allow => b"allow",

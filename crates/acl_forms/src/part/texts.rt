@@ -7,7 +7,7 @@ ghost use Rattle.acl_forms.specs.Part.{PlacedAce};
 ghost use Rattle.acl_forms.specs.PartTexts.{placed_ace};
 ghost use Rattle.acl_forms.specs.internal.AnyAces.{IsPartReadAs, IsWithinLimits, any_ace_of};
 ghost use Rattle.acl_forms.specs.internal.AnyTexts.{HoldsPart, any_entry_of, any_text_rules, without_flags};
-ghost use Rattle.acl_forms.specs.TextReading.{text_read};
+ghost use Rattle.acl_forms.specs.internal.TextReading.{text_read};
 
 use crate::ace_text::AceText;
 use crate::acl_flags::AclFlags;

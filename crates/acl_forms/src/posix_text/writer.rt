@@ -15,7 +15,7 @@ ghost use Rattle.acl_forms.specs.PosixNames.{tag_name};
 ghost use Rattle.acl_forms.specs.PosixWritten.{comma_before, entries_text, id_field, id_reason_of, is_cut_name, is_name_separator, longest_name, name_reason, named_reason, pieces_if, posix_fault_from, posix_piece, posix_text, posix_text_fault, styled, three_fields, written_qualifier};
 ghost use Rattle.acl_forms.specs.internal.AttributeEntries.{most_entries};
 ghost use Rattle.acl_forms.specs.internal.PosixWriting.{chosen, named_room, piece_if, IsShortName};
-ghost use Rattle.acl_forms.specs.internal.TextWriting.{id_room, text_line_room};
+ghost use Rattle.acl_forms.specs.internal.TextWriting.{id_room, longest_word, perm_letters, text_line_room};
 
 use crate::fault::{FormFault, FormReason};
 use crate::form_write::FormWriteFault;
@@ -306,9 +306,9 @@ fn add_number(line: &mut Line, tag: Tag)
 
 // Adds the three letters of permissions.
 fn add_perm(line: &mut Line, perm: Perm)
-    requires room { array_vec_len line.old + 3 ≤ text_line_room }
+    requires room { array_vec_len line.old + perm_letters ≤ text_line_room }
     ensures text { line.new.items ≡ line.old.items ++ perm_text perm.bits }
-    ensures len { array_vec_len line.new ≤ array_vec_len line.old + 3 }
+    ensures len { array_vec_len line.new ≤ array_vec_len line.old + perm_letters }
 {
     add(
         line,
@@ -323,7 +323,7 @@ fn add_perm(line: &mut Line, perm: Perm)
 // Returns the word of a tag.
 fn long_word(tag: Tag) -> &'static [u8]
     ensures value { result.now ≡ long_word (tag_of tag) }
-    ensures short { length result.now ≤ 5 }
+    ensures short { length result.now ≤ longest_word }
 {
     match tag {
         Tag::UserObj | Tag::User(_) => b"user",

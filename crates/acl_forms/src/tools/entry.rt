@@ -1,13 +1,12 @@
 //! The ACE that an entry of nfs4-acl-tools spells, or what is wrong with it.
 ghost use Rattle.std.specs.Prelude.{◌≡◌, ◌<◌, ◌≤◌, IfOk, IfSome, option_map};
-ghost use Rattle.acl_perm.specs.Bits.{IsFlags, IsMask};
 ghost use Rattle.acl_perm.specs.Lines.{span_of, ColumnsFit};
 ghost use Rattle.acl_nfs4.specs.Ace.{ace};
 ghost use Rattle.acl_nfs4.specs.Limits.{most_aces, most_weight};
 ghost use Rattle.acl_nfs4.specs.internal.Reading.{Gives};
-ghost use Rattle.acl_forms.specs.Letters.{flag_letters, letters_from, right_letters};
+ghost use Rattle.acl_forms.specs.Letters.{flag_letters, right_letters, set_of_letters};
 ghost use Rattle.acl_forms.specs.PartTexts.{tools_any_ace, tools_any_entry};
-ghost use Rattle.acl_forms.specs.TextReading.{AddsOne, fields_viewed, EntryFieldsFit};
+ghost use Rattle.acl_forms.specs.internal.TextReading.{AddsOne, fields_viewed, EntryFieldsFit};
 ghost use Rattle.acl_forms.specs.ToolsText.{tools_ace, entry_fields_of, fields_read, kind_at, kind_read, refused_at, tools_entry, type_read, with_group_flag};
 ghost use Rattle.acl_forms.specs.internal.AnyAces.{IsWithinLimits, any_ace_of, any_entry};
 ghost use Rattle.acl_forms.specs.declared.fault.ReadReason.TheVariants as reasons;
@@ -95,13 +94,10 @@ fn ace_of(fields: EntryFields<'_>, object: ObjectKind) -> Result<AceRef<'_>, Rea
     let flags = flags_at(fields.flags, object)?;
     let mask = mask_at(fields.rights, object)?;
     let who = fields.who.bytes;
-    let flags = Flags {
-        bits: with_group(who, flags) as u8,
-    };
     Ok(AceRef {
         kind,
-        flags,
-        mask: Mask { bits: mask },
+        flags: with_group(who, flags),
+        mask,
         who,
     })
 }
@@ -116,13 +112,10 @@ fn any_ace_of(fields: EntryFields<'_>, object: ObjectKind) -> Result<AnyEntry<'_
     let flags = flags_at(fields.flags, object)?;
     let mask = mask_at(fields.rights, object)?;
     let who = fields.who.bytes;
-    let flags = Flags {
-        bits: with_group(who, flags) as u8,
-    };
     Ok(AnyEntry {
         type_number,
-        flags,
-        mask: Mask { bits: mask },
+        flags: with_group(who, flags),
+        mask,
         who: EntryWho::Named(who),
     })
 }
@@ -158,24 +151,26 @@ fn fields_of(entry: Piece<'_>) -> Option<EntryFields<'_>>
 
 // Returns the flags for which a field stands.
 #[inline(always)]
-fn flags_at(field: Piece<'_>, object: ObjectKind) -> Result<u32, ReadFault>
+fn flags_at(field: Piece<'_>, object: ObjectKind) -> Result<Flags, ReadFault>
     requires { ColumnsFit field }
-    ensures exact { result ≡ letters_from flag_letters object reasons.Flag field.entry.column 0
-        field.entry.bytes.now }
-    ensures small { IfOk result IsFlags }
+    ensures { Gives (λ flags. flags.bits) result
+        (set_of_letters flag_letters object reasons.Flag field.entry.column
+        field.entry.bytes.now) }
 {
-    read_letters(&FLAG_LETTERS, object, ReadReason::Flag, field)
+    let bits = read_letters(&FLAG_LETTERS, object, ReadReason::Flag, field)?;
+    Ok(Flags { bits: bits as u8 })
 }
 
 // Returns the rights for which a field stands.
 #[inline(always)]
-fn mask_at(field: Piece<'_>, object: ObjectKind) -> Result<u32, ReadFault>
+fn mask_at(field: Piece<'_>, object: ObjectKind) -> Result<Mask, ReadFault>
     requires { ColumnsFit field }
-    ensures exact { result ≡ letters_from right_letters object reasons.Mask field.entry.column 0
-        field.entry.bytes.now }
-    ensures within { IfOk result IsMask }
+    ensures { Gives (λ mask. mask.bits) result
+        (set_of_letters right_letters object reasons.Mask field.entry.column
+        field.entry.bytes.now) }
 {
-    read_letters(&RIGHT_LETTERS, object, ReadReason::Mask, field)
+    let bits = read_letters(&RIGHT_LETTERS, object, ReadReason::Mask, field)?;
+    Ok(Mask { bits })
 }
 
 // Returns the kind for which a field stands.
@@ -211,14 +206,12 @@ pub(crate) fn kind_of(type_number: u32, place: usize) -> Result<Kind, ReadFault>
     }
 }
 
-// Returns the flags of an ACE with this who.
-pub(crate) fn with_group(who: &[u8], flags: u32) -> u32
-    requires { IsFlags flags }
-    ensures value { result ≡ with_group_flag who.now flags }
-    ensures small { IsFlags result }
+/// Returns the flags of an ACE with this who.
+pub(crate) fn with_group(who: &[u8], flags: Flags) -> Flags
+    ensures { result.bits ≡ with_group_flag who.now flags.bits }
 {
     if who == GROUP_NAME.as_bytes() {
-        flags | 0x40
+        flags.union(Flags::IDENTIFIER_GROUP)
     } else {
         flags
     }

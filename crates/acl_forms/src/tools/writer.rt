@@ -5,7 +5,7 @@ ghost use Rattle.arrayvec.specs.ArrayVec.{array_vec_len};
 ghost use Rattle.acl_nfs4.specs.Ace.{ace};
 ghost use Rattle.acl_nfs4.specs.Limits.{longest_who, most_aces};
 ghost use Rattle.acl_forms.specs.FormWrites.{WritesIfHeld};
-ghost use Rattle.acl_forms.specs.ToolsWritten.{as_written, is_no_file_ace, is_separator, kind_letter, letters_of, meets, tools_ace_fault, tools_entry_text, tools_fault, tools_fault_from, tools_line, tools_text};
+ghost use Rattle.acl_forms.specs.ToolsWritten.{as_written, is_for_directories, is_separator, kind_letter, letters_of, tools_ace_fault, tools_entry_text, tools_fault, tools_fault_from, tools_line, tools_text};
 ghost use Rattle.acl_forms.specs.internal.TextWriting.{text_line_room};
 
 use crate::fault::{FormFault, FormReason};
@@ -13,10 +13,20 @@ use crate::form_write::FormWriteFault;
 use crate::letters::{FLAG_LETTERS, single_letters};
 use crate::object::ObjectKind;
 use crate::tools::entry::with_group;
-use crate::writing::{Line, WrittenForm, add, add_letters, meets, put_entries};
-use acl_nfs4::{AceRef, Aces, AclView, Kind};
+use crate::writing::{
+    Line, RETENTION, WrittenForm, add, add_letters, put_entries, shares_flag, shares_right,
+};
+use acl_nfs4::{AceRef, Aces, AclView, Flags, Kind, Mask};
 use acl_perm::Sink;
 use arrayvec::ArrayVec;
+
+// The flags of inheritance.
+const INHERITANCE: Flags = Flags {
+    bits: Flags::FILE_INHERIT.bits
+        | Flags::DIRECTORY_INHERIT.bits
+        | Flags::NO_PROPAGATE_INHERIT.bits
+        | Flags::INHERIT_ONLY.bits,
+};
 
 // The tool can read a who of this many bytes.
 const LONGEST_WHO: usize = 385;
@@ -102,20 +112,26 @@ fn first_fault(aces: Aces<'_>, object: ObjectKind) -> Option<FormFault>
 fn ace_fault(item: AceRef<'_>, object: ObjectKind) -> Option<FormReason>
     ensures { result ≡ tools_ace_fault object (ace item.entry) }
 {
-    let (flags, mask) = (item.flags.bits() as u32, item.mask.bits());
-    if meets(flags, 0x80) {
+    if shares_flag(item.flags, Flags::INHERITED) {
         Some(FormReason::Inherited)
-    } else if meets(mask, 0x600) {
+    } else if shares_right(item.mask, RETENTION) {
         Some(FormReason::Retention)
     } else if has_separator(item.who) {
         Some(FormReason::Separator)
-    } else if object == ObjectKind::File && (meets(flags, 0x0f) || meets(mask, 0x40)) {
+    } else if object == ObjectKind::File && is_for_directories(item) {
         Some(FormReason::NotDirectory)
     } else if item.who.len() > LONGEST_WHO {
         Some(FormReason::TooLong)
     } else {
         None
     }
+}
+
+// Returns whether an ACE has a flag of inheritance, or DELETE_CHILD, which have no meaning on files.
+fn is_for_directories(item: AceRef<'_>) -> bool
+    ensures { result ≡ is_for_directories (ace item.entry) }
+{
+    shares_flag(item.flags, INHERITANCE) || shares_right(item.mask, Mask::DELETE_CHILD)
 }
 
 /// Returns whether a who has a byte that separates fields or entries, or begins a comment.
@@ -153,11 +169,8 @@ pub(crate) fn add_entry(line: &mut Line, item: AceRef<'_>)
 {
     line.push(kind_letter(item.kind));
     line.push(b':');
-    add_letters(
-        line,
-        &FLAG_LETTERS,
-        with_group(item.who, item.flags.bits() as u32),
-    );
+    let flags = with_group(item.who, item.flags);
+    add_letters(line, &FLAG_LETTERS, flags.bits() as u32);
     line.push(b':');
     add(line, item.who);
     line.push(b':');

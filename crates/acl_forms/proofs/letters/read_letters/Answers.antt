@@ -1,6 +1,6 @@
 use Rattle.std.proofs.Common.{arith, sym, ◌∙◌}
 use Rattle.acl_nfs4.proofs.Exits.{exit_is}
-use Rattle.acl_forms.proofs.LetterLemmas.{letters_done, letters_fail, letters_next}
+use Rattle.acl_forms.proofs.LetterLemmas.{letters_done, letters_fail, letters_next, letters_union}
 use Rattle.acl_forms.proofs.letters.read_letters.Goals as goal
 
 pub returns-in_err-set : goal.returns-in_err-set
@@ -9,6 +9,7 @@ returns-in_err-set c =
     ∙ letters_fail c.args.table.now c.args.object c.args.wrong c.loop-letter.at c.loop-letter.set
     c.loop-letter.letter-index c.args.field.bytes.now _ (omega arith) c.in_err-set.ensures
     ∙ c.loop-letter.invariant.reads
+    ∙ sym (letters_union c.args.table.now c.args.object c.args.wrong c.args.field.column c.args.field.bytes.now)
 
 pub loop-letter-preserved : goal.loop-letter-preserved
 loop-letter-preserved c = record {
@@ -23,3 +24,4 @@ returns c =
     letters_done c.args.table.now c.args.object c.args.wrong c.loop-letter.at c.loop-letter.set
     c.loop-letter.letter-index c.args.field.bytes.now (omega arith)
     ∙ c.loop-letter.invariant.reads
+    ∙ sym (letters_union c.args.table.now c.args.object c.args.wrong c.args.field.column c.args.field.bytes.now)

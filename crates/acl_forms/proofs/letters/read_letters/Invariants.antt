@@ -1,5 +1,5 @@
 use Rattle.std.proofs.Common.{drop, ◌+◌, ◌≡◌}
-use Rattle.acl_forms.specs.Letters.{letters_from}
+use Rattle.acl_forms.specs.internal.LetterReading.{letters_from}
 use Rattle.acl_forms.proofs.letters.read_letters.Given as goal
 
 -- the letters that are left give what the whole field gives

@@ -5,7 +5,7 @@ use Rattle.acl_perm.specs.Lines.{Span, span_of}
 use Rattle.acl_perm.specs.declared.lines.Piece.{Piece}
 use Rattle.acl_forms.proofs.EntryCuts.{all_read, goes_on, line_fits, line_next, lines_left, no_lines, stops}
 use Rattle.acl_nfs4.proofs.Exits.{exit_is}
-use Rattle.acl_forms.specs.TextReading.{RestFits}
+use Rattle.acl_forms.specs.internal.TextReading.{RestFits}
 use Rattle.acl_forms.specs.Texts.{line_items}
 use Rattle.acl_forms.proofs.reading.read_lines.Goals as goal
 

@@ -1,6 +1,6 @@
 use Rattle.std.proofs.Common.{[]}
 use Rattle.std.specs.List.{flat_map}
-use Rattle.acl_forms.specs.TextReading.{RestFits}
+use Rattle.acl_forms.specs.internal.TextReading.{RestFits}
 use Rattle.acl_forms.specs.Texts.{items_in, line_items}
 use Rattle.acl_forms.proofs.EntryCuts.{bytes_left, lines_left, ReadsTo}
 use Rattle.acl_forms.proofs.reading.read_lines.Given as goal

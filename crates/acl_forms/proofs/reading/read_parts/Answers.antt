@@ -3,7 +3,7 @@ use Rattle.acl_perm.specs.Lines.{Span, span_of}
 use Rattle.acl_perm.specs.declared.lines.Piece.{Piece}
 use Rattle.acl_forms.proofs.EntryCuts.{all_read, goes_on, items_in_parts, items_next, no_parts, part_fits, part_next, parts_left, stops}
 use Rattle.acl_nfs4.proofs.Exits.{exit_is}
-use Rattle.acl_forms.specs.TextReading.{part_items, RestFits}
+use Rattle.acl_forms.specs.internal.TextReading.{part_items, RestFits}
 use Rattle.acl_forms.proofs.reading.read_parts.Goals as goal
 
 pub returns-in_err-add_part : goal.returns-in_err-add_part

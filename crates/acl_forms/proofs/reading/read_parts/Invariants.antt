@@ -1,6 +1,6 @@
 use Rattle.std.proofs.Common.{List}
 use Rattle.acl_perm.specs.Lines.{span_of}
-use Rattle.acl_forms.specs.TextReading.{RestFits}
+use Rattle.acl_forms.specs.internal.TextReading.{RestFits}
 use Rattle.acl_forms.specs.Texts.{cut_entries}
 use Rattle.acl_forms.proofs.EntryCuts.{bytes_left, items_in_parts, parts_left, ReadsTo}
 use Rattle.acl_forms.proofs.reading.read_parts.Given as goal

@@ -1,7 +1,7 @@
 use Rattle.std.proofs.Common.{inr, refl, ◌∙◌}
 use Rattle.acl_perm.specs.Lines.{span_of}
 use Rattle.acl_nfs4.specs.Ace.{ace}
-use Rattle.acl_forms.specs.TextReading.{fields_viewed}
+use Rattle.acl_forms.specs.internal.TextReading.{fields_viewed}
 use Rattle.acl_forms.proofs.EntryLemmas.{bad_fields, good_fields, no_fields, push_fails}
 use Rattle.acl_nfs4.proofs.Exits.{exit_is}
 use Rattle.acl_forms.proofs.tools.entry.add_tools_entry.Goals as goal

@@ -19,9 +19,9 @@ returns-clause-text c =
     (rw (c.push-3.ensures.items, c.add_letters.ensures.text, c.push-2.ensures.items, c.push.ensures.items)
     (rw (
       c.kind_letter.ensures,
-      c.with_group.ensures.value,
       c.single_letters.ensures,
       c.bits.ensures,
+      c.with_group-flags.ensures,
       c.bits-2.ensures.value,
     )
     (joined c.args.line.now.items (kind_letter item.kind)

@@ -1,5 +1,5 @@
--- How the code reads a text of entries, as functions: this library's own words, which only code needs. What public
--- clauses say about texts is in Texts.
+-- How the code reads a text of entries, as functions (this library's own). No public clause cites it: what they say
+-- about texts is in Texts.
 use Rattle.std.specs.Prelude.{◌≡◌, ◌⊎◌, ◌==◌, ◌+◌, ◌<◌, ◌≤◌, ℕ, List, [], ◌∷◌, ◌++◌, length, nat_lt, position, Option, None, Some, Result, Ok, Err, MatchResult, if◌then◌else◌}
 use Rattle.acl_perm.specs.Lines.{Span, span_of, ColumnsFit}
 use Rattle.acl_perm.specs.declared.lines.Piece.{Piece}
