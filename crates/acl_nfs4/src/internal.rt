@@ -2,4 +2,11 @@
 
 pub use crate::limits::is_too_heavy;
 pub use crate::text::shown::rights_text;
-pub use crate::who::{EVERYONE_NAME, GROUP_NAME, OWNER_NAME, is_account};
+pub use crate::who::{
+    EVERYONE_NAME, GROUP_NAME, OWNER_NAME, is_account, is_no_who_len, is_special_who,
+    is_unknown_special,
+};
+pub use crate::xdr::access_part::{any_who_of, type_of};
+pub use crate::xdr::judges::{
+    count_of, flags_of, kind_of, mask_of, pad_len, padding_of, who_len_of,
+};

@@ -64,7 +64,7 @@ fn is_text_suffix(suffix: &[u8]) -> bool
 
 /// Returns whether no who has this many bytes.
 #[inline(always)]
-pub(crate) fn is_no_who_len(len: usize) -> bool
+pub fn is_no_who_len(len: usize) -> bool
     ensures { result ≡ is_no_who_len len }
 {
     len == 0 || len > LONGEST_WHO
@@ -122,15 +122,16 @@ fn is_plain_text(bytes: &[u8]) -> bool
 
 /// Returns whether a who ends in `@` and is none of the three special identifiers.
 #[inline(always)]
-pub(crate) fn is_unknown_special(who: &[u8]) -> bool
+pub fn is_unknown_special(who: &[u8]) -> bool
     requires { 1 ≤ length who.now }
     ensures { result ≡ is_unknown_special who.now }
 {
     who[who.len() - 1] == b'@' && !is_special_who(who)
 }
 
+/// Returns whether a who is one of the three special identifiers.
 #[inline(never)]
-fn is_special_who(who: &[u8]) -> bool
+pub fn is_special_who(who: &[u8]) -> bool
     ensures { result ≡ is_special who.now }
 {
     who == OWNER_NAME.as_bytes() || who == GROUP_NAME.as_bytes() || who == EVERYONE_NAME.as_bytes()

@@ -17,6 +17,10 @@ use Rattle.acl_posix.specs.Valid.{IsFaultOf, IsValidList}
 abbrev pub raw_tag_number : Tag → ℕ
 raw_tag_number tag = rank tag + 1
 
+-- the greatest number of a tag type
+abbrev pub last_tag_number : ℕ
+last_tag_number = 6
+
 -- the number that stands for no id
 abbrev pub undefined_id : ℕ
 undefined_id = 4294967295

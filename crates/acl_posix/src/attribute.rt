@@ -3,6 +3,7 @@ ghost use Rattle.std.specs.Prelude.{◌≡◌, ◌≤◌, ◌⊎◌, None, Optio
 ghost use Rattle.acl_posix.specs.declared.attribute_fault.AttributeFault.TheVariants.{Acl};
 ghost use Rattle.acl_posix.specs.declared.fault.AclFault.TheVariants.{Memory};
 ghost use Rattle.acl_posix.specs.Entries.{Entries, pairs};
+ghost use Rattle.acl_posix.specs.RawEntries.{last_tag_number};
 ghost use Rattle.acl_posix.specs.Attribute.{attribute_raws, coded_number, entry_size, frame_fault, IsAttributeOf, IsFaultOfAttribute, IsFirstFall, NeverFalls, stored_raw, stored_raws};
 
 use crate::acl::PosixAcl;
@@ -14,13 +15,13 @@ use byteorder::{ByteOrder, LittleEndian};
 use std::alloc::{AllocError, Global};
 
 /// The version of the attributes.
-pub(crate) const VERSION: u32 = 2;
+pub const VERSION: u32 = 2;
 
 /// The bytes of the version.
-const VERSION_SIZE: usize = 4;
+pub const VERSION_SIZE: usize = 4;
 
 /// The bytes of an entry.
-const ENTRY_SIZE: usize = 8;
+pub const ENTRY_SIZE: usize = 8;
 
 impl PosixAcl {
     /// Returns the ACL that the bytes hold as the value of `system.posix_acl_access` or `system.posix_acl_default`, the
@@ -88,7 +89,7 @@ pub(crate) fn stored_raws(alloc: Global, bytes: &[u8]) -> Result<Vec<RawEntry>, 
 pub fn stored_raw(bytes: &[u8]) -> RawEntry
     requires { entry_size ≤ length bytes.now }
     ensures numbers { result ≡ stored_raw bytes.now }
-    ensures known { result.tag ≤ 6 }
+    ensures known { result.tag ≤ last_tag_number }
 {
     RawEntry {
         tag: coded_number(LittleEndian::read_u16(bytes)),
@@ -100,7 +101,7 @@ pub fn stored_raw(bytes: &[u8]) -> RawEntry
 /// Returns the number of the tag type with a code, or 0 if there is none.
 fn coded_number(code: u16) -> u32
     ensures number { result ≡ coded_number code }
-    ensures known { result ≤ 6 }
+    ensures known { result ≤ last_tag_number }
 {
     match code {
         0x01 => 1,

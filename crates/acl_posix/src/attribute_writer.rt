@@ -33,7 +33,8 @@ impl PosixAcl {
     }
 }
 
-fn version_bytes() -> [u8; 4]
+/// Returns the bytes of the version.
+pub fn version_bytes() -> [u8; 4]
     ensures { result ≡ little_bytes version_size attribute_version }
 {
     let mut bytes = [0; 4];
@@ -52,8 +53,9 @@ fn put_entries(bytes: &mut Vec<u8>, entries: &[Entry]) -> Result<(), AllocError>
     Ok(())
 }
 
+/// Returns the bytes of an entry.
 #[tactic(auto, unfolding(crate::specs::Attribute::entry_bytes))]
-fn entry_bytes(entry: Entry) -> [u8; 8]
+pub fn entry_bytes(entry: Entry) -> [u8; 8]
     ensures { result ≡ entry_bytes (pair_of entry) }
 {
     let raw = RawEntry::from_entry(entry);

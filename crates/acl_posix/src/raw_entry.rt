@@ -52,7 +52,7 @@ pub enum EntriesFault {
 }
 
 /// The number in place of an id that means none.
-pub(crate) const UNDEFINED_ID: u32 = u32::MAX;
+pub const UNDEFINED_ID: u32 = u32::MAX;
 
 impl RawEntry {
     /// Returns the numbers of an entry, with the id 4294967295 if the tag has no qualifier. Constant time.

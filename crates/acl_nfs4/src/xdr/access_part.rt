@@ -246,8 +246,8 @@ fn any_ace<'a>(
     })
 }
 
-// Returns the number as the number of a type, or refuses it.
-fn type_of(number: u32) -> Result<u32, Reason>
+/// Returns the number as the number of a type, or refuses it.
+pub fn type_of(number: u32) -> Result<u32, Reason>
     ensures { Gives (λ x. x) result (type_of number) }
 {
     if number < 4 {
@@ -268,8 +268,8 @@ fn any_who<'a>(cursor: &mut Cursor<'a>, len: usize) -> Result<&'a [u8], Fault>
     placed(offset, any_who_of(bytes(cursor, len)?))
 }
 
-// Returns the who, or why it is refused.
-fn any_who_of(bytes: &[u8]) -> Result<&[u8], Reason>
+/// Returns the who, which may be any special identifier, or why it is refused.
+pub fn any_who_of(bytes: &[u8]) -> Result<&[u8], Reason>
     ensures { Gives (λ x. x.now) result (any_who_of bytes.now) }
 {
     match judge_any_text(bytes) {

@@ -16,7 +16,7 @@ use byteorder::{ByteOrder, LittleEndian};
 
 /// Returns the number as a number of ACEs, or refuses it as too great.
 #[inline(always)]
-pub(crate) fn count_of(number: u32) -> Result<u32, Reason>
+pub fn count_of(number: u32) -> Result<u32, Reason>
     ensures exact { Gives (λ x. x) result (count_of number) }
     ensures small { IfOk result (λ x. x ≤ most_aces) }
 {
@@ -28,7 +28,7 @@ pub(crate) fn count_of(number: u32) -> Result<u32, Reason>
 
 /// Returns the kind that a number means, or why it is refused.
 #[inline(always)]
-pub(crate) fn kind_of(number: u32) -> Result<Kind, Reason>
+pub fn kind_of(number: u32) -> Result<Kind, Reason>
     ensures { Gives (λ x. x) result (kind_of number) }
 {
     match number {
@@ -42,7 +42,7 @@ pub(crate) fn kind_of(number: u32) -> Result<Kind, Reason>
 /// Returns the flags, or why they are refused.
 #[tactic(auto, using(crate::proofs::list::Within::within))]
 #[inline(always)]
-pub(crate) fn flags_of(number: u32, profile: Profile) -> Result<Flags, Reason>
+pub fn flags_of(number: u32, profile: Profile) -> Result<Flags, Reason>
     ensures { Gives (λ x. x.bits) result (flags_of (profile_of profile) number) }
 {
     if number & profile.flags.bits() as u32 != number {
@@ -54,7 +54,7 @@ pub(crate) fn flags_of(number: u32, profile: Profile) -> Result<Flags, Reason>
 /// Returns the mask, or why it is refused after ACEs of this weight.
 #[tactic(auto, using(crate::proofs::list::Within::within))]
 #[inline(always)]
-pub(crate) fn mask_of(number: u32, weight: u32, profile: Profile) -> Result<Mask, Reason>
+pub fn mask_of(number: u32, weight: u32, profile: Profile) -> Result<Mask, Reason>
     requires { weight ≤ most_weight }
     ensures exact { Gives (λ x. x.bits) result (mask_of (profile_of profile) weight number) }
     ensures light { IfOk result (λ x. weight + count_ones x.bits ≤ most_weight) }
@@ -70,7 +70,7 @@ pub(crate) fn mask_of(number: u32, weight: u32, profile: Profile) -> Result<Mask
 
 /// Returns the number as the length of a who, or refuses it if no who has this length.
 #[inline(always)]
-pub(crate) fn who_len_of(number: u32) -> Result<usize, Reason>
+pub fn who_len_of(number: u32) -> Result<usize, Reason>
     ensures exact { Gives (λ x. x) result (who_len_of number) }
     ensures some { IfOk result (λ x. is_no_who_len x ≡ false) }
 {
@@ -107,7 +107,7 @@ pub(crate) fn who_reason(fault: WhoFault) -> Reason
 
 /// Returns how many zero bytes pad a who of this length, to a multiple of four (RFC 4506, section 4.9).
 #[inline(always)]
-pub(crate) fn pad_len(len: usize) -> usize
+pub fn pad_len(len: usize) -> usize
     ensures { result ≡ pad_len len }
 {
     (4 - len % 4) % 4
@@ -115,7 +115,7 @@ pub(crate) fn pad_len(len: usize) -> usize
 
 /// Refuses padding with a byte that is not zero.
 #[inline(always)]
-pub(crate) fn padding_of(bytes: &[u8]) -> Result<(), Reason>
+pub fn padding_of(bytes: &[u8]) -> Result<(), Reason>
     ensures { Gives (λ x. x) result (padding_of bytes.now) }
 {
     if is_zero(bytes) {
