@@ -1,9 +1,6 @@
 -- The names of ACEs of any type: which are text, and which nobody knows.
-use Rattle.std.proofs.Common.{◌≡◌, ◌∙◌, ℕ, ◌-◌, ◌++◌, Bool, true, false, List, [], ◌∷◌, refl, sym, ap, subst, arith, length, length-append}
+use Rattle.std.proofs.Common.{◌≡◌, ◌∙◌, ℕ, ◌-◌, ◌++◌, Bool, true, false, List, [], ◌∷◌, refl, ap, subst, arith, length, length-append}
 use Rattle.std.specs.Prelude.{slice_index}
-use Rattle.std.specs.Str.{is_utf8, IsUtf8}
-use Rattle.std.proofs.lemmas.Str.{is_utf8-from_IsUtf8, IsUtf8-from_is_utf8}
-use Rattle.std.proofs.lemmas.Bool.{false_from_ne_true}
 use Rattle.std.proofs.lemmas.List.{get_or-append_right}
 use Rattle.acl_nfs4.specs.AccessPart.{IsAnyWho}
 use Rattle.acl_nfs4.specs.Who.{IsWho, is_unknown_special}
@@ -13,17 +10,6 @@ use Rattle.acl_forms.specs.declared.part.any_ace.AnyWho.TheVariants.{Known, Name
 use Rattle.acl_forms.specs.internal.AnyAces.{HasAnyName, any_name}
 use Rattle.acl_forms.specs.internal.IdAces.{whom_name}
 use Rattle.acl_forms.proofs.IdLemmas.{is_who-whom}
-
--- if bytes are UTF-8, the test says true
-pub true_if_utf8 : (bytes : List ℕ) → IsUtf8 bytes → true ≡ is_utf8 bytes
-true_if_utf8 bytes h = sym (is_utf8-from_IsUtf8 bytes h)
-
--- if bytes are not UTF-8, the test says false
-pub false_if_not_utf8 : (bytes : List ℕ) → ¬ (IsUtf8 bytes) → false ≡ is_utf8 bytes
-false_if_not_utf8 bytes h = sym (false_from_ne_true (is_utf8 bytes) (λ e. h (IsUtf8-from_is_utf8 bytes e)))
-
--- what the test for UTF-8 needs
-pub ruleset text_tests = (true_if_utf8, false_if_not_utf8)
 
 -- the last byte of a text that ends in a byte
 last_is : (text : List ℕ) (b : ℕ) → slice_index (text ++ b ∷ []) (length (text ++ b ∷ []) - 1) ≡ b

@@ -317,6 +317,13 @@ name_again : (type_number : ℕ) (who : List ℕ) → IsAnyWho who → is_unknow
     → who_by_name type_number who ≡ Ok who
 name_again type_number who is known = rw (is.utf8, is.plain, known) refl
 
+-- a name that is accepted is one that an ACE may have
+pub any_who_is : (name who : List ℕ) → is_no_who_len (length name) ≡ false → any_who_of name ≡ Ok who → IsAnyWho who
+any_who_is name who some e =
+    let taken = taken_is (option_map who_reason (text_fault name)) name who e in
+    let text = is_text name taken.1 in
+    subst IsAnyWho taken.0 (record { long = some; utf8 = text.0; plain = text.1 })
+
 -- padding that was read is zero
 padding_is : (bytes : List ℕ) (x : Unit {0}) → listed (padding_of bytes) ≡ Ok x → bytes ≡ replicate (length bytes) 0
 padding_is bytes x e =

@@ -81,7 +81,8 @@ suits File a e = by (meets a.flags inheritance_flags) (meets a.mask delete_child
 -- an ACE without a fault is held
 held : (object : ObjectKind) (a : Ace) → tools_ace_fault object a ≡ None → IsHeld object a
 held object a e =
-    let no = none_true (meets a.flags inherited_flag) (meets a.mask retention_rights) (list_any is_separator a.who) (is_no_file_ace object a)
+    let no = none_true (meets a.flags inherited_flag) (meets a.mask retention_rights) (list_any is_separator a.who)
+    (is_no_file_ace object a)
     (nat_lt longest_tools_who (length a.who)) e in
     let suit = suits object a no.2 in
     record { kept = apart_sets a.mask retention_rights no.0; apart = no.1; flags = suit.0; mask = suit.1 }

@@ -16,9 +16,11 @@ ghost use Rattle.acl_forms.specs.internal.IdAces.{ReadAs, ace_by_id, flags_and_l
 use crate::acl_flags::AclFlags;
 use crate::cursor::Cursor;
 use crate::fault::{ReadFault, ReadReason};
-use crate::words::{acl_flags, offset_of, placed, start, word};
-use acl_nfs4::internal::{EVERYONE_NAME, GROUP_NAME, OWNER_NAME, is_too_heavy};
-use acl_nfs4::{AceRef, Acl, Flags, Kind, MOST_ACES, Mask, Reason};
+use crate::words::{acl_flags, offset_of, placed, placed_listed, start, word};
+use acl_nfs4::internal::{
+    EVERYONE_NAME, GROUP_NAME, OWNER_NAME, count_of, flags_of, kind_of, mask_of,
+};
+use acl_nfs4::{AceRef, Acl, Flags, Kind, Mask, Profile, Reason};
 use acl_posix::Id;
 use itoa::Buffer;
 use std::alloc::{AllocError, Global};
@@ -93,11 +95,9 @@ fn list_of(alloc: Global, cursor: &mut Cursor<'_>, count: u32) -> Result<Acl, Re
         (id_aces_from count [] (cursor_place cursor.old)) }
 {
     let mut list = Acl::new(alloc);
-    let mut left = count;
-    while left > 0 {
+    for _ in 0..count {
         let ace = next_ace(cursor, list.weight())?;
         push(&mut list, ace)?;
-        left -= 1;
     }
     Ok(list)
 }
@@ -168,17 +168,7 @@ pub(crate) fn count(cursor: &mut Cursor<'_>) -> Result<u32, ReadFault>
     ensures small { IfOk result (λ x. x ≤ most_aces) }
 {
     let offset = offset_of(cursor);
-    placed(offset, count_of(word(cursor)?))
-}
-
-fn count_of(number: u32) -> Result<u32, ReadReason>
-    ensures exact { Gives (λ x. x) result (listed (count_of number)) }
-    ensures small { IfOk result (λ x. x ≤ most_aces) }
-{
-    if number > MOST_ACES {
-        return Err(ReadReason::List(Reason::TooManyAces));
-    }
-    Ok(number)
+    placed_listed(offset, count_of(word(cursor)?))
 }
 
 fn kind(cursor: &mut Cursor<'_>) -> Result<Kind, ReadFault>
@@ -186,18 +176,7 @@ fn kind(cursor: &mut Cursor<'_>) -> Result<Kind, ReadFault>
         (word_at (λ n. listed (kind_of n)) (cursor_place cursor.old)) }
 {
     let offset = offset_of(cursor);
-    placed(offset, kind_of(word(cursor)?))
-}
-
-fn kind_of(number: u32) -> Result<Kind, ReadReason>
-    ensures { Gives (λ x. x) result (listed (kind_of number)) }
-{
-    match number {
-        0 => Ok(Kind::Allow),
-        1 => Ok(Kind::Deny),
-        2 | 3 => Err(ReadReason::List(Reason::AuditOrAlarm)),
-        _ => Err(ReadReason::List(Reason::AceType)),
-    }
+    placed_listed(offset, kind_of(word(cursor)?))
 }
 
 pub(crate) fn flags(cursor: &mut Cursor<'_>) -> Result<Flags, ReadFault>
@@ -205,13 +184,7 @@ pub(crate) fn flags(cursor: &mut Cursor<'_>) -> Result<Flags, ReadFault>
         (word_at (λ n. listed (flags_of full n)) (cursor_place cursor.old)) }
 {
     let offset = offset_of(cursor);
-    placed(offset, flags_of(word(cursor)?))
-}
-
-fn flags_of(number: u32) -> Result<Flags, ReadReason>
-    ensures { Gives (λ x. x.bits) result (listed (flags_of full number)) }
-{
-    Flags::new(number).ok_or(ReadReason::List(Reason::FlagBits))
+    placed_listed(offset, flags_of(word(cursor)?, Profile::FULL))
 }
 
 pub(crate) fn special(cursor: &mut Cursor<'_>) -> Result<u32, ReadFault>
@@ -238,21 +211,7 @@ pub(crate) fn mask(cursor: &mut Cursor<'_>, weight: u32) -> Result<Mask, ReadFau
     ensures light { IfOk result (λ x. weight + count_ones x.bits ≤ most_weight) }
 {
     let offset = offset_of(cursor);
-    placed(offset, mask_of(word(cursor)?, weight))
-}
-
-fn mask_of(number: u32, weight: u32) -> Result<Mask, ReadReason>
-    requires { weight ≤ most_weight }
-    ensures exact { Gives (λ x. x.bits) result (listed (mask_of full weight number)) }
-    ensures light { IfOk result (λ x. weight + count_ones x.bits ≤ most_weight) }
-{
-    let Some(mask) = Mask::new(number) else {
-        return Err(ReadReason::List(Reason::MaskBits));
-    };
-    if is_too_heavy(weight + number.count_ones()) {
-        return Err(ReadReason::List(Reason::TooHeavy));
-    }
-    Ok(mask)
+    placed_listed(offset, mask_of(word(cursor)?, weight, Profile::FULL))
 }
 
 fn whom_word(cursor: &mut Cursor<'_>, special: u32) -> Result<Whom, ReadFault>

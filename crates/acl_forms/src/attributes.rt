@@ -4,7 +4,7 @@ ghost use Rattle.acl_perm.specs.Bits.{all_permissions};
 ghost use Rattle.acl_perm.specs.Counts.{count_limit};
 ghost use Rattle.acl_posix.specs.Attribute.{NeverFalls, entry_bytes, entry_size, stored_raw};
 ghost use Rattle.acl_posix.specs.Entries.{Entries, as_set, pair_of, pairs};
-ghost use Rattle.acl_posix.specs.RawEntries.{raw_pair};
+ghost use Rattle.acl_posix.specs.RawEntries.{last_tag_number, raw_pair};
 ghost use Rattle.acl_posix.specs.Tag.{is_named, tag_of};
 ghost use Rattle.acl_posix.specs.Valid.{IsValidList};
 ghost use Rattle.acl_forms.specs.Attributes.{entry_offset, field_fault, id_reason, next_entry_fault, version_fault, AreBytesOf, IsAttributeFault, IsEntriesFault, SpellsAttribute};
@@ -14,25 +14,13 @@ ghost use Rattle.acl_forms.specs.declared.fault.ReadFault.{ReadFault as FaultVal
 
 use crate::fault::{ReadFault, ReadReason};
 use acl_nfs4::Reason;
-use acl_posix::internal::{first_fall, stored_raw};
+use acl_perm::Perm;
+use acl_posix::internal::{
+    ENTRY_SIZE, UNDEFINED_ID, VERSION, VERSION_SIZE, first_fall, stored_raw,
+};
 use acl_posix::{AclFault, Entry, PosixAcl, RawEntry, Tag};
 use byteorder::{ByteOrder, LittleEndian};
 use std::alloc::{AllocError, Global};
-
-/// The version of the attributes.
-pub(crate) const VERSION: u32 = 2;
-
-/// The bytes of the version.
-const VERSION_SIZE: usize = 4;
-
-/// The bytes of an entry.
-const ENTRY_SIZE: usize = 8;
-
-/// The greatest set of permissions.
-const ALL_PERMISSIONS: u32 = 7;
-
-/// The number in place of an id that means none.
-const UNDEFINED_ID: u32 = u32::MAX;
 
 /// Returns the ACL that all of the bytes spell: the value of `system.posix_acl_access` or `system.posix_acl_default`,
 /// which has the ids of users and of groups in any order. The kernel also takes an id twice, and any id in an entry
@@ -187,7 +175,7 @@ fn next_entry(text: &[u8], at: u64) -> Result<Entry, ReadFault>
 #[tactic(auto, unfolding(crate::specs::Attributes::field_fault))]
 fn entry_of(raw: RawEntry, at: u64) -> Result<Entry, ReadFault>
     requires room { at + entry_size < count_limit }
-    requires known { raw.tag ≤ 6 }
+    requires known { raw.tag ≤ last_tag_number }
     ensures entry { IfOk result (λ entry. pair_of entry ≡ raw_pair raw) }
     ensures right { OnOk result (field_fault at raw ≡ None) }
     ensures fault { IfErr result (λ fault. field_fault at raw ≡ Some fault) }
@@ -198,7 +186,7 @@ fn entry_of(raw: RawEntry, at: u64) -> Result<Entry, ReadFault>
             reason: ReadReason::Tag,
         });
     }
-    if raw.perm > ALL_PERMISSIONS {
+    if raw.perm > Perm::ALL.bits as u32 {
         return Err(ReadFault {
             offset: at + 2,
             reason: ReadReason::Permission,
@@ -216,7 +204,7 @@ fn entry_of(raw: RawEntry, at: u64) -> Result<Entry, ReadFault>
 // Returns the entry of numbers of which the tag and the permissions are right.
 fn identified(raw: RawEntry) -> Result<Entry, ReadReason>
     requires some { 0 < raw.tag }
-    requires known { raw.tag ≤ 6 }
+    requires known { raw.tag ≤ last_tag_number }
     requires perm { raw.perm ≤ all_permissions }
     ensures entry { IfOk result (λ entry. pair_of entry ≡ raw_pair raw) }
     ensures right { OnOk result (id_reason raw ≡ None) }

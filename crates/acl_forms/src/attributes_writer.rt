@@ -1,19 +1,16 @@
 //! Writes POSIX ACLs as the extended attributes in which Linux keeps them.
 ghost use Rattle.std.specs.Prelude.{◌+◌, ◌++◌, ◌<◌, ◌≡◌, OnErr, OnOk, length};
 ghost use Rattle.std.specs.List.{flat_map};
-ghost use Rattle.byteorder.specs.Endian.{little_bytes};
 ghost use Rattle.acl_perm.specs.Counts.{count_limit};
 ghost use Rattle.acl_perm.specs.Devices.{one_more};
 ghost use Rattle.acl_perm.specs.Pieces.{Writes, WritesFrom};
-ghost use Rattle.acl_posix.specs.Attribute.{attribute_bytes, attribute_version, entry_bytes, tag_code, version_size};
-ghost use Rattle.acl_posix.specs.Entries.{pair_of, pairs};
-ghost use Rattle.acl_posix.specs.Tag.{tag_of};
+ghost use Rattle.acl_posix.specs.Attribute.{attribute_bytes, entry_bytes};
+ghost use Rattle.acl_posix.specs.Entries.{pairs};
 
-use crate::attributes::VERSION;
 use acl_nfs4::{Sink, WriteFault};
 use acl_perm::internal::put_next;
-use acl_posix::{Entry, PosixAcl, RawEntry, Tag};
-use byteorder::{ByteOrder, LittleEndian};
+use acl_posix::internal::{entry_bytes, version_bytes};
+use acl_posix::{Entry, PosixAcl};
 
 /// Writes the value of `system.posix_acl_access` or `system.posix_acl_default` that holds this ACL, as libacl writes
 /// it, without memory. It ends at the first write that fails: then `written` bytes went out. It tries nothing again.
@@ -44,14 +41,6 @@ fn put_attribute<K: Sink>(acl: &PosixAcl, sink: &mut K) -> Result<u64, WriteFaul
     put_entries(sink, done, entries)
 }
 
-fn version_bytes() -> [u8; 4]
-    ensures { result ≡ little_bytes version_size attribute_version }
-{
-    let mut bytes = [0; 4];
-    LittleEndian::write_u32(&mut bytes, VERSION);
-    bytes
-}
-
 // Writes the entries after the first bytes, and returns how many bytes are out then.
 fn put_entries<K: Sink>(sink: &mut K, start: u64, entries: &[Entry]) -> Result<u64, WriteFault>
     requires { start + length (flat_map entry_bytes (pairs entries.now)) < count_limit }
@@ -65,29 +54,4 @@ fn put_entries<K: Sink>(sink: &mut K, start: u64, entries: &[Entry]) -> Result<u
         done = put_next(sink, done, &entry_bytes(*entry))?;
     }
     Ok(done)
-}
-
-#[tactic(auto, unfolding(acl_posix::specs::Attribute::entry_bytes))]
-fn entry_bytes(entry: Entry) -> [u8; 8]
-    ensures { result ≡ entry_bytes (pair_of entry) }
-{
-    let mut bytes = [0; 8];
-    LittleEndian::write_u16(&mut bytes, tag_code(entry.tag));
-    LittleEndian::write_u16(&mut bytes[2..], u16::from(entry.perm.bits));
-    LittleEndian::write_u32(&mut bytes[4..], RawEntry::from_entry(entry).id);
-    bytes
-}
-
-// Returns the code of a tag type.
-fn tag_code(tag: Tag) -> u16
-    ensures { result ≡ tag_code (tag_of tag) }
-{
-    match tag {
-        Tag::UserObj => 0x01,
-        Tag::User(_) => 0x02,
-        Tag::GroupObj => 0x04,
-        Tag::Group(_) => 0x08,
-        Tag::Mask => 0x10,
-        Tag::Other => 0x20,
-    }
 }

@@ -1,6 +1,7 @@
 //! Reads words one after the other, and reports the offset of a word that is refused.
 ghost use Rattle.std.specs.Prelude.{◌≡◌, Ok};
 ghost use Rattle.acl_nfs4.specs.internal.Reading.{Gives};
+ghost use Rattle.acl_forms.specs.Acl41Ids.{listed};
 ghost use Rattle.acl_forms.specs.Words.{acl_flags_of, start, word_at};
 ghost use Rattle.acl_forms.specs.internal.Cursor.{PlacedWord, cursor_place};
 
@@ -57,6 +58,20 @@ pub(crate) fn placed<T>(offset: u64, judged: Result<T, ReadReason>) -> Result<T,
     match judged {
         Ok(value) => Ok(value),
         Err(reason) => Err(ReadFault { offset, reason }),
+    }
+}
+
+/// Returns the value of a field of which this is said for all lists, or its fault at its first byte.
+#[inline(always)]
+pub(crate) fn placed_listed<T>(offset: u64, judged: Result<T, Reason>) -> Result<T, ReadFault>
+    ensures { PlacedWord offset (listed judged) result }
+{
+    match judged {
+        Ok(value) => Ok(value),
+        Err(reason) => Err(ReadFault {
+            offset,
+            reason: ReadReason::List(reason),
+        }),
     }
 }
 

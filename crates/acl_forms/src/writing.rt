@@ -24,6 +24,9 @@ pub(crate) type Line = ArrayVec<u8, LINE_ROOM>;
 
 pub(crate) const LINE_ROOM: usize = 1080;
 
+/// libarchive reads an id that is greater as this one.
+pub(crate) const GREATEST_KEPT_ID: u32 = 2_147_483_647;
+
 /// The two rights of retention, for which no text of entries has a letter.
 pub(crate) const RETENTION: Mask = Mask {
     bits: Mask::WRITE_RETENTION.bits | Mask::WRITE_RETENTION_HOLD.bits,

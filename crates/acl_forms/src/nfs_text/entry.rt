@@ -4,7 +4,6 @@ ghost use Rattle.acl_perm.specs.Lines.{span_of, ColumnsFit};
 ghost use Rattle.acl_nfs4.specs.Limits.{most_aces, most_weight};
 ghost use Rattle.acl_nfs4.specs.internal.Reading.{Gives};
 ghost use Rattle.acl_forms.specs.Letters.{nfs_flag_letters, nfs_right_letters, no_letter, set_of_letters};
-ghost use Rattle.acl_nfs4.specs.Who.{is_special};
 ghost use Rattle.acl_forms.specs.NfsText.{nfs_ace, nfs_entry, nfs_fields_read, nfs_kind, nfs_type, tag_special, unless_special, who_by_tag, who_of_fields};
 ghost use Rattle.acl_forms.specs.PartTexts.{nfs_any_ace, nfs_any_entry};
 ghost use Rattle.acl_forms.specs.internal.TextReading.{AddsOne};
@@ -23,7 +22,7 @@ use crate::part::any_ace::AnyAceRef;
 use crate::part::any_entry::{AnyEntry, judged};
 use crate::tools::entry::{kind_of, refused_at};
 use crate::who_field::WhoField;
-use acl_nfs4::internal::{EVERYONE_NAME, GROUP_NAME, OWNER_NAME};
+use acl_nfs4::internal::is_special_who;
 use acl_nfs4::{AceRef, Acl, Flags, Kind, MOST_ACES, Mask, Reason};
 use acl_perm::internal::{Piece, is_all_blank};
 use acl_posix::Id;
@@ -259,16 +258,8 @@ fn account_at<'a>(
 fn named_at(name: Piece<'_>) -> Result<EntryWho<'_>, ReadFault>
     ensures { Gives entry_name result (unless_special (span_of name.entry)) }
 {
-    if is_special(name.bytes) {
+    if is_special_who(name.bytes) {
         return Err(ReadFault::new(name.column, ReadReason::List(Reason::SpecialWho)));
     }
     Ok(EntryWho::Named(name.bytes))
-}
-
-fn is_special(name: &[u8]) -> bool
-    ensures { result ≡ is_special name.now }
-{
-    name == OWNER_NAME.as_bytes()
-        || name == GROUP_NAME.as_bytes()
-        || name == EVERYONE_NAME.as_bytes()
 }

@@ -19,15 +19,13 @@ use crate::letters::{nfs_flag_letters, nfs_right_letters};
 use crate::style::{LetterStyle, Style};
 use crate::tools::writer::has_separator;
 use crate::writing::{
-    Line, RETENTION, WrittenForm, add, add_styled, put_entries, shares_flag, shares_right,
+    GREATEST_KEPT_ID, Line, RETENTION, WrittenForm, add, add_styled, put_entries, shares_flag,
+    shares_right,
 };
 use acl_nfs4::internal::{EVERYONE_NAME, GROUP_NAME, OWNER_NAME};
 use acl_nfs4::{AceRef, Aces, AclView, Flags, Kind};
 use acl_perm::Sink;
 use acl_perm::internal::trimmed;
-
-// libarchive reads an id that is greater as this one.
-const GREATEST_KEPT_ID: u32 = 2_147_483_647;
 
 /// Writes a list as libarchive prints it with ids and in this style, if `nfs_text_fault` returns `None`. Where no comma
 /// separates the entries, there is a line feed after the last one too. A who that is the digits of an id is written as

@@ -1,21 +1,20 @@
 //! ACEs of any type, and which of them are left out.
 ghost use Rattle.std.specs.Prelude.{[], ◌∷◌, ◌≡◌, ◌+◌, ◌++◌, ◌<◌, ◌≤◌, IfOk, None, OnOk, count_ones, false, length};
-ghost use Rattle.std.specs.List.{cons_option, list_all};
-ghost use Rattle.std.specs.Str.{is_utf8};
+ghost use Rattle.std.specs.List.{cons_option};
 ghost use Rattle.acl_perm.specs.Profile.{full};
-ghost use Rattle.acl_nfs4.specs.AccessPart.{kept_ace, kind_of_type};
+ghost use Rattle.acl_nfs4.specs.AccessPart.{IsAnyWho, kept_ace, kind_of_type};
 ghost use Rattle.acl_nfs4.specs.Limits.{most_aces, most_weight};
 ghost use Rattle.acl_nfs4.specs.Spelling.{IsAccepted, weight};
-ghost use Rattle.acl_nfs4.specs.Who.{is_no_who_len, is_plain, is_special, is_unknown_special};
+ghost use Rattle.acl_nfs4.specs.Who.{is_no_who_len, is_unknown_special};
 ghost use Rattle.acl_nfs4.specs.internal.Reading.{Gives};
 ghost use Rattle.acl_forms.specs.Part.{kept_unless, noted_if, reason_of};
-ghost use Rattle.acl_forms.specs.PartWords.{who_by_name};
+ghost use Rattle.acl_forms.specs.PartWords.{unless_unknown, who_by_name};
 ghost use Rattle.acl_forms.specs.internal.AnyAces.{HasAnyName, any_ace_of, any_name};
 
 use crate::acl41_ids::{Whom, name_of};
 use crate::fault::ReadReason;
 use crate::part::left_out::{LeftOut, LeftOutReason};
-use acl_nfs4::internal::{EVERYONE_NAME, GROUP_NAME, OWNER_NAME};
+use acl_nfs4::internal::{any_who_of, is_unknown_special};
 use acl_nfs4::{AceRef, Acl, Flags, Kind, Mask, Reason};
 use itoa::Buffer;
 use std::alloc::AllocError;
@@ -156,49 +155,21 @@ pub(crate) fn who_of(type_number: u32, name: &[u8]) -> Result<AnyWho<'_>, ReadRe
     ensures exact { Gives any_name result (who_by_name type_number name.now) }
     ensures named { IfOk result HasAnyName }
 {
-    if !is_text(name) {
-        return Err(ReadReason::List(Reason::WhoUtf8));
+    match any_who_of(name) {
+        Ok(who) => unless_unknown(type_number, who),
+        Err(reason) => Err(ReadReason::List(reason)),
     }
-    if !is_plain_text(name) {
-        return Err(ReadReason::List(Reason::WhoControl));
-    }
+}
+
+// Returns the who of an ACE of this type, unless nobody knows whom a DENY names.
+fn unless_unknown(type_number: u32, name: &[u8]) -> Result<AnyWho<'_>, ReadReason>
+    requires some { is_no_who_len (length name.now) ≡ false }
+    requires any { IsAnyWho name.now }
+    ensures exact { Gives any_name result (unless_unknown type_number name.now) }
+    ensures named { IfOk result HasAnyName }
+{
     if type_number == DENY && is_unknown_special(name) {
         return Err(ReadReason::List(Reason::SpecialWho));
     }
     Ok(AnyWho::Name(name))
-}
-
-#[tactic(auto, using(crate::proofs::AnyNames::text_tests))]
-fn is_text(bytes: &[u8]) -> bool
-    ensures { result ≡ is_utf8 bytes.now }
-{
-    str::from_utf8(bytes).is_ok()
-}
-
-fn is_plain_text(bytes: &[u8]) -> bool
-    ensures { result ≡ list_all is_plain bytes.now }
-{
-    bytes.iter().all(|b| is_plain_byte(*b))
-}
-
-fn is_plain_byte(byte: u8) -> bool
-    ensures { result ≡ is_plain byte }
-{
-    byte >= 0x20 && byte != 0x7f
-}
-
-// Returns whether the name ends in `@` and is none of the three special identifiers.
-fn is_unknown_special(name: &[u8]) -> bool
-    requires { 1 ≤ length name.now }
-    ensures { result ≡ is_unknown_special name.now }
-{
-    name[name.len() - 1] == b'@' && !is_special(name)
-}
-
-fn is_special(name: &[u8]) -> bool
-    ensures { result ≡ is_special name.now }
-{
-    name == OWNER_NAME.as_bytes()
-        || name == GROUP_NAME.as_bytes()
-        || name == EVERYONE_NAME.as_bytes()
 }

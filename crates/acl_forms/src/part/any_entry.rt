@@ -11,8 +11,8 @@ use crate::fault::{ReadFault, ReadReason};
 use crate::nfs_text::entry::EntryWho;
 use crate::part::any_ace::{AnyAceRef, AnyWho, who_of};
 use crate::words::placed;
-use acl_nfs4::internal::is_too_heavy;
-use acl_nfs4::{Flags, LONGEST_WHO, Mask, Reason};
+use acl_nfs4::internal::{is_no_who_len, is_too_heavy};
+use acl_nfs4::{Flags, Mask, Reason};
 
 /// The ACE of an entry, whose who is not judged yet.
 #[derive(Clone, Copy)]
@@ -63,7 +63,7 @@ fn name_of(type_number: u32, name: &[u8]) -> Result<AnyWho<'_>, ReadReason>
     ensures exact { Gives any_name result (who_of_type type_number name.now) }
     ensures named { IfOk result HasAnyName }
 {
-    if name.is_empty() || name.len() > LONGEST_WHO {
+    if is_no_who_len(name.len()) {
         return Err(ReadReason::List(Reason::WhoLength));
     }
     who_of(type_number, name)

@@ -1,6 +1,5 @@
 //! The part of a list of ACEs of any type that words spell.
-ghost use Rattle.std.specs.Prelude.{[], false, ◌==◌, ◌≡◌, ◌+◌, ◌<◌, ◌≤◌, IfOk, Ok, count_ones};
-ghost use Rattle.std.specs.List.{list_all};
+ghost use Rattle.std.specs.Prelude.{[], false, ◌≡◌, ◌+◌, ◌<◌, ◌≤◌, IfOk, Ok, count_ones};
 ghost use Rattle.acl_nfs4.specs.Fields.{padding_of, who_len_of};
 ghost use Rattle.acl_nfs4.specs.Limits.{most_aces, most_weight};
 ghost use Rattle.acl_nfs4.specs.PartFault.{type_of};
@@ -19,8 +18,9 @@ use crate::cursor::Cursor;
 use crate::fault::{ReadFault, ReadReason};
 use crate::part::Part;
 use crate::part::any_ace::{AnyAceRef, AnyWho, DENY, add, who_of};
-use crate::words::{acl_flags, offset_of, placed, start, word};
-use acl_nfs4::{Acl, LONGEST_WHO, Reason};
+use crate::words::{acl_flags, offset_of, placed, placed_listed, start, word};
+use acl_nfs4::internal::{pad_len, padding_of, type_of, who_len_of};
+use acl_nfs4::{Acl, Reason};
 use std::alloc::Global;
 
 /// How words spell an ACE.
@@ -148,16 +148,7 @@ fn type_number(cursor: &mut Cursor<'_>) -> Result<u32, ReadFault>
         (word_at (λ n. listed (type_of n)) (cursor_place cursor.old)) }
 {
     let offset = offset_of(cursor);
-    placed(offset, type_of(word(cursor)?))
-}
-
-fn type_of(number: u32) -> Result<u32, ReadReason>
-    ensures { Gives (λ x. x) result (listed (type_of number)) }
-{
-    if number > 3 {
-        return Err(ReadReason::List(Reason::AceType));
-    }
-    Ok(number)
+    placed_listed(offset, type_of(word(cursor)?))
 }
 
 fn who_len(cursor: &mut Cursor<'_>) -> Result<usize, ReadFault>
@@ -166,18 +157,7 @@ fn who_len(cursor: &mut Cursor<'_>) -> Result<usize, ReadFault>
     ensures some { IfOk result (λ x. is_no_who_len x ≡ false) }
 {
     let offset = offset_of(cursor);
-    placed(offset, who_len_of(word(cursor)?))
-}
-
-fn who_len_of(number: u32) -> Result<usize, ReadReason>
-    ensures exact { Gives (λ x. x) result (listed (who_len_of number)) }
-    ensures some { IfOk result (λ x. is_no_who_len x ≡ false) }
-{
-    let len = number as usize;
-    if len == 0 || len > LONGEST_WHO {
-        return Err(ReadReason::List(Reason::WhoLength));
-    }
-    Ok(len)
+    placed_listed(offset, who_len_of(word(cursor)?))
 }
 
 // Reads the name of an ACE of this type.
@@ -196,22 +176,7 @@ fn padding(cursor: &mut Cursor<'_>, len: usize) -> Result<(), ReadFault>
         (bytes_at (pad_len len) (λ b. listed (padding_of b)) (cursor_place cursor.old)) }
 {
     let offset = offset_of(cursor);
-    placed(offset, padding_of(bytes(cursor, (4 - len % 4) % 4)?))
-}
-
-fn padding_of(bytes: &[u8]) -> Result<(), ReadReason>
-    ensures { Gives (λ x. x) result (listed (padding_of bytes.now)) }
-{
-    if !is_zero(bytes) {
-        return Err(ReadReason::List(Reason::Padding));
-    }
-    Ok(())
-}
-
-fn is_zero(bytes: &[u8]) -> bool
-    ensures { result ≡ list_all (λ b. b == 0) bytes.now }
-{
-    bytes.iter().all(|b| *b == 0)
+    placed_listed(offset, padding_of(bytes(cursor, pad_len(len))?))
 }
 
 // Reads this many bytes, or fails with Truncated at the place where they should begin.

@@ -22,16 +22,13 @@ use crate::form_write::FormWriteFault;
 use crate::posix_text::names::IdNames;
 use crate::posix_text::style::TarStyle;
 use crate::tools::writer::is_separator;
-use crate::writing::{Line, add};
+use crate::writing::{GREATEST_KEPT_ID, Line, add};
 use acl_perm::internal::{put_next, trimmed};
 use acl_perm::{Perm, Sink, WriteFault};
 use acl_posix::internal::letter;
 use acl_posix::{Entry, PosixAcl, Tag};
 use arrayvec::ArrayVec;
 use itoa::Buffer;
-
-// libarchive reads an id that is greater as this one.
-const GREATEST_KEPT_ID: u32 = 2_147_483_647;
 
 // The longest name that is written.
 const LONGEST_NAME: usize = 1024;

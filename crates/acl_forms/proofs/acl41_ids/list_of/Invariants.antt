@@ -1,4 +1,4 @@
-use Rattle.std.proofs.Common.{◌≡◌, ◌+◌, ◌≤◌, [], length}
+use Rattle.std.proofs.Common.{◌≡◌, ◌+◌, ◌-◌, ◌≤◌, [], length}
 use Rattle.acl_perm.specs.Profile.{full}
 use Rattle.acl_nfs4.specs.Limits.{most_aces}
 use Rattle.acl_nfs4.specs.Spelling.{IsAccepted}
@@ -7,12 +7,10 @@ use Rattle.acl_forms.specs.internal.Cursor.{cursor_place}
 use Rattle.acl_forms.proofs.acl41_ids.list_of.Given as goal
 
 -- the list so far, with the ACEs that are left, gives what all ACEs give
-abbrev pub invariant-loop-left : goal.invariant-loop-left
-invariant-loop-left l = record {
-  reads : id_aces_from l.left l.list (cursor_place l.cursor) ≡ id_aces_from l.fn.count [] (cursor_place l.fn.cursor);
+abbrev pub invariant-loop : goal.invariant-loop
+invariant-loop l = record {
+  reads : id_aces_from (l.count - l.counter) l.list (cursor_place l.cursor)
+      ≡ id_aces_from l.fn.count [] (cursor_place l.fn.cursor);
   accepted : IsAccepted full l.list;
-  few : length l.list + l.left ≤ most_aces;
+  few : length l.list + (l.count - l.counter) ≤ most_aces;
 }
-
-abbrev pub decreases-loop-left : goal.decreases-loop-left
-decreases-loop-left l = l.left
