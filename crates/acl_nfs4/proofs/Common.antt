@@ -38,7 +38,7 @@ pub use Rattle.acl_nfs4.specs.internal.Reading.{ArePlain, fault_at, field, from_
 unfoldable pub use Rattle.acl_nfs4.specs.internal.Reading.{ace_at, aces_at, read_list}
 pub use Rattle.acl_perm.proofs.Bools.{and_true}
 pub use Rattle.acl_perm.proofs.LineLemmas.{lines_left, lines_next, no_lines, number_next, NumberFits, text_left}
-pub use Rattle.acl_perm.proofs.Meetings.{bytes_eq_same}
+pub use Rattle.acl_perm.proofs.Meetings.{bytes_eq_same, itself as name_self}
 pub use Rattle.acl_perm.proofs.PieceLemmas.{IsOut, out_cut, out_more}
 pub use Rattle.acl_perm.proofs.Sets.{has_bit-and, has_bit-or, IsMask-union, same_set}
 pub use Rattle.acl_perm.specs.Bits.{all_flags, all_rights, has_bit, IsMask}

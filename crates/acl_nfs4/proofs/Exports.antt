@@ -5,14 +5,19 @@ pub use Rattle.acl_nfs4.proofs.feed.Held.{short_rest}
 pub use Rattle.acl_nfs4.proofs.feed.Judging.{judges}
 pub use Rattle.acl_nfs4.proofs.feed.Pieces.{breaks_whole, fault_stays}
 pub use Rattle.acl_nfs4.proofs.list.Push.{each_push}
-pub use Rattle.acl_nfs4.proofs.list.Renamings.{name_self, same_is, same_self}
+pub use Rattle.acl_nfs4.proofs.list.Renamings.{account_is_who, none_is, renamed_accepted, same_is, same_self}
 pub use Rattle.acl_nfs4.proofs.list.Whos.{is_who-decimal, is_who-everyone, is_who-group, is_who-owner}
-pub use Rattle.acl_nfs4.proofs.list.Within.{accepted_where_it_fits, code_profile, each_of, fits_of, within_part}
+pub use Rattle.acl_nfs4.proofs.list.Within.{accepted_where_it_fits, bit_within, code_profile, contains_again, contains_is, each_of, fits_of, union_within, within_le, within_part}
+pub use Rattle.acl_nfs4.proofs.names.SetFields.{or_assoc}
 pub use Rattle.acl_nfs4.proofs.names.Tables.{and_or, bit_missing}
+pub use Rattle.acl_nfs4.proofs.plain_ascii.PlainText.{all_weaker, text_tests}
 pub use Rattle.acl_nfs4.proofs.text.AceLines.{one_list}
-pub use Rattle.acl_nfs4.proofs.text.AceWritten.{text_again}
+pub use Rattle.acl_nfs4.proofs.text.AceWritten.{plain_who, text_again}
+pub use Rattle.acl_nfs4.proofs.xdr.AcesAt.{regrouped}
+pub use Rattle.acl_nfs4.proofs.xdr.AnyLists.{type_again, type_is}
+pub use Rattle.acl_nfs4.proofs.xdr.Faults.{weight-push}
 pub use Rattle.acl_nfs4.proofs.xdr.Resume.{one_spelling as one}
-pub use Rattle.acl_nfs4.proofs.xdr.Fields.{IsBytes-drop, bind-ok, bind_then, bytes_append, bytes_are_zeros, guard_ok, ok, ok_is, who_bounds}
+pub use Rattle.acl_nfs4.proofs.xdr.Fields.{IsBytes-drop, IsBytes-take, bind-ok, bind_then, bytes_append, bytes_are_zeros, count_again, count_is, guard_ok, kind_again, kind_is, kind_lt, len_bounds, ok, ok_is, who_bounds, zeros_again}
 pub use Rattle.acl_nfs4.proofs.xdr.Lengths.{spelling_short}
 pub use Rattle.acl_nfs4.proofs.xdr.Lists.{front_accepted, weight-cons}
 pub use Rattle.acl_nfs4.proofs.xdr.StandIns.{name_inserted, none_passes}

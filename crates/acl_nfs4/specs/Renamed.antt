@@ -19,9 +19,13 @@ pub record NameRow : Type 0 where
   pub to : List ℕ
   pub is_group : Bool
 
+-- the row of a table of the code
+abbrev pub name_row : Renaming → NameRow
+name_row r = record { from = r.from.now; to = r.to.now; is_group = r.is_group }
+
 -- the rows of a table
 abbrev pub rows : List Renaming → List NameRow
-rows table = map (λ r. record { from = r.from.now; to = r.to.now; is_group = r.is_group }) table
+rows table = map name_row table
 
 -- the name of a user or of a group: it is valid as a who, and no special identifier
 abbrev pub is_account : List ℕ → Bool

@@ -1,18 +1,18 @@
 -- Names that are exchanged by a table, and names that become one.
-use Rattle.acl_nfs4.proofs.Common.{[], Ace, AllByRecursion, and_true, ap, append_assoc, arith, Bool, bytes_eq, bytes_eq_same, cond, count_ones, drop, false, full, get_or, get_or_default, IsAccepted, IsAce, IsWho, length, length-append, length-map, List, map, None, not, Option, option_map, option_map_or, refl, same_Some, Some, subst, suc, sym, take, true, weight, who_fault, ℕ, ◌&&◌, ◌++◌, ◌+◌, ◌<◌, ◌∙◌, ◌∷◌, ◌≡◌}
+use Rattle.acl_nfs4.proofs.Common.{[], Ace, AllByRecursion, and_true, ap, append_assoc, arith, Bool, bytes_eq, bytes_eq_same, cond, count_ones, drop, false, full, get_or, get_or_default, IsAccepted, IsAce, IsWho, length, length-append, length-map, List, map, None, not, Option, option_map, option_map_or, refl, same_Some, Some, subst, suc, sym, take, true, weight, who_fault, ℕ, ◌&&◌, ◌++◌, ◌+◌, ◌<◌, ◌∙◌, ◌∷◌, ◌≡◌, name_self}
 use Rattle.std.specs.BTreeMap.{BTreeMap, get_by, UpdatesBy}
 use Rattle.std.specs.Cmp.Lexicographic.{slice_cmp}
 use Rattle.std.specs.List.{list_any}
 use Rattle.std.specs.Ordering.{nat_cmp}
 use Rattle.std.specs.Option.{is_none, unwrap_or}
 use Rattle.std.specs.Prelude.{◌||◌}
-use Rattle.std.proofs.lemmas.Slice.Eq.{bytes_eq-Decides}
 use Rattle.std.proofs.lemmas.List.{map-append}
 use Rattle.std.proofs.lemmas.Map.Text.{btree_map_updates_str}
 use Rattle.std.proofs.Math.Path.{fun_ext}
 use Rattle.std.proofs.Math.Seq.{drop-cons, take-suc}
 use Rattle.std.proofs.Common.{Bor}
-use Rattle.acl_nfs4.specs.Renamed.{ace_by, bad_row, bad_row_after, become_one, first_merge, is_account, is_of_group, is_good_row, is_row_of, IsRenameFault, merge_after, new_name, refused_merge, renamed, NameRow, rows, same_sort, who_by}
+use Rattle.std.proofs.lemmas.Bool.{or_right}
+use Rattle.acl_nfs4.specs.Renamed.{ace_by, bad_row, bad_row_after, become_one, first_merge, is_account, is_of_group, is_good_row, is_row_of, IsRenameFault, merge_after, new_name, refused_merge, renamed, NameRow, rows, same_sort, who_by, name_row}
 use Rattle.acl_nfs4.specs.declared.list.renaming.Renaming.{Renaming}
 use Rattle.acl_nfs4.specs.declared.list.renaming.NameMap.{NameMap}
 use Rattle.acl_nfs4.specs.declared.list.renaming.RenameFault.{RenameFault}
@@ -34,10 +34,6 @@ same_is false false e = refl
 pub same_self : (a : Bool) → same_sort a a ≡ true
 same_self true = refl
 same_self false = refl
-
--- a name is equal to itself
-pub name_self : (name : List ℕ) → bytes_eq name name ≡ true
-name_self name = (bytes_eq-Decides name name).1 refl
 
 -- ---- the names of a table
 
@@ -63,7 +59,7 @@ push_none (x ∷ before) r g q e none = by (is_row_of g q x) refl (push_none bef
         ∙ rest (sym (ap (λ (t : Bool). cond t (Some x.to) (new_name before g q)) is) ∙ none)
 
 -- nothing is there if the test says so
-none_is : (o : Option (List ℕ)) → is_none o ≡ true → o ≡ None
+pub none_is : (o : Option (List ℕ)) → is_none o ≡ true → o ≡ None
 none_is None e = refl
 none_is (Some x) e = absurd cc
 
@@ -90,10 +86,6 @@ good_is_free : (names : Names) (r : NameRow) → is_good_row names r ≡ true �
 good_is_free names r e = (and_true (is_account r.to) (is_none (names r.is_group r.from))
     (and_true (is_account r.from) _ e).1).1
 
--- a row of the code
-abbrev row_of : Renaming → NameRow
-row_of r = record { from = r.from.now; to = r.to.now; is_group = r.is_group }
-
 -- what is known of a table whose first rows were read
 pub record IsReading (names : Names) (place : ℕ) (table : List Renaming) : Type 0 where
   pub known : (g : Bool) (q : List ℕ) → names g q ≡ new_name (rows (take place table)) g q
@@ -111,24 +103,24 @@ good_same f h r same =
 
 -- the rows from a place on
 rows_from : (table : List Renaming) (place : ℕ) (x : Renaming) → place < length table → x ≡ get_or table place x
-    → rows (drop place table) ≡ row_of x ∷ rows (drop (place + 1) table)
+    → rows (drop place table) ≡ name_row x ∷ rows (drop (place + 1) table)
 rows_from table place x lt is =
     let next : suc place ≡ place + 1 = omega arith in
-    ap rows (drop-cons table place x lt) ∙ ap (λ (y : Renaming). row_of y ∷ rows (drop (suc place) table)) (sym is)
-    ∙ ap (λ (k : ℕ). row_of x ∷ rows (drop k table)) next
+    ap rows (drop-cons table place x lt) ∙ ap (λ (y : Renaming). name_row y ∷ rows (drop (suc place) table)) (sym is)
+    ∙ ap (λ (k : ℕ). name_row x ∷ rows (drop k table)) next
 
 -- the rows up to the next place
 rows_to : (table : List Renaming) (place : ℕ) (x : Renaming) → place < length table → x ≡ get_or table place x
-    → rows (take (place + 1) table) ≡ rows (take place table) ++ row_of x ∷ []
+    → rows (take (place + 1) table) ≡ rows (take place table) ++ name_row x ∷ []
 rows_to table place x lt is =
     let next : place + 1 ≡ suc place = omega arith in
     ap (λ (k : ℕ). rows (take k table)) next ∙ ap rows (take-suc table place x lt)
-    ∙ map-append row_of (take place table) (get_or table place x ∷ [])
-    ∙ ap (λ (y : Renaming). rows (take place table) ++ row_of y ∷ []) (sym is)
+    ∙ map-append name_row (take place table) (get_or table place x ∷ [])
+    ∙ ap (λ (y : Renaming). rows (take place table) ++ name_row y ∷ []) (sym is)
 
 -- one more row was read
 pub reading_more : (names after : Names) (place : ℕ) (table : List Renaming) (x : Renaming) → place < length table
-    → IsReading names place table → is_good_row names (row_of (get_or table place x)) ≡ true
+    → IsReading names place table → is_good_row names (name_row (get_or table place x)) ≡ true
     → ((g : Bool) (q : List ℕ) → after g q ≡ with_new_name names (get_or table place x).is_group
     (get_or table place x).from.now (get_or table place x).to.now g q)
     → IsReading after (place + 1) table
@@ -136,7 +128,7 @@ reading_more names after place table d lt s good put =
     let x : Renaming = get_or table place d in
     let is : x ≡ get_or table place x = get_or_default table place d x lt in
     let before : List NameRow = rows (take place table) in
-    let r : NameRow = row_of x in
+    let r : NameRow = name_row x in
     let fine : is_good_row (new_name before) r ≡ true = sym (good_same names (new_name before) r s.known) ∙ good in
     record {
       known = λ g q. put g q ∙ with_same names (new_name before) r.is_group r.from r.to s.known g q
@@ -159,11 +151,6 @@ pub record HasNoted (names olds : Names) (before : List Ace) : Type 0 where
   pub each : AllByRecursion (λ b. olds (is_of_group b) (who_by names b) ≡ Some b.who) before
   pub known : (g : Bool) (q w : List ℕ) → olds g q ≡ Some w → list_any (is_noted names g q w) before ≡ true
 
--- one of two tests passes if the second does
-or_true : (s t : Bool) → t ≡ true → (s || t) ≡ true
-or_true true t h = refl
-or_true false t h = h
-
 -- a test that passes where another does passes for an element
 any_weaker : (p q : Ace → Bool) → ((b : Ace) → p b ≡ true → q b ≡ true) → (list : List Ace) → list_any p list ≡ true
     → list_any q list ≡ true
@@ -172,13 +159,13 @@ any_weaker p q f (b ∷ list) h = by (p b) refl (any_weaker p q f list)
   where
     by : (t : Bool) → p b ≡ t → (list_any p list ≡ true → list_any q list ≡ true) → list_any q (b ∷ list) ≡ true
     by true is others = ap (λ (t : Bool). t || list_any q list) (f b is)
-    by false is others = or_true (q b) (list_any q list)
+    by false is others = or_right (q b) (list_any q list)
         (others (sym (ap (λ (t : Bool). t || list_any p list) is) ∙ h))
 
 -- an element that passes is at the end
 any_last : (p : Ace → Bool) (list : List Ace) (a : Ace) → p a ≡ true → list_any p (list ++ a ∷ []) ≡ true
 any_last p [] a e = rw e refl
-any_last p (b ∷ list) a e = or_true (p b) (list_any p (list ++ a ∷ [])) (any_last p list a e)
+any_last p (b ∷ list) a e = or_right (p b) (list_any p (list ++ a ∷ [])) (any_last p list a e)
 
 -- an element that passes is before the end
 any_front : (p : Ace → Bool) (list : List Ace) (a : Ace) → list_any p list ≡ true → list_any p (list ++ a ∷ []) ≡ true

@@ -1,6 +1,7 @@
 -- Sets within sets.
-use Rattle.acl_nfs4.proofs.Common.{[], Ace, all_flags, all_rights, AllByRecursion, and_comm, ap, and_le_r, and_mask, arith, bit_and, Bool, eq-eqb, eqb, eqb-true, Fits, full, IsAccepted, IsAce, IsMask, IsProfile, IsTrue, IsWithin, List, Profile, profile_of, refl, subst, sym, true, ℕ, ◌<◌, ◌^◌, ◌↔◌, ◌∙◌, ◌∷◌, ◌≡◌, ◌≤◌}
+use Rattle.acl_nfs4.proofs.Common.{[], Ace, all_flags, all_rights, AllByRecursion, and_comm, ap, and_le_r, and_mask, arith, bit_and, Bool, eq-eqb, eqb, eqb-true, Fits, full, IsAccepted, IsAce, IsMask, IsProfile, IsTrue, IsWithin, List, Profile, profile_of, refl, subst, sym, true, ℕ, ◌<◌, ◌^◌, ◌↔◌, ◌∙◌, ◌∷◌, ◌≡◌, ◌≤◌, bit_or, has_bit, has_bit-and, has_bit-or, same_set, false}
 use Rattle.std.proofs.lemmas.Nat.{and_assoc}
+use Rattle.std.specs.Prelude.{◌&&◌, ◌||◌}
 use Rattle.acl_perm.specs.declared.profile.Profile.{Profile as CodeProfile}
 
 -- a part is no larger than the whole
@@ -11,6 +12,22 @@ within_le set n is = let le : bit_and n set ≤ set = and_le_r n set in rw is at
 pub within_part : (whole set n : ℕ) → IsWithin whole set → IsWithin set n → IsWithin whole n
 within_part whole set n outer inner = ap (λ (x : ℕ). bit_and x whole) (sym inner) ∙ and_assoc whole n set
     ∙ ap (bit_and n) outer ∙ inner
+
+-- if each of two tests implies a third, so does either of them
+either_kept : (g e s : Bool) → (g && s) ≡ g → (e && s) ≡ e → ((g || e) && s) ≡ (g || e)
+either_kept true e s p q = p
+either_kept false e s p q = q
+
+-- each bit of a number within a set is a bit of the set
+pub bit_within : (set n k : ℕ) → IsWithin set n → (has_bit n k && has_bit set k) ≡ has_bit n k
+bit_within set n k is = sym (has_bit-and n set k) ∙ ap (λ (m : ℕ). has_bit m k) is
+
+-- the union of two numbers within a set is within the set
+pub union_within : (set m n : ℕ) → IsWithin set m → IsWithin set n → IsWithin set (bit_or m n)
+union_within set m n p q = same_set _ _ (λ k.
+    has_bit-and (bit_or m n) set k ∙ ap (λ (b : Bool). b && has_bit set k) (has_bit-or m n k)
+    ∙ either_kept (has_bit m k) (has_bit n k) (has_bit set k) (bit_within set m k p) (bit_within set n k q)
+    ∙ sym (has_bit-or m n k))
 
 -- a part of a mask is a mask
 pub mask_part : (set n : ℕ) → IsMask set → bit_and n set ≡ n → IsMask n

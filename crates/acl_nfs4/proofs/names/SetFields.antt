@@ -29,7 +29,7 @@ abbrev pub bits_from : List BitName → ℕ → Option (List ℕ) → Option ℕ
 bits_from table so_far after = option_map (bit_or so_far) (bits_in table (parts_after after))
 
 -- the union of three sets may be grouped in either way
-or_assoc : (a b c : ℕ) → bit_or (bit_or a b) c ≡ bit_or a (bit_or b c)
+pub or_assoc : (a b c : ℕ) → bit_or (bit_or a b) c ≡ bit_or a (bit_or b c)
 or_assoc a b c = same_set _ _ (λ k. simp has_bit-or (either_assoc (has_bit a k) (has_bit b k) (has_bit c k)))
 
 -- the union of two sets and then of the rest is the union of the first with that of the second and the rest

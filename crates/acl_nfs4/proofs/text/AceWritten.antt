@@ -12,7 +12,7 @@ use Rattle.acl_nfs4.proofs.plain_ascii.PlainText.{all_weaker}
 -- ---- the bytes of a line
 
 -- a who has no control byte
-plain_who : (name : List ℕ) → IsWho name → list_all is_plain name ≡ true
+pub plain_who : (name : List ℕ) → IsWho name → list_all is_plain name ≡ true
 plain_who name h = no_control (is_no_who_len (length name)) (is_utf8 name) (list_all is_plain name)
     (is_unknown_special name) h where
       no_control : (long text plain special : Bool) → cond long (Some who.Length) (cond (not text) (Some who.Utf8)

@@ -15,7 +15,7 @@ use Rattle.acl_nfs4.proofs.list.Within.{flags_lt, mask_lt}
 -- ---- an ACE that was spelled is read again
 
 -- the parts of an ACE before other bytes, one after the other
-regrouped : (a b c d e f g : List ℕ)
+pub regrouped : (a b c d e f g : List ℕ)
     → ((((((a ++ b) ++ c) ++ d) ++ e) ++ f) ++ g) ≡ a ++ (b ++ (c ++ (d ++ (e ++ (f ++ g)))))
 regrouped a b c d e f g = simp append_assoc
 

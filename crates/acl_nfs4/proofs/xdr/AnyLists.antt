@@ -7,12 +7,13 @@ use Rattle.acl_nfs4.specs.PartFault.{any_who_of, at_end, FaultsOrMemory, IsFault
 unfoldable use Rattle.acl_nfs4.specs.PartFault.{any_ace_at, part_from, part_in}
 use Rattle.acl_nfs4.specs.internal.PartReading.{PartReadAs}
 use Rattle.acl_nfs4.specs.internal.Reading.{text_fault}
+use Rattle.acl_nfs4.proofs.xdr.AcesAt.{regrouped}
 use Rattle.std.specs.Prelude.{sum_by}
 
 -- ---- what is read was spelled
 
 -- a type that was read is one of the four
-type_is : (n m : ℕ) → type_of n ≡ Ok m → (n ≡ m) × (m < 4)
+pub type_is : (n m : ℕ) → type_of n ≡ Ok m → (n ≡ m) × (m < 4)
 type_is n m e = grind (arith, nat_tests)
 
 -- a type that was read was taken
@@ -187,13 +188,8 @@ part_spelled profile bytes part fits e =
 
 -- ---- what was spelled is read again
 
--- the parts of an ACE before other bytes, one after the other
-regrouped : (a b c d e f g : List ℕ)
-    → ((((((a ++ b) ++ c) ++ d) ++ e) ++ f) ++ g) ≡ a ++ (b ++ (c ++ (d ++ (e ++ (f ++ g)))))
-regrouped a b c d e f g = simp append_assoc
-
 -- a type below four is accepted
-type_again : (n : ℕ) → n < 4 → type_of n ≡ Ok n
+pub type_again : (n : ℕ) → n < 4 → type_of n ≡ Ok n
 type_again n few = grind (arith, nat_tests)
 
 -- a name is accepted

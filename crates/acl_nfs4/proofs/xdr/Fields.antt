@@ -150,7 +150,7 @@ pub count_again : (n : ℕ) → n ≤ most_aces → count_of n ≡ Ok n
 count_again n le = grind (arith, nat_tests)
 
 -- a kind that was read is that of its number
-kind_is : (n : ℕ) (k : Kind) → kind_of n ≡ Ok k → n ≡ kind_number k
+pub kind_is : (n : ℕ) (k : Kind) → kind_of n ≡ Ok k → n ≡ kind_number k
 kind_is n Allow e = grind arith
 kind_is n Deny e = grind arith
 
@@ -231,7 +231,7 @@ padding_is : (bytes : List ℕ) (x : Unit {0}) → padding_of bytes ≡ Ok x →
 padding_is bytes x e = bytes_are_zeros bytes (guard_then (list_all (λ b. eqb b 0) bytes) _ _ x e)
 
 -- a number of zeros are all zero
-zeros_again : (n : ℕ) → list_all (λ b. eqb b 0) (replicate n 0) ≡ true
+pub zeros_again : (n : ℕ) → list_all (λ b. eqb b 0) (replicate n 0) ≡ true
 zeros_again zero = refl
 zeros_again (suc n) = zeros_again n
 

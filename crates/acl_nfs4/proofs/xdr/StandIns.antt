@@ -1,5 +1,5 @@
 -- Groups that stand for unknown special identifiers: which names they have, and the list with them.
-use Rattle.acl_nfs4.proofs.Common.{[], Ace, ace, ap, append-nil, append_assoc, arith, Bool, bytes_eq, bytes_eq_same, cond, count_ones, drop, ends_in_at, false, get_or, is_no_who_len, is_plain, is_unknown_special, is_utf8, is_utf8-from_IsUtf8, IsUtf8, IsUtf8-from_is_utf8, le-leb, le-ltb, length, length-append, length-map, List, list_all, longest_who, lt-ltb, ltb-true, map, most_aces, most_weight, nat_le, nat_lt, nat_tests, None, not, Option, refl, Some, subst, suc, sum_by-append, sym, take, take-append-drop, take_all, true, weight, zero, ℕ, ◌&&◌, ◌++◌, ◌+◌, ◌-◌, ◌<◌, ◌==◌, ◌∙◌, ◌∷◌, ◌≡◌, ◌≢◌, ◌≤◌}
+use Rattle.acl_nfs4.proofs.Common.{[], Ace, ace, ap, append-nil, append_assoc, arith, Bool, bytes_eq, bytes_eq_same, cond, count_ones, drop, ends_in_at, false, get_or, is_no_who_len, is_plain, is_unknown_special, is_utf8, is_utf8-from_IsUtf8, IsUtf8, IsUtf8-from_is_utf8, le-leb, le-ltb, length, length-append, length-map, List, list_all, longest_who, lt-ltb, ltb-true, map, most_aces, most_weight, nat_le, nat_lt, nat_tests, None, not, Option, refl, Some, subst, suc, sum_by-append, sym, take, take-append-drop, take_all, true, weight, zero, ℕ, ◌&&◌, ◌++◌, ◌+◌, ◌-◌, ◌<◌, ◌==◌, ◌∙◌, ◌∷◌, ◌≡◌, ◌≢◌, ◌≤◌, name_self}
 use Rattle.std.specs.Borrow.{Bor}
 use Rattle.std.specs.BTreeSet.{BTreeSet, insert_key}
 use Rattle.std.specs.Cmp.Lexicographic.{slice_cmp}
@@ -26,7 +26,6 @@ use Rattle.acl_nfs4.specs.declared.who.WhoFault.TheVariants.{Control, Length, Sp
 use Rattle.acl_nfs4.specs.internal.PartReading.{CanBePart, has_name, HasUnknownNames, is_good_suffix, is_unknown_name}
 use Rattle.acl_nfs4.specs.internal.Reading.{text_fault}
 use Rattle.acl_nfs4.proofs.list.FromAces.{build_on}
-use Rattle.acl_nfs4.proofs.list.Renamings.{name_self}
 use Rattle.acl_nfs4.proofs.xdr.Faults.{weight-push}
 use Rattle.acl_nfs4.proofs.xdr.Lists.{weight-cons}
 

@@ -62,7 +62,7 @@ again mask n = refl
 again other n = refl
 
 -- a number is not above a number that is not less
-not_above : (a n : ℕ) → n ≤ a → nat_lt a n ≡ false
+pub not_above : (a n : ℕ) → n ≤ a → nat_lt a n ≡ false
 not_above a n le = grind (arith, nat_tests)
 
 -- nothing is wrong with the numbers of an entry

@@ -1,9 +1,11 @@
 -- The number that digits spell.
-use Rattle.acl_posix.proofs.Common.{[], All-get_or, AllDigits, AllPass-from_list_all, and_true, ap, arith, cases_lt, cond, decimal, digit_value, digits_value, eqb, false, get_or, greatest_id, id_of, inl, inr, is_ascii_digit, is_number, IsId, length, length-decimal-le, length-take, List, list_all, most_digits, nat_le, nat_tests, None, Some, take, true, ℕ, ◌*◌, ◌+◌, ◌-◌, ◌<◌, ◌∙◌, ◌∷◌, ◌≡◌, ◌≤◌}
+use Rattle.acl_posix.proofs.Common.{[], All-get_or, AllDigits, AllPass-from_list_all, and_true, ap, arith, cases_lt, cond, decimal, digit_value, digits_value, eqb, false, get_or, greatest_id, id_of, inl, inr, is_ascii_digit, is_number, IsId, length, length-decimal-le, length-take, List, list_all, most_digits, nat_le, nat_tests, None, Some, take, true, ℕ, ◌*◌, ◌+◌, ◌-◌, ◌<◌, ◌∙◌, ◌∷◌, ◌≡◌, ◌≤◌, decimal_is_IsNumeral, subst, refl}
 use Rattle.std.proofs.Math.Nat.{pow-le-pow_right}
 use Rattle.std.proofs.lemmas.Int.Digits.{digits_value_more, digits_value-lt}
 use Rattle.std.proofs.lemmas.Fmt.{decimal-digits_value}
-use Rattle.std.proofs.lemmas.Str.Parse.{numerals_by_value, tells_digits}
+use Rattle.std.proofs.lemmas.Str.Parse.{digit_from_value, numerals_by_value, tells_digits}
+use Rattle.std.proofs.lemmas.Slice.Eq.{bytes_eq-Decides}
+use Rattle.std.specs.Str.{bytes_eq}
 
 -- the value of a digit is its distance from the byte `0`
 pub digit_is : (b : ℕ) → is_ascii_digit b ≡ true → digit_value b ≡ b - 48
@@ -76,3 +78,17 @@ too_long bs all first long = let above = above_every_id bs all first long in gri
 pub same_id : (bs cs : List ℕ) → digits_value 10 bs ≡ digits_value 10 cs → id_of bs ≡ id_of cs
 unfolding id_of
 same_id bs cs e = ap (λ (n : ℕ). cond (nat_le n greatest_id) (Some n) None) e
+
+-- ---- names
+
+-- a number does not begin with a byte that is not a digit
+pub not_decimal : (n c : ℕ) (cs : List ℕ) → IsId n → 57 < c → decimal n ≡ c ∷ cs → ⊥
+not_decimal n c cs h big e =
+    omega (arith, digit_from_value c (subst (AllDigits 10) e (decimal_is_IsNumeral n (omega arith)).0.1).0)
+
+-- names that differ do not pass the test of equality
+pub bytes_eq-unequal : (xs ys : List ℕ) → (xs ≡ ys → ⊥) → bytes_eq xs ys ≡ false
+bytes_eq-unequal xs ys differ = elim (bytes_eq xs ys) as (λ b. bytes_eq xs ys ≡ b → b ≡ false) [
+  | true ↦ λ h. absurd (differ ((bytes_eq-Decides xs ys).0 h))
+  | false ↦ λ h. refl
+] refl

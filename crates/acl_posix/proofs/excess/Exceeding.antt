@@ -187,13 +187,14 @@ one_moved f e false true false og g gs rest is own same apart = rw (own, apart r
 one_moved f e go false true og g gs rest is own same apart = rw (same refl, is) refl
 one_moved f e go false false og g gs rest is own same apart = rw (apart refl, is) refl
 
+-- what is not there contains nothing
+pub none_contains : (o : Option ℕ) (r : ℕ) → is_some o ≡ false → is_contained o r ≡ false
+none_contains None r h = refl
+none_contains (Some p) r h = absurd cc
+
 -- an entry that is not there contains nothing
 absent_contains : (E : Entries) (t : Tag) (r : ℕ) → fin.contains_key E t ≡ false → entry_contains E t r ≡ false
 absent_contains E t r not = none_contains (fin.get E t) r not
-  where
-    none_contains : (o : Option ℕ) (r : ℕ) → is_some o ≡ false → is_contained o r ≡ false
-    none_contains None r h = refl
-    none_contains (Some p) r h = absurd cc
 
 -- the groups answer alike with another owning group that no entry names
 any_moved : (E : Entries) (og was r : ℕ) (gs : List ℕ) → fin.contains_key E (group og) ≡ false

@@ -3,6 +3,7 @@ use Rattle.acl_posix.proofs.Common.{[], and_true, arith, any_contains, ap, Bool,
 use Rattle.std.specs.Int.Bits.{and_zero_r}
 use mathlib.Core.Bool.{beq}
 use Rattle.std.specs.FinMap as fin
+use Rattle.std.proofs.lemmas.Bool.{or_right}
 use Rattle.acl_posix.specs.internal.GroupAnswers.{group_answer, group_id, HasAnswers, IsGroupExcess, stranger_grants}
 use Rattle.acl_posix.proofs.sorted.Groups.{any_group, contains_empty}
 use Rattle.acl_posix.proofs.tag.Tags.{length-tags_of, same_tag}
@@ -48,18 +49,13 @@ contains_none : (o : Option ℕ) (r : ℕ) → is_contained o r ≡ true → is_
 contains_none None r h = absurd cc
 contains_none (Some p) r h = rw (and_zero_r p) refl
 
--- one of two passes if the second does
-or_right : (a : Bool) {b : Bool} → b ≡ true → (a || b) ≡ true
-or_right true h = refl
-or_right false h = h
-
 -- a group whose entry contains a request matches an entry
 has_match : (E : Entries) (og r g : ℕ) → group_contains E og r g ≡ true → group_contains E og 0 g ≡ true
 has_match E og r g h = elim (or_true ((g == og) && entry_contains E group_obj r) (entry_contains E (group g) r) h) [
   | inl owning ↦
       let both = and_true (g == og) (entry_contains E group_obj r) owning in
       rw (both.0, contains_none (fin.get E group_obj) r both.1) refl
-  | inr held ↦ or_right _ (contains_none (fin.get E (group g)) r held)
+  | inr held ↦ or_right _ _ (contains_none (fin.get E (group g)) r held)
 ]
 
 -- if a group passes a test, a group passes each test that is weaker
@@ -68,7 +64,7 @@ any_weaker : (p q : ℕ → Bool) → ((g : ℕ) → p g ≡ true → q g ≡ tr
 any_weaker p q to [] h = absurd cc
 any_weaker p q to (g ∷ gs) h = elim (or_true (p g) (list_any p gs) h) [
   | inl here ↦ rw (to g here) refl
-  | inr later ↦ or_right _ (any_weaker p q to gs later)
+  | inr later ↦ or_right _ _ (any_weaker p q to gs later)
 ]
 
 -- the answers to a list of groups, in parts
@@ -210,7 +206,7 @@ unfolding group_answer
 answer_matches E og r g b h = cond_some (group_contains E og 0 g) _ b h
 
 -- permissions that contain a request are there
-contained_some : (o : Option ℕ) (r : ℕ) → is_contained o r ≡ true → is_some o ≡ true
+pub contained_some : (o : Option ℕ) (r : ℕ) → is_contained o r ≡ true → is_some o ≡ true
 contained_some None r h = absurd cc
 contained_some (Some p) r h = refl
 

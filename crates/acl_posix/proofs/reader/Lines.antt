@@ -2,6 +2,7 @@
 use Rattle.acl_posix.proofs.Common.{[], Access, access_of, added, ap, append-nil, append_assoc, arith, Bor, ColumnsFit, cut_at, Default, default_of, Err, FailsWith, inl, inr, IsCut, IsFirstLine, IsFirstTextFault, IsLineCut, length, line_pieces, lines_left, lines_of, List, Lists, None, numbered, NumberFits, Ok, Option, Part, PartEntry, Piece, pieces_from, read_piece, read_pieces, ReadsOn, refl, Result, Some, Span, span_of, SpellAll, suc, sym, Table, Tag, TextFault, TextPiece, ℕ, ◌++◌, ◌+◌, ◌>>=◌, ◌∙◌, ◌∷◌, ◌≡◌, ◌≤◌, ◌⊎◌}
 use Rattle.acl_posix.proofs.reader.Judged.{fault_read, piece_judged, spelled_read}
 use Rattle.acl_posix.specs.declared.text_fault.TextFault.TheVariants as faults
+use Rattle.acl_posix.specs.internal.Reading.{RestFits}
 
 -- the pieces that are still to be cut
 abbrev pub pieces_left : Option Piece → List Span
@@ -12,11 +13,6 @@ pieces_left (Some p) = cut_at 44 (span_of p)
 abbrev pub size_left : Option Piece → ℕ
 size_left None = 0
 size_left (Some p) = suc (length p.bytes.now)
-
--- the columns of the rest of a line are counts
-abbrev pub FitsLeft : Option Piece → Type 0
-FitsLeft None = Unit {0}
-FitsLeft (Some p) = ColumnsFit p
 
 -- if no piece is left, there are no spans left
 pub left_none : (r : Option Piece) → ((p : Piece) → r ≡ Some p → ⊥) → pieces_left r ≡ []
@@ -36,7 +32,7 @@ pieces_next s (first, None) h = h.0
 pieces_next s (first, Some rest) h = h.parts
 
 -- the columns of the rest after a cut are counts
-pub fits_next : (p : Piece) (r : Piece × Option Piece) → IsCut 44 (span_of p) r → ColumnsFit p → FitsLeft r.1
+pub fits_next : (p : Piece) (r : Piece × Option Piece) → IsCut 44 (span_of p) r → ColumnsFit p → RestFits r.1
 fits_next p (first, None) h fits = tt
 fits_next p (first, Some rest) h fits = omega (arith, h.rest_fits)
 

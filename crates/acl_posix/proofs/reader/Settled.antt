@@ -22,7 +22,8 @@ spelled_no_fault names pieces es fault h k =
     let wrong = sym (all_read names no_lists pieces es h) ∙ first_read names no_lists pieces fault k in absurd cc
 
 -- two default ACLs of the same entries are equal
-default_one : (entries : List (Tag × ℕ)) (a b : Option Entries) → IsDefaultOf entries a → IsDefaultOf entries b → a ≡ b
+pub default_one : (entries : List (Tag × ℕ)) (a b : Option Entries) → IsDefaultOf entries a → IsDefaultOf entries b
+    → a ≡ b
 default_one [] None None h k = refl
 default_one (e ∷ es) (Some a) (Some b) h k = ap (λ (x : Entries). Some x) (h.set ∙ sym k.set)
 default_one entries a b h k = absurd (search rules)

@@ -43,7 +43,7 @@ found_passes (p ∷ ps) l request m is h =
     (λ differ held. rw (found_passes ps l request m is held) (or_true_right _)) h
 
 -- if a matching tag has an entry that contains the request, some matching entry contains it
-any_contains-from_entry : (E : Entries) (og request : ℕ) (gs : List ℕ) (l : Tag) → tag_matches og gs l ≡ true
+pub any_contains-from_entry : (E : Entries) (og request : ℕ) (gs : List ℕ) (l : Tag) → tag_matches og gs l ≡ true
     → entry_contains E l request ≡ true → any_contains E og gs request ≡ true
 any_contains-from_entry E og request gs l is h = found_passes (fin.entries E) l request (tag_matches og gs) is
     (ap (λ o. is_contained o request) (sym (fin.get-entries E l)) ∙ h)

@@ -46,7 +46,7 @@ entries_in_order ps h =
     ap fin.entries (set_of (fin.from_sorted {R = tag_cmp} ps) ps (sym whole)) ∙ whole
 
 -- the types of tags and permissions keep each entry within its limits
-tag_within : (t : TagOfCode) → IsTag (tag_of t)
+pub tag_within : (t : TagOfCode) → IsTag (tag_of t)
 tag_within (code.User id) = id.within
 tag_within (code.Group id) = id.within
 tag_within tag = tt

@@ -6,8 +6,8 @@ use Rattle.acl_posix.proofs.tag.Tags.{same_tag}
 use Rattle.acl_posix.proofs.sorted.Lists.{entries_in_order}
 
 -- a tag compares as equal to itself
-eq-same_tag : (t : Tag) → eq_by_cmp tag_cmp t t ≡ true
-eq-same_tag t = (eq_by_cmp_equiv tags_total).refl t
+pub eq_by_cmp-refl : (t : Tag) → eq_by_cmp tag_cmp t t ≡ true
+eq_by_cmp-refl t = (eq_by_cmp_equiv tags_total).refl t
 
 -- a set with an entry of a tag with a qualifier has a USER or GROUP entry
 any_named : (E : Entries) (t : Tag) → is_named t ≡ true → IsSome (fin.get E t) → list_any is_named (fin.keys E) ≡ true
@@ -22,7 +22,7 @@ named_in D E to any =
     let one = Any-from_list_any is_named (fin.keys D) any in
     any_named E one.1 one.4 (to one.1 one.4 (fin.contains_key-keys D one.1
     ∙ list_any_at (eq_by_cmp tag_cmp one.1) (fin.keys D) one.0 one.1 one.2 (ap (eq_by_cmp tag_cmp one.1) one.3
-    ∙ eq-same_tag one.1)))
+    ∙ eq_by_cmp-refl one.1)))
 
 -- the set has the three entries, and a MASK if it has a USER or GROUP entry
 pub record IsComplete (E : Entries) : Type 0 where
@@ -82,7 +82,7 @@ three_valid a b c =
     })
 
 -- a tag without a qualifier is not equal to a tag with one
-unnamed_is_not_named : (q l : Tag) → is_named q ≡ false → is_named l ≡ true → eq_by_cmp tag_cmp q l ≡ false
+pub unnamed_is_not_named : (q l : Tag) → is_named q ≡ false → is_named l ≡ true → eq_by_cmp tag_cmp q l ≡ false
 unnamed_is_not_named q l plain named =
     false_from_ne_true _ (λ is. let wrong = sym named ∙ ap is_named (sym (same_tag q l is)) ∙ plain in cc)
 
@@ -132,7 +132,7 @@ pub mask_absent : (E : Entries) (l : Tag) (n : ℕ) → IsValid E → lacks_mask
 mask_absent E l n h lacks =
     let has = complete_from_valid E h in
     let without = without_mask (is_named l) (is_some (fin.get E mask)) lacks in
-    let here : IsSome (fin.get (fin.insert E l n) l) = rw (fin.get-insert tags_total E l n l, eq-same_tag l) refl in
+    let here : IsSome (fin.get (fin.insert E l n) l) = rw (fin.get-insert tags_total E l n l, eq_by_cmp-refl l) refl in
     lacks_mask (fin.insert E l n) (present-insert E l user_obj n has.owner) (present-insert E l group_obj n has.class)
     (present-insert E l other n has.others) (any_named (fin.insert E l n) l without.0 here)
     (get-insert_other E l mask n (unnamed_is_not_named mask l refl without.0) ∙ without.1)
@@ -154,7 +154,7 @@ get-remove_other E l q differ = rw (fin.get-remove tags_total E l q, differ) ref
 
 -- a tag has no entry after its entry is taken out
 get-remove_same : (E : Entries) (l : Tag) → is_some (fin.get (fin.remove E l) l) ≡ false
-get-remove_same E l = rw (fin.get-remove tags_total E l l, eq-same_tag l) refl
+get-remove_same E l = rw (fin.get-remove tags_total E l l, eq_by_cmp-refl l) refl
 
 -- a set has a USER or GROUP entry if it has one after an entry is taken out
 named_before : (E : Entries) (l : Tag) → list_any is_named (fin.keys (fin.remove E l)) ≡ true

@@ -152,7 +152,7 @@ seen_again {es} {i} {e} lt read so_far was =
 -- ---- the faults of a list
 
 -- a list has one first repeat
-same_first : (ps : List (Tag × ℕ)) (i j : ℕ) → IsFirstRepeat ps i → IsFirstRepeat ps j → i ≡ j
+pub same_first : (ps : List (Tag × ℕ)) (i j : ℕ) → IsFirstRepeat ps i → IsFirstRepeat ps j → i ≡ j
 same_first ps i j a b =
     let not_below : i < j → ⊥ = λ below. b.first i below a.repeats in
     let not_above : j < i → ⊥ = λ below. a.first j below b.repeats in
@@ -185,7 +185,7 @@ same_code : (s t : TagOfCode) → tag_of s ≡ tag_of t → is_named (tag_of s) 
 same_code s t same plain = grind arith
 
 -- two tags that are the first absent one of a list are the same
-same_miss : (ps : List (Tag × ℕ)) (s t : TagOfCode) → IsMiss ps (tag_of s) → IsMiss ps (tag_of t) → s ≡ t
+pub same_miss : (ps : List (Tag × ℕ)) (s t : TagOfCode) → IsMiss ps (tag_of s) → IsMiss ps (tag_of t) → s ≡ t
 same_miss ps s t a b = same_code s t (ap (λ o. unwrap_or o other) (sym a.absent ∙ b.absent))
     (missing_unnamed (as_set ps) (tag_of s) a.absent)
 

@@ -3,6 +3,7 @@ use Rattle.acl_posix.proofs.Common.{[], All, AllByRecursion, arith, Bool, decima
 use Rattle.std.specs.FinMap as fin
 use Rattle.acl_posix.proofs.tag.Tags.{length-tags_of, less_rises, number, qualifier_below, rank_below}
 use Rattle.acl_posix.proofs.sorted.Lists.{entries_sorted}
+use Rattle.acl_posix.specs.internal.Packed.{most_entries}
 
 -- ---- an entry
 
@@ -52,10 +53,6 @@ part_short form part acl first (e ∷ es) h =
 
 -- ---- how many entries there are
 
--- one more than the greatest number of a tag
-abbrev the_limit : ℕ
-the_limit = 25769803776
-
 -- tags after a tag have greater numbers than it
 numbers_above : (a : Tag) (ts : List Tag) → IsTag a → AllByRecursion IsTag ts
     → AllByRecursion (λ t. tag_cmp a t ≡ Less) ts → AllByRecursion (λ t. number a + 1 ≤ number t) ts
@@ -63,12 +60,12 @@ numbers_above a [] ha hs h = tt
 numbers_above a (t ∷ ts) ha hs h = (omega (arith, less_rises a t ha hs.0 h.0), numbers_above a ts ha hs.1 h.1)
 
 -- there are at most as many rising tags as numbers from a lower bound of theirs to the limit
-count_from : (low : ℕ) (ts : List Tag) → low ≤ the_limit → AllByRecursion (λ t. low ≤ number t) ts
-    → AllByRecursion IsTag ts → IsStrictlySortedBy tag_cmp ts → low + length ts ≤ the_limit
+count_from : (low : ℕ) (ts : List Tag) → low ≤ most_entries → AllByRecursion (λ t. low ≤ number t) ts
+    → AllByRecursion IsTag ts → IsStrictlySortedBy tag_cmp ts → low + length ts ≤ most_entries
 unfolding IsStrictlySortedBy
 count_from low [] le h within sorted = omega (arith, le)
 count_from low (t ∷ ts) le h within sorted =
-    let room : number t + 1 ≤ the_limit = omega (arith, rank_below t, qualifier_below t within.0) in
+    let room : number t + 1 ≤ most_entries = omega (arith, rank_below t, qualifier_below t within.0) in
     let rest = count_from (number t + 1) ts room (numbers_above t ts within.0 within.1 sorted.0) within.1 sorted.1 in
     omega (arith, rest, h.0)
 

@@ -57,6 +57,15 @@ user_id (group id) = None
 user_id mask = None
 user_id other = None
 
+-- the tag is that of the owner
+abbrev pub is_owner_tag : Tag → Bool
+is_owner_tag user_obj = true
+is_owner_tag (user id) = false
+is_owner_tag group_obj = false
+is_owner_tag (group id) = false
+is_owner_tag mask = false
+is_owner_tag other = false
+
 -- two sets give these answers to one group
 pub record HasAnswers (one two : Entries) (owning_group request : ℕ) (own : Bool) (others : Option Bool) (id : ℕ)
     : Type 0 where

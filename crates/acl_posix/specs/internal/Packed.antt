@@ -8,6 +8,10 @@ use Rattle.acl_posix.specs.internal.TagCode.{tag_from}
 abbrev pub qualifier_count : ℕ
 qualifier_count = 2 ^ 32
 
+-- the most entries that an ACL can have: one for each of the six tag types and each number of 32 bits
+abbrev pub most_entries : ℕ
+most_entries = 25769803776
+
 -- how many sets of permissions there are
 abbrev pub perm_count : ℕ
 perm_count = 2 ^ 3

@@ -4,7 +4,7 @@ use Rattle.std.specs.Prelude.{ℕ, ◌≡◌, ◌+◌, ◌<◌, ◌≤◌, ◌==
 use Rattle.std.specs.Borrow.{Bor}
 use Rattle.std.specs.List.{enumerate_from}
 use Rattle.acl_perm.specs.declared.lines.Piece.{Piece}
-use Rattle.acl_perm.specs.Lines.{Span, span_of, cut_at, lines_of, start_of, trimmed, is_all_blank}
+use Rattle.acl_perm.specs.Lines.{Span, span_of, cut_at, lines_of, start_of, trimmed, is_all_blank, ColumnsFit}
 use Rattle.acl_perm.specs.internal.Steps.{◌>>=◌}
 use Rattle.acl_posix.specs.declared.field.TagWord.{TagWord}
 use Rattle.acl_posix.specs.declared.field.TagWord.TheVariants as word
@@ -22,6 +22,11 @@ use Rattle.acl_posix.specs.Names.{Table, Ids, is_number}
 use Rattle.acl_posix.specs.Fields.{word_of, id_in, permissions_of}
 use Rattle.acl_posix.specs.Grammar.{TextPiece, EntryFields, fields_of, PartEntry, line_pieces, numbered, pieces_of_lines, colon}
 use Rattle.acl_posix.specs.TextFault.{acl_fault, qualifier_names}
+
+-- the columns of what is left, if something is, are counts
+abbrev pub RestFits : Option Piece → Type 0
+RestFits None = Unit {0}
+RestFits (Some p) = ColumnsFit p
 
 -- the tag word of a field, or its fault
 unfoldable pub read_word : ℕ → Span → Result TagWord TextFault

@@ -1,6 +1,7 @@
 use Rattle.acl_posix.proofs.Common.{ap, cut_at, err_from_is_err_and, is_all_blank, line_pieces, List, Lists, lists_of, numbered, read_pieces, refl, Span, span_of, subst, sym, ℕ, ◌∙◌, ◌≡◌}
-use Rattle.acl_posix.proofs.reader.Lines.{fails_is, FitsLeft, fits_next, left_none, left_step, pieces_left}
+use Rattle.acl_posix.proofs.reader.Lines.{fails_is, fits_next, left_none, left_step, pieces_left}
 use Rattle.acl_posix.proofs.reader.read_line.Goals as goal
+use Rattle.acl_posix.specs.internal.Reading.{RestFits}
 
 pub returns-then-is_all_blank : goal.returns-then-is_all_blank
 unfolding line_pieces read_pieces
@@ -33,7 +34,7 @@ loop-rest-preserved c = record {
       ∙ sym (left_step c.args.names.now c.args.number (lists_of c.loop-rest.lists) c.loop-rest.rest c.in-Some.piece
       c.cut.result _ c.in-Some.is c.cut.ensures.parts (sym c.in_ok-part.ensures)) ∙ c.loop-rest.invariant.same;
   fits = fits_next c.in-Some.piece c.cut.result c.cut.ensures.parts
-      (subst FitsLeft c.in-Some.is c.loop-rest.invariant.fits);
+      (subst RestFits c.in-Some.is c.loop-rest.invariant.fits);
 }
 
 pub returns : goal.returns
