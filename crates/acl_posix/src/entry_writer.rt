@@ -4,8 +4,8 @@ ghost use Rattle.acl_perm.specs.Ascii.{colon};
 ghost use Rattle.acl_perm.specs.Shown.{letter, perm_text};
 ghost use Rattle.acl_posix.specs.Entries.{pair_of};
 ghost use Rattle.acl_posix.specs.Tag.{tag_of};
-ghost use Rattle.acl_posix.specs.Texts.{entry_text, mark_text, qualifier_text};
-ghost use Rattle.acl_posix.specs.internal.Writing.{ending, ending_room, entry_out, fields_room, form_word, entry_lead, lead_room, line_room, mark_room, perm_room, qualifier_room, word_room, IsPut};
+ghost use Rattle.acl_posix.specs.Texts.{qualifier_text};
+ghost use Rattle.acl_posix.specs.internal.Writing.{ending, ending_room, entry_out, form_word, entry_lead, lead_room, line_room, perm_room, qualifier_room, word_room, IsPut};
 
 use crate::entry::Entry;
 use crate::form::Form;
@@ -32,11 +32,14 @@ pub(crate) fn put_entry(
         ≡ entry_out form part is_first effective.bits (pair_of entry) }
 {
     let end = put_ending(line, form, effective, entry.perm);
-    let end = put_fields(line, end, form, entry);
+    let end = put_perm(line, end, entry.perm);
+    let end = put_qualifier(line, end, entry.tag);
+    let end = put_word(line, end, form, entry.tag);
     put_lead(line, end, form, part, is_first)
 }
 
-// Puts the bytes after an entry.
+// Puts the bytes after an entry: in the shown form with a comment, if the effective permissions are not those of the
+// entry.
 fn put_ending(line: &mut [u8; LINE], form: Form, effective: Perm, perm: Perm) -> usize
     ensures text { IsPut (ending form effective.bits perm.bits) line.old line.new line_room result }
     ensures short { line_room ≤ result + ending_room }
@@ -45,37 +48,14 @@ fn put_ending(line: &mut [u8; LINE], form: Form, effective: Perm, perm: Perm) ->
         Form::Canonical => put(line, LINE, *b"\n"),
         Form::Shown => {
             let end = put(line, LINE, *b"\n");
-            put_mark(line, end, effective, perm)
+            if effective.bits == perm.bits {
+                return end;
+            }
+            let end = put_perm(line, end, effective);
+            put(line, end, *b"\t#effective")
         }
         Form::Short => LINE,
     }
-}
-
-// Puts the effective permissions as a comment, if they differ from those of the entry.
-fn put_mark(line: &mut [u8; LINE], end: usize, effective: Perm, perm: Perm) -> usize
-    requires room { mark_room ≤ end }
-    requires inside { end ≤ line_room }
-    ensures text { IsPut (mark_text effective.bits perm.bits) line.old line.new end result }
-    ensures short { end ≤ result + mark_room }
-{
-    if effective.bits == perm.bits {
-        return end;
-    }
-    let end = put_perm(line, end, effective);
-    put(line, end, *b"\t#effective")
-}
-
-// Puts the word, the qualifier and the permissions, with colons between them.
-fn put_fields(line: &mut [u8; LINE], end: usize, form: Form, entry: Entry) -> usize
-    requires room { fields_room ≤ end }
-    requires inside { end ≤ line_room }
-    ensures text { IsPut (entry_text (form_word form (tag_of entry.tag)) (pair_of entry))
-        line.old line.new end result }
-    ensures short { end ≤ result + fields_room }
-{
-    let end = put_perm(line, end, entry.perm);
-    let end = put_qualifier(line, end, entry.tag);
-    put_word(line, end, form, entry.tag)
 }
 
 // Puts a colon and the permissions.

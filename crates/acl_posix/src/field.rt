@@ -5,7 +5,6 @@ ghost use Rattle.std.specs.Str.{bytes_eq};
 ghost use Rattle.std.specs.Char.{is_ascii_digit};
 ghost use Rattle.acl_posix.specs.Fields.{id_of, is_default, is_permission, permissions_of, word_of};
 ghost use Rattle.acl_posix.specs.Names.{is_number};
-ghost use Rattle.acl_posix.specs.internal.Digits.{IsWithoutZeros};
 
 use crate::digits::{FirstDigits, first_digits};
 use crate::id::Id;
@@ -99,22 +98,14 @@ pub fn read_id(digits: &[u8]) -> Option<Id>
     requires { IsTrue (is_number digits.now) }
     ensures { option_map (λ id. id.value) result ≡ id_of digits.now }
 {
-    let digits = without_zeros(digits);
-    let FirstDigits { value, count } = first_digits(digits);
-    // A number with more digits than the greatest id is above it.
-    if count < digits.len() {
-        return None;
-    }
-    Id::from_number(value)
-}
-
-/// Returns digits without the zeros that they begin with.
-fn without_zeros(digits: &[u8]) -> &[u8]
-    ensures { IsWithoutZeros digits.now result.now }
-{
     let mut left = digits;
     while let [b'0', rest @ ..] = left {
         left = rest;
     }
-    left
+    let FirstDigits { value, count } = first_digits(left);
+    // A number with more digits than the greatest id is above it.
+    if count < left.len() {
+        return None;
+    }
+    Id::from_number(value)
 }

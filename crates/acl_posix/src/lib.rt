@@ -18,7 +18,6 @@ mod excess;
 mod fault;
 mod field;
 mod file;
-mod file_text;
 mod form;
 mod group_answers;
 mod group_number;

@@ -23,19 +23,11 @@ pub(crate) fn sorted_keys(alloc: Global, entries: &[Entry]) -> Result<Vec<u64>, 
         IsPermutation (pairs entries.now) (map unpacked keys.items)) }
     ensures sorted { IfOk result (λ keys. IsNonDecreasing keys.items) }
 {
-    let mut keys = packed_entries(alloc, entries)?;
-    keys.sort_unstable();
-    Ok(keys)
-}
-
-/// Returns the entries as numbers, in the order of the entries.
-fn packed_entries(alloc: Global, entries: &[Entry]) -> Result<Vec<u64>, AllocError>
-    ensures { IfOk result (λ keys. keys.items ≡ map packed (pairs entries.now)) }
-{
     let mut keys = Vec::with_capacity(alloc, entries.len())?;
     for entry in entries {
         keys.push(packed(*entry))?;
     }
+    keys.sort_unstable();
     Ok(keys)
 }
 

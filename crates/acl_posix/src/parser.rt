@@ -4,8 +4,8 @@ ghost use Rattle.acl_posix.specs.declared.file.PosixFile.{PosixFile as FileValue
 ghost use Rattle.acl_posix.specs.declared.text_fault.TextFault.{TextFault as FaultValue};
 ghost use Rattle.acl_posix.specs.declared.text_fault.TextFault.TheVariants.{Memory};
 ghost use Rattle.acl_posix.specs.Entries.{pairs};
-ghost use Rattle.acl_posix.specs.Grammar.{IsAclOf, IsDefaultOf, Reads};
-ghost use Rattle.acl_posix.specs.internal.Reading.{IsDefaultFault, IsPartFault};
+ghost use Rattle.acl_posix.specs.Grammar.{IsAclOf, Reads};
+ghost use Rattle.acl_posix.specs.internal.Reading.{IsPartFault};
 ghost use Rattle.acl_posix.specs.TextFault.{IsTextFaultOrMemory, IsTextFault, IsTextRefusedWith};
 
 use crate::acl::PosixAcl;
@@ -47,20 +47,13 @@ fn parsed(alloc: Global, text: &[u8], names: &Names) -> Result<PosixFile, TextFa
 {
     let lists = read_text(alloc, text, names)?;
     let access = part_of(alloc, Part::Access, lists.access)?;
-    let default = default_of(alloc, lists.default)?;
-    Ok(PosixFile { access, default })
-}
-
-/// Returns the default ACL of these entries. A text without such entries has no default ACL, which is not a fault.
-fn default_of(alloc: Global, entries: Vec<Entry>) -> Result<Option<PosixAcl>, TextFault>
-    ensures ok { IfOk result (IsDefaultOf (pairs entries.items)) }
-    ensures err { IfErr result (IsDefaultFault (pairs entries.items)) }
-{
-    if entries.is_empty() {
-        return Ok(None);
+    // A text without default entries has no default ACL, which is not a fault.
+    if lists.default.is_empty() {
+        let default = None;
+        return Ok(PosixFile { access, default });
     }
-    let acl = part_of(alloc, Part::Default, entries)?;
-    Ok(Some(acl))
+    let default = Some(part_of(alloc, Part::Default, lists.default)?);
+    Ok(PosixFile { access, default })
 }
 
 /// Returns the ACL of these entries. Fails with `Invalid`, the part and the cause if they are not valid, and with

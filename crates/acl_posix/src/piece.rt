@@ -2,7 +2,7 @@
 ghost use Rattle.std.specs.Prelude.{◌≡◌, option_map, IfSome};
 ghost use Rattle.acl_perm.specs.Lines.{cut_at, span_of, ColumnsFit};
 ghost use Rattle.acl_posix.specs.Grammar.{colon, fields_of, three_of};
-ghost use Rattle.acl_posix.specs.internal.Reading.{mapped, read_permissions, read_piece, read_tag, read_word, view_entry, view_fields, FieldsFit};
+ghost use Rattle.acl_posix.specs.internal.Reading.{mapped, read_piece, read_tag, view_entry, view_fields, FieldsFit};
 ghost use Rattle.acl_posix.specs.Tag.{tag_of};
 
 use crate::entry::Entry;
@@ -11,7 +11,6 @@ use crate::id::Id;
 use crate::names::Names;
 use crate::tag::Tag;
 use crate::text_fault::{Part, TextFault};
-use acl_perm::Perm;
 use acl_perm::internal::{Piece, is_all_blank, trimmed};
 
 /// The fields of an entry, and the part that it belongs to.
@@ -25,7 +24,7 @@ pub(crate) struct EntryPieces<'a> {
 
 /// Returns the entry that a piece spells, and its part. Blanks alone are judged first, then the number of fields, then
 /// each field in order.
-#[tactic(auto, unfolding(crate::specs::internal::Reading::read_piece))]
+#[tactic(auto, unfolding(crate::specs::internal::Reading::read_piece, crate::specs::internal::Reading::read_word, crate::specs::internal::Reading::read_permissions))]
 pub(crate) fn read_piece(
     piece: Piece,
     line: usize,
@@ -41,9 +40,14 @@ pub(crate) fn read_piece(
     let Some(fields) = fields(piece) else {
         return Err(TextFault::Fields { line, column });
     };
-    let word = word_at(fields.tag, line)?;
+    let column = fields.tag.start();
+    let word = read_word(trimmed(fields.tag.bytes)).ok_or(TextFault::Tag { line, column })?;
     let tag = tag_at(fields.qualifier, line, word, names)?;
-    let perm = permissions_at(fields.permissions, line)?;
+    let column = fields.permissions.start();
+    let perm = read_permissions(trimmed(fields.permissions.bytes)).ok_or(TextFault::Permission {
+        line,
+        column,
+    })?;
     Ok((fields.part, Entry { tag, perm }))
 }
 
@@ -83,15 +87,6 @@ fn three<'a>(part: Part, piece: Piece<'a>) -> Option<EntryPieces<'a>>
     }
 }
 
-#[tactic(auto, unfolding(crate::specs::internal::Reading::read_word))]
-fn word_at(field: Piece, line: usize) -> Result<TagWord, TextFault>
-    requires { ColumnsFit field }
-    ensures { result ≡ read_word line (span_of field.entry) }
-{
-    let column = field.start();
-    read_word(trimmed(field.bytes)).ok_or(TextFault::Tag { line, column })
-}
-
 #[tactic(auto, unfolding(crate::specs::internal::Reading::read_tag))]
 fn tag_at(field: Piece, line: usize, word: TagWord, names: &Names) -> Result<Tag, TextFault>
     requires { ColumnsFit field }
@@ -114,13 +109,4 @@ fn tag_at(field: Piece, line: usize, word: TagWord, names: &Names) -> Result<Tag
         TagWord::User => names.user(qualifier).map(Tag::User).ok_or(unknown),
         TagWord::Group => names.group(qualifier).map(Tag::Group).ok_or(unknown),
     }
-}
-
-#[tactic(auto, unfolding(crate::specs::internal::Reading::read_permissions))]
-fn permissions_at(field: Piece, line: usize) -> Result<Perm, TextFault>
-    requires { ColumnsFit field }
-    ensures { mapped (λ perm. perm.bits) result ≡ read_permissions line (span_of field.entry) }
-{
-    let column = field.start();
-    read_permissions(trimmed(field.bytes)).ok_or(TextFault::Permission { line, column })
 }

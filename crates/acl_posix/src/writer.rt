@@ -1,12 +1,13 @@
 //! Writes the texts of ACLs to a sink.
-ghost use Rattle.std.specs.Prelude.{◌≡◌, ◌+◌, ◌<◌, OnErr, OnOk, None, length, option_map};
+ghost use Rattle.std.specs.Prelude.{◌≡◌, ◌+◌, ◌<◌, IfOk, OnErr, OnOk, None, length, option_map};
 ghost use Rattle.std.specs.FinMap as set;
 ghost use Rattle.acl_perm.specs.Counts.{count_limit};
 ghost use Rattle.acl_perm.specs.Devices.{one_more};
 ghost use Rattle.acl_perm.specs.Pieces.{Writes, WritesFrom};
+ghost use Rattle.acl_posix.specs.Programs.{file_text};
 ghost use Rattle.acl_posix.specs.Texts.{canonical_text, form_text, short_text, shown_text};
 ghost use Rattle.acl_posix.specs.Entries.{pairs};
-ghost use Rattle.acl_posix.specs.internal.Writing.{default_out, part_limit, part_out};
+ghost use Rattle.acl_posix.specs.internal.Writing.{part_out};
 
 use crate::acl::PosixAcl;
 use crate::entry::Entry;
@@ -15,7 +16,8 @@ use crate::file::PosixFile;
 use crate::form::Form;
 use crate::text_fault::Part;
 use acl_perm::internal::put_next;
-use acl_perm::{Sink, WriteFault};
+use acl_perm::{Counted, Sink, WriteFault};
+use std::alloc::{AllocError, Global};
 
 impl PosixFile {
     /// Writes the canonical text: one line per entry in canonical order, with the default ACL after the access ACL. It
@@ -53,6 +55,21 @@ impl PosixFile {
     {
         put_file(sink, form, &self.access, self.default.as_ref())?;
         Ok(())
+    }
+
+    /// Returns the text in a form, with a line feed after the short text, which `write_short` does not write. Fails
+    /// only if memory runs out.
+    pub fn to_text(&self, alloc: Global, form: Form) -> Result<Vec<u8>, AllocError>
+        ensures { IfOk result (λ text. text.items ≡ file_text form self.now) }
+    {
+        let mut text = Counted::new(Vec::new(alloc));
+        self.write(&mut text, form).map_err(|_| AllocError)?;
+        let mut text = text.into_inner();
+        match form {
+            Form::Canonical | Form::Shown => {}
+            Form::Short => text.push(b'\n')?,
+        }
+        Ok(text)
     }
 }
 
@@ -119,23 +136,6 @@ fn put_file<S: Sink>(
 {
     let entries = access.entries();
     let done = put_part(sink, 0, form, Part::Access, access, entries, true)?;
-    put_default(sink, done, form, default)
-}
-
-/// Writes the entries of the default part, if there is one.
-#[tactic(auto, using(crate::proofs::writer::Bounds::part_under))]
-fn put_default<S: Sink>(
-    sink: &mut S,
-    done: u64,
-    form: Form,
-    default: Option<&PosixAcl>,
-) -> Result<u64, WriteFault>
-    requires { done < part_limit }
-    ensures written { WritesFrom (S.contents sink.old) (S.contents sink.new) done
-        (default_out form (option_map (λ acl. acl.now) default.entry)) result }
-    ensures none_failed { OnOk result (S.failure_count sink.new ≡ S.failure_count sink.old) }
-    ensures failed { OnErr result (S.failure_count sink.new ≡ one_more (S.failure_count sink.old)) }
-{
     match default {
         Some(acl) => {
             let entries = acl.entries();

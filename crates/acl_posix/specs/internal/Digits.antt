@@ -1,6 +1,5 @@
 -- The digits that some bytes begin with (this library's own).
-use Rattle.std.specs.Prelude.{ℕ, ◌≡◌, ◌≤◌, ◌≢◌, List, length, min, slice_index, take, true}
-use Rattle.acl_perm.specs.Ascii.{zero_digit}
+use Rattle.std.specs.Prelude.{ℕ, ◌≡◌, ◌≤◌, List, length, min, take, true}
 use Rattle.std.specs.Char.{is_ascii_digit}
 use Rattle.std.specs.List.{list_all}
 use Rattle.std.specs.Str.Parse.{digits_value}
@@ -18,9 +17,3 @@ pub record AreFirstDigits (bytes : List ℕ) (first : FirstDigits) : Type 0 wher
   pub value : first.value ≡ digits_value 10 (take first.count bytes)
   -- if all bytes are digits, they end with the bytes, or there are ten
   pub all : list_all is_ascii_digit bytes ≡ true → first.count ≡ min (length bytes) most_digits
-
--- digits, and what is left of them without the zeros at the front
-pub record IsWithoutZeros (digits left : List ℕ) : Type 0 where
-  pub value : digits_value 10 left ≡ digits_value 10 digits
-  pub all : list_all is_ascii_digit digits ≡ true → list_all is_ascii_digit left ≡ true
-  pub no_zero : slice_index left 0 ≢ zero_digit

@@ -182,8 +182,3 @@ IsPartFault part entries (faults.Permission line column) = ⊥
 IsPartFault part entries (faults.EmptyEntry line column) = ⊥
 IsPartFault part entries (faults.Invalid which why) = (which ≡ part) × IsFaultOf entries (acl_fault why)
 IsPartFault part entries faults.Memory = Unit {0}
-
--- what a fault says about the entries of the default part, if there are any
-pub record IsDefaultFault (entries : List (Tag × ℕ)) (fault : TextFault) : Type 0 where
-  pub some_entry : 0 < length entries
-  pub wrong : IsPartFault Default entries fault

@@ -29,17 +29,9 @@ qualifier_room = most_digits
 abbrev pub word_room : ℕ
 word_room = 6
 
--- the most bytes of the fields of an entry
-abbrev pub fields_room : ℕ
-fields_room = word_room + qualifier_room + perm_room
-
--- the bytes of a mark: a tab, `#effective`, a colon and permissions
-abbrev pub mark_room : ℕ
-mark_room = 15
-
--- the most bytes after an entry: those of a mark and a line feed
+-- the most bytes after an entry: those of a mark (a tab, `#effective`, a colon and permissions) and a line feed
 abbrev pub ending_room : ℕ
-ending_room = mark_room + 1
+ending_room = 16
 
 -- the most bytes before an entry: those of `default:`
 abbrev pub lead_room : ℕ

@@ -1,5 +1,5 @@
 use Rattle.acl_posix.proofs.Common.{digits_value, is_ascii_digit, length, list_all, true, ◌≡◌}
-use Rattle.acl_posix.proofs.field.without_zeros.Given as goal
+use Rattle.acl_posix.proofs.field.read_id.Given as goal
 
 -- what is left has the number of all digits, and is digits if all bytes are
 abbrev pub invariant-loop-left : goal.invariant-loop-left

@@ -1,5 +1,5 @@
 use Rattle.acl_posix.proofs.Common.{map, packed, pairs, take, ◌≡◌}
-use Rattle.acl_posix.proofs.packed.packed_entries.Given as goal
+use Rattle.acl_posix.proofs.packed.sorted_keys.Given as goal
 
 -- the numbers of the entries before the place are there
 abbrev pub invariant-loop-entry : goal.invariant-loop-entry
