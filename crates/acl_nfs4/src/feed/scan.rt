@@ -1,5 +1,5 @@
 //! Judges a body from the place to which it was judged before, so that each whole ACE is judged once.
-ghost use Rattle.std.specs.Prelude.{◌≡◌, ◌+◌, ◌<◌, ◌≤◌, Some, length};
+ghost use Rattle.std.specs.Prelude.{◌+◌, ◌<◌, ◌≤◌, length};
 ghost use Rattle.acl_perm.specs.Profile.{profile_of};
 ghost use Rattle.acl_nfs4.specs.Spelling.{word_size};
 ghost use Rattle.acl_nfs4.specs.internal.Progress.{EndsPart, IsScanned};
@@ -23,18 +23,6 @@ pub(crate) struct Progress {
 pub(crate) struct Reach {
     pub progress: Progress,
     pub fault: Option<Fault>,
-}
-
-impl Reach {
-    /// Makes the end of the judging at a fault, after the ACEs that are whole.
-    pub(crate) fn at_fault(progress: Progress, fault: Fault) -> Reach
-        ensures { result ≡ record { progress = progress; fault = Some fault } }
-    {
-        Reach {
-            progress,
-            fault: Some(fault),
-        }
-    }
 }
 
 /// Judges the ACEs of a body after those that were judged before, up to the first that is not whole or is refused.
@@ -61,7 +49,12 @@ pub(crate) fn scan(body: &[u8], count: u32, from: Progress, profile: Profile) ->
                     weight: progress.weight + ace.mask.bits().count_ones(),
                 };
             }
-            Err(fault) => return Reach::at_fault(progress, fault),
+            Err(fault) => {
+                return Reach {
+                    progress,
+                    fault: Some(fault),
+                };
+            }
         }
     }
     Reach {

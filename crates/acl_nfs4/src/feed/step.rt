@@ -92,10 +92,16 @@ fn judge(text: &StreamBytes, from: Progress, profile: Profile) -> Reach
     ensures fits { length text.now < offset_limit }
 {
     if text.filled < 4 {
-        return Reach::at_fault(from, Fault::at_front(Reason::Truncated));
+        return Reach {
+            progress: from,
+            fault: Some(Fault::at_front(Reason::Truncated)),
+        };
     }
     match judges::count_of(word_in(&text.head, 0)) {
-        Err(reason) => Reach::at_fault(from, Fault::at_front(reason)),
+        Err(reason) => Reach {
+            progress: from,
+            fault: Some(Fault::at_front(reason)),
+        },
         Ok(count) => scan(&text.body, count, from, profile),
     }
 }

@@ -1,11 +1,10 @@
 //! Reads the fields of a list in memory, one after the other, and reports the offset of a field that is refused.
-ghost use Rattle.std.specs.Prelude.{◌≡◌, ◌+◌, ◌≤◌, Ok, IfOk, IfSome, count_ones, false};
+ghost use Rattle.std.specs.Prelude.{◌≡◌, ◌+◌, ◌≤◌, Ok, IfOk, IfSome, count_ones};
 ghost use Rattle.acl_perm.specs.Profile.{profile_of};
-ghost use Rattle.acl_nfs4.specs.Fields.{who_of, padding_of};
+ghost use Rattle.acl_nfs4.specs.Fields.{padding_of};
 ghost use Rattle.acl_nfs4.specs.Limits.{most_weight};
 ghost use Rattle.acl_nfs4.specs.internal.Reading.{Gives, Placed, field, word_field, ace_at};
 ghost use Rattle.acl_nfs4.specs.Spelling.{pad_len};
-ghost use Rattle.acl_nfs4.specs.Who.{is_no_who_len};
 ghost use Rattle.acl_nfs4.specs.internal.Cursor.{place};
 ghost use Rattle.acl_nfs4.specs.Ace.{ace};
 
@@ -43,8 +42,9 @@ pub(crate) fn next_ace<'a>(
     Ok(ace)
 }
 
-// Reads the next ACE if it is valid and its who is plain ASCII. `None` says nothing about the ACE. After the test of
-// the length, the compiler leaves out the test that each field is there.
+// Reads the next ACE if it is valid, its who is plain ASCII, and a whole word begins with its padding, by tests of many
+// bytes at once. `None` says nothing about the ACE. After the test of the length, the compiler leaves out the test that
+// each field is there.
 #[tactic(auto, unfolding(crate::specs::internal::Reading::ace_at))]
 #[inline(always)]
 fn plain_ace<'a>(cursor: &mut Cursor<'a>, weight: u32, profile: Profile) -> Option<AceRef<'a>>
@@ -64,45 +64,23 @@ fn plain_ace<'a>(cursor: &mut Cursor<'a>, weight: u32, profile: Profile) -> Opti
     let mask = judges::mask_of(number, weight, profile).ok()?;
     let (_, number) = word(cursor).ok()?;
     let len = judges::who_len_of(number).ok()?;
-    let who = plain_who(cursor, len)?;
-    plain_padding(cursor, len)?;
-    Some(AceRef {
-        kind,
-        flags,
-        mask,
-        who,
-    })
-}
-
-// Reads the who if a test of many bytes at once shows that it is valid.
-#[inline(always)]
-fn plain_who<'a>(cursor: &mut Cursor<'a>, len: usize) -> Option<&'a [u8]>
-    requires { is_no_who_len len ≡ false }
-    ensures { IfSome result (λ x. field len who_of (place cursor.old)
-        ≡ Ok (x.now, place cursor.new)) }
-{
     let rest = cursor.rest;
     let who = bytes(cursor, len).ok()?;
-    if begins_plain_ascii(rest, len) && !is_unknown_special(who) {
-        Some(who)
-    } else {
-        None
+    if !begins_plain_ascii(rest, len) || is_unknown_special(who) {
+        return None;
     }
-}
-
-// Reads the padding if it is zero and a whole word is there that begins with it.
-#[inline(always)]
-fn plain_padding(cursor: &mut Cursor<'_>, len: usize) -> Option<()>
-    ensures { IfSome result (λ _. field (pad_len len) padding_of (place cursor.old)
-        ≡ Ok (tt, place cursor.new)) }
-{
     let rest = cursor.rest;
     let pad = pad_len(len);
     if rest.len() < 4 || !begins_zero(rest, pad) {
         return None;
     }
     bytes(cursor, pad).ok()?;
-    Some(())
+    Some(AceRef {
+        kind,
+        flags,
+        mask,
+        who,
+    })
 }
 
 // Reads the next ACE field by field, up to the first field that is refused.
@@ -122,7 +100,8 @@ fn fields<'a>(cursor: &mut Cursor<'a>, weight: u32, profile: Profile) -> Result<
     let mask = placed(offset, judges::mask_of(number, weight, profile))?;
     let (offset, number) = word(cursor)?;
     let len = placed(offset, judges::who_len_of(number))?;
-    let who = who(cursor, len)?;
+    let offset = offset_of(cursor);
+    let who = placed(offset, judges::who_of(bytes(cursor, len)?))?;
     padding(cursor, len)?;
     Ok(AceRef {
         kind,
@@ -142,15 +121,6 @@ pub(crate) fn word(cursor: &mut Cursor<'_>) -> Result<(u64, u32), Fault>
     let offset = offset_of(cursor);
     let front = bytes(cursor, 4)?;
     Ok((offset, BigEndian::read_u32(front)))
-}
-
-#[inline(always)]
-fn who<'a>(cursor: &mut Cursor<'a>, len: usize) -> Result<&'a [u8], Fault>
-    requires { is_no_who_len len ≡ false }
-    ensures { Gives (λ x. (x.now, place cursor.new)) result (field len who_of (place cursor.old)) }
-{
-    let offset = offset_of(cursor);
-    placed(offset, judges::who_of(bytes(cursor, len)?))
 }
 
 #[inline(always)]

@@ -240,10 +240,16 @@ fn judge(bytes: &[u8], profile: Profile) -> Reach
         weight: 0,
     };
     if bytes.len() < 4 {
-        return Reach::at_fault(none, Fault::at_front(Reason::Truncated));
+        return Reach {
+            progress: none,
+            fault: Some(Fault::at_front(Reason::Truncated)),
+        };
     }
     match judges::count_of(word_in(bytes, 0)) {
-        Err(reason) => Reach::at_fault(none, Fault::at_front(reason)),
+        Err(reason) => Reach {
+            progress: none,
+            fault: Some(Fault::at_front(reason)),
+        },
         Ok(count) => {
             let (_, rest) = bytes.split_at(4);
             scan(rest, count, none, profile)

@@ -5,7 +5,7 @@ use Rattle.acl_nfs4.proofs.feed.step.judge.Goals as goal
 
 pub returns-then-text-lt4-clause-judged : goal.returns-then-text-lt4-clause-judged
 returns-then-text-lt4-clause-judged c =
-    rw (c.at_fault.ensures, c.at_front.ensures) (text_short (profile_of c.args.profile) c.args.text.now
+    rw c.at_front.ensures (text_short (profile_of c.args.profile) c.args.text.now
     (short_word c.text.inside.head c.text.inside.body.items c.args.text.now c.text.inside.filled c.text.invariant
     c.text.view_is c.if-text-lt4.true))
 
@@ -13,7 +13,7 @@ pub returns-in-Err-clause-judged : goal.returns-in-Err-clause-judged
 returns-in-Err-clause-judged c =
     let w = whole_word c.text.inside.head c.text.inside.body.items c.args.text.now c.text.inside.filled c.text.invariant
     c.text.view_is c.if-text-lt4.false in
-    rw (c.at_fault-in-Err.ensures, c.at_front-in-Err.ensures) (
+    rw c.at_front-in-Err.ensures (
       4,
       text_refused (profile_of c.args.profile) c.args.text.now c.in-Err.reason w.long
           (ap (λ (t : List ℕ). count_of (number t)) w.first ∙ ap count_of (sym c.word_in.ensures)

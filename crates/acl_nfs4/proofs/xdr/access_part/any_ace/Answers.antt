@@ -1,5 +1,5 @@
-use Rattle.acl_nfs4.proofs.Common.{field, flags_of, mask_of, Ok, pad_len, padding_of, place, Place, profile_of, who_len_of, word_field, ◌>>=◌, ◌∙◌}
-use Rattle.acl_nfs4.specs.PartFault.{any_who_of, type_of}
+use Rattle.acl_nfs4.proofs.Common.{flags_of, mask_of, place, Place, profile_of, who_len_of, ◌∙◌}
+use Rattle.acl_nfs4.specs.PartFault.{type_of}
 unfoldable use Rattle.acl_nfs4.specs.PartFault.{any_ace_at}
 use Rattle.acl_nfs4.proofs.Exits.{exit_is}
 use Rattle.acl_nfs4.proofs.xdr.Fields.{bind-ok}
@@ -24,9 +24,5 @@ returns-in_err-padding-clause-exact c =
     let len = word_accepted who_len_of (λ z. z) c.in_ok-offset-4.offset p3 c.who_len_of.result c.in_ok-len.len
     c.in_ok-offset-4.ensures.number c.who_len_of.ensures.exact c.in_ok-len.ensures in
     rw (exit_is c.from_residual-in_err-padding.result c.from_residual-in_err-padding.ensures.1)
-    (bind-ok (λ number. word_field (flags_of q) number.1 >>= λ flags.
-    word_field (mask_of q c.args.weight) flags.1 >>= λ mask. word_field who_len_of mask.1 >>= λ len.
-    field len.0 any_who_of len.1 >>= λ who. field (pad_len len.0) padding_of who.1 >>= λ padding.
-    Ok (record { type_number = number.0; flags = flags.0; mask = mask.0; who = who.0 }, padding.1)) type
-    ∙ bind-ok _ flags ∙ bind-ok _ mask ∙ bind-ok _ len ∙ bind-ok _ c.in_ok-who.ensures.exact
+    (bind-ok _ type ∙ bind-ok _ flags ∙ bind-ok _ mask ∙ bind-ok _ len ∙ bind-ok _ c.in_ok-who.ensures.exact
     ∙ bind-err _ c.in_err-padding.ensures)

@@ -1,6 +1,6 @@
-use Rattle.acl_nfs4.proofs.Common.{flags_of, kind_of, mask_of, Ok, place, Place, profile_of, who_len_of, word_field, ◌∙◌, ◌≡◌}
+use Rattle.acl_nfs4.proofs.Common.{false, field, flags_of, is_no_who_len, kind_of, mask_of, Ok, padding_of, place, Place, profile_of, who_len_of, word_field, ◌∙◌, ◌≡◌}
 use Rattle.acl_nfs4.proofs.xdr.Fields.{bind-ok}
-use Rattle.acl_nfs4.proofs.xdr.ReadFields.{ok_gives, ok_value, read_to_len, word_given}
+use Rattle.acl_nfs4.proofs.xdr.ReadFields.{ok_gives, ok_if, ok_value, plain_who_read, read_to_len, word_given, zero_padding_read}
 use Rattle.acl_nfs4.proofs.xdr.reading.plain_ace.Goals as goal
 
 pub returns-clause-exact : goal.returns-clause-exact
@@ -26,5 +26,17 @@ returns-clause-exact c =
     c.who_len_of.result c.in_ok-len.len (ok_gives (λ x. (x.1, p4)) c.word-4.result (word_field (λ n. Ok n) p3) _
     c.word-4.ensures.number c.in_ok-number-4.ensures.value) c.who_len_of.ensures.exact
     (ok_value _ _ c.in_ok-len.ensures.value) in
-    read_to_len q c.args.weight p0 p1 p2 p3 _ _ _ kind flags mask ∙ bind-ok _ len ∙ bind-ok _ c.in_ok-who.ensures
-    ∙ bind-ok _ c.in_ok-plain_padding.ensures
+    let p5 : Place = place c.bytes.new.cursor in
+    let p6 : Place = place c.bytes-2.new.cursor in
+    let some = ok_if (λ n. is_no_who_len n ≡ false) c.who_len_of.result c.in_ok-len.len c.in_ok-len.ensures.value
+    c.who_len_of.ensures.some in
+    let who = plain_who_read p4 c.in_ok-len.len some (ok_gives (λ x. (x.now, p5)) c.bytes.result
+    (field c.in_ok-len.len (λ bytes. Ok bytes) p4) c.in_ok-who.who c.bytes.ensures c.in_ok-who.ensures.value)
+    (c.begins_plain_ascii.ensures c.if-not-begins_plain_ascii.false) c.is_unknown_special.ensures
+    c.if-is_unknown_special.false in
+    let padding : field c.pad_len-pad.result padding_of p5 ≡ Ok (tt, p6) =
+    zero_padding_read p5 c.pad_len-pad.result (ok_gives (λ x. (x.now, p6)) c.bytes-2.result
+    (field c.pad_len-pad.result (λ bytes. Ok bytes) p5) _ c.bytes-2.ensures c.in_ok-ok.ensures.value)
+    (c.begins_zero.ensures c.if-not-begins_zero.false) in
+    read_to_len q c.args.weight p0 p1 p2 p3 _ _ _ kind flags mask ∙ bind-ok _ len ∙ bind-ok _ who
+    ∙ bind-ok _ (rw c.pad_len-pad.ensures at padding)

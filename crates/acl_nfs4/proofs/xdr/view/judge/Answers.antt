@@ -4,11 +4,11 @@ use Rattle.acl_nfs4.proofs.feed.Streaming.{judged_is, text_refused, text_short}
 use Rattle.acl_nfs4.proofs.xdr.view.judge.Goals as goal
 
 pub returns-then-bytes-lt4 : goal.returns-then-bytes-lt4
-returns-then-bytes-lt4 c = rw (c.at_fault.ensures, c.at_front.ensures)
+returns-then-bytes-lt4 c = rw c.at_front.ensures
     (text_short (profile_of c.args.profile) c.args.bytes.now c.if-bytes-lt4.true)
 
 pub returns-in-Err : goal.returns-in-Err
-returns-in-Err c = rw (c.at_fault-in-Err.ensures, c.at_front-in-Err.ensures) (
+returns-in-Err c = rw c.at_front-in-Err.ensures (
   4,
   text_refused (profile_of c.args.profile) c.args.bytes.now c.in-Err.reason (omega arith)
       (ap count_of (sym c.word_in.ensures) ∙ c.in-Err.ensures.exact),
