@@ -14,7 +14,7 @@ use Rattle.acl_posix.specs.declared.raw_entry.RawEntry.{RawEntry}
 use Rattle.acl_posix.specs.Tag.{Tag, user_obj, user, group_obj, group, mask, other, rank}
 use Rattle.acl_posix.specs.Entries.{Entries, as_set}
 use Rattle.acl_posix.specs.Valid.{IsFaultOf, tag_at}
-use Rattle.acl_posix.specs.RawEntries.{AreEntries, IsFirstWrong, IsValidRaw, raw_of, raw_pairs}
+use Rattle.acl_posix.specs.RawEntries.{AreEntries, IsFirstWrong, IsValidRaw, no_tag_number, raw_of, raw_pairs}
 
 -- ---- the bytes of an ACL
 
@@ -51,7 +51,7 @@ attribute_bytes acl = little_bytes version_size attribute_version ++ flat_map en
 
 -- ---- what bytes mean
 
--- the number of the tag type with a code, or 0 if there is none
+-- the number of the tag type with a code, or the number that stands for none
 abbrev pub coded_number : ℕ → ℕ
 coded_number code =
     if code == 0x01 then 1
@@ -60,7 +60,7 @@ coded_number code =
     else (if code == 0x08 then 4
     else (if code == 0x10 then 5
     else (if code == 0x20 then 6
-    else 0)))))
+    else no_tag_number)))))
 
 -- the numbers of the entry in eight bytes
 unfoldable pub stored_raw : List ℕ → RawEntry

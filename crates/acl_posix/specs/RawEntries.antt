@@ -21,6 +21,10 @@ raw_tag_number tag = rank tag + 1
 abbrev pub last_tag_number : ℕ
 last_tag_number = 6
 
+-- the number that stands for no tag type
+abbrev pub no_tag_number : ℕ
+no_tag_number = 0
+
 -- the number that stands for no id
 abbrev pub undefined_id : ℕ
 undefined_id = 4294967295
@@ -58,7 +62,7 @@ raw_pairs raws = map raw_pair raws
 -- what is wrong with the tag: its number is none of 1 to 6, or it is USER or GROUP and the id is not an id
 abbrev pub tag_fault : RawEntry → Option EntryFault
 tag_fault raw =
-    if (raw.tag == 0) || nat_lt 6 raw.tag then Some wrong.Tag
+    if (raw.tag == no_tag_number) || nat_lt last_tag_number raw.tag then Some wrong.Tag
     else (if is_named (raw_tag raw) && nat_lt greatest_id raw.id then Some wrong.Id
     else None)
 

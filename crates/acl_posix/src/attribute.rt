@@ -1,15 +1,15 @@
 //! The bytes of the extended attributes that hold ACLs on Linux.
-ghost use Rattle.std.specs.Prelude.{◌≡◌, ◌≤◌, ◌⊎◌, None, Option, Some, drop, length, IfErr, IfOk, IfSome, IsNone};
+ghost use Rattle.std.specs.Prelude.{◌≡◌, ◌≤◌, ◌⊎◌, None, Option, Some, drop, length, unwrap_or, IfErr, IfOk, IfSome, IsNone};
 ghost use Rattle.acl_posix.specs.declared.attribute_fault.AttributeFault.TheVariants.{Acl};
 ghost use Rattle.acl_posix.specs.declared.fault.AclFault.TheVariants.{Memory};
 ghost use Rattle.acl_posix.specs.Entries.{Entries, pairs};
-ghost use Rattle.acl_posix.specs.RawEntries.{last_tag_number};
+ghost use Rattle.acl_posix.specs.RawEntries.{last_tag_number, no_tag_number};
 ghost use Rattle.acl_posix.specs.Attribute.{attribute_raws, coded_number, entry_size, frame_fault, IsAttributeOf, IsFaultOfAttribute, IsFirstFall, NeverFalls, stored_raw, stored_raws};
 
 use crate::acl::PosixAcl;
 use crate::attribute_fault::AttributeFault;
 use crate::entry::Entry;
-use crate::raw_entry::RawEntry;
+use crate::raw_entry::{NO_TAG, RawEntry};
 use crate::raw_list::read_entries;
 use byteorder::{ByteOrder, LittleEndian};
 use std::alloc::{AllocError, Global};
@@ -92,25 +92,25 @@ pub fn stored_raw(bytes: &[u8]) -> RawEntry
     ensures known { result.tag ≤ last_tag_number }
 {
     RawEntry {
-        tag: coded_number(LittleEndian::read_u16(bytes)),
+        tag: coded_number(LittleEndian::read_u16(bytes)).unwrap_or(NO_TAG),
         id: LittleEndian::read_u32(&bytes[4..]),
         perm: u32::from(LittleEndian::read_u16(&bytes[2..])),
     }
 }
 
-/// Returns the number of the tag type with a code, or 0 if there is none.
-fn coded_number(code: u16) -> u32
-    ensures number { result ≡ coded_number code }
-    ensures known { result ≤ last_tag_number }
+/// Returns the number of the tag type with a code, if there is one.
+fn coded_number(code: u16) -> Option<u32>
+    ensures number { unwrap_or result no_tag_number ≡ coded_number code }
+    ensures known { IfSome result (λ number. number ≤ last_tag_number) }
 {
     match code {
-        0x01 => 1,
-        0x02 => 2,
-        0x04 => 3,
-        0x08 => 4,
-        0x10 => 5,
-        0x20 => 6,
-        _ => 0,
+        0x01 => Some(1),
+        0x02 => Some(2),
+        0x04 => Some(3),
+        0x08 => Some(4),
+        0x10 => Some(5),
+        0x20 => Some(6),
+        _ => None,
     }
 }
 

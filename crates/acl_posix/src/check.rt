@@ -53,8 +53,8 @@ pub(crate) trait AccessCheck: EntrySet {
     /// Returns whether the entries that match by a group of the requester grant the request: with a MASK, if MASK and
     /// one of them contain it; without a MASK, if the entry of the owning group contains it.
     fn class_contains<G: GroupNumber>(&self, owning_group: Id, groups: &[G], request: Perm) -> bool
-        ensures { result
-            ≡ class_contains (Self.entries self.now) owning_group.value (map G.number groups.now) request.bits }
+        ensures { result ≡ class_contains (Self.entries self.now) owning_group.value
+            (map G.number groups.now) request.bits }
     {
         match self.get(Tag::Mask) {
             Some(mask) => mask.contains(request)

@@ -51,6 +51,9 @@ pub enum EntriesFault {
     Acl(AclFault),
 }
 
+/// The number in place of that of a tag type that means none.
+pub(crate) const NO_TAG: u32 = 0;
+
 /// The number in place of an id that means none.
 pub const UNDEFINED_ID: u32 = u32::MAX;
 
@@ -118,8 +121,5 @@ fn read_perm(number: u32) -> Option<Perm>
     ensures some { IfSome result (λ perm. perm.bits ≡ number) }
     ensures none { IsSome result ↔ (number ≤ all_permissions) }
 {
-    if number > 7 {
-        return None;
-    }
-    Perm::new(number as u8)
+    Perm::new(u8::try_from(number).ok()?)
 }

@@ -45,7 +45,8 @@ fn read_first<'a>(
 ) -> Result<Option<&'a [u8]>, TextFault>
     ensures { MatchResult result
         (ReadsOn names.now number text.now (lists_of lists.old) (lists_of lists.new))
-        (λ fault. FailsWith fault (read_lines_from names.now (lists_of lists.old) number text.now)) }
+        (λ fault. FailsWith fault
+        (read_lines_from names.now (lists_of lists.old) number text.now)) }
 {
     if let Some(line) = written_line(text) {
         push(lists, line.part, line.entry)?;
