@@ -14,7 +14,7 @@ use Rattle.acl_posix.proofs.tag.Tags.{length-tags_of}
 
 -- ---- users whom a set names
 
--- the tag with a user is USER
+-- a tag that has the id of a user is the USER tag of this user
 is_user : (t : Tag) (u : ℕ) → user_id t ≡ Some u → t ≡ user u
 is_user (user id) u h = ap (λ (o : Option ℕ). user (unwrap_or o u)) h
 is_user tag u h = absurd cc
@@ -207,14 +207,14 @@ any_moved E og was r (g ∷ gs) not =
     (any_moved E og was r gs not) (rw (eq-eqb og og refl, none) refl)
     (λ same. ap e (eqb-true g og same) ∙ none) (λ other. rw other refl)
 
--- so does the answer to one who is not the owner and whom no USER entry names
+-- with it, the answer to one who is not the owner and whom no USER entry names is the same
 stranger_moved : (E : Entries) (og was r : ℕ) (gs : List ℕ) → fin.contains_key E (group og) ≡ false
     → stranger_grants E og (moved og was gs) r ≡ stranger_grants E was gs r
 stranger_moved E og was r gs not =
     stranger_parts E og r (moved og was gs)
     ∙ rw (any_moved E og was 0 gs not, any_moved E og was r gs not) (sym (stranger_parts E was r gs))
 
--- so does the answer to each who is not the owner
+-- with it, the answer to each who is not the owner is the same
 answer_moved : (E : Entries) (og was u r : ℕ) (gs : List ℕ) → fin.contains_key E (group og) ≡ false
     → answer_of E og u (moved og was gs) r ≡ answer_of E was u gs r
 answer_moved E og was u r gs not =

@@ -26,7 +26,7 @@ joined answer (g ∷ gs) = join (answer g) (joined answer gs)
 abbrev part : Bool → Bool → Bool → Bool → Bool → Option Bool
 part f masked m k go = cond f (Some (cond masked (m && k) go)) None
 
--- the answers to two groups together: one of the groups has the request
+-- two answers together, in parts: one of the two groups has the request
 some_either : (masked m k l go : Bool)
     → join (Some (cond masked (m && k) go)) (Some (cond masked (m && l) go)) ≡ Some (cond masked (m && (k || l)) go)
 some_either true true k l go = refl
@@ -243,7 +243,7 @@ none_answered A B og r own others owning entry g h = elim (answered_at A og r g 
 
 -- ---- what one set grants and another denies
 
--- a group is an excess if the first set grants by it and the second denies, OTHER for an answer that is absent
+-- a group is an excess if its answers, or OTHER for an absent one, grant in the first set and deny in the second
 with_answers : (A B : Entries) (og r g : ℕ) (a b : Option Bool) → group_answer A og r g ≡ a → group_answer B og r g ≡ b
     → unwrap_or a (entry_contains A other r) ≡ true → unwrap_or b (entry_contains B other r) ≡ false
     → IsGroupExcess A B og r (g ∷ [])
@@ -361,7 +361,7 @@ pub reached_one : (E : Entries) (og r g : ℕ) (b : Bool) → group_answer E og 
 reached_one E og r g b is =
     with_one E og r g ∙ ap (λ (x : Option Bool). unwrap_or x (entry_contains E other r)) is
 
--- what neither the answer is nor that of OTHER is not the result
+-- a result that neither the answer nor OTHER gives is not given
 unwrapped : (a : Option Bool) (o b : Bool) → (a ≡ Some b → ⊥) → (o ≡ b → ⊥) → unwrap_or a o ≡ b → ⊥
 unwrapped None o b never differs h = differs h
 unwrapped (Some x) o b never differs h = never (ap (λ (y : Bool). Some y) h)
