@@ -9,7 +9,7 @@ import os
 import signal
 import sqlite3
 import sys
-from typing import TYPE_CHECKING, Callable, Dict, Iterator, List, NoReturn, Optional
+from typing import TYPE_CHECKING, Any, Callable, Dict, Iterator, List, NoReturn, Optional, Sequence, Tuple, Union
 
 from . import VERSION
 from .errors import DEVICE, REFUSED, USAGE, DeviceError, TreeError, UsageError, tell
@@ -46,164 +46,126 @@ class _Parser(argparse.ArgumentParser):
         (file or sys.stderr).write(message)  # that of argparse says nothing of a failure
 
 
-def _add_word(words: "argparse._SubParsersAction[_Parser]", word: str, about: str, description: str) -> _Parser:
-    return words.add_parser(word, help=about, description=description, allow_abbrev=False,
-                            epilog=f"example: {EXAMPLES[word]}\n\n{_EXIT}",
-                            formatter_class=argparse.RawDescriptionHelpFormatter)
+_Argument = Tuple[str, Dict[str, Any]]
+"""The name of an argument, and what `add_argument` gets with it."""
 
+_Arguments = Sequence[Union[_Argument, List[_Argument]]]
+"""Arguments, of which those in one list exclude each other."""
 
-def _add_form(parser: argparse.ArgumentParser) -> None:
-    form = parser.add_mutually_exclusive_group()
-    form.add_argument("--csv", dest="form", action="store_const", const=Form.CSV,
-                      help="write CSV, one line per object or answer")
-    form.add_argument("--json", dest="form", action="store_const", const=Form.JSON,
-                      help="write one JSON object per line")
-    parser.add_argument("--raw", action="store_true", help="with --csv: put no apostrophe in front of a cell that a "
-                        "spreadsheet would run")
-    parser.set_defaults(form=Form.TEXT)
+_SNAPSHOT: _Argument = ("snapshot", dict(metavar="SNAPSHOT"))
+_SNAPSHOTS: _Argument = ("snapshot", dict(nargs="+", metavar="SNAPSHOT"))
+_OUTPUT: _Argument = ("-o", dict(dest="output", metavar="SNAPSHOT", required=True, help="the file to make"))
+_EACH: _Argument = ("--each", dict(action="store_true", help="write one line per object"))
+_PATH: _Argument = ("--path", dict(metavar="GLOB", help="only the objects whose path matches, where * matches a slash "
+                                   "too"))
+_REACH: _Argument = ("--reach", dict(action="store_true", help="EXECUTE, or x, on each directory of the tree above an "
+                                     "object counts too"))
+_WANT: _Arguments = [
+    ("--may", dict(metavar="RIGHTS", required=True, help="letters of rwx, or names of rights with | between")),
+    ("--any", dict(action="store_true", help="ask for any of the rights, and not for all")),
+    _PATH, _REACH]
+_USER: _Arguments = [
+    ("--user", dict(metavar="USER", required=True, help="who asks; NAME=ID gives an id")),
+    ("--groups", dict(metavar="GROUPS", help="the user's groups, with commas between; else those that the scanned "
+                      "system listed"))]
+_PEOPLE: _Arguments = [
+    [("--people", dict(metavar="FILE", help="who is asked about: lines `name: group group ..`")),
+     ("--passwd", dict(metavar="FILE", help="the same, in the form of passwd(5), with --group")),
+     ("--getent", dict(action="store_true", help="the accounts that this system lists; without any of these, those "
+                       "that the scanned system listed"))],
+    ("--group", dict(metavar="FILE", help="groups in the form of group(5), with --passwd"))]
+_DOMAIN: _Argument = ("--domain", dict(metavar="DOMAIN", help="what follows @ in the names of NFSv4 lists"))
+_LINUX: _Argument = ("--linux", dict(action="store_true", help="ask POSIX lists as Linux does where their mask is "
+                                     "empty"))
+_FORM: _Arguments = [
+    [("--csv", dict(dest="form", action="store_const", const=Form.CSV, default=Form.TEXT,
+                    help="write CSV, one line per object or answer")),
+     ("--json", dict(dest="form", action="store_const", const=Form.JSON, default=Form.TEXT,
+                     help="write one JSON object per line"))],
+    ("--raw", dict(action="store_true", help="with --csv: put no apostrophe in front of a cell that a spreadsheet "
+                   "would run"))]
 
-
-def _add_people(parser: argparse.ArgumentParser) -> None:
-    people = parser.add_mutually_exclusive_group()
-    people.add_argument("--people", metavar="FILE", help="who is asked about: lines `name: group group ..`")
-    people.add_argument("--passwd", metavar="FILE", help="the same, in the form of passwd(5), with --group")
-    people.add_argument("--getent", action="store_true", help="the accounts that this system lists; without any of "
-                        "these, those that the scanned system listed")
-    parser.add_argument("--group", metavar="FILE", help="groups in the form of group(5), with --passwd")
-
-
-def _add_domain(parser: argparse.ArgumentParser, linux: bool = True) -> None:
-    parser.add_argument("--domain", metavar="DOMAIN", help="what follows @ in the names of NFSv4 lists")
-    if linux:
-        parser.add_argument("--linux", action="store_true",
-                            help="ask POSIX lists as Linux does where their mask is empty")
-
-
-def _add_want(parser: argparse.ArgumentParser) -> None:
-    parser.add_argument("--may", metavar="RIGHTS", required=True,
-                        help="letters of rwx, or names of rights with | between")
-    parser.add_argument("--any", action="store_true", help="ask for any of the rights, and not for all")
-    _add_path(parser)
-    _add_reach(parser)
-
-
-def _add_reach(parser: argparse.ArgumentParser) -> None:
-    parser.add_argument("--reach", action="store_true",
-                        help="EXECUTE, or x, on each directory of the tree above an object counts too")
-
-
-def _add_path(parser: argparse.ArgumentParser) -> None:
-    parser.add_argument("--path", metavar="GLOB",
-                        help="only the objects whose path matches, where * matches a slash too")
-
-
-def _add_user(parser: argparse.ArgumentParser) -> None:
-    parser.add_argument("--user", metavar="USER", required=True, help="who asks; NAME=ID gives an id")
-    parser.add_argument("--groups", metavar="GROUPS",
-                        help="the user's groups, with commas between; else those that the scanned system listed")
-
-
-def _add_scan(words: "argparse._SubParsersAction[_Parser]") -> None:
-    scan = _add_word(words, "scan", "read trees into a snapshot",
-                     "Reads lists, owners, groups and modes of all objects in trees into one file.")
-    scan.add_argument("tree", nargs="*", metavar="TREE",
-                      help="a directory; a link to one is followed, links in it are not")
-    scan.add_argument("-o", dest="output", metavar="SNAPSHOT", required=True, help="the file to make")
-    scan.add_argument("--one-file-system", action="store_true", help="do not go into other file systems")
-    scan.add_argument("--threads", type=int, default=32, metavar="N", help="how many objects to read at once where a "
-                      "read waits (32)")
-    scan.add_argument("--attribute", metavar="NAME", help="read NFSv4 lists from this attribute alone; else from "
-                      "system.nfs4_acl, system.nfs4_dacl, security.nfs4acl_xdr or system.nfs4_acl_xdr, whichever "
-                      "comes first")
-    scan.add_argument("--host", metavar="NAME", help="the name of this host in the snapshot")
-    scan.add_argument("--quiet", action="store_true", help="report failures alone")
-    scan.add_argument("--from", dest="list", metavar="FILE", help="read only the paths of this list, or of standard "
-                      "input for -, which are paths below the tree; a zero byte ends each, as in find -print0")
-    scan.add_argument("--lines", action="store_true", help="with --from: a line feed ends each path")
-    scan.add_argument("--archive", metavar="FILE", action="append", default=[],
-                      help="read the members of this tar archive, and no tree; may be given several times")
-    scan.add_argument("--root", metavar="DIRECTORY", help="with --archive: the directory of the archive that is the "
-                      "tree; else the whole archive is")
-    scan.add_argument("--shard", metavar="I/N", help="read only shard I of N, which merge joins")
-    scan.add_argument("--key", metavar="FILE", help="with --shard: bytes that nobody else knows, the same for all "
-                      "shards")
-    merge = _add_word(words, "merge", "join snapshots",
-                      "Joins the snapshots of several hosts, and those of all shards of a tree.")
-    merge.add_argument("snapshot", nargs="+", metavar="SNAPSHOT")
-    merge.add_argument("-o", dest="output", metavar="SNAPSHOT", required=True, help="the file to make")
-
-
-def _add_questions(words: "argparse._SubParsersAction[_Parser]") -> None:
-    who = _add_word(words, "who", "who may do something, object by object",
-                    "Writes which of some people may do what is asked.")
-    may = _add_word(words, "may", "on what one user may do something",
-                    "Writes the objects on which one user may do what is asked.")
-    why = _add_word(words, "why", "which ACE or entry decides",
-                    "Writes of each right which ACE or entry decides about it for one user.")
-    for parser in (who, may, why):
-        parser.add_argument("snapshot", metavar="SNAPSHOT")
-    why.add_argument("path", metavar="PATH")
-    _add_want(who)
-    _add_people(who)
-    _add_want(may)
-    _add_user(may)
-    _add_user(why)
-    why.add_argument("--may", metavar="RIGHTS", help="only about these rights")
-    who.add_argument("--each", action="store_true", help="write one line per object")
-    may.add_argument("--all", action="store_true", help="write the objects on which it is denied, too")
-    for parser in (who, may, why):
-        _add_domain(parser)
-        _add_form(parser)
-
-
-def _add_comparisons(words: "argparse._SubParsersAction[_Parser]") -> None:
-    same = _add_word(words, "same", "which objects grant the same",
-                     "Writes the classes of objects whose lists grant the same, greatest first.")
-    same.add_argument("snapshot", metavar="SNAPSHOT")
-    same.add_argument("--inherit", action="store_true", help="of directories, what is made below them counts too")
-    same.add_argument("--each", action="store_true", help="write one line per object")
-    _add_path(same)
-    diff = _add_word(words, "diff", "what changed between two snapshots, and for whom",
-                     "Writes which objects came, went or changed, and for whom access changed.")
-    diff.add_argument("old", metavar="OLD")
-    diff.add_argument("new", metavar="NEW")
-    diff.add_argument("--each", action="store_true", help="write one line per object, and not one per class of changes")
-    diff.add_argument("--pair", metavar="OLD=NEW", action="append", default=[],
-                      help="these paths are one tree; may be given several times")
-    _add_people(diff)
-    _add_domain(diff, linux=False)
-    policy = _add_word(words, "policy", "whether a tree keeps a policy, and what breaks it",
-                       "Writes which objects break a rule of a policy, with the ACE or entry that does, and for whom.")
-    policy.add_argument("snapshot", metavar="SNAPSHOT")
-    policy.add_argument("policy", metavar="POLICY", help="the rules, in TOML")
-    policy.add_argument("--each", action="store_true", help="write one line per object and rule")
-    _add_people(policy)
-    _add_domain(policy)
-    for parser in (same, diff, policy):
-        _add_form(parser)
-
-
-def _add_exports(words: "argparse._SubParsersAction[_Parser]") -> None:
-    report = _add_word(words, "report", "make a page of HTML",
-                       "Makes one page with totals, a table of who has which access, and findings.")
-    report.add_argument("snapshot", metavar="SNAPSHOT")
-    report.add_argument("-o", dest="output", metavar="FILE", help="the page to make; else it goes to standard output")
-    _add_people(report)
-    _add_domain(report)
-    _add_path(report)
-    _add_reach(report)
-    report.add_argument("--policy", metavar="POLICY", help="the rules of this file come first in the findings")
-    info = _add_word(words, "info", "what a snapshot has",
-                     "Writes which trees a snapshot has, and each step of its scan that failed.")
-    info.add_argument("snapshot", metavar="SNAPSHOT")
-    for parser in (report, info):
-        _add_form(parser)
-    load = _add_word(words, "load", "put snapshots into a database",
-                     "Puts snapshots into tables of PostgreSQL, all of them or none. It needs psql.")
-    load.add_argument("snapshot", nargs="+", metavar="SNAPSHOT")
-    load.add_argument("--dsn", metavar="DSN", help="the database, as psql takes it; else the variables of psql name it")
-    _add_people(load)
-    _add_domain(load, linux=False)
+_WORDS: Dict[str, Tuple[str, str, _Arguments]] = {
+    "scan": (
+        "read trees into a snapshot",
+        "Reads lists, owners, groups and modes of all objects in trees into one file.", [
+            ("tree", dict(nargs="*", metavar="TREE",
+                          help="a directory; a link to one is followed, links in it are not")),
+            _OUTPUT,
+            ("--one-file-system", dict(action="store_true", help="do not go into other file systems")),
+            ("--threads", dict(type=int, default=32, metavar="N",
+                               help="how many objects to read at once where a read waits (32)")),
+            ("--attribute", dict(metavar="NAME", help="read NFSv4 lists from this attribute alone; else from "
+                                 "system.nfs4_acl, system.nfs4_dacl, security.nfs4acl_xdr or system.nfs4_acl_xdr, "
+                                 "whichever comes first")),
+            ("--host", dict(metavar="NAME", help="the name of this host in the snapshot")),
+            ("--quiet", dict(action="store_true", help="report failures alone")),
+            ("--from", dict(dest="list", metavar="FILE", help="read only the paths of this list, or of standard input "
+                            "for -, which are paths below the tree; a zero byte ends each, as in find -print0")),
+            ("--lines", dict(action="store_true", help="with --from: a line feed ends each path")),
+            ("--archive", dict(metavar="FILE", action="append", default=[], help="read the members of this tar "
+                               "archive, and no tree; may be given several times")),
+            ("--root", dict(metavar="DIRECTORY", help="with --archive: the directory of the archive that is the tree; "
+                            "else the whole archive is")),
+            ("--shard", dict(metavar="I/N", help="read only shard I of N, which merge joins")),
+            ("--key", dict(metavar="FILE", help="with --shard: bytes that nobody else knows, the same for all "
+                           "shards"))]),
+    "merge": (
+        "join snapshots", "Joins the snapshots of several hosts, and those of all shards of a tree.",
+        [_SNAPSHOTS, _OUTPUT]),
+    "who": (
+        "who may do something, object by object", "Writes which of some people may do what is asked.",
+        [_SNAPSHOT, *_WANT, *_PEOPLE, _EACH, _DOMAIN, _LINUX, *_FORM]),
+    "may": (
+        "on what one user may do something", "Writes the objects on which one user may do what is asked.", [
+            _SNAPSHOT, *_WANT, *_USER,
+            ("--all", dict(action="store_true", help="write the objects on which it is denied, too")),
+            _DOMAIN, _LINUX, *_FORM]),
+    "why": (
+        "which ACE or entry decides", "Writes of each right which ACE or entry decides about it for one user.", [
+            _SNAPSHOT,
+            ("path", dict(metavar="PATH")),
+            *_USER,
+            ("--may", dict(metavar="RIGHTS", help="only about these rights")),
+            _DOMAIN, _LINUX, *_FORM]),
+    "same": (
+        "which objects grant the same", "Writes the classes of objects whose lists grant the same, greatest first.", [
+            _SNAPSHOT,
+            ("--inherit", dict(action="store_true", help="of directories, what is made below them counts too")),
+            _EACH, _PATH, *_FORM]),
+    "diff": (
+        "what changed between two snapshots, and for whom",
+        "Writes which objects came, went or changed, and for whom access changed.", [
+            ("old", dict(metavar="OLD")),
+            ("new", dict(metavar="NEW")),
+            ("--each", dict(action="store_true", help="write one line per object, and not one per class of changes")),
+            ("--pair", dict(metavar="OLD=NEW", action="append", default=[],
+                            help="these paths are one tree; may be given several times")),
+            *_PEOPLE, _DOMAIN, *_FORM]),
+    "policy": (
+        "whether a tree keeps a policy, and what breaks it",
+        "Writes which objects break a rule of a policy, with the ACE or entry that does, and for whom.", [
+            _SNAPSHOT,
+            ("policy", dict(metavar="POLICY", help="the rules, in TOML")),
+            ("--each", dict(action="store_true", help="write one line per object and rule")),
+            *_PEOPLE, _DOMAIN, _LINUX, *_FORM]),
+    "report": (
+        "make a page of HTML", "Makes one page with totals, a table of who has which access, and findings.", [
+            _SNAPSHOT,
+            ("-o", dict(dest="output", metavar="FILE", help="the page to make; else it goes to standard output")),
+            *_PEOPLE, _DOMAIN, _LINUX, _PATH, _REACH,
+            ("--policy", dict(metavar="POLICY", help="the rules of this file come first in the findings")),
+            *_FORM]),
+    "info": (
+        "what a snapshot has", "Writes which trees a snapshot has, and each step of its scan that failed.",
+        [_SNAPSHOT, *_FORM]),
+    "load": (
+        "put snapshots into a database",
+        "Puts snapshots into tables of PostgreSQL, all of them or none. It needs psql.", [
+            _SNAPSHOTS,
+            ("--dsn", dict(metavar="DSN", help="the database, as psql takes it; else the variables of psql name it")),
+            *_PEOPLE, _DOMAIN])}
+"""The words, each with a line about it, what it does, and its arguments in the order of the help."""
 
 
 def parser_of() -> argparse.ArgumentParser:
@@ -213,14 +175,23 @@ def parser_of() -> argparse.ArgumentParser:
                      description="Who may do what in a whole tree of files. It reads live files and never writes one.")
     parser.add_argument("--version", action="version", version=f"aclck-tree {VERSION}")
     words = parser.add_subparsers(dest="word", metavar="COMMAND", required=True, parser_class=_Parser)
-    _add_scan(words)
-    _add_questions(words)
-    _add_comparisons(words)
-    _add_exports(words)
+    for word, (about, description, arguments) in _WORDS.items():
+        of_word = words.add_parser(word, help=about, description=description, allow_abbrev=False,
+                                   epilog=f"example: {EXAMPLES[word]}\n\n{_EXIT}",
+                                   formatter_class=argparse.RawDescriptionHelpFormatter)
+        for one in arguments:
+            group = of_word.add_mutually_exclusive_group() if isinstance(one, list) else of_word
+            for name, options in one if isinstance(one, list) else [one]:
+                group.add_argument(name, **options)
     return parser
 
 
-def _run(args: argparse.Namespace) -> int:
+def _run(words: Optional[List[str]]) -> int:
+    """Runs one command, and returns its exit status."""
+    try:
+        args = parser_of().parse_args(words)
+    except SystemExit as done:  # after --help or --version, or a wrong command line
+        return done.code if isinstance(done.code, int) else USAGE
     if getattr(args, "raw", False):
         if args.form is not Form.CSV:
             raise UsageError("--raw goes with --csv")
@@ -242,20 +213,12 @@ def _run(args: argparse.Namespace) -> int:
     return found[args.word](args)
 
 
-def _answer(words: Optional[List[str]]) -> int:
-    try:
-        args = parser_of().parse_args(words)
-    except SystemExit as done:  # after --help or --version, or a wrong command line
-        return done.code if isinstance(done.code, int) else USAGE
-    return _run(args)
-
-
 def main(words: Optional[List[str]] = None) -> int:
     """Runs the program and returns its exit status. No error has a status that is an answer."""
     _open_streams()
     try:
         with _signals_as_ctrl_c():
-            status = _answer(words)
+            status = _run(words)
             sys.stdout.flush()
     except TreeError as error:
         status = _told(str(error), error.status)

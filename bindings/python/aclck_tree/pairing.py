@@ -3,7 +3,7 @@
 from __future__ import annotations
 
 import os
-from typing import Callable, Dict, Hashable, Iterable, List, Sequence, Set, Tuple
+from typing import Callable, Dict, Hashable, Iterable, List, Sequence, Tuple
 
 from .errors import UsageError
 from .snapshot import Snapshot, Tree
@@ -11,6 +11,9 @@ from .text import quoted
 
 Pair = Tuple[int, int]
 """The numbers of a tree in the older and in the newer snapshot."""
+
+_KEYS: Sequence[Callable[[Tree], Hashable]] = (lambda tree: (tree.host, tree.place), lambda tree: tree.place)
+"""By what trees are paired: by host and path, and then by path."""
 
 
 def pair_trees(old: Snapshot, new: Snapshot, given: Sequence[str] = ()) -> List[Pair]:
@@ -21,27 +24,16 @@ def pair_trees(old: Snapshot, new: Snapshot, given: Sequence[str] = ()) -> List[
     Raises UsageError if a given pair names no tree, more than one, or one that another pair has.
     """
     pairs = [_given(old, new, words) for words in given]
-    if any(len(side) < len(pairs) for side in _sides(pairs)):
+    if any(len({pair[side] for pair in pairs}) < len(pairs) for side in (0, 1)):
         raise UsageError("--pair names a tree twice")
     if not pairs and len(old.trees) == len(new.trees) == 1:
         return [(next(iter(old.trees)), next(iter(new.trees)))]
-    for key in (_host_and_place, _place):
+    for key in _KEYS:
+        olds, news = {pair[0] for pair in pairs}, {pair[1] for pair in pairs}
         before, after = (_unique((tree for number, tree in snapshot.trees.items() if number not in paired), key)
-                         for snapshot, paired in zip((old, new), _sides(pairs)))
+                         for snapshot, paired in ((old, olds), (new, news)))
         pairs += [(number, after[found]) for found, number in before.items() if found in after]
     return pairs
-
-
-def _sides(pairs: Sequence[Pair]) -> Tuple[Set[int], Set[int]]:
-    return {pair[0] for pair in pairs}, {pair[1] for pair in pairs}
-
-
-def _host_and_place(tree: Tree) -> Hashable:
-    return tree.host, tree.place
-
-
-def _place(tree: Tree) -> Hashable:
-    return tree.place
 
 
 def _unique(trees: Iterable[Tree], key: Callable[[Tree], Hashable]) -> Dict[Hashable, int]:
