@@ -45,7 +45,7 @@ class Limits:
     def __init__(self, asker: Asker) -> None:
         self._asker = asker
         self._given = {(is_group, name): number for person in asker.people
-                       for name, is_group, number in reversed(person.ids)}
+                       for (name, is_group), number in person.ids.items()}
         self._known: Dict[Tuple[str, bool, Kind, int], Union[Limit, Unjudged]] = {}
         self._equal: Dict[Tuple[NfsAcl, Optional[PosixAcl], Tuple[str, ...]], Limit] = {}
 

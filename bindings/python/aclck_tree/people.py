@@ -2,7 +2,6 @@
 
 from __future__ import annotations
 
-import functools
 import grp
 import io
 import itertools
@@ -11,7 +10,19 @@ import pwd
 import re
 import struct
 from dataclasses import dataclass, field
-from typing import Dict, Iterable, Iterator, List, Optional, Sequence, Tuple, Union
+from typing import (
+    Callable,
+    Dict,
+    Iterable,
+    Iterator,
+    List,
+    Mapping,
+    Optional,
+    Sequence,
+    Tuple,
+    TypeVar,
+    Union,
+)
 
 from .errors import TreeError, UsageError
 from .files import opened_file
@@ -25,29 +36,17 @@ HIGHEST_ID = 0xFFFFFFFE
 
 @dataclass(frozen=True)
 class Person:
-    """A user with all groups of the user, and their ids if they are given. If hosts listed different groups, `listed`
-    has the groups for each tree."""
+    """A user with all groups of the user. `ids` are the ids that are given, by the name and by whether it is a group. If
+    hosts listed different groups, `listed` has the groups for each tree."""
 
     name: str
     groups: Tuple[str, ...] = ()
-    ids: Tuple[Tuple[str, bool, int], ...] = ()
-    listed: Tuple[Tuple[int, Tuple[str, ...]], ...] = ()
-
-    @functools.cached_property
-    def _by_tree(self) -> Dict[int, Tuple[str, ...]]:
-        return dict(self.listed)
+    ids: Mapping[Tuple[str, bool], int] = field(default_factory=dict)
+    listed: Mapping[int, Tuple[str, ...]] = field(default_factory=dict)
 
     def groups_in(self, tree: int) -> Optional[Tuple[str, ...]]:
         """Returns the groups on the host of a tree, or None if that host does not list the user and another does."""
-        return self._by_tree.get(tree) if self.listed else self.groups
-
-    @functools.cached_property
-    def _given(self) -> Dict[Tuple[str, bool], int]:
-        return {(name, is_group): number for name, is_group, number in reversed(self.ids)}
-
-    def given(self, name: str, is_group: bool) -> Optional[int]:
-        """Returns the id that was given for a name, the first one if there are several."""
-        return self._given.get((name, is_group))
+        return self.listed.get(tree) if self.listed else self.groups
 
 
 def read_id(text: str) -> Optional[int]:
@@ -73,12 +72,6 @@ def fresh_id(ids: Iterable[int]) -> int:
     return next(number for number in range(HIGHEST_ID, 0, -1) if number not in taken)
 
 
-def stranger_for(names: Iterable[Union[str, bytes]], ids: Iterable[int]) -> Person:
-    """Returns a user in no group, whose name and id are not among some names and ids."""
-    name = fresh_name(names)
-    return Person(name, (), ((name, False, fresh_id(ids)),))
-
-
 @dataclass
 class Accounts:
     """The accounts of one tree: names by ids and ids by names. If an account is listed twice, the first counts."""
@@ -102,7 +95,7 @@ class Accounts:
 
     def id(self, person: Person, name: str, is_group: bool) -> Optional[int]:
         """Returns the id of a person or of one of their groups, or None if it is not known."""
-        given = person.given(name, is_group)
+        given = person.ids.get((name, is_group))
         if given is None:
             given = self.ids.get((is_group, name))
         return read_id(name) if given is None else given
@@ -134,9 +127,10 @@ def stranger_of(snapshot: Snapshot, lists: Iterable[StoredList], people: Iterabl
     for _, user, group in snapshot.members():
         names += [user, group]
     words = [word for person in people for word in (person.name, *person.groups)]
-    ids += [number for person in people for _, _, number in person.ids]
+    ids += [number for person in people for number in person.ids.values()]
     ids += [number for number in map(read_id, words) if number is not None]
-    return stranger_for(itertools.chain(names, words), ids)
+    stranger = fresh_name(itertools.chain(names, words))
+    return Person(stranger, (), {(stranger, False): fresh_id(ids)})
 
 
 def ids_in(attribute: bytes) -> Iterator[int]:
@@ -145,78 +139,75 @@ def ids_in(attribute: bytes) -> Iterator[int]:
     return (number for number, in struct.iter_unpack("<4xI", attribute[4:end]))
 
 
+def _id_in(text: str) -> int:
+    """Returns the id that a text is in digits. Raises ValueError, with the reason, if it is not an id."""
+    number = read_id(text)
+    if number is None:
+        raise ValueError(f"{quoted(text)} is not an id from 0 to {HIGHEST_ID}")
+    return number
+
+
 def _split(word: str) -> Tuple[str, Optional[int]]:
     """Returns the name and the id of a word `NAME` or `NAME=ID`.
 
     Raises ValueError, with the reason, if the name is empty, or if the end looks like an id and is none.
     """
     name, equals, end = word.rpartition("=")
+    number = None
     if not equals or not (end == "" or end.lstrip("+-").isnumeric()):
-        name, number = word, None
+        name = word
     else:
-        number = read_id(end)
-        if number is None:
-            raise ValueError(f"{quoted(end)} is not an id from 0 to {HIGHEST_ID}")
+        number = _id_in(end)
     if not name:
         raise ValueError("a name is empty")
     return name, number
 
 
-def _person(user: str, groups: Iterable[str]) -> Person:
-    """Makes a person from words, in which `NAME=ID` gives the id of a name. Raises ValueError as `_split` does."""
-    name, number = _split(user)
-    return _with_ids(name, number, [_split(group) for group in groups])
-
-
-def _with_ids(user: str, number: Optional[int], groups: Sequence[Tuple[str, Optional[int]]]) -> Person:
-    ids = [(user, False, number), *((group, True, known) for group, known in groups)]
-    return Person(user, tuple(dict.fromkeys(group for group, _ in groups)),
-                  tuple((name, is_group, known) for name, is_group, known in ids
-                        if known is not None and 0 <= known <= HIGHEST_ID))
+def _person(user: Tuple[str, Optional[int]], groups: Sequence[Tuple[str, Optional[int]]]) -> Person:
+    """Makes a person from names, each with its id if that is given. If a name has several ids, the first counts."""
+    ids: Dict[Tuple[str, bool], int] = {}
+    for is_group, names in ((False, [user]), (True, groups)):
+        for name, number in names:
+            if number is not None and 0 <= number <= HIGHEST_ID:
+                ids.setdefault((name, is_group), number)
+    return Person(user[0], tuple(dict.fromkeys(name for name, _ in groups)), ids)
 
 
 def one_person(user: str, groups: Sequence[str]) -> Person:
     """Makes a person from command line words. Raises UsageError if a name is empty or an id is not one."""
     try:
-        return _person(user, groups)
+        return _person(_split(user), list(map(_split, groups)))
     except ValueError as error:
         raise UsageError(str(error)) from None
 
 
-class _Lines:
-    """The lines of a file, apart from blank lines and comments, which are numbered for messages."""
+_Read = TypeVar("_Read")
 
-    def __init__(self, place: str) -> None:
-        self._place = place
-        self._number = 0
-        self._firsts: Dict[str, int] = {}
 
-    def once(self, name: str) -> None:
-        """Raises TreeError if a line in front of the present one is about a name, too."""
-        first = self._firsts.setdefault(name, self._number)
-        if first != self._number:
-            raise self.error(f"{quoted(name)} is in line {first} already")
+def _each_line(place: str, read: Callable[[int, str], _Read]) -> List[_Read]:
+    """Returns what `read` makes of the number and the text of each line of a file, apart from blank lines and comments.
 
-    def error(self, reason: str) -> TreeError:
-        """Makes the error for the present line."""
-        return TreeError(f"{quoted(self._place)}: line {self._number}: {reason}")
-
-    def __iter__(self) -> Iterator[str]:
-        """Yields the lines. Raises TreeError if the file cannot be read, or if a program that wrote it marks bytes or
-        ends of lines in another way than this system does."""
-        try:
-            with opened_file(self._place) as data, \
-                    io.TextIOWrapper(data, encoding="utf-8", errors="surrogateescape", newline="\n") as file:
-                for self._number, line in enumerate(file, 1):
-                    line = line.rstrip("\n")
-                    if line.startswith("\ufeff"):
-                        raise self.error("it begins with a byte order mark")
-                    if line.endswith("\r"):
-                        raise self.error("it ends with a carriage return")
-                    if line.strip(" \t") and not line.startswith("#"):
-                        yield line
-        except OSError as error:
-            raise TreeError(f"{quoted(self._place)}: {error.strerror}") from None
+    Raises TreeError if the file cannot be read, and with the line if `read` raises ValueError, or if a program that
+    wrote the file marks bytes or ends of lines in another way than this system does.
+    """
+    found: List[_Read] = []
+    number = 0
+    try:
+        with opened_file(place) as data, \
+                io.TextIOWrapper(data, encoding="utf-8", errors="surrogateescape", newline="\n") as file:
+            for number, line in enumerate(file, 1):
+                line = line.rstrip("\n")
+                if line.startswith("\ufeff"):
+                    raise ValueError("it begins with a byte order mark")
+                if line.endswith("\r"):
+                    raise ValueError("it ends with a carriage return")
+                if line.strip(" \t") and not line.startswith("#"):
+                    found.append(read(number, line))
+    except OSError as error:
+        raise TreeError(f"{quoted(place)}: {error.strerror}") from None
+    except ValueError as error:
+        raise TreeError(f"{quoted(place)}: line {number}: {error}") from None
+    return found
 
 
 _HEAD = re.compile(r'(.*):((?:[^":]|"[^"]*")*)', re.DOTALL)
@@ -244,38 +235,34 @@ def people_file(place: str) -> List[Person]:
     Raises TreeError, with the line, if a line is not of this form or is about a person of an earlier line, and if the
     file cannot be read.
     """
-    people = []
-    lines = _Lines(place)
-    for line in lines:
+    firsts: Dict[str, int] = {}
+
+    def read(number: int, line: str) -> Person:
         parts = _HEAD.fullmatch(line)
         if not parts:
-            raise lines.error("it is not `name: group group ..`")
+            raise ValueError("it is not `name: group group ..`")
         head = parts[1].strip(" \t")
-        try:
-            user = _words(head) if head.startswith('"') else [head]
-            if len(user) != 1:
-                raise ValueError("more than one name is in front of the colon")
-            people.append(_person(user[0], _words(parts[2])))
-        except ValueError as error:
-            raise lines.error(str(error)) from None
-        lines.once(people[-1].name)
-    return people
+        user = _words(head) if head.startswith('"') else [head]
+        if len(user) != 1:
+            raise ValueError("more than one name is in front of the colon")
+        person = _person(_split(user[0]), list(map(_split, _words(parts[2]))))
+        first = firsts.setdefault(person.name, number)
+        if first != number:
+            raise ValueError(f"{quoted(person.name)} is in line {first} already")
+        return person
+
+    return _each_line(place, read)
 
 
-def _account(lines: _Lines, fields: Sequence[str], page: str) -> Tuple[str, int]:
-    """Returns the name and the id of a line of passwd(5) or group(5)."""
+def _account(line: str, page: str) -> Tuple[str, int, List[str]]:
+    """Returns the name and the id of a line of passwd(5) or group(5), and all its fields. Raises ValueError, with the
+    reason, if it is not such a line."""
+    fields = line.split(":")
     if len(fields) < 4:
-        raise lines.error(f"it is not of the form of {page}")
+        raise ValueError(f"it is not of the form of {page}")
     if not fields[0]:
-        raise lines.error("a name is empty")
-    return fields[0], _id_of(lines, fields[2])
-
-
-def _id_of(lines: _Lines, text: str) -> int:
-    number = read_id(text)
-    if number is None:
-        raise lines.error(f"{quoted(text)} is not an id from 0 to {HIGHEST_ID}")
-    return number
+        raise ValueError("a name is empty")
+    return fields[0], _id_in(fields[2]), fields
 
 
 def passwd_files(passwd: str, group: str) -> List[Person]:
@@ -283,21 +270,20 @@ def passwd_files(passwd: str, group: str) -> List[Person]:
     of that form, and if a file cannot be read."""
     names: Dict[int, str] = {}
     members: Dict[str, List[Tuple[str, Optional[int]]]] = {}
-    lines = _Lines(group)
-    for line in lines:
-        fields = line.split(":")
-        name, number = _account(lines, fields, "group(5)")
+
+    def read_group(_: int, line: str) -> None:
+        name, number, fields = _account(line, "group(5)")
         names.setdefault(number, name)
         for user in filter(None, (word.strip(" \t") for word in fields[3].split(","))):
             members.setdefault(user, []).append((name, number))
-    people = []
-    lines = _Lines(passwd)
-    for line in lines:
-        fields = line.split(":")
-        name, number = _account(lines, fields, "passwd(5)")
-        own = _id_of(lines, fields[3])
-        people.append(_with_ids(name, number, [(names.get(own, str(own)), own), *members.get(name, [])]))
-    return people
+
+    def read_user(_: int, line: str) -> Person:
+        name, number, fields = _account(line, "passwd(5)")
+        own = _id_in(fields[3])
+        return _person((name, number), [(names.get(own, str(own)), own), *members.get(name, [])])
+
+    _each_line(group, read_group)
+    return _each_line(passwd, read_user)
 
 
 def system_people() -> List[Person]:
@@ -308,8 +294,8 @@ def system_people() -> List[Person]:
     for group in groups:
         for name in group.gr_mem:
             members.setdefault(name, []).append((group.gr_name, group.gr_gid))
-    return [_with_ids(user.pw_name, user.pw_uid,
-                      [(names.get(user.pw_gid, str(user.pw_gid)), user.pw_gid), *members.get(user.pw_name, [])])
+    return [_person((user.pw_name, user.pw_uid),
+                    [(names.get(user.pw_gid, str(user.pw_gid)), user.pw_gid), *members.get(user.pw_name, [])])
             for user in pwd.getpwall()]
 
 
@@ -335,5 +321,4 @@ def _listed(snapshot: Snapshot, user: str, members: Sequence[Tuple[int, str]]) -
         by_tree.setdefault(tree, {})[group] = None
     listed = {tree: tuple(groups) for tree, groups in by_tree.items()}
     are_alike = len(set(listed.values())) == 1 and len(listed) == len(snapshot.trees)
-    return Person(user, tuple(dict.fromkeys(group for _, group in members)), (),
-                  () if are_alike else tuple(listed.items()))
+    return Person(user, tuple(dict.fromkeys(group for _, group in members)), {}, {} if are_alike else listed)
