@@ -18,10 +18,9 @@ from .prepared import (
     Prepared,
     PreparedIds,
 )
-from .questions import Decided, Decision, Difference, Requesters, TableRow
+from .questions import Decided, Decision, Difference, Possible, Request, Requesters, TableRow
 from .rights import *
 from .tar_texts import TarStyle
-from .unknown import Possible, Request
 
 __all__ = [
     "ALLOW",

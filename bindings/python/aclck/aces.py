@@ -63,16 +63,13 @@ class Ace(NamedTuple):
 
 def built(aces: Iterable[Ace], options: int) -> bytes:
     """Returns the bytes of a list of ACEs, in their order. Raises Refused with the place of an ACE."""
-    rows = [_in_c(Ace(*ace)) for ace in aces]
+    rows = [c.Ace(_KINDS.index(AceKind(ace.kind)), c.word(ace.flags), c.word(ace.mask), c.in_c(c.encoded(ace.who)))
+            for ace in (Ace(*given) for given in aces)]
     given = c.Aces((c.Ace * len(rows))(*rows), len(rows))
     try:
         return c.bytes_of("build", (given, options), 4 + sum(20 + row.who.len for row in rows))
     except Refused as refused:
         raise Refused(refused.reason, ace=refused.offset) from None
-
-
-def _in_c(ace: Ace) -> c.Ace:
-    return c.Ace(_KINDS.index(AceKind(ace.kind)), c.word(ace.flags), c.word(ace.mask), c.in_c(c.encoded(ace.who)))
 
 
 def each(acl: c.Bytes, options: int) -> Iterator[Ace]:

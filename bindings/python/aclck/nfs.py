@@ -14,10 +14,9 @@ from .aces import Ace, AceKind
 from .faults import Refused
 from .forms import LeftOut, ListFlag, ListForm, TextStyle
 from .prepared import Prepared, PreparedIds
-from .questions import Decided, Decision, Difference, Requesters, TableRow, decided, requester
+from .questions import Decided, Decision, Difference, Possible, Request, Requesters, TableRow, decided, requester
 from .rights import ALL
 from .tables import NamedIds, table_in_c, tables_in_c
-from .unknown import Possible, possible
 
 if TYPE_CHECKING:
     from .posix import ToPosix
@@ -117,7 +116,7 @@ class NfsAcl:
 
     def __str__(self) -> str:
         """Returns the text of the list, one line per ACE."""
-        return c.decoded(self._made("show", 8 * len(self._bytes)))
+        return c.decoded(c.bytes_of("show", (self._list, self._options), 8 * len(self._bytes)))
 
     def __repr__(self) -> str:
         return f"NfsAcl.from_text({str(self)!r})"
@@ -137,9 +136,6 @@ class NfsAcl:
     def __iter__(self) -> Iterator[Ace]:
         """Yields the ACEs in their order."""
         return ace_values.each(self._list, self._options)
-
-    def _made(self, call: str, room: int) -> bytes:
-        return c.bytes_of(call, (self._list, self._options), room)
 
     def _ask(self, call: str, who: c.Requester, where: c.Object, mask: int, answer: T) -> T:
         """Asks about rights, and returns the answer, which the call writes."""
@@ -181,7 +177,12 @@ class NfsAcl:
         does.
         """
         question = c.Question(c.word(mask), c.NARROW if narrow else 0)
-        return possible(memoryview(data).tobytes(), c.owned(owner, group), requester(user, groups), question)
+        found, fault = c.Possible(), c.Fault()
+        c.judge(c.calls["decide_unknown"](c.in_c(memoryview(data).tobytes()), c.owned(owner, group),
+                                          requester(user, groups), question, ctypes.byref(found),
+                                          ctypes.byref(fault)), fault)
+        undecided = mask & ~(found.allowed | found.denied | found.unknown)
+        return Possible(found.allowed, found.denied, undecided, found.unknown, Request(found.request), found.left_out)
 
     @classmethod
     def with_groups(cls, data: bytes, suffix: Name, *, narrow: bool = False) -> NfsAcl:
@@ -200,7 +201,7 @@ class NfsAcl:
     def prepare(self) -> Prepared:
         """Returns the list in a form that answers sooner, because it is read once. The form is bytes, which can be kept
         in a file or in memory that is shared."""
-        return Prepared(self._made("prepare", 4 * len(self._bytes) + 64))
+        return Prepared(c.bytes_of("prepare", (self._list, self._options), 4 * len(self._bytes) + 64))
 
     def prepare_ids(self, users: Optional[Mapping[str, int]] = None,
                     groups: Optional[Mapping[str, int]] = None) -> PreparedIds:
@@ -237,17 +238,23 @@ class NfsAcl:
 
     def normal(self) -> NfsAcl:
         """Returns the one normal list that grants the same (docs/lists.md, "The normal form")."""
-        return self._like(self._made("normalize", len(self._bytes)))
+        return self._like(c.bytes_of("normalize", (self._list, self._options), len(self._bytes)))
 
     def inherited(self) -> Tuple[NfsAcl, ...]:
         """Returns five normal forms: of this list, which is the list of a directory, of a new file and a new directory
         in it, and of a new file and a new directory in the latter. They are equal for two lists if and only if the
         lists grant the same, and so do the lists of everything that is ever made below the directories (docs/lists.md,
         "Paths of creations")."""
-        data = self._made("normalize_inherit", 5 * len(self._bytes))
+        data = c.bytes_of("normalize_inherit", (self._list, self._options), 5 * len(self._bytes))
         parts = []
         while data:
-            length = _length_of_first(data)
+            length = len(data)
+            try:
+                NfsAcl(data)
+            except Refused as refused:  # behind the first list there are others
+                if refused.reason != "TrailingBytes":
+                    raise
+                length = refused.offset or 0
             parts.append(self._like(data[:length]))
             data = data[length:]
         return tuple(parts)
@@ -336,12 +343,12 @@ class NfsAcl:
     def compare(self, other: NfsAcl) -> Optional[Difference]:
         """Returns None if both lists grant everybody the same, and otherwise a requester whom they treat differently
         (docs/lists.md, "Comparison")."""
-        return self._difference("compare", other)
+        return self._found("compare", other._list, self._options & other._options)
 
     def exceeds(self, other: NfsAcl) -> Optional[Difference]:
         """Returns None if the other list grants everybody whatever this list grants, and otherwise a requester to whom
         this list grants a right that the other list does not grant."""
-        return self._difference("excess", other)
+        return self._found("excess", other._list, self._options & other._options)
 
     def implies(self, right: int, others: int) -> Optional[Difference]:
         """Returns None if everybody to whom this list grants a right also gets each of some others, and otherwise a
@@ -349,9 +356,6 @@ class NfsAcl:
         implies"). Raises ValueError if `right` is not exactly one right, or `others` is no mask."""
         asked = c.Implication(c.word(right), c.word(others), self._options)
         return self._found("implies", ctypes.byref(asked))
-
-    def _difference(self, call: str, other: NfsAcl) -> Optional[Difference]:
-        return self._found(call, other._list, self._options & other._options)
 
     def _found(self, call: str, *rest: Any) -> Optional[Difference]:
         at, fault, room = c.Difference(), c.Fault(), 512
@@ -367,14 +371,3 @@ class NfsAcl:
             return None
         owner, group, user, *groups = [c.decoded(name) for name in out.raw[:at.names].split(b"\0")[:-1]]
         return Difference(owner, group, user, tuple(groups), at.right, bool(at.first_grants))
-
-
-def _length_of_first(data: bytes) -> int:
-    """Returns the number of bytes of the list at the front of some bytes, behind which other bytes are refused."""
-    try:
-        NfsAcl(data)
-    except Refused as refused:
-        if refused.reason != "TrailingBytes":
-            raise
-        return refused.offset or 0
-    return len(data)

@@ -89,7 +89,9 @@ class PosixAcl:
     def from_mode(cls, mode: int) -> PosixAcl:
         """Makes the list of the three entries that a mode means (acl(5), "CORRESPONDENCE .."). Bits above the nine do
         not count."""
-        return cls._of(_mode_entries(c.word(mode)), held([]))
+        bits = c.word(mode)
+        return cls._of(part_in_c([Entry(False, tag, None, bits >> shift & 7) for tag, shift in
+                                  (("user", 6), ("group", 3), ("other", 0))]), held([]))
 
     @classmethod
     def from_attributes(cls, access: Optional[bytes], default: Optional[bytes] = None, mode: int = 0) -> PosixAcl:
@@ -102,7 +104,7 @@ class PosixAcl:
         """
         parts = [held([]) if data is None else _made("entries_from_attribute", c.in_c(data), default=bool(place))
                  for place, data in enumerate((access, default))]
-        first = _mode_entries(c.word(mode)) if access is None else _made("entries_sorted", parts[0], 0)
+        first = cls.from_mode(mode)._access if access is None else _made("entries_sorted", parts[0], 0)
         return cls._of(first, parts[1])
 
     @classmethod
@@ -119,7 +121,7 @@ class PosixAcl:
         table = spelled_in_c(names, style)
         first, second = (None if text is None else c.PosixText(c.in_c(c.encoded(text)), table)
                          for text in (access, default))
-        parts = [_mode_entries(c.word(mode)) if first is None else held(entries_in(first, TEXT)),
+        parts = [cls.from_mode(mode)._access if first is None else held(entries_in(first, TEXT)),
                  held([] if first is None else entries_in(first, DEFAULT_OF_TEXT))]
         if second is not None:
             if parts[1].len:
@@ -230,7 +232,7 @@ class PosixAcl:
             kind = found[1][0]
             name = names[kind].get(int(found[2]), "")
             return f"{found[1]}:{name if _NAME.fullmatch(name) and times[kind, name] == 1 else found[2]}:"
-        return _ID.sub(named, _shown(str(self).encode(), _FORMS[form], table_in_c(())).decode())
+        return _ID.sub(named, _shown(str(self).encode(), _FORMS[form], c.Names()).decode())
 
     @property
     def mode(self) -> int:
@@ -275,7 +277,7 @@ class PosixAcl:
     def means_the_same(self, other: PosixAcl) -> bool:
         """Returns whether both access ACLs grant everybody the same, for every request and every owner and group of the
         object: neither exceeds the other. The default entries do not count."""
-        return self.at_most(other) and other.at_most(self)
+        return self.exceeds(other) is None and other.exceeds(self) is None
 
     def chmod(self, mode: int) -> PosixAcl:
         """Returns the list after chmod(2) with these nine bits. Raises ValueError if the mode is above 0o777."""
@@ -351,11 +353,6 @@ def _nine_bits(mode: int) -> int:
     if c.word(mode) > 0o777:
         raise ValueError(f"above 0o777: {mode:#o}")
     return mode
-
-
-def _mode_entries(mode: int) -> c.Entries:
-    return part_in_c([Entry(False, tag, None, mode >> shift & 7) for tag, shift in
-                  (("user", 6), ("group", 3), ("other", 0))])
 
 
 def _at_one_time(file: File) -> Tuple[Optional[bytes], Optional[bytes], int]:

@@ -2,6 +2,7 @@
 
 from __future__ import annotations
 
+import enum
 from typing import Iterable, NamedTuple, Sequence, Tuple
 
 from . import _library as c
@@ -34,6 +35,28 @@ class Difference(NamedTuple):
     groups: Tuple[str, ...]
     right: int
     first_grants: bool
+
+
+class Request(enum.Enum):
+    """Whether a request for several rights is granted, whomever a list's unknown names mean."""
+
+    NEVER = 0
+    DEPENDS = 1
+    ALWAYS = 2
+
+
+class Possible(NamedTuple):
+    """What a list with unknown names answers, whomever these names mean. Of the rights that are asked: those that are
+    always allowed; those that are never allowed, and that a DENY decides or may decide; those that no ACE ever decides;
+    and those that are allowed in one case and not in another. `request` says it of all rights together. `left_out` is
+    the number of AUDIT and ALARM ACEs, which decide nothing."""
+
+    allowed: int
+    denied: int
+    undecided: int
+    unknown: int
+    request: Request
+    left_out: int
 
 
 class TableRow(NamedTuple):

@@ -12,8 +12,8 @@ import sys
 from typing import TYPE_CHECKING, Any, Callable, Dict, Iterator, List, NoReturn, Optional, Sequence, Tuple, Union
 
 from . import VERSION
-from .errors import DEVICE, REFUSED, USAGE, DeviceError, TreeError, UsageError, tell
-from .text import Form, quoted_line
+from .errors import DEVICE, REFUSED, USAGE, DeviceError, TreeError, UsageError
+from .text import Form, quoted_line, tell
 
 if TYPE_CHECKING:
     from _typeshed import SupportsWrite
@@ -216,24 +216,28 @@ def _run(words: Optional[List[str]]) -> int:
 def main(words: Optional[List[str]] = None) -> int:
     """Runs the program and returns its exit status. No error has a status that is an answer."""
     _open_streams()
+    line, status = "", DEVICE
     try:
         with _signals_as_ctrl_c():
             status = _run(words)
             sys.stdout.flush()
     except TreeError as error:
-        status = _told(str(error), error.status)
+        line, status = str(error), error.status
     except sqlite3.DatabaseError as error:
-        status = _told(f"a snapshot cannot be read: {error}", REFUSED)
+        line, status = f"a snapshot cannot be read: {error}", REFUSED
     except BrokenPipeError:
         status = DEVICE
     except OSError as error:
-        status = _told(error.strerror or str(error), DEVICE)
+        line, status = error.strerror or str(error), DEVICE
     except MemoryError:
-        status = _told("out of memory", DEVICE)
+        line, status = "out of memory", DEVICE
     except KeyboardInterrupt:
         status = 130
     except Exception as error:  # a fault of this program; Python would exit with 1, which means `denied`
-        status = _told(f"internal error: {type(error).__name__}: {error}", DEVICE)
+        line, status = f"internal error: {type(error).__name__}: {error}", DEVICE
+    if line:
+        with contextlib.suppress(OSError):
+            tell(line)
     return _end_streams(status)
 
 
@@ -272,12 +276,6 @@ def _signals_as_ctrl_c() -> Iterator[None]:
     finally:
         for one in taken:
             signal.signal(one, signal.SIG_DFL)
-
-
-def _told(line: str, status: int) -> int:
-    with contextlib.suppress(OSError):
-        tell(line)
-    return status
 
 
 if __name__ == "__main__":

@@ -2,10 +2,11 @@
 
 from __future__ import annotations
 
+import functools
 import itertools
 from dataclasses import dataclass
 from enum import Enum
-from typing import Dict, FrozenSet, Iterable, Iterator, List, NamedTuple, Optional, Sequence, Tuple, TypeVar, Union
+from typing import Dict, FrozenSet, Iterable, List, NamedTuple, Optional, Sequence, Tuple, TypeVar, Union
 
 from aclck import (
     APPEND_DATA,
@@ -23,7 +24,7 @@ from aclck import (
 )
 
 from .errors import TreeError, UsageError
-from .lists import POSIX_MASKS, Asked, Kind, Ready, RefusedList, decoded, nfs_bytes, pieces, ready
+from .lists import POSIX_MASKS, Asked, Kind, Ready, RefusedList, decoded, nfs_bytes, ready
 from .people import Person, accounts_of
 from .snapshot import Face, ListForm, Snapshot, StoredList
 
@@ -159,45 +160,38 @@ class Asker:
         self.options = options
         self.accounts = accounts_of(snapshot)
         self.faces = snapshot.faces()
-        self._stored = snapshot.lists()
+        self.stored = snapshot.lists()
         self._ready: Dict[int, Ready] = {}
         self._forms: Dict[Tuple[Kind, int], _Forms] = {}
         self._rows: Dict[Tuple[int, int], Answers] = {}
         self._everybody = (1 << len(self.people)) - 1
-        self.everybody_granted = self._row(self._everybody, 0)
-        self.nobody_known = self._row(0, 0)
+
+    @functools.cached_property
+    def everybody_granted(self) -> Answers:
+        """The answer that everybody is granted what is asked."""
+        return self._row(self._everybody, 0)
+
+    @functools.cached_property
+    def nobody_known(self) -> Answers:
+        """The answer that it is known of nobody."""
+        return self._row(0, 0)
 
     def ready(self, number: int) -> Ready:
         """Returns a list that is ready for questions."""
         if number not in self._ready:
-            self._ready[number] = ready(self._stored[number], self.options.linux, self.options.domain)
+            self._ready[number] = ready(self.stored[number], self.options.linux, self.options.domain)
         return self._ready[number]
-
-    def stored(self, number: int) -> StoredList:
-        """Returns a list as it was found."""
-        return self._stored[number]
 
     def loadable(self, number: int) -> StoredList:
         """Returns a list as a database has it, in which the names of accounts have the domain. Raises TreeError for a
         value that the scan refused: a database has no reason for it."""
-        stored = self._stored[number]
+        stored = self.stored[number]
         if stored.kind == ListForm.REFUSED:
             raise TreeError(f"{self.snapshot.place}: a list that the scan refused is not loaded: "
                             f"{decoded(stored.default or b'')}")
         if stored.kind == ListForm.ACCOUNTS:
             return StoredList(ListForm.NFS4, stored.mode, nfs_bytes(stored, self.options.domain), None)
         return stored
-
-    def kind(self, number: int) -> Kind:
-        """Returns whether a list is an NFSv4 list, or a POSIX list or a mode."""
-        return Kind.POSIX if self._stored[number].is_posix else Kind.NFS4
-
-    def whos(self, number: int) -> Iterator[Tuple[bool, bytes]]:
-        """Yields the who of each ACE of an NFSv4 list, also of one that is refused, and whether it is a group."""
-        stored = self._stored[number]
-        if stored.is_nfs:
-            for piece in pieces(nfs_bytes(stored, self.options.domain)):
-                yield piece.is_group, piece.who
 
     def full_name(self, name: str) -> str:
         """Returns a name, with the domain added if it has none."""

@@ -7,16 +7,12 @@ import itertools
 from dataclasses import dataclass
 from typing import Dict, Iterable, Iterator, List, NamedTuple, Optional, Sequence, Tuple
 
-from aclck import Difference
-
 from .ask import Asker
-from .compare import grant_the_same, heir_forms, named, own_form
-from .counterparts import has_other_owner, renamed_ids, translate
-from .directions import Direction, directed
+from .compare import Direction, directed, grant_the_same, heir_forms, named, own_form
 from .joined import State
 from .lists import Kind, RefusedList
-from .requesters import Affected, Effect, PairedPeople, Whom, crowds, differences, mentioned
-from .sides import Question, Side, heirs, place_of
+from .requesters import Affected, Effect, Rows, Whom, mentioned, paired_people
+from .sides import Question, Side, has_other_owner, heirs, place_of, renamed_ids, translate
 from .snapshot import Face
 from .text import quoted, special_bits
 
@@ -76,17 +72,17 @@ class Compared:
     def __init__(self, old: Asker, new: Asker) -> None:
         self._old, self._new = Side(old), Side(new)
         self._known: Dict[Tuple[Optional[State], Optional[State]], ObjectChange] = {}
-        self._people: Dict[Tuple[Tuple[int, str], ...], PairedPeople] = {}
+        self._people: Dict[Tuple[Tuple[int, str], ...], Rows] = {}
         self._unmoved: Dict[Tuple[int, int], bool] = {}
 
     def alike(self, pairs: Sequence[Tuple[int, int]]) -> Iterator[Tuple[int, int]]:
         """Yields the old and the new faces with which an object has not changed, if it has the same special bits. Each
         old face comes once. `pairs` are the trees that are one tree at two times."""
         earlier = {new: old for old, new in pairs}
-        faces = {(earlier.get(face.tree), face.uid, face.gid, self._new.asker.stored(face.list)): face
+        faces = {(earlier.get(face.tree), face.uid, face.gid, self._new.asker.stored[face.list]): face
                  for face in self._new.faces.values()}
         for old in self._old.faces.values():
-            new = faces.get((old.tree, old.uid, old.gid, self._old.asker.stored(old.list)))
+            new = faces.get((old.tree, old.uid, old.gid, self._old.asker.stored[old.list]))
             if new and self._are_unmoved(old, new):
                 yield old.face, new.face
 
@@ -119,7 +115,7 @@ class Compared:
     def _kept(self, old: State, new: State) -> ObjectChange:
         """Returns what changed about an object that both sides have."""
         one, two = self._old.faces[old.face], self._new.faces[new.face]
-        was, now = self._old.asker.stored(one.list), self._new.asker.stored(two.list)
+        was, now = self._old.asker.stored[one.list], self._new.asker.stored[two.list]
         is_equal = (was, one.uid, one.gid) == (now, two.uid, two.gid)
         moved, renamed = self._owners(one, two)
         notes = [*moved, *renamed]
@@ -144,14 +140,15 @@ class Compared:
         key = (old.tree, new.tree)
         if key not in self._unmoved:
             self._unmoved[key] = (self._old.asker.people == self._new.asker.people
-                                  and self._old.accounts(old) == self._new.accounts(new))
+                                  and self._old.asker.accounts[old.tree] == self._new.asker.accounts[new.tree])
         return self._unmoved[key]
 
     def _owners(self, old: Face, new: Face) -> Tuple[List[str], List[str]]:
         """Returns the notes about owners and groups that are others now, and about those whose name is another one."""
         moved, renamed = [], []
+        accounts, later = self._old.asker.accounts[old.tree], self._new.asker.accounts[new.tree]
         for word, is_group, was, now in (("owner", False, old.uid, new.uid), ("group", True, old.gid, new.gid)):
-            names = (self._old.accounts(old).name(is_group, was), self._new.accounts(new).name(is_group, now))
+            names = (accounts.name(is_group, was), later.name(is_group, now))
             line = f"{word} {quoted(names[0])}, then {quoted(names[1])}"
             if was == now and names[0] != names[1]:
                 renamed.append(line)
@@ -195,13 +192,13 @@ class Compared:
             found = before.acl.compare(translated.acl) if is_own else None
             words = named(found, before, translated, name=names) if found else ""
             if found and words not in {one for change in changes for whom in change.whom for one in whom.alone()}:
-                changes.append(_compared("", found, words))
+                changes.append(_compared("", not found.first_grants, found.right, words))
             way = directed(question, translated)
             direction = way.direction.value
             for is_more, witness in way.witnesses.items():
                 if not any(change.gained if is_more else change.lost for change in changes):
-                    whom = f"compare: {named(witness, before, translated, name=names)}"
-                    changes.append(Change("", (Whom(whom),), *_sides(is_more, witness.right), 0))
+                    words = named(witness, before, translated, name=names)
+                    changes.append(_compared("", is_more, witness.right, words))
             if is_own and not found:
                 notes.append("a group and a special name changed places")
             if of_heirs:
@@ -214,10 +211,10 @@ class Compared:
             changes += self._of_heirs(question, notes) or _compared_heirs(question, notes)
         return ObjectChange(kind, "; ".join(notes), tuple(changes), False, direction)
 
-    def _people_of(self, question: Question) -> PairedPeople:
+    def _people_of(self, question: Question) -> Rows:
         key = tuple((place.face.tree, place.kind) if place else (0, "") for place in (question.old, question.new))
         if key not in self._people:
-            self._people[key] = PairedPeople(self._old, self._new, question)
+            self._people[key] = paired_people(self._old, self._new, question)
         return self._people[key]
 
     def _changes(self, question: Question, notes: List[str]) -> List[Change]:
@@ -229,20 +226,17 @@ class Compared:
         if len(rows) > MOST_ASKED:
             notes.append(f"{len(rows) - MOST_ASKED:,} more names of the list were not asked about")
             rows = [*rows[:MOST_ASKED - 1], rows[-1]]
-        return _grouped(question.on, itertools.chain(found, differences(question, rows, *crowds(rows))))
+        return _grouped(question.on, itertools.chain(found, Rows(rows).differences(question)))
 
     def _of_heirs(self, question: Question, notes: List[str]) -> List[Change]:
         """Returns who is treated differently on what is made in a directory."""
         return _without_repeats([self._changes(heir, notes) for heir in heirs(question, notes)])
 
 
-def _compared(on: str, found: Difference, words: str) -> Change:
-    return Change(on, (Whom(f"compare: {words}"),), *_sides(not found.first_grants, found.right), 0)
-
-
-def _sides(is_more: bool, right: int) -> Tuple[int, int]:
-    """Returns a right as one that is gained or one that is lost."""
-    return (right, 0) if is_more else (0, right)
+def _compared(on: str, is_more: bool, right: int, words: str) -> Change:
+    """Returns the change for somebody whom a comparison of the lists names, who gains or loses a right."""
+    gained, lost = (right, 0) if is_more else (0, right)
+    return Change(on, (Whom(f"compare: {words}"),), gained, lost, 0)
 
 
 def _compared_heirs(question: Question, notes: List[str]) -> List[Change]:
@@ -252,7 +246,7 @@ def _compared_heirs(question: Question, notes: List[str]) -> List[Change]:
         assert heir.old and heir.new
         lists = heir.old.views[0].asked, heir.new.views[0].asked
         found = lists[0].acl.compare(lists[1].acl) if heir.new.kind is Kind.NFS4 else None
-        changes.append([_compared(heir.on, found, named(found, *lists))] if found else [])
+        changes.append([_compared(heir.on, not found.first_grants, found.right, named(found, *lists))] if found else [])
     if not any(changes):
         notes.append("what new objects get differs only where their mode has fewer permissions")
     return _without_repeats(changes)

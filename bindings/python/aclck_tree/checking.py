@@ -8,14 +8,13 @@ from typing import Dict, Iterator, List, NamedTuple, Optional, Set, Tuple
 from . import mentions
 from .ask import NOBODY, Asker
 from .commands import TOGETHER, Counted, asker_of, count_by, opened, people_of, status_of
-from .errors import NO, REFUSED, YES, tell
+from .errors import NO, REFUSED, YES
 from .globs import Matcher
 from .judging import Breach, Judge, Verdict
-from .naming import Named, Naming
 from .people import stranger_of
 from .policies import Rule, names_in, read_policy
 from .questions import left_out
-from .text import Output, Row, plural, quoted
+from .text import Named, Naming, Output, Row, plural, quoted, tell
 
 
 class Applied(NamedTuple):
@@ -35,7 +34,7 @@ class Policy:
     def __init__(self, asker: Asker, rules: List[Rule]) -> None:
         self.rules = rules
         snapshot = asker.snapshot
-        lists = [asker.stored(number) for number in snapshot.lists()]
+        lists = [asker.stored[number] for number in snapshot.lists()]
         self._judge = Judge(asker, stranger_of(snapshot, lists, asker.people))
         patterns = [(Applied(number, place), path) for number, rule in enumerate(rules)
                     for place, path in [(None, rule.path), *enumerate(one.path for one in rule.exemptions)]]
@@ -110,7 +109,7 @@ def tell_slips(place: str, asker: Asker, policy: Policy) -> bool:
         if len(kinds) == 2 and not found.names >= {(False, name), (True, name)}:  # one of the two is mentioned
             found.names.difference_update((is_group, name) for is_group in kinds)
             found.foreign.difference_update((is_group, name) for is_group in kinds)
-    for line in mentions.lines_of(asker, found, False) if not TOGETHER.is_on else ():
+    for line in mentions.lines(asker, found, False) if not TOGETHER.is_on else ():
         tell(f"{quoted(place)}: {line}")
     has_empty = False
     for rule, exception in policy.unmatched():

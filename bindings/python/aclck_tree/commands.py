@@ -14,12 +14,10 @@ from typing import AnyStr, Dict, Iterable, Iterator, List, NamedTuple, Optional,
 from . import mentions
 from .ask import DENIED, UNKNOWN, Answer, Asker, Options
 from .compare import same as same_of
-from .errors import NO, REFUSED, YES, TreeError, UsageError, tell
-from .lists import Kind
-from .naming import Named, Naming, name_in
+from .errors import NO, REFUSED, YES, TreeError, UsageError
 from .people import Person, listed_person, one_person, passwd_files, people_file, snapshot_people, system_people
 from .snapshot import Snapshot, Tree
-from .text import Output, Row, plural, quoted, quoted_path, quoted_place, table
+from .text import Named, Naming, Output, Row, name_in, plural, quoted, quoted_path, quoted_place, table, tell
 
 
 @dataclass
@@ -79,7 +77,7 @@ def asker_of(args: argparse.Namespace, snapshot: Snapshot, people: List[Person])
     whose ids are not known."""
     asker = Asker(snapshot, people, Options(args.domain or "", getattr(args, "linux", False)))
     is_typed = bool(getattr(args, "people", None) or getattr(args, "user", None))
-    for line in mentions.lines(asker, not is_typed) if not TOGETHER.is_on else ():
+    for line in () if TOGETHER.is_on else mentions.lines(asker, mentions.unmentioned(asker), not is_typed):
         tell(f"{quoted(snapshot.place)}: {line}")
     has_hosts = len({tree.host for tree in snapshot.trees.values()}) > 1
     for host, names in _without_ids(asker).items():
@@ -95,7 +93,7 @@ def _without_ids(asker: Asker) -> Dict[str, Set[mentions.Name]]:
     """Returns, for each host with POSIX lists, the people and groups who have no id there. People of whom only other
     hosts listed the groups are among them."""
     found: Dict[str, Set[mentions.Name]] = {}
-    for tree in {face.tree for face in asker.faces.values() if asker.kind(face.list) is Kind.POSIX}:
+    for tree in {face.tree for face in asker.faces.values() if asker.stored[face.list].is_posix}:
         names = {(is_group, name) for one in asker.people
                  for is_group, name in ((False, one.name), *((True, group) for group in one.groups_in(tree) or ()))
                  if asker.id(one, name, is_group, tree) is None}
@@ -318,7 +316,7 @@ def info(args: argparse.Namespace) -> int:
                  f"{plural(tree.links, 'link')} not followed")
     kinds = snapshot.count_kinds()
     directories = f"{kinds.get('d', 0):,} director" + ("y" if kinds.get("d") == 1 else "ies")
-    out.note(f"{plural(snapshot.count(), 'object')} ({directories}), {plural(len(snapshot.lists()), 'distinct list')}, "
+    out.note(f"{plural(snapshot.count, 'object')} ({directories}), {plural(len(snapshot.lists()), 'distinct list')}, "
              f"{len(snapshot.faces()):,} with owner and group")
     for number, path, step, message in snapshot.errors():
         name = naming.name(snapshot.trees[number], path)

@@ -4,12 +4,13 @@ from __future__ import annotations
 
 import enum
 import struct
+from dataclasses import dataclass, field
 from typing import Dict, FrozenSet, Iterable, Iterator, List, NamedTuple, Optional, Sequence, Tuple, Union
 
 from aclck import ALL, Ace, AceFlag, NfsAcl, Requesters
 
 from .ask import Identity
-from .lists import Asked, pieces
+from .lists import Asked, encoded, pieces
 
 AT_ONCE = 1024
 """How many requesters are asked at once, and from how many ACEs on a list is cut to the ACEs about them."""
@@ -45,6 +46,9 @@ class Missing(enum.Enum):
     ID = enum.auto()
 
 
+_ABSENT: Dict[Missing, Optional[Granted]] = {Missing.PERSON: NOTHING, Missing.ID: None}
+"""What somebody without an identity is granted, or None if that is not known."""
+
 Asking = Union[Identity, Missing]
 
 
@@ -70,14 +74,10 @@ class _Narrowed:
         """Returns the list for some requesters."""
         wanted = {(False, b"")}
         for user, groups in rows:
-            wanted.add((False, _bytes(user)))
-            wanted.update((True, _bytes(group)) for group in groups)
+            wanted.add((False, encoded(user)))
+            wanted.update((True, encoded(group)) for group in groups)
         found = sorted(part for key in wanted for part in self._places.get(key, ()))
         return NfsAcl(struct.pack(">I", len(found)) + b"".join(self._data[start:end] for start, end in found))
-
-
-def _bytes(name: str) -> bytes:
-    return name.encode("utf-8", "surrogateescape")
 
 
 class Crowd:
@@ -85,8 +85,10 @@ class Crowd:
 
     def __init__(self, people: Sequence[Asking]) -> None:
         self._people = people
+        # Who has no identity asks as `?`, without use.
+        self._rows = [person if isinstance(person, Identity) else Identity("?") for person in people]
         self._kept: Dict[int, Requesters] = {}
-        self._rows = 0
+        self._count = 0
 
     def __len__(self) -> int:
         return len(self._people)
@@ -98,31 +100,21 @@ class Crowd:
         for start in range(0, len(self._people), AT_ONCE):
             part = self._people[start:start + AT_ONCE]
             if view.asked.specials:
-                yield [_possible(view, person) if isinstance(person, Identity) else _absent(person) for person in part]
+                yield [_possible(view, person) if isinstance(person, Identity) else _ABSENT[person] for person in part]
                 continue
-            acl = narrowed.of(_rows(part)) if narrowed else view.asked.acl
-            found = acl.granted_many(self._prepared(start, part), owner=view.owner, group=view.group, mask=ALL)
-            yield [Granted(mask, mask) if isinstance(person, Identity) else _absent(person)
+            acl = narrowed.of(self._rows[start:start + AT_ONCE]) if narrowed else view.asked.acl
+            found = acl.granted_many(self._prepared(start), owner=view.owner, group=view.group, mask=ALL)
+            yield [Granted(mask, mask) if isinstance(person, Identity) else _ABSENT[person]
                    for person, mask in zip(part, found)]
 
-    def _prepared(self, start: int, part: Sequence[Asking]) -> Requesters:
+    def _prepared(self, start: int) -> Requesters:
         if start not in self._kept:
-            if self._rows > MOST_KEPT:
+            if self._count > MOST_KEPT:
                 self._kept.clear()
-                self._rows = 0
-            self._kept[start] = Requesters(_rows(part))
-            self._rows += self._kept[start].count
+                self._count = 0
+            self._kept[start] = Requesters(self._rows[start:start + AT_ONCE])
+            self._count += self._kept[start].count
         return self._kept[start]
-
-
-def _rows(part: Sequence[Asking]) -> Iterator[Identity]:
-    """Yields a requester for each person. Who has no identity asks as `?`, without use."""
-    for person in part:
-        yield person if isinstance(person, Identity) else Identity("?")
-
-
-def _absent(person: Missing) -> Optional[Granted]:
-    return NOTHING if person is Missing.PERSON else None
 
 
 def _possible(view: View, person: Identity) -> Granted:
@@ -135,28 +127,26 @@ _Keys = FrozenSet[Tuple[Optional[bool], str]]
 """Whom some ACEs name, as the keys of `Asked.by_who`."""
 
 
+@dataclass
 class Alike:
     """Two lists with special names. What is said about somebody depends only on the ACEs that match, which are the same
-    ones for most people."""
+    ones for most people, so answers are kept."""
 
-    def __init__(self, old: View, new: View) -> None:
-        self._old, self._new = old, new
-        self._known: Dict[Tuple[_Keys, _Keys, int], int] = {}
+    old: View
+    new: View
+    known: Dict[Tuple[_Keys, _Keys, int], int] = field(default_factory=dict)
 
     def rights(self, one: Identity, other: Identity, rights: int) -> int:
         """Returns those of some rights that both lists grant somebody in the same cases of who is a member of their
         special names. Each side has its own names for the same person."""
-        key = _matching(self._old, one), _matching(self._new, other), rights
-        if key not in self._known:
-            self._known[key] = self._alike(*key)
-        return self._known[key]
+        key = _matching(self.old, one), _matching(self.new, other), rights
 
-    def _alike(self, one: _Keys, other: _Keys, rights: int) -> int:
         def are_alike(mask: int) -> bool:
-            return _left(self._old, one, mask).means_the_same(_left(self._new, other, mask))
-        if are_alike(rights):
-            return rights
-        return sum(right for right in _RIGHTS if rights & right and are_alike(right))
+            return _left(self.old, key[0], mask).means_the_same(_left(self.new, key[1], mask))
+        if key not in self.known:
+            self.known[key] = rights if are_alike(rights) else sum(
+                right for right in _RIGHTS if rights & right and are_alike(right))
+        return self.known[key]
 
 
 def _matching(view: View, person: Identity) -> _Keys:

@@ -20,8 +20,8 @@ import sys
 import tempfile
 from typing import Any, List, NamedTuple, Sequence, TextIO, Tuple
 
-from .errors import NO, REFUSED, USAGE, YES, DeviceError, TreeError, UsageError, tell
-from .text import quoted
+from .errors import NO, REFUSED, USAGE, YES, DeviceError, TreeError, UsageError
+from .text import quoted, tell
 
 RETRIES = 3
 """How often a task is repeated that fails."""

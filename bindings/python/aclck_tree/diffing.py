@@ -3,17 +3,16 @@
 from __future__ import annotations
 
 import argparse
-from typing import Dict, Iterator, Optional, Set
+from collections import Counter
+from typing import Dict, Optional
 
 from aclck import mask_text
 
 from .changes import Change, Compared, ChangeKind, ObjectChange
-from .commands import Counted, Tally, asker_of, opened, people_of, status_of
+from .commands import Counted, asker_of, opened, people_of, status_of
 from .errors import NO, REFUSED, YES
-from .naming import Named, Naming, name_in
-from .pairing import pair_trees
-from .snapshot import Snapshot, Tree
-from .text import Output, Row, plural, quoted
+from .joined import Joined, pair_trees
+from .text import Named, Naming, Output, Row, name_in, plural, quoted
 
 _WORDS = {
     ChangeKind.GONE: "gone", ChangeKind.CAME: "came", ChangeKind.BYTES: "with other bytes and the same meaning",
@@ -33,12 +32,12 @@ class _Diff:
         self.each = args.each or not self._is_text
         self._out = Output(args.form, naming.columns(*_COLUMNS), _text)
         self._classes: Dict[ObjectChange, Counted] = {}
-        self._tally = Tally()
+        self._counts: Counter[ChangeKind] = Counter()
         self._has_refused = False
 
     def add(self, change: ObjectChange, name: Named, count: int = 1) -> None:
         """Takes objects that changed in one way, with the name of the first."""
-        self._tally.add(change.kind, count)
+        self._counts[change.kind] += count
         self._has_refused |= change.is_refused
         if change.kind is ChangeKind.SAME:
             return
@@ -48,13 +47,19 @@ class _Diff:
         known = self._classes.get(change)
         self._classes[change] = Counted(known.objects + count, known.first) if known else Counted(count, name)
 
-    def end(self) -> None:
-        """Writes the classes: the objects that are gone, those that came, and the others, greatest first."""
+    def end(self) -> int:
+        """Writes the classes: the objects that are gone, those that came, and the others, greatest first. Writes the
+        last line, and returns the exit status for whole snapshots."""
         order = {ChangeKind.UNPAIRED: 0, ChangeKind.GONE: 1, ChangeKind.CAME: 2}
         for change, one in sorted(self._classes.items(),
                                   key=lambda item: (order.get(item[0].kind, 3), -item[1].objects, item[1].first)):
             self._put(change, one.first, one.objects - 1)
-        self._classes.clear()
+        words = [f"{self._counts[kind]:,} {text}" for kind, text in _WORDS.items() if self._counts[kind]]
+        if self._counts[ChangeKind.UNPAIRED]:
+            words.append(f"{plural(self._counts[ChangeKind.UNPAIRED], 'tree')} without a pair")
+        self._out.note(", ".join(words) or "no objects")
+        are_same = self._counts[ChangeKind.SAME] == sum(self._counts.values())
+        return REFUSED if self._has_refused else YES if are_same else NO
 
     def _put(self, change: ObjectChange, name: Named, others: int = 0) -> None:
         self._out.put({**self._row(change.kind, name, change.note, others=others),
@@ -75,15 +80,6 @@ class _Diff:
             row[way] = mask_text(mask) if mask else None
         return row
 
-    def status(self) -> int:
-        """Writes the last line, and returns the exit status for whole snapshots."""
-        counts = self._tally.counts
-        words = [f"{counts[kind]:,} {text}" for kind, text in _WORDS.items() if counts.get(kind)]
-        if counts.get(ChangeKind.UNPAIRED):
-            words.append(f"{plural(counts[ChangeKind.UNPAIRED], 'tree')} without a pair")
-        self._out.note(", ".join(words) or "no objects")
-        return REFUSED if self._has_refused else YES if set(counts) <= {ChangeKind.SAME} else NO
-
 
 def diff(args: argparse.Namespace) -> int:
     """Writes which objects are new, gone or changed between two snapshots, and for whom."""
@@ -94,21 +90,17 @@ def diff(args: argparse.Namespace) -> int:
     compared = Compared(asker_of(args, old, before), asker_of(args, new, people))
     naming = Naming(old, new)
     out = _Diff(args, naming)
-    for snapshot, side, word in ((old, 0, "first"), (new, 1, "second")):
-        for tree in _unpaired(snapshot, {pair[side] for pair in pairs}):
+    for snapshot, paired, word in ((old, {pair[0] for pair in pairs}, "first"),
+                                   (new, {pair[1] for pair in pairs}, "second")):
+        for tree in [tree for number, tree in snapshot.trees.items() if number not in paired]:
             note = f"host {quoted(tree.host)}; this tree of the {word} snapshot has no pair"
-            out.add(ObjectChange(ChangeKind.UNPAIRED, note), Named(tree.place, naming.host(tree)))
-    joined = old.join(new, pairs, compared.alike(pairs))
+            out.add(ObjectChange(ChangeKind.UNPAIRED, note), Named(tree.place, tree.host if naming.has_hosts else None))
+    joined = Joined(old, new, pairs, compared.alike(pairs))
     for one in joined.changes(out.each):
         snapshot = new if one.new else old
         out.add(compared.change(one.old, one.new), naming.name(snapshot.trees[one.tree], one.path), one.objects)
     out.add(ObjectChange(ChangeKind.SAME), Named(b""), joined.unchanged)
-    out.end()
-    return status_of(out.status(), old, new)
-
-
-def _unpaired(snapshot: Snapshot, paired: Set[int]) -> Iterator[Tree]:
-    return (tree for number, tree in snapshot.trees.items() if number not in paired)
+    return status_of(out.end(), old, new)
 
 
 def _text(row: Row) -> str:

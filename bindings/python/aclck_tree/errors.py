@@ -2,10 +2,6 @@
 
 from __future__ import annotations
 
-import sys
-
-from .text import quoted_line
-
 YES, NO, REFUSED, USAGE, DEVICE = range(5)
 """The exit statuses, the same as those of aclck(1)."""
 
@@ -30,8 +26,3 @@ class DeviceError(TreeError):
 
 class Damaged(Exception):
     """An archive is damaged, or was made to do harm, and is not read on. It ends no run."""
-
-
-def tell(line: str) -> None:
-    """Writes a line to standard error."""
-    sys.stderr.write(f"aclck-tree: {quoted_line(line)}\n")

@@ -146,7 +146,7 @@ def _of_list(asker: Asker, number: int, asked: Asked, is_directory: bool) -> _Of
     aces = list(asked.acl)
     idle = "; ".join(_idle_entries(asked.posix) if asked.posix else _idle(asked, aces, is_directory))
     # --linux changes what a list grants; a new directory gets the entries as they are.
-    passes_on = ready(asker.stored(number)) if asked.posix else asked
+    passes_on = ready(asker.stored[number]) if asked.posix else asked
     children = _child(passes_on) if is_directory and isinstance(passes_on, Asked) else ""
     return _OfList(_granted_numbers(aces), idle, children)
 

@@ -1,9 +1,68 @@
-"""Two snapshots joined: which objects are gone, came or stayed, and in what states."""
+"""Two snapshots joined: which trees are one tree at two times, and which objects are gone, came or stayed, and in what
+states."""
 
 from __future__ import annotations
 
-import sqlite3
-from typing import Iterable, Iterator, NamedTuple, Optional, Sequence, Tuple
+import os
+from typing import Callable, Dict, Hashable, Iterable, Iterator, List, NamedTuple, Optional, Sequence, Tuple
+
+from .errors import UsageError
+from .snapshot import Snapshot, Tree
+from .text import quoted
+
+
+Pair = Tuple[int, int]
+"""The numbers of a tree in the older and in the newer snapshot."""
+
+_KEYS: Sequence[Callable[[Tree], Hashable]] = (lambda tree: (tree.host, tree.place), lambda tree: tree.place)
+"""By what trees are paired: by host and path, and then by path."""
+
+
+def pair_trees(old: Snapshot, new: Snapshot, given: Sequence[str] = ()) -> List[Pair]:
+    """Returns the pairs of trees that are one tree at two times: first those that `given` names, as `OLD=NEW`, then
+    those with the same host and path, then those with the same path; or the only tree of each. A host and path, or
+    a path, that two trees of one snapshot have pairs none of them.
+
+    Raises UsageError if a given pair names no tree, more than one, or one that another pair has.
+    """
+    pairs = [_given(old, new, words) for words in given]
+    if any(len({pair[side] for pair in pairs}) < len(pairs) for side in (0, 1)):
+        raise UsageError("--pair names a tree twice")
+    if not pairs and len(old.trees) == len(new.trees) == 1:
+        return [(next(iter(old.trees)), next(iter(new.trees)))]
+    for key in _KEYS:
+        olds, news = {pair[0] for pair in pairs}, {pair[1] for pair in pairs}
+        before, after = (_unique((tree for number, tree in snapshot.trees.items() if number not in paired), key)
+                         for snapshot, paired in ((old, olds), (new, news)))
+        pairs += [(number, after[found]) for found, number in before.items() if found in after]
+    return pairs
+
+
+def _unique(trees: Iterable[Tree], key: Callable[[Tree], Hashable]) -> Dict[Hashable, int]:
+    """Returns the numbers of the trees by their keys, without keys that several trees have."""
+    found: Dict[Hashable, List[int]] = {}
+    for tree in trees:
+        found.setdefault(key(tree), []).append(tree.tree)
+    return {one: numbers[0] for one, numbers in found.items() if len(numbers) == 1}
+
+
+def _given(old: Snapshot, new: Snapshot, words: str) -> Pair:
+    """Reads `OLD=NEW`. A name may have the sign `=` in it, so each way to divide the words is tried."""
+    parts = words.split("=")
+    found = [(one, two) for at in range(1, len(parts))
+             for one in _trees(old, "=".join(parts[:at])) for two in _trees(new, "=".join(parts[at:]))]
+    if len(found) != 1:
+        reason = "names more than one pair of trees; write HOST:PATH" if found else "names no pair of trees"
+        raise UsageError(f"--pair {quoted(words)} {reason}")
+    return found[0]
+
+
+def _trees(snapshot: Snapshot, word: str) -> List[int]:
+    """Returns the trees that a word names: by place or as it was typed at the scan, after `HOST:` or not."""
+    wanted = os.fsencode(word).rstrip(b"/") or b"/"
+    return [number for number, tree in snapshot.trees.items()
+            if wanted in {head + name for head in (b"", os.fsencode(tree.host) + b":")
+                          for name in (tree.place, tree.root.rstrip(b"/") or b"/")}]
 
 
 class State(NamedTuple):
@@ -44,21 +103,18 @@ class Joined:
     _COLUMNS = ("old_tree, old_face, old_is_directory, old_bits, new_tree, new_face, new_is_directory, new_bits, "
                 "are_same")
 
-    def __init__(self, db: sqlite3.Connection, later: str, counts: Tuple[int, int], pairs: Sequence[Tuple[int, int]],
-                 alike: Iterable[Tuple[int, int]]) -> None:
-        """`db` is the earlier snapshot, `later` the URI of the later one, `counts` are their numbers of objects, and
-        `pairs` the trees of both that are one tree at two times. Objects with faces that are `alike` have not changed
-        if nothing else of their states has. Their number is `unchanged`."""
-        self._db = db
-        db.execute("ATTACH ? AS later", (later,))
+    def __init__(self, old: Snapshot, new: Snapshot, pairs: Sequence[Pair], alike: Iterable[Tuple[int, int]]) -> None:
+        """`pairs` are the trees of both snapshots that are one tree at two times. Objects with faces that are `alike`
+        have not changed if nothing else of their states has. Their number is `unchanged`."""
+        self._db = db = old.attach(new)
         db.execute("CREATE TEMP TABLE pairs (old INTEGER PRIMARY KEY, new INTEGER UNIQUE)")
         db.executemany("INSERT INTO pairs VALUES (?, ?)", pairs)
         db.execute("CREATE TEMP TABLE alike (old INTEGER PRIMARY KEY, new INTEGER)")
         db.executemany("INSERT INTO alike VALUES (?, ?)", alike)
         db.execute(self._OTHER)
         (other, in_both), = db.execute("SELECT COUNT(*), COUNT(new_tree) FROM other")
-        self.unchanged = counts[0] - other
-        self._have_come = counts[1] > self.unchanged + in_both
+        self.unchanged = old.count - other
+        self._have_come = new.count > self.unchanged + in_both
 
     def changes(self, each: bool) -> Iterator[Together]:
         """Yields the objects that the later snapshot lacks, those that the earlier one lacks, and those of both that

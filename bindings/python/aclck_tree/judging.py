@@ -324,7 +324,7 @@ class Judge:
 
     def _of_children(self, view: _View, limit: Limit, is_most: bool) -> Iterator[Breach]:
         """Yields how what is created in a directory breaks a bound."""
-        stored = self._asker.stored(view.face.list)
+        stored = self._asker.stored[view.face.list]
         stranger = self._stranger_in(view)
         try:
             made = creations(view.asked, stored, self._asker.options.linux)

@@ -78,6 +78,11 @@ class Asked:
         """`POSIX` for a POSIX list or a mode, and otherwise `NFS4`."""
         return Kind.POSIX if self.posix else Kind.NFS4
 
+    def ids(self) -> List[Tuple[bool, int]]:
+        """Returns the ids in a POSIX list, each once, and whether they are those of groups."""
+        return list(dict.fromkeys((entry.tag == "group", entry.id) for entry in self.posix or ()
+                                  if entry.id is not None))
+
     def others(self, groups: Sequence[str]) -> Tuple[str, ...]:
         """Returns those of some groups that replace no special name. The list has no ACE about the rest of them."""
         stand_ins = {group for _, group in self.specials}
@@ -91,18 +96,14 @@ class Asked:
     @functools.cached_property
     def whomever(self) -> bytes:
         """The bytes of the list with its special names, for `NfsAcl.decide_unknown`."""
-        return self._bytes(pieces(bytes(self.acl)))
+        names = {encoded(group): encoded(name) for name, group in self.specials}
+        return joined([piece._replace(who=names.get(piece.who, piece.who)) for piece in pieces(bytes(self.acl))])
 
     def turned(self, mask: int) -> bytes:
         """Returns the bytes of a list that allows all of some rights where this one grants none of them: DENY and ALLOW
         are exchanged, and what no ACE decides is allowed."""
-        found = [piece._replace(kind=piece.kind ^ 1) for piece in pieces(bytes(self.acl)) if piece.mask & mask]
-        return self._bytes([*found, Piece(0, 0, AceType.ALLOW, 0, mask, _EVERYONE)])
-
-    def _bytes(self, found: Sequence[Piece]) -> bytes:
-        names = {encoded(group): encoded(name) for name, group in self.specials}
-        return struct.pack(">I", len(found)) + b"".join(
-            _packed(piece.kind, piece.flags, piece.mask, names.get(piece.who, piece.who)) for piece in found)
+        found = [piece._replace(kind=piece.kind ^ 1) for piece in pieces(self.whomever) if piece.mask & mask]
+        return joined([*found, Piece(0, 0, AceType.ALLOW, 0, mask, _EVERYONE)])
 
     @functools.cached_property
     def by_who(self) -> Dict[Tuple[Optional[bool], str], List[Tuple[int, Ace]]]:
@@ -168,31 +169,15 @@ def pieces(data: bytes) -> List[Piece]:
 
 
 def joined(found: Sequence[Piece]) -> bytes:
-    """Returns the bytes of a list of some ACEs."""
+    """Returns the bytes of a list of some ACEs (RFC 8881, section 6.2.1; RFC 4506, sections 4.11 and 4.13)."""
     return struct.pack(">I", len(found)) + b"".join(
-        _packed(piece.kind, piece.flags, piece.mask, piece.who) for piece in found)
-
-
-def _is_special(piece: Piece) -> bool:
-    return piece.who.endswith(b"@") and piece.who not in _KNOWN
+        _ACE.pack(piece.kind, piece.flags, piece.mask, len(piece.who)) + piece.who + bytes(-len(piece.who) % 4)
+        for piece in found)
 
 
 def decoded(who: bytes) -> str:
     """Returns the name for the bytes that a list has."""
     return who.decode("utf-8", "surrogateescape")
-
-
-def _packed(kind: int, flags: int, mask: int, who: bytes) -> bytes:
-    """Returns an ACE (RFC 8881, section 6.2.1; RFC 4506, sections 4.11 and 4.13)."""
-    return _ACE.pack(kind, flags, mask, len(who)) + who + bytes(-len(who) % 4)
-
-
-def _suffix(found: Sequence[Piece]) -> bytes:
-    """Returns what makes the name of a group of each special name: no ACE has a name that ends so."""
-    ends = {piece.who.rpartition(b"?")[2] for piece in found if b"?" in piece.who}
-    if b"" not in ends:
-        return b"?"
-    return next(b"?%d" % number for number in itertools.count(2) if b"%d" % number not in ends)
 
 
 def asked_nfs(data: bytes) -> Asked:
@@ -202,12 +187,16 @@ def asked_nfs(data: bytes) -> Asked:
         return Asked(acl, places=range(len(acl)))
     left_out = NfsAcl.decide_unknown(data, user="?", owner="?", group="?", mask=0).left_out
     found = pieces(data)
-    too_long = next((piece for piece in found if _is_special(piece) and len(piece.who) > MOST_BYTES), None)
+    special = [piece for piece in found if piece.who.endswith(b"@") and piece.who not in _KNOWN]
+    too_long = next((piece for piece in special if len(piece.who) > MOST_BYTES), None)
     if too_long:
         raise Refused("SpecialWho", offset=too_long.start + 16)
     places = tuple(place for place, piece in enumerate(found) if piece.kind not in _DECIDES_NOTHING)
-    names = dict.fromkeys(found[place].who for place in places if _is_special(found[place]))
-    suffix = _suffix(found)
+    names = dict.fromkeys(piece.who for piece in special if piece.kind not in _DECIDES_NOTHING)
+    ends = {piece.who.rpartition(b"?")[2] for piece in found if b"?" in piece.who}
+    suffix = b"?"  # with it, a special name is no name of the list
+    if b"" in ends:
+        suffix = next(b"?%d" % number for number in itertools.count(2) if b"%d" % number not in ends)
     acl = NfsAcl.with_groups(data, suffix)
     return Asked(acl, None, tuple((decoded(name), decoded(name + suffix)) for name in names), places, left_out)
 
@@ -218,16 +207,6 @@ def as_linux(acl: PosixAcl) -> PosixAcl:
     if perms.get("mask", 7) != 0:
         return acl
     return PosixAcl.from_mode(perms["user"] << 6 | perms["other"])
-
-
-def _ready_posix(stored: StoredList, linux: bool) -> Ready:
-    try:
-        acl = PosixAcl.from_attributes(stored.access, stored.default, stored.mode)
-        if linux:
-            acl = as_linux(acl)
-        return Asked(acl.bridge(), acl)
-    except Refused as refused:
-        return RefusedList(str(refused))
 
 
 def nfs_bytes(stored: StoredList, domain: str) -> bytes:
@@ -244,9 +223,12 @@ def ready(stored: StoredList, linux: bool = False, domain: str = "") -> Ready:
     names of accounts in an NFSv4 list get the domain."""
     if stored.kind == ListForm.REFUSED:
         return RefusedList(decoded(stored.default or b""))
-    if stored.is_posix:
-        return _ready_posix(stored, linux)
     try:
-        return asked_nfs(nfs_bytes(stored, domain))
+        if not stored.is_posix:
+            return asked_nfs(nfs_bytes(stored, domain))
+        acl = PosixAcl.from_attributes(stored.access, stored.default, stored.mode)
+        if linux:
+            acl = as_linux(acl)
+        return Asked(acl.bridge(), acl)
     except Refused as refused:
         return RefusedList(str(refused))

@@ -357,6 +357,6 @@ def load(args: argparse.Namespace) -> int:
         psql.kill()
     snapshots: Dict[str, Snapshot] = {source.snapshot.place: source.snapshot for source in sources}
     for place, snapshot in snapshots.items():
-        sys.stderr.write(f"{quoted(place)}: {plural(snapshot.count(), 'object')} of "
+        sys.stderr.write(f"{quoted(place)}: {plural(snapshot.count, 'object')} of "
                          f"{plural(len(snapshot.trees), 'tree')} loaded\n")
     return status_of(YES, *snapshots.values())

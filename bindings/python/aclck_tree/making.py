@@ -12,14 +12,14 @@ from typing import Callable, Dict, Iterator, List, Optional, Protocol, Sequence,
 
 from . import accounts
 from .combining import far_apart, gathered, join
-from .errors import REFUSED, YES, DeviceError, TreeError, UsageError, tell
+from .errors import REFUSED, YES, DeviceError, TreeError, UsageError
 from .files import refuse_what_is_no_file
 from .listed import ListedScan, entries, opened_list
 from .portions import LONGEST_KEY, MOST_SHARDS, read_shard
 from .progress import Progress
 from .scan import Options, Scan
 from .snapshot import Account, Snapshot, Tree
-from .text import plural, quoted
+from .text import plural, quoted, tell
 from .writer import Writer, new_snapshot
 from .writer import merge as merge_into
 
@@ -65,7 +65,7 @@ def _known_total(place: str) -> Optional[int]:
     refuse_what_is_no_file(place)
     if os.path.lexists(place):
         try:
-            return Snapshot(place).count()
+            return Snapshot(place).count
         except TreeError as error:
             tell(f"{error}: a scan that is whole replaces it")
     return None

@@ -5,11 +5,10 @@ A name that is written wrongly gets an answer all the same: that of a user whom 
 
 from __future__ import annotations
 
-from dataclasses import dataclass, field
-from typing import AbstractSet, Dict, Iterable, Iterator, List, NamedTuple, Optional, Sequence, Set, Tuple
+from typing import Dict, Iterable, Iterator, List, NamedTuple, Optional, Sequence, Set, Tuple
 
 from .ask import Asker
-from .lists import Asked, Kind, Ready, decoded, encoded
+from .lists import Asked, Kind, decoded, encoded, nfs_bytes, pieces
 from .people import Person
 from .text import quoted
 
@@ -29,94 +28,57 @@ class Unmentioned(NamedTuple):
     domains: Set[str]
 
 
-@dataclass
-class _Wanted:
-    """The forms of the names that are asked about, and the names that nothing mentioned so far."""
-
-    forms: Dict[_Form, Set[Name]] = field(default_factory=dict)
-    left: Set[Name] = field(default_factory=set)
-
-    def add(self, form: _Form, name: Name) -> None:
-        self.forms.setdefault(form, set()).add(name)
-        self.left.add(name)
-
-    def mention(self, forms: AbstractSet[_Form]) -> None:
-        for form in self.forms.keys() & forms:
-            self.left -= self.forms[form]
-
-
-def _names(asker: Asker) -> Iterator[Tuple[Person, Name]]:
-    """Yields the names of the people and of their groups, with the person who gives the id."""
-    for person in asker.people:
-        for name in [(False, person.name), *((True, group) for group in person.groups)]:
-            yield person, name
-
-
-def _wanted(asker: Asker, names: Iterable[Tuple[Person, Name]], trees: Set[int]) -> _Wanted:
-    """Returns some names in the forms of NFSv4 lists and of the POSIX lists of some trees."""
-    wanted = _Wanted()
-    for person, name in names:
-        is_group, word = name
-        wanted.add((0, is_group, encoded(asker.full_name(word))), name)
+def _wanted(asker: Asker, names: Iterable[Tuple[Person, Name]], trees: Set[int]) -> Dict[_Form, Set[Name]]:
+    """Returns some names by their forms in NFSv4 lists and in the POSIX lists of some trees."""
+    wanted: Dict[_Form, Set[Name]] = {}
+    for person, (is_group, word) in names:
+        wanted.setdefault((0, is_group, encoded(asker.full_name(word))), set()).add((is_group, word))
         for tree in trees:
             number = asker.id(person, word, is_group, tree)
             if number is not None:
-                wanted.add((tree, is_group, b"%d" % number), name)
+                wanted.setdefault((tree, is_group, b"%d" % number), set()).add((is_group, word))
     return wanted
 
 
-def _owners(asker: Asker) -> Iterator[_Form]:
-    """Yields the owners and groups of all objects."""
-    for face in asker.faces.values():
-        kind = asker.kind(face.list)
-        tree = face.tree if kind is Kind.POSIX else 0
-        for is_group, name in enumerate(asker.owner_and_group(face, kind)):
-            yield tree, bool(is_group), encoded(name)
+def _mention(wanted: Dict[_Form, Set[Name]], left: Set[Name], forms: Set[_Form]) -> None:
+    """Takes away from the names that are left those that have one of some forms."""
+    for form in wanted.keys() & forms:
+        left -= wanted[form]
 
 
-def _ids(asked: Ready) -> Iterator[Tuple[bool, bytes]]:
-    """Yields the ids of the named entries of a POSIX list."""
-    if isinstance(asked, Asked) and asked.posix:
-        for entry in asked.posix:
-            if entry.id is not None:
-                yield entry.tag == "group", b"%d" % entry.id
-
-
-def _domain(name: str) -> str:
-    return name.partition("@")[2]
-
-
-def unmentioned(asker: Asker, names: Optional[Iterable[Tuple[Person, Name]]] = None) -> Unmentioned:
+def unmentioned(asker: Asker, names: Optional[Sequence[Tuple[Person, Name]]] = None) -> Unmentioned:
     """Returns which of the names that are asked about the snapshot of an `Asker` does not mention: those of the people,
     or those that are given, each with a person who may give its id."""
+    if names is None:
+        names = [(person, name) for person in asker.people
+                 for name in [(False, person.name), *((True, group) for group in person.groups)]]
     lists: Dict[int, Set[int]] = {}
     for face in asker.faces.values():
         lists.setdefault(face.list, set()).add(face.tree)
-    trees = {tree for number, held in lists.items() if asker.kind(number) is Kind.POSIX for tree in held}
-    wanted = _wanted(asker, _names(asker) if names is None else names, trees)
-    wanted.mention(set(_owners(asker)))
-    in_lists: Set[bytes] = set()
+    trees = {tree for number, held in lists.items() if asker.stored[number].is_posix for tree in held}
+    wanted, left, in_lists = _wanted(asker, names, trees), {name for _, name in names}, {b""}
+    for face in asker.faces.values():
+        tree, kind = (face.tree, Kind.POSIX) if asker.stored[face.list].is_posix else (0, Kind.NFS4)
+        owners = zip((False, True), asker.owner_and_group(face, kind))
+        _mention(wanted, left, {(tree, is_group, encoded(name)) for is_group, name in owners})
     for number, held in lists.items():
-        if asker.kind(number) is Kind.NFS4:
-            found = {(0, is_group, who) for is_group, who in asker.whos(number)}
-            wanted.mention(found)
+        stored = asker.stored[number]
+        if stored.is_nfs:
+            found = {(0, piece.is_group, piece.who) for piece in pieces(nfs_bytes(stored, asker.options.domain))}
+            _mention(wanted, left, found)
             in_lists.update(who.partition(b"@")[2] for _, _, who in found)
-        elif asker.stored(number).access is not None:
-            wanted.mention({(tree, *form) for form in _ids(asker.ready(number)) for tree in held})
+        elif stored.is_posix and stored.access is not None:
+            asked = asker.ready(number)
+            ids = asked.ids() if isinstance(asked, Asked) else []
+            _mention(wanted, left, {(tree, is_group, b"%d" % one) for is_group, one in ids for tree in held})
     domains = set(map(decoded, in_lists - {b""}))
-    foreign = {name for _, names in wanted.forms.items() for name in names
-               if domains and _domain(asker.full_name(name[1])) not in domains}
-    return Unmentioned(wanted.left, foreign, domains)
+    foreign = {name for _, name in names if domains and asker.full_name(name[1]).partition("@")[2] not in domains}
+    return Unmentioned(left, foreign, domains)
 
 
-def lines(asker: Asker, only_domains: bool) -> Iterator[str]:
+def lines(asker: Asker, found: Unmentioned, only_domains: bool) -> Iterator[str]:
     """Yields the lines that say which names are not mentioned. With `only_domains`, the people are all accounts of a
     system, of which most are never mentioned: then only names with a domain that no list has are said."""
-    return lines_of(asker, unmentioned(asker), only_domains)
-
-
-def lines_of(asker: Asker, found: Unmentioned, only_domains: bool) -> Iterator[str]:
-    """Yields the same lines about names that were found."""
     if found.names and not only_domains:
         yield f"no list, owner or group names {words_of(found.names)}{_domains(asker, found, found.names)}"
     other = found.foreign if only_domains else found.foreign - found.names
@@ -138,7 +100,7 @@ def words_of(names: Set[Name]) -> str:
 
 def _domains(asker: Asker, found: Unmentioned, names: Set[Name]) -> str:
     """Returns which domains the lists have, if some of the names have none of these, and whether only case differs."""
-    given = {_domain(asker.full_name(name)) for _, name in names & found.foreign}
+    given = {asker.full_name(name).partition("@")[2] for _, name in names & found.foreign}
     if not given:
         return ""
     shown: Sequence[str] = sorted(found.domains)

@@ -12,9 +12,9 @@ from typing import List, Set
 from .__main__ import main, parser_of
 from .combining import far_apart, gathered
 from .commands import TOGETHER
-from .errors import USAGE, YES, TreeError, tell
-from .naming import Naming
+from .errors import USAGE, YES, TreeError
 from .snapshot import Snapshot
+from .text import Naming, tell
 
 
 def _fault(words: List[str]) -> str:

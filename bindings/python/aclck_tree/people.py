@@ -36,8 +36,8 @@ HIGHEST_ID = 0xFFFFFFFE
 
 @dataclass(frozen=True)
 class Person:
-    """A user with all groups of the user. `ids` are the ids that are given, by the name and by whether it is a group. If
-    hosts listed different groups, `listed` has the groups for each tree."""
+    """A user with all groups of the user. `ids` has the ids that are given, by the name and by whether it is a group.
+    If hosts listed different groups, `listed` has the groups for each tree."""
 
     name: str
     groups: Tuple[str, ...] = ()
@@ -66,10 +66,10 @@ def fresh_name(names: Iterable[Union[str, bytes]], word: str = "?stranger") -> s
     return next(name for name in numbered if name.encode() not in taken)
 
 
-def fresh_id(ids: Iterable[int]) -> int:
-    """Returns an id that is not one of some ids."""
+def fresh_ids(ids: Iterable[int]) -> Iterator[int]:
+    """Yields ids that are not among some ids."""
     taken = set(ids)
-    return next(number for number in range(HIGHEST_ID, 0, -1) if number not in taken)
+    return (number for number in range(HIGHEST_ID, 0, -1) if number not in taken)
 
 
 @dataclass
@@ -130,7 +130,7 @@ def stranger_of(snapshot: Snapshot, lists: Iterable[StoredList], people: Iterabl
     ids += [number for person in people for number in person.ids.values()]
     ids += [number for number in map(read_id, words) if number is not None]
     stranger = fresh_name(itertools.chain(names, words))
-    return Person(stranger, (), {(stranger, False): fresh_id(ids)})
+    return Person(stranger, (), {(stranger, False): next(fresh_ids(ids))})
 
 
 def ids_in(attribute: bytes) -> Iterator[int]:
@@ -245,7 +245,8 @@ def people_file(place: str) -> List[Person]:
         user = _words(head) if head.startswith('"') else [head]
         if len(user) != 1:
             raise ValueError("more than one name is in front of the colon")
-        person = _person(_split(user[0]), list(map(_split, _words(parts[2]))))
+        words = _words(parts[2])
+        person = _person(_split(user[0]), list(map(_split, words)))
         first = firsts.setdefault(person.name, number)
         if first != number:
             raise ValueError(f"{quoted(person.name)} is in line {first} already")
@@ -299,26 +300,25 @@ def system_people() -> List[Person]:
             for user in pwd.getpwall()]
 
 
-def snapshot_people(snapshot: Snapshot) -> List[Person]:
-    """Returns the accounts that the scanning hosts listed. Accounts with the same name are one person."""
+def snapshot_people(snapshot: Snapshot, only: Optional[str] = None) -> List[Person]:
+    """Returns the accounts that the scanning hosts listed, or only those of one name. Accounts with the same name are
+    one person."""
+    wanted = None if only is None else os.fsencode(only)
     members: Dict[str, List[Tuple[int, str]]] = {}
     for tree, user, group in snapshot.members():
-        members.setdefault(os.fsdecode(user), []).append((tree, os.fsdecode(group)))
-    return [_listed(snapshot, user, groups) for user, groups in members.items()]
+        if wanted in (None, user):
+            members.setdefault(os.fsdecode(user), []).append((tree, os.fsdecode(group)))
+    people = []
+    for name, groups in members.items():
+        by_tree: Dict[int, Dict[str, None]] = {}
+        for tree, word in groups:
+            by_tree.setdefault(tree, {})[word] = None
+        listed = {tree: tuple(words) for tree, words in by_tree.items()}
+        are_alike = len(set(listed.values())) == 1 and len(listed) == len(snapshot.trees)
+        people.append(Person(name, tuple(dict.fromkeys(word for _, word in groups)), {}, {} if are_alike else listed))
+    return people
 
 
 def listed_person(snapshot: Snapshot, user: str) -> Person:
     """Returns a user with the groups in which the scanning hosts listed the user, which are none if no host did."""
-    wanted = os.fsencode(user)
-    return _listed(snapshot, user, [(tree, os.fsdecode(group)) for tree, name, group in snapshot.members()
-                                    if name == wanted])
-
-
-def _listed(snapshot: Snapshot, user: str, members: Sequence[Tuple[int, str]]) -> Person:
-    """Makes a person from the trees and groups in which a user is listed."""
-    by_tree: Dict[int, Dict[str, None]] = {}
-    for tree, group in members:
-        by_tree.setdefault(tree, {})[group] = None
-    listed = {tree: tuple(groups) for tree, groups in by_tree.items()}
-    are_alike = len(set(listed.values())) == 1 and len(listed) == len(snapshot.trees)
-    return Person(user, tuple(dict.fromkeys(group for _, group in members)), {}, {} if are_alike else listed)
+    return next(iter(snapshot_people(snapshot, user)), Person(user))

@@ -26,15 +26,14 @@ from .commands import (
     selected,
     status_of,
 )
-from .errors import NO, REFUSED, YES, tell
+from .errors import NO, REFUSED, YES
 from .lists import Asked, Kind, RefusedList
-from .naming import Named, Naming, name_in
 from .people import Person
 from .reach import reached
 from .reasons import Why, why_request
 from .reasons import why as why_of
 from .snapshot import Tree
-from .text import Output, Row, plural, quoted, table
+from .text import Named, Naming, Output, Row, name_in, plural, quoted, table, tell
 
 
 def left_out(asker: Asker, faces: Iterable[int]) -> str:
@@ -116,7 +115,7 @@ class Question:
     def last_line(self, what: str, tally: Tally, counts: Dict[Basis, int]) -> str:
         """Returns the line that counts the answers, and says what else was asked or was not."""
         faces = {basis.face for basis in counts}
-        has_posix = any(self.asker.kind(self.asker.faces[face].list) is Kind.POSIX for face in faces)
+        has_posix = any(self.asker.stored[self.asker.faces[face].list].is_posix for face in faces)
         missing = f"; POSIX lists have no {mask_text(self.want.missing)}" if has_posix and self.want.missing else ""
         above = "" if self.is_reach or not counts else "; directories above were not asked (--reach)"
         return f"{what}: {tally.line()}{missing}{left_out(self.asker, faces)}{self._linux(counts)}{above}"
@@ -259,7 +258,8 @@ def why(args: argparse.Namespace) -> int:
     if isinstance(found, RefusedList):
         tell(f"{name.words()}: refused {found.reason}")
         return REFUSED
-    owner, group = asker.owner_and_group(face, asker.kind(face.list))
+    kind = Kind.POSIX if asker.stored[face.list].is_posix else Kind.NFS4
+    owner, group = asker.owner_and_group(face, kind)
     out = Output(args.form, naming.columns("right", "answer", "place", "decided_by", "directory"), lambda row: "")
     wanted = want_of(args.may) if args.may else None
     if wanted:

@@ -13,19 +13,18 @@ from typing import Any, Dict, Iterable, Iterator, List, NamedTuple, Optional, Se
 from .ask import DENIED, GRANTED, UNKNOWN, Answers, Asker, Want
 from .checking import Applied, Policy, tell_slips, verdict_of, words_of
 from .commands import Paths, asker_of, opened, people_of, status_of
-from .errors import NO, REFUSED, YES, UsageError, tell
+from .errors import NO, REFUSED, YES, UsageError
 from .files import replaced
 from .findings import Finding, everyone_words, findings, special_bits_words
 from .judging import Verdict
 from .lists import Asked, Kind, RefusedList
-from .naming import Naming
 from .page import page
 from .people import HIGHEST_ID, Person, stranger_of
 from .policies import read_policy
 from .reach import reached
 from .rows import NAMED, Cells, Level, Name, Rows, level_by, level_of, name_of, questions_of
 from .snapshot import Face, Snapshot
-from .text import Form, Output, quoted, quoted_host
+from .text import Form, Naming, Output, quoted, quoted_host, tell
 
 
 @dataclass
@@ -86,7 +85,7 @@ class Report:
         self.faces = asker.faces
         self._nobody = _id_of_nobody(asker)
         self._owner, self._stranger = len(self.people), len(self.people) + 1
-        stored = (asker.stored(number) for number in {face.list for face in self.faces.values()})
+        stored = (asker.stored[number] for number in {face.list for face in self.faces.values()})
         # Two more are asked about: who owns all objects that none of the people owns, and somebody whom nothing names.
         stranger = stranger_of(self.snapshot, stored, asker.people)
         self.asker = Asker(self.snapshot, [*asker.people, Person(str(self._nobody)), stranger], asker.options)
@@ -94,7 +93,7 @@ class Report:
         self.findings = [*(_policy_findings() if policy else ()),
                          *findings(self.asker, self.snapshot.directory_faces(), stranger)]
         self.found: Dict[str, Dict[str, Places]] = {finding.key: {} for finding in self.findings}
-        self._has_posix = any(self.asker.kind(face.list) is Kind.POSIX for face in self.faces.values())
+        self._has_posix = any(self.asker.stored[face.list].is_posix for face in self.faces.values())
         self.naming = Naming(self.snapshot)
         self._users: Dict[Tuple[int, Kind], Dict[str, Tuple[int, ...]]] = {}
         self._cells: Dict[Tuple[bytes, Level], Cells] = {}

@@ -8,10 +8,9 @@ from typing import Dict, Iterator, List, NamedTuple, Optional, Sequence, Tuple
 from aclck import ALL
 
 from .ask import Identity
-from .counterparts import is_same_owner, who_at
 from .crowd import AT_ONCE, NOTHING, Alike, Asking, Crowd, Granted, Missing
 from .lists import POSIX_MASKS, Kind
-from .sides import Place, Question, Side
+from .sides import Place, Question, Side, is_same_owner, who_at
 from .text import quoted
 
 _SPECIAL = {"OWNER@", "GROUP@", "EVERYONE@"}
@@ -61,13 +60,6 @@ _ID_NOT_KNOWN = Granted(0, sum(POSIX_MASKS.values()))
 """What somebody may be granted whose id is not known, which only matters for POSIX lists."""
 
 
-def _difference(old: Granted, new: Granted) -> Effect:
-    """Compares what is granted on both sides. A right is known only if it is granted in all cases of a side or in
-    none."""
-    gained, lost = new.sure & ~old.maybe, old.sure & ~new.maybe
-    return gained, lost, ((old.sure ^ new.sure) | old.unknown | new.unknown) & ~gained & ~lost
-
-
 def _granted_at(place: Optional[Place], crowd: Crowd) -> Iterator[_Part]:
     """Yields what each of a crowd is granted, in parts. On an object that is not there nothing is granted."""
     if not place:
@@ -86,24 +78,11 @@ def _in_each(found: Sequence[Optional[Granted]]) -> Optional[Granted]:
     return Granted(sure, maybe)
 
 
-def differences(question: Question, rows: Sequence[Requester], old: Crowd, new: Crowd) -> Iterator[Affected]:
-    """Yields those of the rows for whom something differs. Usually whole parts of the rows are equal."""
-    is_sure = all(len(place.views) == 1 and not place.views[0].asked.specials for place in question.places())
-    alike = Alike(question.old.views[0], question.new.views[0]) if question.old and question.new else None
-    start = 0
-    for before, after in zip(_granted_at(question.old, old), _granted_at(question.new, new)):
-        if not is_sure or before != after or None in before:
-            for row, one, other in zip(rows[start:start + len(before)], before, after):
-                found = _effect(question, row, one or _ID_NOT_KNOWN, other or _ID_NOT_KNOWN, alike)
-                if any(found):
-                    yield row, found
-        start += len(before)
-
-
 def _effect(question: Question, row: Requester, one: Granted, other: Granted, alike: Optional[Alike]) -> Effect:
-    """Returns what differs for a row. Of rights that depend on special names on both sides, it is asked whether they do
-    so alike."""
-    gained, lost, unclear = _difference(one, other)
+    """Returns what differs for a row. A right is known only if it is granted in all cases of a side or in none. Of
+    rights that depend on special names on both sides, it is asked whether they do so alike."""
+    gained, lost = other.sure & ~one.maybe, one.sure & ~other.maybe
+    unclear = ((one.sure ^ other.sure) | one.unknown | other.unknown) & ~gained & ~lost
     on_both = one.unknown & other.unknown
     if on_both and alike and isinstance(row.old, Identity) and isinstance(row.new, Identity):
         if all(len(place.views) == 1 for place in question.places()):
@@ -111,34 +90,42 @@ def _effect(question: Question, row: Requester, one: Granted, other: Granted, al
     return gained, lost, unclear
 
 
-def crowds(rows: Sequence[Requester]) -> Tuple[Crowd, Crowd]:
-    """Returns the rows as each side names them, which is one crowd if both name them alike."""
-    old, new = [row.old for row in rows], [row.new for row in rows]
-    before = Crowd(old)
-    return before, before if old == new else Crowd(new)
+class Rows:
+    """Requesters who are asked about many objects: two crowds, or one if both sides name all of them alike."""
 
-
-class PairedPeople:
-    """The people of both sides, in the names of one host and of one kind of list on each side."""
-
-    def __init__(self, old: Side, new: Side, question: Question) -> None:
-        """Pairs the people by their names."""
-        before = {person.name: person for person in reversed(old.asker.people)}
-        after = {person.name: person for person in reversed(new.asker.people)}
-        self.rows = []
-        for name in dict.fromkeys(one.name for one in itertools.chain(new.asker.people, old.asker.people)):
-            sides = [place.side.identity(people.get(name), place.face, place.kind) if place else Missing.PERSON
-                     for people, place in ((before, question.old), (after, question.new))]
-            note = "is new" if name not in before else "is gone" if name not in after else ""
-            self.rows.append(Requester(Whom("", name), sides[0], sides[1], note))
-        self.have_moved = any(row.old != row.new for row in self.rows)
-        self.crowds = crowds(self.rows)
+    def __init__(self, rows: Sequence[Requester]) -> None:
+        self._rows = rows
+        old, new = [row.old for row in rows], [row.new for row in rows]
+        self.have_moved = old != new
+        self._old = Crowd(old)
+        self._new = Crowd(new) if self.have_moved else self._old
 
     def differences(self, question: Question, has_known_list: bool = False) -> Iterator[Affected]:
-        """Yields the people for whom something differs. If the list grants the same on both sides, nothing is unclear
-        about somebody who has an id on neither side."""
-        return (found for found in differences(question, self.rows, *self.crowds)
-                if not (has_known_list and found[0].old is found[0].new is Missing.ID))
+        """Yields those for whom something differs. Usually whole parts of the rows are equal. If the list grants the
+        same on both sides, nothing is unclear about somebody who has an id on neither side."""
+        is_sure = all(len(place.views) == 1 and not place.views[0].asked.specials for place in question.places())
+        alike = Alike(question.old.views[0], question.new.views[0]) if question.old and question.new else None
+        start = 0
+        for before, after in zip(_granted_at(question.old, self._old), _granted_at(question.new, self._new)):
+            if not is_sure or before != after or None in before:
+                for row, one, other in zip(self._rows[start:start + len(before)], before, after):
+                    found = _effect(question, row, one or _ID_NOT_KNOWN, other or _ID_NOT_KNOWN, alike)
+                    if any(found) and not (has_known_list and row.old is row.new is Missing.ID):
+                        yield row, found
+            start += len(before)
+
+
+def paired_people(old: Side, new: Side, question: Question) -> Rows:
+    """Pairs the people of both sides by their names, in the names of one host and of one kind of list on each side."""
+    before = {person.name: person for person in reversed(old.asker.people)}
+    after = {person.name: person for person in reversed(new.asker.people)}
+    rows = []
+    for name in dict.fromkeys(one.name for one in itertools.chain(new.asker.people, old.asker.people)):
+        sides = [place.side.identity(people.get(name), place.face, place.kind) if place else Missing.PERSON
+                 for people, place in ((before, question.old), (after, question.new))]
+        note = "is new" if name not in before else "is gone" if name not in after else ""
+        rows.append(Requester(Whom("", name), sides[0], sides[1], note))
+    return Rows(rows)
 
 
 def mentioned(question: Question) -> List[Requester]:
@@ -148,21 +135,23 @@ def mentioned(question: Question) -> List[Requester]:
     In a normal form no right can be taken from an ACE. So its ACEs about one user or group, and those for everyone,
     decide about a right in whatever order they are. Nobody is asked about whom these are the same.
     """
-    forms = [[ace for view in place.views for ace in view.asked.acl.normal()] for place in question.places()]
+    places = question.places()
+    forms = [[ace for view in place.views for ace in view.asked.acl.normal()] for place in places]
     whos = {ace.who for form in forms for ace in form}
     rows = [row for who, is_group in (("OWNER@", False), ("GROUP@", True)) if who in whos
             for row in _owners(question, is_group)]
-    if len({place.kind for place in question.places()}) == 1:
+    if len({place.kind for place in places}) == 1:
         unlike = set(forms[0]) ^ set(forms[-1])
-        is_enough = (len(forms) == 2 and question.places()[0].kind is Kind.NFS4 and not question.specials()
+        has_specials = any(view.asked.specials for place in places for view in place.views)
+        is_enough = (len(forms) == 2 and places[0].kind is Kind.NFS4 and not has_specials
                      and not any(ace.who == "EVERYONE@" for ace in unlike))
         for are_unlike in (True,) if is_enough else (True, False):
-            for place, form in zip(question.places(), forms):
+            for place, form in zip(places, forms):
                 others = {group for view in place.views for _, group in view.asked.specials} | _SPECIAL
                 for is_group, who in dict.fromkeys((ace.is_group, ace.who) for ace in form
                                                    if (ace in unlike) == are_unlike and ace.who not in others):
                     rows.append(_row(question, place, "member of" if is_group else "user", is_group, who))
-    rows.append(Requester(Whom("anybody else"), *question.each(lambda place: Identity(place.stranger()))))
+    rows.append(Requester(Whom("anybody else"), *question.each(False, lambda place: place.stranger())))
     found: Dict[Tuple[Asking, Asking], Requester] = {}
     for row in rows:
         found.setdefault((row.old, row.new), row)
@@ -173,7 +162,7 @@ def _owners(question: Question, is_group: bool) -> Iterator[Requester]:
     """Yields a row for the owner or for a member of the group, or two if these changed."""
     if question.on or len(question.places()) == 1 or is_same_owner(question, is_group):
         yield Requester(Whom("a member of its group" if is_group else "its owner"),
-                   *question.each(lambda place: _identity(place, is_group, place.owner(is_group))))
+                        *question.each(is_group, lambda place: place.owner(is_group)))
     elif len({place.kind for place in question.places()}) == 1:
         for place in question.places():
             yield _row(question, place, "member of group" if is_group else "owner", is_group, place.owner(is_group))
@@ -181,9 +170,5 @@ def _owners(question: Question, is_group: bool) -> Iterator[Requester]:
 
 def _row(question: Question, place: Place, words: str, is_group: bool, who: str) -> Requester:
     """Makes the row for a who of the list of one side."""
-    sides = question.each(lambda other: _identity(other, is_group, who_at(place, other, is_group, who)))
+    sides = question.each(is_group, lambda other: who_at(place, other, is_group, who))
     return Requester(Whom(words, place.name(is_group, who)), *sides)
-
-
-def _identity(place: Place, is_group: bool, who: str) -> Identity:
-    return Identity(place.stranger(), (who,)) if is_group else Identity(who)

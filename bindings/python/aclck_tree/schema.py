@@ -113,7 +113,15 @@ class Judged(NamedTuple):
 
 def judge(place: str, rows: Rows, size: int) -> Judged:
     """Judges everything in a file of some size. Raises TreeError if there is anything that a scan does not write."""
-    version = _judge_header(place, rows)
+    application, version, encoding = (next(rows(f"PRAGMA {name}"))[0] for name in (
+        "application_id", "user_version", "encoding"))
+    if application != APPLICATION:
+        raise TreeError(f"{place}: no snapshot of aclck-tree")
+    if version not in (FORMAT, PORTIONS, KINDS):
+        age = "a newer" if version > KINDS else "no"
+        raise TreeError(f"{place}: format {version} of {age} aclck-tree; formats {FORMAT} to {KINDS} are read")
+    if encoding != "UTF-8":
+        raise TreeError(f"{place}: text in it is not UTF-8")
     has_portions = version >= PORTIONS
     for name, sql in rows("SELECT name, sql FROM sqlite_master"):  # also views, triggers, and virtual tables
         if " ".join(str(sql).split()) != SCHEMA.get(name):
@@ -130,20 +138,6 @@ def judge(place: str, rows: Rows, size: int) -> Judged:
         raise TreeError(f"{place}: damaged: the index does not fit the objects, or a path is there twice or is one that "
                         "no scan writes")
     return Judged(objects, has_portions)
-
-
-def _judge_header(place: str, rows: Rows) -> int:
-    """Judges what a file says of itself, and returns its version."""
-    application, version, encoding = (next(rows(f"PRAGMA {name}"))[0] for name in (
-        "application_id", "user_version", "encoding"))
-    if application != APPLICATION:
-        raise TreeError(f"{place}: no snapshot of aclck-tree")
-    if version not in (FORMAT, PORTIONS, KINDS):
-        age = "a newer" if version > KINDS else "no"
-        raise TreeError(f"{place}: format {version} of {age} aclck-tree; formats {FORMAT} to {KINDS} are read")
-    if encoding != "UTF-8":
-        raise TreeError(f"{place}: text in it is not UTF-8")
-    return int(version)
 
 
 def _judge_values(place: str, rows: Rows, size: int, tables: Dict[str, Dict[str, _Column]]) -> int:

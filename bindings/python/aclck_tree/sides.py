@@ -1,37 +1,38 @@
-"""The two sides of a comparison: where an object is on each of them, and the questions about it and about what is made
-in it."""
+"""The two sides of a comparison: where an object is on each of them, the questions about it and about what is made in
+it, and who is who on the other side: owners, groups and ids in POSIX lists, whose names each host knows for itself."""
 
 from __future__ import annotations
 
 from typing import Callable, Dict, Iterator, List, NamedTuple, Optional, Sequence, Tuple
 
-from aclck import Refused
+from aclck import PosixAcl, Refused
 
 from .ask import Asker, Identity
 from .crowd import Asking, Missing, View
 from .lists import Asked, Kind
-from .people import Accounts, Person, stranger_of
+from .people import Accounts, Person, fresh_ids, stranger_of
 from .snapshot import Face
+from .text import quoted
 
 HEIRS = ("new files", "new directories", "files in new directories", "directories in new directories")
 """What is made in a directory, in the order of `NfsAcl.inherited`."""
 
+MOST_NAMES = 3
+"""How many names of ids a note has; it counts the others."""
+
 
 class Side:
-    """One of the two snapshots: its people, and three strangers whom nothing in it names."""
+    """One of the two snapshots: its people, and three strangers whom nothing in it names. `names` has these by the tree
+    and the kind of a list, and by their place."""
 
     def __init__(self, asker: Asker) -> None:
         self.asker = asker
         self.faces = asker.faces
-        lists = [asker.stored(number) for number in asker.snapshot.lists()]
-        self._names: Dict[Tuple[int, str, int], str] = {}
-        self._strangers: List[Person] = []
+        self.names: Dict[Tuple[int, str, int], str] = {}
+        self.strangers: List[Person] = []
+        lists = [asker.stored[number] for number in asker.snapshot.lists()]
         for _ in range(3):
-            self._strangers.append(stranger_of(asker.snapshot, lists, [*asker.people, *self._strangers]))
-
-    def accounts(self, face: Face) -> Accounts:
-        """Returns the accounts of the host of a face."""
-        return self.asker.accounts[face.tree]
+            self.strangers.append(stranger_of(asker.snapshot, lists, [*asker.people, *self.strangers]))
 
     def identity(self, person: Optional[Person], face: Face, kind: str) -> Asking:
         """Returns the user and the groups of a person for lists of a kind."""
@@ -39,15 +40,6 @@ class Side:
             return Missing.PERSON
         found = self.asker.identity(person, face, kind)
         return Identity(found.user, tuple(sorted(set(found.groups)))) if found else Missing.ID
-
-    def stranger(self, face: Face, kind: str, place: int = 0) -> str:
-        """Returns one of the strangers, as a user or as a group that lists of a kind name."""
-        key = (face.tree, kind, place)
-        if key not in self._names:
-            found = self.identity(self._strangers[place], face, kind)
-            assert isinstance(found, Identity)
-            self._names[key] = found.user
-        return self._names[key]
 
 
 class Place(NamedTuple):
@@ -64,11 +56,16 @@ class Place(NamedTuple):
 
     def accounts(self) -> Accounts:
         """Returns the accounts of its host."""
-        return self.side.accounts(self.face)
+        return self.side.asker.accounts[self.face.tree]
 
-    def stranger(self) -> str:
-        """Returns a user whom nothing on its side names."""
-        return self.side.stranger(self.face, self.kind)
+    def stranger(self, number: int = 0) -> str:
+        """Returns a stranger of its side, as a user or as a group that lists of its kind name."""
+        key = (self.face.tree, self.kind, number)
+        if key not in self.side.names:
+            found = self.side.identity(self.side.strangers[number], self.face, self.kind)
+            assert isinstance(found, Identity)
+            self.side.names[key] = found.user
+        return self.side.names[key]
 
     def owner(self, is_group: bool) -> str:
         """Returns the name of its group, or of its owner."""
@@ -91,13 +88,12 @@ class Question(NamedTuple):
         """Returns the places that there are."""
         return [place for place in (self.old, self.new) if place]
 
-    def each(self, identity: Callable[[Place], Asking]) -> Tuple[Asking, Asking]:
-        """Returns an identity on each side."""
-        return (identity(self.old) if self.old else Missing.PERSON, identity(self.new) if self.new else Missing.PERSON)
-
-    def specials(self) -> List[str]:
-        """Returns the special names of its lists."""
-        return sorted({name for place in self.places() for view in place.views for name, _ in view.asked.specials})
+    def each(self, is_group: bool, who: Callable[[Place], str]) -> Tuple[Asking, Asking]:
+        """Returns a user on each side, or a stranger in a group there. `who` names the user or the group."""
+        sides: List[Asking] = [
+            Missing.PERSON if not place else Identity(place.stranger(), (who(place),)) if is_group
+            else Identity(who(place)) for place in (self.old, self.new)]
+        return sides[0], sides[1]
 
 
 def place_of(side: Side, face: Face, asked: Asked) -> Place:
@@ -108,33 +104,25 @@ def place_of(side: Side, face: Face, asked: Asked) -> Place:
 def heirs(question: Question, notes: List[str]) -> Iterator[Question]:
     """Yields the questions about what is made in a directory."""
     try:
-        sides = [_heir_places(place) for place in (question.old, question.new)]
+        sides: List[Sequence[Optional[Place]]] = [
+            [place._replace(views=views) for views in _heir_views(place)] if place else [None] * len(HEIRS)
+            for place in (question.old, question.new)]
     except Refused as refused:
         notes.append(f"nobody was asked about what is made in it: {refused}")
         return
     for on, old, new in zip(HEIRS, *sides):
         if old and new and on in HEIRS[:2]:
-            for word, one, two in (("inherited", old, new), ("inherit", new, old)):
-                if _is_empty(one) and not _is_empty(two):
-                    notes.append(f"{on} {word} nothing")
+            has_aces = [any(len(view.asked.acl) for view in place.views) for place in (old, new)]
+            if has_aces[0] != has_aces[1]:
+                notes.append(f"{on} {'inherit' if has_aces[0] else 'inherited'} nothing")
         yield Question(old, new, on)
-
-
-def _is_empty(place: Place) -> bool:
-    return not any(len(view.asked.acl) for view in place.views)
-
-
-def _heir_places(place: Optional[Place]) -> Sequence[Optional[Place]]:
-    if not place:
-        return [None] * len(HEIRS)
-    return [Place(place.side, place.face, views) for views in _heir_views(place)]
 
 
 def _heir_views(place: Place) -> Iterator[Tuple[View, ...]]:
     """Yields the lists of what strangers make in a directory. Without a default ACL the umask of the process that makes
     the object decides, so that every permission of the mode or none may be left."""
     asked = place.views[0].asked
-    names = [place.side.stranger(place.face, place.kind, number) for number in (1, 2)]
+    names = [place.stranger(number) for number in (1, 2)]
     if not asked.posix:
         for form in asked.acl.inherited()[1:]:
             yield (View(Asked(form, None, asked.specials), *names),)
@@ -143,3 +131,86 @@ def _heir_views(place: Place) -> Iterator[Tuple[View, ...]]:
     for mode, is_directory in ((0o666, False), (0o777, True)):
         made = [asked.posix.create(mode=mode, umask=umask, directory=is_directory) for umask in umasks]
         yield tuple(View(Asked(acl.bridge(), acl), *names) for acl in made)
+
+
+def who_at(place: Place, other: Place, is_group: bool, who: str) -> str:
+    """Returns how the list of the other side names a who, which is a stranger if the other host has no such account."""
+    if place.kind is not Kind.POSIX or other is place:
+        return who
+    number = _counterpart(is_group, int(who), place.accounts(), other.accounts())
+    return other.stranger() if number is None else str(number)
+
+
+def is_same_owner(question: Question, is_group: bool) -> bool:
+    """Whether the owner or the group is the same on both sides: by its id and name if the lists are of two kinds."""
+    old, new = question.old, question.new
+    assert old and new
+    if old.kind == new.kind:
+        return who_at(new, old, is_group, new.owner(is_group)) == old.owner(is_group)
+    ids = [place.face.gid if is_group else place.face.uid for place in (old, new)]
+    return ids[0] == ids[1] and old.accounts().name(is_group, ids[0]) == new.accounts().name(is_group, ids[1])
+
+
+def has_other_owner(question: Question) -> bool:
+    """Whether an owner or a group changed about which the list says something."""
+    assert question.old
+    whos = {ace.who for ace in question.old.views[0].asked.acl.normal()}
+    return any(who in whos and not is_same_owner(question, is_group)
+               for who, is_group in (("OWNER@", False), ("GROUP@", True)))
+
+
+def _counterpart(is_group: bool, number: int, here: Accounts, there: Accounts) -> Optional[int]:
+    """Returns the id on another host of the account that has an id here: the id of the same name, or else the same id
+    unless it has the name of another account of this host. Returns None if there is no such id."""
+    name = _label(is_group, number, here)
+    same_name = there.ids.get((is_group, name)) if name else None
+    if same_name is not None and _label(is_group, same_name, there) == name:
+        return same_name
+    other = _label(is_group, number, there)
+    known = here.ids.get((is_group, other)) if other else None
+    return number if known is None or _label(is_group, known, here) != other else None
+
+
+def _label(is_group: bool, number: int, accounts: Accounts) -> Optional[str]:
+    """Returns the name of an id if it is the name of no other id."""
+    name = accounts.names.get((is_group, number))
+    return name if name is not None and accounts.ids.get((is_group, name)) == number else None
+
+
+def renamed_ids(question: Question) -> List[str]:
+    """Returns the note about ids in equal POSIX lists that have other names now."""
+    old, new = question.old, question.new
+    assert old and new
+    found = []
+    for is_group, number in old.views[0].asked.ids():
+        names = old.accounts().name(is_group, number), new.accounts().name(is_group, number)
+        if names[0] != names[1]:
+            word = "group" if is_group else "user"
+            found.append(f"{word} id {number} was {quoted(names[0])}, is {quoted(names[1])}")
+    return found[:MOST_NAMES] + ([f"{len(found) - MOST_NAMES:,} more ids have other names"]
+                                 if len(found) > MOST_NAMES else [])
+
+
+def translate(question: Question) -> Tuple[Asked, Callable[[bool, str], str]]:
+    """Returns the new list with the ids that the old host has for the accounts of the new one, and what makes a name of
+    a who in it. The names in NFSv4 lists are those of all hosts."""
+    assert question.old and question.new
+    here, there = question.new, question.old
+    asked = here.views[0].asked
+    if not asked.posix:
+        return asked, lambda is_group, who: who
+    ids = {key: _counterpart(*key, here.accounts(), there.accounts()) for key in asked.ids()}
+    unused = fresh_ids([*(number for _, number in there.views[0].asked.ids()),
+                        *(number for number in ids.values() if number is not None)])
+    numbers = {key: next(unused) if number is None else number for key, number in ids.items()}
+    names = {(is_group, str(numbers[is_group, number])): here.name(is_group, str(number)) for is_group, number in ids}
+
+    def name(is_group: bool, who: str) -> str:
+        return names.get((is_group, who)) or there.name(is_group, who)
+
+    if all(key[1] == number for key, number in numbers.items()):
+        return asked, name
+    acl = PosixAcl.from_entries(
+        entry if entry.id is None else entry._replace(id=numbers[entry.tag == "group", entry.id])
+        for entry in asked.posix)
+    return Asked(acl.bridge(), acl), name

@@ -34,10 +34,9 @@ import stat
 import sys
 import urllib.parse
 from dataclasses import dataclass
-from typing import Any, Dict, Iterable, Iterator, Optional, Sequence, Set, Tuple
+from typing import Any, Dict, Iterator, Optional, Sequence, Set, Tuple
 
 from .errors import TreeError
-from .joined import Joined
 from .portions import Device, Portion
 from .schema import judge
 from .text import quoted_place
@@ -152,7 +151,8 @@ Parts = Tuple[Dict[int, StoredList], Dict[int, Face]]
 
 
 class Snapshot:
-    """A snapshot to read. It can come from anybody: whatever is in the file, it is judged before it is used."""
+    """A snapshot to read, which has `count` objects. It can come from anybody: whatever is in the file, it is judged
+    before it is used."""
 
     def __init__(self, place: str) -> None:
         """Opens a snapshot. Raises TreeError if the file is not a snapshot, is damaged, has a newer layout, or has
@@ -170,11 +170,11 @@ class Snapshot:
         self.allow_work(self._size)
         for line in ("trusted_schema = OFF", "cell_size_check = ON"):
             self._db.execute(f"PRAGMA {line}")
-        self._count, self._has_portions = judge(place, self._rows, self._size)
+        self.count, self._has_portions = judge(place, self._rows, self._size)
         rows = self._rows("SELECT * FROM trees ORDER BY tree")
         self.trees = {row[0]: Tree(row[0], row[1], row[2], row[3], row[4], row[5], bool(row[6]), row[7], row[8])
                       for row in rows}
-        rows = self._portion_rows("SELECT * FROM portions ORDER BY tree")
+        rows = self._rows("SELECT * FROM portions ORDER BY tree") if self._has_portions else iter(())
         self.portions = {row[0]: Portion(row[1], row[2], row[3], row[4], bool(row[5])) for row in rows}
 
     def allow_work(self, size: int) -> None:
@@ -194,10 +194,6 @@ class Snapshot:
         except (sqlite3.DatabaseError, UnicodeDecodeError) as error:  # a message of SQLite can have any bytes in it
             raise self._unreadable(error) from None
 
-    def _portion_rows(self, query: str, values: Sequence[object] = ()) -> Iterator[Any]:
-        """Yields the rows of a query about portions, if there are any."""
-        return self._rows(query, values) if self._has_portions else iter(())
-
     def _unreadable(self, error: Exception) -> TreeError:
         words = "it makes more work than any snapshot of its size" if self._steps < 0 else str(error)
         return TreeError(f"{self.place}: cannot be read as a snapshot: {words}")
@@ -213,10 +209,6 @@ class Snapshot:
     def has_shards(self) -> bool:
         """Whether it has only a shard of a tree."""
         return any(not portion.is_list for portion in self.portions.values())
-
-    def count(self) -> int:
-        """Returns the number of objects."""
-        return self._count
 
     def count_kinds(self) -> Dict[str, int]:
         """Returns the number of objects of each kind."""
@@ -276,8 +268,9 @@ class Snapshot:
 
     def devices_of(self, tree: int) -> Iterator[Device]:
         """Yields what the scan of a portion found out about file systems."""
-        for row in self._portion_rows("SELECT place, has_lists, without FROM devices WHERE tree = ?", (tree,)):
-            yield Device(row[0], bool(row[1]), row[2])
+        if self._has_portions:
+            for row in self._rows("SELECT place, has_lists, without FROM devices WHERE tree = ?", (tree,)):
+                yield Device(row[0], bool(row[1]), row[2])
 
     def find(self, tree: int, path: bytes) -> Optional[Tuple[str, int, int]]:
         """Returns the kind, mode and face of an object, or None if there is no such object."""
@@ -297,11 +290,11 @@ class Snapshot:
         """Yields the tree, path, step and message of each failure to read."""
         yield from self._rows("SELECT * FROM errors ORDER BY tree, path")
 
-    def join(self, other: Snapshot, pairs: Sequence[Tuple[int, int]], alike: Iterable[Tuple[int, int]]) -> Joined:
-        """Opens a later snapshot together with this one. `pairs` are the trees of both that are one tree at two times,
-        and `alike` faces of both, with which objects have not changed."""
-        self.allow_work(self._size + other._size)
-        return Joined(self._db, uri(other.place, READ_ONLY), (self._count, other._count), pairs, alike)
+    def attach(self, later: Snapshot) -> sqlite3.Connection:
+        """Attaches a later snapshot to the database of this one as `later`, and returns the database."""
+        self.allow_work(self._size + later._size)
+        self._db.execute("ATTACH ? AS later", (uri(later.place, READ_ONLY),))
+        return self._db
 
 
 def uri(place: str, options: str) -> str:

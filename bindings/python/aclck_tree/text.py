@@ -1,4 +1,4 @@
-"""The output of the program: lines for people, CSV, or one JSON object per line."""
+"""The output of the program: lines for people, CSV, or one JSON object per line; and how it names the objects."""
 
 from __future__ import annotations
 
@@ -8,13 +8,19 @@ import os
 import re
 import stat
 import sys
-from typing import Any, Callable, Dict, Iterable, List, Optional, Sequence, TextIO
+from typing import TYPE_CHECKING, Any, Callable, Dict, Iterable, List, NamedTuple, Optional, Sequence, TextIO
+
+if TYPE_CHECKING:
+    from .snapshot import Snapshot, Tree
 
 Row = Dict[str, Any]
 """One answer. Names and paths in it are `str` as os.fsdecode makes them."""
 
 _PLAIN = re.compile(r"[\w@%+=:,./^-]+")
 """Texts that bash reads as they are: `\\w` is a letter or a digit of any alphabet, or `_`."""
+
+_ESCAPES = {"\n": "\\n", "\t": "\\t", "\r": "\\r", "\\": "\\\\", "'": "\\'"}
+"""Characters that have an escape of their own between `$'` and `'`."""
 
 _INVISIBLE = re.compile("[\u034f\u115f\u1160\u17b4\u17b5\u180b-\u180f\u3164\ufe00-\ufe0f\uffa0\U000e0100-\U000e01ef]")
 """Letters and marks that nothing is shown for: those that Unicode lists as Default_Ignorable_Code_Point, apart from the
@@ -38,20 +44,15 @@ def is_shown(text: str) -> bool:
 def quoted(name: str) -> str:
     """Returns a name as bash reads it, on one line: as it is if it has only letters, digits and `@%+=:,./-_^`, as
     `$'..'` if a character in it is not shown or not UTF-8, and otherwise between quotes."""
-    if not is_shown(name):
-        return "$'" + "".join(_escaped(letter) for letter in name) + "'"
-    if _PLAIN.fullmatch(name):
-        return name
-    return "'" + name.replace("'", "'\\''") + "'"
-
-
-def _escaped(letter: str) -> str:
-    known = {"\n": "\\n", "\t": "\\t", "\r": "\\r", "\\": "\\\\", "'": "\\'"}
-    if letter in known:
-        return known[letter]
-    if is_shown(letter):
-        return letter
-    return "".join(f"\\{byte:03o}" for byte in letter.encode("utf-8", "surrogateescape"))
+    if is_shown(name):
+        return name if _PLAIN.fullmatch(name) else "'" + name.replace("'", "'\\''") + "'"
+    found = ""
+    for letter in name:
+        if letter in _ESCAPES or is_shown(letter):
+            found += _ESCAPES.get(letter, letter)
+        else:
+            found += "".join(f"\\{byte:03o}" for byte in letter.encode("utf-8", "surrogateescape"))
+    return f"$'{found}'"
 
 
 def quoted_line(text: str) -> str:
@@ -65,6 +66,11 @@ def _numbered(letter: str) -> str:
     if number < 0x80 or 0xDC80 <= number <= 0xDCFF:
         return f"\\x{number & 0xFF:02x}"
     return f"\\u{number:04x}" if number <= 0xFFFF else f"\\U{number:08x}"
+
+
+def tell(line: str) -> None:
+    """Writes a line to standard error."""
+    sys.stderr.write(f"aclck-tree: {quoted_line(line)}\n")
 
 
 def quoted_path(path: bytes) -> str:
@@ -82,6 +88,46 @@ def quoted_host(host: str) -> str:
 def quoted_place(host: str, path: bytes) -> str:
     """Returns a host and a path on it as bash reads them, on one line."""
     return f"{quoted_host(host)}:{quoted_path(path)}"
+
+
+class Named(NamedTuple):
+    """The whole path of an object, and its host if there are several. Objects are in the order of their paths."""
+
+    path: bytes
+    host: Optional[str] = None
+
+    def row(self) -> Row:
+        """Returns the cells that name the object."""
+        cells: Row = {"path": os.fsdecode(self.path)}
+        return cells if self.host is None else {**cells, "host": self.host}
+
+    def words(self) -> str:
+        """Returns the name of the object as bash reads it, on one line."""
+        return name_in(self.row())
+
+
+def name_in(row: Row) -> str:
+    """Returns the name of the object that a row is about, as bash reads it, on one line."""
+    return (f"{quoted_host(row['host'])}:" if "host" in row else "") + quoted(row["path"])
+
+
+class Naming:
+    """Names the objects of some snapshots, with their hosts if there are several. If `is_always_with_host` is set, each
+    object has its host: other snapshots, which this process does not know, may be of other hosts."""
+
+    is_always_with_host = False
+
+    def __init__(self, *snapshots: Snapshot) -> None:
+        self.has_hosts = self.is_always_with_host or any(
+            len({tree.host for tree in one.trees.values()}) > 1 for one in snapshots)
+
+    def name(self, tree: Tree, path: bytes) -> Named:
+        """Returns the name of an object, which is given by its path below the root of a tree."""
+        return Named(tree.full(path), tree.host if self.has_hosts else None)
+
+    def columns(self, *columns: str) -> List[str]:
+        """Returns the columns of an output, with one for the host if there are several."""
+        return [*columns, "host"] if self.has_hosts else list(columns)
 
 
 class Output:
