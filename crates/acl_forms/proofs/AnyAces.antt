@@ -11,6 +11,7 @@ use Rattle.acl_nfs4.specs.Ace.{Ace}
 use Rattle.acl_nfs4.specs.Limits.{most_aces, most_weight}
 use Rattle.acl_nfs4.specs.Spelling.{IsAccepted, weight}
 use Rattle.acl_nfs4.specs.Who.{is_unknown_special}
+use Rattle.acl_nfs4.proofs.Exports.{weight-push}
 use Rattle.acl_forms.specs.Part.{PlacedAce, any_weight, kept, kept_unless, left_out, noted_if, reason_of}
 unfoldable use Rattle.acl_forms.specs.Part.{left_out_from}
 unfoldable use Rattle.acl_forms.specs.PartWords.{aces_from}
@@ -23,7 +24,7 @@ use Rattle.acl_forms.specs.declared.part.left_out.LeftOutReason.{LeftOutReason}
 use Rattle.acl_forms.specs.declared.part.left_out.LeftOutReason.TheVariants.{AuditOrAlarm, SpecialWho}
 use Rattle.acl_forms.specs.internal.AnyAces.{HasAnyName, any_ace_of, any_name}
 use Rattle.acl_forms.proofs.AnyNames.{is_who-any}
-use Rattle.acl_forms.proofs.IdLemmas.{accepted_push, weight-push}
+use Rattle.acl_forms.proofs.IdLemmas.{accepted_push}
 
 -- ---- an ACE that is kept
 

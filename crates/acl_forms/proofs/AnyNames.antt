@@ -2,6 +2,8 @@
 use Rattle.std.proofs.Common.{◌≡◌, ◌∙◌, ℕ, ◌-◌, ◌++◌, Bool, true, false, List, [], ◌∷◌, refl, ap, subst, arith, length, length-append}
 use Rattle.std.specs.Prelude.{slice_index}
 use Rattle.std.proofs.lemmas.List.{get_or-append_right}
+-- what the test for UTF-8 needs
+pub use Rattle.acl_nfs4.proofs.Exports.{text_tests}
 use Rattle.acl_nfs4.specs.AccessPart.{IsAnyWho}
 use Rattle.acl_nfs4.specs.Who.{IsWho, is_unknown_special}
 use Rattle.acl_forms.specs.declared.acl41_ids.Whom.{Whom}

@@ -13,7 +13,7 @@ use Rattle.acl_nfs4.specs.Ace.{Ace}
 use Rattle.acl_nfs4.specs.Limits.{most_weight}
 use Rattle.acl_nfs4.specs.Spelling.{IsAccepted, weight}
 use Rattle.acl_nfs4.specs.Who.{is_unknown_special}
-use Rattle.acl_nfs4.proofs.Exports.{ok_is}
+use Rattle.acl_nfs4.proofs.Exports.{ok_is, weight-push}
 use Rattle.acl_forms.specs.Forms.{IsTextWithoutFlags}
 use Rattle.acl_forms.specs.Part.{IsReadAsPart, PlacedAce, RefusesPart, SpellsPart, any_weight, is_unknown_deny, kept, kept_unless, left_out, noted_if, reason_of}
 unfoldable use Rattle.acl_forms.specs.Part.{left_out_from}
@@ -29,7 +29,6 @@ use Rattle.acl_forms.specs.declared.part.texts.TextPart.{TextPart}
 use Rattle.acl_forms.specs.internal.AnyAces.{IsPartReadAs}
 use Rattle.acl_forms.specs.internal.AnyTexts.{HoldsPart, without_flags}
 use Rattle.acl_forms.proofs.AnyAces.{kept-push, kept_most, left_out-push}
-use Rattle.acl_forms.proofs.IdLemmas.{weight-push}
 use Rattle.acl_forms.proofs.PartAnswers.{part_found, part_only, part_refused}
 use Rattle.acl_forms.proofs.TextLemmas.{answer_read, fault_read, text_found, text_refused}
 use Rattle.acl_forms.proofs.WholeLists.{any_of, kept_same}

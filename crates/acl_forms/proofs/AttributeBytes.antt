@@ -5,7 +5,7 @@ use Rattle.std.proofs.lemmas.Bool.{eqb-true}
 use Rattle.std.proofs.lemmas.Bool.Decides.{nat_tests}
 use Rattle.byteorder.specs.Endian.{little_bytes}
 use Rattle.acl_perm.specs.Bits.{IsPerm}
-use Rattle.acl_posix.proofs.Exports.{again, stored}
+use Rattle.acl_posix.proofs.Exports.{again, not_above, stored}
 use Rattle.acl_posix.specs.Attribute.{coded_number, tag_code}
 unfoldable use Rattle.acl_posix.specs.Attribute.{entry_bytes, stored_raw}
 use Rattle.acl_posix.specs.Entries.{IsEntry, pair_of}
@@ -37,10 +37,6 @@ one_entry x y s t of_x of_y e =
 
 -- ---- no fault in the bytes of an entry
 
--- a number is not below another that is not greater
-not_below : (a n : ℕ) → n ≤ a → nat_lt a n ≡ false
-not_below a n le = grind (arith, nat_tests)
-
 -- an id is not the undefined one
 eqb-undefined_id : (id : ℕ) → id ≤ greatest_id → eqb id undefined_id ≡ false
 eqb-undefined_id id le = grind (arith, nat_tests)
@@ -48,18 +44,18 @@ eqb-undefined_id id le = grind (arith, nat_tests)
 -- nothing is wrong with the numbers of an entry
 right : (at : ℕ) (t : Tag) (n : ℕ) → IsTag t → IsPerm n → field_fault at (raw_of (t, n)) ≡ None
 unfolding field_fault
-right at user_obj n h below = rw (not_below 7 n (omega (arith, below))) refl
-right at (user id) n h below = rw (not_below 7 n (omega (arith, below)), eqb-undefined_id id h) refl
-right at group_obj n h below = rw (not_below 7 n (omega (arith, below))) refl
-right at (group id) n h below = rw (not_below 7 n (omega (arith, below)), eqb-undefined_id id h) refl
-right at mask n h below = rw (not_below 7 n (omega (arith, below))) refl
-right at other n h below = rw (not_below 7 n (omega (arith, below))) refl
+right at user_obj n h below = rw (not_above 7 n (omega (arith, below))) refl
+right at (user id) n h below = rw (not_above 7 n (omega (arith, below)), eqb-undefined_id id h) refl
+right at group_obj n h below = rw (not_above 7 n (omega (arith, below))) refl
+right at (group id) n h below = rw (not_above 7 n (omega (arith, below)), eqb-undefined_id id h) refl
+right at mask n h below = rw (not_above 7 n (omega (arith, below))) refl
+right at other n h below = rw (not_above 7 n (omega (arith, below))) refl
 
 -- whole bytes whose numbers are right have no fault
 nothing_wrong : (at : ℕ) (text : List ℕ) (raw : RawEntry) → 8 ≤ length text → stored_raw text ≡ raw
     → field_fault at raw ≡ None → next_entry_fault at text ≡ None
 unfolding next_entry_fault
-nothing_wrong at text raw long is field = rw (not_below (length text) 8 long, is, field) refl
+nothing_wrong at text raw long is field = rw (not_above (length text) 8 long, is, field) refl
 
 -- bytes that begin with those of an entry have no fault
 pub no_next_fault : (at : ℕ) (e : Tag × ℕ) (rest : List ℕ) → IsEntry e
@@ -84,7 +80,7 @@ nothing_short at = next_short at [] (omega arith)
 pub next_field : (at : ℕ) (text : List ℕ) (f : ReadFault) → 8 ≤ length text
     → field_fault at (stored_raw text) ≡ Some f → next_entry_fault at text ≡ Some f
 unfolding next_entry_fault
-next_field at text f long wrong = rw (not_below (length text) 8 long, wrong) refl
+next_field at text f long wrong = rw (not_above (length text) 8 long, wrong) refl
 
 -- ---- the entry that has some bytes
 

@@ -9,8 +9,7 @@ use Rattle.std.proofs.lemmas.List.{flat_map_more, map-append, nil_from_length, t
 use Rattle.std.proofs.lemmas.List.Concat.{flat_map-cons}
 use Rattle.std.proofs.lemmas.List.Elements.{recursion_from_All}
 use Rattle.byteorder.specs.Endian.{little_bytes}
-use Rattle.acl_posix.proofs.Exports.{all_entries, bytes_length, entries_sorted, set_of, sorted_distinct, sorted_rises}
-use Rattle.acl_posix.proofs.Exports.{one_fault as one_list_fault}
+use Rattle.acl_posix.proofs.Exports.{all_entries, bytes_length, entries_sorted, same_first, same_miss, set_of, sorted_distinct, sorted_rises}
 use Rattle.acl_posix.specs.Attribute.{IsFall, IsFirstFall, NeverFalls, attribute_bytes, attribute_version, version_size}
 unfoldable use Rattle.acl_posix.specs.Attribute.{entry_bytes}
 use Rattle.acl_posix.specs.Entries.{Entries, IsEntry, as_set, pair_of, pairs}
@@ -18,7 +17,6 @@ use Rattle.acl_posix.specs.Tag.{Tag, is_named, tag_of}
 use Rattle.acl_posix.specs.Texts.{IsAcl}
 use Rattle.acl_posix.specs.Valid.{IsDistinct, IsFirstRepeat, IsMiss, IsRepeat, IsValid, IsValidList, tag_at}
 use Rattle.acl_posix.specs.declared.entry.Entry.{Entry}
-use Rattle.acl_posix.specs.declared.fault.AclFault.TheVariants as acl
 use Rattle.acl_posix.specs.declared.tag.Tag.{Tag as TagOfCode}
 use Rattle.acl_nfs4.specs.internal.Progress.{IsBytes}
 use Rattle.acl_nfs4.specs.declared.xdr.fault.Reason.TheVariants.{Truncated}
@@ -130,19 +128,11 @@ same_place i j p q = grind arith
 same_fall : (ps : List (Tag × ℕ)) (i j : ℕ) → IsFirstFall ps i → IsFirstFall ps j → i ≡ j
 same_fall ps i j a b = same_place i j (λ lt. b.first i lt a.fall) (λ lt. a.first j lt b.fall)
 
--- entries have one first repeat
-pub same_repeat : (ps : List (Tag × ℕ)) (i j : ℕ) → IsFirstRepeat ps i → IsFirstRepeat ps j → i ≡ j
-same_repeat ps i j a b = same_place i j (λ lt. b.first i lt a.repeats) (λ lt. a.first j lt b.repeats)
-
 -- entries do not both fall before they repeat a tag, and repeat one before they fall
 one_of_both : (ps : List (Tag × ℕ)) (i j : ℕ) → IsFirstFall ps i → NoneBefore (IsRepeat ps) i → IsFirstRepeat ps j
     → NoneBefore (IsFall ps) (j + 1) → ⊥
 one_of_both ps i j a free b kept =
     let not_after : j < i → ⊥ = λ lt. free j lt b.repeats in kept i (omega (arith, not_after)) a.fall
-
--- the first absent tag of a list is one
-pub same_absent : (ps : List (Tag × ℕ)) (s t : TagOfCode) → IsMiss ps (tag_of s) → IsMiss ps (tag_of t) → s ≡ t
-same_absent ps s t a b = let same = one_list_fault ps (acl.Miss s) (acl.Miss t) refl refl a b in cc
 
 -- a list of entries has at most one fault
 one_of_list : (ps : List (Tag × ℕ)) (len : ℕ) (f g : ReadFault) → IsEntriesFault ps len f → IsEntriesFault ps len g
@@ -153,12 +143,12 @@ one_of_list ps len _ _ (out_of_order i a free) (repeated j b kept) = absurd (one
 one_of_list ps len _ _ (out_of_order i a free) (absent t never miss) = absurd (never i a.in_range a.fall)
 one_of_list ps len _ _ (repeated i a kept) (out_of_order j b free) = absurd (one_of_both ps j i b free a kept)
 one_of_list ps len _ _ (repeated i a kept) (repeated j b held) =
-    ap (λ n. read_fault_at (entry_offset n) (repeat_reason (tag_at ps n))) (same_repeat ps i j a b)
+    ap (λ n. read_fault_at (entry_offset n) (repeat_reason (tag_at ps n))) (same_first ps i j a b)
 one_of_list ps len _ _ (repeated i a kept) (absent t never miss) = absurd (miss.distinct i a.in_range a.repeats)
 one_of_list ps len _ _ (absent t never miss) (out_of_order j b free) = absurd (never j b.in_range b.fall)
 one_of_list ps len _ _ (absent t never miss) (repeated j b kept) = absurd (miss.distinct j b.in_range b.repeats)
 one_of_list ps len _ _ (absent s never miss) (absent t rises lacks) =
-    ap (λ (z : TagOfCode). read_fault_at len (reasons.Miss z)) (same_absent ps s t miss lacks)
+    ap (λ (z : TagOfCode). read_fault_at len (reasons.Miss z)) (same_miss ps s t miss lacks)
 
 -- a valid list with its tag types in order has no fault
 right_list : (ps : List (Tag × ℕ)) (len : ℕ) (f : ReadFault) → NeverFalls ps → IsValidList ps → IsEntriesFault ps len f

@@ -11,7 +11,7 @@ use Rattle.std.proofs.lemmas.Bool.{and_from}
 use Rattle.acl_perm.proofs.Bools.{and_true}
 use Rattle.acl_perm.specs.Ascii.{comma, hash, line_feed}
 use Rattle.acl_perm.specs.Lines.{cut_at, is_all_blank, is_blank, spans, Span}
-use Rattle.acl_nfs4.proofs.Exports.{weight-cons}
+use Rattle.acl_nfs4.proofs.Exports.{all_weaker, weight-cons}
 use Rattle.acl_nfs4.specs.Ace.{Ace}
 use Rattle.acl_nfs4.specs.Limits.{most_aces, most_weight}
 use Rattle.acl_nfs4.specs.Spelling.{weight}
@@ -23,7 +23,7 @@ use Rattle.acl_forms.specs.declared.style.EntrySeparator.{EntrySeparator}
 use Rattle.acl_forms.specs.declared.style.EntrySeparator.TheVariants.{Commas, LineFeeds}
 use Rattle.acl_forms.specs.declared.who_field.WhoField.{WhoField}
 use Rattle.acl_forms.proofs.TextsAgain.{each_again, part_at, IsReadAgain}
-use Rattle.acl_forms.proofs.ToolsAgain.{all_not, all_pass, is_inside, no_place}
+use Rattle.acl_forms.proofs.ToolsAgain.{all_not, is_inside, no_mark, no_place}
 
 -- an entry that ends neither its line nor itself is read as an ACE wherever it is
 pub record IsEntryAgain (by : WhoField) (text : List ℕ) (a : Ace) : Type 0 where
@@ -82,7 +82,7 @@ all_in_line : (by : WhoField) (entry : Ace → List ℕ) (written : Ace → Ace)
     → AllByRecursion (λ a. list_all is_in_line (entry a) ≡ true) list
 all_in_line by entry written [] each = tt
 all_in_line by entry written (a ∷ list) each = (
-  all_pass is_inside is_in_line (entry a) (λ b h. in_line b h) each.0.inside,
+  all_weaker is_inside is_in_line (entry a) (λ b h. in_line b h) each.0.inside,
   all_in_line by entry written list each.1,
 ) where
   in_line : (b : ℕ) → is_inside b ≡ true → is_in_line b ≡ true
@@ -90,7 +90,7 @@ all_in_line by entry written (a ∷ list) each = (
 
 -- an entry ends at no comma in it
 no_end : (text : List ℕ) → list_all is_inside text ≡ true → list_all (λ b. not (b == comma)) text ≡ true
-no_end text inside = all_pass is_inside (λ b. not (b == comma)) text (λ b h. no_comma b h) inside where
+no_end text inside = all_weaker is_inside (λ b. not (b == comma)) text (λ b h. no_comma b h) inside where
   no_comma : (b : ℕ) → is_inside b ≡ true → not (b == comma) ≡ true
   no_comma b h = grind (arith, nat_tests, h)
 
@@ -123,9 +123,9 @@ comma_items by entry written a list each =
     let text = separated Commas entry (a ∷ list) in
     let inside = separated_in_line by entry written a list each in
     let feed = slice_split_none (λ b. b == line_feed) text (all_not (λ b. b == line_feed) text
-    (all_pass is_in_line (λ b. not (b == line_feed)) text (λ b h. (and_true (not (b == line_feed)) _ h).0) inside)) in
+    (all_weaker is_in_line (λ b. not (b == line_feed)) text (λ b h. (and_true (not (b == line_feed)) _ h).0) inside)) in
     let mark = no_place (λ b. b == hash) text
-    (all_pass is_in_line (λ b. not (b == hash)) text (λ b h. (and_true (not (b == line_feed)) _ h).1) inside) in
+    (all_weaker is_in_line (λ b. not (b == hash)) text (λ b h. (and_true (not (b == line_feed)) _ h).1) inside) in
     let some : is_all_blank text ≡ false =
     list_all-append is_blank (entry a) (flat_map (λ b. comma ∷ entry b) list) ∙ rw each.0.some refl in
     rw (feed, mark, some, comma_split by entry written a list each)
@@ -165,16 +165,14 @@ line_again : (by : WhoField) (text : List ℕ) (a : Ace) → IsEntryAgain by tex
 unfolding line_items cut_entries
 line_again by text a h =
     let mark =
-    no_place (λ b. b == hash) text (all_pass is_inside (λ b. not (b == hash)) text (λ b i. no_mark b i) h.inside) in
+    no_place (λ b. b == hash) text (all_weaker is_inside (λ b. not (b == hash)) text (λ b i. no_mark b i) h.inside) in
     let whole = slice_split_none (λ b. b == comma) text (all_not (λ b. b == comma) text (no_end text h.inside)) in
     record {
-      in_line = all_not (λ b. b == line_feed) text (all_pass is_inside (λ b. not (b == line_feed)) text
+      in_line = all_not (λ b. b == line_feed) text (all_weaker is_inside (λ b. not (b == line_feed)) text
           (λ b i. (and_true (not (b == line_feed)) _ i).0) h.inside);
       item = λ column. rw (mark, h.some, whole) refl;
       again = h.again;
-    } where
-      no_mark : (b : ℕ) → is_inside b ≡ true → not (b == hash) ≡ true
-      no_mark b h = grind (arith, nat_tests, h)
+    }
 
 -- each entry alone in its line is read again
 lines_again : (by : WhoField) (entry : Ace → List ℕ) (written : Ace → Ace) (list : List Ace)

@@ -1,5 +1,5 @@
 -- Lines that are cut at the bytes that end entries.
-use Rattle.std.proofs.Common.{◌≡◌, ◌∙◌, ℕ, ◌+◌, ◌<◌, true, false, cond, List, [], ◌∷◌, ◌++◌, length, take, drop, Option, None, Some, Result, Ok, refl, sym, ap, subst, arith, inl, inr, suc}
+use Rattle.std.proofs.Common.{◌≡◌, ◌∙◌, ℕ, ◌+◌, ◌<◌, true, false, cond, List, [], ◌∷◌, ◌++◌, length, take, drop, Option, None, Some, Result, Ok, refl, sym, ap, subst, arith, inl, inr}
 use Rattle.std.specs.Prelude.{not}
 use Rattle.std.proofs.lemmas.List.{length-take-le, length-drop}
 use Rattle.std.proofs.lemmas.List.Splits.{slice_split_first}
@@ -9,6 +9,7 @@ use Rattle.acl_perm.specs.Ascii.{line_feed}
 use Rattle.acl_perm.specs.Counts.{count_limit}
 use Rattle.acl_perm.specs.Lines.{cut_at, ColumnsFit, IsCut, Span, span_of, spans}
 use Rattle.acl_perm.specs.declared.lines.Piece.{Piece}
+use Rattle.acl_posix.proofs.Exports.{size_left}
 use Rattle.acl_forms.proofs.TextLemmas.{read_append}
 use Rattle.acl_forms.specs.internal.TextReading.{FailsAsRead, IsHeld, IsEntryCut, IsEntryRest, part_items, read_items, RestFits}
 use Rattle.acl_forms.specs.Texts.{cut_entries, entries_among, items_of, TextRules}
@@ -51,11 +52,6 @@ abbrev pub parts_left : {X : Type 0} → TextRules X → Option Piece → List S
 parts_left rules None = []
 parts_left rules (Some p) = cut_entries rules (span_of p)
 
--- one more than the number of bytes that are left
-abbrev pub bytes_left : Option Piece → ℕ
-bytes_left None = 0
-bytes_left (Some p) = suc (length p.bytes.now)
-
 -- the lines of what is left of a text
 abbrev pub lines_left : Option Piece → List Span
 lines_left None = []
@@ -69,7 +65,7 @@ line_next whole (first, Some rest) h = h.parts
 
 -- the columns of what a line cut gives are counts, and less is left
 pub line_fits : (whole : Piece) (r : Piece × Option Piece) → ColumnsFit whole → IsCut line_feed (span_of whole) r
-    → ColumnsFit r.0 × RestFits r.1 × (bytes_left r.1 < bytes_left (Some whole))
+    → ColumnsFit r.0 × RestFits r.1 × (size_left r.1 < size_left (Some whole))
 line_fits whole (first, None) fits h =
     let same = h.1 in (subst (λ (s : Span). s.column + length s.bytes < count_limit) (sym same) fits, tt, omega arith)
 line_fits whole (first, Some rest) fits h =
@@ -83,7 +79,7 @@ part_next rules whole (first, Some rest) h = h.parts
 
 -- the columns of what an entry cut gives are counts, and less is left
 pub part_fits : {X : Type 0} (rules : TextRules X) (whole : Piece) (r : Piece × Option Piece) → ColumnsFit whole
-    → IsEntryCut rules (span_of whole) r → ColumnsFit r.0 × RestFits r.1 × (bytes_left r.1 < bytes_left (Some whole))
+    → IsEntryCut rules (span_of whole) r → ColumnsFit r.0 × RestFits r.1 × (size_left r.1 < size_left (Some whole))
 part_fits rules whole (first, None) fits h =
     let same = h.1 in (subst (λ (s : Span). s.column + length s.bytes < count_limit) (sym same) fits, tt, omega arith)
 part_fits rules whole (first, Some rest) fits h =

@@ -1,18 +1,17 @@
 -- Bytes are read as flags and a list with ids if and only if they spell them.
-use Rattle.std.proofs.Common.{◌≡◌, ◌∙◌, ◌+◌, ◌-◌, ◌<◌, ◌≤◌, ◌^◌, ◌++◌, ℕ, zero, suc, Bool, true, false, cond, eqb, List, [], ◌∷◌, Option, Some, None, Result, Ok, Err, length, refl, ap, sym, subst, arith, append_assoc, append-nil, length-append, inl, inr}
-use Rattle.std.specs.Prelude.{◌↔◌, IfOk, IsSome, bit_and, count_ones}
+use Rattle.std.proofs.Common.{◌≡◌, ◌∙◌, ◌+◌, ◌-◌, ◌<◌, ◌≤◌, ◌++◌, ℕ, zero, suc, Bool, true, false, cond, eqb, List, [], ◌∷◌, Option, Some, None, Result, Ok, Err, length, refl, ap, sym, subst, arith, append_assoc, append-nil, length-append, inl, inr}
+use Rattle.std.specs.Prelude.{◌↔◌, IfOk, IsSome, bit_and, count_ones, OnOk}
 use Rattle.std.specs.List.{AllByRecursion, flat_map}
 use Rattle.std.proofs.lemmas.Bool.{eqb-true, eq-eqb, le-leb, le-ltb}
 use Rattle.std.proofs.lemmas.Bool.Decides.{nat_tests}
 use Rattle.std.proofs.lemmas.List.Concat.{flat_map-cons}
-use Rattle.std.proofs.lemmas.List.Sums.{sum_by_push}
-use Rattle.std.proofs.lemmas.Nat.{and_le_r, and_mask}
+use Rattle.std.proofs.lemmas.Nat.{and_mask}
+use Rattle.std.proofs.lemmas.List.{nil_from_length}
 use Rattle.acl_perm.specs.Bits.{all_flags, all_rights}
 use Rattle.acl_perm.specs.Kind.{kind_number}
 use Rattle.acl_perm.specs.Profile.{full}
 use Rattle.acl_perm.specs.declared.kind.Kind.{Kind}
-use Rattle.acl_perm.specs.declared.kind.Kind.TheVariants.{Allow, Deny}
-use Rattle.acl_nfs4.proofs.Exports.{each_push, front_accepted, bind-ok, bind_then, ok_is, is_who-decimal, is_who-everyone, is_who-group, is_who-owner}
+use Rattle.acl_nfs4.proofs.Exports.{each_push, front_accepted, bind-ok, bind_then, ok_is, is_who-decimal, is_who-everyone, is_who-group, is_who-owner, kind_is, kind_again, kind_lt, within_le, count_is, count_again, weight-push}
 use Rattle.acl_nfs4.specs.Ace.{Ace}
 use Rattle.acl_nfs4.specs.Fields.{count_of, flags_of, kind_of, mask_of}
 use Rattle.acl_nfs4.specs.Limits.{most_aces, most_weight}
@@ -48,21 +47,6 @@ listed_ok (Err f) x e = absurd cc
 pub listed_again : {A : Type 0} (r : Result A Reason) (x : A) → r ≡ Ok x → listed r ≡ Ok x
 listed_again r x e = ap listed e
 
--- a kind that was read is that of its number
-kind_is : (n : ℕ) (k : Kind) → kind_of n ≡ Ok k → n ≡ kind_number k
-kind_is n Allow e = grind arith
-kind_is n Deny e = grind arith
-
--- each kind is accepted
-kind_again : (k : Kind) → kind_of (kind_number k) ≡ Ok k
-kind_again Allow = refl
-kind_again Deny = refl
-
--- the number of a kind fits a word
-kind_lt : (k : Kind) → kind_number k < 2 ^ 32
-kind_lt Allow = omega arith
-kind_lt Deny = omega arith
-
 -- flags that were read are ones of the standard
 pub flags_are : (n m : ℕ) → flags_of full n ≡ Ok m → (n ≡ m) × IsWithin all_flags m
 flags_are n m e = grind (arith, nat_tests)
@@ -82,10 +66,6 @@ pub mask_again : (weight n : ℕ) → IsWithin all_rights n → weight + count_o
 mask_again weight n within light =
     rw (eq-eqb (bit_and n all_rights) n within, le-ltb most_weight (weight + count_ones n) light) refl
 
--- a part of a set is no greater than the set
-pub within_le : (set n : ℕ) → IsWithin set n → n ≤ set
-within_le set n is = let le : bit_and n set ≤ set = and_le_r n set in rw is at le
-
 -- whether the who is special, as it was read
 pub special_is : (n m : ℕ) → special_of n ≡ Ok m → (n ≡ m) × (m ≤ 1)
 special_is n m e = grind (arith, nat_tests)
@@ -93,14 +73,6 @@ special_is n m e = grind (arith, nat_tests)
 -- 0 and 1 are accepted
 pub special_accepted : (n : ℕ) → n ≤ 1 → special_of n ≡ Ok n
 special_accepted n le = rw (le-leb n 1 le) refl
-
--- a count that was read is within the limit
-pub count_is : (n m : ℕ) → count_of n ≡ Ok m → (n ≡ m) × (m ≤ most_aces)
-count_is n m e = grind (arith, nat_tests)
-
--- a number of ACEs within the limit is accepted
-pub count_again : (n : ℕ) → n ≤ most_aces → count_of n ≡ Ok n
-count_again n le = grind (arith, nat_tests)
 
 -- ---- an ACE
 
@@ -198,11 +170,12 @@ ace_again weight at a rest is id light = with_words (whom_words a.who) id (λ x 
     (omega (arith, small)) (listed_again _ a.mask (mask_again weight a.mask is.mask light)))
     ∙ bind-ok _ (word_again (id_who_of x.0) (at + 4 + 4 + 4 + 4) x.1 rest a.who r.fits r.read))
 
--- ---- the ACEs
+-- what holds anyway holds of a result that is a value
+pub on_ok : {E P : Type 0} (r : Result (Unit {0}) E) → P → OnOk r P
+on_ok (Ok x) p = p
+on_ok (Err e) p = tt
 
--- the weight of a list with one more ACE
-pub weight-push : (list : List Ace) (a : Ace) → weight list + count_ones a.mask ≡ weight (list ++ a ∷ [])
-weight-push list a = sym (sum_by_push (λ x. count_ones x.mask) list a)
+-- ---- the ACEs
 
 -- an accepted list that can take an ACE is accepted with it
 pub accepted_push : (list : List Ace) (a : Ace) → IsAccepted full list → length list < most_aces
@@ -329,14 +302,10 @@ pub ended : {A : Type 0} (flags : ℕ) (x : A × WordPlace) (y : ℕ × A) → n
     → ((flags, x.0) ≡ y) × (x.1.rest ≡ [])
 ended {A = A} flags x y e = by (eqb (length x.1.rest) 0) refl e
   where
-    no_bytes : (rest : List ℕ) → length rest ≡ 0 → rest ≡ []
-    no_bytes [] e = refl
-    no_bytes (b ∷ rest) e = absurd (omega (arith, e))
-
     by : (b : Bool) → eqb (length x.1.rest) 0 ≡ b
         → cond b (Ok (flags, x.0)) (Err (read_fault_at x.1.at (reason.List TrailingBytes))) ≡ Ok y
         → ((flags, x.0) ≡ y) × (x.1.rest ≡ [])
-    by true t e = (ok_is _ y e, no_bytes x.1.rest (eqb-true _ _ t))
+    by true t e = (ok_is _ y e, nil_from_length x.1.rest (eqb-true _ _ t))
     by false t e = absurd cc
 
 -- what holds of flags and a list holds of the pair of both

@@ -1,6 +1,6 @@
 -- Tables of names and ids: what is in them once, and lists whose ids get names and whose names get ids.
-use Rattle.std.proofs.Common.{◌≡◌, ◌∙◌, ◌+◌, ℕ, Bool, true, false, cond, eqb, List, [], ◌∷◌, ◌++◌, length, Option, Some, None, refl, sym, ap, subst, arith, append-nil, append_assoc}
-use Rattle.std.specs.Prelude.{◌||◌, ◌↔◌, codes, count_ones, map, not, option_map, IsSome}
+use Rattle.std.proofs.Common.{◌≡◌, ◌∙◌, ℕ, Bool, true, false, cond, eqb, List, [], ◌∷◌, ◌++◌, length, Option, Some, None, refl, sym, ap, subst, arith, append-nil, append_assoc}
+use Rattle.std.specs.Prelude.{◌||◌, ◌↔◌, codes, map, not, option_map, IsSome}
 use Rattle.std.specs.Fmt.{decimal}
 use Rattle.std.specs.List.{AllByRecursion, list_any}
 use Rattle.std.specs.Option.{is_none, is_some, unwrap_or}
@@ -8,18 +8,18 @@ use Rattle.std.specs.Str.{bytes_eq}
 use Rattle.std.specs.Str.Parse.{digits_value}
 use Rattle.std.proofs.lemmas.Bool.{eq-eqb, eqb-true, not-true}
 use Rattle.std.proofs.lemmas.Fmt.{decimal_is_IsNumeral}
-use Rattle.std.proofs.lemmas.List.{length-map, map-append}
-use Rattle.std.proofs.lemmas.Slice.Eq.{bytes_eq-Decides}
+use Rattle.std.proofs.lemmas.List.{map-append}
 use Rattle.acl_perm.proofs.Bools.{and_true}
-use Rattle.acl_perm.proofs.Meetings.{bytes_eq_same}
+use Rattle.acl_perm.proofs.Meetings.{bytes_eq_same, itself as name_self}
 use Rattle.acl_perm.specs.Profile.{full}
-use Rattle.acl_nfs4.proofs.Exports.{weight-cons, same_is, is_who-decimal}
+use Rattle.acl_nfs4.proofs.Exports.{same_is, is_who-decimal, same_self, none_is, renamed_accepted}
 use Rattle.acl_nfs4.specs.Ace.{Ace}
-use Rattle.acl_nfs4.specs.Renamed.{ace_by, bad_row, bad_row_after, is_account, is_good_row, is_of_group, is_row_of, new_name, renamed, same_sort, who_by, NameRow}
-use Rattle.acl_nfs4.specs.Spelling.{IsAccepted, IsAce, weight}
-use Rattle.acl_nfs4.specs.Who.{everyone_name, group_name, is_special, owner_name, IsWho, who_fault}
+use Rattle.acl_nfs4.specs.Renamed.{ace_by, bad_row, bad_row_after, is_account, is_good_row, is_of_group, is_row_of, new_name, renamed, same_sort, NameRow}
+use Rattle.acl_nfs4.specs.Spelling.{IsAccepted}
+use Rattle.acl_nfs4.specs.Who.{everyone_name, group_name, is_special, owner_name, who_fault}
 use Rattle.acl_posix.specs.Id.{IsId}
 use Rattle.acl_posix.specs.Names.{is_number}
+use Rattle.acl_posix.proofs.Exports.{bytes_eq-unequal, not_decimal}
 use Rattle.acl_forms.specs.Acl41Ids.{acl41_ids_bytes, id_of_digits, whom_words, EachHasId, IsAcl41Ids}
 use Rattle.acl_forms.specs.AclFlags.{IsAclFlags}
 use Rattle.acl_forms.specs.Forms.{form_bytes, form_fault, form_list}
@@ -32,18 +32,9 @@ use Rattle.acl_forms.specs.declared.form.Form.TheVariants.{NfsTools, NfsText, Nf
 use Rattle.acl_forms.specs.declared.who_field.WhoField.TheVariants as source
 use Rattle.acl_forms.proofs.FormsAgain.{reads_back}
 use Rattle.acl_forms.proofs.NfsAgain.{is_number-decimal}
-use Rattle.acl_forms.proofs.WhoLemmas.{bytes_eq-unequal, id_is, not_decimal}
+use Rattle.acl_forms.proofs.WhoLemmas.{id_is}
 
 -- ---- tables of names
-
--- a sort is the same as itself
-same_self : (a : Bool) → same_sort a a ≡ true
-same_self true = refl
-same_self false = refl
-
--- a name is equal to itself
-name_self : (name : List ℕ) → bytes_eq name name ≡ true
-name_self name = (bytes_eq-Decides name name).1 refl
 
 -- a row that is for a name has it
 row_is : (g : Bool) (q : List ℕ) (r : NameRow) → is_row_of g q r ≡ true → (r.is_group ≡ g) × (r.from ≡ q)
@@ -93,11 +84,6 @@ good_rest before rest r e = by (is_good_row (new_name before) r) refl e
         → cond t (bad_row_after (before ++ r ∷ []) rest) (Some (length before)) ≡ None → IsGoodRest before r rest
     by true is e = record { good = is; others = e }
     by false is e = absurd cc
-
--- nothing is there if the test says so
-none_is : (o : Option (List ℕ)) → is_none o ≡ true → o ≡ None
-none_is None e = refl
-none_is (Some x) e = absurd cc
 
 -- a good row has a name that no row before it is for
 free : (before : List NameRow) (r : NameRow) → is_good_row (new_name before) r ≡ true
@@ -322,48 +308,6 @@ special_stays rows g who good special = by (new_name rows g who) refl
         let account = (accounts [] rows g who y good e).from in
         let other = not-true (is_special who) (and_true (is_none (who_fault who)) (not (is_special who)) account).1 in
         let wrong : true ≡ false = sym special ∙ other in absurd cc
-
--- the name of a user or a group is valid as a who
-account_is_who : (who : List ℕ) → is_account who ≡ true → IsWho who
-account_is_who who e = none (who_fault who) (and_true (is_none (who_fault who)) (not (is_special who)) e).0
-  where
-    none : {X : Type 0} (o : Option X) → is_none o ≡ true → o ≡ None
-    none None e = refl
-    none (Some x) e = absurd cc
-
--- ---- lists within the limits
-
--- a who that a good table exchanges is valid as a who
-who_stays : (rows : List NameRow) (a : Ace) → bad_row rows ≡ None → IsWho a.who → IsWho (who_by (new_name rows) a)
-who_stays rows a good is = by (new_name rows (is_of_group a) a.who) refl
-  where
-    by : (o : Option (List ℕ)) → new_name rows (is_of_group a) a.who ≡ o → IsWho (unwrap_or o a.who)
-    by None e = is
-    by (Some y) e = account_is_who y (accounts [] rows (is_of_group a) a.who y good e).to
-
--- ACEs whose names are exchanged by a good table are ACEs
-each_stays : (rows : List NameRow) (list : List Ace) → bad_row rows ≡ None → AllByRecursion (IsAce full) list
-    → AllByRecursion (IsAce full) (renamed rows list)
-each_stays rows [] good each = tt
-each_stays rows (a ∷ list) good each = (
-  record { flags = each.0.flags; mask = each.0.mask; who = who_stays rows a good each.0.who },
-  each_stays rows list good each.1,
-)
-
--- a list whose names are exchanged has the weight of the list
-weight_stays : (rows : List NameRow) (list : List Ace) → weight (renamed rows list) ≡ weight list
-weight_stays rows [] = refl
-weight_stays rows (a ∷ list) = weight-cons (ace_by (new_name rows) a) (renamed rows list)
-    ∙ ap (λ (n : ℕ). count_ones a.mask + n) (weight_stays rows list) ∙ sym (weight-cons a list)
-
--- a list whose names are exchanged by a good table is accepted
-pub renamed_accepted : (rows : List NameRow) (list : List Ace) → bad_row rows ≡ None → IsAccepted full list
-    → IsAccepted full (renamed rows list)
-renamed_accepted rows list good ok = record {
-  count = omega (arith, ok.count, length-map list (ace_by (new_name rows)));
-  weight = omega (arith, ok.weight, weight_stays rows list);
-  each = each_stays rows list good ok.each;
-}
 
 -- ---- forms
 

@@ -11,6 +11,7 @@ use Rattle.acl_perm.proofs.Sets.{has_bit-and, has_bit-or, same_set}
 use Rattle.acl_perm.specs.Bits.{all_flags, all_rights, has_bit, IsFlags, IsMask}
 use Rattle.acl_perm.specs.internal.Steps.{◌>>=◌}
 use Rattle.acl_nfs4.specs.Within.{is_within, IsWithin}
+use Rattle.acl_nfs4.proofs.Exports.{union_within}
 use Rattle.acl_forms.specs.Letters.{bits_of_each, flag_letters, letter_bits, nfs_flag_letters, nfs_right_letters, no_letter, right_letters, row_bits, set_of_letters, unless_faults}
 use Rattle.acl_forms.specs.ReadFaults.{read_fault_at}
 use Rattle.acl_forms.specs.declared.fault.ReadFault.{ReadFault}
@@ -22,20 +23,6 @@ use Rattle.acl_forms.specs.declared.object.ObjectKind.TheVariants.{File, Directo
 use Rattle.acl_forms.specs.internal.LetterReading.{letters_from}
 
 -- ---- sets within sets
-
--- two tests that imply a third leave it out of their union
-implied : (x y z : Bool) → (x && z) ≡ x → (y && z) ≡ y → ((x || y) && z) ≡ (x || y)
-implied true true z p q = p
-implied true false z p q = p
-implied false y z p q = q
-
--- the union of two sets within a whole is within it
-pub within_union : (whole a b : ℕ) → IsWithin whole a → IsWithin whole b → IsWithin whole (bit_or a b)
-within_union whole a b p q = same_set (bit_and (bit_or a b) whole) (bit_or a b) (λ k.
-    let x = sym (has_bit-and a whole k) ∙ ap (λ (n : ℕ). has_bit n k) p in
-    let y = sym (has_bit-and b whole k) ∙ ap (λ (n : ℕ). has_bit n k) q in
-    has_bit-and (bit_or a b) whole k ∙ ap (λ (t : Bool). t && has_bit whole k) (has_bit-or a b k)
-    ∙ implied (has_bit a k) (has_bit b k) (has_bit whole k) x y ∙ sym (has_bit-or a b k))
 
 -- both sets of a row are within a whole
 abbrev pub is_row_within : ℕ → Letter → Bool
@@ -91,7 +78,7 @@ letters_within whole table object wrong at set (letter ∷ letters) all rows ins
     → (r >>= λ bits. letters_from table object wrong (at + 1) (bit_or set bits) letters) ≡ Ok all
     → IsWithin whole all) [
       | Ok bits ↦ λ is more. letters_within whole table object wrong (at + 1) (bit_or set bits) letters all rows
-          (within_union whole set bits inside (letter_within whole table object wrong at letter bits rows is)) more
+          (union_within whole set bits inside (letter_within whole table object wrong at letter bits rows is)) more
       | Err fault ↦ λ is more. absurd cc
     ] refl e
 

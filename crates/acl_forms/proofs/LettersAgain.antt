@@ -5,13 +5,10 @@ use Rattle.std.specs.List.{AllByRecursion, list_all}
 use Rattle.std.specs.Int.Bits.{and_zero_r, or_zero_l, or_zero_r}
 use Rattle.std.proofs.lemmas.Bool.{eq-eqb, eqb-true}
 use Rattle.std.proofs.lemmas.Nat.{and_assoc, and_comm}
-use Rattle.std.proofs.Math.Bool.{or_assoc as either_assoc}
 use Rattle.acl_perm.proofs.Bools.{and_true}
-use Rattle.acl_perm.proofs.Sets.{has_bit-or, same_set}
-use Rattle.acl_perm.specs.Bits.{has_bit}
 use Rattle.acl_perm.specs.internal.Steps.{◌>>=◌}
 use Rattle.acl_nfs4.specs.Within.{IsWithin}
-use Rattle.acl_nfs4.proofs.Exports.{and_or, bit_missing}
+use Rattle.acl_nfs4.proofs.Exports.{and_or, bit_missing, or_assoc}
 use Rattle.acl_forms.specs.Letters.{flag_letters, letter_bits, right_letters, set_of_letters, single_letters}
 use Rattle.acl_forms.specs.ToolsWritten.{letters_of}
 use Rattle.acl_forms.specs.internal.LetterReading.{letters_from}
@@ -28,10 +25,6 @@ use Rattle.acl_forms.specs.declared.object.ObjectKind.TheVariants.{File, Directo
 abbrev pub all_of : List Letter → ℕ
 all_of [] = 0
 all_of (row ∷ rows) = bit_or row.bits (all_of rows)
-
--- the union of three sets may be grouped in either way
-pub or_assoc : (a b c : ℕ) → bit_or (bit_or a b) c ≡ bit_or a (bit_or b c)
-or_assoc a b c = same_set _ _ (λ k. simp has_bit-or (either_assoc (has_bit a k) (has_bit b k) (has_bit c k)))
 
 -- a set that has no bit of a whole has no part of it but the empty one
 pub no_part : (set whole bits : ℕ) → bit_and set whole ≡ 0 → bit_and bits whole ≡ bits → bit_and set bits ≡ bits

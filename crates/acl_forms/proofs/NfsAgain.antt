@@ -26,12 +26,13 @@ use Rattle.acl_perm.specs.declared.kind.Kind.TheVariants.{Deny, Allow}
 use Rattle.acl_posix.specs.Id.{greatest_id, IsId}
 use Rattle.acl_posix.specs.Names.{is_number}
 unfoldable use Rattle.acl_posix.specs.Fields.{id_of}
+use Rattle.acl_posix.proofs.Exports.{not_decimal}
 use Rattle.acl_nfs4.specs.Ace.{Ace}
 use Rattle.acl_nfs4.specs.Limits.{most_aces, most_weight}
 use Rattle.acl_nfs4.specs.Spelling.{IsAccepted, IsAce, weight}
 use Rattle.acl_nfs4.specs.Who.{everyone_name, group_name, is_plain, is_special, IsWho, owner_name, principal_of}
 use Rattle.acl_nfs4.specs.Within.{IsWithin}
-use Rattle.acl_nfs4.proofs.Exports.{and_or, bit_missing}
+use Rattle.acl_nfs4.proofs.Exports.{all_weaker, and_or, bit_missing, plain_who}
 use Rattle.acl_forms.specs.Acl41Ids.{id_of_digits}
 use Rattle.acl_forms.specs.Letters.{nfs_flag_letters, nfs_right_letters, no_letter, set_of_letters}
 use Rattle.acl_forms.specs.NfsRules.{nfs_rules, SpellsNfsText}
@@ -56,8 +57,8 @@ use Rattle.acl_forms.proofs.TextLemmas.{one_list}
 use Rattle.acl_forms.proofs.StyledLetters.{styled_pass, styled_read}
 use Rattle.acl_forms.proofs.CommasAgain.{separated_again, separated_pass, IsEntryAgain}
 use Rattle.acl_forms.proofs.TextsAgain.{part_at}
-use Rattle.acl_forms.proofs.ToolsAgain.{all_not, all_pass, apart_sets, is_inside, is_no_colon, no_place, not_refused, plain_who, rights_within, who_pass, ace_with}
-use Rattle.acl_forms.proofs.WhoLemmas.{id_is, no_id, not_decimal}
+use Rattle.acl_forms.proofs.ToolsAgain.{all_not, apart_sets, is_inside, is_no_colon, no_place, not_refused, rights_within, who_pass, ace_with}
+use Rattle.acl_forms.proofs.WhoLemmas.{id_is, no_id}
 use Rattle.acl_forms.proofs.FormLemmas.{no_fault}
 
 -- ---- blanks
@@ -692,7 +693,7 @@ is_no_zero b = not (b == 0)
 entry_no_nul : (letters : LetterStyle) (a : Ace) → IsWho a.who → list_all is_no_zero (nfs_entry_text letters a) ≡ true
 unfolding nfs_entry_text
 entry_no_nul letters a is =
-    let name = all_pass is_plain is_no_zero a.who (λ b h. no_zero b h) (plain_who a.who is) in
+    let name = all_weaker is_plain is_no_zero a.who (λ b h. no_zero b h) (plain_who a.who is) in
     let rights = styled_pass letters is_no_zero (nfs_right_letters []) a.mask refl refl in
     let flags = styled_pass letters is_no_zero (nfs_flag_letters []) a.flags refl refl in
     let kind = kind_pass is_no_zero refl refl a.kind in

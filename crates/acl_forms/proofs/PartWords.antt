@@ -12,11 +12,11 @@ use Rattle.std.proofs.lemmas.List.Sums.{sum_by-cons, sum_by_push}
 use Rattle.acl_perm.specs.Bits.{all_flags, all_rights}
 use Rattle.acl_perm.specs.Profile.{full}
 use Rattle.acl_posix.specs.Id.{IsId, greatest_id}
-use Rattle.acl_nfs4.proofs.Exports.{IsBytes-drop, bytes_are_zeros, bind-ok, bind_then, guard_ok, ok_is, is_who-decimal}
+use Rattle.acl_nfs4.proofs.Exports.{IsBytes-drop, bytes_are_zeros, bind-ok, bind_then, guard_ok, ok_is, is_who-decimal, within_le, count_is, count_again, type_is, type_again, len_bounds, zeros_again, regrouped}
 use Rattle.acl_nfs4.specs.AccessPart.{AnyAce, IsAnyAce, IsAnyWho, any_piece}
 use Rattle.acl_nfs4.specs.Ace.{Ace}
 use Rattle.acl_nfs4.specs.Fields.{count_of, flags_of, mask_of, padding_of, unless, who_len_of, who_reason}
-use Rattle.acl_nfs4.specs.Limits.{longest_who, most_weight}
+use Rattle.acl_nfs4.specs.Limits.{most_weight}
 use Rattle.acl_nfs4.specs.PartFault.{any_who_of, type_of}
 use Rattle.acl_nfs4.specs.Spelling.{pad_len, word}
 use Rattle.acl_nfs4.specs.Who.{is_no_who_len, is_plain}
@@ -38,7 +38,7 @@ use Rattle.acl_forms.specs.declared.part.Part.{Part}
 use Rattle.acl_forms.specs.declared.part.left_out.LeftOut.{LeftOut}
 use Rattle.acl_forms.specs.internal.AnyAces.{IsPartReadAs}
 use Rattle.acl_forms.proofs.AnyNames.{known_who}
-use Rattle.acl_forms.proofs.IdLemmas.{count_again, count_is, ended, flags_accepted, flags_are, listed_again, listed_ok, mask_again, mask_is, special_accepted, special_is, within_le, five_regrouped}
+use Rattle.acl_forms.proofs.IdLemmas.{ended, flags_accepted, flags_are, listed_again, listed_ok, mask_again, mask_is, special_accepted, special_is, five_regrouped}
 use Rattle.acl_forms.proofs.PartAnswers.{part_found, part_only}
 use Rattle.acl_forms.proofs.WordLemmas.{Takes, Takes-then, flags_again, flags_found, place_at, word_again, word_takes}
 
@@ -253,21 +253,9 @@ module _ {Spells : AnyAce → List ℕ → Type 0} {read : AceReader} (reader : 
 
 -- ---- an ACE with a name
 
--- a type that was read is one of the four
-type_is : (n m : ℕ) → type_of n ≡ Ok m → (n ≡ m) × (m < 4)
-type_is n m e = grind (arith, nat_tests)
-
--- a type below four is accepted
-type_again : (n : ℕ) → n < 4 → type_of n ≡ Ok n
-type_again n few = grind (arith, nat_tests)
-
 -- a length that was read is one that a who may have
 who_len_is : (n m : ℕ) → who_len_of n ≡ Ok m → (n ≡ m) × (is_no_who_len m ≡ false)
 who_len_is n m e = grind (arith, nat_tests)
-
--- the length of a name is within the bounds
-bounds : (n : ℕ) → is_no_who_len n ≡ false → (1 ≤ n) × (n ≤ longest_who)
-bounds n e = grind (arith, nat_tests)
 
 -- a length that a who may have is accepted
 who_len_again : (n : ℕ) → is_no_who_len n ≡ false → who_len_of n ≡ Ok n
@@ -334,11 +322,6 @@ padding_is bytes x e =
     by true t e = t
     by false t e = absurd grind arith
 
--- a number of zeros are all zero
-zeros_again : (n : ℕ) → list_all (λ b. eqb b 0) (replicate n 0) ≡ true
-zeros_again zero = refl
-zeros_again (suc n) = zeros_again n
-
 -- zero bytes are accepted as padding
 padding_again : (n : ℕ) → listed (padding_of (replicate n 0)) ≡ Ok tt
 padding_again n = rw (zeros_again n) refl
@@ -389,11 +372,6 @@ takes_fields bits p t f m l w z fits te fe me le we ze =
       light = mask.2;
     }
 
--- the parts of an ACE before other bytes, one after the other
-regrouped : (a b c d e f g : List ℕ)
-    → ((((((a ++ b) ++ c) ++ d) ++ e) ++ f) ++ g) ≡ a ++ (b ++ (c ++ (d ++ (e ++ (f ++ g)))))
-regrouped a b c d e f g = simp append_assoc
-
 -- an ACE of nfsacl41 is read if and only if it is spelled
 pub reader_by_name : IsReader SpellsByName ace_by_name
 unfolding ace_by_name
@@ -416,7 +394,7 @@ reader_by_name = record { take_ace = takes; again = again } where
   named_again bits at a rest is known light =
       let n : ℕ = length a.who in
       let pad : List ℕ = replicate (pad_len n) 0 in
-      let b = bounds n is.who.long in
+      let b = len_bounds n is.who.long in
       let len : length pad ≡ pad_len n = length-replicate _ _ in
       let low = within_le all_flags a.flags is.flags in
       let small = within_le all_rights a.mask is.mask in

@@ -13,6 +13,7 @@ unfoldable use Rattle.acl_perm.specs.Lines.{cut_at}
 use Rattle.acl_posix.specs.Names.{Table}
 use Rattle.acl_posix.specs.Tag.{Tag}
 use Rattle.acl_posix.specs.declared.text_fault.Part.{Part}
+use Rattle.acl_nfs4.proofs.Exports.{all_weaker}
 use Rattle.acl_forms.specs.PosixRules.{placed_pairs, posix_rules}
 use Rattle.acl_forms.specs.PosixText.{PlacedEntry}
 use Rattle.acl_forms.specs.Texts.{AddEach, HasNoNul, SpellsByRules, entries_among, items_in, items_of}
@@ -20,29 +21,29 @@ unfoldable use Rattle.acl_forms.specs.Texts.{cut_entries, line_items}
 use Rattle.acl_forms.specs.declared.fault.ReadFault.{ReadFault}
 use Rattle.acl_forms.proofs.PosixEntriesAgain.{IsEntryText, is_in_entry, placed_at}
 use Rattle.acl_forms.proofs.TextsAgain.{part_at}
-use Rattle.acl_forms.proofs.ToolsAgain.{all_not, all_pass, no_place}
+use Rattle.acl_forms.proofs.ToolsAgain.{all_not, no_place}
 
 -- ---- bytes inside entries
 
 -- no byte inside an entry is a line feed
 feed_free : (text : List ℕ) → list_all is_in_entry text ≡ true → list_all (λ b. not (b == line_feed)) text ≡ true
 feed_free text h =
-    all_pass is_in_entry (λ b. not (b == line_feed)) text (λ b i. (and_true (not (b == line_feed)) _ i).0) h
+    all_weaker is_in_entry (λ b. not (b == line_feed)) text (λ b i. (and_true (not (b == line_feed)) _ i).0) h
 
 -- no byte inside an entry is `#`
 hash_free : (text : List ℕ) → list_all is_in_entry text ≡ true → list_all (λ b. not (b == hash)) text ≡ true
-hash_free text h = all_pass is_in_entry (λ b. not (b == hash)) text
+hash_free text h = all_weaker is_in_entry (λ b. not (b == hash)) text
     (λ b i. (and_true (not (b == hash)) _ (and_true (not (b == line_feed)) _ i).1).0) h
 
 -- no byte inside an entry is a comma
 comma_free : (text : List ℕ) → list_all is_in_entry text ≡ true → list_all (λ b. not (b == comma)) text ≡ true
-comma_free text h = all_pass is_in_entry (λ b. not (b == comma)) text
+comma_free text h = all_weaker is_in_entry (λ b. not (b == comma)) text
     (λ b i. (and_true (not (b == comma)) _ (and_true (not (b == hash)) _ (and_true (not (b == line_feed)) _ i).1).1).0)
     h
 
 -- no byte inside an entry is zero
 zero_free : (text : List ℕ) → list_all is_in_entry text ≡ true → list_all (λ b. not (b == 0)) text ≡ true
-zero_free text h = all_pass is_in_entry (λ b. not (b == 0)) text
+zero_free text h = all_weaker is_in_entry (λ b. not (b == 0)) text
     (λ b i. (and_true (not (b == comma)) _ (and_true (not (b == hash)) _ (and_true (not (b == line_feed)) _ i).1).1).1)
     h
 
@@ -135,7 +136,7 @@ is_row b = not (b == line_feed) && (not (b == hash) && not (b == 0))
 
 -- bytes inside an entry are those of a text with commas
 in_row : (text : List ℕ) → list_all is_in_entry text ≡ true → list_all is_row text ≡ true
-in_row text h = all_pass is_in_entry is_row text (λ b i. byte b i) h where
+in_row text h = all_weaker is_in_entry is_row text (λ b i. byte b i) h where
   byte : (b : ℕ) → is_in_entry b ≡ true → is_row b ≡ true
   byte b i =
       let one = and_true (not (b == line_feed)) _ i in
@@ -180,8 +181,8 @@ comma_items table text part e es each =
     list_all-append is_row (text e) (flat_map (λ x. comma ∷ text x) es)
     ∙ and_from _ _ (in_row (text e) each.0.inside) (behind_row table text es each.1) in
     let feed = slice_split_none (λ b. b == line_feed) whole (all_not (λ b. b == line_feed) whole
-    (all_pass is_row (λ b. not (b == line_feed)) whole (λ b h. (and_true (not (b == line_feed)) _ h).0) row)) in
-    let mark = no_place (λ b. b == hash) whole (all_pass is_row (λ b. not (b == hash)) whole
+    (all_weaker is_row (λ b. not (b == line_feed)) whole (λ b h. (and_true (not (b == line_feed)) _ h).0) row)) in
+    let mark = no_place (λ b. b == hash) whole (all_weaker is_row (λ b. not (b == hash)) whole
     (λ b h. (and_true (not (b == hash)) _ (and_true (not (b == line_feed)) _ h).1).0) row) in
     let some : is_all_blank whole ≡ false =
     list_all-append is_blank (text e) (flat_map (λ x. comma ∷ text x) es) ∙ rw each.0.some refl in
@@ -196,7 +197,7 @@ commas_no_nul table text e es each =
     let row : list_all is_row whole ≡ true =
     list_all-append is_row (text e) (flat_map (λ x. comma ∷ text x) es)
     ∙ and_from _ _ (in_row (text e) each.0.inside) (behind_row table text es each.1) in
-    no_place (λ b. b == 0) whole (all_pass is_row (λ b. not (b == 0)) whole
+    no_place (λ b. b == 0) whole (all_weaker is_row (λ b. not (b == 0)) whole
     (λ b h. (and_true (not (b == hash)) _ (and_true (not (b == line_feed)) _ h).1).1) row)
 
 -- lines have no zero byte

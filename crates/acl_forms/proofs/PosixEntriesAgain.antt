@@ -1,5 +1,5 @@
 -- An entry of the text of a POSIX ACL is read again as it was written.
-use Rattle.std.proofs.Common.{◌≡◌, ◌∙◌, ◌+◌, ◌++◌, ℕ, Bool, true, false, eqb, List, [], ◌∷◌, length, Option, None, Some, Ok, refl, ap, arith, append-nil, append_assoc, zero, suc}
+use Rattle.std.proofs.Common.{◌≡◌, ◌∙◌, ◌+◌, ◌++◌, ℕ, Bool, true, false, eqb, List, [], ◌∷◌, length, Option, None, Some, Ok, refl, ap, arith, append-nil, append_assoc}
 use Rattle.std.specs.Prelude.{◌&&◌, ◌==◌, not, nat_le}
 use Rattle.std.specs.Char.{is_ascii_digit}
 use Rattle.std.specs.FinMap as fin
@@ -19,7 +19,7 @@ use Rattle.acl_perm.specs.Lines.{Span, is_all_blank}
 unfoldable use Rattle.acl_perm.specs.Lines.{cut_at, trimmed}
 use Rattle.acl_perm.specs.Shown.{perm_text}
 use Rattle.acl_posix.specs.Entries.{IsEntry}
-unfoldable use Rattle.acl_posix.specs.Fields.{id_of, permissions_of, word_of}
+unfoldable use Rattle.acl_posix.specs.Fields.{id_of, word_of}
 use Rattle.acl_posix.specs.Fields.{is_default}
 use Rattle.acl_posix.specs.Id.{IsId, greatest_id}
 use Rattle.acl_posix.specs.Names.{Table, is_number}
@@ -29,6 +29,8 @@ use Rattle.acl_posix.specs.declared.field.TagWord.{TagWord}
 use Rattle.acl_posix.specs.declared.field.TagWord.TheVariants.{Group, User}
 use Rattle.acl_posix.specs.declared.text_fault.Part.{Part}
 use Rattle.acl_posix.specs.internal.Reading.{tag_with}
+use Rattle.acl_posix.proofs.Exports.{perm_again, perm_pass}
+use Rattle.acl_nfs4.proofs.Exports.{all_weaker}
 use Rattle.acl_forms.specs.NfsText.{id_alone}
 use Rattle.acl_forms.specs.PosixNames.{is_shown}
 use Rattle.acl_forms.specs.PosixText.{PlacedEntry, PosixFields, has_qualifier, permissions_read, word_read}
@@ -39,7 +41,7 @@ use Rattle.acl_forms.proofs.NfsAgain.{is_no_blank, is_number-decimal, kept, spli
 use Rattle.acl_forms.proofs.PosixLemmas.{by_word}
 use Rattle.acl_forms.proofs.PosixWrites.{no_first}
 use Rattle.acl_forms.proofs.TextsAgain.{part_at}
-use Rattle.acl_forms.proofs.ToolsAgain.{all_pass, is_no_colon}
+use Rattle.acl_forms.proofs.ToolsAgain.{is_no_colon}
 
 -- ---- bytes
 
@@ -62,11 +64,6 @@ digit_pass : (b : ℕ) → is_ascii_digit b ≡ true
     → (is_in_entry b ≡ true) × (is_no_colon b ≡ true) × (is_no_blank b ≡ true)
 digit_pass b h = (grind (arith, nat_tests, h), grind (arith, nat_tests, h), grind (arith, nat_tests, h))
 
--- permissions pass a test that their letters and - pass
-perm_pass : (p : ℕ → Bool) → p 45 ≡ true → p 114 ≡ true → p 119 ≡ true → p 120 ≡ true → (perm : ℕ)
-    → list_all p (perm_text perm) ≡ true
-perm_pass p none read write execute perm = grind arith
-
 -- ---- the fields of an entry
 
 -- the qualifier of an entry is inside it, and is one field without blanks at its ends
@@ -85,9 +82,9 @@ digits_qualifier : (n : ℕ) → IsId n → IsQualifier (decimal n)
 digits_qualifier n is =
     let digits = (and_true (not (length (decimal n) == 0)) _ (is_number-decimal n is)).1 in
     record {
-      inside = all_pass is_ascii_digit is_in_entry (decimal n) (λ b h. (digit_pass b h).0) digits;
-      no_colon = all_pass is_ascii_digit is_no_colon (decimal n) (λ b h. (digit_pass b h).1) digits;
-      same = kept (decimal n) (all_pass is_ascii_digit is_no_blank (decimal n) (λ b h. (digit_pass b h).2) digits);
+      inside = all_weaker is_ascii_digit is_in_entry (decimal n) (λ b h. (digit_pass b h).0) digits;
+      no_colon = all_weaker is_ascii_digit is_no_colon (decimal n) (λ b h. (digit_pass b h).1) digits;
+      same = kept (decimal n) (all_weaker is_ascii_digit is_no_blank (decimal n) (λ b h. (digit_pass b h).2) digits);
     }
 
 -- a name that has no reason is a qualifier
@@ -118,19 +115,6 @@ word_at group_obj = record { read = refl; no_mark = refl; inside = refl; no_colo
 word_at (group id) = record { read = refl; no_mark = refl; inside = refl; no_colon = refl; some = λ rest. refl }
 word_at mask = record { read = refl; no_mark = refl; inside = refl; no_colon = refl; some = λ rest. refl }
 word_at other = record { read = refl; no_mark = refl; inside = refl; no_colon = refl; some = λ rest. refl }
-
--- permissions that are written are read again
-perm_again : (p : ℕ) → IsPerm p → permissions_of (perm_text p) ≡ Some p
-unfolding permissions_of
-perm_again zero lt = refl
-perm_again (suc zero) lt = refl
-perm_again (suc (suc zero)) lt = refl
-perm_again (suc (suc (suc zero))) lt = refl
-perm_again (suc (suc (suc (suc zero)))) lt = refl
-perm_again (suc (suc (suc (suc (suc zero))))) lt = refl
-perm_again (suc (suc (suc (suc (suc (suc zero)))))) lt = refl
-perm_again (suc (suc (suc (suc (suc (suc (suc zero))))))) lt = refl
-perm_again (suc (suc (suc (suc (suc (suc (suc (suc p)))))))) lt = absurd (omega (arith, lt))
 
 -- the field of permissions is read as them
 perm_read : (column p : ℕ) → IsPerm p → permissions_read (part_at column (perm_text p)) ≡ Ok p

@@ -14,7 +14,7 @@ use Rattle.acl_posix.specs.declared.file.PosixFile.{PosixFile}
 use Rattle.acl_posix.specs.declared.tag.Tag.{Tag as TagOfCode}
 use Rattle.acl_posix.specs.declared.text_fault.Part.{Part}
 use Rattle.acl_posix.specs.declared.text_fault.Part.TheVariants.{Access, Default}
-use Rattle.acl_forms.proofs.AttributeLemmas.{same_absent, same_repeat}
+use Rattle.acl_posix.proofs.Exports.{default_one, same_first, same_miss}
 use Rattle.acl_forms.proofs.EntryLemmas.{some_part}
 use Rattle.acl_forms.proofs.TextLemmas as texts
 use Rattle.acl_forms.specs.Attributes.{repeat_reason}
@@ -75,11 +75,11 @@ one_of_part : (es : List PlacedEntry) (len : ℕ) (f g : ReadFault) → IsPlaced
     → f ≡ g
 one_of_part es len _ _ (repeated i a) (repeated j b) =
     ap (λ n. read_fault_at (offset_at es n) (repeat_reason (tag_at (placed_pairs es) n)))
-    (same_repeat (placed_pairs es) i j a b)
+    (same_first (placed_pairs es) i j a b)
 one_of_part es len _ _ (repeated i a) (absent t miss) = absurd (miss.distinct i a.in_range a.repeats)
 one_of_part es len _ _ (absent t miss) (repeated j b) = absurd (miss.distinct j b.in_range b.repeats)
 one_of_part es len _ _ (absent s miss) (absent t lacks) =
-    ap (λ (z : TagOfCode). read_fault_at len (reasons.Miss z)) (same_absent (placed_pairs es) s t miss lacks)
+    ap (λ (z : TagOfCode). read_fault_at len (reasons.Miss z)) (same_miss (placed_pairs es) s t miss lacks)
 
 -- a valid part has no fault
 right_part : (es : List PlacedEntry) (len : ℕ) (f : ReadFault) → IsValidList (placed_pairs es) → IsPlacedFault es len f
@@ -105,15 +105,6 @@ lacks es len t miss = absent t miss
 -- a part has one set of entries
 same_acl : (ps : List (Tag × ℕ)) (one two : Entries) → IsAclOf ps one → IsAclOf ps two → one ≡ two
 same_acl ps one two h k = h.set ∙ sym k.set
-
--- a default part has one meaning
-same_default : (ps : List (Tag × ℕ)) (one two : Option Entries) → IsDefaultOf ps one → IsDefaultOf ps two → one ≡ two
-same_default [] None None h k = refl
-same_default [] None (Some two) h k = absurd k
-same_default [] (Some one) two h k = absurd h
-same_default (p ∷ ps) None two h k = absurd h
-same_default (p ∷ ps) (Some one) None h k = absurd k
-same_default (p ∷ ps) (Some one) (Some two) h k = ap (λ (e : Entries). Some e) (same_acl (p ∷ ps) one two h k)
 
 -- a default part that has entries is valid
 default_valid : (ps : List (Tag × ℕ)) (acl : Option Entries) → IsDefaultOf ps acl → 0 < length ps → IsValidList ps
@@ -192,7 +183,7 @@ one_file names text one two h k =
     let same = same_entries Access names text k.entries h.entries k.spelled h.spelled in
     let access = same_acl (placed_pairs (of_part Access h.entries)) one.access two.access h.access
     (subst (λ (l : List PlacedEntry). IsAclOf (placed_pairs (of_part Access l)) two.access) same k.access) in
-    let default = same_default (placed_pairs (of_part Default h.entries)) one.default two.default h.default
+    let default = default_one (placed_pairs (of_part Default h.entries)) one.default two.default h.default
     (subst (λ (l : List PlacedEntry). IsDefaultOf (placed_pairs (of_part Default l)) two.default) same k.default) in
     λ i. record { access = access i; default = default i }
 

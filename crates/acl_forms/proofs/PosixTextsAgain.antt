@@ -28,6 +28,7 @@ use Rattle.acl_posix.specs.internal.TagCode.{tags_total}
 use Rattle.acl_posix.specs.declared.file.PosixFile.{PosixFile}
 use Rattle.acl_posix.specs.declared.text_fault.Part.{Part}
 use Rattle.acl_posix.specs.declared.text_fault.Part.TheVariants.{Access, Default}
+use Rattle.acl_posix.specs.internal.GroupAnswers.{is_owner_tag}
 use Rattle.acl_forms.specs.PosixNames.{HasNamesOfIds, NamesOfIds, if_shown, is_shown, shown_name, tag_name}
 use Rattle.acl_forms.specs.PosixRules.{SpellsDefaultText, SpellsPosixText, of_part, posix_rules}
 use Rattle.acl_forms.specs.PosixText.{PlacedEntry}
@@ -210,17 +211,8 @@ whole_acl acl valid =
 
 -- ---- the first entry
 
--- the tag of the owner
-abbrev is_owner : Tag → Bool
-is_owner user_obj = true
-is_owner (user id) = false
-is_owner group_obj = false
-is_owner (group id) = false
-is_owner mask = false
-is_owner other = false
-
 -- no tag is below that of the owner
-not_below : (t x : Tag) → tag_cmp t x ≡ Less → is_owner x ≡ false
+not_below : (t x : Tag) → tag_cmp t x ≡ Less → is_owner_tag x ≡ false
 not_below t (user id) e = refl
 not_below t group_obj e = refl
 not_below t (group id) e = refl
@@ -235,7 +227,7 @@ not_below other user_obj e = absurd cc
 
 -- entries of other tags than the owner's
 abbrev AreOthers : List (Tag × ℕ) → Type 0
-AreOthers es = AllByRecursion (λ e. is_owner e.0 ≡ false) es
+AreOthers es = AllByRecursion (λ e. is_owner_tag e.0 ≡ false) es
 
 -- the tags after a tag are not the owner's
 after : (t : Tag) (es : List (Tag × ℕ)) → AllByRecursion (λ x. tag_cmp t x ≡ Less) (tags es) → AreOthers es
@@ -260,7 +252,7 @@ record BeginsWithOwner (es : List (Tag × ℕ)) : Type 0 where
   pub others : AreOthers rest
 
 -- entries whose first is not the owner's have none
-not_first : (e : Tag × ℕ) (es : List (Tag × ℕ)) → is_owner e.0 ≡ false → IsSorted (e ∷ es)
+not_first : (e : Tag × ℕ) (es : List (Tag × ℕ)) → is_owner_tag e.0 ≡ false → IsSorted (e ∷ es)
     → find tag_cmp user_obj (e ∷ es) ≡ None
 unfolding IsStrictlySortedBy
 not_first e es differ sorted = no_owner (e ∷ es) (differ, after e.0 es sorted.0)
@@ -288,7 +280,7 @@ has_owner acl valid e =
 -- ---- the text of star
 
 -- the piece of an entry of another tag has a comma before it
-other_piece : (names : NamesOfIds) (e : Tag × ℕ) → is_owner e.0 ≡ false
+other_piece : (names : NamesOfIds) (e : Tag × ℕ) → is_owner_tag e.0 ≡ false
     → posix_piece names Star e ≡ comma ∷ star_of names e
 unfolding posix_piece
 other_piece names (user_obj, n) differ = absurd cc

@@ -3,7 +3,7 @@ use Rattle.std.proofs.Common.{◌≡◌, ◌∙◌, ◌+◌, ◌<◌, ◌≤◌,
 use Rattle.std.specs.Prelude.{◌&&◌, ◌||◌, ◌==◌, ◌↔◌, bit_and, bit_or, count_ones, map, nat_le, nat_lt, not, position, if◌then◌else◌}
 use Rattle.std.specs.List.{All, AllByRecursion, list_all, list_any, position_or_len, slice_split}
 use Rattle.std.specs.Int.Bits.{or_zero_l}
-use Rattle.std.specs.Str.{bytes_eq, is_utf8}
+use Rattle.std.specs.Str.{bytes_eq}
 use Rattle.std.proofs.lemmas.Bool.{le-ltb, not-true, or_parts}
 use Rattle.std.proofs.lemmas.Bool.Decides.{nat_tests}
 use Rattle.std.proofs.lemmas.List.Elements.{All-weaker}
@@ -24,9 +24,9 @@ use Rattle.acl_nfs4.specs.Push.{push_refusal}
 use Rattle.acl_nfs4.specs.Spelling.{IsAccepted, IsAce, weight}
 use Rattle.acl_perm.specs.Bits.{has_bit, identifier_group}
 use Rattle.acl_perm.specs.Principal.{everyone, group, group_named, owner, user}
-use Rattle.acl_nfs4.specs.Who.{everyone_name, group_name, is_no_who_len, is_plain, is_unknown_special, IsWho, owner_name, principal_of}
+use Rattle.acl_nfs4.specs.Who.{everyone_name, group_name, is_plain, IsWho, owner_name, principal_of}
 use Rattle.acl_nfs4.specs.Within.{IsWithin}
-use Rattle.acl_nfs4.proofs.Exports.{and_or}
+use Rattle.acl_nfs4.proofs.Exports.{all_weaker, and_or, plain_who, union_within}
 use Rattle.acl_forms.specs.Letters.{flag_letters, right_letters, set_of_letters, single_letters}
 use Rattle.acl_forms.specs.Texts.{cut_entries, line_items}
 use Rattle.acl_forms.specs.ToolsRules.{is_break, tools_rules, SpellsTools}
@@ -39,7 +39,6 @@ use Rattle.acl_forms.specs.declared.fault.ReadReason.TheVariants as reasons
 use Rattle.acl_forms.specs.declared.object.ObjectKind.{ObjectKind}
 use Rattle.acl_forms.specs.declared.object.ObjectKind.TheVariants.{File, Directory}
 use Rattle.acl_forms.proofs.EntryLemmas.{good_fields}
-use Rattle.acl_forms.proofs.LetterLemmas.{within_union}
 use Rattle.acl_forms.proofs.TextLemmas.{one_list}
 use Rattle.acl_forms.proofs.TextsAgain.{each_again, no_nul, part_at, IsReadAgain}
 use Rattle.acl_forms.proofs.LettersAgain.{flags_read, letters_pass, rights_read, SuitsFile}
@@ -97,17 +96,6 @@ is_inside b = not (b == line_feed) && (not (b == hash) && not (is_break b))
 abbrev pub is_no_colon : ℕ → Bool
 is_no_colon b = not (b == colon)
 
--- a who has no control byte
-pub plain_who : (name : List ℕ) → IsWho name → list_all is_plain name ≡ true
-plain_who name h = no_control _ _ _ _ (is_no_who_len (length name)) (is_utf8 name) (list_all is_plain name)
-    (is_unknown_special name) h where
-      no_control : {X : Type 0} (a b c d : X) (long text plain special : Bool) → cond long (Some a)
-          (cond (not text) (Some b) (cond (not plain) (Some c) (cond special (Some d) None))) ≡ None → plain ≡ true
-      no_control a b c d true text plain special h = absurd cc
-      no_control a b c d false false plain special h = absurd cc
-      no_control a b c d false true true special h = refl
-      no_control a b c d false true false special h = absurd cc
-
 -- a byte that is no control byte and no separator is inside an entry, and no colon
 pub inside_byte : (b : ℕ) → is_plain b ≡ true → is_separator b ≡ false → (is_inside b ≡ true) × (is_no_colon b ≡ true)
 inside_byte b plain other = (grind (arith, nat_tests), grind (arith, nat_tests))
@@ -125,13 +113,6 @@ who_pass (b ∷ name) plain apart =
 -- bytes of which none passes a test
 pub all_not : (p : ℕ → Bool) (bytes : List ℕ) → list_all (λ b. not (p b)) bytes ≡ true → All (λ b. p b ≡ false) bytes
 all_not p bytes e = All-weaker _ _ (λ b h. not-true (p b) h) bytes (AllPass-from_list_all _ bytes e)
-
--- bytes that pass a test pass a weaker one
-pub all_pass : (p q : ℕ → Bool) (bytes : List ℕ) → ((b : ℕ) → p b ≡ true → q b ≡ true) → list_all p bytes ≡ true
-    → list_all q bytes ≡ true
-all_pass p q [] weaker e = refl
-all_pass p q (b ∷ bytes) weaker e =
-    let both = and_true (p b) (list_all p bytes) e in rw (weaker b both.0) (all_pass p q bytes weaker both.1)
 
 -- no place has a byte that passes a test
 pub no_place : (p : ℕ → Bool) (bytes : List ℕ) → list_all (λ b. not (p b)) bytes ≡ true → position p bytes ≡ None
@@ -221,7 +202,7 @@ group_twice name flags =
 flags_within : (name : List ℕ) (flags : ℕ) → IsWithin 0xff flags → IsWithin 0xff (with_group_flag name flags)
 flags_within name flags h =
     elim (bytes_eq name group_name) as (λ t. IsWithin 0xff (cond t (bit_or flags 0x40) flags)) [
-      | true ↦ within_union 0xff flags 0x40 h refl
+      | true ↦ union_within 0xff flags 0x40 h refl
       | false ↦ h
     ]
 
@@ -321,19 +302,20 @@ entry_again object list a column h is room light =
 
 -- ---- a text
 
+-- no byte inside an entry begins a comment
+pub no_mark : (b : ℕ) → is_inside b ≡ true → not (b == hash) ≡ true
+no_mark b h = (and_true (not (b == hash)) (not (is_break b)) (and_true (not (b == line_feed)) _ h).1).0
+
 -- a span whose bytes are inside an entry is one item of its line
 line_again : (object : ObjectKind) (s : Span) → list_all is_inside s.bytes ≡ true → (length s.bytes == 0) ≡ false
     → line_items (tools_rules object) s ≡ Ok s ∷ []
 unfolding line_items cut_entries
 line_again object s inside some =
     let mark = no_place (λ b. b == hash) s.bytes
-    (all_pass is_inside (λ b. not (b == hash)) s.bytes (λ b h. no_mark b h) inside) in
+    (all_weaker is_inside (λ b. not (b == hash)) s.bytes (λ b h. no_mark b h) inside) in
     let whole = slice_split_none is_break s.bytes
-    (all_not is_break s.bytes (all_pass is_inside (λ b. not (is_break b)) s.bytes (λ b h. no_break b h) inside)) in
+    (all_not is_break s.bytes (all_weaker is_inside (λ b. not (is_break b)) s.bytes (λ b h. no_break b h) inside)) in
     rw (mark, whole, some) refl where
-      no_mark : (b : ℕ) → is_inside b ≡ true → not (b == hash) ≡ true
-      no_mark b h = (and_true (not (b == hash)) (not (is_break b)) (and_true (not (b == line_feed)) _ h).1).0
-
       no_break : (b : ℕ) → is_inside b ≡ true → not (is_break b) ≡ true
       no_break b h = (and_true (not (b == hash)) (not (is_break b)) (and_true (not (b == line_feed)) _ h).1).1
 
@@ -357,7 +339,7 @@ read_each object (a ∷ list) place done each none =
     let inside = entry_inside a each.0.who h.apart in (
       record {
         in_line = all_not (λ b. b == line_feed) (tools_entry_text a)
-            (all_pass is_inside (λ b. not (b == line_feed)) (tools_entry_text a)
+            (all_weaker is_inside (λ b. not (b == line_feed)) (tools_entry_text a)
             (λ b i. (and_true (not (b == line_feed)) _ i).0) inside);
         item = λ column. line_again object (part_at column (tools_entry_text a)) inside (some_bytes a);
         again = λ before column room light. entry_again object before a column h each.0 room light;
@@ -374,7 +356,7 @@ no_items object column = refl
 line_no_nul : (a : Ace) → IsWho a.who → list_all (λ b. not (b == 0)) (tools_line a) ≡ true
 unfolding tools_entry_text
 line_no_nul a is =
-    let name = all_pass is_plain (λ b. not (b == 0)) a.who (λ b h. no_zero b h) (plain_who a.who is) in
+    let name = all_weaker is_plain (λ b. not (b == 0)) a.who (λ b h. no_zero b h) (plain_who a.who is) in
     let flags = letters_pass (λ b. not (b == 0)) flag_letters (flags_written a) refl in
     let mask = letters_pass (λ b. not (b == 0)) (single_letters []) a.mask refl in
     simp (list_all-append {X = ℕ}) (rw (kind_pass (λ b. not (b == 0)) refl refl a.kind, flags, name, mask) refl) where

@@ -1,17 +1,17 @@
 -- The words of a who: a who that is read of two words has these words, and the words of a who are read as this who.
-use Rattle.std.proofs.Common.{◌≡◌, ◌∙◌, ◌<◌, ◌≤◌, ◌^◌, ℕ, Bool, true, false, cond, eqb, List, ◌∷◌, Option, Some, None, Ok, Err, refl, ap, sym, subst, arith}
+use Rattle.std.proofs.Common.{◌≡◌, ◌∙◌, ◌<◌, ◌≤◌, ◌^◌, ℕ, Bool, true, false, cond, eqb, List, Option, Some, None, Ok, Err, refl, ap, sym, subst, arith}
 use Rattle.std.specs.Prelude.{◌&&◌, IfSome, IsSome, nat_le, option_map}
 use Rattle.std.specs.Fmt.{decimal}
 use Rattle.std.specs.Str.{bytes_eq, IsUtf8}
-use Rattle.std.specs.Str.Parse.{AllDigits, ParsesUnsigned, digits_value}
+use Rattle.std.specs.Str.Parse.{ParsesUnsigned, digits_value}
 use Rattle.std.proofs.lemmas.Bool.{eqb-true, le-leb, leb-true}
 use Rattle.std.proofs.lemmas.Fmt.{decimal_is_IsNumeral, parse-decimal, IsAscii-decimal}
 use Rattle.std.proofs.lemmas.Slice.Eq.{bytes_eq-Decides}
 use Rattle.std.proofs.lemmas.Str.{IsUtf8-from_ascii}
-use Rattle.std.proofs.lemmas.Str.Parse.{digit_from_value}
 use Rattle.acl_perm.proofs.Bools.{and_true}
 use Rattle.acl_posix.specs.Id.{IsId, greatest_id}
 use Rattle.acl_posix.specs.declared.id.Id.{Id}
+use Rattle.acl_posix.proofs.Exports.{bytes_eq-unequal, not_decimal}
 use Rattle.acl_nfs4.specs.Who.{IsWho, everyone_name, group_name, owner_name}
 use Rattle.acl_nfs4.specs.declared.xdr.fault.Reason.TheVariants.{SpecialWho}
 use Rattle.acl_nfs4.proofs.Exports.{ok, ok_is, is_who-decimal, is_who-everyone, is_who-group, is_who-owner}
@@ -20,18 +20,6 @@ unfoldable use Rattle.acl_forms.specs.Acl41Ids.{id_who_of, whom_words}
 use Rattle.acl_forms.specs.declared.fault.ReadReason.TheVariants as reason
 
 -- ---- the id of decimal digits
-
--- a number does not begin with a byte that is not a digit
-pub not_decimal : (n c : ℕ) (cs : List ℕ) → IsId n → 57 < c → decimal n ≡ c ∷ cs → ⊥
-not_decimal n c cs h big e =
-    omega (arith, digit_from_value c (subst (AllDigits 10) e (decimal_is_IsNumeral n (omega arith)).0.1).0)
-
--- names that differ do not pass the test of equality
-pub bytes_eq-unequal : (xs ys : List ℕ) → (xs ≡ ys → ⊥) → bytes_eq xs ys ≡ false
-bytes_eq-unequal xs ys differ = elim (bytes_eq xs ys) as (λ b. bytes_eq xs ys ≡ b → b ≡ false) [
-  | true ↦ λ h. absurd (differ ((bytes_eq-Decides xs ys).0 h))
-  | false ↦ λ h. refl
-] refl
 
 -- digits are the decimal digits of their number
 pub id_again : (n : ℕ) → IsId n → id_of_digits (decimal n) ≡ Some n

@@ -1,11 +1,10 @@
 -- A word that is read is the word that was written, and what was written is read again.
 use Rattle.std.proofs.Common.{◌≡◌, ◌∙◌, ◌+◌, ◌<◌, ◌≤◌, ◌^◌, ◌++◌, ℕ, List, false, ltb, Result, Ok, Err, length, take, drop, arith, refl, ap, sym, subst, append_assoc, length-append}
-use Rattle.std.proofs.lemmas.Bool.{cases_lt, le-ltb, ltb-false, le-leb}
-use Rattle.std.proofs.Common.{inl, inr}
+use Rattle.std.proofs.lemmas.Bool.{le-ltb, ltb-false, le-leb}
 use Rattle.std.proofs.lemmas.Bool.Decides.{nat_tests}
-use Rattle.std.proofs.lemmas.List.{get_or-take, get_or_past, length-take, take-append-drop}
+use Rattle.std.proofs.lemmas.List.{length-take, take-append-drop}
 use Rattle.std.proofs.lemmas.Nat.{be_bytes_4, from_be_bytes-to_be_bytes_4}
-use Rattle.acl_nfs4.proofs.Exports.{IsBytes-drop, guard_ok, ok_is}
+use Rattle.acl_nfs4.proofs.Exports.{IsBytes-drop, IsBytes-take, guard_ok, ok_is}
 use Rattle.acl_nfs4.specs.Fields.{number}
 use Rattle.acl_nfs4.specs.Spelling.{word}
 use Rattle.acl_nfs4.specs.internal.Progress.{IsBytes}
@@ -15,14 +14,6 @@ use Rattle.acl_forms.specs.ReadFaults.{read_fault_at}
 use Rattle.acl_forms.specs.Words.{WordPlace, acl_flags_of, judged_word, start, word_at}
 use Rattle.acl_forms.specs.declared.fault.ReadReason.{ReadReason}
 use Rattle.acl_forms.specs.declared.fault.ReadReason.TheVariants as reason
-
--- the first bytes of a list of bytes are bytes
-pub IsBytes-take : (n : ℕ) (bytes : List ℕ) → IsBytes bytes → IsBytes (take n bytes)
-IsBytes-take n bytes h i =
-    elim (cases_lt i n) [
-      | inl lt ↦ rw (get_or-take n bytes i 0 lt) (h i)
-      | inr le ↦ rw (get_or_past (take n bytes) i 0 (omega (arith, length-take n bytes))) (omega arith)
-    ]
 
 -- ---- steps
 

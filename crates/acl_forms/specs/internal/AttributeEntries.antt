@@ -5,10 +5,8 @@ use Rattle.acl_forms.specs.ReadFaults.{read_fault_at}
 use Rattle.acl_forms.specs.declared.fault.ReadFault.{ReadFault}
 use Rattle.acl_forms.specs.declared.fault.ReadReason.{ReadReason}
 use Rattle.acl_forms.specs.declared.fault.ReadReason.TheVariants.{Order}
-
 -- the most entries that an ACL can have: one for each of the six tag types and each number of 32 bits
-abbrev pub most_entries : ℕ
-most_entries = 25769803776
+pub use Rattle.acl_posix.specs.internal.Packed.{most_entries}
 
 -- the fault of the entry at a place, or the fall of the tag types if it is no later
 abbrev pub earlier_fault : Option ℕ → ℕ → ReadReason → ReadFault

@@ -15,16 +15,13 @@ use Rattle.acl_forms.specs.declared.fault.ReadReason.TheVariants.{Empty, Nul}
 use Rattle.acl_forms.specs.declared.ace_text.AceText.{AceText}
 use Rattle.acl_forms.specs.declared.ace_text.AceText.TheVariants.{Nfs, Tools}
 use Rattle.acl_forms.specs.declared.tools.entry.EntryFields.{EntryFields}
+-- the columns of what is left, if something is, are counts
+pub use Rattle.acl_posix.specs.internal.Reading.{RestFits}
 
 -- the rules of a form of NFSv4 texts
 abbrev pub ace_rules : AceText → TextRules Ace
 ace_rules (Tools object) = tools_rules object
 ace_rules (Nfs source) = nfs_rules source
-
--- the columns of what is left, if something is, are counts
-abbrev pub RestFits : Option Piece → Type 0
-RestFits None = Unit {0}
-RestFits (Some p) = ColumnsFit p
 
 -- the first part, and the rest after the byte that ends it
 pub record IsEntryRest {X : Type 0} (rules : TextRules X) (whole first rest : Span) : Type 0 where

@@ -1,13 +1,7 @@
-use Rattle.std.proofs.Common.{Ok, Err, Result, arith}
-use Rattle.std.specs.Prelude.{OnOk}
+use Rattle.std.proofs.Common.{arith}
 use Rattle.acl_forms.specs.internal.IdAces.{ace_by_id}
-use Rattle.acl_forms.proofs.IdLemmas.{accepted_push, good_ace}
+use Rattle.acl_forms.proofs.IdLemmas.{accepted_push, good_ace, on_ok}
 use Rattle.acl_forms.proofs.acl41_ids.push.Goals as goal
-
--- what holds anyway holds of a result that is a value
-on_ok : {E P : Type 0} (r : Result (Unit {0}) E) → P → OnOk r P
-on_ok (Ok x) p = p
-on_ok (Err e) p = tt
 
 pub push_accepted-requires : goal.push_accepted-requires
 push_accepted-requires c =

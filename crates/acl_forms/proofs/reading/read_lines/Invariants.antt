@@ -1,8 +1,9 @@
 use Rattle.std.proofs.Common.{[]}
 use Rattle.std.specs.List.{flat_map}
+use Rattle.acl_posix.proofs.Exports.{size_left}
 use Rattle.acl_forms.specs.internal.TextReading.{RestFits}
 use Rattle.acl_forms.specs.Texts.{items_in, line_items}
-use Rattle.acl_forms.proofs.EntryCuts.{bytes_left, lines_left, ReadsTo}
+use Rattle.acl_forms.proofs.EntryCuts.{lines_left, ReadsTo}
 use Rattle.acl_forms.proofs.reading.read_lines.Given as goal
 
 -- what is left gives what the whole text gives
@@ -15,4 +16,4 @@ invariant-loop-rest g l = record {
 }
 
 abbrev pub decreases-loop-rest : goal.decreases-loop-rest
-decreases-loop-rest g l = bytes_left l.rest
+decreases-loop-rest g l = size_left l.rest

@@ -1,8 +1,9 @@
 use Rattle.std.proofs.Common.{List}
 use Rattle.acl_perm.specs.Lines.{span_of}
+use Rattle.acl_posix.proofs.Exports.{size_left}
 use Rattle.acl_forms.specs.internal.TextReading.{RestFits}
 use Rattle.acl_forms.specs.Texts.{cut_entries}
-use Rattle.acl_forms.proofs.EntryCuts.{bytes_left, items_in_parts, parts_left, ReadsTo}
+use Rattle.acl_forms.proofs.EntryCuts.{items_in_parts, parts_left, ReadsTo}
 use Rattle.acl_forms.proofs.reading.read_parts.Given as goal
 
 -- what is left gives what the whole line gives
@@ -16,4 +17,4 @@ invariant-loop-rest g l = record {
 }
 
 abbrev pub decreases-loop-rest : goal.decreases-loop-rest
-decreases-loop-rest g l = bytes_left l.rest
+decreases-loop-rest g l = size_left l.rest

@@ -1,13 +1,8 @@
-use Rattle.std.proofs.Common.{Ok, Err, Result, arith}
-use Rattle.std.specs.Prelude.{OnOk}
+use Rattle.std.proofs.Common.{arith}
 use Rattle.acl_forms.proofs.AnyAces.{kept_accepted, kept_known, made_accepted}
 use Rattle.acl_forms.specs.internal.AnyAces.{any_ace_of}
 use Rattle.acl_forms.proofs.part.any_ace.keep.Goals as goal
-
--- what holds anyway holds of a result that is a value
-on_ok : {E P : Type 0} (r : Result (Unit {0}) E) → P → OnOk r P
-on_ok (Ok x) p = p
-on_ok (Err e) p = tt
+use Rattle.acl_forms.proofs.IdLemmas.{on_ok}
 
 pub bytes_of-who-requires-clause-known : goal.bytes_of-who-requires-clause-known
 bytes_of-who-requires-clause-known c = kept_known (any_ace_of c.args.item) c.requires.wanted
