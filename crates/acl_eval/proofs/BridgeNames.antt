@@ -1,16 +1,14 @@
 -- Whom the ACEs of an entry match: the decimal names of different ids differ, and none is a special who.
-use Rattle.std.proofs.Common.{◌≡◌, ℕ, ◌<◌, Bool, true, false, eqb, List, [], ◌∷◌, refl, sym, ap, subst, ◌∙◌, arith}
+use Rattle.std.proofs.Common.{◌≡◌, ℕ, Bool, false, eqb, List, [], ◌∷◌, refl, sym, ap, ◌∙◌, arith}
 use Rattle.std.specs.Prelude.{◌&&◌, ◌||◌, ◌==◌, map}
 use Rattle.std.specs.List.{AllByRecursion}
 use Rattle.std.specs.Fmt.{decimal}
 use Rattle.std.specs.Cmp.Lexicographic.{nat_list_eq_equiv}
 use Rattle.std.specs.Str.{bytes_eq}
-use Rattle.std.specs.Str.Parse.{AllDigits}
 use Rattle.std.specs.Ordering.{nat_cmp, eq_by_cmp, is_eq}
 use Rattle.std.proofs.lemmas.Bool.{eqb-true, eq-eqb}
 use Rattle.std.proofs.lemmas.Bool.Decides.{nat_tests}
-use Rattle.std.proofs.lemmas.Fmt.{decimal_is_IsNumeral, decimal_injective}
-use Rattle.std.proofs.lemmas.Str.Parse.{digit_from_value}
+use Rattle.std.proofs.lemmas.Fmt.{decimal_injective}
 use Rattle.std.proofs.lemmas.Slice.Eq.{bytes_eq-Decides}
 use Rattle.acl_perm.specs.Situation.{Situation, is_one_of}
 use Rattle.acl_perm.specs.declared.kind.Kind.{Kind}
@@ -19,6 +17,7 @@ use Rattle.acl_posix.specs.Id.{IsId}
 use Rattle.acl_posix.specs.Tag.{Tag, IsTag, tag_cmp, user_obj, user, group_obj, group, mask, other}
 use Rattle.acl_posix.specs.Check as posix
 use Rattle.acl_posix.specs.Check.{Object, Requester}
+use Rattle.acl_posix.proofs.Exports.{bytes_eq-unequal, not_decimal}
 use Rattle.acl_perm.proofs.Bools.{same_answers}
 use Rattle.acl_nfs4.specs.Ace.{Ace}
 use Rattle.acl_nfs4.specs.Who.{owner_name, group_name, everyone_name}
@@ -27,18 +26,6 @@ use Rattle.acl_eval.specs.BridgeLaws.{by_name, IsAsked}
 use Rattle.acl_eval.specs.Scan.{applies}
 
 -- ---- decimal names
-
--- a number does not begin with a byte that is not a digit
-not_decimal : (n c : ℕ) (cs : List ℕ) → IsId n → 57 < c → decimal n ≡ c ∷ cs → ⊥
-not_decimal n c cs h big e =
-    omega (arith, digit_from_value c (subst (AllDigits 10) e (decimal_is_IsNumeral n (omega arith)).0.1).0)
-
--- names that differ do not pass the test of equality
-bytes_eq-unequal : (xs ys : List ℕ) → (xs ≡ ys → ⊥) → bytes_eq xs ys ≡ false
-bytes_eq-unequal xs ys differ = elim (bytes_eq xs ys) as (λ b. bytes_eq xs ys ≡ b → b ≡ false) [
-  | true ↦ λ h. absurd (differ ((bytes_eq-Decides xs ys).0 h))
-  | false ↦ λ h. refl
-] refl
 
 -- no name of an id is `OWNER@`
 pub not_owner : (n : ℕ) → IsId n → bytes_eq (decimal n) owner_name ≡ false

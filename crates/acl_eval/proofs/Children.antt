@@ -1,13 +1,13 @@
 -- The list of a child, and which facts about the list of its parent still hold for it.
 use Rattle.std.proofs.Common.{◌≡◌, ℕ, ◌+◌, ◌*◌, ◌≤◌, Bool, true, false, List, [], ◌∷◌, ◌++◌, length, refl, sym, ap, subst, ◌∙◌, append_assoc, arith}
-use Rattle.std.specs.Prelude.{bit_and, bit_or, count_ones, Option, None, Some, IsTrue, ◌&&◌, ◌||◌}
+use Rattle.std.specs.Prelude.{bit_and, count_ones, Option, None, Some, IsTrue, ◌&&◌}
 use Rattle.std.specs.List.{AllByRecursion}
 use Rattle.std.specs.Int.{bit_at}
 use Rattle.std.proofs.lemmas.Bool.{eqb-true}
 use Rattle.std.proofs.lemmas.Nat.{and_comm}
 use Rattle.std.proofs.lemmas.Nat.Bits.{and_pow}
 use Rattle.std.proofs.lemmas.Option.{same_Some}
-use Rattle.acl_perm.proofs.Sets.{has_bit-and, has_bit-or, same_set}
+use Rattle.acl_perm.proofs.Sets.{has_bit-and, same_set}
 use Rattle.acl_perm.specs.Bits.{has_bit, inherit_only}
 use Rattle.acl_perm.specs.Profile.{Profile}
 use Rattle.acl_nfs4.specs.Ace.{Ace}
@@ -17,6 +17,8 @@ use Rattle.acl_nfs4.proofs.Exports.{weight-cons}
 use Rattle.acl_eval.specs.declared.inherit.ChildKind.{ChildKind}
 use Rattle.acl_eval.specs.declared.inherit.ChildKind.TheVariants.{File, Directory}
 use Rattle.acl_eval.specs.Inheritance.{child_flags, children, ends, goes_on, waiting_flags, with_flags, file_inherit, directory_inherit, no_propagate_inherit, kept_at_the_end, kept_on_the_way, inherit_only_alone}
+-- bits of sets within a set
+pub use Rattle.acl_nfs4.proofs.Exports.{bit_within, union_within}
 
 -- ---- flags within a set
 
@@ -26,27 +28,11 @@ both_kept false c s e = refl
 both_kept true false s e = refl
 both_kept true true s e = e
 
--- if each of two tests implies a third, so does either of them
-either_kept : (g e s : Bool) → (g && s) ≡ g → (e && s) ≡ e → ((g || e) && s) ≡ (g || e)
-either_kept true e s p q = p
-either_kept false e s p q = q
-
--- each bit of a number within a set is a bit of the set
-pub bit_within : (set n k : ℕ) → IsWithin set n → (has_bit n k && has_bit set k) ≡ has_bit n k
-bit_within set n k is = sym (has_bit-and n set k) ∙ ap (λ (m : ℕ). has_bit m k) is
-
 -- a part of a number within a set is within the set
 pub part_within : (set n c : ℕ) → IsWithin set n → IsWithin set (bit_and n c)
 part_within set n c is = same_set _ _ (λ k.
     has_bit-and (bit_and n c) set k ∙ ap (λ (b : Bool). b && has_bit set k) (has_bit-and n c k)
     ∙ both_kept (has_bit n k) (has_bit c k) (has_bit set k) (bit_within set n k is) ∙ sym (has_bit-and n c k))
-
--- the union of two numbers within a set is within the set
-pub union_within : (set m n : ℕ) → IsWithin set m → IsWithin set n → IsWithin set (bit_or m n)
-union_within set m n p q = same_set _ _ (λ k.
-    has_bit-and (bit_or m n) set k ∙ ap (λ (b : Bool). b && has_bit set k) (has_bit-or m n k)
-    ∙ either_kept (has_bit m k) (has_bit n k) (has_bit set k) (bit_within set m k p) (bit_within set n k q)
-    ∙ sym (has_bit-or m n k))
 
 -- a set with INHERIT_ONLY has that flag
 pub inherit_only_within : (set : ℕ) → has_bit set inherit_only ≡ true → IsWithin set inherit_only_alone

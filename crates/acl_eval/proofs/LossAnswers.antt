@@ -1,20 +1,17 @@
 -- What a search answers is a loss, and without an answer nothing is lost.
-use Rattle.std.proofs.Common.{◌≡◌, ◌≤◌, ◌+◌, ℕ, Bool, true, false, List, [], ◌∷◌, ◌++◌, Option, None, Some, refl, sym, ap, subst, ◌∙◌, arith, inl, inr, length}
+use Rattle.std.proofs.Common.{◌≡◌, ◌≤◌, ◌+◌, ℕ, Bool, true, false, List, ◌++◌, Option, None, Some, refl, sym, ap, subst, ◌∙◌, arith, inl, inr, length}
 use Rattle.std.proofs.lemmas.Bool.{cases_lt, false≢true, true≢false}
-use Rattle.std.proofs.lemmas.List.Elements.{All-from_recursion}
 use Rattle.std.specs.Prelude.{◌⊎◌, ◌↔◌, Err, IfOk, IfSome, Ok, Result}
 use Rattle.std.specs.List.{AllByRecursion}
 use Rattle.std.specs.FinMap as fin
 use Rattle.acl_perm.proofs.Bools.{and_true, not_true}
 use Rattle.acl_perm.specs.Bits.{IsPerm, has_bit}
 use Rattle.acl_perm.specs.Situation.{Situation}
-use Rattle.acl_posix.specs.Check.{Object, Requester, grants, ids, is_member}
+use Rattle.acl_posix.specs.Check.{Object, Requester, grants, is_member}
 use Rattle.acl_posix.specs.Entries.{Entries}
-use Rattle.acl_posix.specs.Id.{IsId}
 use Rattle.acl_posix.specs.Names.{Table}
 use Rattle.acl_posix.specs.Tag.{Tag, qualifier}
 use Rattle.acl_posix.specs.Valid.{IsValid}
-use Rattle.acl_posix.specs.declared.id.Id.{Id}
 use Rattle.acl_nfs4.specs.Ace.{Ace}
 use Rattle.acl_eval.specs.Bridge.{image}
 use Rattle.acl_eval.specs.BridgeLaws.{IsAsked, by_name}
@@ -35,6 +32,7 @@ use Rattle.acl_eval.proofs.ShapeChecks.{all_contain}
 use Rattle.acl_eval.proofs.Singles.{single_cases, single_execute, single_read, single_small, single_write}
 use Rattle.acl_eval.proofs.UnusedIds.{entries_named}
 use Rattle.acl_eval.proofs.FreeIds.{is_member-numbers, is_member-append_left, is_member-append_right}
+use Rattle.acl_eval.proofs.BridgeLaws.{All-ids}
 
 -- ---- the rights of a permission
 
@@ -96,18 +94,13 @@ pub record IsSearchOf (list : List Ace) (E : Entries) (bit second : ℕ) (want :
   pub perm : wanted.perm.bits ≡ want
   pub valid : IsValid E
 
--- the numbers of a list of ids are ids
-all_ids : (list : List Id) → AllByRecursion IsId (ids list)
-all_ids [] = tt
-all_ids (x ∷ list) = (x.within, all_ids list)
-
 -- the object and the requester of a loss are given by ids
 asked_of : (lost : LostGrant) → IsAsked (lost_object lost) (lost_requester lost)
 asked_of lost = record {
   owner = lost.owner.within;
   owning_group = lost.group.within;
   asker = lost.user.within;
-  groups = All-from_recursion IsId (ids lost.groups.items) (all_ids lost.groups.items);
+  groups = All-ids lost.groups.items;
 }
 
 -- a loss that was found: both rights are granted, and the permission is not

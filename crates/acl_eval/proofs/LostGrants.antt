@@ -9,15 +9,14 @@ use Rattle.std.specs.FinMap as fin
 use Rattle.acl_perm.proofs.Bools.{and_true, or_true_right}
 use Rattle.acl_perm.specs.Kind.{is_allow}
 use Rattle.acl_perm.specs.declared.kind.Kind.{Kind}
-use Rattle.acl_posix.specs.Check.{Object, Requester, any_contains, any_matches, contains, entry_contains, is_contained, is_member, tag_matches}
+use Rattle.acl_posix.specs.Check.{Object, Requester, any_contains, any_matches, contains, entry_contains, is_member, tag_matches}
 use Rattle.acl_posix.specs.Entries.{Entries}
 use Rattle.acl_posix.specs.Tag.{Tag, user_obj, user, group_obj, group, mask, other, qualifier, tag_cmp}
-use Rattle.acl_posix.specs.internal.GroupSearch.{group_contains}
-use Rattle.acl_posix.proofs.Exports.{any_group, contains_empty, same_tag}
+use Rattle.acl_posix.proofs.Exports.{any_contains-from_entry, contains_empty, none_contains, same_tag}
 use Rattle.acl_eval.specs.internal.LossBody.{has_masked, is_allowed_in, is_left_by, lacks, level, certain_place}
 use Rattle.acl_eval.specs.internal.ShapeBody.{TagColumn, column_decided_by, has_tag, is_certain, tag_meets}
 use Rattle.acl_eval.proofs.Passes.{eq_by_cmp-refl}
-use Rattle.acl_eval.proofs.ShapeChecks.{any_member, choice, contains_nothing}
+use Rattle.acl_eval.proofs.ShapeChecks.{choice, contains_nothing}
 use Rattle.acl_eval.proofs.ValidChecks.{Complete, mask_contains}
 
 -- ---- the first key that matches stays the first one where fewer match
@@ -258,30 +257,11 @@ masked_lacks : (E : Entries) (want : ℕ) (t : Tag) → contains 7 want ≡ true
 masked_lacks E want t whole h = ap (λ (b : Bool). not b)
     (ap (λ (b : Bool). entry_contains E t want && b) (left_is (fin.get E mask) want whole) ∙ h)
 
--- what is not there contains nothing
-none_contains : (o : Option ℕ) (want : ℕ) → is_some o ≡ false → is_contained o want ≡ false
-none_contains None want h = refl
-none_contains (Some perm) want h = absurd (true≢false h)
-
--- an entry for a matching group that contains a request is one of those that do
-in_any : (E : Entries) (og want : ℕ) (gs : List ℕ) (t : Tag) → tag_matches og gs t ≡ true
-    → entry_contains E t want ≡ true → any_contains E og gs want ≡ true
-in_any E og want gs user_obj m h = absurd (false≢true m)
-in_any E og want gs (user id) m h = absurd (false≢true m)
-in_any E og want gs group_obj m h = sym (any_group E og want gs)
-    ∙ any_member (group_contains E og want) gs og m (rw (eq-eqb og og refl, h) refl)
-in_any E og want gs (group id) m h = sym (any_group E og want gs)
-    ∙ any_member (group_contains E og want) gs id m
-    (ap (λ (b : Bool). ((id == og) && entry_contains E group_obj want) || b) h
-    ∙ or_true_right ((id == og) && entry_contains E group_obj want))
-in_any E og want gs mask m h = absurd (false≢true m)
-in_any E og want gs other m h = absurd (false≢true m)
-
 -- a matching group with an entry matches an entry
 in_matches : (E : Entries) (og : ℕ) (gs : List ℕ) (t : Tag) → tag_matches og gs t ≡ true → is_some (fin.get E t) ≡ true
     → any_matches E og gs ≡ true
 in_matches E og gs t m there =
-    sym (contains_empty E og gs) ∙ in_any E og 0 gs t m (contains_nothing (fin.get E t) ∙ there)
+    sym (contains_empty E og gs) ∙ any_contains-from_entry E og 0 gs t m (contains_nothing (fin.get E t) ∙ there)
 
 -- the entries of groups come after those of users
 few_level : (E : Entries) (id : ℕ) → level E (group id) ≤ 1
@@ -307,9 +287,9 @@ lacks_class : (E : Entries) (og want : ℕ) (gs : List ℕ) (t : Tag) → contai
 lacks_class E og want gs user_obj whole m h = absurd (false≢true m)
 lacks_class E og want gs (user id) whole m h = absurd (false≢true m)
 lacks_class E og want gs group_obj whole m h = masked_lacks E want group_obj whole
-    (less_both _ _ (mask_contains E want) (in_any E og want gs group_obj m) h)
+    (less_both _ _ (mask_contains E want) (any_contains-from_entry E og want gs group_obj m) h)
 lacks_class E og want gs (group id) whole m h = masked_lacks E want (group id) whole
-    (less_both _ _ (mask_contains E want) (in_any E og want gs (group id) m) h)
+    (less_both _ _ (mask_contains E want) (any_contains-from_entry E og want gs (group id) m) h)
 lacks_class E og want gs mask whole m h = absurd (false≢true m)
 lacks_class E og want gs other whole m h = absurd (false≢true m)
 

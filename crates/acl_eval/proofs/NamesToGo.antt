@@ -1,6 +1,6 @@
 -- An entry of a user or a group can go, as the code judges it, only if nothing is lost without it.
 use Rattle.std.proofs.Common.{◌≡◌, ◌≤◌, ℕ, Bool, true, false, List, refl, sym, ap, subst, ◌∙◌, arith, inl, inr}
-use Rattle.std.proofs.lemmas.Bool.{cases_Bool, eq-eqb, false≢true, true≢false, not-true}
+use Rattle.std.proofs.lemmas.Bool.{cases_Bool, eq-eqb, false≢true, not-true}
 use Rattle.std.specs.Prelude.{◌||◌, not, bit_and}
 use Rattle.std.specs.Int.Bits.{and_self}
 use Rattle.std.specs.List.{list_all}
@@ -25,26 +25,10 @@ use Rattle.acl_eval.proofs.SituationIds.{HasIds}
 use Rattle.acl_eval.proofs.AlwaysDecides.{decides_right}
 use Rattle.acl_eval.proofs.Images.{rights}
 use Rattle.acl_eval.proofs.JudgedEntries.{before_all, own_permissions, same_permissions}
-use Rattle.acl_eval.proofs.Losses.{IsPart, but_keeps, but_lacks, class_part, none_less, out_part, out_size, part_has, part_ids}
+use Rattle.acl_eval.proofs.Losses.{IsPart, but_keeps, class_part, none_less, out_part, out_size, part_has, part_ids}
 use Rattle.acl_eval.proofs.ShapeRights.{just}
 use Rattle.acl_eval.proofs.ShapesLeft.{entry_there, is_kept, left_ids, picked}
-
--- a tag of the rest is not that of the name
-rest_differs : (shape : EntryShape) (name t : Tag) → is_named name ≡ true → is_in_shape (taken_out name shape) t ≡ true
-    → eq_by_cmp tag_cmp t name ≡ false
-rest_differs shape name t n h = elim (cases_Bool (eq_by_cmp tag_cmp t name)) [
-  | inl same ↦
-      absurd (by name n (subst (λ (x : Tag). is_in_shape (taken_out name shape) x ≡ true) (same_tag t name same) h))
-  | inr differ ↦ differ
-]
-  where
-    by : (x : Tag) → is_named x ≡ true → is_in_shape (taken_out x shape) x ≡ true → ⊥
-    by user_obj n h = false≢true n
-    by (user u) n h = true≢false (sym h ∙ but_lacks u shape.users)
-    by group_obj n h = false≢true n
-    by (group g) n h = true≢false (sym h ∙ but_lacks g shape.groups)
-    by mask n h = false≢true n
-    by other n h = false≢true n
+use Rattle.acl_eval.proofs.Matchings.{out_differs}
 
 -- an entry with another tag is in the rest
 still_there : (shape : EntryShape) (name t : Tag) → is_named name ≡ true → is_in_shape shape t ≡ true
@@ -181,7 +165,7 @@ entries_stand list columns left name cs js jn n stand t shared there want few ha
     let is : tag_of e.tag ≡ t = same_tag (tag_of e.tag) t same in
     let s : is_shared (tag_of e.tag) ≡ true = ap is_shared is ∙ shared in
     let differ : eq_by_cmp tag_cmp (tag_of e.tag) (tag_of name.tag) ≡ false =
-    ap (λ (x : Tag). eq_by_cmp tag_cmp x (tag_of name.tag)) is ∙ rest_differs shape (tag_of name.tag) t n there in
+    ap (λ (x : Tag). eq_by_cmp tag_cmp x (tag_of name.tag)) is ∙ out_differs (tag_of name.tag) t shape n there in
     let after = judged_out columns shape name e n jn (ap (λ (b : Bool). not b) differ) stands j in
     let small : size_of out ≤ most_names = let le = out_size (tag_of name.tag) shape in omega (arith, le, js.1) in
     let now = judged_just list columns out (tag_of e.tag) e.perm.bits cs (HasIds-taken_out (tag_of name.tag) shape ids)

@@ -11,10 +11,8 @@ use Rattle.acl_posix.specs.Tag.{Tag, tag_cmp}
 use Rattle.acl_posix.specs.internal.TagCode.{tags_total}
 use Rattle.acl_posix.proofs.Exports.{same_tag}
 use Rattle.acl_eval.specs.internal.ShapeBody.{AreFirst, TagColumn, always, column_decided_by, has_tag}
-
 -- a tag is the same as itself
-pub eq_by_cmp-refl : (t : Tag) → eq_by_cmp tag_cmp t t ≡ true
-eq_by_cmp-refl t = (eq_by_cmp_equiv tags_total).refl t
+pub use Rattle.acl_posix.proofs.Exports.{eq_by_cmp-refl}
 
 -- two tags that are the same in one order are so in the other
 pub eq_by_cmp-comm : (t u : Tag) → eq_by_cmp tag_cmp t u ≡ false → eq_by_cmp tag_cmp u t ≡ false

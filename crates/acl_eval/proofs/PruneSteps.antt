@@ -1,6 +1,6 @@
 -- What the code finds out about the users and groups that can go is what the definitions say of the list.
 use Rattle.std.proofs.Common.{◌≡◌, ◌≤◌, ◌<◌, ◌+◌, ℕ, Bool, true, false, cond, List, [], ◌∷◌, None, Some, refl, sym, ap, subst, ◌∙◌, arith, inl, inr, length, ◌++◌, get_or, take}
-use Rattle.std.proofs.lemmas.Bool.{cases_Bool, false≢true, true≢false, not-true, or_cases}
+use Rattle.std.proofs.lemmas.Bool.{false≢true, true≢false, not-true, or_cases}
 use Rattle.std.proofs.lemmas.List.{take_more}
 use Rattle.std.proofs.lemmas.List.Folds.{list_any-append}
 use Rattle.std.proofs.lemmas.Option.{same_Some}
@@ -12,7 +12,7 @@ use Rattle.acl_perm.proofs.Bools.{and_true, or_true_right}
 use Rattle.acl_posix.specs.Check.{ids}
 use Rattle.acl_posix.specs.Tag.{Tag, user_obj, user, group_obj, group, mask, other, is_named, tag_cmp, tag_of}
 use Rattle.acl_posix.specs.declared.id.Id.{Id}
-use Rattle.acl_posix.proofs.Exports.{same_tag}
+use Rattle.acl_posix.proofs.Exports.{same_tag, unnamed_is_not_named}
 use Rattle.acl_nfs4.specs.Ace.{Ace}
 use Rattle.acl_eval.specs.Pruning.{IsNameOf, KeepsEntries, LosesNothing, Prunes, next, is_shared, taken_out}
 use Rattle.acl_eval.specs.ToPosix.{EntryShape, is_in_shape, size_of}
@@ -62,13 +62,6 @@ unnamed_left t name (e ∷ left) d h = by (unnamed_left t name left d) (eq_by_cm
     by rest false q (inr more) = ap (λ (b : Bool). eq_by_cmp tag_cmp (tag_of e.tag) t || b) (rest more)
         ∙ or_true_right (eq_by_cmp tag_cmp (tag_of e.tag) t)
 
--- a tag that is neither USER nor GROUP is not that of a name
-not_name : (t name : Tag) → is_named t ≡ false → is_named name ≡ true → eq_by_cmp tag_cmp t name ≡ false
-not_name t name f n = elim (cases_Bool (eq_by_cmp tag_cmp t name)) [
-  | inl same ↦ absurd (true≢false (sym n ∙ (ap is_named (sym (same_tag t name same)) ∙ f)))
-  | inr differ ↦ differ
-]
-
 -- the first entry that can go is that of a name without which nothing is lost
 pub goes : (list : List Ace) (columns : Columns) (left : List JudgedEntry) (name : JudgedEntry)
     → AreColumns list columns
@@ -93,8 +86,8 @@ goes list columns left name cs js found =
           each =
               subst (λ (s : EntryShape). AllByRecursion (IsJudged columns s) (filter (is_kept tag) left)) (sym is) more;
           named = refl;
-          owning = unnamed_left group_obj tag left (not_name group_obj tag refl two.0) js.0.owning;
-          others = unnamed_left other tag left (not_name other tag refl two.0) js.0.others;
+          owning = unnamed_left group_obj tag left (unnamed_is_not_named group_obj tag refl two.0) js.0.owning;
+          others = unnamed_left other tag left (unnamed_is_not_named other tag refl two.0) js.0.others;
         },
         subst (λ (s : EntryShape). size_of s ≤ most_names) (sym is) (omega (arith, le, js.1)),
       );

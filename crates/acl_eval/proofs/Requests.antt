@@ -23,7 +23,7 @@ use Rattle.acl_eval.specs.Unknown.{AlwaysAnswers, Assignment, GrantsUnder, MayAn
 use Rattle.acl_eval.specs.internal.RequestBody.{AllowsFrom, ArePassed, HasPassed, IsOneMore, LeavesOut, MayBeGranted, Says, SaysAce, all_but, applies_but, is_open_name, is_out, open_names}
 use Rattle.acl_eval.specs.declared.requesting.Step.{Step}
 use Rattle.acl_eval.specs.declared.requesting.Step.TheVariants.{Granted, Denied, Against}
-use Rattle.acl_eval.proofs.Unknowns.{rest_is, answer_here, answer_passes, answer_skips, match_known, match_unknown}
+use Rattle.acl_eval.proofs.Unknowns.{rest_is, answer_here, answer_passes, answer_skips, match_known, match_unknown, deny_allow, none_allow}
 
 -- ---- ACEs that do not decide
 
@@ -192,14 +192,6 @@ decides_parts true true false e = absurd (true≢false (sym e))
 decides_parts true false n e = absurd (true≢false (sym e))
 decides_parts false t n e = absurd (true≢false (sym e))
 
--- a DENY is not an ALLOW
-deny_allowed : Some Deny ≡ Some Allow → ⊥
-deny_allowed e = cc
-
--- no answer is not an ALLOW
-none_allowed : None ≡ Some Allow → ⊥
-none_allowed e = cc
-
 -- the ACE at the place decides the right
 pub says_here : (aces : List AceRef) (item : AceRef) (s : Situation) (bit : ℕ) (out : List ℕ → Bool) (place : ℕ)
     (step : Step) → place < length aces → item ≡ get_or aces place item
@@ -221,7 +213,7 @@ says_here aces item s bit out place step lt read decides says =
     denies : (v : Assignment) → item.kind ≡ Deny → has_bit item.mask.bits bit ≡ true → takes_part (ace item) ≡ true
         → matches_under v s (ace item) ≡ true → AllowsFrom aces s bit place v → ⊥
     denies v kind m t n allows =
-        deny_allowed (sym (ap (λ (k : Kind). Some k) kind) ∙ (sym (here v m t n) ∙ allows))
+        deny_allow (sym (ap (λ (k : Kind). Some k) kind) ∙ (sym (here v m t n) ∙ allows))
 
     never : (v : Assignment) → item.kind ≡ Deny → is_unknown_special item.who.now ≡ true
         → has_bit item.mask.bits bit ≡ true → takes_part (ace item) ≡ true → AllowsFrom aces s bit place v
@@ -288,7 +280,7 @@ not_always list s mask others allowed denied undecided unknown is within some wh
     by bit true false true n u me ae de ne ue h w =
         (λ who. false, λ g. ((den bit).0 de).1 (λ who. false) (g bit me))
     by bit true false false true u me ae de ne ue h w =
-        (λ who. false, λ g. none_allowed (sym (((und bit).0 ne).1 (λ who. false)) ∙ g bit me))
+        (λ who. false, λ g. none_allow (sym (((und bit).0 ne).1 (λ who. false)) ∙ g bit me))
     by bit true false false false true me ae de ne ue h w =
         let (v, lacks) = ((unk bit).0 ue).2 in (v, λ g. lacks (g bit me))
     by bit true false false false false me ae de ne ue h w =

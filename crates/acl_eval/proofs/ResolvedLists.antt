@@ -17,9 +17,9 @@ use Rattle.acl_perm.specs.declared.kind.Kind.TheVariants.{Deny}
 use Rattle.acl_nfs4.specs.Ace.{Ace}
 use Rattle.acl_nfs4.specs.Renamed.{is_account}
 use Rattle.acl_nfs4.specs.Spelling.{IsAccepted, IsAce, weight}
-use Rattle.acl_nfs4.specs.Who.{is_special, IsWho, owner_name, group_name, everyone_name, principal_of, who_fault}
+use Rattle.acl_nfs4.specs.Who.{is_special, owner_name, group_name, everyone_name, principal_of, who_fault}
 use Rattle.acl_nfs4.specs.Within.{IsWithin}
-use Rattle.acl_nfs4.proofs.Exports.{front_accepted, weight-cons}
+use Rattle.acl_nfs4.proofs.Exports.{account_is_who, front_accepted, weight-cons}
 use Rattle.acl_eval.proofs.Children.{bit_within, union_within}
 use Rattle.acl_eval.proofs.ListChmod.{difference_without}
 use Rattle.acl_eval.proofs.Scans.{has_bit-without}
@@ -30,15 +30,6 @@ use Rattle.acl_eval.specs.Scan.{without}
 use Rattle.acl_eval.specs.Situation.{named_situation}
 
 -- ---- names
-
--- nothing is there if the test says so
-is_none-true : {F : Type 0} (o : Option F) → is_none o ≡ true → o ≡ None
-is_none-true None e = refl
-is_none-true (Some f) e = absurd cc
-
--- the name of a user or of a group is valid as a who
-account_who : (name : List ℕ) → is_account name ≡ true → IsWho name
-account_who name e = is_none-true (who_fault name) (and_parts (is_none (who_fault name)) (not (is_special name)) e).0
 
 -- whom an ACE with such a name names
 account_named : (a : Ace) → is_account a.who ≡ true
@@ -110,13 +101,13 @@ ace_stays o g a has is = by (principal_of a) has
     by owner h = record {
       flags = without_within full.flags a.flags identifier_group_alone is.flags;
       mask = is.mask;
-      who = account_who o (not-false (is_account o) h);
+      who = account_is_who o (not-false (is_account o) h);
     }
     by (user name) h = is
     by group h = record {
       flags = union_within full.flags a.flags identifier_group_alone is.flags refl;
       mask = is.mask;
-      who = account_who g (not-false (is_account g) h);
+      who = account_is_who g (not-false (is_account g) h);
     }
     by (group_named name) h = is
     by everyone h = is

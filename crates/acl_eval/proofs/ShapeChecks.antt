@@ -15,7 +15,7 @@ use Rattle.acl_posix.specs.Mask.{effective_of}
 use Rattle.acl_posix.specs.Tag.{Tag, user_obj, user, group_obj, group, mask, other, is_masked}
 use Rattle.acl_posix.specs.Valid.{IsValid}
 use Rattle.acl_posix.specs.internal.GroupSearch.{group_contains}
-use Rattle.acl_posix.proofs.Exports.{any_group, contains_empty}
+use Rattle.acl_posix.proofs.Exports.{any_group, contained_some, contains_empty}
 use Rattle.acl_nfs4.specs.Ace.{Ace}
 use Rattle.acl_eval.specs.ToPosix.{HasShape, IsBest, IsGreatest, IsSound, EntryShape, is_in_class, is_in_shape, looks_at}
 use Rattle.acl_eval.proofs.Images.{same_below}
@@ -132,11 +132,6 @@ pub record IsLookedAt (shape : EntryShape) (E : Entries) (object : Object) (requ
   pub looks : looks_at shape object requester entry ≡ true
   pub holds : holds E entry want ≡ true
 
--- an entry that contains a request is there
-contained_there : (o : Option ℕ) (want : ℕ) → is_contained o want ≡ true → is_some o ≡ true
-contained_there None want h = absurd (false≢true h)
-contained_there (Some n) want h = refl
-
 -- for a requester who is not the owner and has no entry, whom a group of the requester matches
 looked_class : (shape : EntryShape) (E : Entries) (object : Object) (requester : Requester) (want : ℕ)
     → HasShape shape E → is_in_class shape object requester ≡ true
@@ -157,7 +152,7 @@ looked_class shape E object requester want s outside h =
           }
       | inr named ↦
           let in_shape : is_member g shape.groups ≡ true =
-          sym (s.groups g) ∙ contained_there (fin.get E (group g)) want named in record {
+          sym (s.groups g) ∙ contained_some (fin.get E (group g)) want named in record {
             entry = group g;
             there = in_shape;
             looks = rw (outside, has, in_shape) refl;

@@ -8,7 +8,7 @@ use Rattle.std.specs.Ordering.{eq_by_cmp}
 use Rattle.acl_perm.proofs.Bools.{and_true}
 use Rattle.acl_posix.specs.Check.{is_member}
 use Rattle.acl_posix.specs.Tag.{Tag, user_obj, user, group_obj, group, mask, other, IsTag, is_named, tag_cmp, tag_of}
-use Rattle.acl_posix.proofs.Exports.{same_tag}
+use Rattle.acl_posix.proofs.Exports.{same_tag, tag_within}
 use Rattle.acl_eval.specs.Pruning.{is_shared, shape_without, taken_out}
 use Rattle.acl_eval.specs.ToPosix.{EntryShape, is_in_shape}
 use Rattle.acl_eval.specs.internal.PruningBody.{AreJudged, groups_left, has_entry, shape_left, users_left, group_before, user_before}
@@ -16,7 +16,7 @@ use Rattle.acl_eval.specs.declared.judged_entry.JudgedEntry.{JudgedEntry}
 use Rattle.acl_eval.specs.declared.tag_column.Columns.{Columns}
 use Rattle.acl_eval.proofs.FreeIds.{eqb_comm}
 use Rattle.acl_eval.proofs.TagRequesters.{is_eq-nat_cmp}
-use Rattle.acl_eval.proofs.SituationIds.{HasIds, IsTag-code}
+use Rattle.acl_eval.proofs.SituationIds.{HasIds}
 use Rattle.acl_eval.proofs.Losses.{no_longer}
 
 -- an element that passes one test passes another that all pass, and is what all are
@@ -238,7 +238,7 @@ group_member id (e ∷ left) = group_has id (tag_of e.tag) (groups_left left)
 tag_there : (t : Tag) (left : List JudgedEntry) → has_entry t left ≡ true → IsTag t
 tag_there t [] h = absurd (false≢true h)
 tag_there t (e ∷ left) h = elim (or_cases (eq_by_cmp tag_cmp (tag_of e.tag) t) (has_entry t left) h) [
-  | inl here ↦ subst IsTag (same_tag (tag_of e.tag) t here) (IsTag-code e.tag)
+  | inl here ↦ subst IsTag (same_tag (tag_of e.tag) t here) (tag_within e.tag)
   | inr more ↦ tag_there t left more
 ]
 

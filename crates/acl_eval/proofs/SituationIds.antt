@@ -8,9 +8,8 @@ use Rattle.std.specs.Ordering.{eq_by_cmp}
 use Rattle.acl_posix.specs.Check.{is_member}
 use Rattle.acl_posix.specs.Id.{IsId}
 use Rattle.acl_posix.specs.Tag.{Tag, user_obj, user, group_obj, group, mask, other, tag_cmp, tag_of, IsTag}
-use Rattle.acl_posix.specs.declared.tag.Tag.{Tag as TagOfCode}
-use Rattle.acl_posix.specs.declared.tag.Tag.TheVariants as code
-use Rattle.acl_posix.proofs.Exports.{same_tag}
+use Rattle.acl_posix.proofs.Exports.{same_tag, tag_within}
+use Rattle.acl_posix.specs.internal.GroupAnswers.{user_id as user_in}
 use Rattle.acl_eval.specs.BridgeLaws.{IsAsked}
 use Rattle.acl_eval.specs.ToPosix.{EntryShape, is_in_shape}
 use Rattle.acl_eval.specs.internal.ShapeBody.{has_tag, may_match, keys_of}
@@ -18,7 +17,7 @@ use Rattle.acl_eval.specs.declared.tag_column.TagKey.{TagKey}
 use Rattle.acl_eval.specs.internal.LossBody.{groups_for, is_owner_tag}
 use Rattle.acl_eval.proofs.Passes.{IsExtra}
 use Rattle.acl_eval.proofs.FreeIds.{AreFree}
-use Rattle.acl_eval.proofs.TagRequesters.{asker, extra_groups, object_at, requester_at, user_in}
+use Rattle.acl_eval.proofs.TagRequesters.{asker, extra_groups, object_at, requester_at}
 
 -- each user and each group of the shape is an id
 pub record HasIds (shape : EntryShape) : Type 0 where
@@ -34,15 +33,6 @@ entry_id shape (group id) h there = h.groups id there
 entry_id shape mask h there = tt
 entry_id shape other h there = tt
 
--- the tag of the code has an id, if it has a qualifier
-pub IsTag-code : (t : TagOfCode) → IsTag (tag_of t)
-IsTag-code code.UserObj = tt
-IsTag-code (code.User id) = id.within
-IsTag-code code.GroupObj = tt
-IsTag-code (code.Group id) = id.within
-IsTag-code code.Mask = tt
-IsTag-code code.Other = tt
-
 -- so does the tag of a key
 pub IsTag-key : (t : Tag) (keys : List TagKey) → has_tag t (keys_of keys) ≡ true → IsTag t
 IsTag-key t [] h = absurd cc
@@ -50,7 +40,7 @@ IsTag-key t (k ∷ keys) h = by (IsTag-key t keys) (eq_by_cmp tag_cmp t (tag_of 
   where
     by : (has_tag t (keys_of keys) ≡ true → IsTag t) → (b : Bool) → eq_by_cmp tag_cmp t (tag_of k.whom) ≡ b
         → (b || has_tag t (keys_of keys)) ≡ true → IsTag t
-    by rest true e h = subst IsTag (sym (same_tag t (tag_of k.whom) e)) (IsTag-code k.whom)
+    by rest true e h = subst IsTag (sym (same_tag t (tag_of k.whom) e)) (tag_within k.whom)
     by rest false e h = rest h
 
 -- the user of a tag, or another one if it has none, is an id

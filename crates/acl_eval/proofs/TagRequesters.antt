@@ -9,25 +9,17 @@ use Rattle.std.specs.Ordering.{eq_by_cmp, is_eq, nat_cmp}
 use Rattle.acl_perm.proofs.Bools.{or_false_right}
 use Rattle.acl_posix.specs.Check.{Object, Requester, is_member}
 use Rattle.acl_posix.specs.Tag.{Tag, user_obj, user, group_obj, group, mask, other, tag_cmp}
+use Rattle.acl_posix.specs.internal.GroupAnswers.{user_id}
 use Rattle.acl_eval.specs.ToPosix.{EntryShape}
 use Rattle.acl_eval.specs.internal.ShapeBody.{TagColumn, has_tag, may_match}
 use Rattle.acl_eval.specs.internal.LossBody.{groups_for, is_owner_tag}
 use Rattle.acl_eval.proofs.Passes.{IsExtra, is_extra}
 use Rattle.acl_eval.proofs.FreeIds.{AreFree, eqb_comm}
 
--- the user of a tag
-abbrev pub user_in : Tag → Option ℕ
-user_in user_obj = None
-user_in (user id) = Some id
-user_in group_obj = None
-user_in (group id) = None
-user_in mask = None
-user_in other = None
-
 -- the user of a tag that may be absent
 abbrev pub extra_user : Option Tag → Option ℕ
 extra_user None = None
-extra_user (Some x) = user_in x
+extra_user (Some x) = user_id x
 
 -- the group of a tag that may be absent
 abbrev pub extra_groups : ℕ → Option Tag → List ℕ
@@ -36,7 +28,7 @@ extra_groups own (Some x) = groups_for own x
 
 -- the user who requests access
 abbrev pub asker : Tag → Option Tag → ℕ → ℕ
-asker entry extra free = unwrap_or (option_or (extra_user extra) (user_in entry)) free
+asker entry extra free = unwrap_or (option_or (extra_user extra) (user_id entry)) free
 
 -- the object of the situation that is made for an entry and one more tag
 abbrev pub object_at : Tag → Option Tag → ℕ → ℕ → ℕ → Object
@@ -58,7 +50,7 @@ pub is_eq-nat_cmp : (w n : ℕ) → is_eq (nat_cmp w n) ≡ (n == w)
 is_eq-nat_cmp w n = grind (arith, nat_tests)
 
 -- a user is the user of a tag
-pub entry_user : (t : Tag) (w : ℕ) → eq_by_cmp tag_cmp (user w) t ≡ has_number (user_in t) w
+pub entry_user : (t : Tag) (w : ℕ) → eq_by_cmp tag_cmp (user w) t ≡ has_number (user_id t) w
 entry_user user_obj w = refl
 entry_user (user id) w = is_eq-nat_cmp w id
 entry_user group_obj w = refl

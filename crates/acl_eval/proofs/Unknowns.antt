@@ -479,11 +479,11 @@ is_none (Some Deny) a d = absurd (d refl)
 is_none (Some Allow) a d = absurd (a refl)
 
 -- no answer is not Allow
-none_allow : None ≡ Some Allow → ⊥
+pub none_allow : None ≡ Some Allow → ⊥
 none_allow e = cc
 
 -- Deny is not Allow
-deny_allow : Some Deny ≡ Some Allow → ⊥
+pub deny_allow : Some Deny ≡ Some Allow → ⊥
 deny_allow e = cc
 
 -- no answer is not Deny

@@ -16,17 +16,10 @@ use Rattle.acl_eval.specs.declared.losing.LostGrant.{LostGrant}
 use Rattle.acl_eval.specs.declared.losing.unused.Unused.{Unused}
 use Rattle.acl_eval.specs.declared.losing.Wanted.{Wanted}
 use Rattle.acl_eval.specs.declared.tag_column.Columns.{Columns}
+-- the tag is that of the owner
+pub use Rattle.acl_posix.specs.internal.GroupAnswers.{is_owner_tag}
 
 -- ---- the situation of three tags
-
--- the tag is that of OWNER@
-abbrev pub is_owner_tag : Tag → Bool
-is_owner_tag user_obj = true
-is_owner_tag (user id) = false
-is_owner_tag group_obj = false
-is_owner_tag (group id) = false
-is_owner_tag mask = false
-is_owner_tag other = false
 
 -- the user of a tag, or another user if it has none
 abbrev pub user_or : Tag → ℕ → ℕ
