@@ -31,7 +31,7 @@ use Rattle.acl_eval.specs.Pruning.{PrunesTo}
 use Rattle.acl_eval.specs.PruningLaws.{IsExactFor, HasFewIds, HasNamesOf, IsNameIn}
 use Rattle.acl_eval.specs.ToPosix.{EntryShape, HasShape, IsBest}
 use Rattle.acl_eval.specs.internal.ShapeBody.{column_decided_by, tag_meets}
-use Rattle.acl_eval.proofs.Images.{image_right, rights, single_perm}
+use Rattle.acl_eval.proofs.Images.{image_right, rights}
 use Rattle.acl_eval.proofs.Losses.{no_longer}
 use Rattle.acl_eval.proofs.Matchings.{IsMatching, IsRest, Looks, Matching}
 use Rattle.acl_eval.proofs.PruningEnds.{part_above}
@@ -300,7 +300,7 @@ exact_gives : (list : List Ace) (one : EntryShape) (acl : Entries) (m : Matching
     → HasFewIds one → HasNamesOf one list → IsAcl acl → length (fin.entries acl) ≤ 65535 → IsExactFor list acl
     → IsMatching m → IsSingle want → granted_to list want m → Gives (granted_to list) (shape_among one acl) m want
 exact_gives list one acl m want short f names valid few agrees ok single granted =
-    let small = single_perm want single in
+    let small = single_small want single in
     let t = own_shape acl in
     let shaped = own_shaped acl in
     let g = own_small acl valid few in
@@ -332,7 +332,7 @@ pub longer_agrees : (list : List Ace) (one two : EntryShape) (best : Entries) �
     → HasFewIds one → HasNamesOf one list → PrunesTo list one two → IsBest list two best → (acl : Entries) → IsAcl acl
     → length (fin.entries acl) ≤ 65535 → IsExactFor list acl → IsExactFor list best
 longer_agrees list one two best short f names p is acl valid few agrees object requester want asked single = (
-  λ yes. best_sound list two best is object requester asked want (single_perm want single) yes,
+  λ yes. best_sound list two best is object requester asked want (single_small want single) yes,
   λ granted.
       let t = shape_among one acl in
       let part = among_part one acl in
@@ -340,7 +340,7 @@ longer_agrees list one two best short f names p is acl valid few agrees object r
       exact_gives list one acl m w short f names valid few agrees ok one_alone (given.has m ok given.looks)) in
       let m : Matching = tag_meets object requester in
       let ok = asked_matching object requester asked in
-      let small = single_perm want single in
+      let small = single_small want single in
       let given = exact_gives list one acl m want short f names valid few agrees ok single
       (granted_is list object requester want asked granted) in
       best_grants list two best object requester want is small (gives_from list two object requester want
