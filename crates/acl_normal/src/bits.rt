@@ -1,24 +1,12 @@
 //! Rights of masks, and of ACEs.
-ghost use Rattle.std.specs.Prelude.{◌&&◌, ◌<◌, ◌^◌, ◌↔◌, ◌≡◌, ◌≤◌, IsSome};
+ghost use Rattle.std.specs.Prelude.{◌&&◌, ◌<◌, ◌^◌, ◌≡◌, ◌≤◌};
 ghost use Rattle.acl_normal.specs.Common.{ace, all_rights, bit_count, bit_or, everyone, has_bit, IfNone, IfSome, principal_eq, principal_of, true, ℕ};
-ghost use Rattle.acl_normal.specs.Normal.{counts};
 ghost use Rattle.acl_normal.specs.internal.NextRight.{IsNextRight, LacksFrom};
 
 use crate::whom::whom;
 use acl_nfs4::AceRef;
 use acl_perm::Mask;
 use acl_perm::internal::Bit;
-
-/// Returns the rights of an ACE, or none if the ACE takes no part.
-pub(crate) fn active(item: AceRef<'_>) -> Mask
-    ensures { (b : ℕ) → has_bit result.bits b ≡ counts b (ace item.entry) }
-{
-    if item.takes_part() {
-        item.mask
-    } else {
-        Mask::NONE
-    }
-}
 
 /// Returns the mask if its ACE names everyone, and otherwise no rights.
 #[inline(always)]
@@ -39,14 +27,7 @@ pub(crate) fn next_right(mask: Mask, from: usize) -> Option<Bit>
     ensures some { IfSome result (λ right. IsNextRight mask.bits from right.bit) }
     ensures none { IfNone result (LacksFrom mask.bits from bit_count) }
 {
-    numbered(from + (mask.bits >> from).trailing_zeros() as usize)
-}
-
-// The bit of a number, or `None` for a number above 20.
-fn numbered(bit: usize) -> Option<Bit>
-    ensures within { IsSome result ↔ (bit < bit_count) }
-    ensures value { IfSome result (λ right. right.bit ≡ bit) }
-{
+    let bit = from + (mask.bits >> from).trailing_zeros() as usize;
     if bit < Bit::COUNT {
         Some(Bit { bit })
     } else {

@@ -3,7 +3,6 @@ ghost use Rattle.std.specs.Prelude.{◌+◌, ◌<◌, ◌≡◌, OnErr};
 ghost use Rattle.acl_normal.specs.Common.{five_spellings, IfOk, IsAccepted, IsNormalFormOf, IsProfile, OnOk, Profile, spelling};
 ghost use Rattle.acl_perm.specs.Devices.{one_more};
 ghost use Rattle.acl_perm.specs.Pieces.{Writes, WritesFrom};
-ghost use Rattle.acl_eval.specs.Inheritance.{children};
 ghost use Rattle.acl_eval.specs.declared.inherit.ChildKind.TheVariants.{Directory, File};
 ghost use Rattle.acl_normal.specs.FiveForms.{AreAccepted, AreFormsOf};
 ghost use Rattle.acl_normal.specs.Paths.{SameFurtherBelow, at, below, here};
@@ -170,14 +169,10 @@ fn forms_of(
     let object = normalize(alloc, list)?;
     let file = normalize(alloc, file_list)?;
     let directory = form_beside(alloc, directory_list, list, &object)?;
-    let file_in_directory = child_form(alloc, directory_list, ChildKind::File, file_list, &file)?;
-    let directory_in_directory = child_form(
-        alloc,
-        directory_list,
-        ChildKind::Directory,
-        directory_list,
-        &directory,
-    )?;
+    let inner_file = child(alloc, directory_list, ChildKind::File)?;
+    let file_in_directory = form_beside(alloc, &inner_file, file_list, &file)?;
+    let inner_directory = child(alloc, directory_list, ChildKind::Directory)?;
+    let directory_in_directory = form_beside(alloc, &inner_directory, directory_list, &directory)?;
     Ok(FiveForms {
         object,
         file,
@@ -185,21 +180,6 @@ fn forms_of(
         file_in_directory,
         directory_in_directory,
     })
-}
-
-// The normal form of the list of a new object in a directory with this list. Another list and its form are given.
-fn child_form(
-    alloc: Global,
-    list: &Acl,
-    kind: ChildKind,
-    other: &Acl,
-    other_form: &Acl,
-) -> Result<Acl, AllocError>
-    requires { IsNormalFormOf other.now other_form.now }
-    ensures { IfOk result (λ form. IsNormalFormOf (children kind list.now) form) }
-{
-    let child_list = child(alloc, list, kind)?;
-    form_beside(alloc, &child_list, other, other_form)
 }
 
 // The normal form of a list. Another list and its form are given. If the lists are equal, as they mostly are because

@@ -5,7 +5,6 @@ ghost use Rattle.acl_perm.specs.Profile.{profile_of};
 ghost use Rattle.acl_nfs4.specs.Fault.{IsWholeFault};
 ghost use Rattle.acl_nfs4.specs.Stream.{no_memory};
 ghost use Rattle.acl_nfs4.specs.declared.xdr.fault.Reason.{Reason};
-ghost use Rattle.acl_normal.specs.internal.emit.Ready.{who_for};
 
 use crate::emit::emission::{Emitted, normalize_left};
 use crate::emit::rising::{cleared, rises};
@@ -150,7 +149,12 @@ pub(crate) fn ace_of<'a>(item: Emitted<'a>) -> AceRef<'a>
         kind: item.key.kind,
         flags: flags_of(item.key.principal),
         mask: item.mask,
-        who: who_of(item.key.principal),
+        who: match item.key.principal {
+            Principal::Owner => OWNER_NAME.as_bytes(),
+            Principal::User(name) | Principal::GroupNamed(name) => name,
+            Principal::Group => GROUP_NAME.as_bytes(),
+            Principal::Everyone => EVERYONE_NAME.as_bytes(),
+        },
     }
 }
 
@@ -162,17 +166,5 @@ pub(crate) fn flags_of(p: Principal<'_>) -> Flags
         Principal::GroupNamed(_) => Flags::IDENTIFIER_GROUP,
         Principal::Owner | Principal::User(_) | Principal::Group | Principal::Everyone =>
             Flags::NONE,
-    }
-}
-
-// The who of an ACE that names the principal.
-fn who_of<'a>(p: Principal<'a>) -> &'a [u8]
-    ensures { result.now ≡ who_for (principal p.entry) }
-{
-    match p {
-        Principal::Owner => OWNER_NAME.as_bytes(),
-        Principal::User(name) | Principal::GroupNamed(name) => name,
-        Principal::Group => GROUP_NAME.as_bytes(),
-        Principal::Everyone => EVERYONE_NAME.as_bytes(),
     }
 }

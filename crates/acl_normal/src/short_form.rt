@@ -1,9 +1,8 @@
 //! The normal form of a short list, without queues and without a heap, and whether two short lists have one form.
 ghost use Rattle.std.specs.Prelude.{◌<◌, ◌↔◌, ◌≡◌};
-ghost use Rattle.acl_normal.specs.Common.{aces_in, aces_with, all_cleared, all_rights, AreRowNumbers, column, emitted_ace, emitted_aces, full, IfOk, IsAccepted, IsNormalFormOf, IsReducedOf, IsTidy, IsTrue, left, length, SameGrants, vec_len, ℕ};
+ghost use Rattle.acl_normal.specs.Common.{aces_in, aces_with, all_rights, AreRowNumbers, emitted_ace, emitted_aces, full, IfOk, IsAccepted, IsNormalFormOf, IsReducedOf, IsTrue, left, length, SameGrants, vec_len};
 ghost use Rattle.acl_normal.specs.internal.Counts.{rights_together};
 ghost use Rattle.acl_normal.specs.internal.Limits.{list_limit};
-ghost use Rattle.acl_normal.specs.internal.emit.Short.{AreLeftOf};
 
 use crate::emit::emission::Emitted;
 use crate::emit::rising::rises;
@@ -96,29 +95,7 @@ fn emitted<'a>(
     ensures { IfOk result (λ form.
         IsNormalFormOf (aces_in aces.now) (emitted_aces form.items)) }
 {
-    let mut left = left_of(alloc, aces, masks, rows)?;
-    if rises(aces, masks, rows) {
-        return Ok(left);
-    }
-    drain_short(alloc, &mut left)
-}
-
-// What is to be emitted, in the order of the list.
-fn left_of<'a>(
-    alloc: Global,
-    aces: &[AceRef<'a>],
-    masks: &[Mask],
-    rows: &[usize],
-) -> Result<Vec<Emitted<'a>>, AllocError>
-    requires masks { length masks.now ≡ length aces.now }
-    requires rows { AreRowNumbers (aces_in aces.now) rows.now }
-    requires tidy { IsTidy (aces_with aces.now masks.now) }
-    ensures list { IfOk result (λ v. emitted_aces v.items
-        ≡ all_cleared (left (aces_with aces.now masks.now))) }
-    ensures columns { IfOk result (λ v. (b : ℕ)
-        → column (emitted_aces v.items) b ≡ column (aces_with aces.now masks.now) b) }
-    ensures rows { IfOk result (λ v. AreLeftOf (aces_in aces.now) v.items) }
-{
+    // What is to be emitted, in the order of the list.
     let mut left = Vec::with_capacity(alloc, aces.len())?;
     for (place, ace) in aces.iter().enumerate() {
         let mask = masks[place];
@@ -130,7 +107,10 @@ fn left_of<'a>(
             })?;
         }
     }
-    Ok(left)
+    if rises(aces, masks, rows) {
+        return Ok(left);
+    }
+    drain_short(alloc, &mut left)
 }
 
 // Whether both are the same ACEs.

@@ -1,7 +1,6 @@
 //! Whom an ACE names. The last byte of the who is read first, because only the special names end in `@`.
 ghost use Rattle.std.specs.Prelude.{◌≡◌};
 ghost use Rattle.acl_normal.specs.Common.{ace, principal, principal_of};
-ghost use Rattle.acl_nfs4.specs.Who.{ends_in_at};
 
 use acl_nfs4::AceRef;
 use acl_perm::{Key, Principal};
@@ -25,21 +24,11 @@ pub(crate) fn key<'a>(item: &AceRef<'a>) -> Key<'a>
 pub(crate) fn whom<'a>(item: &AceRef<'a>) -> Principal<'a>
     ensures { principal result ≡ principal_of (ace item.now) }
 {
-    if ends_in_at(item.who) {
+    if item.who.last() == Some(&b'@') {
         item.principal()
     } else if item.flags.is_group() {
         Principal::GroupNamed(item.who)
     } else {
         Principal::User(item.who)
-    }
-}
-
-#[inline(always)]
-fn ends_in_at(who: &[u8]) -> bool
-    ensures { result ≡ ends_in_at who.now }
-{
-    match who.last() {
-        Some(byte) => *byte == b'@',
-        None => false,
     }
 }

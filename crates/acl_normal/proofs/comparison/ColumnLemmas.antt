@@ -96,6 +96,12 @@ unnamed_of whole list ws k bit all h lt inside absent = record {
 }
 
 -- if the mask at a named number is united with some rights, these are added there
+pub adds_none : (w : Whom) {more : ℕ} {old : List Mask} → ((k : ℕ) → w ≡ One k → ⊥) → AddsTo w more old old
+adds_none Nobody {more} {old} other = record { count = refl; each = λ k bit lk. grind arith }
+adds_none (One i) {more} {old} other = absurd (other i refl)
+adds_none Everyone {more} {old} other = record { count = refl; each = λ k bit lk. grind arith }
+
+-- an ACE adds its rights to those of the principal that it names
 pub adds_one : {old new : List Mask} {i more : ℕ} (m : Mask) {d : Mask} → i < length old → d ≡ slice_index_or old i d
     → ((bit : ℕ) → has_bit m.bits bit ≡ (has_bit d.bits bit || has_bit more bit)) → new ≡ slice_set old i m
     → AddsTo (One i) more old new

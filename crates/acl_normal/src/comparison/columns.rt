@@ -3,7 +3,7 @@
 ghost use Rattle.std.specs.Prelude.{◌<◌, ◌≡◌, ◌≤◌};
 ghost use Rattle.acl_normal.specs.Common.{aces_in, AllByRecursion, AreWhoms, IfOk, length, Principal, principal, principals, vec_len};
 ghost use Rattle.acl_normal.specs.internal.comparison.FirstPlaces.{AreFirstFrom, ArePlacings, IsWhomWithin};
-ghost use Rattle.acl_normal.specs.internal.comparison.Columns.{AddRights, AddsTo, all_renumbered, AreNumbersOf, IsNumberOr, renumbered, with_right};
+ghost use Rattle.acl_normal.specs.internal.comparison.Columns.{AddRights, all_renumbered, AreNumbersOf, IsNumberOr, renumbered, with_right};
 ghost use Rattle.acl_normal.specs.internal.Limits.{slice_limit};
 
 use super::placing::{First, Placing, Whom, firsts};
@@ -66,7 +66,6 @@ impl<'a> Columns<'a> {
             None => count,
         }
     }
-
     /// Returns how many ACEs the longer column has.
     pub(crate) fn longer(&self) -> usize
         ensures first { length self.now.first.aces.items ≤ result }
@@ -171,17 +170,9 @@ pub(crate) fn add_rights(rights: &mut Vec<Mask>, list: &[AceRef<'_>], whoms: &[W
         rights.new.items }
 {
     for (place, item) in list.iter().enumerate() {
-        add_right(rights, whoms[place], item.mask);
-    }
-}
-
-// Adds the rights of an ACE to those of the principal that it names.
-fn add_right(rights: &mut Vec<Mask>, whom: Whom, more: Mask)
-    requires { IsWhomWithin whom (vec_len rights.old) }
-    ensures { AddsTo whom more.bits rights.old.items rights.new.items }
-{
-    if let Whom::One(number) = whom {
-        let all = rights[number].union(more);
-        rights[number] = all;
+        if let Whom::One(number) = whoms[place] {
+            let all = rights[number].union(item.mask);
+            rights[number] = all;
+        }
     }
 }

@@ -1,9 +1,9 @@
 //! Two lists that are compared. What the search needs again and again is computed once: which principals the lists
 //! mention, which of these each ACE names, and on which rights the lists may differ.
 ghost use Rattle.std.specs.Prelude.{◌<◌, ◌≡◌};
-ghost use Rattle.acl_normal.specs.Common.{AllByRecursion, AreAlikeTo, AreMentioned, AreNumbered, IfOk, IsGrantedTo, OnFalse, OnTrue, [], aces_in, all_mentioned, all_rights, false, has_bit, length, map, members_of, principal, principals, set_of, true, two_lists, ℕ};
+ghost use Rattle.acl_normal.specs.Common.{AllByRecursion, AreAlikeTo, AreMentioned, AreNumbered, IfOk, IsGrantedTo, OnFalse, OnTrue, [], aces_in, all_mentioned, has_bit, length, map, members_of, principal, principals, set_of, two_lists, ℕ};
 ghost use Rattle.acl_normal.specs.internal.comparison.Directions.{differ_in};
-ghost use Rattle.acl_normal.specs.internal.comparison.TwoLists.{HaveSameColumn, principal_at};
+ghost use Rattle.acl_normal.specs.internal.comparison.TwoLists.{principal_at};
 ghost use Rattle.acl_normal.specs.internal.comparison.Columns.{AreColumnsOf, AreRightsByNumber};
 
 use super::apart::rights_apart;
@@ -35,7 +35,7 @@ pub(crate) struct Compared<'a, 'b> {
     /// Which of these principals each ACE of the second list names.
     second_whoms: &'b [Whom],
     /// For every other right, the lists have the same ACEs in the same order.
-    apart: Mask,
+    pub(crate) apart: Mask,
 }
 
 impl<'a, 'b> Model for Compared<'a, 'b> {
@@ -100,14 +100,6 @@ impl<'a, 'b> Compared<'a, 'b> {
     {
         let mentioned = self.mentioned;
         mentioned[number]
-    }
-
-    /// Returns false only if both lists have the same ACEs with the right, in the same order.
-    pub(crate) fn may_differ(&self, right: Bit) -> bool
-        ensures right { result ≡ true → has_bit all_rights right.bit ≡ true }
-        ensures same { result ≡ false → HaveSameColumn self.now right.bit }
-    {
-        right.is_in(self.apart)
     }
 
     /// Returns whether the lists do not differ in the direction if only everyone matches, and no principal that they

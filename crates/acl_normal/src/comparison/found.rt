@@ -1,6 +1,6 @@
 //! The first principals at which two lists differ.
 ghost use Rattle.std.specs.Prelude.{◌≡◌};
-ghost use Rattle.acl_normal.specs.internal.comparison.Found.{earlier_of, is_found_before};
+ghost use Rattle.acl_normal.specs.internal.comparison.Found.{is_found_before};
 
 /// The numbers of the first principals at which two lists differ, on some rights. If there is none, a number is that of
 /// all principals.
@@ -15,14 +15,8 @@ pub(crate) struct Found {
 }
 
 impl Found {
-    /// Returns what is found on the rights of both.
-    pub(crate) fn earlier(self, other: Found) -> Found
-        ensures { result ≡ earlier_of self other }
-    {
-        if other.is_before(self) { other } else { self }
-    }
-
-    fn is_before(self, other: Found) -> bool
+    /// Returns whether these principals come before others, in the order of the small sets.
+    pub(crate) fn is_before(self, other: Found) -> bool
         ensures { result ≡ is_found_before self other }
     {
         self.single < other.single

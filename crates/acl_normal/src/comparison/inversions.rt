@@ -2,7 +2,7 @@
 ghost use Rattle.std.specs.Prelude.{◌&&◌, ◌+◌, ◌<◌, ◌≡◌, ◌≤◌};
 ghost use Rattle.acl_normal.specs.Common.{AllByRecursion, IfOk, is_users, length, not, true, vec_len};
 ghost use Rattle.acl_normal.specs.internal.comparison.FirstPlaces.{IsFirstBelow, SameAlone, earlier_allows, inverts, inverts_any, is_unlike};
-ghost use Rattle.acl_normal.specs.internal.comparison.PlaceTables.{HasNone, IsPlacingWithin, IsFirstOf, IsPlaceTable, Raises, camp_of, has_kind, is_counted, is_inverting, is_of_camp, other_place, place_of, wants};
+ghost use Rattle.acl_normal.specs.internal.comparison.PlaceTables.{IsPlacingWithin, IsFirstOf, IsPlaceTable, Raises, has_kind, is_inverting, is_of_camp, other_place, place_of, wants};
 ghost use Rattle.acl_normal.specs.internal.Limits.{slice_limit};
 
 use super::direction::Direction;
@@ -44,13 +44,18 @@ pub(crate) fn first_inverting(
     ensures { IfOk result (IsFirstBelow (λ r. inverts_any direction r placings.now) placings.now
         limit) }
 {
-    let camp = Camp::of(direction, Kind::Allow, Class::Users);
+    let mut camp = Camp {
+        direction,
+        kind: Kind::Allow,
+        class: Class::Users,
+    };
     let allowed_users = first_of(alloc, placings, size, limit, camp)?;
-    let camp = Camp::of(direction, Kind::Allow, Class::Others);
+    camp.class = Class::Others;
     let allowed = first_of(alloc, placings, size, allowed_users, camp)?;
-    let camp = Camp::of(direction, Kind::Deny, Class::Users);
+    camp.kind = Kind::Deny;
+    camp.class = Class::Users;
     let users = first_of(alloc, placings, size, allowed, camp)?;
-    let camp = Camp::of(direction, Kind::Deny, Class::Others);
+    camp.class = Class::Others;
     first_of(alloc, placings, size, users, camp)
 }
 
@@ -68,7 +73,7 @@ fn first_of(
     requires alone { AllByRecursion (SameAlone camp.direction) placings.now }
     ensures { IfOk result (λ v. IsFirstOf camp placings.now limit v) }
 {
-    if is_empty_camp(placings, camp) {
+    if !placings.iter().any(|placing| is_of_camp(*placing, camp)) {
         return Ok(limit);
     }
     let forward = table(alloc, placings, size, camp, Side::Here)?;
@@ -82,17 +87,6 @@ fn first_of(
     Ok(limit)
 }
 
-fn is_empty_camp(placings: &[Placing], camp: Camp) -> bool
-    ensures { result ≡ true → HasNone camp placings.now }
-{
-    for placing in placings {
-        if is_of_camp(*placing, camp) {
-            return false;
-        }
-    }
-    true
-}
-
 /// A camp of principals: those of a class for whom the first ACE of both lists is of a kind. The principals that both
 /// lists treat differently are in no camp: they make no difference with another one in the direction.
 #[derive(Clone, Copy)]
@@ -103,16 +97,6 @@ pub(crate) struct Camp {
 }
 
 impl Camp {
-    fn of(direction: Direction, kind: Kind, class: Class) -> Camp
-        ensures { result ≡ camp_of direction kind class }
-    {
-        Camp {
-            direction,
-            kind,
-            class,
-        }
-    }
-
     // Returns whether the counted principals that come before one of the camp in the list of the side, and not in the
     // other list, make a difference in the direction.
     fn wants(self, side: Side) -> bool
@@ -169,18 +153,15 @@ fn raise(table: &mut Vec<usize>, placing: Placing, camp: Camp, side: Side)
     requires small { other_place side placing < slice_limit }
     ensures { Raises camp side placing table.old.items table.new.items }
 {
-    if is_counted(camp, placing) {
-        let at = place_of(placing, side) + 1;
-        let most = table[at].max(other_place(placing, side) + 1);
-        table[at] = most;
+    // It counts if it has the other kind than the camp and may overlap with the principals of the camp.
+    if may_overlap(camp.class, placing.class) && has_kind(!camp.kind.is_allow(), placing) {
+        let (own, other) = match side {
+            Side::Here => (placing.here.place, placing.there.place),
+            Side::There => (placing.there.place, placing.here.place),
+        };
+        let most = table[own + 1].max(other + 1);
+        table[own + 1] = most;
     }
-}
-
-// Returns whether a principal has the other kind than a camp and may overlap with the principals of the camp.
-fn is_counted(camp: Camp, placing: Placing) -> bool
-    ensures { result ≡ is_counted camp placing }
-{
-    may_overlap(camp.class, placing.class) && has_kind(!camp.kind.is_allow(), placing)
 }
 
 // Returns whether both lists allow (deny) the right to a principal for which they do not differ in the direction: then
@@ -192,26 +173,6 @@ fn has_kind(allowed: bool, placing: Placing) -> bool
         placing.here.allows()
     } else {
         !placing.there.allows()
-    }
-}
-
-// The place of the first ACE that concerns a principal in the list of a side.
-fn place_of(placing: Placing, side: Side) -> usize
-    ensures { result ≡ place_of side placing }
-{
-    match side {
-        Side::Here => placing.here.place,
-        Side::There => placing.there.place,
-    }
-}
-
-// The place of the first ACE that concerns a principal in the list of the other side.
-fn other_place(placing: Placing, side: Side) -> usize
-    ensures { result ≡ other_place side placing }
-{
-    match side {
-        Side::Here => placing.there.place,
-        Side::There => placing.here.place,
     }
 }
 

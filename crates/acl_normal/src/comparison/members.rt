@@ -1,7 +1,6 @@
 //! Sets of at most two of the mentioned principals, by their numbers.
 ghost use Rattle.std.specs.Prelude.{◌≡◌};
 ghost use Rattle.acl_normal.specs.Common.{is_matched};
-ghost use Rattle.acl_normal.specs.internal.comparison.Members.{has_number};
 
 use super::placing::Whom;
 
@@ -20,18 +19,12 @@ impl Members {
     {
         match whom {
             Whom::Nobody => false,
-            Whom::One(number) => self.has(number),
+            Whom::One(number) => match self {
+                Members::Nobody => false,
+                Members::One(i) => i == number,
+                Members::Two(i, j) => i == number || j == number,
+            },
             Whom::Everyone => true,
-        }
-    }
-
-    fn has(self, number: usize) -> bool
-        ensures { result ≡ has_number self number }
-    {
-        match self {
-            Members::Nobody => false,
-            Members::One(i) => i == number,
-            Members::Two(i, j) => i == number || j == number,
         }
     }
 }

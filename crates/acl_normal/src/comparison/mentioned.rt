@@ -1,9 +1,8 @@
 //! The principals that two lists mention, in order and each once. A principal's number is its place among them.
 ghost use Rattle.std.specs.Prelude.{◌++◌, ◌<◌, ◌≡◌};
 ghost use Rattle.acl_normal.specs.Common.{AreMentioned, AreRowNumbers, AreWhoms, IfOk, OnOk, ace, aces_in, length, option_map, principal, principals, slice_index_or, vec_len, ℕ};
-ghost use Rattle.acl_perm.specs.Order.{principal_name};
 ghost use Rattle.acl_normal.specs.SmallSituations.{longest};
-ghost use Rattle.acl_normal.specs.internal.comparison.MentionedRows.{AreByRow, AreMentionedNumbers, AreMentionedRows, AreMentionsOf, mentioned_by, noted, whom_of, with_found};
+ghost use Rattle.acl_normal.specs.internal.comparison.MentionedRows.{AreByRow, AreMentionedNumbers, AreMentionedRows, AreMentionsOf, mentioned_by, whom_of};
 ghost use Rattle.acl_normal.specs.internal.comparison.SamePlaces.{with_copies};
 ghost use Rattle.acl_normal.specs.internal.Limits.{slice_limit};
 
@@ -92,19 +91,11 @@ fn by_row<'a>(
 {
     let mut table = vec![in alloc; None; aces.len()]?;
     for (place, ace) in aces.iter().enumerate() {
-        note(&mut table, rows[place], mentioned_by(ace));
+        if let Some(p) = mentioned_by(ace) {
+            table[rows[place]] = Some(p);
+        }
     }
     Ok(table)
-}
-
-// Puts a principal into its row of the table, if there is one.
-fn note<'a>(table: &mut Vec<Option<Principal<'a>>>, row: usize, found: Option<Principal<'a>>)
-    requires { row < vec_len table.old }
-    ensures { table.new.items ≡ noted table.old.items row found.entry }
-{
-    if let Some(p) = found {
-        table[row] = Some(p);
-    }
 }
 
 // Whom an ACE mentions: its principal, if the ACE takes part and the principal is not everyone.
@@ -129,18 +120,11 @@ fn numbers_of<'a>(alloc: Global, table: &[Option<Principal<'a>>]) -> Result<Numb
     let mut by_row = Vec::with_capacity(alloc, table.len())?;
     for found in table {
         by_row.push(whole.len())?;
-        add(&mut whole, *found)?;
+        if let Some(p) = *found {
+            whole.push(p)?;
+        }
     }
     Ok(Numbers { whole, by_row })
-}
-
-fn add<'a>(whole: &mut Vec<Principal<'a>>, found: Option<Principal<'a>>) -> Result<(), AllocError>
-    ensures { OnOk result (whole.new.items ≡ with_found whole.old.items found.entry) }
-{
-    if let Some(p) = found {
-        whole.push(p)?;
-    }
-    Ok(())
 }
 
 // Which of the numbered principals each ACE names.
@@ -194,18 +178,7 @@ pub(crate) fn longest_of(whole: &[Principal<'_>]) -> usize
 {
     let mut most = 0;
     for p in whole {
-        most = name_length(*p).max(most);
+        most = p.name().len().max(most);
     }
     most
-}
-
-// The length of the principal's name, or 0 if it has none.
-fn name_length(p: Principal<'_>) -> usize
-    ensures value { result ≡ length (principal_name (principal p.entry)) }
-    ensures small { result < slice_limit }
-{
-    match p {
-        Principal::User(name) | Principal::GroupNamed(name) => name.len(),
-        _ => 0,
-    }
 }

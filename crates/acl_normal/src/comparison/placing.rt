@@ -2,7 +2,7 @@
 ghost use Rattle.std.specs.Prelude.{◌<◌, ◌≡◌, ◌≤◌};
 ghost use Rattle.acl_normal.specs.Common.{ace, aces_in, AreWhoms, false, IfOk, length, principals, slice_index_or, true, vec_len, ℕ};
 ghost use Rattle.acl_perm.specs.Kind.{is_allow};
-ghost use Rattle.acl_normal.specs.internal.comparison.FirstPlaces.{AreFirstFrom, IsWhomWithin, is_unlike, no_ace, put, same_whom, stops, stops_at};
+ghost use Rattle.acl_normal.specs.internal.comparison.FirstPlaces.{AreFirstFrom, IsWhomWithin, is_unlike, no_ace, put, same_whom, stops_at};
 
 use super::direction::Direction;
 use crate::class::Class;
@@ -98,21 +98,13 @@ fn place_of_everyone(list: &[AceRef<'_>], whoms: &[Whom], right: Bit) -> usize
         → stops_at (aces_in list.now) whoms.now right.bit result ≡ true }
 {
     for (place, ace) in list.iter().enumerate() {
-        if is_end(ace, whoms[place], right) {
-            return place;
+        if let Whom::Everyone = whoms[place] {
+            if right.is_in(ace.mask) {
+                return place;
+            }
         }
     }
     list.len()
-}
-
-// Returns whether the ACE names everyone and has the right.
-fn is_end(item: &AceRef<'_>, whom: Whom, right: Bit) -> bool
-    ensures { result ≡ stops right.bit (ace item.now) whom }
-{
-    match whom {
-        Whom::Everyone => right.is_in(item.mask),
-        _ => false,
-    }
 }
 
 // The kind of the ACE at a place. After the end of the list everything is denied.

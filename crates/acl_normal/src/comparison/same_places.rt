@@ -2,7 +2,7 @@
 //! name the same principals in nearly the same order, so each search begins near the place that the last one found.
 ghost use Rattle.std.specs.Prelude.{◌≡◌};
 ghost use Rattle.acl_normal.specs.Common.{IfOk, IfSome, length, true};
-ghost use Rattle.acl_normal.specs.internal.comparison.SamePlaces.{ArePlacesOf, HasSameWho, HaveOneWho};
+ghost use Rattle.acl_normal.specs.internal.comparison.SamePlaces.{ArePlacesOf, HasSameWho};
 
 use acl_nfs4::AceRef;
 use std::alloc::{AllocError, Global};
@@ -55,14 +55,8 @@ fn is_at(list: &[AceRef<'_>], item: &AceRef<'_>, place: usize) -> bool
     ensures { result ≡ true → HasSameWho list.now item.now place }
 {
     match list.get(place) {
-        Some(there) => names_same(there, item),
+        // ACEs with the same flags and the same who name the same principal.
+        Some(there) => there.flags == item.flags && there.who == item.who,
         None => false,
     }
-}
-
-// Returns whether two ACEs have the same flags and the same who, and so name the same principal.
-fn names_same(item: &AceRef<'_>, other: &AceRef<'_>) -> bool
-    ensures { result ≡ true → HaveOneWho item.now other.now }
-{
-    item.flags == other.flags && item.who == other.who
 }

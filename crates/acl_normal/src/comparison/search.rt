@@ -45,8 +45,11 @@ impl Compared<'_, '_> {
         let mut found = self.nothing();
         for bit in 0..Bit::COUNT {
             let right = Bit { bit };
-            if self.may_differ(right) {
-                found = found.earlier(self.found_on(alloc, right, &rights)?);
+            if right.is_in(self.apart) {
+                let next = self.found_on(alloc, right, &rights)?;
+                if next.is_before(found) {
+                    found = next;
+                }
             }
         }
         Ok(found)

@@ -1,6 +1,6 @@
 //! The names of the small situation of a set.
 ghost use Rattle.std.specs.Prelude.{◌++◌, ◌∷◌, ◌≡◌};
-ghost use Rattle.acl_normal.specs.Common.{[], IfOk, map, OnOk, principal, replicate, set_of};
+ghost use Rattle.acl_normal.specs.Common.{[], IfOk, map, OnOk, principal, set_of};
 ghost use Rattle.acl_normal.specs.SmallSituations.{group_names, small_situation};
 
 use super::small_set::SmallSet;
@@ -14,7 +14,7 @@ pub(crate) fn owner_in(alloc: Global, set: SmallSet<'_>, n: usize) -> Result<Vec
     if set.has(Principal::Owner) {
         user_in(alloc, set, n)
     } else {
-        strange(alloc, b'o', n)
+        vec![in alloc; b'o'; n]
     }
 }
 
@@ -24,7 +24,7 @@ pub(crate) fn user_in(alloc: Global, set: SmallSet<'_>, n: usize) -> Result<Vec<
 {
     match set.user() {
         Some(name) => Vec::from_slice(alloc, name),
-        None => strange(alloc, b'u', n),
+        None => vec![in alloc; b'u'; n],
     }
 }
 
@@ -42,7 +42,7 @@ pub(crate) fn owning_group_in(
             return Vec::from_slice(alloc, name);
         }
     }
-    strange(alloc, b'g', n)
+    vec![in alloc; b'g'; n]
 }
 
 /// Returns the groups of the user in the small situation of a set. A name that no list mentions has `n` bytes.
@@ -56,7 +56,7 @@ pub(crate) fn groups_in(
 {
     let mut groups = groups_of(alloc, set)?;
     if set.has(Principal::Group) && groups.is_empty() {
-        groups.push(strange(alloc, b'g', n)?)?;
+        groups.push(vec![in alloc; b'g'; n]?)?;
     }
     Ok(groups)
 }
@@ -86,11 +86,4 @@ fn add_group(alloc: Global, groups: &mut Vec<Vec<u8>>, p: Principal<'_>) -> Resu
         groups.push(Vec::from_slice(alloc, name)?)?;
     }
     Ok(())
-}
-
-// A name that no list mentions: one byte, `n` times.
-fn strange(alloc: Global, byte: u8, n: usize) -> Result<Vec<u8>, AllocError>
-    ensures { IfOk result (λ v. v.items ≡ replicate n byte) }
-{
-    vec![in alloc; byte; n]
 }

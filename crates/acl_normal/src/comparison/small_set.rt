@@ -1,6 +1,6 @@
 //! Sets of at most two principals, which match in a small situation.
 ghost use Rattle.std.specs.Prelude.{◌∷◌, ◌≡◌};
-ghost use Rattle.acl_normal.specs.Common.{everyone, option_map, principal, principal_eq, set_of};
+ghost use Rattle.acl_normal.specs.Common.{everyone, option_map, principal, set_of};
 ghost use Rattle.acl_normal.specs.SmallSituations.{first_user, is_among};
 
 use acl_perm::Principal;
@@ -22,13 +22,14 @@ impl<'a> SmallSet<'a> {
         p.is_everyone() || self.has(p)
     }
 
+    #[tactic(auto, using(crate::proofs::comparison::SameTests::same_test))]
     pub(crate) fn has(self, p: Principal<'_>) -> bool
         ensures { result ≡ is_among (principal p.entry) (set_of self.entry) }
     {
         match self {
             SmallSet::Empty => false,
-            SmallSet::One(q) => is_same(p, q),
-            SmallSet::Two(q, r) => is_same(p, q) || is_same(p, r),
+            SmallSet::One(q) => p == q,
+            SmallSet::Two(q, r) => p == q || p == r,
         }
     }
 
@@ -43,11 +44,4 @@ impl<'a> SmallSet<'a> {
             _ => None,
         }
     }
-}
-
-#[tactic(auto, using(crate::proofs::comparison::SameTests::same_test))]
-pub(crate) fn is_same(p: Principal<'_>, q: Principal<'_>) -> bool
-    ensures { result ≡ principal_eq (principal p.entry) (principal q.entry) }
-{
-    p == q
 }

@@ -1,10 +1,10 @@
 //! The emission of a normal form: each ACE has the least key that is free on some right, with all rights on which it is
 //! free.
 ghost use Rattle.std.specs.Prelude.{◌*◌, ◌+◌, ◌<◌, ◌≡◌};
-ghost use Rattle.acl_normal.specs.Common.{Ace, AreQueues, IfNone, IfOk, IfSome, IsEmission, IsIrreducibleList, IsNormal, List, OnOk, SameGrants, AreInRows, all_rights, bit_count, count_left, emitted_aces, has_bit, is_user, is_users, key_here, kind_here, left, length, nothing_left, plain_key, principal, replicate, slice_index_or, true, ℕ};
+ghost use Rattle.acl_normal.specs.Common.{Ace, AreQueues, IfOk, IsIrreducibleList, IsNormal, List, OnOk, SameGrants, AreInRows, all_rights, bit_count, count_left, emitted_aces, has_bit, is_user, is_users, left, length, nothing_left, plain_key, principal, replicate, true, ℕ};
 ghost use Rattle.acl_perm.specs.Order.{kind_rank};
 ghost use Rattle.acl_normal.specs.internal.emit.Queues.{BeginsWaiting, IsQueueAt};
-ghost use Rattle.acl_normal.specs.internal.emit.Ready.{AddsMark, ChangesMarks, Enters, FitsKeys, Frees, HoldsFree, TakesBits, marks};
+ghost use Rattle.acl_normal.specs.internal.emit.Ready.{ChangesMarks, Enters, FitsKeys, Frees, HoldsFree, marks};
 ghost use Rattle.acl_normal.specs.internal.Limits.{key_limit, list_limit};
 
 use crate::bits::next_right;
@@ -24,7 +24,8 @@ pub(crate) struct Emitted<'a> {
     pub(crate) row: usize,
 }
 
-/// Returns the normal form of an irreducible list: the one normal list that grants the same.
+/// Returns the normal form of an irreducible list: the one normal list that grants the same. It emits what is left of
+/// the list: at each step the least key that is free on some right, with all rights on which it is free.
 pub(crate) fn normalize_left<'a>(
     alloc: Global,
     rows: &mut Remaining<'a>,
@@ -39,30 +40,20 @@ pub(crate) fn normalize_left<'a>(
     ensures weight { IfOk result (λ v. count_left bit_count (emitted_aces v.items)
         ≡ count_left bit_count rows.old) }
 {
-    drain(alloc, rows)
-}
-
-/// Emits what is left of a list: at each step the least key that is free on some right, with all rights on which it is
-/// free.
-pub(crate) fn drain<'a>(
-    alloc: Global,
-    rows: &mut Remaining<'a>,
-) -> Result<Vec<Emitted<'a>>, AllocError>
-    ensures emission { IfOk result (λ v. IsEmission rows.old (emitted_aces v.items)) }
-    ensures rows { IfOk result (λ v. AreInRows rows.old v.items) }
-    ensures weight { IfOk result (λ v. count_left bit_count (emitted_aces v.items)
-        ≡ count_left bit_count rows.old) }
-{
     let mut queues = Queues::of(alloc, rows)?;
     let mut ready = Ready::new(alloc, rows.len())?;
     fill(rows, &queues, &mut ready)?;
     let mut out = Vec::with_capacity(alloc, rows.len())?;
     // The label names the loop for its proof.
-    'emitted: while let Some(next) = pop(rows, &mut ready) {
-        out.push(next)?;
-        rows.take_out(next.row, next.key.principal, next.mask);
-        move_on(rows, next.key, next.mask, &mut queues);
-        free_after(rows, &queues, next.key, next.mask, &mut ready)?;
+    'emitted: while let Some(next) = ready.pop() {
+        let key = rows.key_of(next.number);
+        // Only rights are ever free, so the bits are a mask.
+        let mask = Mask { bits: next.bits };
+        let row = next.number / 2;
+        out.push(Emitted { key, mask, row })?;
+        rows.take_out(row, key.principal, mask);
+        move_on(rows, key, mask, &mut queues);
+        free_after(rows, &queues, key, mask, &mut ready)?;
     }
     Ok(out)
 }
@@ -82,22 +73,6 @@ fn fill(rows: &Remaining<'_>, queues: &Queues, ready: &mut Ready) -> Result<(), 
         enter(rows, queues, Kind::Allow, Class::Users, right, ready)?;
     }
     Ok(())
-}
-
-/// Takes the least key that is free on some right, with all rights on which it is free, and removes their marks.
-fn pop<'a>(rows: &Remaining<'a>, ready: &mut Ready) -> Option<Emitted<'a>>
-    requires keys { FitsKeys (nothing_left rows.now) ready.old }
-    requires free { HoldsFree (marks (nothing_left rows.now) ready.old) rows.now }
-    ensures some { IfSome result (λ e.
-        TakesBits rows.now ready.old ready.new e.row (plain_key e.key) e.mask.bits) }
-    ensures none { IfNone result ((n : ℕ) → slice_index_or ready.old n 0 ≡ 0) }
-{
-    let next = ready.pop()?;
-    let key = rows.key_of(next.number);
-    // Only rights are ever free, so the bits are a mask.
-    let mask = Mask { bits: next.bits };
-    let row = next.number / 2;
-    Some(Emitted { key, mask, row })
 }
 
 /// Moves the queues of the rights of an emitted key to the first place that still waits, or to their ends.
@@ -190,29 +165,11 @@ fn walk(
             return Ok(());
         }
         if rows.has(link.place, right) {
-            add(rows, link.place, kind, right, ready)?;
+            ready.add(key_number(rows.row_at(link.place), kind), right)?;
         }
         at = link.next;
     }
     Ok(())
-}
-
-/// Marks a right of the ACE at a place as free.
-fn add(
-    rows: &Remaining<'_>,
-    place: usize,
-    kind: Kind,
-    right: Bit,
-    ready: &mut Ready,
-) -> Result<(), AllocError>
-    requires place { place < length rows.now }
-    requires kind { kind_here rows.now place ≡ kind }
-    requires keys { FitsKeys (nothing_left rows.now) ready.old }
-    ensures { OnOk result (ChangesMarks rows.now (AddsMark (key_here rows.now place) right.bit)
-        ready.old ready.new) }
-{
-    let number = key_number(rows.row_at(place), kind);
-    ready.add(number, right)
 }
 
 /// Returns the number of a key. Keys are numbered by row, and then by kind, so that the numbers are in the order of the

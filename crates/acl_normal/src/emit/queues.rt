@@ -1,14 +1,14 @@
 //! The queues of the places that wait, one for each kind, class and right.
 ghost use Rattle.std.specs.Prelude.{◌+◌, ◌<◌, ◌≡◌, ◌≢◌};
-ghost use Rattle.acl_normal.specs.Common.{Ace, AreQueues, has_bit, IfOk, is_users, length, List, mask_here, OnOk, slot_count, slot_of, true, vec_len};
+ghost use Rattle.acl_normal.specs.Common.{AreQueues, has_bit, IfOk, is_users, length, mask_here, OnOk, slot_count, slot_of, true, vec_len};
 ghost use Rattle.acl_normal.specs.internal.emit.Queues.{AreNoted, IsQueueAt, MovesOn, PutsPlace, head_in, place_in};
-ghost use Rattle.acl_normal.specs.internal.Limits.{slice_limit};
 ghost use Rattle.acl_normal.specs.internal.Places.{IsBlockedPast, IsClearTo, NoneWaitsTo, SomeWaitsPast};
 
 use crate::bits::next_right;
 use crate::class::Class;
 use crate::rows::remaining::Remaining;
 use crate::rows::waiting::{SLOTS, slot};
+use crate::whom::whom;
 use acl_perm::Kind;
 use acl_perm::internal::Bit;
 use std::alloc::{AllocError, Global};
@@ -37,23 +37,14 @@ impl Queues {
         ensures { IfOk result (λ queues. AreQueues rows.now queues) }
     {
         let count = rows.len();
-        let mut queues = Queues::new(alloc, count)?;
+        let mut links = Vec::with_capacity(alloc, count + 1)?;
+        links.push(Link { place: 0, next: 0 })?;
+        let heads = vec![in alloc; 0; SLOTS]?;
+        let mut queues = Queues { links, heads };
         for place in (0..count).rev() {
             queues.note(rows, place)?;
         }
         Ok(queues)
-    }
-
-    /// Returns empty queues, with room for a number of places.
-    fn new(alloc: Global, places: usize) -> Result<Queues, AllocError>
-        requires { places < slice_limit }
-        ensures { IfOk result (λ queues. (list : List Ace)
-            → AreNoted list (length list) 0 queues) }
-    {
-        let mut links = Vec::with_capacity(alloc, places + 1)?;
-        links.push(Link { place: 0, next: 0 })?;
-        let heads = vec![in alloc; 0; SLOTS]?;
-        Ok(Queues { links, heads })
     }
 
     /// Puts a place at the front of the queues of the rights that its ACE has.
@@ -62,12 +53,12 @@ impl Queues {
         requires noted { AreNoted rows.now (place + 1) 0 self.old }
         ensures { OnOk result (AreNoted rows.now place 0 self.new) }
     {
-        let kind = rows.kind_at(place);
-        let class = rows.class_at(place);
+        let ace = rows.ace_at(place);
+        let class = Class::of(whom(&ace));
         let mask = rows.mask_at(place);
         let mut from = 0;
         while let Some(right) = next_right(mask, from) {
-            self.put(place, slot(kind, class, right))?;
+            self.put(place, slot(ace.kind, class, right))?;
             from = right.bit + 1;
         }
         Ok(())

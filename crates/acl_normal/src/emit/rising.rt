@@ -44,25 +44,13 @@ pub(crate) fn cleared(alloc: Global, aces: &[AceRef<'_>], masks: &[Mask]) -> Res
     for (place, ace) in aces.iter().enumerate() {
         let mask = masks[place];
         if mask.bits != 0 {
-            list.push_accepted(cleared_ace(ace, mask))?;
+            // Only the flags that say whom an ACE names stay.
+            list.push_accepted(AceRef {
+                flags: flags_of(ace.principal()),
+                mask,
+                ..*ace
+            })?;
         }
     }
     Ok(list)
-}
-
-// The ACE with a mask, and with only those flags that say whom it names.
-fn cleared_ace<'a>(item: &AceRef<'a>, mask: Mask) -> AceRef<'a>
-    ensures { ace result ≡ cleared (record {
-      kind = item.now.kind;
-      flags = item.now.flags.bits;
-      mask = mask.bits;
-      who = item.now.who.now;
-    }) }
-{
-    AceRef {
-        kind: item.kind,
-        flags: flags_of(item.principal()),
-        mask,
-        who: item.who,
-    }
 }

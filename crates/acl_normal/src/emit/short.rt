@@ -1,16 +1,14 @@
 //! The emission of a short list: each turn looks at all that is left, so that it needs no queues and no heap.
-ghost use Rattle.std.specs.Prelude.{◌++◌, ◌∷◌, ◌≡◌, All};
+ghost use Rattle.std.specs.Prelude.{◌≡◌};
 ghost use Rattle.acl_perm.specs.Order.{kind_rank};
-ghost use Rattle.acl_normal.specs.Common.{[], Ace, IfOk, IfSome, IsEmission, List, emitted_ace, emitted_aces, nat_cmp, option_map, plain_key, principal, take_out};
-ghost use Rattle.acl_normal.specs.Keys.{compare_keys};
-ghost use Rattle.acl_normal.specs.Places.{without_bits};
+ghost use Rattle.acl_normal.specs.Common.{Ace, IfOk, IfSome, IsEmission, List, emitted_ace, emitted_aces, nat_cmp, option_map, principal, take_out};
 ghost use Rattle.acl_normal.specs.internal.emit.Emissions.{HasOnceColumns};
-ghost use Rattle.acl_normal.specs.internal.emit.Short.{AreFreeAfter, AreLeftOf, IsFirstLeft, IsLeftOf, lesser_of};
+ghost use Rattle.acl_normal.specs.internal.emit.Short.{AreLeftOf, IsFirstLeft, IsLeftOf, lesser_of};
 
 use crate::emit::emission::Emitted;
 use crate::normal_form::SHORT;
 use crate::reduce::needless::{no_later, noted, opposite};
-use acl_perm::{Kind, Mask};
+use acl_perm::Kind;
 use std::alloc::{AllocError, Global};
 use std::cmp::Ordering;
 
@@ -47,32 +45,19 @@ fn first_of<'a>(left: &[Emitted<'a>]) -> Option<Emitted<'a>>
         // Without rights an ACE is not free, and blocks no other.
         if item.mask.bits != 0 {
             let free = item.mask.difference(opposite(before, item.key));
-            first = with_free(first, item, free);
+            if free.bits != 0 {
+                first = Some(lesser(
+                    first,
+                    Emitted {
+                        mask: free,
+                        ..*item
+                    },
+                ));
+            }
             before = noted(before, item.key, item.mask);
         }
     }
     first
-}
-
-/// Returns what comes first, if one more ACE is free on these rights.
-fn with_free<'a>(first: Option<Emitted<'a>>, item: &Emitted<'a>, free: Mask) -> Option<Emitted<'a>>
-    requires { (xs : List Ace) × IfSome first (IsLeftOf xs) × IsLeftOf xs item.now }
-    ensures first { (seen : List Ace) → IsFirstLeft seen (option_map emitted_ace first.entry)
-        → AreFreeAfter seen (emitted_ace item.now) free.bits
-        → IsFirstLeft (seen ++ emitted_ace item.now ∷ []) (option_map emitted_ace result) }
-    ensures row { (xs : List Ace) → IfSome first.entry (IsLeftOf xs) → IsLeftOf xs item.now
-        → IfSome result (IsLeftOf xs) }
-{
-    if free.bits == 0 {
-        return first;
-    }
-    Some(lesser(
-        first,
-        Emitted {
-            mask: free,
-            ..*item
-        },
-    ))
 }
 
 /// Returns the one with the lesser key, or the key with the rights of both if they have one key.
@@ -86,7 +71,8 @@ fn lesser<'a>(first: Option<Emitted<'a>>, next: Emitted<'a>) -> Emitted<'a>
     let Some(first) = first else {
         return next;
     };
-    match compared(&first, &next) {
+    let kinds = kinds_compared(first.key.kind, next.key.kind);
+    match first.row.cmp(&next.row).then(kinds) {
         Ordering::Less => first,
         Ordering::Equal => Emitted {
             mask: first.mask.union(next.mask),
@@ -94,17 +80,6 @@ fn lesser<'a>(first: Option<Emitted<'a>>, next: Emitted<'a>) -> Emitted<'a>
         },
         Ordering::Greater => next,
     }
-}
-
-/// Compares two keys by the rows of their principals.
-fn compared(first: &Emitted<'_>, other: &Emitted<'_>) -> Ordering
-    requires { (xs : List Ace) × IsLeftOf xs first.now × IsLeftOf xs other.now }
-    ensures { result ≡ compare_keys (plain_key first.now.key) (plain_key other.now.key) }
-{
-    first
-        .row
-        .cmp(&other.row)
-        .then(kinds_compared(first.key.kind, other.key.kind))
 }
 
 fn kinds_compared(first: Kind, other: Kind) -> Ordering
@@ -124,21 +99,10 @@ fn take_from(left: &mut [Emitted<'_>], gone: &Emitted<'_>)
         let item = left[place];
         // Most ACEs are of other principals, and stay as they are.
         if item.row == gone.row {
-            left[place] = without(item, gone);
+            left[place] = Emitted {
+                mask: item.mask.difference(gone.mask),
+                ..item
+            };
         }
-    }
-}
-
-/// Returns what is left of one ACE without the rights of an emitted one of the same principal.
-fn without<'a>(item: Emitted<'a>, gone: &Emitted<'_>) -> Emitted<'a>
-    requires left { (xs : List Ace) × IsLeftOf xs item × IsLeftOf xs gone.now }
-    requires same { item.row ≡ gone.now.row }
-    ensures list { emitted_ace result ≡ without_bits (principal gone.now.key.principal)
-        gone.now.mask.bits (emitted_ace item.entry) }
-    ensures row { (xs : List Ace) → IsLeftOf xs item.entry → IsLeftOf xs result }
-{
-    Emitted {
-        mask: item.mask.difference(gone.mask),
-        ..item
     }
 }

@@ -2,7 +2,7 @@
 ghost use Rattle.std.specs.Prelude.{◌≡◌};
 ghost use Rattle.acl_normal.specs.Common.{[], aces_in, aces_with, AreRowNumbers, column, full, IfOk, IsAccepted, IsThinned, length, unshadowed, vec_len, ℕ};
 
-use crate::bits::{active, of_everyone};
+use crate::bits::of_everyone;
 use acl_nfs4::AceRef;
 use acl_perm::Mask;
 use std::alloc::{AllocError, Global};
@@ -28,7 +28,12 @@ pub(crate) fn first_masks(
     let mut masks = Vec::with_capacity(alloc, aces.len())?;
     for (place, ace) in aces.iter().enumerate() {
         let here = &mut seen[rows[place]];
-        let fresh = active(*ace).difference(here.union(everyone));
+        let active = if ace.takes_part() {
+            ace.mask
+        } else {
+            Mask::NONE
+        };
+        let fresh = active.difference(here.union(everyone));
         *here = here.union(fresh);
         masks.push(fresh)?;
         everyone = everyone.union(of_everyone(*ace, fresh));

@@ -1,7 +1,7 @@
 //! The second step of the reduction: it drops the rights that only repeat what everyone gets and that conflict with no
 //! later ACE.
 ghost use Rattle.std.specs.Prelude.{Bool, ◌&&◌, ◌||◌, ◌≡◌};
-ghost use Rattle.acl_normal.specs.Common.{aces_with, IsThinned, IsTidy, ace, column, default, default_at, everyone, false, has_bit, is_users, kind_eq, length, not, plain_key, principal_eq, principal_of, true, ℕ};
+ghost use Rattle.acl_normal.specs.Common.{aces_with, IsThinned, IsTidy, ace, column, default, default_at, everyone, has_bit, is_users, length, not, plain_key, ℕ};
 ghost use Rattle.acl_normal.specs.internal.Needed.{HasNoLater, NotesLater, class_mask, is_kept, opposes};
 ghost use Rattle.acl_normal.specs.Places.{same_class};
 ghost use Rattle.acl_normal.specs.internal.Reduced.{HasNeededColumns};
@@ -41,19 +41,6 @@ impl ByClass {
                 others: self.others.union(mask),
                 ..self
             },
-        }
-    }
-
-    /// Returns the rights of all principals that may overlap with a principal of a class. Users do not overlap with
-    /// users.
-    fn overlapping(self, class: Class) -> Mask
-        ensures { (b : ℕ) → has_bit result.bits b
-            ≡ (has_bit (class_mask self false) b
-            || (not (is_users class) && has_bit (class_mask self true) b)) }
-    {
-        match class {
-            Class::Users => self.others,
-            Class::Others => self.others.union(self.users),
         }
     }
 }
@@ -97,21 +84,15 @@ fn allowed_to_everyone(aces: &[AceRef<'_>], masks: &[Mask]) -> Mask
 {
     let mut allowed = Mask::NONE;
     for (place, ace) in aces.iter().enumerate() {
-        allowed = allowed.union(allowed_by(*ace, masks[place]));
+        let mask = masks[place];
+        let own = if ace.kind.is_allow() {
+            of_everyone(*ace, mask)
+        } else {
+            Mask::NONE
+        };
+        allowed = allowed.union(own);
     }
     allowed
-}
-
-/// Returns the mask if its ACE allows everyone, and otherwise no rights.
-fn allowed_by(item: AceRef<'_>, mask: Mask) -> Mask
-    ensures { (b : ℕ) → has_bit result.bits b ≡ (has_bit mask.bits b
-        && (principal_eq (principal_of (ace item.entry)) everyone
-        && kind_eq item.entry.kind Allow)) }
-{
-    match item.kind {
-        Kind::Allow => of_everyone(item, mask),
-        Kind::Deny => Mask::NONE,
-    }
 }
 
 /// Returns the rights of the ACEs after the last one: none.
@@ -148,10 +129,14 @@ fn needless(at: Key<'_>, mask: Mask, allowed: Mask, opposite: Mask) -> Mask
 pub(crate) fn opposite(later: Later, at: Key<'_>) -> Mask
     ensures { (b : ℕ) → has_bit result.bits b ≡ opposes later (plain_key at.entry) b }
 {
-    let class = Class::of(at.principal);
-    match at.kind {
-        Kind::Deny => later.allow.overlapping(class),
-        Kind::Allow => later.deny.overlapping(class),
+    let rights = match at.kind {
+        Kind::Deny => later.allow,
+        Kind::Allow => later.deny,
+    };
+    // Users do not overlap with users.
+    match Class::of(at.principal) {
+        Class::Users => rights.others,
+        Class::Others => rights.others.union(rights.users),
     }
 }
 

@@ -12,20 +12,13 @@ use std::alloc::{AllocError, Global};
 pub(crate) fn counted_rows(alloc: Global, aces: &[AceRef<'_>]) -> Result<Vec<usize>, AllocError>
     ensures { IfOk result (λ rows. AreRowNumbers (aces_in aces.now) rows.items) }
 {
-    let principals = headed_principals(alloc, aces)?;
-    counts(alloc, &principals)
-}
-
-// By place, the number of the principals that are below the one there.
-fn counts(alloc: Global, principals: &[HeadedPrincipal<'_>]) -> Result<Vec<usize>, AllocError>
-    ensures { IfOk result (λ counts. counts.items
-        ≡ map (λ p. count_below p (headed_names principals.now)) (headed_names principals.now)) }
-{
-    let mut counts = Vec::with_capacity(alloc, principals.len())?;
+    let named = headed_principals(alloc, aces)?;
+    let principals = named.as_slice();
+    let mut rows = Vec::with_capacity(alloc, principals.len())?;
     for principal in principals {
-        counts.push(count_below(principals, principal))?;
+        rows.push(count_below(principals, principal))?;
     }
-    Ok(counts)
+    Ok(rows)
 }
 
 // By place, whom the ACE names.

@@ -3,7 +3,7 @@ ghost use Rattle.std.specs.Prelude.{◌≡◌, drop, get_or, length, option_map,
 ghost use Rattle.acl_perm.specs.Order.{principal_cmp};
 ghost use Rattle.acl_perm.specs.Principal.{principal};
 ghost use Rattle.acl_nfs4.specs.internal.Progress.{IsBytes};
-ghost use Rattle.acl_normal.specs.internal.rows.Heads.{AllBegin, BeginsWith, HasHead, IsHeadOf, count_to, given_name, head_bytes, head_from, is_whole, more_bytes};
+ghost use Rattle.acl_normal.specs.internal.rows.Heads.{AllBegin, HasHead, IsHeadOf, count_to, given_name, head_bytes, head_from, is_whole, more_bytes};
 ghost use Rattle.acl_normal.specs.internal.Shown.{aces_in};
 
 use crate::whom::whom;
@@ -118,20 +118,11 @@ pub(crate) fn common_start<'a>(aces: &[AceRef<'a>]) -> &'a [u8]
         if start.len() < 4 {
             return &[];
         }
-        start = start_with(start, whom(ace));
+        if let Some(name) = given_name(whom(ace)) {
+            start = shared_start(start, name);
+        }
     }
     start
-}
-
-// The bytes of a start with which the name of the principal begins too, or all of them if it has no name.
-fn start_with<'a>(start: &'a [u8], p: Principal<'_>) -> &'a [u8]
-    ensures start { result.now ≡ take (length result.now) start.now }
-    ensures name { BeginsWith result.now (principal p.entry) }
-{
-    match given_name(p) {
-        Some(name) => shared_start(start, name),
-        None => start,
-    }
 }
 
 // The name of a user or of a group.

@@ -2,7 +2,6 @@
 //! not a line of the table of a right.
 ghost use Rattle.std.specs.Prelude.{◌&&◌, ◌≡◌, ◌==◌};
 ghost use Rattle.acl_normal.specs.Common.{aces_in, AreRowNumbers, false, IfNone, IfOk, IfSome, is_principal_of, IsRowOf, map, nat_cmp, principal, principal_here};
-ghost use Rattle.std.specs.List.{range_with_len};
 ghost use Rattle.std.specs.Cmp.Lexicographic.{slice_cmp};
 ghost use Rattle.std.specs.Ordering.{ordering_then};
 ghost use Rattle.std.specs.Str.{bytes_eq};
@@ -36,7 +35,10 @@ pub(crate) fn row_numbers(alloc: Global, aces: &[AceRef<'_>]) -> Result<RowNumbe
     ensures order { IfOk result (λ n. IsByPrincipal (aces_in aces.now) n.order.items) }
 {
     match rising_rows(alloc, aces)? {
-        Some(rows) => in_turn(alloc, aces, rows),
+        Some(rows) => {
+            let order = (0..aces.len()).collect(alloc)?;
+            Ok(RowNumbers { rows, order })
+        }
         None => sorted_rows(alloc, aces),
     }
 }
@@ -63,41 +65,16 @@ fn rising_rows(alloc: Global, aces: &[AceRef<'_>]) -> Result<Option<Vec<usize>>,
     Ok(Some(rows))
 }
 
-// The rows of a list whose principals are in order already, so that the places are too.
-fn in_turn(alloc: Global, aces: &[AceRef<'_>], rows: Vec<usize>) -> Result<RowNumbers, AllocError>
-    requires rows { AreRowNumbers (aces_in aces.now) rows.items }
-    requires order { DoNotFall (aces_in aces.now) }
-    ensures rows { IfOk result (λ n. AreRowNumbers (aces_in aces.now) n.rows.items) }
-    ensures order { IfOk result (λ n. IsByPrincipal (aces_in aces.now) n.order.items) }
-{
-    let order = first_places(alloc, aces.len())?;
-    Ok(RowNumbers { rows, order })
-}
-
-fn first_places(alloc: Global, count: usize) -> Result<Vec<usize>, AllocError>
-    ensures { IfOk result (λ v. v.items ≡ range_with_len 0 count) }
-{
-    (0..count).collect(alloc)
-}
-
 // The rows of a list whose principals are in no order.
 fn sorted_rows(alloc: Global, aces: &[AceRef<'_>]) -> Result<RowNumbers, AllocError>
     ensures rows { IfOk result (λ n. AreRowNumbers (aces_in aces.now) n.rows.items) }
     ensures order { IfOk result (λ n. IsByPrincipal (aces_in aces.now) n.order.items) }
 {
-    let sorted = by_principal(alloc, aces)?;
+    let mut sorted = headed_places(alloc, aces)?;
+    sorted.sort_unstable_by(|at, other| headed_compared(aces, at, other));
     let rows = rows_of(alloc, aces, &sorted)?;
     let order = places_of(alloc, &sorted)?;
     Ok(RowNumbers { rows, order })
-}
-
-// The places in the order of the principals.
-fn by_principal(alloc: Global, aces: &[AceRef<'_>]) -> Result<Vec<HeadedPlace>, AllocError>
-    ensures { IfOk result (λ v. AreSorted (aces_in aces.now) v.items) }
-{
-    let mut places = headed_places(alloc, aces)?;
-    places.sort_unstable_by(|at, other| headed_compared(aces, at, other));
-    Ok(places)
 }
 
 // Each place, with the head of the principal that its ACE names.

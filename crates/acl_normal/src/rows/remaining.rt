@@ -1,12 +1,11 @@
 //! What is left of a list while it is emitted: for each row, the rights that were not emitted yet.
 ghost use Rattle.std.specs.Prelude.{◌*◌, ◌<◌, ◌≡◌};
-ghost use Rattle.acl_normal.specs.Common.{IfNone, IfOk, IfSome, IsRowOf, ace, false, has_bit, is_principal_of, is_user, is_users, key_here, kind_here, length, mask_here, plain_key, principal, principal_here, principal_of, take_out, vec_len};
+ghost use Rattle.acl_normal.specs.Common.{IfNone, IfOk, IfSome, IsRowOf, ace, false, has_bit, is_principal_of, key_here, kind_here, length, mask_here, plain_key, principal, principal_here, principal_of, take_out, vec_len};
 ghost use Rattle.acl_normal.specs.Places.{first_at};
 ghost use Rattle.acl_normal.specs.internal.rows.Remaining.{HasNumbers, IsRemainder, reduced_aces};
 ghost use Rattle.acl_normal.specs.internal.rows.Rows.{IsFirstOfRow, IsNumberOf};
 ghost use Rattle.acl_normal.specs.internal.Limits.{list_limit};
 
-use crate::class::Class;
 use crate::rows::numbers::{RowNumbers, find_row};
 use crate::whom::whom;
 use acl_nfs4::AceRef;
@@ -162,16 +161,8 @@ impl<'a> Remaining<'a> {
         self.ace_at(place).kind
     }
 
-    /// Returns the class of the principal that the ACE at a place names.
-    pub(crate) fn class_at(&self, place: usize) -> Class
-        requires { place < length self.now }
-        ensures { is_users result ≡ is_user (principal_here self.now place) }
-    {
-        Class::of(whom(&self.ace_at(place)))
-    }
-
     /// Returns the ACE at a place, with all rights that play a part.
-    fn ace_at(&self, place: usize) -> AceRef<'a>
+    pub(crate) fn ace_at(&self, place: usize) -> AceRef<'a>
         requires { place < length self.now }
         ensures { (principal_of (ace result), result.kind) ≡ key_here self.now place }
     {

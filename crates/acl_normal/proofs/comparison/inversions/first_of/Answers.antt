@@ -1,9 +1,24 @@
 use borrow.Author.Count.{below_more}
-use Rattle.std.proofs.Common.{ap, arith, ◌∙◌}
-use Rattle.acl_normal.proofs.Common.{no_placing}
+use Rattle.std.proofs.Common.{ap, arith, false, rules, sym, tests, true, ◌∙◌, ◌≡◌}
+use Rattle.std.proofs.lemmas.Bool.{false≢true}
+use Rattle.std.proofs.lemmas.Iterator.{YieldsList-from_slice, cases_from_any}
+use Rattle.acl_normal.proofs.Common.{is_of_camp, no_placing}
 use Rattle.acl_normal.proofs.comparison.inversions.first_of.Goals as goal
 use Rattle.acl_normal.proofs.comparison.TableFacts.{first_of_camp, near_end, near_is, not_of_camp}
 use Rattle.acl_normal.specs.internal.comparison.PlaceTables.{is_inverting}
+
+pub returns-then-not-any : goal.returns-then-not-any
+returns-then-not-any c =
+    let none = cases_from_any _ _ _ (λ r. is_of_camp c.args.camp r ≡ true) (λ r. is_of_camp c.args.camp r ≡ false)
+    c.any.ensures.ran (YieldsList-from_slice c.args.placings.now cc) (λ x q k. search (rules, tests))
+    (λ x q k. search (rules, tests)) in
+    let all = rw c.if-not-any.true at none in
+    record {
+      within = omega arith;
+      before = λ k l is. absurd (false≢true
+          (sym (all k no_placing (omega arith) (omega (arith, l, c.requires.limit))) ∙ is));
+      at = λ l. absurd (omega (arith, l));
+    }
 
 pub returns-then-is_inverting : goal.returns-then-is_inverting
 returns-then-is_inverting c =

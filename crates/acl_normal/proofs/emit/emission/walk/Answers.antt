@@ -1,4 +1,8 @@
-use Rattle.acl_normal.proofs.Common.{arith, sym, ◌∙◌}
+use Rattle.std.proofs.Common.{◌<◌, length}
+use Rattle.acl_normal.proofs.emit.Marks.{bit_added, fits_written, number_at}
+use Rattle.acl_normal.proofs.rows.Rows.{row_below}
+use Rattle.acl_normal.proofs.unique.Outline.{outline_length}
+use Rattle.acl_normal.proofs.Common.{ap, arith, key_here, kind_rank, nothing_left, sym, ◌∙◌}
 use Rattle.acl_normal.proofs.emit.QueueChains.{reached_blocked, reached_falls, reached_free, reached_kind, reached_link, reached_past, reached_within, walk_over}
 use Rattle.acl_normal.proofs.emit.emission.walk.Goals as goal
 
@@ -19,26 +23,46 @@ returns-then-link-last c =
 pub has-requires : goal.has-requires
 has-requires c = reached_within c.loop-at.invariant.walks _ c.loop-at-test.true c.index-link.ensures
 
-pub add-requires-clause-place : goal.add-requires-clause-place
-add-requires-clause-place c = reached_within c.loop-at.invariant.walks _ c.loop-at-test.true c.index-link.ensures
+pub row_at-requires : goal.row_at-requires
+row_at-requires c = reached_within c.loop-at.invariant.walks _ c.loop-at-test.true c.index-link.ensures
 
-pub add-requires-clause-kind : goal.add-requires-clause-kind
-add-requires-clause-kind c =
-    reached_kind c.loop-at.invariant.walks _ c.loop-at-test.true c.index-link.ensures
-    (c.requires.queues.list.tidy.once c.args.right.bit)
-    (sym c.has.ensures ∙ c.if-has.true)
+pub key_number-requires : goal.key_number-requires
+key_number-requires c =
+    let xs = c.args.rows.now in
+    let row = row_below (key_here xs c.index-link.result.now.place).0 xs c.row_at.ensures.row.named in
+    omega (arith, c.row_at.ensures.list.few, row, c.row_at.ensures.row.is)
+
+pub add-requires : goal.add-requires
+add-requires c =
+    let xs = c.args.rows.now in
+    let kind = reached_kind c.loop-at.invariant.walks _ c.loop-at-test.true c.index-link.ensures
+    (c.requires.queues.list.tidy.once c.args.right.bit) (sym c.has.ensures ∙ c.if-has.true) in
+    let is = number_at (key_here xs c.index-link.result.now.place) xs c.row_at.result (kind_rank c.args.kind)
+    c.row_at.ensures.row (ap kind_rank (sym kind)) in
+    omega (arith, is.below, c.key_number.ensures.value, c.loop-at.invariant.keys.count, outline_length xs)
 
 pub loop-at-smaller-in_ok-add : goal.loop-at-smaller-in_ok-add
 loop-at-smaller-in_ok-add c = reached_falls c.loop-at.invariant.walks _ c.loop-at-test.true c.index-link.ensures
 
 pub loop-at-preserved-in_ok-add : goal.loop-at-preserved-in_ok-add
-loop-at-preserved-in_ok-add c = record {
-  walks = reached_free c.loop-at.invariant.walks _ c.loop-at-test.true c.index-link.ensures
-      (c.requires.queues.list.tidy.once c.args.right.bit)
-      (c.last_clear-last.ensures.clear _ c.if-link-last.false) (sym c.has.ensures ∙ c.if-has.true)
-      c.in_ok-add.ensures.marks;
-  keys = c.in_ok-add.ensures.keys;
-}
+loop-at-preserved-in_ok-add c =
+    let xs = c.args.rows.now in
+    let key = key_here xs c.index-link.result.now.place in
+    let kind = reached_kind c.loop-at.invariant.walks _ c.loop-at-test.true c.index-link.ensures
+    (c.requires.queues.list.tidy.once c.args.right.bit) (sym c.has.ensures ∙ c.if-has.true) in
+    let is = number_at key xs c.row_at.result (kind_rank c.args.kind) c.row_at.ensures.row (ap kind_rank (sym kind)) in
+    let number = c.key_number.ensures.value ∙ is.is in
+    let within : c.key_number.result < length c.loop-at.ready =
+    omega (arith, is.below, c.key_number.ensures.value, c.loop-at.invariant.keys.count, outline_length xs) in
+    record {
+      walks = reached_free c.loop-at.invariant.walks _ c.loop-at-test.true c.index-link.ensures
+          (c.requires.queues.list.tidy.once c.args.right.bit)
+          (c.last_clear-last.ensures.clear _ c.if-link-last.false) (sym c.has.ensures ∙ c.if-has.true)
+          (bit_added (nothing_left xs) c.loop-at.ready c.add.new.self _ c.args.right.bit key is.named number within
+          c.in_ok-add.ensures);
+      keys = fits_written (nothing_left xs) c.loop-at.ready c.add.new.self _ _ c.loop-at.invariant.keys
+          (record { key = key; named = is.named; is = number }) c.in_ok-add.ensures;
+    }
 
 pub loop-at-smaller : goal.loop-at-smaller
 loop-at-smaller c = reached_falls c.loop-at.invariant.walks _ c.loop-at-test.true c.index-link.ensures

@@ -1,5 +1,5 @@
 use Rattle.std.proofs.Common.{◌≡◌, ◌+◌, true}
-use Rattle.acl_normal.proofs.Common.{ap, AreNoted, arith, has_bit, is_user, is_users, mask_here, principal_here, slot_of, subst, sym, ◌∙◌}
+use Rattle.acl_normal.proofs.Common.{ap, AreNoted, ColumnKey, arith, has_bit, is_user, is_users, mask_here, principal_here, slot_of, subst, sym, ◌∙◌}
 use Rattle.acl_normal.specs.internal.Places.{kind_here}
 use Rattle.acl_normal.specs.internal.emit.Queues.{PutsPlace}
 use Rattle.acl_normal.proofs.emit.NotedQueues.{noted_on, noted_place, noted_up_to}
@@ -18,8 +18,9 @@ loop-right-preserved c =
     let has : has_bit (mask_here xs place) b ≡ true =
     ap (λ v. has_bit v b) (sym c.mask_at-mask.ensures.mask) ∙ next.has in
     let slot : c.slot.result ≡ slot_of (kind_here xs place) (is_user (principal_here xs place)) b =
-    c.slot.ensures ∙ ap (λ k. slot_of k (is_users c.class_at-class.result) b) c.kind_at-kind.ensures
-    ∙ ap (λ u. slot_of (kind_here xs place) u b) c.class_at-class.ensures in record {
+    c.slot.ensures ∙ ap (λ (k : ColumnKey). slot_of k.1 (is_users c.of-class.result) b) c.ace_at-ace.ensures
+    ∙ ap (λ u. slot_of (kind_here xs place) u b)
+    (c.of-class.ensures ∙ ap is_user (c.whom.ensures ∙ ap (λ (k : ColumnKey). k.0) c.ace_at-ace.ensures)) in record {
       noted = noted_on (kind_here xs place) (is_user (principal_here xs place)) xs place b old c.put.new.self
           (waits_here b xs place c.mask_at-mask.ensures.list.tidy.quiet has) c.in-Some.right.within
           (subst (λ v. PutsPlace place v old c.put.new.self) slot c.in_ok-put.ensures) before;

@@ -1,6 +1,6 @@
 use Rattle.acl_normal.proofs.Common.{aces_in, aces_with, all_cleared, emitted_aces, left, take, ◌≡◌}
 use Rattle.acl_normal.specs.internal.emit.Short.{AreLeftOf}
-use Rattle.acl_normal.proofs.short_form.left_of.Given as goal
+use Rattle.acl_normal.proofs.short_form.emitted.Given as goal
 
 -- what is left of the places so far, and the rows of their principals
 abbrev pub invariant-loop-place : goal.invariant-loop-place

@@ -1,7 +1,7 @@
 use Rattle.acl_normal.proofs.Common.{AreQueues, count_left, FitsKeys, marks, nothing_left}
 use Rattle.acl_normal.proofs.emit.Drained.{Drains}
 use Rattle.acl_normal.proofs.emit.InRows.{KeepsRows}
-use Rattle.acl_normal.proofs.emit.emission.drain.Given as goal
+use Rattle.acl_normal.proofs.emit.emission.normalize_left.Given as goal
 
 abbrev pub invariant-emitted : goal.invariant-emitted
 invariant-emitted l = record {

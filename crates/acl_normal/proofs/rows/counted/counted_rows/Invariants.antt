@@ -1,9 +1,9 @@
 use Rattle.acl_normal.proofs.Common.{map, take, ◌≡◌}
 use Rattle.acl_normal.specs.internal.rows.Counted.{count_below, headed_names}
-use Rattle.acl_normal.proofs.rows.counted.counts.Given as goal
+use Rattle.acl_normal.proofs.rows.counted.counted_rows.Given as goal
 
 -- the counts of the principals so far
 abbrev pub invariant-loop-principal : goal.invariant-loop-principal
 invariant-loop-principal l =
-    l.counts.items ≡ map (λ p. count_below p (headed_names l.principals))
+    l.rows.items ≡ map (λ p. count_below p (headed_names l.principals))
     (headed_names (take l.principal-index l.principals))
