@@ -1,5 +1,5 @@
 -- Faults of names, of lists and of names without an id are failures of a call over all three.
-use Rattle.std.proofs.Common.{◌≡◌, ℕ, List, Option, Some, Err, inl, inr, refl}
+use Rattle.std.proofs.Common.{ℕ, List, Err, inl, inr, refl}
 use Rattle.acl_perm.specs.Profile.{Profile}
 use Rattle.acl_posix.specs.Names.{Table, empty_table}
 use Rattle.acl_nfs4.specs.Ace.{Ace}

@@ -1,5 +1,5 @@
 -- Faults of names, of lists and of lists without a POSIX ACL are failures of a call over all three.
-use Rattle.std.proofs.Common.{◌≡◌, ℕ, List, Err, inl, inr, refl}
+use Rattle.std.proofs.Common.{ℕ, List, Err, inl, inr, refl}
 use Rattle.acl_perm.specs.Profile.{full}
 use Rattle.acl_posix.specs.Names.{Table, empty_table}
 use Rattle.acl_nfs4.specs.Ace.{Ace}
@@ -10,7 +10,6 @@ use Rattle.acl_eval.specs.PosixOfList.{IsToPosixFault}
 use Rattle.acl_eval.specs.declared.posix_shape.ShapeFault.{ShapeFault}
 use Rattle.acl_eval.specs.declared.posix_shape.ShapeFault.TheVariants as shape
 use Rattle.aclck_c.specs.Names.{AreNames, names_added}
-use Rattle.aclck_c.specs.ToPosix.{shape_refusal}
 use Rattle.aclck_c.specs.declared.failure.Failure.{Failure}
 use Rattle.aclck_c.specs.declared.failure.Failure.TheVariants as failure
 use Rattle.aclck_c.specs.declared.posix.names.RawName.{RawName}

@@ -1,11 +1,11 @@
 -- Faults of names and of values of POSIX forms are failures of a call over both.
-use Rattle.std.proofs.Common.{◌≡◌, ◌⊎◌, ℕ, List, Option, Some, None, Err, inl, inr, refl}
+use Rattle.std.proofs.Common.{◌≡◌, ◌⊎◌, ℕ, Option, Some, None, Err, inl, inr, refl}
 use Rattle.acl_posix.specs.Names.{Table, empty_table}
 use Rattle.acl_forms.specs.ReadFaults.{no_memory_left}
 use Rattle.acl_forms.specs.declared.fault.ReadFault.{ReadFault}
 use Rattle.aclck_c.specs.FormValues.{value_refusal}
 use Rattle.aclck_c.specs.Names.{AreGoodNames, AreNames, names_added}
-use Rattle.aclck_c.specs.PosixForms.{IsPosixFaultAt, IsRefusedPosixValue, IsRefusedPosixValueIn}
+use Rattle.aclck_c.specs.PosixForms.{IsPosixFaultAt, IsRefusedPosixValueIn}
 use Rattle.aclck_c.specs.declared.failure.Failure.{Failure}
 use Rattle.aclck_c.specs.declared.failure.Failure.TheVariants as failure
 use Rattle.aclck_c.specs.declared.posix.file.RawPosixText.{RawPosixText}

@@ -1,20 +1,17 @@
 -- What a call promises that exchanges names, by what it made.
-use Rattle.std.proofs.Common.{◌≡◌, ◌∙◌, ℕ, ap, Bool, Err, inr, List, None, refl, Result, Some, subst, sym}
+use Rattle.std.proofs.Common.{◌≡◌, ◌∙◌, ℕ, ap, Bool, List, Result, subst}
 use Rattle.std.specs.Prelude.{⊤, IfErr, IfOk}
 use Rattle.std.specs.Global.{Vec}
 use Rattle.acl_perm.specs.Profile.{Profile}
 use Rattle.acl_nfs4.specs.Ace.{Ace}
-use Rattle.acl_nfs4.specs.Renamed.{bad_row, IsRenameFault, MayRename, refused_merge, renamed, NameRow}
+use Rattle.acl_nfs4.specs.Renamed.{MayRename, renamed, NameRow}
 use Rattle.acl_nfs4.specs.Spelling.{spelling, Xdr}
-use Rattle.acl_nfs4.specs.declared.list.renaming.RenameFault.{RenameFault}
-use Rattle.acl_nfs4.specs.declared.list.renaming.RenameFault.TheVariants as fault
 use Rattle.aclck_c.specs.Renaming.{AreRenamings, IsRefusedRenaming, IsRenamingTable, MakesRenamed, rows_from, WritesRenamed}
 use Rattle.aclck_c.specs.declared.failure.Failure.{Failure}
-use Rattle.aclck_c.specs.declared.failure.Failure.TheVariants as failure
 use Rattle.aclck_c.specs.declared.nfs4.renamed.RawRenaming.{RawRenaming}
 use Rattle.aclck_c.specs.declared.refusal.Refusal.{Refusal}
 use Rattle.aclck_c.specs.internal.Endings.{EndsCall}
-use Rattle.aclck_c.specs.internal.Renaming.{IsRenamingFailure, of_rename_fault, ReadsRows}
+use Rattle.aclck_c.specs.internal.Renaming.{IsRenamingFailure}
 use Rattle.aclck_c.proofs.Endings.{bad_argument, is_known_status, reports_fault, writes_bytes}
 
 -- a call that made the bytes, with options that are good
@@ -38,29 +35,6 @@ writes_renamed {p} {q} {may_merge} {may} {list} {table} {AreGood} {made} same al
       good = λ _. good;
       known = is_known_status made ends;
     }
-
--- why the rows of a table are not read
-pub rows_fail : (p : Profile) (may_merge : Bool) (bytes : List ℕ) (table : List RawRenaming) (f : Failure)
-    → ReadsRows table (Err f) → IsRenamingFailure p may_merge bytes table f
-rows_fail p may_merge bytes table failure.BadArgument h = λ good. h good.sorts
-rows_fail p may_merge bytes table (failure.Refused shown) h = absurd h
-rows_fail p may_merge bytes table failure.Memory h = tt
-
--- why the names are not exchanged
-pub names_fail : (p : Profile) (may_merge : Bool) (bytes : List ℕ) (table : List RawRenaming) (rows : List NameRow)
-    (list : List Ace) (f : RenameFault) → Xdr p list bytes → AreRenamings table → rows ≡ rows_from table
-    → IsRenameFault rows may_merge list f → IsRenamingFailure p may_merge bytes table (of_rename_fault f)
-names_fail p may_merge bytes table rows list (fault.Row place) x sorts same h = λ good.
-    let some : None ≡ Some place = sym good.rows ∙ ap bad_row (sym same) ∙ h in absurd cc
-names_fail p may_merge bytes table rows list (fault.Merged place) x sorts same h = inr (record {
-  list = list;
-  spelled = x;
-  good = record { sorts = sorts; rows = ap bad_row (sym same) ∙ h.0 };
-  place = place;
-  found = ap (λ (t : List NameRow). refused_merge t may_merge list) (sym same) ∙ h.1;
-  is = refl;
-})
-names_fail p may_merge bytes table rows list fault.Memory x sorts same h = tt
 
 -- the bytes of the list with its names exchanged
 pub names_made : (p : Profile) (may_merge : Bool) (bytes : List ℕ) (table : List RawRenaming) (rows : List NameRow)

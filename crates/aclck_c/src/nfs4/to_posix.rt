@@ -113,10 +113,7 @@ fn bound_from(number: u32) -> Option<u16>
     ensures known { IsSome result ↔ (number ≤ greatest_bound) }
     ensures value { IfSome result (λ most. most ≡ number) }
 {
-    if number > 65_535 {
-        return None;
-    }
-    Some(number as u16)
+    u16::try_from(number).ok()
 }
 
 // The entries of the ACL of a list, and what is lost with it.

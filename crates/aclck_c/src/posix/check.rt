@@ -83,14 +83,11 @@ pub(crate) fn asked(question: &RawPosixQuestion<'_>) -> Option<PosixRequest>
     ensures user { IfSome result (λ r. r.user.value ≡ question.now.user) }
     ensures want { IfSome result (λ r. r.want.bits ≡ question.now.want) }
 {
-    if question.want > 7 {
-        return None;
-    }
     Some(PosixRequest {
         owner: Id::new(question.owner)?,
         group: Id::new(question.group)?,
         user: Id::new(question.user)?,
-        want: Perm::new(question.want as u8)?,
+        want: Perm::new(u8::try_from(question.want).ok()?)?,
     })
 }
 
