@@ -19,7 +19,7 @@ use Rattle.acl_eval.specs.Scan.{without}
 use Rattle.acl_eval.specs.declared.inherit.ChildKind.{ChildKind}
 use Rattle.acl_eval.specs.declared.inherit.ChildKind.TheVariants.{File, Directory}
 use Rattle.acl_eval.proofs.Children.{child_has, child_lacks}
-use Rattle.acl_eval.proofs.ChmodGrants.{stays}
+use Rattle.acl_eval.proofs.ChmodAces.{stays}
 use Rattle.std.specs.Prelude.{◌-◌}
 
 -- ---- one list after the other

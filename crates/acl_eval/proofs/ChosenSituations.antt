@@ -11,7 +11,8 @@ use Rattle.acl_posix.specs.Tag.{Tag, user_obj, user, group_obj, group, mask, oth
 use Rattle.acl_posix.specs.Valid.{IsValid}
 use Rattle.acl_eval.specs.internal.LossBody.{AreKept, IsKeptFor, IsKeptWith, LossSearch, are_two_users, chosen_object, chosen_requester, chosen_user, groups_for, is_owner_tag, user_or}
 use Rattle.acl_eval.specs.internal.ShapeBody.{column_decided_by, has_tag, tag_meets}
-use Rattle.acl_eval.proofs.LostGrants.{IsWithin, denier, first_allow, first_allows}
+use Rattle.acl_eval.proofs.FewerMatches.{IsWithin, first_allow, first_allows}
+use Rattle.acl_eval.proofs.LostGrants.{denier}
 use Rattle.acl_eval.proofs.ShapeChecks.{choice, choice_is}
 use Rattle.acl_eval.proofs.ValidChecks.{valid_is_complete}
 use Rattle.acl_eval.proofs.FreeIds.{is_member-append_left, is_member-append_right}

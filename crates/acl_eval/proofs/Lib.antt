@@ -11,6 +11,8 @@ pub mod PreparedLists
 pub mod Same
 pub mod GrantedRights
 pub mod Unknowns
+pub mod UnknownMasks
+pub mod Assignments
 pub mod Requests
 pub mod RightsOf
 pub mod Children
@@ -34,6 +36,7 @@ pub mod Parts
 pub mod Accepted
 pub mod BridgeWeight
 pub mod ListChmod
+pub mod ChmodAces
 pub mod ChmodGrants
 pub mod ChmodChildren
 pub mod ResolvedLists
@@ -49,9 +52,14 @@ pub mod AlwaysDecides
 pub mod ShapeRights
 pub mod ShapeChecks
 pub mod ShapeBuilding
-pub mod NoGreatest
+pub mod SoundRules
+pub mod ExampleAcls
+pub mod UserCase
+pub mod PermissionsCase
+pub mod GroupsCase
 pub mod ListNames
 pub mod Losses
+pub mod KeptEntries
 pub mod JudgedEntries
 pub mod ShapesLeft
 pub mod NamesToGo
@@ -63,6 +71,7 @@ pub mod PruningEnds
 pub mod TagMatchings
 pub mod RealMatchings
 pub mod PruningSituations
+pub mod AclShapes
 pub mod PruningSingles
 pub mod PruningMaximal
 pub mod PruningExact
@@ -78,9 +87,12 @@ pub mod PosixOfLists
 pub mod OwnerKeys
 pub mod OwnerLists
 pub mod OwnerShapes
+pub mod OwnerColumns
 pub mod OwnerEnds
+pub mod FewerMatches
 pub mod LostGrants
 pub mod ChosenSituations
 pub mod LossTags
 pub mod UnusedIds
-pub mod LossAnswers
+pub mod LossSearches
+pub mod LossOfLists

@@ -26,12 +26,14 @@ use Rattle.acl_eval.specs.internal.OwnerBody.{owner_in}
 use Rattle.acl_eval.specs.declared.tag_column.Columns.{Columns}
 use Rattle.acl_eval.proofs.Losses.{but_keeps, member_but}
 use Rattle.acl_eval.proofs.OwnerLists.{OwnerRights, list_for, list_for_length}
-use Rattle.acl_eval.proofs.OwnerShapes.{IsFor, Lacks, RuleFor, always_all, lacks_at_end, looks_home, looks_moved, owner_looks, part_lacks, to_known}
+use Rattle.acl_eval.proofs.OwnerShapes.{IsFor, Lacks, always_all, lacks_at_end, looks_home, looks_moved, owner_looks, part_lacks, to_known}
+use Rattle.acl_eval.proofs.OwnerColumns.{RuleFor}
 use Rattle.acl_eval.proofs.Singles.{single_small}
 use Rattle.acl_eval.proofs.PruningGroups.{with_all_groups, with_fewer_groups}
 use Rattle.acl_eval.proofs.PruningKept.{looks_of}
 use Rattle.acl_eval.proofs.PruningMaximal.{longer_is_maximal}
-use Rattle.acl_eval.proofs.PruningSituations.{IsSmall, among_part, among_shape, among_small, is_small, only_asked, shape_among, small_at_end, with_ids_only}
+use Rattle.acl_eval.proofs.PruningSituations.{IsSmall, is_small, small_at_end}
+use Rattle.acl_eval.proofs.AclShapes.{among_part, among_shape, among_small, only_asked, shape_among, with_ids_only}
 use Rattle.acl_eval.proofs.ShapeChecks.{all_contain, granted, holding, holds, looked, mask_keeps}
 use Rattle.acl_eval.proofs.ValidChecks.{mask_contains}
 

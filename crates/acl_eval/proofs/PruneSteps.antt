@@ -21,7 +21,8 @@ use Rattle.acl_eval.specs.internal.ShapeBody.{AreColumns, most_names}
 use Rattle.acl_eval.specs.declared.judged_entry.JudgedEntry.{JudgedEntry}
 use Rattle.acl_eval.specs.declared.tag_column.Columns.{Columns}
 use Rattle.acl_eval.proofs.Passes.{eq_by_cmp-refl}
-use Rattle.acl_eval.proofs.Losses.{entries_decide, out_size}
+use Rattle.acl_eval.proofs.Losses.{out_size}
+use Rattle.acl_eval.proofs.KeptEntries.{entries_decide}
 use Rattle.acl_eval.proofs.ShapeBuilding.{length-ids, id_at}
 use Rattle.acl_eval.proofs.ShapesLeft.{all_pass, entry_there, filtered, first_found, is_kept, left_ids, none_found, out_shape, picked, same_shape, shape_with}
 use Rattle.acl_eval.proofs.NamesToGo.{entries_stand, judged_out, stands_if}

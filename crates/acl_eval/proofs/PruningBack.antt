@@ -15,7 +15,8 @@ use Rattle.acl_eval.proofs.Singles.{single_small}
 use Rattle.acl_eval.proofs.PruningGroups.{with_all_groups, with_fewer_groups}
 use Rattle.acl_eval.proofs.PruningMaximal.{end_is_maximal}
 use Rattle.acl_eval.proofs.PruningSets.{no_more_sets}
-use Rattle.acl_eval.proofs.PruningSituations.{among_shape, among_small, is_small, only_asked, shape_among, small_at_end, with_ids_only}
+use Rattle.acl_eval.proofs.PruningSituations.{is_small, small_at_end}
+use Rattle.acl_eval.proofs.AclShapes.{among_shape, among_small, only_asked, shape_among, with_ids_only}
 use Rattle.acl_eval.proofs.ShapeChecks.{best_sound}
 
 -- a single permission that the last ACL grants, the first grants

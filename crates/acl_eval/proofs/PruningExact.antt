@@ -36,7 +36,8 @@ use Rattle.acl_eval.proofs.Losses.{no_longer}
 use Rattle.acl_eval.proofs.Matchings.{IsMatching, IsRest, Looks, Matching}
 use Rattle.acl_eval.proofs.PruningEnds.{part_above}
 use Rattle.acl_eval.proofs.PruningMaximal.{last_within}
-use Rattle.acl_eval.proofs.PruningSituations.{IsSmall, agree_gives, all_ids, among_part, among_shape, asked_matching, best_grants, gives_from, gives_of, granted_is, ids_of_list, ids_of_second, is_granted, is_small, listed, real_for, shape_among, sound_entry, steps_of, most_listed}
+use Rattle.acl_eval.proofs.PruningSituations.{IsSmall, agree_gives, all_ids, asked_matching, gives_from, gives_of, granted_is, ids_of_list, ids_of_second, is_granted, is_small, listed, real_for, steps_of, most_listed}
+use Rattle.acl_eval.proofs.AclShapes.{among_part, among_shape, best_grants, shape_among, sound_entry}
 use Rattle.acl_eval.proofs.PruningSteps.{Gives}
 use Rattle.acl_eval.proofs.RealMatchings.{AgreeAt, agree_back, agree_granted, column_of, filter_member, put_agrees, with_bit}
 use Rattle.acl_eval.proofs.ShapeChecks.{best_sound}

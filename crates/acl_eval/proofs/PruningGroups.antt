@@ -8,7 +8,8 @@ use Rattle.acl_posix.specs.Texts.{IsAcl}
 use Rattle.acl_eval.specs.ToPosix.{EntryShape, HasShape}
 use Rattle.acl_eval.specs.internal.ShapeBody.{tag_meets}
 use Rattle.acl_eval.proofs.PruningKept.{looks_from, looks_of}
-use Rattle.acl_eval.proofs.PruningSituations.{IsSmall, shape_within, small_agree, with_ids_only}
+use Rattle.acl_eval.proofs.PruningSituations.{IsSmall}
+use Rattle.acl_eval.proofs.AclShapes.{shape_within, small_agree, with_ids_only}
 use Rattle.acl_eval.proofs.RealMatchings.{agree_back, agree_looks}
 use Rattle.acl_eval.proofs.ShapeChecks.{all_contain, granted, looked}
 

@@ -12,7 +12,8 @@ use Rattle.acl_eval.specs.Pruning.{IsNameOf, LosesNothing, Prunes, none, next, t
 use Rattle.acl_eval.specs.PruningLaws.{HasFewIds}
 use Rattle.acl_eval.specs.ToPosix.{AlwaysHas, EntryShape, is_in_class, is_in_shape, looks_at}
 use Rattle.acl_eval.specs.internal.ShapeBody.{tag_meets}
-use Rattle.acl_eval.proofs.Losses.{IsPart, entries_decide, out_part, out_size, part_has}
+use Rattle.acl_eval.proofs.Losses.{IsPart, out_part, out_size, part_has}
+use Rattle.acl_eval.proofs.KeptEntries.{entries_decide}
 use Rattle.acl_eval.proofs.Matchings.{IsRest, Looks, looks_part, part_itself, part_of_part}
 use Rattle.acl_eval.proofs.ShapeChecks.{any_member, class_parts, some_member}
 

@@ -12,7 +12,8 @@ use Rattle.acl_eval.specs.Pruning.{LosesNothing, Prunes, PrunesTo, ShapeGrants, 
 use Rattle.acl_eval.specs.PruningLaws.{EndsAlike, GrantSamePermissions, HasFewIds}
 use Rattle.acl_eval.specs.ToPosix.{AlwaysHas, EntryShape, IsBest}
 use Rattle.acl_eval.proofs.PruningOrder.{one_end}
-use Rattle.acl_eval.proofs.PruningSituations.{IsSmall, best_grants, is_small, listed, loses_of, most_listed, small_at_end, sound_entry, steps_of}
+use Rattle.acl_eval.proofs.PruningSituations.{IsSmall, is_small, listed, loses_of, most_listed, small_at_end, steps_of}
+use Rattle.acl_eval.proofs.AclShapes.{best_grants, sound_entry}
 use Rattle.acl_eval.proofs.PruningSteps.{IsPruned}
 use Rattle.acl_eval.proofs.ShapeChecks.{best_sound}
 use Rattle.acl_eval.proofs.TagMatchings.{granted_to, one_group_denies}

@@ -14,7 +14,8 @@ use Rattle.acl_eval.proofs.Losses.{IsPart}
 use Rattle.acl_eval.proofs.Matchings.{IsMatching, Matching}
 use Rattle.acl_eval.proofs.PruningEnds.{end_part, part_above}
 use Rattle.acl_eval.proofs.PruningSingles.{below_singles, pruned_singles, singles_deny, granted_single, steps_singles}
-use Rattle.acl_eval.proofs.PruningSituations.{among_part, among_shape, among_small, below_at, best_grants, gives_from, gives_of, grants_no_more, is_small, listed, shape_among, small_at_end, sound_entry, steps_of, most_listed}
+use Rattle.acl_eval.proofs.PruningSituations.{below_at, gives_from, gives_of, is_small, listed, small_at_end, steps_of, most_listed}
+use Rattle.acl_eval.proofs.AclShapes.{among_part, among_shape, among_small, best_grants, grants_no_more, shape_among, sound_entry}
 use Rattle.acl_eval.proofs.PruningSteps.{Gives}
 use Rattle.acl_eval.proofs.TagMatchings.{granted_to}
 

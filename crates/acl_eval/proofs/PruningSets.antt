@@ -30,7 +30,8 @@ use Rattle.acl_eval.proofs.PruningGroups.{with_all_groups, with_fewer_groups}
 use Rattle.acl_eval.proofs.PruningKept.{looks_from, looks_of}
 use Rattle.acl_eval.proofs.PruningMaximal.{last_within}
 use Rattle.acl_eval.proofs.PruningSingles.{execute_within, read_within, single_right, write_within}
-use Rattle.acl_eval.proofs.PruningSituations.{IsSmall, all_ids, agree_gives, among_part, among_shape, among_small, asked_matching, gives_of, ids_of_first, ids_of_list, is_granted, is_small, only_asked, real_for, shape_among, small_at_end, sound_entry, with_ids_only, listed, most_listed}
+use Rattle.acl_eval.proofs.PruningSituations.{IsSmall, all_ids, agree_gives, asked_matching, gives_of, ids_of_first, ids_of_list, is_granted, is_small, real_for, small_at_end, listed, most_listed}
+use Rattle.acl_eval.proofs.AclShapes.{among_part, among_shape, among_small, only_asked, shape_among, sound_entry, with_ids_only}
 use Rattle.acl_eval.proofs.PruningSteps.{Gives, HasAlways, alone_gives, has_part}
 use Rattle.acl_eval.proofs.RealMatchings.{agree_back, agree_granted, agree_looks}
 use Rattle.acl_eval.proofs.ShapeChecks.{all_contain, best_sound, granted, held, holding, holds, looked, some_member}

@@ -12,11 +12,12 @@ use Rattle.acl_eval.specs.Pruning.{is_shared, taken_out}
 use Rattle.acl_eval.specs.ToPosix.{EntryShape, is_in_shape}
 use Rattle.acl_eval.proofs.Passes.{eq_by_cmp-refl}
 use Rattle.acl_eval.proofs.SituationIds.{HasIds, entry_id}
-use Rattle.acl_eval.proofs.Losses.{IsPart, but_keeps, member_but, out_part, part_has, part_ids, not_owning}
+use Rattle.acl_eval.proofs.Losses.{IsPart, but_keeps, member_but, out_part, part_has, part_ids}
+use Rattle.acl_eval.proofs.KeptEntries.{not_owning}
 use Rattle.acl_eval.proofs.Matchings.{IsMatching, IsRest, Looks, Matching, also, gone, looks_part, looks_rest, looks_there, moved, no_users, no_users_matching, one_user, out_differs, out_lacks, part_of_part, rest_part, IsTag-same}
 use Rattle.acl_eval.proofs.PruningEnds.{OneGroupDenies}
 use Rattle.acl_eval.proofs.PruningOrder.{below_by_entries, looks_one, one_end}
-use Rattle.acl_eval.proofs.PruningSituations.{member_of_two}
+use Rattle.acl_eval.proofs.AclShapes.{member_of_two}
 use Rattle.acl_eval.proofs.PruningSteps.{Below, Gives, Granting, IsPruned, Steps, has_part, no_step, not_owner, one_more, steps_part}
 use Rattle.acl_eval.proofs.FreeIds.{is_member-append_left, is_member-append_right}
 

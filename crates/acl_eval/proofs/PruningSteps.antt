@@ -11,7 +11,8 @@ use Rattle.acl_eval.specs.Pruning.{is_shared, taken_out}
 use Rattle.acl_eval.specs.ToPosix.{EntryShape, is_in_shape}
 use Rattle.acl_eval.proofs.Passes.{eq_by_cmp-refl}
 use Rattle.acl_eval.proofs.SituationIds.{HasIds, entry_id}
-use Rattle.acl_eval.proofs.Losses.{IsPart, out_part, part_has, part_ids, not_owning}
+use Rattle.acl_eval.proofs.Losses.{IsPart, out_part, part_has, part_ids}
+use Rattle.acl_eval.proofs.KeptEntries.{not_owning}
 use Rattle.acl_eval.proofs.Matchings.{IsMatching, IsRest, Looks, Matching, also, also_matching, alone, alone_looks, alone_matching, alone_only, gone, looks_part, looks_there, moved, out_differs, part_itself, part_of_part, rest_shared}
 
 -- what is granted: some permissions, if these principals match

@@ -23,7 +23,8 @@ use Rattle.acl_eval.specs.Unknown.{AlwaysAnswers, Assignment, GrantsUnder, MayAn
 use Rattle.acl_eval.specs.internal.RequestBody.{AllowsFrom, ArePassed, HasPassed, IsOneMore, LeavesOut, MayBeGranted, Says, SaysAce, all_but, applies_but, is_open_name, is_out, open_names}
 use Rattle.acl_eval.specs.declared.requesting.Step.{Step}
 use Rattle.acl_eval.specs.declared.requesting.Step.TheVariants.{Granted, Denied, Against}
-use Rattle.acl_eval.proofs.Unknowns.{rest_is, answer_here, answer_passes, answer_skips, match_known, match_unknown, deny_allow, none_allow}
+use Rattle.acl_eval.proofs.Unknowns.{answer_here, answer_passes, answer_skips, match_known, match_unknown}
+use Rattle.acl_eval.proofs.Assignments.{rest_is, deny_allow, none_allow}
 
 -- ---- ACEs that do not decide
 

@@ -1,4 +1,4 @@
-use Rattle.acl_eval.proofs.LossAnswers.{sound_is_exact}
+use Rattle.acl_eval.proofs.LossSearches.{sound_is_exact}
 use Rattle.acl_eval.proofs.laws.exact_if_nothing_is_lost.Goals as goal
 
 pub returns : goal.returns

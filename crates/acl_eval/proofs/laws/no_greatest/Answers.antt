@@ -1,4 +1,6 @@
-use Rattle.acl_eval.proofs.NoGreatest.{groups_case, permissions_case, user_case}
+use Rattle.acl_eval.proofs.UserCase.{user_case}
+use Rattle.acl_eval.proofs.PermissionsCase.{permissions_case}
+use Rattle.acl_eval.proofs.GroupsCase.{groups_case}
 use Rattle.acl_eval.proofs.laws.no_greatest.Goals as goal
 
 pub returns-clause-users : goal.returns-clause-users

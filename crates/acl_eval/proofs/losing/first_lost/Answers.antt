@@ -1,5 +1,6 @@
 use Rattle.std.proofs.Common.{◌∙◌}
-use Rattle.acl_eval.proofs.LossAnswers.{answer_kept, answer_lost, found_at, found_read, found_write, search_is}
+use Rattle.acl_eval.proofs.LossSearches.{found_read, found_write}
+use Rattle.acl_eval.proofs.LossOfLists.{answer_kept, answer_lost, found_at, search_is}
 use Rattle.acl_eval.proofs.losing.first_lost.Goals as goal
 
 pub returns-in-Some-clause-found : goal.returns-in-Some-clause-found

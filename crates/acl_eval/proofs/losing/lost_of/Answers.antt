@@ -2,7 +2,7 @@ use Rattle.std.proofs.Common.{ap}
 use Rattle.acl_posix.specs.Entries.{pair_of}
 use Rattle.acl_posix.specs.Tag.{tag_of}
 use Rattle.acl_eval.specs.internal.LossBody.{AreKeptWith, IsKeptFor, search_of}
-use Rattle.acl_eval.proofs.LossAnswers.{none_at}
+use Rattle.acl_eval.proofs.LossOfLists.{none_at}
 use Rattle.acl_eval.proofs.LossTags.{kept_by_all, kept_by_slices}
 use Rattle.acl_eval.proofs.UnusedIds.{all_more_left}
 use Rattle.acl_eval.proofs.losing.lost_of.Goals.{then-denied+in_ok-lost+in_default, else-denied}

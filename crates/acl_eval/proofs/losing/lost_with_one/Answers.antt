@@ -2,7 +2,7 @@ use Rattle.std.proofs.Common.{◌≡◌, ◌∙◌, sym, true}
 use Rattle.std.proofs.lemmas.Bool.{true≢false}
 use Rattle.acl_posix.specs.Tag.{tag_of}
 use Rattle.acl_eval.specs.internal.LossBody.{IsKeptWith, are_together, is_second, search_of}
-use Rattle.acl_eval.proofs.LossAnswers.{kept_with}
+use Rattle.acl_eval.proofs.LossOfLists.{kept_with}
 use Rattle.acl_eval.proofs.LossTags.{one_more_left}
 use Rattle.acl_eval.proofs.losing.lost_with_one.Goals.{then-is_second+then-are_together+in_ok-chosen+else-is_lost, else-is_second, else-is_second-via-then-is_second+else-are_together, else-is_second-via-else-is_second}
 use Rattle.acl_eval.proofs.losing.lost_with_one.Goals as goal

@@ -9,7 +9,7 @@ use Rattle.acl_eval.specs.Pruning.{PrunesTo}
 use Rattle.acl_eval.specs.ToPosix.{EntryShape, IsBest, size_of}
 use Rattle.acl_eval.proofs.OwnerLists.{list_for}
 use Rattle.acl_eval.proofs.OwnerEnds.{maximal_for}
-use Rattle.acl_eval.proofs.OwnerShapes.{ForColumns, RuleFor, for_columns, others_few, others_ids, others_lack, rule_for}
+use Rattle.acl_eval.proofs.OwnerColumns.{ForColumns, RuleFor, for_columns, others_few, others_ids, others_lack, rule_for}
 use Rattle.acl_eval.proofs.posix_for_owner.acl_of_others.Goals as goal
 use Rattle.acl_eval.proofs.ShapeRights.{few_ids}
 

@@ -1,6 +1,6 @@
 use Rattle.acl_eval.specs.Ids.{with_ids}
 use Rattle.acl_eval.proofs.OwnerEnds.{greatest_for}
-use Rattle.acl_eval.proofs.OwnerShapes.{sound_for}
+use Rattle.acl_eval.proofs.OwnerColumns.{sound_for}
 use Rattle.acl_eval.proofs.posix_for_owner.to_posix_for.Goals as goal
 
 pub returns-clause-sound : goal.returns-clause-sound

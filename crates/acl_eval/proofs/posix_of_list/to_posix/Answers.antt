@@ -1,5 +1,5 @@
 use Rattle.acl_eval.specs.Ids.{with_ids}
-use Rattle.acl_eval.proofs.LossAnswers.{exact_of}
+use Rattle.acl_eval.proofs.LossSearches.{exact_of}
 use Rattle.acl_eval.proofs.ShapeChecks.{best_greatest_of_shape, best_sound}
 use Rattle.acl_eval.proofs.posix_of_list.to_posix.Goals as goal
 

@@ -1,6 +1,6 @@
 use Rattle.std.specs.Prelude.{map}
 use Rattle.acl_nfs4.specs.Ace.{ace}
-use Rattle.acl_eval.proofs.Unknowns.{allowed_is, denied_is, found_in_part, undecided_is, unknown_is, whole_is}
+use Rattle.acl_eval.proofs.Assignments.{allowed_is, denied_is, found_in_part, undecided_is, unknown_is, whole_is}
 use Rattle.acl_eval.proofs.unknown.decided_with_unknown.Goals as goal
 
 pub returns-clause-allowed : goal.returns-clause-allowed

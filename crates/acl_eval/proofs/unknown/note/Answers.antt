@@ -2,7 +2,7 @@ use Rattle.std.proofs.Common.{subst, sym, ◌∙◌}
 use Rattle.std.proofs.lemmas.Bool.{and_from}
 use Rattle.acl_perm.specs.Bits.{IsUnion}
 use Rattle.acl_nfs4.specs.Ace.{ace}
-use Rattle.acl_eval.proofs.Unknowns.{noted_more}
+use Rattle.acl_eval.proofs.UnknownMasks.{noted_more}
 use Rattle.acl_eval.proofs.unknown.note.Goals as goal
 
 pub returns-in_ok-insert : goal.returns-in_ok-insert

@@ -3,7 +3,8 @@ use Rattle.std.specs.Prelude.{map}
 use Rattle.acl_nfs4.specs.Ace.{ace}
 use Rattle.acl_eval.specs.Situation.{situation}
 use Rattle.acl_eval.specs.internal.UnknownBody.{noting}
-use Rattle.acl_eval.proofs.Unknowns.{noted_none, possible_end, possible_first, possible_next}
+use Rattle.acl_eval.proofs.UnknownMasks.{noted_none}
+use Rattle.acl_eval.proofs.Assignments.{possible_end, possible_first, possible_next}
 use Rattle.acl_eval.proofs.unknown.possible_answers.Goals as goal
 
 pub loop-item-init : goal.loop-item-init

@@ -3,7 +3,7 @@ use Rattle.std.specs.Prelude.{◌&&◌, not}
 use Rattle.acl_perm.specs.Bits.{has_bit}
 use Rattle.acl_nfs4.specs.Ace.{ace}
 use Rattle.acl_eval.specs.Situation.{situation}
-use Rattle.acl_eval.proofs.Unknowns.{after_inherited, after_lacking, after_match, after_other, after_unknown}
+use Rattle.acl_eval.proofs.UnknownMasks.{after_inherited, after_lacking, after_match, after_other, after_unknown}
 use Rattle.acl_eval.proofs.unknown.Possible.after.Goals.{then-bits-eq0-via-then-bits-eq0, then-bits-eq0-via-else-bits-eq0+then-not-takes_part}
 use Rattle.acl_eval.proofs.unknown.Possible.after.Goals as goal
 
