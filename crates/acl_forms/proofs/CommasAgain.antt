@@ -23,7 +23,8 @@ use Rattle.acl_forms.specs.declared.style.EntrySeparator.{EntrySeparator}
 use Rattle.acl_forms.specs.declared.style.EntrySeparator.TheVariants.{Commas, LineFeeds}
 use Rattle.acl_forms.specs.declared.who_field.WhoField.{WhoField}
 use Rattle.acl_forms.proofs.TextsAgain.{each_again, part_at, IsReadAgain}
-use Rattle.acl_forms.proofs.ToolsAgain.{all_not, is_inside, no_mark, no_place}
+use Rattle.acl_forms.proofs.ToolsEntriesAgain.{all_not, is_inside, no_place}
+use Rattle.acl_forms.proofs.ToolsAgain.{no_mark}
 
 -- an entry that ends neither its line nor itself is read as an ACE wherever it is
 pub record IsEntryAgain (by : WhoField) (text : List ℕ) (a : Ace) : Type 0 where

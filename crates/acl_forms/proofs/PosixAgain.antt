@@ -21,7 +21,7 @@ unfoldable use Rattle.acl_forms.specs.Texts.{cut_entries, line_items}
 use Rattle.acl_forms.specs.declared.fault.ReadFault.{ReadFault}
 use Rattle.acl_forms.proofs.PosixEntriesAgain.{IsEntryText, is_in_entry, placed_at}
 use Rattle.acl_forms.proofs.TextsAgain.{part_at}
-use Rattle.acl_forms.proofs.ToolsAgain.{all_not, no_place}
+use Rattle.acl_forms.proofs.ToolsEntriesAgain.{all_not, no_place}
 
 -- ---- bytes inside entries
 

@@ -37,11 +37,12 @@ use Rattle.acl_forms.specs.PosixText.{PlacedEntry, PosixFields, has_qualifier, p
 unfoldable use Rattle.acl_forms.specs.PosixText.{last_id, named_word, pair_read, posix_entry, posix_fields, tag_read}
 use Rattle.acl_forms.specs.PosixWritten.{id_field, id_reason_of, is_name_separator, name_reason, named_reason, three_fields, written_qualifier}
 use Rattle.acl_forms.specs.declared.posix_text.style.TarStyle.{TarStyle}
-use Rattle.acl_forms.proofs.NfsAgain.{is_no_blank, is_number-decimal, kept, split_last, split_more}
+use Rattle.acl_forms.proofs.NfsFieldsAgain.{is_no_blank, is_number-decimal, kept}
+use Rattle.acl_forms.proofs.NfsEntriesAgain.{split_last, split_more}
 use Rattle.acl_forms.proofs.PosixLemmas.{by_word}
 use Rattle.acl_forms.proofs.PosixWrites.{no_first}
 use Rattle.acl_forms.proofs.TextsAgain.{part_at}
-use Rattle.acl_forms.proofs.ToolsAgain.{is_no_colon}
+use Rattle.acl_forms.proofs.ToolsEntriesAgain.{is_no_colon}
 
 -- ---- bytes
 

@@ -29,7 +29,7 @@ use Rattle.acl_forms.specs.PartWords.Names.{by_id, by_special}
 unfoldable use Rattle.acl_forms.specs.PartWords.{placed_from}
 use Rattle.acl_forms.specs.declared.fault.ReadReason.TheVariants as reason
 use Rattle.acl_forms.proofs.AnyNames.{known_who}
-use Rattle.acl_forms.proofs.IdLemmas.{piece_of, with_words}
+use Rattle.acl_forms.proofs.IdAces.{piece_of, with_words}
 use Rattle.acl_forms.proofs.WhoLemmas.{ReadsWho, reads_who}
 
 -- an ALLOW or a DENY among ACEs of any type

@@ -1,6 +1,7 @@
 use Rattle.std.proofs.Common.{arith}
 use Rattle.acl_forms.specs.internal.IdAces.{ace_by_id}
-use Rattle.acl_forms.proofs.IdLemmas.{accepted_push, good_ace, on_ok}
+use Rattle.acl_forms.proofs.IdAces.{on_ok}
+use Rattle.acl_forms.proofs.IdLemmas.{accepted_push, good_ace}
 use Rattle.acl_forms.proofs.acl41_ids.push.Goals as goal
 
 pub push_accepted-requires : goal.push_accepted-requires

@@ -1,4 +1,4 @@
-use Rattle.acl_forms.proofs.IdTables.{empty_changes_nothing, ids_again, named_numbered, numbered_named}
+use Rattle.acl_forms.proofs.IdLists.{empty_changes_nothing, ids_again, named_numbered, numbered_named}
 use Rattle.acl_forms.proofs.ids_laws.names_and_ids.Goals as goal
 
 pub returns-clause-named : goal.returns-clause-named

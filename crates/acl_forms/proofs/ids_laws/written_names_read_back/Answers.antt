@@ -1,4 +1,4 @@
-use Rattle.acl_forms.proofs.IdTables.{written_names}
+use Rattle.acl_forms.proofs.IdLists.{written_names}
 use Rattle.acl_forms.proofs.ids_laws.written_names_read_back.Goals as goal
 
 pub returns : goal.returns

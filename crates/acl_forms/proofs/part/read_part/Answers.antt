@@ -4,7 +4,8 @@ use Rattle.acl_forms.specs.PartTexts.{nfs_any_entry, nfs_any_rules, tools_any_en
 use Rattle.acl_forms.specs.ToolsRules.{tools_rules}
 use Rattle.acl_forms.proofs.AnyEntries.{nfs_follow, tools_follow}
 use Rattle.acl_forms.proofs.AnyTexts.{text_whole, texts_fault, texts_found, texts_only, texts_refused}
-use Rattle.acl_forms.proofs.PartWords.{reader_by_name, reader_by_number, words_found, words_only}
+use Rattle.acl_forms.proofs.PartLists.{words_found, words_only}
+use Rattle.acl_forms.proofs.PartWords.{reader_by_name, reader_by_number}
 use Rattle.acl_forms.proofs.WholeLists.{named_whole, numbered_whole}
 use Rattle.acl_forms.proofs.part.read_part.Goals as goal
 

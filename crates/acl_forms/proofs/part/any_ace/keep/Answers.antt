@@ -2,7 +2,7 @@ use Rattle.std.proofs.Common.{arith}
 use Rattle.acl_forms.proofs.AnyAces.{kept_accepted, kept_known, made_accepted}
 use Rattle.acl_forms.specs.internal.AnyAces.{any_ace_of}
 use Rattle.acl_forms.proofs.part.any_ace.keep.Goals as goal
-use Rattle.acl_forms.proofs.IdLemmas.{on_ok}
+use Rattle.acl_forms.proofs.IdAces.{on_ok}
 
 pub bytes_of-who-requires-clause-known : goal.bytes_of-who-requires-clause-known
 bytes_of-who-requires-clause-known c = kept_known (any_ace_of c.args.item) c.requires.wanted
