@@ -80,7 +80,7 @@ impl<'a> Wanted<'a> {
 /// let lost = lost_grant(alloc, &list.view(), &acl, &Names::new(alloc), 256)?;
 /// assert!(rt; lost.is_some_and(|lost| lost.perm == Perm::WRITE && lost.groups.len() == 2));
 /// ```
-#[tactic(auto, using(crate::proofs::LossAnswers::more_than, crate::proofs::LossAnswers::few_entries))]
+#[tactic(auto, using(crate::proofs::LossOfLists::more_than, crate::proofs::LossOfLists::few_entries))]
 pub fn lost_grant(
     alloc: Global,
     list: &AclView<'_>,
