@@ -94,7 +94,8 @@ pub(crate) trait Deciding: AccessCheck {
     /// Returns the tag of the first entry that matches by a group of the requester and has all that is requested.
     fn first_match<G: GroupNumber>(&self, owning_group: Id, groups: &[G], want: Perm) -> Option<Tag>
         ensures { option_map tag_of result ≡ option_map (λ entry. entry.0)
-            (first_match (Self.entries self.now) owning_group.value (map G.number groups.now) want.bits) }
+            (first_match (Self.entries self.now) owning_group.value
+            (map G.number groups.now) want.bits) }
     {
         for place in 0..self.count() {
             let entry = self.entry_at(place);

@@ -135,7 +135,8 @@ pub(crate) trait Excess: GroupAnswers {
             false reached.denied }
         ensures none { IsNone result → (id : ℕ)
             → set.contains_key (Self.entries self.now) (user_tag id) ≡ true
-            → NoExcessAt (Self.entries first.now) (Self.entries second.now) asked.group.value asked.request.bits id }
+            → NoExcessAt (Self.entries first.now) (Self.entries second.now)
+            asked.group.value asked.request.bits id }
         ensures some { IfSome result
             (IsExcessOf (Self.entries first.now) (Self.entries second.now) asked.request.bits) }
     {

@@ -142,10 +142,12 @@ impl Lists<'_, '_> {
         ensures overlap { OnTrue result
             (may_overlap (principal p.entry) (principal q.entry) ≡ true) }
         ensures differ { OnTrue result
-            (GrantAlikeTo self.entry.direction (aces_in self.entry.first.now) (aces_in self.entry.second.now)
+            (GrantAlikeTo self.entry.direction
+            (aces_in self.entry.first.now) (aces_in self.entry.second.now)
             (principal p.entry ∷ principal q.entry ∷ []) → ⊥) }
         ensures agree { OnFalse result (may_overlap (principal p.entry) (principal q.entry) ≡ true
-            → GrantAlikeTo self.entry.direction (aces_in self.entry.first.now) (aces_in self.entry.second.now)
+            → GrantAlikeTo self.entry.direction
+            (aces_in self.entry.first.now) (aces_in self.entry.second.now)
             (principal p.entry ∷ principal q.entry ∷ [])) }
     {
         overlaps(p, q) && !self.are_alike(SmallSet::Two(p, q))
