@@ -51,10 +51,10 @@ abbrev pub asks : ℕ → List ℕ → Requester
 asks u gs = record { user = u; groups = gs }
 
 -- an owner who is neither the user 1 nor another one
-record IsOwner (free owner : ℕ) : Type 0 where
-  is_id : IsId owner
-  not_user : (1 == owner) ≡ false
-  not_free : (free == owner) ≡ false
+pub record IsOwner (free owner : ℕ) : Type 0 where
+  pub is_id : IsId owner
+  pub not_user : (1 == owner) ≡ false
+  pub not_free : (free == owner) ≡ false
 
 -- for each other user there is such an owner
 pub some_owner : (free : ℕ) → (owner : ℕ) × IsOwner free owner

@@ -99,11 +99,11 @@ first_allows test keys all f =
 -- ---- entries of an ACL
 
 -- an entry that passes a test: it has what each entry has, and some entry passes each test that it passes
-record IsSomeEntry (test : Tag → Bool) (es : List (Tag × ℕ)) (fact : Tag → Type 0) : Type 0 where
-  tag : Tag
-  passes : test tag ≡ true
-  has : fact tag
-  again : (one : Tag → Bool) → one tag ≡ true → list_any (λ entry. one entry.0) es ≡ true
+pub record IsSomeEntry (test : Tag → Bool) (es : List (Tag × ℕ)) (fact : Tag → Type 0) : Type 0 where
+  pub tag : Tag
+  pub passes : test tag ≡ true
+  pub has : fact tag
+  pub again : (one : Tag → Bool) → one tag ≡ true → list_any (λ entry. one entry.0) es ≡ true
 
 -- if some entry passes the test, there is such an entry
 pub some_entry : (test : Tag → Bool) (es : List (Tag × ℕ)) (has : Tag → Type 0)
@@ -169,7 +169,8 @@ IsWithin used object requester object' requester' = (t : Tag) → is_member (qua
     → tag_meets object' requester' t ≡ true → tag_meets object requester t ≡ true
 
 -- an entry of a group matches if and only if its tag does
-pub group_meets : (object : Object) (requester : Requester) (t : Tag) → tag_matches object.group requester.groups t ≡ true
+pub group_meets : (object : Object) (requester : Requester) (t : Tag)
+    → tag_matches object.group requester.groups t ≡ true
     → tag_meets object requester t ≡ true
 group_meets object requester user_obj h = absurd (false≢true h)
 group_meets object requester (user id) h = absurd (false≢true h)
@@ -179,7 +180,8 @@ group_meets object requester mask h = absurd (false≢true h)
 group_meets object requester other h = refl
 
 -- of the entries of groups with these numbers, only such match in the second situation as match in the first
-pub matches_within : (used : List ℕ) (object : Object) (requester : Requester) (object' : Object) (requester' : Requester)
+pub matches_within : (used : List ℕ) (object : Object) (requester : Requester) (object' : Object)
+    (requester' : Requester)
     → IsWithin used object requester object' requester' → (t : Tag) → is_member (qualifier t) used ≡ true
     → tag_matches object'.group requester'.groups t ≡ true → tag_matches object.group requester.groups t ≡ true
 matches_within used object requester object' requester' w user_obj u h = absurd (false≢true h)

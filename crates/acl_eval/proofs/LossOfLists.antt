@@ -80,7 +80,8 @@ KeepsRights list E bit second want = (object : Object) (requester : Requester) �
 -- an ACL that keeps read, write and execute keeps each of them wherever the list grants its rights
 all_kept : (list : List Ace) (E : Entries) → KeepsRights list E 0 0 4 → KeepsRights list E 1 2 2
     → KeepsRights list E 5 5 1 → KeepsSingles list E
-all_kept list E read write execute object requester want asked single granted = by want (single_cases want single) granted
+all_kept list E read write execute object requester want asked single granted =
+    by want (single_cases want single) granted
   where
     by : (want : ℕ) → (want ≡ 4) ⊎ ((want ≡ 2) ⊎ (want ≡ 1)) → Grant list (by_name object requester) (image want)
         → grants E object requester want ≡ true

@@ -113,7 +113,8 @@ image_part p want b lp lw h hb = elim (image_right want b lw hb) [
 ]
 
 -- a valid ACL of a shape is sound for rules if the permissions of each entry pass
-pub sound_by_passes : (rules : List Rule) (shape : EntryShape) (E : Entries) → AreRules rules → IsValid E → HasShape shape E
+pub sound_by_passes : (rules : List Rule) (shape : EntryShape) (E : Entries) → AreRules rules → IsValid E
+    → HasShape shape E
     → ((t : Tag) → is_in_shape shape t ≡ true → (p : ℕ) × (p < 8) × (fin.get E t ≡ Some p) × Passes rules shape t p)
     → IsSound (rules_list rules) E
 sound_by_passes rules shape E are valid s each object requester asked want few allowed bit hb =

@@ -11,7 +11,7 @@ use Rattle.acl_nfs4.proofs.Exports.{bind-ok, bind_then, ok_is, kind_is, kind_aga
 use Rattle.acl_nfs4.specs.Ace.{Ace}
 use Rattle.acl_nfs4.specs.Fields.{flags_of, kind_of, mask_of}
 use Rattle.acl_nfs4.specs.Limits.{most_weight}
-use Rattle.acl_nfs4.specs.Spelling.{IsAce, weight, word}
+use Rattle.acl_nfs4.specs.Spelling.{IsAce, word}
 use Rattle.acl_nfs4.specs.Within.{IsWithin}
 use Rattle.acl_nfs4.specs.internal.Progress.{IsBytes}
 use Rattle.acl_nfs4.specs.declared.xdr.fault.Reason.{Reason}

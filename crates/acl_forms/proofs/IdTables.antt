@@ -183,7 +183,8 @@ digits_alone (r ∷ table) g digits name each e =
     by false is e rest = rest e
 
 -- digits alone have no id in a table
-pub digits_no_name : (table : List IdRow) (g : Bool) (who : List ℕ) → AllByRecursion IsIdRow table → is_number who ≡ true
+pub digits_no_name : (table : List IdRow) (g : Bool) (who : List ℕ) → AllByRecursion IsIdRow table
+    → is_number who ≡ true
     → new_name (ids_for_names table) g who ≡ None
 digits_no_name table g who each number = by (new_name (ids_for_names table) g who) refl
   where

@@ -43,7 +43,7 @@ pub split_last : (part : List ℕ) → list_all is_no_colon part ≡ true → sl
 split_last part h = slice_split_none (λ b. b == colon) part (all_not (λ b. b == colon) part h)
 
 -- the fields after the principal
-abbrev tail_text : LetterStyle → Ace → List ℕ → List ℕ
+abbrev pub tail_text : LetterStyle → Ace → List ℕ → List ℕ
 tail_text letters a last = rights_text letters a.mask ++ colon ∷ (flags_text letters a.flags ++ colon ∷ last)
 
 -- the parts of the fields after the principal

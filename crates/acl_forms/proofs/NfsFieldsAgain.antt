@@ -63,7 +63,8 @@ kept (b ∷ bs) h =
     ap (λ (n : ℕ). end_trimmed (drop n (b ∷ bs))) none ∙ end_kept (b ∷ bs) h
 
 -- bytes that begin with some bytes without blanks are not all blank
-pub not_all_blank : (bs rest : List ℕ) → list_all is_no_blank bs ≡ true → 0 < length bs → is_all_blank (bs ++ rest) ≡ false
+pub not_all_blank : (bs rest : List ℕ) → list_all is_no_blank bs ≡ true → 0 < length bs
+    → is_all_blank (bs ++ rest) ≡ false
 not_all_blank [] rest h some = absurd (omega (arith, some))
 not_all_blank (b ∷ bs) rest h some =
     let both = and_true (is_no_blank b) (list_all is_no_blank bs) h in
@@ -166,7 +167,7 @@ flags_read_again letters at set =
 -- ---- words
 
 -- a word before a principal: it is inside an entry, and has neither a colon nor a blank
-record IsWord (word : List ℕ) : Type 0 where
+pub record IsWord (word : List ℕ) : Type 0 where
   pub inside : list_all is_inside word ≡ true
   pub no_colon : list_all is_no_colon word ≡ true
   pub no_blank : list_all is_no_blank word ≡ true
@@ -235,7 +236,8 @@ two_parts : (flags : ℕ) → IsWithin 0xff flags → flags ≡ bit_or (bit_and 
 two_parts flags within = sym within ∙ and_or flags 0xbf 0x40
 
 -- flags without IDENTIFIER_GROUP are those of a user
-pub user_flags : (flags : ℕ) → IsWithin 0xff flags → meets flags 0x40 ≡ false → IsAccountWord NamedUser flags (codes "user")
+pub user_flags : (flags : ℕ) → IsWithin 0xff flags → meets flags 0x40 ≡ false
+    → IsAccountWord NamedUser flags (codes "user")
 user_flags flags within apart =
     let none : bit_and flags 0x40 ≡ 0 = apart_sets flags 0x40 apart in record {
       word_of = rw apart refl;

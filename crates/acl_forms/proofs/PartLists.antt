@@ -34,7 +34,7 @@ use Rattle.acl_forms.proofs.WordLemmas.{Takes, Takes-then, flags_again, flags_fo
 -- ---- any bytes
 
 -- bytes that were read spell their value, and reading took them
-record TakesBytes {A : Type 0} (n : ℕ) (means : List ℕ → Result A ReadReason) (p : WordPlace) (x : A × WordPlace)
+pub record TakesBytes {A : Type 0} (n : ℕ) (means : List ℕ → Result A ReadReason) (p : WordPlace) (x : A × WordPlace)
     : Type 0 where
   pub accepted : means (take n p.rest) ≡ Ok x.0
   pub long : length (take n p.rest) ≡ n

@@ -42,7 +42,7 @@ use Rattle.acl_forms.proofs.LettersAgain.{flags_read, letters_pass, rights_read,
 -- ---- what an ACE that the form holds is
 
 -- an ACE without a fault
-record IsHeld (object : ObjectKind) (a : Ace) : Type 0 where
+pub record IsHeld (object : ObjectKind) (a : Ace) : Type 0 where
   pub kept : bit_and a.mask retention_rights ≡ 0
   pub apart : list_any is_separator a.who ≡ false
   pub flags : SuitsFile object inheritance_flags a.flags
