@@ -81,7 +81,8 @@ returns c =
     let list = aces_in c.args.aces.now in
     let columns : (b : ℕ) → column (emitted_aces c.deref_mut.result.now) b
     ≡ column (aces_with c.args.aces.now c.args.masks.now) b =
-    λ b. ap (λ v. column (emitted_aces v) b) c.deref_mut.ensures.value ∙ ap (λ v. column v b) (all_places (aces_with c.args.aces.now c.args.masks.now)
+    λ b. ap (λ v. column (emitted_aces v) b) c.deref_mut.ensures.value ∙ ap (λ v. column v b) (all_places
+    (aces_with c.args.aces.now c.args.masks.now)
     (shown_end c.args.aces.now c.args.masks.now c.loop-place.place c.requires.masks c.loop-place-test.false)
     c.loop-place.invariant.list)
     ∙ columns_left b (aces_with c.args.aces.now c.args.masks.now) c.requires.reduced.thinned.tidy.quiet in

@@ -93,10 +93,6 @@ pub record Raises (camp : Camp) (side : Side) (r : Placing) (old new : List ℕ)
 abbrev pub is_of_camp : Camp → Placing → Bool
 is_of_camp camp r = has_kind (is_allow camp.kind) r && not (differ (is_users camp.class) (is_users r.class))
 
--- no principal is of the camp
-pub record HasNone (camp : Camp) (placings : List Placing) : Type 0 where
-  pub each : (k : ℕ) → k < length placings → is_of_camp camp (slice_index_or placings k no_placing) ≡ false
-
 -- a principal is of a camp, and inverts another principal by the tables of the camp
 abbrev pub is_inverting : Camp → Placing → List ℕ → List ℕ → Bool
 is_inverting camp r forward back = is_of_camp camp r

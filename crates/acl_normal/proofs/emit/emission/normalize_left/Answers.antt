@@ -19,7 +19,8 @@ emitted-init c = rw c.in_ok-out.ensures.items (record {
 pub invariant_of-mask : goal.invariant_of-mask
 invariant_of-mask c =
     let outline = nothing_left c.emitted.rows in
-    let taken = least_taken c.emitted.invariant.keys c.in-Some.ensures.least c.in-Some.ensures.taken c.key_of-key.ensures.key in
+    let taken = least_taken c.emitted.invariant.keys c.in-Some.ensures.least c.in-Some.ensures.taken
+    c.key_of-key.ensures.key in
     record {
       within =
           popped_mask (marks outline c.emitted.ready) (marks outline c.pop.new.self) (plain_key c.key_of-key.result)
@@ -29,7 +30,8 @@ invariant_of-mask c =
 
 pub take_out-requires : goal.take_out-requires
 take_out-requires c =
-    (least_taken c.emitted.invariant.keys c.in-Some.ensures.least c.in-Some.ensures.taken c.key_of-key.ensures.key).at_row
+    (least_taken c.emitted.invariant.keys c.in-Some.ensures.least c.in-Some.ensures.taken
+    c.key_of-key.ensures.key).at_row
 
 pub move_on-requires : goal.move_on-requires
 move_on-requires c =
@@ -38,20 +40,23 @@ move_on-requires c =
 pub free_after-requires-clause-keys : goal.free_after-requires-clause-keys
 free_after-requires-clause-keys c =
     subst (λ v. FitsKeys v c.pop.new.self)
-    (sym (outline_left _ _ c.emitted.rows c.take_out.new.self c.take_out.ensures)) (least_taken c.emitted.invariant.keys c.in-Some.ensures.least c.in-Some.ensures.taken c.key_of-key.ensures.key).fits
+    (sym (outline_left _ _ c.emitted.rows c.take_out.new.self c.take_out.ensures))
+    (least_taken c.emitted.invariant.keys c.in-Some.ensures.least c.in-Some.ensures.taken c.key_of-key.ensures.key).fits
 
 pub emitted-smaller : goal.emitted-smaller
 emitted-smaller c =
     subst (λ v. count_left 21 v < count_left 21 c.emitted.rows) (sym c.take_out.ensures)
     (drain_falls c.args.rows.now c.emitted.out.items _ _ (plain_key c.key_of-key.result) c.in-Some.next.bits
-    c.emitted.rows c.emitted.invariant.drains (least_taken c.emitted.invariant.keys c.in-Some.ensures.least c.in-Some.ensures.taken c.key_of-key.ensures.key).popped)
+    c.emitted.rows c.emitted.invariant.drains (least_taken c.emitted.invariant.keys c.in-Some.ensures.least
+    c.in-Some.ensures.taken c.key_of-key.ensures.key).popped)
 
 pub emitted-preserved : goal.emitted-preserved
 emitted-preserved c =
     let after = turn_in_rows c.args.rows.now c.emitted.rows c.take_out.new.self c.emitted.out.items
     c.push.new.self.items _
     c.emitted.ready c.pop.new.self c.free_after.new.ready (plain_key c.key_of-key.result) c.in-Some.next.bits
-    c.emitted.invariant.drains (least_taken c.emitted.invariant.keys c.in-Some.ensures.least c.in-Some.ensures.taken c.key_of-key.ensures.key) c.emitted.invariant.rows c.in_ok-push.ensures.items refl
+    c.emitted.invariant.drains (least_taken c.emitted.invariant.keys c.in-Some.ensures.least c.in-Some.ensures.taken
+    c.key_of-key.ensures.key) c.emitted.invariant.rows c.in_ok-push.ensures.items refl
     c.take_out.ensures c.in_ok-free_after.ensures.marks in
     record {
       drains = after.0;

@@ -16,7 +16,8 @@ pub push_accepted-requires : goal.push_accepted-requires
 push_accepted-requires c =
     let here = shown_here c.args.aces.now c.args.masks.now c.requires.masks c.loop-place-test.true
     c.index-aces-place.is c.index-masks-place.is in
-    subst (λ a. IsAccepted full (c.loop-place.list ++ a ∷ [])) (sym (flagged c.index-aces-place.result c.index-masks-place.result _
+    subst (λ a. IsAccepted full (c.loop-place.list ++ a ∷ [])) (sym
+    (flagged c.index-aces-place.result c.index-masks-place.result _
     (c.flags_of.ensures ∙ ap flags_for c.principal.ensures)))
     (next_cleared _ c.requires.accepted here.within here.item c.if-mask-ne0.true c.loop-place.invariant)
 
@@ -27,7 +28,8 @@ loop-place-preserved c =
     elim c.if-mask-ne0.branch [
       | then-mask-ne0+in_ok-push_accepted w ↦ rw w.list-is (cleared_more _ here.within here.item
           w.if-mask-ne0.true c.loop-place.invariant
-          (w.in_ok-push_accepted.ensures.ok ∙ ap (λ a. c.loop-place.list ++ a ∷ []) (flagged c.index-aces-place.result c.index-masks-place.result _
+          (w.in_ok-push_accepted.ensures.ok ∙ ap (λ a. c.loop-place.list ++ a ∷ [])
+          (flagged c.index-aces-place.result c.index-masks-place.result _
           (w.flags_of.ensures ∙ ap flags_for w.principal.ensures))))
       | else-mask-ne0 w ↦ rw w.list-is (cleared_past _ here.within (omega (arith, here.mask, w.if-mask-ne0))
           c.loop-place.invariant)

@@ -31,7 +31,8 @@ loop-place-preserved c =
     let part : (b : ℕ) → has_bit c.if-takes_part.active.0 b ≡ counts b (ace c.index-aces-place.result) =
     λ b. elim c.if-takes_part.branch [
       | then-takes_part w ↦ rw w.active-is (counted (sym c.takes_part.ensures ∙ w.if-takes_part.true))
-      | else-takes_part w ↦ rw w.active-is (no_bit b ∙ uncounted (has_bit c.index-aces-place.result.mask.bits b) (sym c.takes_part.ensures ∙ w.if-takes_part.false))
+      | else-takes_part w ↦ rw w.active-is (no_bit b ∙ uncounted (has_bit c.index-aces-place.result.mask.bits b)
+          (sym c.takes_part.ensures ∙ w.if-takes_part.false))
     ] in record {
       within = c.union-everyone.result.within;
       reaches =
@@ -46,7 +47,8 @@ loop-place-preserved c =
             active = c.if-takes_part.active.0;
             takes_part = part;
             new =
-                subst (λ v. IsDifference c.if-takes_part.active.0 v c.difference-fresh.result.bits) c.union.ensures.value
+                subst (λ v. IsDifference c.if-takes_part.active.0 v c.difference-fresh.result.bits)
+                c.union.ensures.value
                 c.difference-fresh.ensures.meaning;
             together = c.union-in-loop-place.ensures.value;
           }) (λ b. c.union-everyone.ensures.meaning b

@@ -29,9 +29,11 @@ loop-place-preserved c =
     let own : (b : ℕ) → has_bit c.if-is_allow.own.0 b ≡ (has_bit c.index-masks-place.result.bits b
     && (principal_eq (principal_of (ace x)) everyone && kind_eq x.kind Allow)) =
     λ b. elim c.if-is_allow.branch [
-      | then-is_allow w ↦ rw w.own-is (allows (has_bit c.index-masks-place.result.bits b) (principal_eq (principal_of (ace x)) everyone) x.kind (sym c.is_allow.ensures ∙ w.if-is_allow.true)
+      | then-is_allow w ↦ rw w.own-is (allows (has_bit c.index-masks-place.result.bits b) (principal_eq
+          (principal_of (ace x)) everyone) x.kind (sym c.is_allow.ensures ∙ w.if-is_allow.true)
           (w.of_everyone-own.ensures b))
-      | else-is_allow w ↦ rw w.own-is (denies (has_bit c.index-masks-place.result.bits b) (principal_eq (principal_of (ace x)) everyone) x.kind (sym c.is_allow.ensures ∙ w.if-is_allow.false) (no_bit b))
+      | else-is_allow w ↦ rw w.own-is (denies (has_bit c.index-masks-place.result.bits b) (principal_eq
+          (principal_of (ace x)) everyone) x.kind (sym c.is_allow.ensures ∙ w.if-is_allow.false) (no_bit b))
     ] in
     record {
       within = c.union-allowed.result.within;

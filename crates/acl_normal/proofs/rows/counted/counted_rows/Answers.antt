@@ -19,7 +19,8 @@ loop-principal-preserved c =
 
 pub returns : goal.returns
 returns c =
-    counted_numbers (aces_in c.args.aces.now) (headed_names c.as_slice-principals.result.now) c.loop-principal.rows.items
+    counted_numbers (aces_in c.args.aces.now) (headed_names c.as_slice-principals.result.now)
+    c.loop-principal.rows.items
     (ap headed_names c.as_slice-principals.ensures.value ∙ c.in_ok-named.ensures)
     (c.loop-principal.invariant
     ∙ ap (λ v. map (λ p. count_below p (headed_names c.as_slice-principals.result.now)) (headed_names v))
