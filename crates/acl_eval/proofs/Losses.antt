@@ -13,7 +13,6 @@ use Rattle.acl_eval.specs.Pruning.{KeepsEntries, LosesNothing, ShapeGrants, shap
 use Rattle.acl_eval.specs.ToPosix.{AlwaysHas, EntryShape, is_in_class, is_in_shape, looks_at, size_of}
 use Rattle.acl_eval.specs.internal.ShapeBody.{TagColumn}
 use Rattle.acl_eval.proofs.FreeIds.{AreFree}
-use Rattle.acl_eval.proofs.EntrySituations.{looks}
 use Rattle.acl_eval.proofs.SituationIds.{HasIds}
 use Rattle.acl_eval.proofs.ShapeChecks.{class_parts, some_member}
 

@@ -13,7 +13,6 @@ use Rattle.acl_posix.specs.declared.entry.Entry.{Entry}
 use Rattle.acl_posix.specs.Id.{greatest_id}
 use Rattle.acl_posix.specs.RawEntries.{numbered_tag, raw_of, raw_pair, raw_tag, undefined_id}
 use Rattle.acl_posix.specs.Tag.{IsTag, Tag, group, group_obj, is_named, mask, other, tag_row, user, user_obj}
-use Rattle.acl_posix.specs.declared.raw_entry.EntryFault.TheVariants as wrong
 use Rattle.acl_posix.specs.declared.raw_entry.RawEntry.{RawEntry}
 use Rattle.acl_nfs4.specs.internal.Progress.{IsBytes}
 use Rattle.acl_nfs4.specs.declared.xdr.fault.Reason.TheVariants.{Truncated}

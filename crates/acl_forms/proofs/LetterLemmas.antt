@@ -1,14 +1,13 @@
 -- What fields of letters stand for.
 use Rattle.std.proofs.Common.{◌≡◌, ◌∙◌, ◌+◌, ◌≤◌, ◌<◌, ℕ, Bool, true, false, cond, length, drop, get_or, List, [], ◌∷◌, None, Some, Result, Ok, Err, refl, sym, ap}
-use Rattle.std.specs.Prelude.{◌&&◌, ◌||◌, ◌==◌, bit_and, bit_or, filter_map, find, fold}
+use Rattle.std.specs.Prelude.{◌&&◌, ◌==◌, bit_and, bit_or, filter_map, find, fold}
 use Rattle.std.specs.List.{list_all}
 use Rattle.std.specs.Result.{result_err, result_ok}
 use Rattle.std.proofs.lemmas.Bool.{eqb-true}
 use Rattle.std.proofs.lemmas.List.{at_drop_all, at_drop_more}
 use Rattle.std.proofs.lemmas.Nat.{and_le_r}
 use Rattle.acl_perm.proofs.Bools.{and_true}
-use Rattle.acl_perm.proofs.Sets.{has_bit-and, has_bit-or, same_set}
-use Rattle.acl_perm.specs.Bits.{all_flags, all_rights, has_bit, IsFlags, IsMask}
+use Rattle.acl_perm.specs.Bits.{all_flags, all_rights, IsFlags, IsMask}
 use Rattle.acl_perm.specs.internal.Steps.{◌>>=◌}
 use Rattle.acl_nfs4.specs.Within.{is_within, IsWithin}
 use Rattle.acl_nfs4.proofs.Exports.{union_within}

@@ -15,7 +15,7 @@ use Rattle.acl_perm.specs.Principal.{everyone, group, group_named, owner, user}
 use Rattle.acl_perm.specs.Lines.{is_all_blank, trimmed}
 use Rattle.acl_perm.specs.Profile.{full}
 use Rattle.acl_nfs4.specs.Ace.{Ace}
-use Rattle.acl_nfs4.specs.Spelling.{IsAccepted, IsAce, weight}
+use Rattle.acl_nfs4.specs.Spelling.{IsAccepted, IsAce}
 use Rattle.acl_nfs4.specs.Who.{everyone_name, group_name, is_plain, is_special, IsWho, owner_name, principal_of}
 use Rattle.acl_nfs4.specs.Within.{IsWithin}
 use Rattle.acl_nfs4.proofs.Exports.{all_weaker, plain_who}

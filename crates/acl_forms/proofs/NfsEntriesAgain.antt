@@ -17,7 +17,6 @@ use Rattle.acl_forms.specs.Letters.{nfs_flag_letters, nfs_right_letters, no_lett
 use Rattle.acl_forms.specs.NfsText.{fields_of_parts, flags_by_tag, nfs_ace, nfs_entry, nfs_fields_of, nfs_fields_read, tag_special, trimmed_span, who_by_tag, who_of_fields, NfsFields}
 use Rattle.acl_forms.specs.NfsWritten.{as_nfs_written, id_after, kept_flags, kind_word, nfs_entry_text, special_word}
 use Rattle.acl_forms.specs.ToolsText.{unless_refused}
-use Rattle.acl_forms.specs.declared.fault.FormReason.TheVariants.{Id}
 use Rattle.acl_forms.specs.declared.fault.ReadReason.TheVariants as reasons
 use Rattle.acl_forms.specs.declared.nfs_text.fields.NfsTag.{NfsTag}
 use Rattle.acl_forms.specs.declared.object.ObjectKind.TheVariants.{Directory}
@@ -28,7 +27,6 @@ use Rattle.acl_forms.proofs.NfsLemmas.{good_nfs_ace}
 use Rattle.acl_forms.proofs.StyledLetters.{styled_pass}
 use Rattle.acl_forms.proofs.TextsAgain.{part_at}
 use Rattle.acl_forms.proofs.ToolsEntriesAgain.{all_not, is_inside, is_no_colon, not_refused, ace_with}
-use Rattle.acl_forms.proofs.WhoLemmas.{no_id}
 use Rattle.acl_forms.proofs.NfsFieldsAgain.{IsAccountWord, IsSpecialWord, flags_read_again, flags_text, id_again, is_no_blank, kept, kind_again, kind_pass, mask_again, not_all_blank, rights_text}
 
 -- ---- the parts of an entry

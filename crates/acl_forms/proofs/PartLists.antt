@@ -15,7 +15,7 @@ use Rattle.acl_nfs4.specs.Spelling.{word}
 use Rattle.acl_nfs4.specs.declared.xdr.fault.Reason.TheVariants.{Truncated}
 use Rattle.acl_nfs4.specs.internal.Progress.{IsBytes}
 use Rattle.acl_forms.specs.Acl41Ids.{listed, nothing_after}
-use Rattle.acl_forms.specs.Part.{PlacedAce, IsReadAsPart, SpellsPart, any_weight, is_unknown_deny, left_out}
+use Rattle.acl_forms.specs.Part.{PlacedAce, IsReadAsPart, SpellsPart, any_weight, is_unknown_deny}
 use Rattle.acl_forms.specs.PartWords.{AceReader, IsPartAce, SpelledAce, SpellsWhole, bytes_at, judged_bytes}
 unfoldable use Rattle.acl_forms.specs.PartWords.{aces_from, placed_from, whole_in}
 use Rattle.acl_forms.specs.ReadFaults.{read_fault_at}

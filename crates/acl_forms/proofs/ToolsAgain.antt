@@ -11,7 +11,7 @@ use Rattle.acl_perm.specs.Ascii.{hash, line_feed}
 use Rattle.acl_perm.specs.Lines.{Span}
 use Rattle.acl_perm.specs.Profile.{full}
 use Rattle.acl_nfs4.specs.Ace.{Ace}
-use Rattle.acl_nfs4.specs.Spelling.{IsAccepted, IsAce, weight}
+use Rattle.acl_nfs4.specs.Spelling.{IsAccepted, IsAce}
 use Rattle.acl_perm.specs.Bits.{has_bit, identifier_group}
 use Rattle.acl_perm.specs.Principal.{everyone, group, group_named, owner, user}
 use Rattle.acl_nfs4.specs.Who.{everyone_name, group_name, is_plain, IsWho, owner_name, principal_of}

@@ -22,7 +22,7 @@ use Rattle.acl_forms.specs.Acl41.{IsAcl41}
 use Rattle.acl_forms.specs.Acl41Ids.{EachHasId, IsAcl41Ids, id_piece, id_who, special_who, whom_words}
 unfoldable use Rattle.acl_forms.specs.Acl41Ids.{id_who_of}
 use Rattle.acl_forms.specs.AclFlags.{IsAclFlags}
-use Rattle.acl_forms.specs.Part.{SpellsPart, kept, left_out, reason_of}
+use Rattle.acl_forms.specs.Part.{SpellsPart, kept, reason_of}
 unfoldable use Rattle.acl_forms.specs.Part.{left_out_from}
 use Rattle.acl_forms.specs.PartWords.{IsPartAce, Names, SpelledAce, SpellsById, SpellsByName, SpellsWhole, special_name}
 use Rattle.acl_forms.specs.PartWords.Names.{by_id, by_special}
