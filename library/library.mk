@@ -20,11 +20,12 @@ library:
 $(PROVED):
 	tools/prove aclck_c
 
-# Only the names of the exports are visible.
+# Only the names of the exports are visible. The library has no constructors, so it needs none of the start files.
 $(MADE)/$(SHARED): $(PROVED) library/aclck.map
 	mkdir -p $(MADE)
-	$(CC) -shared -o $@ -Wl,-z,defs,-z,relro,-z,now,-z,noexecstack,-z,noseparate-code -Wl,--gc-sections -Wl,-soname,$(SONAME) \
-	  -Wl,--version-script=library/aclck.map -Wl,--whole-archive $(PROVED) -Wl,--no-whole-archive $(HEAP)
+	$(CC) -shared -nostartfiles -o $@ -Wl,-z,defs,-z,relro,-z,now,-z,noexecstack,-z,noseparate-code -Wl,--gc-sections \
+	  -Wl,-soname,$(SONAME) -Wl,--version-script=library/aclck.map \
+	  -Wl,--whole-archive $(PROVED) -Wl,--no-whole-archive $(HEAP)
 	ln -sf $(SHARED) $(MADE)/$(SONAME)
 	ln -sf $(SONAME) $(MADE)/libaclck.so
 
