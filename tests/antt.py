@@ -45,6 +45,9 @@ Definition ordering_then := Specs.Specs.ordering_then.
 Definition IfSome {A} := @Specs.Specs.IfSome A.
 Definition Grant := Specs.Specs.Grant.
 Definition codes (text : string) := text.
+Definition permissions_in_order := [4; 2; 1]%N.
+Fixpoint Contains (items : list N) (item : N) : Prop :=
+  match items with [] => False | [one] => item = one | one :: rest => item = one \/ Contains rest item end.
 """}
 SIGNS = {"∷": "::", "≡": "=", "≢": "<>", "×": "/\\", "→": "->", "↔": "<->", "⊎": "\\/", "⊤": "True", "⊥": "False",
          "≤": "<=", "List ℕ": "Name", "Bool": "bool", "slice_cmp nat_cmp": "slice_cmp",
