@@ -36,7 +36,7 @@ run:
 quick:
 	cd crates/$(CRATE) && rt fmt && rt test && ../../tests/edits $(CRATE)
 
-## test               runs every proof and every test
+## test               installs the packages that tests use, where it can, and runs every proof and every test
 test:
 	.ci/run
 

@@ -5,14 +5,17 @@ declare -gA _aclck_tree_options=(
     [scan]='-o --one-file-system --threads --attribute --host --quiet --from --lines --archive --root --shard --key'
     [merge]='-o'
     [info]='--csv --raw --json'
-    [who]='--may --any --path --reach --people --passwd --group --getent --each --domain --linux --csv --raw --json'
-    [may]='--may --any --path --reach --user --groups --all --domain --linux --csv --raw --json'
-    [why]='--user --groups --may --domain --linux --csv --raw --json'
+    [who]='--may --any --path --reach --people --passwd --group --getent --skip-system --each --domain --linux
+        --draft --csv --raw --json'
+    [may]='--may --any --path --reach --user --groups --getent --all --domain --linux --csv --raw --json'
+    [why]='--user --groups --getent --may --domain --linux --csv --raw --json'
     [same]='--inherit --path --each --csv --raw --json'
-    [diff]='--people --passwd --group --getent --pair --each --domain --csv --raw --json'
-    [policy]='--people --passwd --group --getent --each --domain --linux --csv --raw --json'
-    [load]='--dsn --people --passwd --group --getent --domain'
-    [report]='-o --path --reach --policy --people --passwd --group --getent --domain --linux --csv --raw --json'
+    [diff]='--people --passwd --group --getent --skip-system --people-then --path --pair --each --domain --csv --raw
+        --json'
+    [policy]='--people --passwd --group --getent --skip-system --each --domain --linux --draft --csv --raw --json'
+    [load]='--dsn --as-superuser --people --passwd --group --getent --skip-system --domain --reach'
+    [report]='-o --path --reach --policy --people --passwd --group --getent --skip-system --domain --linux --draft
+        --csv --raw --json'
 )
 
 _aclck_tree_rights='READ_DATA LIST_DIRECTORY WRITE_DATA ADD_FILE APPEND_DATA ADD_SUBDIRECTORY READ_NAMED_ATTRS

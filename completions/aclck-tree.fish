@@ -34,8 +34,8 @@ complete -c aclck-tree -n '__fish_seen_subcommand_from scan' -l attribute -x -d 
 complete -c aclck-tree -n '__fish_seen_subcommand_from scan' -l host -x -d 'The name of this host'
 complete -c aclck-tree -n '__fish_seen_subcommand_from who may why' -l may -x -a "$rights" -d 'What is asked'
 complete -c aclck-tree -n '__fish_seen_subcommand_from who may' -l any -d 'Any of the rights'
-complete -c aclck-tree -n '__fish_seen_subcommand_from who may same report' -l path -x -d 'Only these objects'
-complete -c aclck-tree -n '__fish_seen_subcommand_from who may report' -l reach -d 'Directories above count too'
+complete -c aclck-tree -n '__fish_seen_subcommand_from who may same diff report' -l path -x -d 'Only these objects'
+complete -c aclck-tree -n '__fish_seen_subcommand_from who may report load' -l reach -d 'Directories above count too'
 complete -c aclck-tree -n '__fish_seen_subcommand_from report' -l policy -r -d 'Rules that come first'
 complete -c aclck-tree -n '__fish_seen_subcommand_from may why' -l user -x -a '(__fish_complete_users)' -d 'Who asks'
 complete -c aclck-tree -n '__fish_seen_subcommand_from may why' -l groups -x -a '(__fish_complete_groups)' \
@@ -48,12 +48,18 @@ complete -c aclck-tree -n '__fish_seen_subcommand_from who diff policy report lo
     -d 'Groups of a group file'
 complete -c aclck-tree -n '__fish_seen_subcommand_from who diff policy report load' -l getent \
     -d 'The accounts of this system'
+complete -c aclck-tree -n '__fish_seen_subcommand_from may why' -l getent -d 'The groups that this system knows'
+complete -c aclck-tree -n '__fish_seen_subcommand_from who diff policy report load' -l skip-system \
+    -d 'No accounts of the system'
+complete -c aclck-tree -n '__fish_seen_subcommand_from diff' -l people-then -r -d 'Who is asked about in NEW'
 complete -c aclck-tree -n '__fish_seen_subcommand_from who may why diff policy report load' -l domain -x \
     -d 'What follows @ in names'
 complete -c aclck-tree -n '__fish_seen_subcommand_from who may why policy report' -l linux \
     -d 'Ask POSIX lists as Linux does'
+complete -c aclck-tree -n '__fish_seen_subcommand_from who policy report' -l draft -d 'Ask POSIX lists as acl(5) says'
 complete -c aclck-tree -n '__fish_seen_subcommand_from who same diff policy' -l each -d 'One line per object'
 complete -c aclck-tree -n '__fish_seen_subcommand_from load' -l dsn -x -d 'The database'
+complete -c aclck-tree -n '__fish_seen_subcommand_from load' -l as-superuser -d 'Load although the role is a superuser'
 complete -c aclck-tree -n '__fish_seen_subcommand_from diff' -l pair -x -d 'OLD=NEW are one tree'
 complete -c aclck-tree -n '__fish_seen_subcommand_from same' -l inherit -d 'What is made below counts too'
 complete -c aclck-tree -n '__fish_seen_subcommand_from who may why same diff policy report info' -l csv \

@@ -7,7 +7,24 @@ set -l rights READ_DATA LIST_DIRECTORY WRITE_DATA ADD_FILE APPEND_DATA ADD_SUBDI
     DELETE READ_ACL WRITE_ACL WRITE_OWNER SYNCHRONIZE
 
 complete -c aclck -f
-complete -c aclck -n "not __fish_seen_subcommand_from $words" -a "$words"
+complete -c aclck -n "not __fish_seen_subcommand_from $words" -a check-nfs \
+    -d 'Whether an NFSv4 list gets a user all rights of a mask'
+complete -c aclck -n "not __fish_seen_subcommand_from $words" -a show-nfs -d 'The text of an NFSv4 list'
+complete -c aclck -n "not __fish_seen_subcommand_from $words" -a encode -d 'The bytes of the NFSv4 list of a text'
+complete -c aclck -n "not __fish_seen_subcommand_from $words" -a child -d 'The NFSv4 list of a new object'
+complete -c aclck -n "not __fish_seen_subcommand_from $words" -a mode -d 'The mode of an NFSv4 list'
+complete -c aclck -n "not __fish_seen_subcommand_from $words" -a table \
+    -d 'The lines of the normal form about one right'
+complete -c aclck -n "not __fish_seen_subcommand_from $words" -a normalize -d 'The normal form of an NFSv4 list'
+complete -c aclck -n "not __fish_seen_subcommand_from $words" -a compare -d 'Whether two NFSv4 lists grant the same'
+complete -c aclck -n "not __fish_seen_subcommand_from $words" -a show-posix -d 'The text of a POSIX list'
+complete -c aclck -n "not __fish_seen_subcommand_from $words" -a check-posix \
+    -d 'Whether a POSIX list gives a user all permissions'
+complete -c aclck -n "not __fish_seen_subcommand_from $words" -a calc-mask \
+    -d 'A POSIX list with a mask that limits no entry'
+complete -c aclck -n "not __fish_seen_subcommand_from $words" -a chmod -d 'A POSIX list with another mode'
+complete -c aclck -n "not __fish_seen_subcommand_from $words" -a create -d 'The POSIX list of a new object'
+complete -c aclck -n "not __fish_seen_subcommand_from $words" -a bridge -d 'The NFSv4 list of a POSIX list'
 complete -c aclck -n '__fish_seen_subcommand_from check-nfs check-posix' -l owner -x -d 'The owner of the object'
 complete -c aclck -n '__fish_seen_subcommand_from check-nfs check-posix' -l group -x -d 'The group of the object'
 complete -c aclck -n '__fish_seen_subcommand_from check-nfs check-posix' -l user -x -d 'Who asks'

@@ -18,9 +18,10 @@
  * - Any number of threads may call at once, because calls share nothing but what their callers share.
  * - Calls marked "no memory" call no malloc. They may be called from a signal handler, and after fork() in a child of a
  *   program with threads. Calls marked "memory for groups" are such calls too, except if a list has more than 64 ACEs and
- *   the groups of a requester, which do not rise in the order of their bytes, are so many that ACEs times groups are more
- *   than 262,144. Then they sort a copy of the groups, and call malloc and free. If malloc returns NULL, the answer is
- *   the same and takes longer: they never return ACLCK_MEMORY. All other calls use malloc, realloc and free.
+ *   the groups of a requester, which do not rise in the order of their bytes, are more than 16, and so many that ACEs
+ *   times groups are more than 262,144. Then they sort a copy of the groups, and call malloc and free. If malloc returns
+ *   NULL, the answer is the same and takes longer: they never return ACLCK_MEMORY. All other calls use malloc, realloc
+ *   and free.
  *
  * The library needs an x86-64 processor with SSE4.2 and POPCNT (x86-64-v2). aclck_version() runs on every x86-64.
  */
@@ -278,11 +279,11 @@ typedef struct aclck_masks {
 } aclck_masks;
 
 /* An ACE that aclck_read_part() leaves out: its number among all ACEs of the value, the place of its first byte, both
-   from 0, and the reason (enum aclck_reason): ACLCK_AUDIT_OR_ALARM or ACLCK_SPECIAL_WHO. */
+   from 0, and the reason: ACLCK_AUDIT_OR_ALARM or ACLCK_SPECIAL_WHO. */
 typedef struct aclck_left_out {
     uint64_t place;
     uint64_t offset;
-    uint32_t reason;
+    enum aclck_reason reason;
 } aclck_left_out;
 
 /* Room for the ACEs that are left out. */
@@ -299,12 +300,11 @@ typedef struct aclck_list_part {
     uint32_t flags;
 } aclck_list_part;
 
-/* An ACE: its kind (enum aclck_kind), the sums of its flags (enum aclck_flag) and of its rights (enum aclck_right), and
-   its who: a name, or OWNER@, GROUP@ or EVERYONE@. */
+/* An ACE: its kind, the sums of its flags and of its rights, and its who: a name, or OWNER@, GROUP@ or EVERYONE@. */
 typedef struct aclck_ace {
-    uint32_t kind;
-    uint32_t flags;
-    uint32_t mask;
+    enum aclck_kind kind;
+    enum aclck_flag flags;
+    enum aclck_right mask;
     aclck_bytes who;
 } aclck_ace;
 
@@ -361,23 +361,23 @@ typedef struct aclck_posix_text {
     aclck_names names;
 } aclck_posix_text;
 
-/* What is asked of a POSIX ACL: whether a user, who is in these groups, may do all of `want` (enum aclck_permission) to
-   an object of this owner and this group. */
+/* What is asked of a POSIX ACL: whether a user, who is in these groups, may do all of `want` to an object of this owner
+   and this group. */
 typedef struct aclck_posix_question {
     uint32_t owner;
     uint32_t group;
     uint32_t user;
-    uint32_t want;
+    enum aclck_permission want;
     const uint32_t *groups;
     size_t ngroups;
 } aclck_posix_question;
 
-/* An entry of a POSIX ACL: its tag (enum aclck_tag), the id of a USER or GROUP entry, and the sum of its permissions
-   (enum aclck_permission). The id of every other entry means nothing, and calls write 4294967295 there. */
+/* An entry of a POSIX ACL: its tag, the id of a USER or GROUP entry, and the sum of its permissions. The id of every
+   other entry means nothing, and calls write 4294967295 there. */
 typedef struct aclck_entry {
-    uint32_t tag;
+    enum aclck_tag tag;
     uint32_t id;
-    uint32_t perm;
+    enum aclck_permission perm;
 } aclck_entry;
 
 /* The entries of a POSIX ACL. */
@@ -420,10 +420,10 @@ typedef struct aclck_fault {
     uint64_t offset;
     uint64_t line;
     uint64_t column;
-    uint32_t reason;
+    enum aclck_reason reason;
     uint32_t list;
-    uint32_t part;
-    uint32_t tag;
+    enum aclck_part part;
+    enum aclck_tag tag;
 } aclck_fault;
 
 /* Of the rights that are asked: those that an ALLOW decides, and those that a DENY decides. No ACE decides the rest,
@@ -441,21 +441,21 @@ typedef struct aclck_decided_list {
 
 /* What is certain, whoever the names are that nobody knows. Of the rights that are asked: those that are granted, those
    that are not granted and that a DENY decides or may decide, and those that depend on these names. No ACE decides the
-   rest. `request` is the answer for all rights together (enum aclck_request_answer). `left_out` is the number of AUDIT
-   and ALARM ACEs, which grant and deny nothing. */
+   rest. `request` is the answer for all rights together. `left_out` is the number of AUDIT and ALARM ACEs, which grant
+   and deny nothing. */
 typedef struct aclck_possible {
     uint32_t allowed;
     uint32_t denied;
     uint32_t unknown;
-    uint32_t request;
+    enum aclck_request_answer request;
     uint32_t left_out;
 } aclck_possible;
 
-/* The ACE that decides a right: its place in the list, from 0, and its kind (enum aclck_kind). If no ACE decides the
-   right, which denies it, the kind is ACLCK_UNDECIDED and the place is 0. */
+/* The ACE that decides a right: its place in the list, from 0, and its kind. If no ACE decides the right, which denies
+   it, the kind is ACLCK_UNDECIDED and the place is 0. */
 typedef struct aclck_decision {
     uint64_t place;
-    uint32_t kind;
+    enum aclck_kind kind;
 } aclck_decision;
 
 /* How a request is decided by POSIX entries. `granted` is 1 if all that is asked is granted, and otherwise 0. `place`
@@ -465,7 +465,7 @@ typedef struct aclck_decision {
 typedef struct aclck_posix_decision {
     uint64_t place;
     uint32_t granted;
-    uint32_t tag;
+    enum aclck_tag tag;
     uint32_t masked;
 } aclck_posix_decision;
 
@@ -477,7 +477,7 @@ typedef struct aclck_posix_difference {
     uint32_t owner;
     uint32_t group;
     uint32_t user;
-    uint32_t want;
+    enum aclck_permission want;
     uint32_t ngroups;
     uint32_t first_group;
     uint32_t second_group;
@@ -485,14 +485,14 @@ typedef struct aclck_posix_difference {
 
 /* What an NFSv4 list grants and its POSIX ACL denies. `exact` is 1 if there is nothing: the ACL grants read, write and
    execute, each alone, exactly where the list does. Otherwise it is 0, and a user who is in `ngroups` groups, at most
-   three, is granted `want` (enum aclck_permission) on an object of this owner and group by the list, and denied it by
-   the ACL. What is not used is 0. */
+   three, is granted `want` on an object of this owner and group by the list, and denied it by the ACL. What is not used
+   is 0. */
 typedef struct aclck_posix_loss {
     uint32_t exact;
     uint32_t owner;
     uint32_t group;
     uint32_t user;
-    uint32_t want;
+    enum aclck_permission want;
     uint32_t ngroups;
     uint32_t first_group;
     uint32_t second_group;
@@ -607,8 +607,9 @@ enum aclck_status aclck_decide_unknown(aclck_bytes acl, const aclck_object *obje
 
 /* Writes to *ace the ACE at *offset, and moves *offset to the next one. Begin with the offset 0: there the whole list
    is judged. When no ACE is left, `ace->kind` is ACLCK_UNDECIDED, its other numbers are 0, and *offset stays. `ace->who`
-   points into `acl`. An offset that no call wrote gives some ACE of these bytes, ACLCK_REFUSED or ACLCK_BAD_ARGUMENT,
-   and no byte outside is read. Options: ACLCK_NARROW. ACLCK_DONE (*ace, *offset), ACLCK_REFUSED (*fault),
+   points into `acl`. An offset that no call wrote gives some ACE of these bytes, the end of the list, ACLCK_REFUSED or
+   ACLCK_BAD_ARGUMENT, and no byte outside is read. At the offset acl.len, if it is not 0, no ACE is left, also where the
+   bytes are no list. Options: ACLCK_NARROW. ACLCK_DONE (*ace, *offset), ACLCK_REFUSED (*fault),
    ACLCK_BAD_ARGUMENT: also where *offset is above acl.len. No memory. */
 ACLCK_CALL ACLCK_CHANGES(3) ACLCK_WRITES(4) ACLCK_WRITES(5)
 enum aclck_status aclck_next(aclck_bytes acl, enum aclck_option options, size_t *offset, aclck_ace *ace,
@@ -792,7 +793,7 @@ enum aclck_status aclck_mask_text(enum aclck_right mask, aclck_buffer out, size_
 /* Writes the name of a reason, as the program prints it. ACLCK_DONE (`out`, *needed), ACLCK_BAD_ARGUMENT: no reason has
    this number, ACLCK_SHORT (*needed). 13 bytes are always enough. */
 ACLCK_CALL ACLCK_WRITES(3)
-enum aclck_status aclck_reason_text(uint32_t reason, aclck_buffer out, size_t *needed);
+enum aclck_status aclck_reason_text(enum aclck_reason reason, aclck_buffer out, size_t *needed);
 
 /* ---- POSIX ACLs: texts as acl(5) and docs/formats.md describe them, with a table of the names that a text may use. */
 
@@ -989,9 +990,15 @@ static inline aclck_requester aclck_requester_of(aclck_bytes user, const aclck_b
 #ifdef __cplusplus
 }
 
-/* Sums of rights, and sums of options. */
+/* Sums of rights, of flags, of permissions and of options. */
 static inline enum aclck_right operator|(enum aclck_right a, enum aclck_right b) {
     return (enum aclck_right)((uint32_t)a | (uint32_t)b);
+}
+static inline enum aclck_flag operator|(enum aclck_flag a, enum aclck_flag b) {
+    return (enum aclck_flag)((uint32_t)a | (uint32_t)b);
+}
+static inline enum aclck_permission operator|(enum aclck_permission a, enum aclck_permission b) {
+    return (enum aclck_permission)((uint32_t)a | (uint32_t)b);
 }
 static inline enum aclck_option operator|(enum aclck_option a, enum aclck_option b) {
     return (enum aclck_option)((uint32_t)a | (uint32_t)b);

@@ -116,6 +116,8 @@ CREATE FUNCTION acl_posix_calc_mask(acl text, names text[] DEFAULT '{}') RETURNS
     AS 'MODULE_PATHNAME', 'sql_posix_text_calc_mask' LANGUAGE C IMMUTABLE STRICT PARALLEL SAFE COST 200;
 CREATE FUNCTION acl_posix_create(acl text, mode int, umask int, directory bool, names text[] DEFAULT '{}') RETURNS text
     AS 'MODULE_PATHNAME', 'sql_posix_text_create' LANGUAGE C IMMUTABLE STRICT PARALLEL SAFE COST 200;
+CREATE FUNCTION acl_attribute(acl text, names text[] DEFAULT '{}') RETURNS bytea
+    AS 'MODULE_PATHNAME', 'sql_attribute' LANGUAGE C IMMUTABLE STRICT PARALLEL SAFE COST 300;
 CREATE FUNCTION acl_posix_bridge(acl text, names text[] DEFAULT '{}') RETURNS bytea
     AS 'MODULE_PATHNAME', 'sql_posix_text_bridge' LANGUAGE C IMMUTABLE STRICT PARALLEL SAFE COST 200;
 

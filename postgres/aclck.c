@@ -325,6 +325,18 @@ Datum sql_posix_text_create(PG_FUNCTION_ARGS)
     return PointerGetDatum(made(make_posix_create, &given, A_TEXT));
 }
 
+/* The text is judged, and its names become ids, when it is shown. */
+PG_FUNCTION_INFO_V1(sql_attribute);
+Datum sql_attribute(PG_FUNCTION_ARGS)
+{
+    const struct given text = text_at(fcinfo, 1);
+    struct given given = {0};
+    given.bytes = bytes_of(made(make_posix_show, &text, A_TEXT));
+    given.entries = most_entries(given.bytes.len);
+    given.room = palloc(given.entries * sizeof *given.room);
+    return PointerGetDatum(made(make_attribute, &given, A_TEXT));
+}
+
 PG_FUNCTION_INFO_V1(sql_posix_text_bridge);
 Datum sql_posix_text_bridge(PG_FUNCTION_ARGS)
 {

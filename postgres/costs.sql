@@ -45,7 +45,8 @@ WITH calls(call) AS (VALUES
     ('acl_posix_bridge(posix)'), ('acl_posix_of_mode(number)'), ('acl_posix_fault(posix_text)'),
     ('acl_posix_grants(posix_text, 1, 2, 3, ''{4,5}'', number)'), ('acl_posix_show(posix_text)'),
     ('acl_posix_chmod(posix_text, number)'), ('acl_posix_calc_mask(posix_text)'),
-    ('acl_posix_create(posix_text, number, 0, false)'), ('acl_posix_bridge(posix_text)')),
+    ('acl_posix_create(posix_text, number, 0, false)'), ('acl_posix_bridge(posix_text)'),
+    ('acl_attribute(posix_text)')),
   scan(took) AS MATERIALIZED (SELECT pg_temp.took('number')),
   unit(took) AS MATERIALIZED (
     SELECT (pg_temp.took(repeat('int4pl(', 100) || 'number' || repeat(', 1)', 100)) - scan.took) / 100 FROM scan),

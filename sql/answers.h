@@ -203,6 +203,16 @@ static inline enum aclck_status make_attribute_bridge(const struct given *given,
     return status ? status : aclck_entries_bridge(entries, out, needed, fault);
 }
 
+/* The attribute with the access ACL of a text that make_posix_show() wrote, which has ids and no names. */
+static inline enum aclck_status make_attribute(const struct given *given, aclck_buffer out, size_t *needed,
+                                               aclck_fault *fault) {
+    const aclck_posix_text text = text_of(given);
+    const aclck_entry_buffer room = {given->room, given->entries};
+    aclck_entries entries = {given->room, 0};
+    enum aclck_status status = aclck_entries_from_form(&text, ACLCK_POSIX_TEXT, room, &entries.len, fault);
+    return status ? status : aclck_entries_to_attribute(entries, out, needed, fault);
+}
+
 /* How a new ACL is made of an ACL. */
 enum change { CHMOD, CALC_MASK, CREATE };
 

@@ -315,6 +315,23 @@ static void posix_bridge(struct call *call) {
     show_bytes(call, source == A_TEXT ? make_posix_bridge : make_attribute_bridge, &given, source, 0);
 }
 
+/* The text is judged, and its names become ids, when it is shown. */
+static void attribute(struct call *call) {
+    struct given text = {0}, given = {0};
+    size_t len;
+    void *shown;
+    text.bytes = text_at(call, 0);
+    names_at(call, 1, &text);
+    shown = made(call, make_posix_show, &text, A_TEXT, &len);
+    if (!shown)
+        return;
+    given.bytes = aclck_bytes_of(shown, len);
+    given.entries = most_entries(len);
+    given.room = hold(call, given.entries, sizeof *given.room);
+    show_bytes(call, make_attribute, &given, A_TEXT, 0);
+    sqlite3_free(shown);
+}
+
 static void posix_of_mode(struct call *call) {
     struct given given = {0};
     given.number = number_at(call, 0);
@@ -702,6 +719,8 @@ static const struct function FUNCTIONS[] = {
     {"acl_posix_bridge", 1, posix_bridge, NULL, 0},
     {"acl_posix_bridge", 2, posix_bridge, NULL, 0},
     {"acl_posix_of_mode", 1, posix_of_mode, NULL, 0},
+    {"acl_attribute", 1, attribute, NULL, 0},
+    {"acl_attribute", 2, attribute, NULL, 0},
 };
 
 static void run(sqlite3_context *context, int count, sqlite3_value **values) {

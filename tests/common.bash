@@ -8,6 +8,12 @@ wrong() {
   failed=1
 }
 
+# Says that $1 is not tried, because of $2, in the form that the gate counts. If a package is missing, $2 names it, or a
+# program of it, and says `not installed`.
+skip() {
+  echo "$script: SKIPPED: $1: $2"
+}
+
 # Sets `program` to the executable $1, or to the one that `rt ci` leaves, and ends the script if there is none.
 find_program() {
   program=$(realpath -m "${1:-crates/aclck/out/aclck}")

@@ -16,19 +16,34 @@ if not os.path.exists(LIBRARY):
 sys.path.insert(0, PYTHON)
 
 
-class Loud(unittest.TextTestResult):
-    """Results that say which tests were skipped, and why."""
+def say_skipped(what, why):
+    """Says what is not tried, and why, in the form that the gate counts. If a package is missing, `why` names it, or a
+    program of it, and says `not installed`."""
+    print(f"{SCRIPT}: SKIPPED: {what}: {why}", flush=True)
+
+
+class Counted(unittest.TextTestResult):
+    """Results that count the tests that pass, and say which are skipped, and why."""
+
+    passed = 0
+
+    def addSuccess(self, test):
+        super().addSuccess(test)
+        self.passed += 1
 
     def addSkip(self, test, reason):
         super().addSkip(test, reason)
-        print(f"{SCRIPT}: SKIPPED: {test.id().rpartition('.')[2]}: {reason}")
+        say_skipped(test.id().replace("__main__.", ""), reason)
 
 
 def run():
-    """Runs the tests of a script, or those that its words name, and exits with 1 if one fails. Signals that a shell or
-    nohup(1) had ignored have their usual effect."""
+    """Runs the tests of a script, or those that its words name, and exits with 1 if one fails. The last line is
+    `N passed, M failed`. Signals that a shell or nohup(1) had ignored have their usual effect."""
     signal.signal(signal.SIGINT, signal.default_int_handler)
     for number in (signal.SIGTERM, signal.SIGHUP):
         signal.signal(number, signal.SIG_DFL)
-    runner = unittest.TextTestRunner(resultclass=Loud, verbosity=0, stream=sys.stdout)
-    sys.exit(not unittest.main(exit=False, testRunner=runner).result.wasSuccessful())
+    runner = unittest.TextTestRunner(resultclass=Counted, verbosity=0, stream=sys.stdout)
+    result = unittest.main(exit=False, testRunner=runner).result
+    failed = len(result.failures) + len(result.errors) + len(result.unexpectedSuccesses)
+    print(f"{result.passed} passed, {failed} failed")
+    sys.exit(not result.wasSuccessful())

@@ -766,7 +766,7 @@ static void is_kernel_of_the_same_mind(const char *path) {
     static const aclck_bytes probe = ATTRIBUTE(HEAD A_USER_OBJ("\7") A_GROUP_OBJ("\5") A_OTHER("\1"));
     int accepted = 0, count = 4000;
     if (setxattr(path, "system.posix_acl_access", probe.at, probe.len, 0)) {
-        printf("library_entries: skipped: the file system of %s keeps no ACLs\n", path);
+        printf("library: SKIPPED: attributes that the kernel accepts: the file system of %s has no lists\n", path);
         return;
     }
     for (int i = 0; i < count; i++) {

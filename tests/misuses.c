@@ -1,5 +1,5 @@
 /* Misuses of aclck.h, which tests/library compiles one by one behind these lines: a compiler must warn of each, or
-   refuse it. */
+   refuse it. Of values that are compared with a constant of another enum, clang need not warn in C. */
 #include "aclck.h"
 
 void use(int what);
@@ -168,3 +168,46 @@ void f(aclck_bytes acl, aclck_object object, aclck_requester who, aclck_question
     aclck_next(acl, ACLCK_FULL, &offset, &ace, &fault);
 /* misuse: what is certain in place of what is decided */
     use(aclck_decide_unknown(acl, &object, &who, &question, &decided, &fault));
+/* misuse: a right as a permission that is asked */
+    const aclck_posix_question rights_asked = {1, 2, 3, ACLCK_READ_DATA, id_who.groups, id_who.ngroups};
+    use(aclck_entries_check(entries, &rights_asked, &granted, &fault));
+/* misuse: a tag as a permission that is asked */
+    const aclck_posix_question tag_asked = {1, 2, 3, ACLCK_TAG_USER, id_who.groups, id_who.ngroups};
+    use(aclck_entries_check(entries, &tag_asked, &granted, &fault));
+/* misuse: an option as a permission that is asked */
+    const aclck_posix_question option_asked = {1, 2, 3, ACLCK_ADD_MASK, id_who.groups, id_who.ngroups};
+    use(aclck_entries_check(entries, &option_asked, &granted, &fault));
+/* misuse: a right as the permission of an entry */
+    room_for_one.perm = ACLCK_WRITE_DATA;
+/* misuse: a permission as the tag of an entry */
+    room_for_one.tag = ACLCK_PERM_READ;
+/* misuse: a kind of an ACE as the tag of an entry */
+    room_for_one.tag = ACLCK_DENY;
+/* misuse: a reason as the tag of an entry */
+    room_for_one.tag = ACLCK_MASK;
+/* misuse: the tag and the permission of an entry exchanged */
+    const aclck_entry turned = {ACLCK_PERM_READ, 7, ACLCK_TAG_USER};
+    use(turned.id == 7);
+/* misuse: a tag that is compared with a reason */
+    use(room_for_one.tag == ACLCK_MASK);
+/* misuse: a loss that is compared with a right */
+    use(loss.want == ACLCK_READ_DATA);
+/* misuse: the flags and the mask of an ACE exchanged */
+    const aclck_ace turned_ace = {ACLCK_ALLOW, ACLCK_READ_DATA, ACLCK_IDENTIFIER_GROUP, who.user};
+    use(turned_ace.who.len > 0);
+/* misuse: a flag as the kind of an ACE */
+    ace.kind = ACLCK_FILE_INHERIT;
+/* misuse: a permission of POSIX in the mask of an ACE */
+    ace.mask = ACLCK_PERM_READ;
+/* misuse: the kind of a decision that is compared with a status */
+    use(decision.kind == ACLCK_DONE);
+/* misuse: a reason that is compared with a status */
+    use(fault.reason == ACLCK_REFUSED);
+/* misuse: a status as a reason */
+    use(aclck_reason_text(ACLCK_REFUSED, out, &needed));
+/* misuse: a part that is compared with a tag */
+    use(fault.part == ACLCK_TAG_USER);
+/* misuse: what is certain that is compared with a status */
+    aclck_possible possible;
+    use(aclck_decide_unknown(acl, &object, &who, &question, &possible, &fault));
+    use(possible.request == ACLCK_DONE);

@@ -12,7 +12,7 @@ import tempfile
 import time
 import unittest
 
-from harness import LIBRARY, ROOT, SCRIPT, run
+from harness import LIBRARY, ROOT, run, say_skipped
 
 MADE = os.path.dirname(os.path.abspath(LIBRARY))
 
@@ -133,7 +133,7 @@ def run_on_server():
     try:
         OnServer.server = Server()
     except Missing as what:
-        sys.exit(print(f"{SCRIPT}: skipped, because {what}"))
+        sys.exit(say_skipped("all of it", what))
     run()
 
 

@@ -1,8 +1,8 @@
 """The snapshots of docs/database.md, for tests/sqlite and tests/tree_load."""
 import os
 
-from encoders import nfs
-from sql_cases import POSIX
+from encoders import nfs, posix
+from sql_cases import ENTRIES, POSIX
 from trees import ROOT  # which finds the library
 from aclck_tree.snapshot import Found, StoredList, Tree
 from aclck_tree.writer import new_snapshot
@@ -15,6 +15,7 @@ LISTS = {b"": nfs((0, 0, 7, "OWNER@"), (0, 0x43, 7, "editors@example.com"), (0, 
          b"forecast.ods": nfs((0, 0, 7, "OWNER@"), (0, 0x40, 1, "editors@example.com"), (0, 0, 0x80, "EVERYONE@")),
          b"minutes.odt": nfs((0, 0, 7, "OWNER@"), (0, 0, 1, "carl@example.com")),
          b"ledger.ods": nfs((2, 0x10, 2, "EVERYONE@"), (0, 0, 1, "EVERYONE@"), (0, 0, 7, "OWNER@"))}
+NOTES_OF_TUESDAY = posix(*((tag, 6 if tag == 16 else perm, number) for tag, perm, number in ENTRIES))
 PLAN_OF_TUESDAY = nfs((0, 0, 7, "OWNER@"), (0, 0x40, 7, "editors@example.com"), (0, 0, 0x80, "EVERYONE@"))
 
 
@@ -26,11 +27,12 @@ def page():
 
 def make_snapshots(directory):
     """Makes snapshots of a tree of alice: six objects with NFSv4 lists, one with a POSIX list, one with a mode. On
-    Tuesday, the list of the plan denies bob nothing any more."""
-    for name, lists in (("monday", LISTS), ("tuesday", {**LISTS, b"plan.odt": PLAN_OF_TUESDAY})):
+    Tuesday, the list of the plan denies bob nothing any more, and the mask of the notes lets him write."""
+    for name, lists, notes in (("monday", LISTS, POSIX),
+                               ("tuesday", {**LISTS, b"plan.odt": PLAN_OF_TUESDAY}, NOTES_OF_TUESDAY)):
         found = [Found(path, "f" if path else "d", 0o755, 1001, 20, StoredList("nfs4", 0, data, None))
                  for path, data in lists.items()]
-        found.append(Found(b"notes.odt", "f", 0o640, 1002, 20, StoredList("posix", 0o640, POSIX, None)))
+        found.append(Found(b"notes.odt", "f", 0o640, 1002, 20, StoredList("posix", 0o640, notes, None)))
         found.append(Found(b"draft.odt", "f", 0o604, 1001, 20, StoredList("mode", 0o604, None, None)))
         with new_snapshot(os.path.join(directory, name)) as writer:
             when = DAYS[name]

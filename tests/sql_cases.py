@@ -326,6 +326,21 @@ def posix_rows():
     yield "acl_posix_excess", (POSIX, PLAIN), {"want": 4}
 
 
+def attributes_of_texts():
+    """A text and its attribute, of which the second is made here as acl(5) and the kernel have it."""
+    yield "acl_attribute", (Text(b"u::rwx,g::r-x,o::---"),), PLAIN
+    lines = Text(b"# file: a\nuser::rwx\nuser:bob:rw-\ngroup::r-x\ngroup:30:rw-\nmask::r--\nother::---\n\n"
+                 b"default:user::rwx\ndefault:group::---\ndefault:other::---\n")
+    yield "acl_attribute", (lines, Names((b"u:bob=1002",))), POSIX
+    yield "acl_attribute", (lines,), Refused("text refused: UnknownName at line 3 column 6")
+    yield "acl_attribute", (Text(b"u::rwx,g::r"),), Refused("text refused: Invalid access: Miss OTHER")
+    yield "acl_attribute", (SHOWN, Names((b"u:bob",))), Refused("a name is u:NAME=ID or g:NAME=ID")
+    many = [(2, 6, number) for number in range(5000, 8000)]
+    spelled = b"u::rw,g::r,o::-,m::rw," + b",".join(b"u:%d:rw" % number for _, _, number in many)
+    yield "acl_attribute", (Text(spelled),), posix((1, 6, ANYBODY), *many, (4, 4, ANYBODY), (16, 6, ANYBODY),
+                                                  (32, 0, ANYBODY))
+
+
 def faults_of_attributes():
     twice = posix(ENTRIES[0], ENTRIES[0], ENTRIES[2], ENTRIES[5])
     for data, wanted in ((b"", "Size"), (POSIX[:-1], "Size"), (b"\1" + POSIX[1:], "Version"),
@@ -360,7 +375,8 @@ def nothing():
     """NULL in the place of an argument."""
     for function, arguments in (("acl_grants", (LIST, *BOB, Names(()), 1)), ("acl_same", (LIST, READ)),
                                 ("acl_fault", (LIST,)), ("acl_posix_grants", (POSIX, 1, 2, 3, Ids(()), 4)),
-                                ("acl_compare", (LIST, READ)), ("acl_posix_show", (SHOWN, Text(b"short")))):
+                                ("acl_compare", (LIST, READ)), ("acl_attribute", (SHOWN, Names((b"u:bob=1",)))),
+                                ("acl_posix_show", (SHOWN, Text(b"short")))):
         for one in range(len(arguments)):
             yield function, (*arguments[:one], None, *arguments[one + 1:]), None
 
@@ -386,8 +402,8 @@ def what_means_nothing():
 
 
 def by_hand():
-    for rows in (who_decides, entries_of_lists, excess_of_lists, lists_of_objects, posix_rows, faults_of_attributes,
-                 faults_of_lists, names_of_rights, nothing, what_means_nothing):
+    for rows in (who_decides, entries_of_lists, excess_of_lists, lists_of_objects, posix_rows, attributes_of_texts,
+                 faults_of_attributes, faults_of_lists, names_of_rights, nothing, what_means_nothing):
         for function, arguments, wanted in rows():
             yield Case(function, arguments, wanted, rows.__name__)
 

@@ -12,11 +12,13 @@ import unittest
 from unittest import mock
 
 from encoders import ANYBODY, nfs, posix
-from harness import LIBRARY, ROOT, run
+from harness import LIBRARY, ROOT, run, say_skipped
 
 TOOL = os.path.join(ROOT, "bin/aclck-tree")
 IS_ROOT = os.getuid() == 0
 OWNER, EDITORS, BOB = (0, 0, 7, "OWNER@"), (0, 0x40, 7, "editors@example.com"), (1, 0, 6, "bob@example.com")
+TIMES = (1, 0), (10**9, 0), (1, -3600 * 10**9)
+"""File systems for `coarse`: with fine times, with whole seconds, and with a clock that is an hour behind."""
 EVERYONE = (0, 0, 0x80, "EVERYONE@")
 PEOPLE = "alice: staff\nbob: editors staff\ndora: editors\ncarl:\n"
 
@@ -39,6 +41,16 @@ def exchange(first, second, directory=-100):
     """Exchanges two names at once (renameat2(2), RENAME_EXCHANGE), the first below a directory if it is given."""
     if ctypes.CDLL(None, use_errno=True).renameat2(directory, os.fsencode(first), -100, os.fsencode(second), 2):
         raise OSError(ctypes.get_errno(), "renameat2")
+
+
+def coarse(fstat, grain, ahead=0):
+    """Returns `fstat` as it is on a file system whose times of changes are no finer than `grain` nanoseconds, and whose
+    clock is ahead by some."""
+    def cut(handle):
+        status = fstat(handle)
+        rest = {name: getattr(status, name) for name in dir(status) if name.startswith("st_")}
+        return os.stat_result(status, {**rest, "st_ctime_ns": (status.st_ctime_ns + ahead) // grain * grain})
+    return cut
 
 
 @contextlib.contextmanager

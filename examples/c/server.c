@@ -14,23 +14,40 @@
  *     chown OBJECT UID GID                      change NUMBER
  *     access OBJECT UID GID[,GID..] RIGHTS      those of the rights that are granted, and the last change of the object
  *
+ * No client can stop the server for others. A thread takes a client that has sent something, answers its whole lines,
+ * and waits for nobody: neither for the rest of a line, nor for a client that does not take its replies, which is
+ * closed, nor for a list that is no file. A line has a bound, and so has the number of clients: a new one takes the
+ * place of the one that asked nothing for the longest time.
+ *
  * The cache is right without any event that removes something, because what it keeps of a list depends on the bytes of
  * the list alone, which are the key. The owner, the owning group, the user and the groups come from the object and from
  * the request, each time.
  */
 #include "cache.h"
+#include <errno.h>
+#include <fcntl.h>
+#include <poll.h>
 #include <signal.h>
 #include <stdio.h>
 #include <stdlib.h>
 #include <string.h>
+#include <sys/epoll.h>
 #include <sys/socket.h>
+#include <sys/stat.h>
 #include <sys/un.h>
+#include <time.h>
 #include <unistd.h>
+
+#ifndef SILENCE
+#define SILENCE 60 /* how many seconds a client may ask nothing */
+#endif
 
 enum {
     THREADS = 8,
+    CLIENTS = 256,
     OBJECTS = 1024,
-    LIST = 65536,
+    LIST = 65536, /* bytes */
+    LINE = 65536, /* bytes */
     OWNER_RIGHTS = ACLCK_READ_ACL | ACLCK_WRITE_ACL | ACLCK_READ_ATTRIBUTES | ACLCK_WRITE_ATTRIBUTES
 };
 
@@ -155,27 +172,39 @@ static uint32_t *read_groups(const char *word, size_t *ngroups) {
     return ids;
 }
 
+/* Reads a file. Returns how many bytes it has, at most LIST + 1, or -1. A FIFO or a device could make the thread wait
+   for ever, so it is not read. */
+static ssize_t read_file(const char *name, unsigned char *bytes) {
+    struct stat seen;
+    size_t len = 0;
+    ssize_t more = -1;
+    int file = open(name, O_RDONLY | O_NONBLOCK | O_NOCTTY | O_CLOEXEC);
+    if (file < 0)
+        return -1;
+    if (fstat(file, &seen) == 0 && S_ISREG(seen.st_mode))
+        while ((more = read(file, bytes + len, LIST + 1 - len)) > 0)
+            len += (size_t)more;
+    close(file);
+    return more < 0 ? -1 : (ssize_t)len;
+}
+
 /* Holds the list in a file. Returns NULL, and writes the reply, if there is none. */
 static entry *open_list(const char *name, FILE *out) {
     enum aclck_status status = ACLCK_BAD_ARGUMENT;
     aclck_fault fault;
     char reason[16];
-    size_t len = 0, named = 0;
+    size_t named = 0;
     entry *list = NULL;
-    FILE *file = fopen(name, "rb");
     unsigned char *bytes = malloc(LIST + 1);
-    if (file && bytes)
-        len = fread(bytes, 1, LIST + 1, file);
-    if (file && bytes && !ferror(file) && len <= LIST)
-        list = hold(&lists, bytes, len, &status, &fault);
+    ssize_t len = bytes ? read_file(name, bytes) : -1;
+    if (len >= 0 && len <= LIST)
+        list = hold(&lists, bytes, (size_t)len, &status, &fault);
     if (status == ACLCK_REFUSED &&
         aclck_reason_text(fault.reason, aclck_buffer_of(reason, sizeof reason), &named) == ACLCK_DONE)
         fprintf(out, "refused: %.*s at %s %llu\n", (int)named, reason,
                 fault.reason == ACLCK_UNKNOWN_NAME ? "ACE" : "byte", (unsigned long long)fault.offset);
     else if (!list)
         fprintf(out, "no list\n");
-    if (file)
-        fclose(file);
     free(bytes);
     return list;
 }
@@ -252,10 +281,14 @@ static void answer(char *line, FILE *out) {
     }
 }
 
+/* Answers the lines of a file. One that is too long, and all that follows it, has no answer but the last. */
 static void serve(FILE *in, FILE *out) {
-    char *line = NULL;
-    size_t size = 0;
-    while (getline(&line, &size, in) > 0) {
+    char *line = malloc(LINE);
+    while (line && fgets(line, LINE, in)) {
+        if (strlen(line) == LINE - 1) {
+            fprintf(out, "no request\n");
+            break;
+        }
         answer(line, out);
         if (fflush(out))
             break;
@@ -263,25 +296,158 @@ static void serve(FILE *in, FILE *out) {
     free(line);
 }
 
-/* ---- The program */
+/* ---- Clients */
 
-static void *serve_clients(void *at) {
+/* A client. One thread at a time has it, and what is in the line is the beginning of a request. */
+typedef struct {
+    int handle;
+    size_t len;
+    struct timespec asked; /* when it came, or asked last */
+    char line[LINE];
+} client;
+
+static client *clients[CLIENTS];
+static size_t client_count;
+static pthread_mutex_t clients_lock = PTHREAD_MUTEX_INITIALIZER;
+static pthread_cond_t client_went = PTHREAD_COND_INITIALIZER;
+static int listener, asking; /* the socket, and the epoll instance of the clients */
+
+/* Sends the reply to a request. Returns 0 if the client does not take it. */
+static int reply(int handle, char *request) {
+    char *text = NULL;
+    size_t size = 0;
+    int is_sent = 0;
+    FILE *out = open_memstream(&text, &size);
+    if (out) {
+        answer(request, out);
+        is_sent = !fclose(out) && send(handle, text, size, MSG_DONTWAIT) == (ssize_t)size;
+    }
+    free(text);
+    return is_sent;
+}
+
+/* Answers what a client has sent, and counts the requests. Returns 0 if the client is to be closed. */
+static int serve_client(client *c, size_t *requests) {
+    size_t begin = 0, seen = c->len;
+    ssize_t got = recv(c->handle, c->line + c->len, LINE - c->len, MSG_DONTWAIT);
+    char *end;
+    if (got <= 0)
+        return got < 0 && (errno == EAGAIN || errno == EINTR);
+    c->len += (size_t)got;
+    while ((end = memchr(c->line + seen, '\n', c->len - seen)) != NULL) {
+        *end = '\0';
+        if (!reply(c->handle, c->line + begin))
+            return 0;
+        begin = seen = (size_t)(end - c->line) + 1;
+        ++*requests;
+    }
+    c->len -= begin;
+    memmove(c->line, c->line + begin, c->len);
+    return c->len < LINE;
+}
+
+/* Lets a thread take a client that sends something. Returns 0 if that fails. */
+static int await(client *c, int how) {
+    struct epoll_event event = {.events = EPOLLIN | EPOLLONESHOT, .data.ptr = c};
+    return epoll_ctl(asking, how, c->handle, &event) == 0;
+}
+
+static void close_client(client *c) {
+    pthread_mutex_lock(&clients_lock);
+    for (size_t i = 0; i < client_count; i++)
+        if (clients[i] == c)
+            clients[i] = clients[--client_count];
+    pthread_cond_signal(&client_went);
+    pthread_mutex_unlock(&clients_lock);
+    close(c->handle);
+    free(c);
+}
+
+static void *serve_clients(void *unused) {
+    (void)unused;
     for (;;) {
-        int client = accept(*(int *)at, NULL, NULL), copy = client < 0 ? -1 : dup(client);
-        FILE *in = client < 0 ? NULL : fdopen(client, "r"), *out = copy < 0 ? NULL : fdopen(copy, "w");
-        if (in && out)
-            serve(in, out);
-        if (in)
-            fclose(in);
-        if (out)
-            fclose(out);
+        struct epoll_event event;
+        size_t requests = 0;
+        client *c;
+        int stays;
+        if (epoll_wait(asking, &event, 1, -1) != 1)
+            continue;
+        c = event.data.ptr;
+        pthread_mutex_lock(&clients_lock); /* what the thread before wrote is seen */
+        pthread_mutex_unlock(&clients_lock);
+        stays = serve_client(c, &requests);
+        pthread_mutex_lock(&clients_lock);
+        if (requests)
+            clock_gettime(CLOCK_MONOTONIC, &c->asked);
+        stays = stays && await(c, EPOLL_CTL_MOD); /* from here on, another thread may have it */
+        pthread_mutex_unlock(&clients_lock);
+        if (!stays)
+            close_client(c);
     }
     return NULL;
 }
 
+/* Ends the connection of each client that asked nothing for SILENCE seconds. A thread then finds that the client has
+   gone, and closes it. The lock is held. */
+static void end_silent_clients(void) {
+    struct timespec now;
+    clock_gettime(CLOCK_MONOTONIC, &now);
+    for (size_t i = 0; i < client_count; i++)
+        if (now.tv_sec - clients[i]->asked.tv_sec > SILENCE)
+            shutdown(clients[i]->handle, SHUT_RDWR);
+}
+
+/* Ends the connection of the client that asked nothing for the longest time. The lock is held. */
+static void end_most_silent_client(void) {
+    client *silent = clients[0];
+    for (size_t i = 1; i < client_count; i++) {
+        const struct timespec *one = &clients[i]->asked, *other = &silent->asked;
+        if (one->tv_sec < other->tv_sec || (one->tv_sec == other->tv_sec && one->tv_nsec < other->tv_nsec))
+            silent = clients[i];
+    }
+    shutdown(silent->handle, SHUT_RDWR);
+}
+
+/* Takes a client that connects. */
+static void accept_client(void) {
+    int handle = accept(listener, NULL, NULL);
+    client *c = handle < 0 ? NULL : malloc(sizeof *c);
+    if (!c) {
+        if (handle >= 0)
+            close(handle);
+        return;
+    }
+    c->handle = handle;
+    c->len = 0;
+    clock_gettime(CLOCK_MONOTONIC, &c->asked);
+    pthread_mutex_lock(&clients_lock);
+    while (client_count == CLIENTS) {
+        end_most_silent_client();
+        pthread_cond_wait(&client_went, &clients_lock);
+    }
+    clients[client_count++] = c;
+    pthread_mutex_unlock(&clients_lock);
+    if (!await(c, EPOLL_CTL_ADD))
+        close_client(c);
+}
+
+static void *accept_clients(void *unused) {
+    struct pollfd coming = {.fd = listener, .events = POLLIN};
+    (void)unused;
+    for (;;) {
+        if (poll(&coming, 1, 1000) > 0)
+            accept_client();
+        pthread_mutex_lock(&clients_lock);
+        end_silent_clients();
+        pthread_mutex_unlock(&clients_lock);
+    }
+    return NULL;
+}
+
+/* ---- The program */
+
 /* Serves the clients of a socket, until standard input ends. */
 static int listen_at(const char *path) {
-    static int listener;
     struct sockaddr_un address = {.sun_family = AF_UNIX};
     pthread_t thread;
     if (strlen(path) >= sizeof address.sun_path) {
@@ -290,12 +456,14 @@ static int listen_at(const char *path) {
     }
     strcpy(address.sun_path, path);
     listener = socket(AF_UNIX, SOCK_STREAM, 0);
-    if (listener < 0 || bind(listener, (struct sockaddr *)&address, sizeof address) || listen(listener, THREADS)) {
+    asking = epoll_create1(EPOLL_CLOEXEC);
+    if (listener < 0 || asking < 0 || bind(listener, (struct sockaddr *)&address, sizeof address) ||
+        listen(listener, CLIENTS)) {
         perror(path);
         return 4;
     }
-    for (int i = 0; i < THREADS; i++)
-        if (pthread_create(&thread, NULL, serve_clients, &listener))
+    for (int i = 0; i <= THREADS; i++)
+        if (pthread_create(&thread, NULL, i < THREADS ? serve_clients : accept_clients, NULL))
             return 4;
     printf("ready\n");
     fflush(stdout);

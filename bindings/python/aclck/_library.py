@@ -5,18 +5,18 @@ from __future__ import annotations
 import ctypes
 import operator
 import os
-from typing import Any, Callable, Iterable, List, Sequence, Tuple, TypeVar, Union
+from typing import Any, Callable, List, Sequence, Tuple, Union
 
 from ._loading import load
+from ._names import Name as Name
+from ._names import decoded as decoded
+from ._names import encoded as encoded
+from ._names import exact as exact
+from ._names import several as several
 from .faults import refused
-
-Name = Union[str, bytes]
-"""The name of a user or a group."""
 
 File = Union[int, str, bytes, "os.PathLike[str]"]
 """A file: its path, or the number of an open descriptor."""
-
-T = TypeVar("T")
 
 DONE, REFUSED, BAD_ARGUMENT, MEMORY, SHORT = 0, 2, 3, 4, 5
 UNDECIDED = 2
@@ -304,30 +304,10 @@ VERSION = f"{_number >> 16}.{_number >> 8 & 255}.{_number & 255}"
 """The version of the library's interface."""
 
 
-def encoded(name: Name) -> bytes:
-    """Returns a name or a text as bytes. Raises TypeError if it is neither `str` nor `bytes`."""
-    if isinstance(name, str):
-        return name.encode("utf-8", "surrogateescape")
-    if isinstance(name, bytes):
-        return name
-    raise TypeError(f"a name or a text is str or bytes, and not {type(name).__name__}")
-
-
-def decoded(name: bytes) -> str:
-    """Returns bytes as a name or a text."""
-    return name.decode("utf-8", "surrogateescape")
-
-
-def several(groups: Iterable[T]) -> List[T]:
-    """Returns some groups as a list. Raises TypeError for one name, whose letters or bytes would be the groups."""
-    if isinstance(groups, (str, bytes, bytearray, memoryview)):
-        raise TypeError(f"groups are a list or another iterable, and not {type(groups).__name__}")
-    return list(groups)
-
-
 def in_c(held: bytes) -> Bytes:
     """Returns some bytes for C."""
-    return Bytes(held, len(held))
+    copied = exact(held)
+    return Bytes(copied, len(copied))
 
 
 def found_in(spelled: Bytes) -> bytes:
@@ -341,11 +321,13 @@ def owned(owner: Name, group: Name) -> Object:
 
 
 def word(number: int) -> int:
-    """Returns a number that C gets in 32 bits. ctypes itself would cut a larger number in silence. Raises ValueError if
-    the number is outside 32 bits, and TypeError if it is not an `int`."""
-    if not 0 <= operator.index(number) <= 0xFFFFFFFF:
-        raise ValueError(f"outside 32 bits: {number:#x}")
-    return number
+    """Returns a number that C gets in 32 bits. ctypes itself would cut a larger number in silence, and a subclass of
+    `int` can compare as another number. Raises ValueError if the number is outside 32 bits, and TypeError if it is not
+    an `int`."""
+    found = int.__index__(operator.index(number))
+    if not 0 <= found <= 0xFFFFFFFF:
+        raise ValueError(f"outside 32 bits: {found:#x}")
+    return found
 
 
 def short_text(name: str, number: int) -> str:

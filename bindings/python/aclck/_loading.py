@@ -1,7 +1,8 @@
 """Loads libaclck.so.1.
 
-If the variable ACLCK_LIBRARY is set, it is the path of the library. Otherwise the library is searched next to this
-module, where `make install-library` installs it, where `make library` leaves it, and where the loader searches.
+If the variable ACLCK_LIBRARY is set, it is the path of the library. Otherwise the library is searched in the package
+itself, where a wheel has it, next to this module, where `make install-library` installs it, where `make library` leaves
+it, and where the loader searches.
 """
 
 from __future__ import annotations
@@ -9,8 +10,10 @@ from __future__ import annotations
 import ctypes
 import os
 
-_ABOVE = os.path.dirname(os.path.dirname(os.path.dirname(os.path.dirname(os.path.abspath(__file__)))))
-_PLACES = (os.path.join(_ABOVE, "libaclck.so.1"), os.path.join(_ABOVE, "library", "out", "libaclck.so.1"))
+_PACKAGE = os.path.dirname(os.path.abspath(__file__))
+_ABOVE = os.path.dirname(os.path.dirname(os.path.dirname(_PACKAGE)))
+_PLACES = (os.path.join(_PACKAGE, "libaclck.so.1"), os.path.join(_ABOVE, "libaclck.so.1"),
+           os.path.join(_ABOVE, "library", "out", "libaclck.so.1"))
 
 
 def load() -> ctypes.CDLL:

@@ -101,10 +101,11 @@ def read_part(value: bytes, form: ListForm) -> Tuple[bytes, ListFlag, List[LeftO
 def written(acl: c.Bytes, form: ListForm, flags: int, style: int) -> bytes:
     """Returns the value of flags and of a list. Raises Refused with the place of an ACE if the form cannot hold it, and
     ValueError for a style that is none, which would be the number of another form."""
-    if operator.index(style) & ~int(TextStyle.COMMAS | TextStyle.FULL):
+    chosen = int.__index__(operator.index(style))
+    if chosen & ~int(TextStyle.COMMAS | TextStyle.FULL):
         raise ValueError(f"no style: {style}")
     try:
-        return c.bytes_of("write_form", (acl, _number(form) | style, c.word(flags)), 2 * acl.len + 64)
+        return c.bytes_of("write_form", (acl, _number(form) | chosen, c.word(flags)), 2 * acl.len + 64)
     except Refused as refused:
         raise Refused(refused.reason, ace=refused.offset) from None
 

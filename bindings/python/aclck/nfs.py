@@ -16,7 +16,7 @@ from .forms import LeftOut, ListFlag, ListForm, TextStyle
 from .prepared import Prepared, PreparedIds
 from .questions import Decided, Decision, Difference, Possible, Request, Requesters, TableRow, decided, requester
 from .rights import ALL
-from .tables import NamedIds, table_in_c, tables_in_c
+from .tables import NamedIds, tables_in_c
 
 if TYPE_CHECKING:
     from .posix import ToPosix
@@ -219,9 +219,9 @@ class NfsAcl:
         ValueError as `grants` does, and TypeError if the requesters are not `Requesters`."""
         if not isinstance(requesters, Requesters):
             raise TypeError("granted_many takes Requesters")
-        found, fault = (c.Word * requesters.count)(), c.Fault()
+        found, fault = (c.Word * len(requesters.array))(), c.Fault()
         c.judge(c.calls["check_many"](self._list, c.owned(owner, group),
-                                      c.Requesters(requesters.array, requesters.count), self._question(mask),
+                                      c.Requesters(requesters.array, len(found)), self._question(mask),
                                       c.Masks(found, len(found)), ctypes.byref(fault)), fault)
         return list(found)
 

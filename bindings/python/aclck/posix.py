@@ -6,14 +6,14 @@ import ctypes
 import errno
 import os
 import re
-import stat
 from collections import Counter
-from typing import Iterable, Iterator, List, Mapping, Match, NamedTuple, Optional, Sequence, Tuple, TypeVar, Union
+from typing import Iterable, Iterator, Mapping, Match, NamedTuple, Optional, Tuple, TypeVar, Union
 
 from . import _library as c
 from ._library import File, Name
 from .entries import Entry, held, part_in_c, parted, read_line, value_of
 from .faults import Refused, of_part
+from .files import ACCESS, DEFAULT, at_one_time, remove_attribute
 from .nfs import NfsAcl
 from .tables import NamedIds, table_in_c
 from .tar_texts import DEFAULT_OF_TEXT, DEFAULT_TEXT, TEXT, TarStyle, entries_in, spelled_in_c, text_of
@@ -22,9 +22,6 @@ _ID = re.compile(r"\b(u|user|g|group):(\d+):")
 _NAME = re.compile(r"(?!\d+$)[^\s:,#\\]+")
 _SHORTEST_ACE = 20
 """The number of bytes of the shortest ACE that names somebody."""
-_ACCESS, _DEFAULT = "system.posix_acl_access", "system.posix_acl_default"
-_MOST_READINGS, _ENOUGH_ALIKE = 50, 10
-"""How often a file is read that changes while it is read, and how many readings in a row must find the same."""
 _CANONICAL = 0
 _FORMS = {"canonical": _CANONICAL, "shown": c.SHOWN, "short": c.FORM_SHORT}
 
@@ -145,9 +142,10 @@ class PosixAcl:
 
     @classmethod
     def from_file(cls, file: File) -> PosixAcl:
-        """Reads the lists of a file, or its mode if it has no list, as the file has them at one time. Raises OSError,
-        also if the file changes whenever it is read, and Refused."""
-        return cls.from_attributes(*_at_one_time(file))
+        """Reads the lists of a file, or its mode if it has no list, as the file has them at one time. A file that
+        changed just before is waited for, some milliseconds mostly, and up to eight seconds. A path needs `/proc`. Raises
+        OSError, also if the file is never at rest, and Refused."""
+        return cls.from_attributes(*at_one_time(file))
 
     def to_attributes(self) -> Tuple[bytes, Optional[bytes]]:
         """Returns the bytes of `system.posix_acl_access` and of `system.posix_acl_default`, which is None if the list
@@ -180,10 +178,10 @@ class PosixAcl:
         access, default = self.to_attributes()
         try:
             if default is None:
-                _remove_attribute(file, _DEFAULT)
+                remove_attribute(file, DEFAULT)
             else:
-                os.setxattr(file, _DEFAULT, default)
-            os.setxattr(file, _ACCESS, access)
+                os.setxattr(file, DEFAULT, default)
+            os.setxattr(file, ACCESS, access)
         except OSError as error:
             if error.errno != errno.ENOTSUP or len(self) > 3:
                 raise
@@ -294,7 +292,7 @@ class PosixAcl:
         """
         creation = c.Creation(_nine_bits(mode), _nine_bits(umask), c.DIRECTORY if directory else 0)
         if not self._default.len:
-            return PosixAcl.from_mode(mode & ~umask)
+            return PosixAcl.from_mode(creation.mode & ~creation.umask)
         access = _made("entries_create", self._default, creation)
         return PosixAcl._of(access, self._default if directory else held([]))
 
@@ -322,8 +320,9 @@ class ToPosix(NamedTuple):
 
 def posix_of(acl: c.Bytes, names: NamedIds, most: int) -> ToPosix:
     """Makes a POSIX list of an NFSv4 list. Raises Refused and ValueError as `NfsAcl.to_posix` does."""
-    loss, given = c.PosixLoss(), (acl, table_in_c(names), c.word(most))
-    room = min(most, acl.len // _SHORTEST_ACE) + 4  # USER_OBJ, GROUP_OBJ, MASK and OTHER have no name
+    loss, bound = c.PosixLoss(), c.word(most)
+    given = acl, table_in_c(names), bound
+    room = min(bound, acl.len // _SHORTEST_ACE) + 4  # USER_OBJ, GROUP_OBJ, MASK and OTHER have no name
     entries = c.entries_of("to_posix", given, room, ctypes.byref(loss))
     groups = (loss.first_group, loss.second_group, loss.third_group)[:loss.ngroups]
     lost = PosixDifference(loss.owner, loss.group, loss.user, tuple(sorted(set(groups))), loss.want)
@@ -350,44 +349,7 @@ def _question(user: int, groups: Iterable[int], owner: int, group: int, want: in
 
 
 def _nine_bits(mode: int) -> int:
-    if c.word(mode) > 0o777:
-        raise ValueError(f"above 0o777: {mode:#o}")
-    return mode
-
-
-def _at_one_time(file: File) -> Tuple[Optional[bytes], Optional[bytes], int]:
-    """Returns both attributes of a file and its mode. A mode of one time, or of another file that had the name, and the
-    attributes of another time may grant what the file never granted.
-
-    The time of the last change says whether it changed. Each write sets that time too, so it is enough if many readings
-    in a row find the same.
-    """
-    status, before, alike = os.stat(file), None, 0
-    for _ in range(_MOST_READINGS):
-        access = _attribute(file, _ACCESS)
-        default = _attribute(file, _DEFAULT) if stat.S_ISDIR(status.st_mode) else None
-        after = os.stat(file)
-        ends = [(one.st_dev, one.st_ino, one.st_mode) for one in (status, after)]
-        found = ends, access, default
-        alike = alike + 1 if found == before else 1
-        if ends[0] == ends[1] and (status.st_ctime_ns == after.st_ctime_ns or alike == _ENOUGH_ALIKE):
-            return access, default, status.st_mode
-        status, before = after, found
-    raise OSError(errno.EBUSY, "it changed whenever it was read", file)
-
-
-def _attribute(file: File, name: str) -> Optional[bytes]:
-    try:
-        return os.getxattr(file, name)
-    except OSError as error:
-        if error.errno not in (errno.ENODATA, errno.ENOTSUP):
-            raise
-    return None
-
-
-def _remove_attribute(file: File, name: str) -> None:
-    try:
-        os.removexattr(file, name)
-    except OSError as error:
-        if error.errno != errno.ENODATA:
-            raise
+    bits = c.word(mode)
+    if bits > 0o777:
+        raise ValueError(f"above 0o777: {bits:#o}")
+    return bits

@@ -52,9 +52,9 @@ class Prepared(_Made):
         if the requesters are not `Requesters`."""
         if not isinstance(requesters, Requesters):
             raise TypeError("decide_many takes Requesters")
-        found = (c.Decided * requesters.count)()
+        found = (c.Decided * len(requesters.array))()
         c.judge(c.calls["decide_prepared_many"](self._list, c.owned(owner, group),
-                                                c.Requesters(requesters.array, requesters.count),
+                                                c.Requesters(requesters.array, len(found)),
                                                 c.Question(c.word(mask), c.GROUPS_IN_ORDER),
                                                 c.DecidedList(found, len(found))), c.Fault())
         return [decided(one, mask) for one in found]

@@ -6,6 +6,7 @@ import argparse
 import contextlib
 import os
 import re
+import stat
 import sys
 from typing import TYPE_CHECKING, List, NoReturn, Optional, Tuple
 
@@ -13,7 +14,7 @@ from aclck import (APPEND_DATA, DELETE_CHILD, WRITE_DATA, AceFlag, LeftOut, List
                    PosixDifference, Refused, mask_text)
 from aclck_tree import VERSION
 from aclck_tree.errors import DEVICE, REFUSED, YES, DeviceError, TreeError, UsageError
-from aclck_tree.text import quoted_line
+from aclck_tree.text import quoted, quoted_line
 
 from .accounts import System, Table, exchanged, ids_of_names, names_of_ids
 from .values import (BYTES, NFS, OF_DEFAULT, POSIX, TOOLS, WITH_FLAGS, WITH_IDS, WITH_NAMES, WITH_PARTS, read_nfs,
@@ -49,7 +50,21 @@ forms of POSIX lists:
   posix-gnu-tar          SCHILY.acl.access in archives, as GNU tar writes it
   posix-gnu-tar-default  SCHILY.acl.default, as GNU tar writes it
 
-example: nfs4_getfacl plan.odt | aclck-form --file nfs4-tools xdr > plan.xdr
+examples:
+  getfattr --only-values -n system.nfs4_acl plan.odt | aclck-form xdr text
+  nfs4_getfacl plan.odt | aclck-form --file nfs4-tools xdr > plan.xdr
+  aclck-form --flags PROTECTED xdr nfs41 < plan.xdr > plan.dacl
+  aclck-form nfs-text xdr < getfacl-of-freebsd.txt > plan.xdr
+  aclck-form --names names nfs-text-ids xdr < getfacl-of-freebsd.txt > plan.xdr
+  aclck-form --names names --flags none xdr nfs41-ids < plan.xdr > plan.ids
+  getfacl -n plan.odt | aclck-form posix posix-access > plan.value
+  aclck-form --mode 750 posix-default posix < directory.value
+  aclck-form posix-archive posix < plan.text
+  aclck-form --mode 750 posix-archive-default posix < directory.text
+  aclck-form --system posix-gnu-tar posix < plan.text
+  aclck-form --system --mode 750 posix-gnu-tar-default posix < directory.text
+  aclck-form --bridge --names names posix xdr < plan.acl > plan.xdr
+  aclck-form --bridge --names names xdr posix < plan.xdr
 
 exit status: 0 done, 2 the value is refused or TO cannot hold it, 3 the
 command line is wrong, 4 a read or a write failed or memory ran out"""
@@ -255,8 +270,18 @@ def _read(handle: int) -> bytes:
 
 
 def _names(path: str) -> bytes:
-    with open(path, "rb", buffering=0) as file:
+    """Returns the bytes of a file of names. Raises TreeError if it is something that may never end, such as a device or
+    a FIFO. A pipe without a name, such as that of `<(..)`, is open already."""
+    with open(path, "rb", buffering=0, opener=_opened) as file:
+        is_pipe = os.readlink(f"/proc/self/fd/{file.fileno()}").startswith("pipe:")
+        if not stat.S_ISREG(os.fstat(file.fileno()).st_mode) and not is_pipe:
+            raise TreeError(f"{quoted(path)}: the names are in no regular file")
+        os.set_blocking(file.fileno(), True)
         return _short(_read(file.fileno()))
+
+
+def _opened(path: str, flags: int) -> int:
+    return os.open(path, flags | os.O_NONBLOCK | os.O_NOCTTY)
 
 
 def _short(data: bytes) -> bytes:

@@ -66,17 +66,24 @@ _WANT: _Arguments = [
     _PATH, _REACH]
 _USER: _Arguments = [
     ("--user", dict(metavar="USER", required=True, help="who asks; NAME=ID gives an id")),
-    ("--groups", dict(metavar="GROUPS", help="the user's groups, with commas between; else those that the scanned "
-                      "system listed"))]
+    [("--groups", dict(metavar="GROUPS", action="append", help="the user's groups, with commas between; may be given "
+                       "several times; else those that the scanned system knew")),
+     ("--getent", dict(action="store_true", help="the user's groups are those that this system knows"))]]
 _PEOPLE: _Arguments = [
-    [("--people", dict(metavar="FILE", help="who is asked about: lines `name: group group ..`")),
+    [("--people", dict(metavar="FILE", help="who is asked about: lines `name: group group ..`, or LDIF or CSV if "
+                       "FILE ends with .ldif or .csv")),
      ("--passwd", dict(metavar="FILE", help="the same, in the form of passwd(5), with --group")),
      ("--getent", dict(action="store_true", help="the accounts that this system lists; without any of these, those "
                        "that the scanned system listed"))],
-    ("--group", dict(metavar="FILE", help="groups in the form of group(5), with --passwd"))]
+    ("--group", dict(metavar="FILE", help="groups in the form of group(5), with --passwd")),
+    ("--skip-system", dict(action="store_true", help="leave out accounts with ids below UID_MIN (login.defs(5))"))]
 _DOMAIN: _Argument = ("--domain", dict(metavar="DOMAIN", help="what follows @ in the names of NFSv4 lists"))
 _LINUX: _Argument = ("--linux", dict(action="store_true", help="ask POSIX lists as Linux does where their mask is "
                                      "empty"))
+_LINUX_OR_DRAFT: _Arguments = [
+    [("--linux", dict(action="store_true", help="ask POSIX lists as Linux does where their mask is empty, as is done "
+                      "anyway if this host was scanned")),
+     ("--draft", dict(action="store_true", help="ask POSIX lists as acl(5) says"))]]
 _FORM: _Arguments = [
     [("--csv", dict(dest="form", action="store_const", const=Form.CSV, default=Form.TEXT,
                     help="write CSV, one line per object or answer")),
@@ -115,7 +122,7 @@ _WORDS: Dict[str, Tuple[str, str, _Arguments]] = {
         [_SNAPSHOTS, _OUTPUT]),
     "who": (
         "who may do something, object by object", "Writes which of some people may do what is asked.",
-        [_SNAPSHOT, *_WANT, *_PEOPLE, _EACH, _DOMAIN, _LINUX, *_FORM]),
+        [_SNAPSHOT, *_WANT, *_PEOPLE, _EACH, _DOMAIN, *_LINUX_OR_DRAFT, *_FORM]),
     "may": (
         "on what one user may do something", "Writes the objects on which one user may do what is asked.", [
             _SNAPSHOT, *_WANT, *_USER,
@@ -141,19 +148,22 @@ _WORDS: Dict[str, Tuple[str, str, _Arguments]] = {
             ("--each", dict(action="store_true", help="write one line per object, and not one per class of changes")),
             ("--pair", dict(metavar="OLD=NEW", action="append", default=[],
                             help="these paths are one tree; may be given several times")),
-            *_PEOPLE, _DOMAIN, *_FORM]),
+            *_PEOPLE,
+            ("--people-then", dict(metavar="FILE", help="who is asked about in NEW, as --people takes them: what would "
+                                   "another membership change?")),
+            _PATH, _DOMAIN, *_FORM]),
     "policy": (
         "whether a tree keeps a policy, and what breaks it",
         "Writes which objects break a rule of a policy, with the ACE or entry that does, and for whom.", [
             _SNAPSHOT,
             ("policy", dict(metavar="POLICY", help="the rules, in TOML")),
             ("--each", dict(action="store_true", help="write one line per object and rule")),
-            *_PEOPLE, _DOMAIN, _LINUX, *_FORM]),
+            *_PEOPLE, _DOMAIN, *_LINUX_OR_DRAFT, *_FORM]),
     "report": (
         "make a page of HTML", "Makes one page with totals, a table of who has which access, and findings.", [
             _SNAPSHOT,
             ("-o", dict(dest="output", metavar="FILE", help="the page to make; else it goes to standard output")),
-            *_PEOPLE, _DOMAIN, _LINUX, _PATH, _REACH,
+            *_PEOPLE, _DOMAIN, *_LINUX_OR_DRAFT, _PATH, _REACH,
             ("--policy", dict(metavar="POLICY", help="the rules of this file come first in the findings")),
             *_FORM]),
     "info": (
@@ -164,13 +174,16 @@ _WORDS: Dict[str, Tuple[str, str, _Arguments]] = {
         "Puts snapshots into tables of PostgreSQL, all of them or none. It needs psql.", [
             _SNAPSHOTS,
             ("--dsn", dict(metavar="DSN", help="the database, as psql takes it; else the variables of psql name it")),
-            *_PEOPLE, _DOMAIN])}
+            ("--as-superuser", dict(action="store_true", help="load although the role is a superuser, or can become "
+                                    "one")),
+            *_PEOPLE, _DOMAIN, _REACH])}
 """The words, each with a line about it, what it does, and its arguments in the order of the help."""
 
 
 def parser_of() -> argparse.ArgumentParser:
     """Returns the parser of the command line."""
-    parser = _Parser(prog="aclck-tree", epilog=_EXIT, allow_abbrev=False,
+    examples = "".join(f"  {example}\n" for example in EXAMPLES.values())
+    parser = _Parser(prog="aclck-tree", epilog=f"examples:\n{examples}\n{_EXIT}", allow_abbrev=False,
                      formatter_class=argparse.RawDescriptionHelpFormatter,
                      description="Who may do what in a whole tree of files. It reads live files and never writes one.")
     parser.add_argument("--version", action="version", version=f"aclck-tree {VERSION}")

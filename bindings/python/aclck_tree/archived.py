@@ -8,18 +8,20 @@ import functools
 import hashlib
 import os
 import sqlite3
-from typing import Any, Dict, Iterator, List, NamedTuple, Optional, Sequence, Set, Tuple
+from typing import Dict, Iterator, List, NamedTuple, Optional, Sequence, Set, Tuple
 
 from . import VERSION, accounts, headers
-from .archives import SHOWN, Member, members
+from .archives import Member, members
 from .compressed import opened_archive
 from .errors import Damaged, TreeError
 from .listed import LONGEST_PATH, names_in
 from .people import HIGHEST_ID
 from .progress import Progress
-from .scan import Options, utc_now
+from .records import SHOWN
+from .reader import Options
+from .scan import utc_now
 from .snapshot import Account, Found, StoredList, Tree
-from .text import quoted, quoted_path
+from .text import quoted_path
 from .writer import Writer
 
 AT_ONCE = 1000
@@ -30,16 +32,19 @@ _KEPT = 64  # lists, of which each can have as many bytes as the headers of a me
 _FAULT = "!"
 """The kind of a member that cannot be read."""
 
-_ROW = "key, kind, mode, uid, gid, user, grp, headers, fault, was_other, was_directory"
-_PUT = (f"INSERT INTO members ({_ROW}) VALUES (?, ?, ?, ?, ?, ?, ?, ?, ?, ?, ?) ON CONFLICT (key) DO UPDATE SET "
+_ROW = "key, kind, mode, uid, gid, user, grp, headers, fault, was_other, was_directory, slashes"
+_PUT = (f"INSERT INTO members ({_ROW}) VALUES (?, ?, ?, ?, ?, ?, ?, ?, ?, ?, ?, ?) ON CONFLICT (key) DO UPDATE SET "
         "kind = excluded.kind, mode = excluded.mode, uid = excluded.uid, gid = excluded.gid, user = excluded.user, "
         "grp = excluded.grp, headers = excluded.headers, fault = excluded.fault, "
-        "was_other = was_other OR excluded.was_other, was_directory = was_directory OR excluded.was_directory")
+        "was_other = was_other OR excluded.was_other, was_directory = was_directory OR excluded.was_directory, "
+        "slashes = slashes | excluded.slashes")
+_PLAIN, _WITH_SLASH = 1, 2
 
 
 class _Row(NamedTuple):
-    """What is known of a path. `was_other` says that a member of this path was no directory, and `was_directory` that
-    one was."""
+    """What is known of a path, whether it begins with a slash or not: programs restore both at one place. `was_other`
+    says that a member of this path was no directory, and `was_directory` that one was. `slashes` says which members of
+    it there were: `_PLAIN` ones, ones `_WITH_SLASH` in front, or both."""
 
     key: bytes
     kind: str
@@ -52,6 +57,7 @@ class _Row(NamedTuple):
     fault: str = ""
     was_other: bool = True
     was_directory: bool = False
+    slashes: int = _PLAIN
 
 
 class Names(accounts.System):
@@ -95,11 +101,15 @@ class Names(accounts.System):
 
 
 def split(path: bytes) -> List[bytes]:
-    """Returns the names of the path of a member. Those of a path that begins with a slash have a slash in front. Raises
-    ValueError, with the reason, if a part is `..`, or if it cannot be a path."""
+    """Returns the names of the path of a member. Whether it begins with a slash makes no difference. Raises ValueError,
+    with the reason, if a part is `..`, or if it cannot be a path."""
     if len(path) > LONGEST_PATH:
         raise ValueError(f"it has more than {LONGEST_PATH:,} bytes")
-    return ([b"/"] if path.startswith(b"/") else []) + names_in(path.lstrip(b"/"))
+    return names_in(path.lstrip(b"/"))
+
+
+def _slashes(path: bytes) -> int:
+    return _WITH_SLASH if path.startswith(b"/") else _PLAIN
 
 
 class _Gathered:
@@ -110,8 +120,8 @@ class _Gathered:
         self._db = sqlite3.connect("", isolation_level=None)
         for line in ("PRAGMA journal_mode = OFF", "PRAGMA synchronous = OFF", f"PRAGMA cache_size = -{_CACHE}", "BEGIN",
                      "CREATE TABLE members (key BLOB PRIMARY KEY, kind TEXT, mode INTEGER, uid INTEGER, gid INTEGER, "
-                     "user BLOB, grp BLOB, headers INTEGER, fault TEXT, was_other INTEGER, was_directory INTEGER) "
-                     "WITHOUT ROWID",
+                     "user BLOB, grp BLOB, headers INTEGER, fault TEXT, was_other INTEGER, was_directory INTEGER, "
+                     "slashes INTEGER) WITHOUT ROWID",
                      "CREATE TABLE headers (number INTEGER, name TEXT, value BLOB)",
                      "CREATE INDEX headers_by_number ON headers (number)",
                      "CREATE TABLE faults (fault TEXT PRIMARY KEY) WITHOUT ROWID"):
@@ -131,12 +141,12 @@ class _Gathered:
                 f"{quoted_path(member.path[:SHOWN])}{more}: {error}".encode("utf-8", "surrogateescape"),))
             return
         row = self._linked(key, member.target) if member.kind == "h" else self._row(key, member)
-        self._db.execute(_PUT, row)
+        self._db.execute(_PUT, row._replace(slashes=_slashes(member.path)))
 
     def _row(self, key: bytes, member: Member) -> _Row:
         fault = ""
         if not member.kind:
-            fault = "it is of a kind that is not known"
+            fault = "its kind is not known, or programs restore it in different ways"
         elif not (0 <= member.uid <= HIGHEST_ID and 0 <= member.gid <= HIGHEST_ID):
             fault = "its owner or its group is no id"
         elif b"\0" in member.user + member.group:
@@ -153,9 +163,10 @@ class _Gathered:
     def _linked(self, key: bytes, target: bytes) -> _Row:
         """Returns what a hard link is: what its target was when the link was made."""
         try:
-            found = self.row(b"\0".join(split(target)))
+            names = b"\0".join(split(target))
         except ValueError:
-            found = None
+            names = key
+        found = self.row(names) if names != key else None
         if found and found.kind not in ("d", _FAULT):
             return found._replace(key=key, was_other=True, was_directory=False)
         return _Row(key, _FAULT, fault=f"it is a hard link to {quoted_path(target[:SHOWN])}, and no file is there")
@@ -193,14 +204,15 @@ class _Gathered:
             yield False, uid, user
             yield True, gid, group
 
-    def rows(self, root: bytes) -> Iterator[_Row]:
-        """Yields what is known of a directory and of all that is below it. What is below a path follows the path."""
-        query = f"SELECT {_ROW} FROM members "
-        found: Iterator[Any] = self._db.execute(f"{query} ORDER BY key")
-        if root:
-            found = self._db.execute(f"{query} WHERE key = ? OR key >= ? AND key < ? ORDER BY key",
-                                     (root, root + b"\0", root + b"\1"))
-        return (_Row(*row) for row in found)
+    def rows(self) -> Iterator[_Row]:
+        """Yields what is known of all paths. What is below a path follows the path."""
+        query = f"SELECT {_ROW} FROM members ORDER BY key"
+        return (_Row(*row) for row in self._db.execute(query))
+
+    def has(self, root: bytes) -> bool:
+        """Whether a path is known, or something below it."""
+        query = "SELECT 1 FROM members WHERE key = ? OR key >= ? AND key < ? LIMIT 1"
+        return self._db.execute(query, (root, root + b"\0", root + b"\1")).fetchone() is not None
 
     def faults(self) -> Iterator[str]:
         """Yields the faults of the paths that are none."""
@@ -273,7 +285,7 @@ class ArchiveScan:
         ended = os.fstat(self._file.fileno())
         if (began.st_size, began.st_mtime_ns) != (ended.st_size, ended.st_mtime_ns):
             self._fail(b"", "the archive changed while it was read")
-        if self._root and not any(True for _ in self._gathered.rows(self._root)):
+        if self._root and not self._gathered.has(self._root):
             raise TreeError(f"{quoted_path(self._place)}: the archive has no {quoted_path(self._typed)}")
 
     def _write(self) -> None:
@@ -300,18 +312,22 @@ class ArchiveScan:
 
     def _below_directories(self) -> Iterator[Tuple[bytes, _Row]]:
         """Yields what is known of each path of the tree. A path that leads through anything else than a directory is a
-        failure: in the file system it would be another one."""
+        failure, also outside of the root: in the file system it would be another one, which may be below the root."""
         other: Optional[bytes] = None
-        for row in self._gathered.rows(self._root):
-            path = row.key[len(self._root) + 1 if self._root else 0:].replace(b"\0", b"/")
-            if row.key.startswith(b"/") and not self._root:
-                self._fail(b"", f"{quoted_path(path[1:SHOWN])}: it begins with a slash, and --root names no directory")
-            elif other is not None and (not other or row.key.startswith(other + b"\0")):
+        for row in self._gathered.rows():
+            whole = row.key.replace(b"\0", b"/")
+            is_below = not self._root or row.key == self._root or row.key.startswith(self._root + b"\0")
+            path = whole[len(self._root) + 1 if self._root else 0:] if is_below else b""
+            if other is not None and (not other or row.key.startswith(other + b"\0")):
                 through = other.replace(b"\0", b"/")
-                self._fail(path, f"its path leads through {quoted_path(through[:SHOWN])}, which is no directory")
-            else:
-                other = row.key if row.was_other else None
+                self._fail(path, f"the path {quoted_path(whole[:SHOWN])} leads through {quoted_path(through[:SHOWN])}, "
+                           "which is no directory")
+                continue
+            other = row.key if row.was_other else None
+            if is_below and row.slashes == _slashes(self._typed):
                 yield path, row
+            elif is_below:
+                self._fail(path, "it begins with a slash and --root does not, or the other way round")
 
     def _found(self, path: bytes, row: _Row) -> Optional[Found]:
         """Returns the object of a path, or None if it is a link or cannot be read."""

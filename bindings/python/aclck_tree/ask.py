@@ -6,7 +6,7 @@ import functools
 import itertools
 from dataclasses import dataclass
 from enum import Enum
-from typing import Dict, FrozenSet, Iterable, List, NamedTuple, Optional, Sequence, Tuple, TypeVar, Union
+from typing import AbstractSet, Dict, FrozenSet, Iterable, List, NamedTuple, Optional, Sequence, Tuple, TypeVar, Union
 
 from aclck import (
     APPEND_DATA,
@@ -24,8 +24,9 @@ from aclck import (
 )
 
 from .errors import TreeError, UsageError
-from .lists import POSIX_MASKS, Asked, Kind, Ready, RefusedList, decoded, nfs_bytes, ready
-from .people import Person, accounts_of
+from .identities import Identities, Identity, Ways, account_name, full_name
+from .lists import POSIX_MASKS, Asked, Kind, Ready, RefusedList, decoded, has_empty_mask, nfs_bytes, ready
+from .people import Person
 from .snapshot import Face, ListForm, Snapshot, StoredList
 
 
@@ -114,22 +115,16 @@ def want_of(text: str, any_of: bool = False) -> Want:
 
 @dataclass(frozen=True)
 class Options:
-    """The domain of names that have none, and whether the lists grant as Linux does (docs/others.md)."""
+    """The domain of names that have none, and whether the lists grant as Linux does (docs/others.md), which can be so
+    although nobody asked for it."""
 
     domain: str = ""
     linux: bool = False
+    is_default: bool = False
 
     def account(self, name: str) -> str:
         """Returns the name of the account for a name: without the domain, if it has just that one."""
-        bare, _, domain = name.partition("@")
-        return bare if bare and domain and domain == self.domain else name
-
-
-class Identity(NamedTuple):
-    """A user and the groups of the user, as lists of one kind name them."""
-
-    user: str
-    groups: Tuple[str, ...] = ()
+        return account_name(name, self.domain)
 
 
 NOBODY = Person("")
@@ -140,11 +135,20 @@ _UNUSED = Identity("?")
 
 
 class _Forms(NamedTuple):
-    """The people in the form of a kind of list, and a bit for each person whose ids are known."""
+    """The people in one form for a kind of list, and a bit for each person who has such a form. If it counts only for
+    lists with some names, `if_named` has these for each person, and whether they are those of groups."""
 
     identities: List[Optional[Identity]]
     requesters: Requesters
     known: int
+    if_named: Sequence[AbstractSet[Tuple[bool, str]]] = ()
+
+    @classmethod
+    def of(cls, identities: List[Optional[Identity]],
+           if_named: Sequence[AbstractSet[Tuple[bool, str]]] = ()) -> _Forms:
+        """Returns the forms for the identities of the people."""
+        return cls(identities, Requesters([one or _UNUSED for one in identities]),
+                   _bits(one is not None for one in identities), if_named)
 
 
 _MOST_FORMS = 8
@@ -158,11 +162,12 @@ class Asker:
         self.snapshot = snapshot
         self.people = list(people)
         self.options = options
-        self.accounts = accounts_of(snapshot)
+        self._identities = Identities(snapshot, self.people, options.domain)
+        self.accounts = self._identities.accounts
         self.faces = snapshot.faces()
         self.stored = snapshot.lists()
         self._ready: Dict[int, Ready] = {}
-        self._forms: Dict[Tuple[Kind, int], _Forms] = {}
+        self._forms: Dict[Tuple[Kind, int], List[_Forms]] = {}
         self._rows: Dict[Tuple[int, int], Answers] = {}
         self._everybody = (1 << len(self.people)) - 1
 
@@ -182,6 +187,10 @@ class Asker:
             self._ready[number] = ready(self.stored[number], self.options.linux, self.options.domain)
         return self._ready[number]
 
+    def is_other_on_linux(self, number: int) -> bool:
+        """Whether Linux may answer about a list otherwise than acl(5): its mask is empty (docs/others.md)."""
+        return self.stored[number].is_posix and has_empty_mask(self.stored[number].access or b"")
+
     def loadable(self, number: int) -> StoredList:
         """Returns a list as a database has it, in which the names of accounts have the domain. Raises TreeError for a
         value that the scan refused: a database has no reason for it."""
@@ -195,62 +204,96 @@ class Asker:
 
     def full_name(self, name: str) -> str:
         """Returns a name, with the domain added if it has none."""
-        return name if "@" in name or not self.options.domain else f"{name}@{self.options.domain}"
+        return full_name(name, self.options.domain)
 
     def owner_and_group(self, face: Face, kind: str) -> Tuple[str, str]:
         """Returns the names of the owner and the group of a face, in the form of its kind of list."""
         if kind == Kind.POSIX:
             return str(face.uid), str(face.gid)
-        accounts = self.accounts[face.tree]
-        return self.full_name(accounts.name(False, face.uid)), self.full_name(accounts.name(True, face.gid))
+        return self._identities.word(False, face.uid, face.tree), self._identities.word(True, face.gid, face.tree)
+
+    def ids(self, person: Person, name: str, is_group: bool, tree: int) -> Tuple[int, ...]:
+        """Returns the ids that a person or a group of the person has in a tree, or none if they are not known. A name
+        with the domain is an account without it."""
+        return self._identities.ids(person, name, is_group, tree)
 
     def id(self, person: Person, name: str, is_group: bool, tree: int) -> Optional[int]:
-        """Returns the id that a person or a group of the person has in a tree, or None if it is not known. A name with
-        the domain is an account without it."""
-        found = self.accounts[tree].id(person, name, is_group)
-        return self.accounts[tree].id(person, self.options.account(name), is_group) if found is None else found
+        """Returns the only id that a person or a group of the person has in a tree, or None."""
+        found = self.ids(person, name, is_group, tree)
+        return found[0] if len(found) == 1 else None
 
     def id_of(self, name: str, is_group: bool, tree: int) -> Optional[int]:
         """Returns the id that a name has in a tree, or None if it is not known."""
         return self.id(NOBODY, name, is_group, tree)
 
-    def identity(self, person: Person, face: Face, kind: str) -> Optional[Identity]:
-        """Returns the user and the groups of a person in the form of a kind of list, or None if an id is not known."""
-        if kind == Kind.NFS4:
-            return Identity(self.full_name(person.name), tuple(map(self.full_name, person.groups)))
-        user, listed = self.id(person, person.name, False, face.tree), person.groups_in(face.tree)
-        groups = [self.id(person, group, True, face.tree) for group in listed or ()]
-        if user is None or listed is None or None in groups:
-            return None
-        return Identity(str(user), tuple(map(str, groups)))
+    def identities(self, person: Person, face: Face, kind: Kind, acl: Optional[NfsAcl] = None) -> Tuple[Identity, ...]:
+        """Returns the ways in which a kind of list may name a person, the one by the given names first, and with a list
+        those that count only for this list. POSIX lists name a person in one way, or in none if an id is not known."""
+        if kind is Kind.POSIX:
+            found = self._identities.by_ids(person, face.tree)
+            return (found,) if found else ()
+        ways = self._identities.by_names(person, face.tree)
+        named = {(ace.is_group, ace.who) for ace in acl} if acl and ways.if_named else set()
+        return (*ways.always, *(one for one, names in ways.if_named if not names.isdisjoint(named)))
 
-    def _forms_of(self, face: Face, kind: Kind) -> _Forms:
-        """Returns the people in the form of a kind of list. Names are those of all trees, and ids those of one."""
-        key = (kind, 0 if kind is Kind.NFS4 else face.tree)
+    def ways(self, person: Person, tree: int) -> Ways:
+        """Returns the ways in which NFSv4 lists may name a person."""
+        return self._identities.by_names(person, tree)
+
+    def identity(self, person: Person, face: Face, kind: str) -> Optional[Identity]:
+        """Returns the first way in which a kind of list names a person, or None if an id is not known."""
+        if kind == Kind.NFS4:
+            return self._identities.by_names(person, face.tree).always[0]
+        return self._identities.by_ids(person, face.tree)
+
+    def _forms_of(self, face: Face, kind: Kind) -> List[_Forms]:
+        """Returns the people in the form of a kind of list in a tree, and in other forms those whom such a list may
+        name in several ways."""
+        key = (kind, face.tree)
         if key not in self._forms:
             if len(self._forms) == _MOST_FORMS:
                 self._forms.clear()
-            identities = [self.identity(person, face, kind) for person in self.people]
-            rows = [one or _UNUSED for one in identities]
-            self._forms[key] = _Forms(identities, Requesters(rows), _bits(one is not None for one in identities))
+            self._forms[key] = self._made_forms(face, kind)
         return self._forms[key]
 
-    def _granted(self, face: Face, asked: Asked, mask: int) -> List[int]:
-        """Returns which of the rights each person is granted by a list without special names."""
-        owner, group = self.owner_and_group(face, asked.kind)
-        return asked.acl.granted_many(self._forms_of(face, asked.kind).requesters, owner=owner, group=group, mask=mask)
+    def _made_forms(self, face: Face, kind: Kind) -> List[_Forms]:
+        if kind is Kind.POSIX:
+            return [_Forms.of([self._identities.by_ids(person, face.tree) for person in self.people])]
+        ways = [self._identities.by_names(person, face.tree) for person in self.people]
+        forms = [_Forms.of([one.always[place] if place < len(one.always) else None for one in ways])
+                 for place in range(max([1, *(len(one.always) for one in ways)]))]
+        for place in range(max([0, *(len(one.if_named) for one in ways)])):
+            rows = [one.if_named[place] if place < len(one.if_named) else None for one in ways]
+            forms.append(_Forms.of([row[0] if row else None for row in rows],
+                                   [row[1] if row else frozenset() for row in rows]))
+        return forms
+
+    def _forms_for(self, face: Face, kind: Kind, acl: NfsAcl) -> List[_Forms]:
+        """Returns the forms that count for a list: of those that count only for some lists, the people of whom the list
+        has a name."""
+        forms = self._forms_of(face, kind)
+        if not any(one.if_named for one in forms):
+            return forms
+        named = {(ace.is_group, ace.who) for ace in acl}
+        return [one if not one.if_named else one._replace(
+            known=_bits(not names.isdisjoint(named) for names in one.if_named)) for one in forms]
 
     def masks(self, face: Face, asked: Asked) -> Sequence[Optional[int]]:
-        """Returns what each person is granted by a list without special names, or None for a person whose id is not
-        known."""
+        """Returns what each person is granted by a list without special names, or None for a person of whom that is
+        not known."""
         return self.granted_by(asked.acl, face, asked.kind, *self.owner_and_group(face, asked.kind))
 
     def granted_by(self, acl: NfsAcl, face: Face, kind: Kind, owner: str, group: str) -> Sequence[Optional[int]]:
         """Returns what each person is granted by a list in the names of a face and a kind of list, on an object of an
-        owner and a group, or None for a person whose id is not known."""
-        forms = self._forms_of(face, kind)
-        found = acl.granted_many(forms.requesters, owner=owner, group=group)
-        return [mask if one else None for mask, one in zip(found, forms.identities)]
+        owner and a group, or None for a person of whom that is not known."""
+        first, *others = self._forms_for(face, kind, acl)
+        found: List[Optional[int]] = [mask if one else None for mask, one in zip(
+            acl.granted_many(first.requesters, owner=owner, group=group), first.identities)]
+        for forms in others:
+            masks = acl.granted_many(forms.requesters, owner=owner, group=group) if forms.known else ()
+            for place in chosen(range(len(masks)), forms.known):
+                found[place] = found[place] if masks[place] == found[place] else None
+        return found
 
     def granted(self, face: Face, asked: Asked, person: Person) -> int:
         """Returns what a person whose ids are known is granted as a member of no special name."""
@@ -276,12 +319,16 @@ class Asker:
             return Request.DEPENDS
         return {Request.ALWAYS: Request.NEVER, Request.NEVER: Request.ALWAYS}.get(none, none)
 
-    def _whomever(self, face: Face, asked: Asked, want: Want) -> Answers:
-        """Returns whom a list with special names grants what is asked, whomever the server takes for these names."""
-        found = [self._is_any(face, asked, one, want.mask) if want.any
-                 else self.possible(face, asked, one, want.mask).request
-                 for one in self._forms_of(face, asked.kind).identities if one]
-        return self._row(_bits(one is Request.ALWAYS for one in found), _bits(one is Request.NEVER for one in found))
+    def _whomever(self, face: Face, asked: Asked, want: Want, forms: _Forms) -> Tuple[int, int]:
+        """Returns whom a list with special names grants what is asked, and whom it denies that, whomever the server
+        takes for these names."""
+        found: List[Optional[Request]] = [None] * len(self.people)
+        for place in chosen(range(len(self.people)), forms.known):
+            one = forms.identities[place]
+            assert one
+            found[place] = (self._is_any(face, asked, one, want.mask) if want.any
+                            else self.possible(face, asked, one, want.mask).request)
+        return _bits(one is Request.ALWAYS for one in found), _bits(one is Request.NEVER for one in found)
 
     def _row(self, granted: int, denied: int) -> Answers:
         key = granted, denied
@@ -298,18 +345,29 @@ class Asker:
         asked = self.ready(face.list)
         if isinstance(asked, RefusedList):
             return asked
-        mask, known = want.mask, self._everybody
+        mask = want.mask
         if asked.kind is Kind.POSIX:
             if want.missing and not (want.any and want.perms):
                 return RefusedList(f"a POSIX list has no {mask_text(want.missing)}")
-            mask, known = want.posix_mask, self._forms_of(face, asked.kind).known
+            mask = want.posix_mask
+        granted = denied = self._everybody
+        for place, forms in enumerate(self._forms_for(face, asked.kind, asked.acl)):
+            if place == 0 or forms.known:
+                yes, no = self._answered(face, asked, want._replace(mask=mask), forms)
+                others = 0 if place == 0 else ~forms.known
+                granted, denied = granted & (yes | others), denied & (no | others)
+        return self._row(granted, denied)
+
+    def _answered(self, face: Face, asked: Asked, want: Want, forms: _Forms) -> Tuple[int, int]:
+        """Returns whom of the people in one form a list grants what is asked, and whom it denies that."""
         if asked.specials:
-            return self._whomever(face, asked, want)
-        found = self._granted(face, asked, mask)
-        granted = _bits([one != 0 for one in found] if want.any else [one == mask for one in found])
+            return self._whomever(face, asked, want, forms)
+        owner, group = self.owner_and_group(face, asked.kind)
+        found = asked.acl.granted_many(forms.requesters, owner=owner, group=group, mask=want.mask)
+        granted = _bits([one != 0 for one in found] if want.any else [one == want.mask for one in found])
         if asked.posix and not want.any and want.perms & (want.perms - 1):
-            granted = self._at_once(face, asked.posix, granted & known, want.perms)
-        return self._row(granted & known, ~granted & known)
+            granted = self._at_once(face, asked.posix, granted & forms.known, want.perms)
+        return granted & forms.known, ~granted & forms.known
 
     def _at_once(self, face: Face, acl: PosixAcl, people: int, perms: int) -> int:
         """Returns whom of some people a POSIX list grants several permissions at once, which one entry must have
@@ -321,7 +379,7 @@ class Asker:
                          (("user", face.uid), ("group", face.gid)))
         known: Dict[Tuple[str, FrozenSet[str]], bool] = {}
         granted = [False] * len(self.people)
-        identities = self._forms_of(face, Kind.POSIX).identities
+        identities = self._forms_of(face, Kind.POSIX)[0].identities
         for place in chosen(range(len(self.people)), people):
             one = identities[place]
             assert one

@@ -5,14 +5,15 @@ from __future__ import annotations
 import enum
 import itertools
 from dataclasses import dataclass
-from typing import Dict, Iterable, Iterator, List, NamedTuple, Optional, Sequence, Tuple
+from typing import Dict, Iterable, Iterator, List, NamedTuple, Optional, Sequence, Set, Tuple
 
 from .ask import Asker
 from .compare import Direction, directed, grant_the_same, heir_forms, named, own_form
+from .identities import Ways
 from .joined import State
 from .lists import Kind, RefusedList
 from .requesters import Affected, Effect, Rows, Whom, mentioned, paired_people
-from .sides import Question, Side, has_other_owner, heirs, place_of, renamed_ids, translate
+from .sides import MOST_NAMES, Place, Question, Side, has_other_owner, heirs, place_of, renamed_ids, translate
 from .snapshot import Face
 from .text import quoted, special_bits
 
@@ -20,10 +21,26 @@ MOST_ASKED = 200_000
 """How many requesters are asked about one object because a list mentions them."""
 
 
+MOST_STEPS = 4_000
+"""How many ACEs of special names are looked at for these requesters together: each is asked about all of them."""
+
+
+def _most_asked(question: Question) -> int:
+    """Returns how many requesters are asked about because the lists of a question mention them."""
+    aces = sum(len(view.asked.by_who.get((True, group), ())) for place in question.places() for view in place.views
+               for _, group in view.asked.specials)
+    return min(MOST_ASKED, max(_FEWEST, MOST_STEPS // aces)) if aces else MOST_ASKED
+
+
+_FEWEST = 8
+"""How many requesters are asked about at least."""
+
+
 class ChangeKind(str, enum.Enum):
     """What happened to an object. Of those from REFUSED on, the first that applies is meant."""
 
     UNPAIRED = "unpaired"
+    UNREAD = "unread"
     GONE = "gone"
     CAME = "came"
     REFUSED = "refused"
@@ -74,6 +91,7 @@ class Compared:
         self._known: Dict[Tuple[Optional[State], Optional[State]], ObjectChange] = {}
         self._people: Dict[Tuple[Tuple[int, str], ...], Rows] = {}
         self._unmoved: Dict[Tuple[int, int], bool] = {}
+        self._otherwise: Dict[Tuple[int, int], List[Tuple[str, Ways, Ways]]] = {}
 
     def alike(self, pairs: Sequence[Tuple[int, int]]) -> Iterator[Tuple[int, int]]:
         """Yields the old and the new faces with which an object has not changed, if it has the same special bits. Each
@@ -161,10 +179,11 @@ class Compared:
         """Returns what changed although the list, the owner and the group are the same: the people, and the names of
         ids."""
         assert question.old and question.new
-        ids = renamed_ids(question)
+        ids = [*renamed_ids(question), *self._named_otherwise(question)]
         notes = [*notes, *ids]
         people = self._people_of(question)
-        if not people.have_moved and not renamed:
+        owners = [[place.owner(is_group) for is_group in (False, True)] for place in question.places()]
+        if not people.have_moved and not renamed and owners[0] == owners[1]:
             return ObjectChange(ChangeKind.PEOPLE if ids else least, "; ".join(notes))
         changes = _grouped("", people.differences(question, has_known_list=True))
         if is_directory:
@@ -172,16 +191,39 @@ class Compared:
                                          for heir in heirs(question, notes)])
         return ObjectChange(ChangeKind.PEOPLE if changes or renamed or ids else least, "; ".join(notes), tuple(changes))
 
+    def _named_otherwise(self, question: Question) -> List[str]:
+        """Returns the note about people whom names that NFSv4 lists have on both sides may mean on one side alone,
+        since an id is that of another account. The rows of people ask about the first way in which a list names
+        them."""
+        old, new = question.old, question.new
+        assert old and new
+        if old.kind is not Kind.NFS4:
+            return []
+        key = old.face.tree, new.face.tree
+        if key not in self._otherwise:
+            before, after = ({one.name: side.asker.ways(one, tree) for one in reversed(side.asker.people)}
+                             for side, tree in zip((self._old, self._new), key))
+            self._otherwise[key] = [(name, ways, after[name]) for name, ways in before.items()
+                                    if ways != after.get(name, ways)]
+        if not self._otherwise[key]:
+            return []
+        named = _names_in(old) & _names_in(new)
+        found = sorted(quoted(name) for name, was, now in self._otherwise[key] if was.among(named) != now.among(named))
+        more = f" and {len(found) - MOST_NAMES:,} more" if len(found) > MOST_NAMES else ""
+        return [f"it may name {', '.join(found[:MOST_NAMES])}{more} in another way now"] if found else []
+
     def _unlike(self, question: Question, is_directory: bool, least: ChangeKind, notes: List[str],
                 are_renamed: bool) -> ObjectChange:
         """Returns what changed if the list, the owner or the group is another one."""
         old, new = question.old, question.new
         assert old and new
-        before, after = old.views[0].asked, new.views[0].asked
+        before = old.views[0].asked
         if old.kind != new.kind:
             notes.insert(0, f"a list of kind {old.kind}, then {new.kind}")
             changes = self._changes(question, notes) + (self._of_heirs(question, notes) if is_directory else [])
             return ObjectChange(ChangeKind.MEANING, "; ".join(notes), tuple(changes), False, Direction.OTHER.value)
+        otherwise = self._named_otherwise(question)
+        notes += otherwise
         translated, names = translate(question)
         is_own = not grant_the_same(before, translated)
         of_heirs = is_directory and heir_forms(before) != heir_forms(translated)
@@ -206,7 +248,7 @@ class Compared:
         else:
             changes = _grouped("", self._people_of(question).differences(question, has_known_list=True))
             kind = (ChangeKind.INHERITS if of_heirs else
-                    ChangeKind.PEOPLE if changes or are_renamed else least)
+                    ChangeKind.PEOPLE if changes or are_renamed or otherwise else least)
         if of_heirs:
             changes += self._of_heirs(question, notes) or _compared_heirs(question, notes)
         return ObjectChange(kind, "; ".join(notes), tuple(changes), False, direction)
@@ -223,14 +265,24 @@ class Compared:
         found = list(self._people_of(question).differences(question))
         known = {one for row, _ in found for one in row.users()}
         rows = [row for row in mentioned(question) if not known.intersection(row.users())]
-        if len(rows) > MOST_ASKED:
-            notes.append(f"{len(rows) - MOST_ASKED:,} more names of the list were not asked about")
-            rows = [*rows[:MOST_ASKED - 1], rows[-1]]
+        most = _most_asked(question)
+        if len(rows) > most:
+            notes.append(f"{len(rows) - most:,} more names of the list were not asked about")
+            rows = [*rows[:most - 1], rows[-1]]
         return _grouped(question.on, itertools.chain(found, Rows(rows).differences(question)))
 
     def _of_heirs(self, question: Question, notes: List[str]) -> List[Change]:
         """Returns who is treated differently on what is made in a directory."""
         return _without_repeats([self._changes(heir, notes) for heir in heirs(question, notes)])
+
+
+def _names_in(place: Place) -> Set[Tuple[bool, str]]:
+    """Returns the names of which the NFSv4 list of a place says something, and whether they are those of groups."""
+    aces = place.views[0].asked.acl
+    whos = {ace.who for ace in aces}
+    named = {(ace.is_group, ace.who) for ace in aces}
+    return named | {(is_group, place.owner(is_group)) for who, is_group in (("OWNER@", False), ("GROUP@", True))
+                    if who in whos}
 
 
 def _compared(on: str, is_more: bool, right: int, words: str) -> Change:

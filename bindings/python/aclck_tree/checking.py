@@ -7,13 +7,14 @@ from typing import Dict, Iterator, List, NamedTuple, Optional, Set, Tuple
 
 from . import mentions
 from .ask import NOBODY, Asker
-from .commands import TOGETHER, Counted, asker_of, count_by, opened, people_of, status_of
+from .commands import TOGETHER, asker_of, opened, people_of, status_of
 from .errors import NO, REFUSED, YES
 from .globs import Matcher
 from .judging import Breach, Judge, Verdict
 from .people import stranger_of
 from .policies import Rule, names_in, read_policy
 from .questions import left_out
+from .selecting import Counted, count_by
 from .text import Named, Naming, Output, Row, plural, quoted, tell
 
 

@@ -2,7 +2,7 @@
 
 A snapshot can come from anybody. Shards are joined only if they are all there, each once, were cut alike, and each has
 only objects that its shard has. So no snapshot can hide or replace an object of another one, and none changes the paths
-or the accounts of another one.
+or the accounts of another one, or names ids that only another one has.
 """
 
 from __future__ import annotations
@@ -14,7 +14,9 @@ import os
 from dataclasses import replace
 from typing import Dict, Iterator, List, NamedTuple, Optional, Sequence, Set, Tuple
 
+from .accounts import ids_in_lists
 from .errors import TreeError
+from .people import read_id
 from .portions import MIXED, Device, Portion, above
 from .snapshot import TIME, Found, Snapshot, Tree
 from .text import quoted, quoted_path
@@ -124,6 +126,7 @@ def _span(source: Source) -> Tuple[datetime.datetime, datetime.datetime]:
 
 
 _Row = Tuple[bool, int, bytes]
+_Member = Tuple[bytes, bytes]
 """An account: whether it is a group, its id and its name."""
 
 
@@ -160,8 +163,9 @@ class _Accounts:
     and then, in the order of their ids, those that the host does not list and that the portion has."""
 
     def __init__(self) -> None:
-        self.members: List[Tuple[bytes, bytes]] = []
         self.meanings: Dict[object, object] = {}
+        self._members: List[_Member] = []
+        self._further: Dict[bytes, List[_Member]] = {}  # of the users whom the host does not list
         self._users: Optional[List[_Row]] = None
         self._groups, self._more = _Rows(), _Rows()
         self._listed: Optional[int] = None  # how many groups the host lists: those in front of further users
@@ -175,14 +179,42 @@ class _Accounts:
         leading = next((place for place, row in enumerate(rows) if row[0]), len(rows))
         groups = [row for row in rows if row[0]]
         more = [row for row in rows[leading:] if not row[0]]
+        names = {row[2] for row in rows[:leading]}
+        further: Dict[bytes, List[_Member]] = {name: [] for _, _, name in more if name not in names}
+        listed = [row for row in members if row[0] not in further]
+        for row in members:
+            if row[0] in further:
+                further[row[0]].append(row)
         if self._users is None:
-            self._users, self.members = rows[:leading], members
+            self._users, self._members = rows[:leading], listed
         self._groups.add(groups)
         self._more.add(more)
         if more:
             self._listed = next(place for place, row in enumerate(rows[leading:]) if not row[0])
-        return (self._users, self.members) == (rows[:leading], members) and all(
-            self.meanings.setdefault(key, one) == one for key, one in _meanings(rows).items())
+        return (self._users, self._members) == (rows[:leading], listed) and all(
+            self.meanings.setdefault(key, one) == one for key, one in _meanings(rows).items()) and all(
+            self._further.setdefault(name, found) == found for name, found in further.items())
+
+    def fits(self, source: Source) -> bool:
+        """Whether a portion names just those of its own ids that any portion names, and groups of the users whom it
+        names, apart from the accounts with which all of them begin. Otherwise a portion would name the ids of another
+        one."""
+        tree, seen = source.tree.tree, _seen(source)
+        names = {row[1:] for row in source.snapshot.names() if row[0] == tree}
+        numbers: Dict[bytes, Set[int]] = {}
+        for is_group, one, name in names:
+            if is_group:
+                numbers.setdefault(name, set()).add(one)
+        for user, group in (*self._members, *itertools.chain.from_iterable(self._further.values())):
+            if (False, self.meanings.get((False, user)), user) in names:
+                number = read_id(os.fsdecode(group))
+                seen.update((True, one) for one in (numbers.get(group, ()) if number is None else (number,)))
+        return all((row in names) == (row[:2] in seen) for row in self._groups.others | self._more.others)
+
+    def members(self) -> List[_Member]:
+        """Returns the memberships in the order in which one scan has them."""
+        further = sorted({*self._more.common(), *self._more.others})
+        return [*self._members, *(row for _, _, name in further for row in self._further.get(name, ()))]
 
     def rows(self) -> List[_Row]:
         """Returns the accounts in the order in which one scan has them."""
@@ -192,13 +224,28 @@ class _Accounts:
                 *sorted({*groups[listed:], *self._groups.others})]
 
 
+def _seen(source: Source) -> Set[Tuple[bool, int]]:
+    """Returns the ids of a portion, and whether they are those of groups: its scan asked for the names of these."""
+    users, groups = ids_in_lists(source.snapshot.posix_lists())
+    for face in source.snapshot.faces().values():
+        if face.tree == source.tree.tree:
+            users.add(face.uid)
+            groups.add(face.gid)
+    return {*((False, number) for number in users), *((True, number) for number in groups)}
+
+
 def _joined_accounts(sources: Sequence[Source]) -> _Accounts:
     """Returns the accounts that one scan finds. Raises TreeError if the portions are of hosts with other accounts."""
     accounts = _Accounts()
-    for source in sources:
-        if not accounts.add(source) or source is sources[-1] and _meanings(accounts.rows()) != accounts.meanings:
-            raise TreeError(f"{sources[0].place} and {source.place} have portions of {source.name()}, but their hosts "
-                            "list other accounts")
+    other = next((source for source in sources if not accounts.add(source)), None)
+    if not other and _meanings(accounts.rows()) != accounts.meanings:
+        other = sources[-1]
+    if not other and len(sources) > 1:
+        other = next((source for source in sources if not accounts.fits(source)), None)
+    if other:
+        first = sources[1 if other is sources[0] and len(sources) > 1 else 0]
+        raise TreeError(f"{first.place} and {other.place} have portions of {other.name()}, but their hosts list other "
+                        "accounts")
     return accounts
 
 
@@ -221,7 +268,7 @@ def join(writer: Writer, sources: Sequence[Source]) -> None:
     for batch in iter(lambda: list(itertools.islice(objects, AT_ONCE)), []):
         writer.add_objects(number, batch)
     writer.add_names((number, *row) for row in accounts.rows())
-    writer.add_members((number, *row) for row in accounts.members)
+    writer.add_members((number, *row) for row in accounts.members())
     for path, step, message in _joined_errors(sources, devices):
         writer.add_error(number, path, step, message)
     if portion and portion.is_list:

@@ -4,20 +4,31 @@ exit status."""
 from __future__ import annotations
 
 import argparse
-import fnmatch
-import glob as globs
 import os
-import re
+import socket
 from dataclasses import dataclass, field, replace
-from typing import AnyStr, Dict, Iterable, Iterator, List, NamedTuple, Optional, Pattern, Sequence, Set, Tuple, TypeVar
+from typing import Dict, Iterator, List, Optional, Set, Tuple
 
-from . import mentions
+from . import mentions, others
+from .accounts import least_id
 from .ask import DENIED, UNKNOWN, Answer, Asker, Options
 from .compare import same as same_of
-from .errors import NO, REFUSED, YES, TreeError, UsageError
-from .people import Person, listed_person, one_person, passwd_files, people_file, snapshot_people, system_people
-from .snapshot import Snapshot, Tree
-from .text import Named, Naming, Output, Row, name_in, plural, quoted, quoted_path, quoted_place, table, tell
+from .directories import people_of_csv, people_of_ldif
+from .errors import NO, REFUSED, YES, UsageError
+from .people import (
+    Person,
+    listed_person,
+    one_person,
+    passwd_files,
+    people_file,
+    snapshot_people,
+    system_accounts,
+    system_people,
+    system_person,
+)
+from .selecting import Counted, count_by, counted, selected
+from .snapshot import Snapshot
+from .text import Naming, Output, Row, name_in, plural, quoted, quoted_path, table, tell
 
 
 @dataclass
@@ -44,7 +55,11 @@ def opened(place: str) -> Snapshot:
         tell(f"{quoted(place)} is partial: its scan was ended early")
     for words in sorted({one.words() for one in snapshot.portions.values() if one.is_list or not TOGETHER.is_on}):
         tell(f"{quoted(place)} has {words}")
-    errors = sum(1 for _ in snapshot.errors())
+    messages = [message for _, _, _, message in snapshot.errors()]
+    line = others.line(messages)
+    if line:
+        tell(f"{quoted(place)}: {line}")
+    errors = sum(not others.is_other(message) for message in messages)
     if errors:
         tell(f"{quoted(place)} lacks what failed in {plural(errors, 'step')}: aclck-tree info lists them")
     return snapshot
@@ -65,22 +80,74 @@ def people_of(args: argparse.Namespace, snapshot: Snapshot) -> List[Person]:
     """Returns the people that the command line names."""
     if bool(args.passwd) != bool(args.group):
         raise UsageError("--passwd and --group go together")
+    people = _given_people(args)
+    if people is None:
+        people = _with_accounts(snapshot, snapshot_people(snapshot))
+    return _without_system(snapshot, people) if getattr(args, "skip_system", False) else people
+
+
+def _given_people(args: argparse.Namespace) -> Optional[List[Person]]:
+    """Returns the people of the command line, or None if these are the accounts of the snapshot."""
     if args.people:
-        return people_file(args.people)
+        return read_people(args.people)
     if args.passwd:
         return passwd_files(args.passwd, args.group)
-    return system_people() if args.getent else snapshot_people(snapshot)
+    return system_people() if args.getent else None
+
+
+def read_people(place: str) -> List[Person]:
+    """Reads people from a file, whose form is that of its name: LDIF, CSV, or lines `name: group group ..`."""
+    end = os.path.splitext(place)[1].lower()
+    return people_of_ldif(place) if end == ".ldif" else people_of_csv(place) if end == ".csv" else people_file(place)
+
+
+def _with_accounts(snapshot: Snapshot, people: List[Person]) -> List[Person]:
+    """Returns the people without those whom groups have as members and who have no account, if POSIX lists are asked
+    about them, and reports these. Of a snapshot that has no users, nobody knows who has none."""
+    users = {os.fsdecode(name) for _, is_group, _, name in snapshot.names() if not is_group}
+    has_ids = users and any(stored.is_posix for stored in snapshot.lists().values())
+    stale = {(False, one.name) for one in people if has_ids and one.name not in users}
+    if stale:
+        tell(f"{quoted(snapshot.place)}: groups have members without an account, who are not asked about: "
+             f"{mentions.words_of(stale)}")
+    return [one for one in people if (False, one.name) not in stale]
+
+
+def _without_system(snapshot: Snapshot, people: List[Person]) -> List[Person]:
+    """Returns the people without the accounts of the system, and reports how many these are."""
+    is_of_system = system_accounts(snapshot)
+    kept = [one for one in people if not is_of_system(one)]
+    left = plural(len(people) - len(kept), "account")
+    tell(f"{quoted(snapshot.place)}: --skip-system leaves out {left} with ids below {least_id()}")
+    return kept
+
+
+def _linux_of(args: argparse.Namespace, snapshot: Snapshot) -> Tuple[bool, bool]:
+    """Returns whether POSIX lists are asked as Linux does, and whether that is so only because nothing else is asked
+    for: this system is the one that was scanned."""
+    if getattr(args, "linux", False) or getattr(args, "draft", True):
+        return getattr(args, "linux", False), False
+    is_here = {tree.host for tree in snapshot.trees.values()} == {socket.gethostname()}
+    return is_here, is_here
 
 
 def asker_of(args: argparse.Namespace, snapshot: Snapshot, people: List[Person]) -> Asker:
     """Makes the `Asker` of a snapshot, and reports on standard error which names the snapshot does not mention, and
     whose ids are not known."""
-    asker = Asker(snapshot, people, Options(args.domain or "", getattr(args, "linux", False)))
+    snapshot.allow_people(len(people))
+    asker = Asker(snapshot, people, Options(args.domain or "", *_linux_of(args, snapshot)))
     is_typed = bool(getattr(args, "people", None) or getattr(args, "user", None))
     for line in () if TOGETHER.is_on else mentions.lines(asker, mentions.unmentioned(asker), not is_typed):
         tell(f"{quoted(snapshot.place)}: {line}")
+    if getattr(args, "word", "") in ("report", "policy") and not asker.options.linux:
+        lists = {face.list for face in asker.faces.values() if asker.is_other_on_linux(face.list)}
+        if lists:
+            tell(f"{quoted(snapshot.place)}: {plural(len(lists), 'list')} with an empty mask: Linux answers otherwise "
+                 "(--linux)")
     has_hosts = len({tree.host for tree in snapshot.trees.values()}) > 1
-    for host, names in _without_ids(asker).items():
+    for line in _shared_names(asker):
+        tell(f"{quoted(snapshot.place)}: {line}")
+    for host, names in _without_ids(asker):
         if has_hosts:
             line = f"the host {quoted(host)} does not list {mentions.words_of(names)}: answers about its"
         else:
@@ -89,92 +156,41 @@ def asker_of(args: argparse.Namespace, snapshot: Snapshot, people: List[Person])
     return asker
 
 
-def _without_ids(asker: Asker) -> Dict[str, Set[mentions.Name]]:
-    """Returns, for each host with POSIX lists, the people and groups who have no id there. People of whom only other
+def _shared_names(asker: Asker) -> List[str]:
+    """Returns a line for each name of the people that is the name of several accounts, if no id is given with it."""
+    found: Dict[str, None] = {}
+    for tree, accounts in asker.accounts.items():
+        names = set().union(*(_names_without_ids(asker, one, tree) for one in asker.people if accounts.shared))
+        for is_group, name in sorted(names & accounts.shared.keys()):
+            word, place = ("group" if is_group else "user"), quoted(asker.snapshot.trees[tree].host)
+            ids = " and ".join(map(str, accounts.shared[is_group, name]))
+            found[f"the host {place} has the {word} {quoted(name)} with the ids {ids}, and nothing says which is meant: "
+                  f"{quoted(name)}=ID does"] = None
+    return list(found)
+
+
+def _names_without_ids(asker: Asker, person: Person, tree: int) -> Set[mentions.Name]:
+    """Returns the names of a person and of the groups of the person that have no id, without the domain."""
+    return {(is_group, asker.options.account(name))
+            for is_group, name in ((False, person.name), *((True, group) for group in person.groups))
+            if not asker.ids(person, name, is_group, tree)}
+
+
+def _without_ids(asker: Asker) -> Iterator[Tuple[str, Set[mentions.Name]]]:
+    """Yields each host with POSIX lists on which people or groups have no id, with these. People of whom only other
     hosts listed the groups are among them."""
-    found: Dict[str, Set[mentions.Name]] = {}
-    for tree in {face.tree for face in asker.faces.values() if asker.stored[face.list].is_posix}:
-        names = {(is_group, name) for one in asker.people
-                 for is_group, name in ((False, one.name), *((True, group) for group in one.groups_in(tree) or ()))
-                 if asker.id(one, name, is_group, tree) is None}
-        names |= {(False, one.name) for one in asker.people if one.groups_in(tree) is None}
+    trees: Dict[str, List[int]] = {}
+    for tree in sorted({face.tree for face in asker.faces.values() if asker.stored[face.list].is_posix}):
+        trees.setdefault(asker.snapshot.trees[tree].host, []).append(tree)
+    for host in sorted(trees):
+        names: Set[mentions.Name] = set()
+        for tree in trees[host]:
+            names |= {(is_group, name) for one in asker.people
+                      for is_group, name in ((False, one.name), *((True, group) for group in one.groups_in(tree) or ()))
+                      if not asker.ids(one, name, is_group, tree)}
+            names |= {(False, one.name) for one in asker.people if one.groups_in(tree) is None}
         if names:
-            found.setdefault(asker.snapshot.trees[tree].host, set()).update(names)
-    return dict(sorted(found.items()))
-
-
-class Counted(NamedTuple):
-    """How many objects have a face, and the name of the first."""
-
-    objects: int
-    first: Named
-
-
-_Key = TypeVar("_Key")
-
-
-def count_by(snapshot: Snapshot, objects: Iterable[Tuple[_Key, int, bytes]]) -> Dict[_Key, Counted]:
-    """Counts objects by a key. Each has its key, its tree and the path below the root, in the order of trees and
-    paths."""
-    places: Dict[_Key, int] = {}
-    counts: List[int] = []
-    firsts: List[Named] = []
-    naming = Naming(snapshot)
-    for key, tree, path in objects:
-        place = places.get(key)
-        if place is None:
-            places[key] = len(places)
-            counts.append(1)
-            firsts.append(naming.name(snapshot.trees[tree], path))
-        else:
-            counts[place] += 1
-    return dict(zip(places, map(Counted, counts, firsts)))
-
-
-def counted(snapshot: Snapshot, glob: Optional[str]) -> Dict[int, Counted]:
-    """Counts the objects of each face. With a pattern, only objects whose whole path matches it count."""
-    if glob is None:
-        faces, naming = snapshot.faces(), Naming(snapshot)
-        return {face: Counted(count, naming.name(snapshot.trees[faces[face].tree], first))
-                for face, (count, first) in snapshot.face_counts().items()}
-    return count_by(snapshot, ((face, tree, path) for tree, path, _, face in selected(snapshot, glob)))
-
-
-class Paths:
-    """A pattern for whole paths. It may be written as the path of a tree was typed for the scan, or from `/`."""
-
-    def __init__(self, snapshot: Snapshot, glob: str) -> None:
-        here = glob if os.path.isabs(glob) else os.path.join(globs.escape(os.getcwd()), glob)
-        typed, from_root = (re.compile(fnmatch.translate(_normal(one))) for one in (glob, here))
-        self._forms: Dict[int, List[Tuple[Pattern[str], bytes]]] = {}
-        for number, tree in snapshot.trees.items():
-            self._forms[number] = [(typed, _normal(tree.root)), (from_root, _normal(tree.place))]
-
-    def has(self, tree: int, path: bytes) -> bool:
-        """Whether the pattern matches an object, which is given by its path below the root of a tree."""
-        return any(pattern.match(os.fsdecode(_whole(root, path))) for pattern, root in self._forms[tree])
-
-
-def _normal(path: AnyStr) -> AnyStr:
-    """Returns a path without needless parts. Two slashes in front are one, because here they mean nothing else."""
-    found = os.path.normpath(path)
-    return found[1:] if found[:2] in ("//", b"//") else found
-
-
-def _whole(root: bytes, path: bytes) -> bytes:
-    """Returns the path of an object in normal form, from the root in normal form and the path below it."""
-    if not path:
-        return root
-    return path if root == b"." else root.rstrip(b"/") + b"/" + path
-
-
-def selected(snapshot: Snapshot, glob: Optional[str]) -> Iterator[Tuple[int, bytes, bool, int]]:
-    """Yields of each object whose whole path matches a pattern the tree, the path below its root, whether it is a
-    directory, and the face, in the order of trees and paths."""
-    paths = None if glob is None else Paths(snapshot, glob)
-    for tree, path, is_directory, _, face in snapshot.objects():
-        if paths is None or paths.has(tree, path):
-            yield tree, path, is_directory, face
+            yield host, names
 
 
 class Tally:
@@ -205,63 +221,21 @@ class Tally:
 
 
 def person_of(args: argparse.Namespace, snapshot: Snapshot) -> Person:
-    """Returns the user of the command line, with the groups given there, or otherwise those that the scan recorded."""
+    """Returns the user of the command line, with the groups given there, or with --getent those that this system knows,
+    or otherwise those that the scan recorded."""
     if args.groups is not None:
-        return one_person(args.user, [group for group in args.groups.split(",") if group])
+        return one_person(args.user, [group for words in args.groups for group in words.split(",") if group])
     person = one_person(args.user, [])
-    listed = listed_person(snapshot, Options(args.domain or "").account(person.name))
+    account = Options(args.domain or "").account(person.name)
+    if getattr(args, "getent", False):
+        known = system_person(account)
+        ids = {key: number for key, number in known.ids.items() if key[1]}
+        own = person.ids or {(person.name, False): known.ids[known.name, False]}
+        return replace(known, name=person.name, ids={**ids, **own})
+    listed = listed_person(snapshot, account)
     if not listed.groups:
-        tell(f"the snapshot has no groups of {quoted(person.name)}: --groups names them")
+        tell(f"the snapshot has no groups of {quoted(person.name)}: --groups names them, and --getent asks this system")
     return replace(listed, name=person.name, ids=person.ids)
-
-
-_SHOWN = 5
-"""How many places of an object a line shows; it counts the others."""
-
-
-def find(snapshot: Snapshot, path: str) -> Tuple[Tree, bytes, int]:
-    """Finds an object by its path as the scan wrote it, from `/`, or below the root, after `HOST:` or not. Raises
-    TreeError if there is none, or if the path names several objects, or one at several times."""
-    found: List[Tuple[Tree, bytes, int]] = []
-    for tree in snapshot.trees.values():
-        rows = ((below, snapshot.find(tree.tree, below)) for below in _paths_below(tree, os.fsencode(path)))
-        found += next(([(tree, below, row[2])] for below, row in rows if row), [])
-    if not found:
-        raise TreeError(f"{quoted(path)}: not in the snapshot")
-    places = {(tree.host, _whole(_normal(tree.place), below)) for tree, below, _ in found}
-    if len(places) > 1:
-        names = [quoted_place(host, place) for host, place in sorted(places)]
-        more = f" and {len(names) - _SHOWN:,} more" if len(names) > _SHOWN else ""
-        raise TreeError(f"{quoted(path)}: this path is in several trees: {', '.join(names[:_SHOWN])}{more}")
-    if len({tree.place for tree, _, _ in found}) < len(found) or not _are_alike(snapshot, found):
-        raise TreeError(f"{quoted(path)}: the snapshot has it at several times")
-    return found[0]
-
-
-def _are_alike(snapshot: Snapshot, found: Sequence[Tuple[Tree, bytes, int]]) -> bool:
-    """Whether objects have the same owner, group and list."""
-    faces = snapshot.faces() if len(found) > 1 else {}
-    return len(found) == 1 or len({replace(faces[face], face=0, tree=0) for _, _, face in found}) == 1
-
-
-def _paths_below(tree: Tree, path: bytes) -> List[bytes]:
-    """Returns the paths below the root of a tree that a path may mean."""
-    host = os.fsencode(tree.host) + b":"
-    found: List[Optional[bytes]] = []
-    for one in [path, path[len(host):]] if path.startswith(host) else [path]:
-        typed = _normal(one)
-        found += [_below(_normal(tree.root), typed), _below(_normal(tree.place), _normal(os.path.abspath(typed)))]
-    return [below for below in found if below is not None]
-
-
-def _below(root: bytes, path: bytes) -> Optional[bytes]:
-    """Returns the path below a root, or None if the path is not there. Both are in normal form."""
-    if path == root:
-        return b""
-    if root == b".":
-        return path
-    prefix = root.rstrip(b"/") + b"/"
-    return path[len(prefix):] if path.startswith(prefix) else None
 
 
 def same(args: argparse.Namespace) -> int:

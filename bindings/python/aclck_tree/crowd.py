@@ -9,7 +9,7 @@ from typing import Dict, FrozenSet, Iterable, Iterator, List, NamedTuple, Option
 
 from aclck import ALL, Ace, AceFlag, NfsAcl, Requesters
 
-from .ask import Identity
+from .identities import Identity
 from .lists import Asked, encoded, pieces
 
 AT_ONCE = 1024
@@ -40,13 +40,15 @@ NOTHING = Granted(0, 0)
 
 
 class Missing(enum.Enum):
-    """Why a side has no identity of a person: there is no such person, or no id is known for one of the names."""
+    """Why a side has no identity of a person: there is no such person, or no id is known for one of the names. It is
+    OTHER_ID on the old side of a person of whom the ids that are known are others on the new side."""
 
     PERSON = enum.auto()
     ID = enum.auto()
+    OTHER_ID = enum.auto()
 
 
-_ABSENT: Dict[Missing, Optional[Granted]] = {Missing.PERSON: NOTHING, Missing.ID: None}
+_ABSENT: Dict[Missing, Optional[Granted]] = {Missing.PERSON: NOTHING, Missing.ID: None, Missing.OTHER_ID: None}
 """What somebody without an identity is granted, or None if that is not known."""
 
 Asking = Union[Identity, Missing]

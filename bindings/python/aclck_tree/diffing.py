@@ -9,19 +9,26 @@ from typing import Dict, Optional
 from aclck import mask_text
 
 from .changes import Change, Compared, ChangeKind, ObjectChange
-from .commands import Counted, asker_of, opened, people_of, status_of
+from .commands import asker_of, opened, people_of, read_people, status_of
 from .errors import NO, REFUSED, YES
 from .joined import Joined, pair_trees
+from .selecting import Counted, Paths
 from .text import Named, Naming, Output, Row, name_in, plural, quoted
 
 _WORDS = {
-    ChangeKind.GONE: "gone", ChangeKind.CAME: "came", ChangeKind.BYTES: "with other bytes and the same meaning",
+    ChangeKind.UNREAD: "not read", ChangeKind.GONE: "gone", ChangeKind.CAME: "came",
+    ChangeKind.BYTES: "with other bytes and the same meaning",
     ChangeKind.MEANING: "with another meaning", ChangeKind.INHERITS: "with another meaning for new objects",
     ChangeKind.PEOPLE: "with other people", ChangeKind.BITS: "with other special bits", ChangeKind.REFUSED: "refused",
     ChangeKind.SAME: "as before"}
 """What the last line says of each kind, in its order."""
 
 _COLUMNS = ["change", "path", "whom", "gained", "lost", "unclear", "note", "on", "direction"]
+
+
+_NOT_READ = tuple(ObjectChange(ChangeKind.UNREAD, f"the {word} snapshot lacks it, and could not read everything there")
+                  for word in ("second", "first"))
+"""What is said of objects that the later scan, or the earlier one, may not have read."""
 
 
 class _Diff:
@@ -48,11 +55,11 @@ class _Diff:
         self._classes[change] = Counted(known.objects + count, known.first) if known else Counted(count, name)
 
     def end(self) -> int:
-        """Writes the classes: the objects that are gone, those that came, and the others, greatest first. Writes the
-        last line, and returns the exit status for whole snapshots."""
-        order = {ChangeKind.UNPAIRED: 0, ChangeKind.GONE: 1, ChangeKind.CAME: 2}
+        """Writes the classes: the objects that one scan could not read, those that are gone, those that came, and the
+        others, greatest first. Writes the last line, and returns the exit status for whole snapshots."""
+        order = {ChangeKind.UNPAIRED: 0, ChangeKind.UNREAD: 1, ChangeKind.GONE: 2, ChangeKind.CAME: 3}
         for change, one in sorted(self._classes.items(),
-                                  key=lambda item: (order.get(item[0].kind, 3), -item[1].objects, item[1].first)):
+                                  key=lambda item: (order.get(item[0].kind, 4), -item[1].objects, item[1].first)):
             self._put(change, one.first, one.objects - 1)
         words = [f"{self._counts[kind]:,} {text}" for kind, text in _WORDS.items() if self._counts[kind]]
         if self._counts[ChangeKind.UNPAIRED]:
@@ -87,6 +94,8 @@ def diff(args: argparse.Namespace) -> int:
     pairs = pair_trees(old, new, args.pair)
     people = people_of(args, new)
     before = people if args.people or args.passwd or args.getent else people_of(args, old)
+    if args.people_then:
+        people = read_people(args.people_then)
     compared = Compared(asker_of(args, old, before), asker_of(args, new, people))
     naming = Naming(old, new)
     out = _Diff(args, naming)
@@ -95,10 +104,12 @@ def diff(args: argparse.Namespace) -> int:
         for tree in [tree for number, tree in snapshot.trees.items() if number not in paired]:
             note = f"host {quoted(tree.host)}; this tree of the {word} snapshot has no pair"
             out.add(ObjectChange(ChangeKind.UNPAIRED, note), Named(tree.place, tree.host if naming.has_hosts else None))
-    joined = Joined(old, new, pairs, compared.alike(pairs))
+    selections = None if args.path is None else (Paths(old, args.path).has, Paths(new, args.path).has)
+    joined = Joined(old, new, pairs, compared.alike(pairs), selections)
     for one in joined.changes(out.each):
         snapshot = new if one.new else old
-        out.add(compared.change(one.old, one.new), naming.name(snapshot.trees[one.tree], one.path), one.objects)
+        change = _NOT_READ[one.old is None] if one.is_unread else compared.change(one.old, one.new)
+        out.add(change, naming.name(snapshot.trees[one.tree], one.path), one.objects)
     out.add(ObjectChange(ChangeKind.SAME), Named(b""), joined.unchanged)
     return status_of(out.end(), old, new)
 

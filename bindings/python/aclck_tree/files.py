@@ -3,6 +3,7 @@
 from __future__ import annotations
 
 import contextlib
+import errno
 import fcntl
 import os
 import re
@@ -12,6 +13,9 @@ from typing import BinaryIO, Iterator, TextIO
 
 from .errors import DeviceError, TreeError
 from .text import quoted
+
+
+EXCHANGED = "the new file was exchanged for another one before it took its place"
 
 
 class Part:
@@ -39,8 +43,15 @@ class Part:
         """Moves the file to its place. Raises OSError if that fails, or if the file is no longer where it was made."""
         os.fsync(self.handle)
         if not os.path.samestat(os.fstat(self.handle), os.lstat(self.name)):
-            raise OSError(0, f"{self.name} was exchanged")
+            raise OSError(errno.ESTALE, EXCHANGED)
         os.replace(self.name, path)
+
+    def is_held_by(self, handle: int) -> bool:
+        """Whether a handle, which may be closed, is another one of the file."""
+        try:
+            return handle != self.handle and os.path.samestat(os.fstat(self.handle), os.fstat(handle))
+        except OSError:
+            return False
 
     def drop(self) -> None:
         """Closes the file, and removes it if it has not taken its place."""

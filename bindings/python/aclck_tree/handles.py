@@ -10,9 +10,7 @@ import os
 import struct
 import threading
 from collections import OrderedDict
-from typing import Callable, FrozenSet, Iterator, List, NamedTuple, Optional, Tuple, TypeVar
-
-T = TypeVar("T")
+from typing import FrozenSet, Iterator, List, NamedTuple, Optional
 
 KEPT = 128
 """How many handles stay open that no thread uses."""
@@ -23,11 +21,6 @@ PIECE = 8192
 OBJECT = os.O_PATH | os.O_NOFOLLOW
 """The flags for a handle of any object. A link has a handle of its own."""
 
-NEVER_AT_REST = "its owner, mode or list changed whenever it was read"
-
-_MOST_READINGS, _ENOUGH_ALIKE = 50, 10
-"""How often an object is read that changes while it is read, and how many readings in a row must find the same."""
-
 _ENTRY = struct.Struct("=QqHB")  # getdents64(2): inode, where the next entry is, length, type; the name follows
 _MAY_BE_DIRECTORY = (0, 4)  # DT_UNKNOWN and DT_DIR
 _LIBC = ctypes.CDLL(None, use_errno=True)
@@ -36,14 +29,16 @@ _LIBC.getdents64.restype = ctypes.c_ssize_t
 
 
 class Directory:
-    """A directory of a tree: its name in the directory above it, and its device and inode when it was read."""
+    """A directory of a tree: its name in the directory above it, its device and inode when it was read, and when it was
+    changed last before its names were read, or None if it was changed all the time."""
 
-    __slots__ = ("above", "name", "identity")
+    __slots__ = ("above", "name", "identity", "changed")
 
     def __init__(self, above: Optional[Directory], name: bytes, status: os.stat_result) -> None:
         self.above = above
         self.name = name
         self.identity = status.st_dev, status.st_ino
+        self.changed: Optional[int] = None
 
     def judge(self, status: os.stat_result) -> None:
         """Raises OSError if the directory that has the name now is not the one that was read."""
@@ -170,30 +165,6 @@ def open_list(directory: int) -> int:
         return os.open(b".", flags | os.O_NOATIME, dir_fd=directory)
     except PermissionError:  # only the owner may use O_NOATIME
         return os.open(b".", flags, dir_fd=directory)
-
-
-def at_one_time(handle: int, status: os.stat_result, read: Callable[[os.stat_result], T]) -> Tuple[os.stat_result, T]:
-    """Returns the status of an object and its list, which `read` reads, as both were at one time: the mode of one time
-    and the list of another may grant less than the object ever granted. `status` is what was read first. Raises OSError
-    if the object changes whenever it is read.
-
-    The time of the last change says whether it changed. Each write to a file sets that time too, so it is enough if
-    many readings in a row find the same.
-    """
-    before, alike = None, 0
-    for _ in range(_MOST_READINGS):
-        stored, after = read(status), os.fstat(handle)
-        found = (_mode_and_owners(status), _mode_and_owners(after), stored)
-        alike = alike + 1 if found == before else 1
-        if found[0] == found[1] and (status.st_ctime_ns == after.st_ctime_ns or alike == _ENOUGH_ALIKE):
-            return status, stored
-        status, before = after, found
-    raise OSError(errno.EBUSY, NEVER_AT_REST)
-
-
-def _mode_and_owners(status: os.stat_result) -> Tuple[int, int, int]:
-    """Returns what of the status of an object a list is asked with."""
-    return status.st_mode, status.st_uid, status.st_gid
 
 
 class Names(NamedTuple):

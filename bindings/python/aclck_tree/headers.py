@@ -13,7 +13,7 @@ from .accounts import System
 from .lists import AceType, Piece, decoded, joined, pieces
 from .people import HIGHEST_ID
 from .records import XATTR
-from .scan import ATTRIBUTES
+from .reader import ATTRIBUTES
 from .snapshot import StoredList
 from .values import named, read_value, refused_value
 

@@ -3,6 +3,7 @@ states."""
 
 from __future__ import annotations
 
+import bisect
 import os
 from typing import Callable, Dict, Hashable, Iterable, Iterator, List, NamedTuple, Optional, Sequence, Tuple
 
@@ -75,13 +76,47 @@ class State(NamedTuple):
 
 class Together(NamedTuple):
     """Objects of a tree that have the same state in the earlier and in the later snapshot, with the path of the first.
-    The state is None in a snapshot that lacks them. The tree is one of the later snapshot if that has them."""
+    The state is None in a snapshot that lacks them. The tree is one of the later snapshot if that has them. If the scan
+    that lacks them could not read them, nobody knows whether they were there (`is_unread`)."""
 
     tree: int
     path: bytes
     objects: int
     old: Optional[State]
     new: Optional[State]
+    is_unread: bool = False
+
+
+class _Unread:
+    """What the scans of a snapshot may not have read: what is at a path where something failed or below it, and
+    everything that is absent from a tree that is not whole."""
+
+    def __init__(self, snapshot: Snapshot) -> None:
+        self._failed: Dict[int, List[bytes]] = {}
+        for tree, path in sorted((one[0], one[1].replace(b"/", b"\0")) for one in snapshot.errors()):
+            held = self._failed.setdefault(tree, [])
+            if not held or not _is_in(path, held[-1]):
+                held.append(path)
+        self._partial = {number for number, tree in snapshot.trees.items() if not tree.whole}
+
+    def has(self, tree: int, path: bytes) -> bool:
+        """Whether an object may be absent from a tree only because it was not read."""
+        failed = self._failed.get(tree)
+        if tree in self._partial or not failed:
+            return tree in self._partial
+        path = path.replace(b"/", b"\0")
+        at = bisect.bisect_right(failed, path)
+        return at > 0 and _is_in(path, failed[at - 1])
+
+
+def _is_in(path: bytes, above: bytes) -> bool:
+    """Whether a path is another one or below it. Both have zero bytes between their parts: so in a sorted list, what is
+    below a path comes right behind it."""
+    return not above or path == above or path.startswith(above + b"\0")
+
+
+Selection = Callable[[int, bytes], bool]
+"""Whether an object is selected, by its tree and its path below the root."""
 
 
 class Joined:
@@ -94,47 +129,77 @@ class Joined:
               "FROM main.objects o INDEXED BY objects_by_path LEFT JOIN pairs ON o.tree = pairs.old "
               "LEFT JOIN later.objects n ON n.tree = pairs.new AND n.path = o.path "
               "LEFT JOIN alike ON alike.old = o.face "
-              "WHERE (new_face = alike.new AND are_same AND new_bits = old_bits) IS NOT TRUE")
-    _GONE = "SELECT * FROM other WHERE new_tree IS NULL"
-    _CAME = (f"SELECT n.path AS path, {_NO_OLD}, {_NEW}, 0 AS are_same "
+              "WHERE %s (new_face = alike.new AND are_same AND new_bits = old_bits) IS NOT TRUE")
+    _GONE = "SELECT *, not_read_later(old_tree, path) AS is_unread FROM other WHERE new_tree IS NULL"
+    _CAME = (f"SELECT n.path AS path, {_NO_OLD}, {_NEW}, 0 AS are_same, not_read_earlier(n.tree, n.path) AS is_unread "
              "FROM later.objects n INDEXED BY objects_by_path LEFT JOIN pairs ON n.tree = pairs.new "
-             "WHERE NOT EXISTS (SELECT 1 FROM main.objects o WHERE o.tree = pairs.old AND o.path = n.path)")
-    _BOTH = "SELECT * FROM other WHERE new_tree IS NOT NULL"
+             "WHERE %s NOT EXISTS (SELECT 1 FROM main.objects o WHERE o.tree = pairs.old AND o.path = n.path)")
+    _BOTH = "SELECT *, 0 AS is_unread FROM other WHERE new_tree IS NOT NULL"
     _COLUMNS = ("old_tree, old_face, old_is_directory, old_bits, new_tree, new_face, new_is_directory, new_bits, "
-                "are_same")
+                "are_same, is_unread")
 
-    def __init__(self, old: Snapshot, new: Snapshot, pairs: Sequence[Pair], alike: Iterable[Tuple[int, int]]) -> None:
+    def __init__(self, old: Snapshot, new: Snapshot, pairs: Sequence[Pair], alike: Iterable[Tuple[int, int]],
+                 selections: Optional[Tuple[Selection, Selection]] = None) -> None:
         """`pairs` are the trees of both snapshots that are one tree at two times. Objects with faces that are `alike`
-        have not changed if nothing else of their states has. Their number is `unchanged`."""
+        have not changed if nothing else of their states has. Their number is `unchanged`. Only the objects count that
+        the selection of one of the snapshots has."""
         self._db = db = old.attach(new)
+        self._add_functions(old, new, pairs, selections)
         db.execute("CREATE TEMP TABLE pairs (old INTEGER PRIMARY KEY, new INTEGER UNIQUE)")
         db.executemany("INSERT INTO pairs VALUES (?, ?)", pairs)
         db.execute("CREATE TEMP TABLE alike (old INTEGER PRIMARY KEY, new INTEGER)")
         db.executemany("INSERT INTO alike VALUES (?, ?)", alike)
-        db.execute(self._OTHER)
+        self._is_selected = ("is_old(o.tree, o.path) AND", "is_new(n.tree, n.path) AND") if selections else ("", "")
+        db.execute(self._OTHER % self._is_selected[0])
         (other, in_both), = db.execute("SELECT COUNT(*), COUNT(new_tree) FROM other")
-        self.unchanged = old.count - other
-        self._have_come = new.count > self.unchanged + in_both
+        count = old.count
+        if selections:
+            (count,), = db.execute("SELECT COUNT(*) FROM main.objects o WHERE is_old(o.tree, o.path)")
+        self.unchanged = count - other
+        self._have_come = bool(selections) or new.count > self.unchanged + in_both
+
+    def _add_functions(self, old: Snapshot, new: Snapshot, pairs: Sequence[Pair],
+                       selections: Optional[Tuple[Selection, Selection]]) -> None:
+        """Gives SQL the functions of its queries: `is_old` and `is_new` say whether an object is selected, given its
+        tree in the earlier or in the later snapshot, and the others whether the other snapshot may lack it only because
+        it was not read."""
+        later, earlier = dict(pairs), {after: before for before, after in pairs}
+        unread, unread_before = _Unread(new), _Unread(old)
+
+        def is_old(tree: int, path: bytes) -> bool:
+            return not selections or selections[0](tree, path) or tree in later and selections[1](later[tree], path)
+
+        def is_new(tree: int, path: bytes) -> bool:
+            return not selections or selections[1](tree, path) or tree in earlier and selections[0](earlier[tree], path)
+
+        def not_read_later(tree: int, path: bytes) -> bool:
+            return tree in later and unread.has(later[tree], path)
+
+        def not_read_earlier(tree: int, path: bytes) -> bool:
+            return tree in earlier and unread_before.has(earlier[tree], path)
+        for function in (is_old, is_new, not_read_later, not_read_earlier):
+            self._db.create_function(function.__name__, 2, function)
 
     def changes(self, each: bool) -> Iterator[Together]:
         """Yields the objects that the later snapshot lacks, those that the earlier one lacks, and those of both that
         may have changed: with `each` one by one in the order of trees and paths, and otherwise those with the same
         states together. Two objects of different kinds come as one that the later snapshot lacks and one that the
         earlier one lacks."""
-        for query in (self._GONE, *([self._CAME] if self._have_come else []), self._BOTH):
+        came = self._CAME % self._is_selected[1]
+        for query in (self._GONE, *([came] if self._have_come else []), self._BOTH):
             if each:
                 rows = self._db.execute(f"SELECT path, {self._COLUMNS}, 1 FROM ({query}) "
                                         "ORDER BY old_tree, new_tree, path")
             else:
                 rows = self._db.execute(f"SELECT MIN(path), {self._COLUMNS}, COUNT(*) FROM ({query}) "
                                         f"GROUP BY {self._COLUMNS}")
-            for path, *both, are_same, objects in rows:
+            for path, *both, are_same, is_unread, objects in rows:
                 old, new = (None if side[0] is None else State(side[1], bool(side[2]), side[3])
                             for side in (both[:4], both[4:]))
                 if are_same:
                     yield Together(both[4], path, objects, old, new)
                     continue
                 if old:
-                    yield Together(both[0], path, objects, old, None)
+                    yield Together(both[0], path, objects, old, None, bool(is_unread))
                 if new:
-                    yield Together(both[4], path, objects, None, new)
+                    yield Together(both[4], path, objects, None, new, bool(is_unread))

@@ -13,10 +13,11 @@ from typing import Callable, Dict, FrozenSet, Iterator, List, NamedTuple, Option
 
 from aclck import ALLOW, Ace, AceFlag, Difference, NfsAcl, mask_text
 
-from .ask import Asker, Identity, check
+from .ask import Asker, check
 from .compare import named_of
 from .creations import creations
-from .limits import Limit, Limits, Unjudged, no_ids
+from .identities import Identity
+from .limits import Limit, Limits, Unjudged, lacks, no_ids
 from .lists import POSIX_MASKS, Asked, Kind, RefusedList
 from .people import Person, read_id
 from .policies import Rule
@@ -170,6 +171,8 @@ class Judge:
         own = judged[id(limit), is_most]
         if own:
             yield own
+        if limit.lacking:
+            yield Breach(Verdict.UNKNOWN, bound_word(is_most), reason=lacks(limit.lacking))
         if with_children:
             key = (id(limit), is_most, face.list, face.tree)
             if key not in self._children:

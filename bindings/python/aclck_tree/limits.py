@@ -4,7 +4,7 @@ from __future__ import annotations
 
 import functools
 import operator
-from typing import Dict, Iterable, List, NamedTuple, Optional, Tuple, Union
+from typing import Dict, Iterable, List, NamedTuple, Optional, Set, Tuple, Union
 
 from aclck import ALL, ALLOW, APPEND_DATA, EXECUTE, READ_DATA, WRITE_DATA, Ace, AceFlag, NfsAcl, PosixAcl, mask_text
 
@@ -25,11 +25,13 @@ _SHOWN = 5
 
 class Limit(NamedTuple):
     """The list of a bound, and the POSIX list of which it is the bridge if it is one. `without_ids` are the names that
-    the bound has and the list has not, because no id is known for them."""
+    the bound has and the list has not, because no id is known for them. `lacking` are the rights of the bound that
+    lists of this kind do not have."""
 
     acl: NfsAcl
     posix: Optional[PosixAcl] = None
     without_ids: Tuple[str, ...] = ()
+    lacking: int = 0
 
 
 class Unjudged(NamedTuple):
@@ -44,10 +46,13 @@ class Limits:
 
     def __init__(self, asker: Asker) -> None:
         self._asker = asker
-        self._given = {(is_group, name): number for person in asker.people
-                       for (name, is_group), number in person.ids.items()}
+        self._given: Dict[Tuple[bool, str], Set[int]] = {}
+        for person in asker.people:
+            for (name, is_group), number in person.ids.items():
+                self._given.setdefault((is_group, name), set()).update(
+                    (number, *person.more.get((name, is_group), ())))
         self._known: Dict[Tuple[str, bool, Kind, int], Union[Limit, Unjudged]] = {}
-        self._equal: Dict[Tuple[NfsAcl, Optional[PosixAcl], Tuple[str, ...]], Limit] = {}
+        self._equal: Dict[Limit, Limit] = {}
 
     def of(self, rule: Rule, is_most: bool, kind: Kind, tree: int) -> Union[Limit, Unjudged]:
         """Returns the list of a bound of a rule, or why there is none. Equal lists are one object."""
@@ -72,21 +77,23 @@ class Limits:
         return self._of_posix(bound, tree)
 
     def _of_words(self, words: Words, is_most: bool, kind: Kind, tree: int) -> Union[Limit, Unjudged]:
-        """Makes the list that words mean. What `at_most` does not name, everybody may have."""
-        lacking = words.rights & ~_OF_POSIX
-        if kind is Kind.POSIX and lacking:
-            return Unjudged(f"a POSIX list has no {mask_text(lacking)}")
+        """Makes the list that words mean. What `at_most` does not name, everybody may have. Rights that POSIX lists do
+        not have are left out for these, and the other words are judged."""
+        lacking = words.rights & ~_OF_POSIX if kind is Kind.POSIX else 0
+        if lacking == words.rights:
+            return Unjudged(lacks(lacking))
         aces: List[Ace] = []
         without_ids: List[str] = []
         for mask, names in words.rows:
-            for whom in names:
+            mask &= ~lacking
+            for whom in names if mask else ():
                 whos = list(self._whos(whom, kind, tree))
                 aces += [Ace(ALLOW, AceFlag.IDENTIFIER_GROUP if is_group else AceFlag(0), mask, who)
                          for is_group, who in whos]
                 without_ids += [] if whos else [whom.name]
         if is_most:
             aces.append(Ace(ALLOW, AceFlag(0), ALL & ~words.rights, "EVERYONE@"))
-        return Limit(NfsAcl.from_aces(aces), None, tuple(dict.fromkeys(without_ids)))
+        return Limit(NfsAcl.from_aces(aces), None, tuple(dict.fromkeys(without_ids)), lacking)
 
     def _whos(self, whom: Whom, kind: Kind, tree: int) -> List[Tuple[bool, str]]:
         """Returns how lists name somebody: as a user, as a group, as both, or not at all if no id is known."""
@@ -98,14 +105,15 @@ class Limits:
         return [(is_group, str(number)) for is_group, number in ids if number is not None]
 
     def _id(self, is_group: bool, name: str, tree: int) -> Optional[int]:
+        """Returns the id of a name, or None if it is not known: also if the people are given with several."""
         given = self._given.get((is_group, name))
-        return self._asker.id_of(name, is_group, tree) if given is None else given
+        if given:
+            return min(given) if len(given) == 1 else None
+        return self._asker.id_of(name, is_group, tree)
 
     def _with_ids(self, acl: NfsAcl, is_most: bool, tree: int) -> Union[Limit, Unjudged]:
         """Makes the list that a list with names means where lists have ids. No POSIX list grants further rights."""
         lacking = functools.reduce(operator.or_, (ace.mask & ~_OF_POSIX for ace in acl if ace.kind == ALLOW), 0)
-        if lacking and not is_most:
-            return Unjudged(f"a POSIX list has no {mask_text(lacking)}")
         users: Dict[_Name, _Name] = {}
         groups: Dict[_Name, _Name] = {}
         missing = []
@@ -117,7 +125,8 @@ class Limits:
         if missing:
             return Unjudged(no_ids(missing))
         renamed = acl.renamed(users, groups, may_merge=True)
-        return Limit(NfsAcl.from_aces(ace._replace(mask=ace.mask & _OF_POSIX) for ace in renamed))
+        made = NfsAcl.from_aces(ace._replace(mask=ace.mask & _OF_POSIX) for ace in renamed)
+        return Limit(made, lacking=0 if is_most else lacking)
 
     def _of_posix(self, bound: PosixText, tree: int) -> Union[Limit, Unjudged]:
         found: List[Dict[str, int]] = []
@@ -130,6 +139,11 @@ class Limits:
             return Unjudged(no_ids(sorted(missing)))
         acl = PosixAcl.from_text(bound.text, *found)
         return Limit(acl.bridge(), acl)
+
+
+def lacks(rights: int) -> str:
+    """Returns the line about rights that POSIX lists do not have."""
+    return f"a POSIX list has no {mask_text(rights)}"
 
 
 def no_ids(given: Iterable[str]) -> str:

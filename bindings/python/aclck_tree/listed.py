@@ -17,7 +17,8 @@ from typing import Iterator, List, NamedTuple, Optional
 from .errors import DeviceError, TreeError
 from .handles import Directory
 from .progress import Progress
-from .scan import Options, Piece, Scan, Task
+from .reader import Options, Piece, Task
+from .scan import Scan
 from .text import quoted, quoted_path
 from .writer import Writer
 

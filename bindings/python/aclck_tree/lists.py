@@ -201,6 +201,12 @@ def asked_nfs(data: bytes) -> Asked:
     return Asked(acl, None, tuple((decoded(name), decoded(name + suffix)) for name in names), places, left_out)
 
 
+def has_empty_mask(attribute: bytes) -> bool:
+    """Whether an attribute (linux/posix_acl_xattr.h) has a mask without permissions."""
+    end = 4 + (len(attribute) - 4) // 8 * 8
+    return any(tag == 16 and not perms for tag, perms, _ in struct.iter_unpack("<HHI", attribute[4:end]))
+
+
 def as_linux(acl: PosixAcl) -> PosixAcl:
     """Returns the list that Linux uses: without named entries if the mask is empty (docs/others.md)."""
     perms = {entry.tag: entry.perm for entry in acl if not entry.default and entry.id is None}

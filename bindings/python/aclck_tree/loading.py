@@ -2,8 +2,9 @@
 reads a script, in which everything from a snapshot is data of COPY, and never a part of a statement.
 
 All snapshots of a run are one transaction, which the last line of the script ends. So if anything fails, or this
-process is killed, nothing is loaded. `begin.sql` has what comes before the data, and `tables.sql` and `views.sql` have
-the tables and the views.
+process is killed, nothing is loaded. `begin.sql` has what comes before the data: it judges the role, the extension and
+the schema. `tables.sql` and `views.sql` have the tables and the views. `objects.sql` has what comes before the objects
+of a scan, and `tree.sql` what comes after its data.
 """
 
 from __future__ import annotations
@@ -12,6 +13,7 @@ import argparse
 import contextlib
 import datetime
 import hashlib
+import itertools
 import os
 import re
 import shutil
@@ -21,10 +23,11 @@ import tempfile
 from binascii import hexlify
 from typing import Dict, Iterable, Iterator, List, NamedTuple, Optional, Sequence, Tuple
 
-from .ask import Asker, Options
+from .ask import Answers, Asker, Options
 from .commands import opened, people_of, status_of
 from .errors import YES, DeviceError, TreeError, UsageError
 from .people import HIGHEST_ID, Person
+from .reach import reached
 from .snapshot import TIME, Face, Snapshot, Tree
 from .text import plural, quoted, quoted_line, quoted_path
 
@@ -32,7 +35,7 @@ LONGEST_NAME = 1000
 """How many bytes the name of a host may have, which is a key of a table."""
 
 
-_WHY = re.compile(r"^psql:<stdin>:[0-9]+: [^:]*: +aclck-tree: (.*)", re.MULTILINE)
+_WHY = re.compile(r"psql:<stdin>:[0-9]+: [^:]*: +aclck-tree: (.*)")
 """How psql reports an error that the script raises. The word for an error is in the language of the server."""
 
 _KNOWN = re.compile(r"scan (\d+) is loaded already")
@@ -113,58 +116,22 @@ def _sql(name: str) -> str:
         return file.read()
 
 
-# A partition is filled before it is one, so that nobody who asks has to wait.
-_OBJECTS = r"""
-INSERT INTO hosts (name) SELECT host FROM new_tree ON CONFLICT DO NOTHING;
-SELECT host, nextval(pg_get_serial_sequence('trees', 'tree')) AS tree FROM hosts
-WHERE name = (SELECT host FROM new_tree) \gset
-CREATE TABLE objects_:tree (LIKE objects, CHECK (host = :host AND tree = :tree));
-ALTER TABLE objects_:tree ALTER host SET DEFAULT :host, ALTER tree SET DEFAULT :tree;
-COPY objects_:tree (path, kind, mode, face) FROM STDIN WITH (FREEZE);
-"""
+_END = "ANALYZE trees, lists, faces, ways, people, unread;\nCOMMIT;\n"
 
-_TREE = r"""
-INSERT INTO trees (tree, host, root, place, began, ended, is_whole, version, links, domain, objects, failures, digest)
-SELECT :tree, :host, root, place, began, ended, is_whole, version, links, domain,
-    (SELECT coalesce(sum(objects), 0) FROM new_faces), (SELECT count(*) FROM new_unread), '\x{digest}'
-FROM new_tree ON CONFLICT (digest) DO NOTHING;
-DO $$ BEGIN
-    IF NOT EXISTS (SELECT FROM trees WHERE tree = currval(pg_get_serial_sequence('trees', 'tree'))) THEN
-        RAISE EXCEPTION 'aclck-tree: scan % is loaded already', (SELECT number FROM new_tree);
-    END IF;
-END $$;
-INSERT INTO lists (digest, kind, mode, access, dflt) SELECT * FROM new_lists n
-WHERE NOT EXISTS (SELECT FROM lists l WHERE l.digest = n.digest) ORDER BY digest ON CONFLICT (digest) DO NOTHING;
-INSERT INTO faces SELECT :tree, face, uid, gid, list, owner, owning_group, objects, first
-FROM new_faces JOIN lists USING (digest);
-INSERT INTO unread SELECT :tree, * FROM new_unread;
-INSERT INTO people SELECT :tree, person, name, account, groups, uid, gids FROM new_people
-CROSS JOIN LATERAL (SELECT
-    CASE WHEN count(*) = count(m.account) THEN coalesce(array_agg(m.account), '{{}}') END,
-    CASE WHEN count(*) FILTER (WHERE is_listed) = count(m.gid) FILTER (WHERE is_listed)
-         THEN coalesce(array_agg(m.gid) FILTER (WHERE is_listed), '{{}}') END
-    FROM new_memberships m WHERE m.person = new_people.person) AS own (groups, gids);
-INSERT INTO memberships SELECT :tree, * FROM new_memberships;
-SELECT to_regclass('objects_of_host_' || :host) IS NULL AS is_new \gset
-\if :is_new
-CREATE TABLE objects_of_host_:host (LIKE objects) PARTITION BY LIST (tree);
-ALTER TABLE objects ATTACH PARTITION objects_of_host_:host FOR VALUES IN (:host);
-\endif
-ALTER TABLE objects_of_host_:host ATTACH PARTITION objects_:tree FOR VALUES IN (:tree);
-ANALYZE objects_:tree;
-TRUNCATE new_tree, new_lists, new_faces, new_unread, new_people, new_memberships;
-"""
 
-_END = "ANALYZE trees, lists, faces, people, unread;\nCOMMIT;\n"
+_Reached = Iterator[Tuple[int, bytes, int, Answers]]
+"""The objects of a snapshot, each with who gets past the directories above it, as `reach.reached` yields them."""
 
 
 class _Source(NamedTuple):
-    """A scan of a tree to be loaded: its snapshot, the tree, and what knows its people and the names of its owners."""
+    """A scan of a tree to be loaded: its snapshot, the tree, what knows its people and the names of its owners, and who
+    gets past its directories, if that is loaded too. The trees of a snapshot share the last two."""
 
     snapshot: Snapshot
     tree: Tree
     asker: Asker
     domain: str
+    reached: Optional[_Reached]
 
 
 class _Hash:
@@ -215,22 +182,59 @@ class _Counts:
         self.firsts = [b""] * (faces + 1)
 
 
-def _object_lines(source: _Source, numbers: Dict[int, int], counts: _Counts) -> Iterator[bytes]:
-    """Yields the lines of all objects, some thousand at a time, and counts them."""
+class _Ways:
+    """The different answers to who gets past the directories above an object of a tree, each with a number from 1."""
+
+    def __init__(self, source: _Source) -> None:
+        self.source = source
+        self.numbers: Dict[Answers, int] = {}
+
+    def fields(self) -> Iterator[bytes]:
+        """Yields the last field of the line of each object, in the order of paths: nothing if reach is not loaded."""
+        if self.source.reached is None:
+            return itertools.repeat(b"")
+        return (b"\t%d" % self.numbers.setdefault(above, len(self.numbers) + 1)
+                for _, _, _, above in self.source.reached)
+
+    def lines(self) -> Iterator[bytes]:
+        """Yields the lines of the ways."""
+        for above, number in self.numbers.items():
+            yield line([number, *map(_places, (above.granted, above.denied, above.unknown))])
+
+
+def _places(bits: int) -> str:
+    """Returns the places of the bits that are set, counted from 1, as an array of PostgreSQL."""
+    return f"{{{','.join(str(place) for place, bit in enumerate(reversed(f'{bits:b}'), 1) if bit == '1')}}}"
+
+
+def _object_lines(source: _Source, numbers: Dict[int, int], counts: _Counts, ways: _Ways,
+                  seen: _Hash) -> Iterator[bytes]:
+    """Yields the lines of all objects, some thousand at a time, and counts them. Who gets past the directories above
+    does not count for the digest, because it depends on who is asked about."""
     objects, firsts = counts.objects, counts.firsts
+    own: List[bytes] = []
     lines: List[bytes] = []
-    for path, kind, mode, face in source.snapshot.objects_in(source.tree.tree):
+    for (path, kind, mode, face), way in zip(source.snapshot.objects_in(source.tree.tree), ways.fields()):
         number = numbers.get(face, 0)
         if not number:
             raise TreeError(f"{source.snapshot.place}: damaged: an object has the owner and the list of another tree")
         if not objects[number]:
             firsts[number] = path
         objects[number] += 1
-        lines.append(b"\\\\x%b\t%b\t%d\t%d\n" % (hexlify(path), kind, mode, number))
+        own.append(b"\\\\x%b\t%b\t%d\t%d" % (hexlify(path), kind, mode, number))
+        lines.append(own[-1] + way)
         if len(lines) == 5000:
-            yield b"".join(lines)
-            lines.clear()
-    yield b"".join(lines)
+            yield _joined(own, lines, seen)
+    yield _joined(own, lines, seen)
+
+
+def _joined(own: List[bytes], lines: List[bytes], seen: _Hash) -> bytes:
+    """Returns the lines, adds those of `own` to the digest, and empties both."""
+    seen.add(b"".join(one + b"\n" for one in own))
+    joined = b"".join(one + b"\n" for one in lines)
+    own.clear()
+    lines.clear()
+    return joined
 
 
 def _face_lines(source: _Source, faces: Sequence[Tuple[Face, bytes]], counts: _Counts, seen: _Hash) -> Iterator[bytes]:
@@ -282,7 +286,7 @@ def _parts(number: int, source: _Source) -> Iterator[bytes]:
     seen = _Hash()
     faces = _ordered_faces(source)
     numbers = {face.face: place for place, (face, _) in enumerate(faces, 1)}
-    counts = _Counts(len(faces))
+    counts, ways = _Counts(len(faces)), _Ways(source)
 
     def copied(table: str, lines: Iterable[bytes]) -> Iterator[bytes]:
         yield f"COPY {table} FROM STDIN;\n".encode()
@@ -291,23 +295,25 @@ def _parts(number: int, source: _Source) -> Iterator[bytes]:
 
     head = _head(source)
     seen.add(line(head))
-    yield from copied("new_tree", [line([number, *head, source.domain])])
-    yield _OBJECTS.encode()
-    yield from map(seen.add, _object_lines(source, numbers, counts))
+    yield from copied("pg_temp.new_tree", [line([number, *head, source.domain])])
+    columns = "path, kind, mode, face" + (", way" if source.reached else "")
+    yield _sql("objects.sql").replace("{columns}", columns).encode()
+    yield from _object_lines(source, numbers, counts, ways, seen)
     yield b"\\.\n"
-    yield from copied("new_faces", _face_lines(source, faces, counts, seen))
-    yield from copied("new_lists", _list_lines(source, faces))
-    yield from copied("new_unread", _unread_lines(source, seen))
-    yield from copied("new_people", _people_lines(source))
-    yield from copied("new_memberships", _membership_lines(source))
-    yield _TREE.format(digest=seen.hash.hexdigest()).encode()
+    yield from copied("pg_temp.new_faces", _face_lines(source, faces, counts, seen))
+    yield from copied("pg_temp.new_lists", _list_lines(source, faces))
+    yield from copied("pg_temp.new_ways", ways.lines())
+    yield from copied("pg_temp.new_unread", _unread_lines(source, seen))
+    yield from copied("pg_temp.new_people", _people_lines(source))
+    yield from copied("pg_temp.new_memberships", _membership_lines(source))
+    yield _sql("tree.sql").replace("{digest}", seen.hash.hexdigest()).encode()
 
 
-def script(sources: Sequence[_Source]) -> Iterator[bytes]:
+def script(sources: Sequence[_Source], as_superuser: bool = False) -> Iterator[bytes]:
     """Yields the whole script, which is one transaction. psql takes the end of its input for the end of a COPY, so
-    only the last line may end the transaction."""
-    begin = _sql("begin.sql").replace("{tables}", _sql("tables.sql")).replace("{views}", _sql("views.sql"))
-    yield begin.encode()
+    only the last line may end the transaction. `as_superuser` lets a superuser load."""
+    begin = _sql("begin.sql").replace("{as_superuser}", str(as_superuser).lower())
+    yield begin.replace("{tables}", _sql("tables.sql")).replace("{views}", _sql("views.sql")).encode()
     for number, source in enumerate(sources):
         yield from _parts(number, source)
     yield _END.encode()
@@ -324,21 +330,24 @@ def _sources(args: argparse.Namespace) -> List[_Source]:
             hint = "" if portion.is_list else ": merge joins all shards of a tree"
             raise TreeError(f"{place}: {portion.words()} is not loaded{hint}")
         asker = Asker(snapshot, people_of(args, snapshot), Options(args.domain or ""))
-        found += [_Source(snapshot, tree, asker, args.domain or "") for tree in snapshot.trees.values()]
+        reached_objects = reached(asker) if args.reach else None
+        found += [_Source(snapshot, tree, asker, args.domain or "", reached_objects)
+                  for tree in snapshot.trees.values()]
     return found
 
 
 def _failure(status: int, errors: str, sources: Sequence[_Source]) -> TreeError:
-    """Makes the error for what psql wrote."""
-    why = _WHY.search(errors)
-    known = _KNOWN.search(why[1]) if why else None
+    """Makes the error for what psql wrote. Only its first line counts: a name of a role can have line feeds."""
+    lines = errors.splitlines() or [f"psql ended with status {status}"]
+    first = next((one for one in lines if one.startswith("psql:")), lines[0])
+    why = _WHY.match(first)
+    known = _KNOWN.fullmatch(why[1]) if why else None
     if known:
         source = sources[int(known[1])]
         return TreeError(f"{source.snapshot.place}: the scan of {quoted_path(source.tree.place)} that began at "
                          f"{source.tree.began} is loaded already")
     if why:
         return TreeError(why[1])
-    first = next(iter(errors.splitlines()), f"psql ended with status {status}")
     return DeviceError(f"nothing is loaded: {re.sub('^psql:<stdin>:[0-9]+: ', '', first)}")
 
 
@@ -348,7 +357,7 @@ def load(args: argparse.Namespace) -> int:
     psql = _Psql(args.dsn)
     try:
         with contextlib.suppress(BrokenPipeError):
-            for data in script(sources):
+            for data in script(sources, args.as_superuser):
                 psql.write(data)
         status, errors = psql.end()
         if status:

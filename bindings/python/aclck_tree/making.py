@@ -10,14 +10,15 @@ import stat
 import sys
 from typing import Callable, Dict, Iterator, List, Optional, Protocol, Sequence, Tuple
 
-from . import accounts
+from . import accounts, others
 from .combining import far_apart, gathered, join
 from .errors import REFUSED, YES, DeviceError, TreeError, UsageError
 from .files import refuse_what_is_no_file
 from .listed import ListedScan, entries, opened_list
 from .portions import LONGEST_KEY, MOST_SHARDS, read_shard
 from .progress import Progress
-from .scan import Options, Scan
+from .reader import Options
+from .scan import Scan
 from .snapshot import Account, Snapshot, Tree
 from .text import plural, quoted, tell
 from .writer import Writer, new_snapshot
@@ -55,7 +56,8 @@ def scan_trees(roots: Sequence[bytes], options: Options, writer: Writer, total: 
     progress.end()
     for scan in scans:
         writer.add_names(scan.names())
-        writer.add_members((scan.tree, user, group) for user, group in accounts.members())
+        writer.add_members((scan.tree, user, group) for user, group in
+                           accounts.members(writer, scan.tree))
     return whole, sum(scan.errors for scan in scans)
 
 
@@ -99,7 +101,15 @@ def scan(args: argparse.Namespace) -> int:
     state = "" if writer.whole else ", ended early: partial"
     if failed or state or not args.quiet:
         sys.stderr.write(f"{_made(writer)}{failed}{state}\n")
-    return REFUSED if errors or not writer.whole else YES
+    _tell_others(writer)
+    return REFUSED if errors or writer.others or not writer.whole else YES
+
+
+def _tell_others(writer: Writer) -> None:
+    """Reports on standard error how many objects have a list that is not read."""
+    line = others.line(writer.others)
+    if line:
+        tell(f"{quoted(writer.place)}: {line}")
 
 
 def _archive_scan(root: str) -> Callable[..., AnyScan]:
@@ -183,4 +193,5 @@ def merge(args: argparse.Namespace) -> int:
     for line in [*lines, *_several_times(snapshots)]:
         tell(line)
     sys.stderr.write(f"{_made(writer)}\n")
+    _tell_others(writer)
     return YES if all(snapshot.is_complete() for snapshot in snapshots) else REFUSED

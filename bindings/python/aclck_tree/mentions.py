@@ -34,8 +34,7 @@ def _wanted(asker: Asker, names: Iterable[Tuple[Person, Name]], trees: Set[int])
     for person, (is_group, word) in names:
         wanted.setdefault((0, is_group, encoded(asker.full_name(word))), set()).add((is_group, word))
         for tree in trees:
-            number = asker.id(person, word, is_group, tree)
-            if number is not None:
+            for number in asker.ids(person, word, is_group, tree):
                 wanted.setdefault((tree, is_group, b"%d" % number), set()).add((is_group, word))
     return wanted
 

@@ -12,7 +12,7 @@ from .findings import Finding
 from .lists import Asked
 from .page_script import SCRIPT
 from .page_style import STYLE
-from .people import Person
+from .people import Person, system_accounts
 from .rows import Level, Name, Row, Shown, columns_of, shortened, shown
 from .text import plural, quoted, quoted_host, quoted_line, quoted_path
 
@@ -69,6 +69,8 @@ def page(report: Report) -> Iterator[str]:
     """Yields the page, piece by piece."""
     rows = shown(report.rows.top, MOST_SHOWN)
     columns = columns_of(rows[1:], len(report.people))
+    is_of_system = system_accounts(report.snapshot)  # their columns come last
+    columns.sort(key=lambda column: all(is_of_system(report.people[place]) for place in column))
     heads = [_head(report, column) for column in columns[:MOST_COLUMNS]]
     labels = "".join(f"#access td:nth-child({place})::before{{content:{_css_string(name + ': ')}}}\n"
                      for place, (name, _) in enumerate(heads, 3))
@@ -129,13 +131,18 @@ def _finding(report: Report, finding: Finding, places: List[Places]) -> Iterator
     yield "<thead><tr><th scope=col class=k>Objects<th scope=col>What<th scope=col>Where</thead><tbody>\n"
     named = max(3, 100 // len(places))
     for one in places[:MOST_WORDS]:
-        yield (f"<tr><td class=k>{one.folders + one.files:,}<td>{escaped(shortened(one.words, 400))}"
+        yield (f"<tr>{_count(one.folders + one.files)}<td>{escaped(shortened(one.words, 400))}"
                f"<td>{_names(report, one.names[:named], one.folders + one.files)}\n")
     yield "</tbody></table>\n"
     if len(places) > MOST_WORDS:
         rest = sum(one.folders + one.files for one in places[MOST_WORDS:])
         yield f"<p>{plural(rest, 'object')} with other words: aclck-tree report --csv writes all of them.</p>\n"
     yield "</details>\n"
+
+
+def _count(objects: int) -> str:
+    """Returns the cell with a number of objects. On a narrow screen, the style puts the noun behind it."""
+    return f"<td class={repr('k one') if objects == 1 else 'k'}>{objects:,}"
 
 
 def _names(report: Report, objects: List[Name], count: int) -> str:
@@ -220,12 +227,12 @@ def _row(report: Report, one: Shown, most: int, is_hidden: bool) -> str:
     row, depth = one.row, one.depth
     names = row.names[:most]
     below = ", with what is below" if row.objects > row.begins else ""
-    words = f"<small>{'except ' if depth > 1 else ''}{_objects(row.folders, row.files)}{below}</small>"
+    words = f"<small>{'exception: ' if depth > 1 else ''}{_objects(row.folders, row.files)}{below}</small>"
     more = " data-more=1" if row.begins > len(names) else ""
     deep = " class=deep" if depth > 5 else ""
     hidden = " hidden" if is_hidden else ""
     return (f"<tr data-d={depth}{deep}{more}{hidden}><th scope=row>{_names(report, names, row.begins)}{words}"
-            f"<td class=k>{row.objects:,}")
+            f"{_count(row.objects)}")
 
 
 def _cell(row: Row, person: int) -> str:
@@ -244,7 +251,7 @@ def _rest(one: Shown, is_hidden: bool) -> str:
     rows = f"{plural(one.left_out_rows, 'row')} with " if one.left_out_rows else ""
     hidden = " hidden" if is_hidden else ""
     return (f"<tr class=rest data-d={one.depth + 1}{hidden}><th scope=row>exceptions without room on this page: {rows}"
-            f"{plural(one.left_out_objects, 'object')}<td class=k>{one.left_out_objects:,}\n")
+            f"{plural(one.left_out_objects, 'object')}{_count(one.left_out_objects)}\n")
 
 
 def _people(report: Report, columns: List[List[int]]) -> Iterator[str]:
@@ -260,7 +267,7 @@ def _people(report: Report, columns: List[List[int]]) -> Iterator[str]:
     absent = sum(len(column) for column in columns[MOST_COLUMNS:])
     if absent:
         yield f"<p class=warning>{absent:,} people have no column, because the page has room for {MOST_COLUMNS}. Ask "
-        yield "about fewer people with --people.</p>\n"
+        yield "about fewer people with --people or --skip-system.</p>\n"
 
 
 def _scan(report: Report) -> Iterator[str]:

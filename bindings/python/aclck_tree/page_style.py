@@ -63,11 +63,12 @@ th small { display: block; } summary small { display: inline; }
     overflow-wrap: anywhere; }
   #access td.n:not([class*=x]) { display: none; }
   #access td.k { border: 0; color: var(--quiet); flex: 1 0 100%; text-align: left; }
-  #access td.k::after { content: " objects"; }
+  #access td.k::after { content: " objects"; } #access td.k.one::after { content: " object"; }
 }
 @media screen and (max-width: 40rem) {
   .found table, .found tbody, .found tr, .found td { display: block; width: auto; text-align: left; }
   .found thead { display: none; } .found td { padding: 0 .2rem; } .found .k::after { content: " objects"; }
+  .found .k.one::after { content: " object"; }
   #access thead { display: block; } #access thead tr { border: 0; padding: 0; }
   #access thead th { display: none; } #access thead th:nth-child(-n+2) { display: block; position: static; }
   body { margin-top: .6rem; padding: 0 .7rem; } input, select { max-width: 100%; }

@@ -20,9 +20,9 @@ from .text import Naming, tell
 def _fault(words: List[str]) -> str:
     """Returns why a question cannot be put to each snapshot by itself, or an empty text."""
     args = parser_of().parse_args(words)
-    if args.word == "may" and args.groups is None or args.word != "may" and not (
+    if args.word == "may" and args.groups is None and not args.getent or args.word != "may" and not (
             args.people or args.passwd or args.getent):
-        return "snapshots that are asked together need --people, --passwd or --getent, and may needs --groups"
+        return "snapshots that are asked together need --people, --passwd or --getent, and may needs --groups or --getent"
     portions = [list(snapshot.portions.values()) for snapshot in TOGETHER.snapshots]
     if getattr(args, "reach", False) and any(portions):
         return "--reach needs whole trees"

@@ -2,7 +2,6 @@
 
 from __future__ import annotations
 
-import grp
 import io
 import itertools
 import os
@@ -24,6 +23,7 @@ from typing import (
     Union,
 )
 
+from .accounts import group_name, groups_of, least_id
 from .errors import TreeError, UsageError
 from .files import opened_file
 from .snapshot import Snapshot, StoredList
@@ -34,15 +34,21 @@ HIGHEST_ID = 0xFFFFFFFE
 """The highest id of a user or a group. The next number means that there is no id."""
 
 
+MOST_IDS = 16
+"""How many ids of a host may have one name: each of them is asked about."""
+
+
 @dataclass(frozen=True)
 class Person:
     """A user with all groups of the user. `ids` has the ids that are given, by the name and by whether it is a group.
-    If hosts listed different groups, `listed` has the groups for each tree."""
+    If hosts listed different groups, `listed` has the groups for each tree. `more` has the other ids of a name that is
+    given with several, such as those of two groups of one name that the user is in."""
 
     name: str
     groups: Tuple[str, ...] = ()
     ids: Mapping[Tuple[str, bool], int] = field(default_factory=dict)
     listed: Mapping[int, Tuple[str, ...]] = field(default_factory=dict)
+    more: Mapping[Tuple[str, bool], Tuple[int, ...]] = field(default_factory=dict)
 
     def groups_in(self, tree: int) -> Optional[Tuple[str, ...]]:
         """Returns the groups on the host of a tree, or None if that host does not list the user and another does."""
@@ -74,15 +80,19 @@ def fresh_ids(ids: Iterable[int]) -> Iterator[int]:
 
 @dataclass
 class Accounts:
-    """The accounts of one tree: names by ids and ids by names. If an account is listed twice, the first counts."""
+    """The accounts of one tree: names by ids, and ids by names. If an id is listed with two names, the first counts.
+    `shared` has all ids of each name that several ids have."""
 
     names: Dict[Tuple[bool, int], str] = field(default_factory=dict)
     ids: Dict[Tuple[bool, str], int] = field(default_factory=dict)
+    shared: Dict[Tuple[bool, str], Dict[int, None]] = field(default_factory=dict)
 
     def add(self, is_group: bool, number: int, name: str) -> None:
         """Adds an account."""
         self.names.setdefault((is_group, number), name)
-        self.ids.setdefault((is_group, name), number)
+        first = self.ids.setdefault((is_group, name), number)
+        if first != number:
+            self.shared.setdefault((is_group, name), {first: None})[number] = None
 
     def name(self, is_group: bool, number: int) -> str:
         """Returns the name of an id, or the id in digits if there is no account."""
@@ -93,12 +103,21 @@ class Accounts:
         name = self.names.get((is_group, number))
         return str(number) if name is None else f"{number} ({quoted(name)})"
 
-    def id(self, person: Person, name: str, is_group: bool) -> Optional[int]:
-        """Returns the id of a person or of one of their groups, or None if it is not known."""
+    def own_name(self, is_group: bool, number: int) -> Optional[str]:
+        """Returns the name of an id, or None if there is no account or if the name means another id too."""
+        name = self.names.get((is_group, number))
+        return None if name is None or (is_group, name) in self.shared else name
+
+    def ids_of(self, person: Person, name: str, is_group: bool) -> Tuple[int, ...]:
+        """Returns the ids of a person or of one of their groups. There are several only if they are given, and none if
+        the id is not known: also if several accounts have the name, and nothing says which of them is meant."""
         given = person.ids.get((name, is_group))
-        if given is None:
-            given = self.ids.get((is_group, name))
-        return read_id(name) if given is None else given
+        if given is not None:
+            return (given, *person.more.get((name, is_group), ()))
+        if (is_group, name) in self.shared:
+            return ()
+        found = self.ids.get((is_group, name), read_id(name))
+        return () if found is None else (found,)
 
 
 def accounts_of(snapshot: Snapshot) -> Dict[int, Accounts]:
@@ -106,7 +125,19 @@ def accounts_of(snapshot: Snapshot) -> Dict[int, Accounts]:
     found = {tree: Accounts() for tree in snapshot.trees}
     for tree, is_group, number, name in snapshot.names():
         found[tree].add(is_group, number, os.fsdecode(name))
+    if any(len(ids) > MOST_IDS for accounts in found.values() for ids in accounts.shared.values()):
+        raise TreeError(f"{snapshot.place}: damaged: a name has more than {MOST_IDS} ids")
     return found
+
+
+def system_accounts(snapshot: Snapshot) -> Callable[[Person], bool]:
+    """Returns what says whether a person is an account of the system: all known ids are below UID_MIN."""
+    accounts, least = accounts_of(snapshot), least_id()
+
+    def is_of_system(person: Person) -> bool:
+        ids = [number for host in accounts.values() for number in host.ids_of(person, person.name, False)]
+        return bool(ids) and max(ids) < least
+    return is_of_system
 
 
 def stranger_of(snapshot: Snapshot, lists: Iterable[StoredList], people: Iterable[Person]) -> Person:
@@ -127,7 +158,7 @@ def stranger_of(snapshot: Snapshot, lists: Iterable[StoredList], people: Iterabl
     for _, user, group in snapshot.members():
         names += [user, group]
     words = [word for person in people for word in (person.name, *person.groups)]
-    ids += [number for person in people for number in person.ids.values()]
+    ids += [number for person in people for number in itertools.chain(person.ids.values(), *person.more.values())]
     ids += [number for number in map(read_id, words) if number is not None]
     stranger = fresh_name(itertools.chain(names, words))
     return Person(stranger, (), {(stranger, False): next(fresh_ids(ids))})
@@ -163,20 +194,25 @@ def _split(word: str) -> Tuple[str, Optional[int]]:
     return name, number
 
 
-def _person(user: Tuple[str, Optional[int]], groups: Sequence[Tuple[str, Optional[int]]]) -> Person:
-    """Makes a person from names, each with its id if that is given. If a name has several ids, the first counts."""
+def made_person(user: Tuple[str, Optional[int]], groups: Sequence[Tuple[str, Optional[int]]]) -> Person:
+    """Makes a person from names, each with its id if that is given. A group may come with several ids: the person is
+    in each of these groups."""
     ids: Dict[Tuple[str, bool], int] = {}
+    more: Dict[Tuple[str, bool], Tuple[int, ...]] = {}
     for is_group, names in ((False, [user]), (True, groups)):
         for name, number in names:
             if number is not None and 0 <= number <= HIGHEST_ID:
-                ids.setdefault((name, is_group), number)
-    return Person(user[0], tuple(dict.fromkeys(name for name, _ in groups)), ids)
+                key = name, is_group
+                known = (ids.setdefault(key, number), *more.get(key, ()))
+                if number not in known:
+                    more[key] = (*known[1:], number)
+    return Person(user[0], tuple(dict.fromkeys(name for name, _ in groups)), ids, {}, more)
 
 
 def one_person(user: str, groups: Sequence[str]) -> Person:
     """Makes a person from command line words. Raises UsageError if a name is empty or an id is not one."""
     try:
-        return _person(_split(user), list(map(_split, groups)))
+        return made_person(_split(user), list(map(_split, groups)))
     except ValueError as error:
         raise UsageError(str(error)) from None
 
@@ -246,7 +282,7 @@ def people_file(place: str) -> List[Person]:
         if len(user) != 1:
             raise ValueError("more than one name is in front of the colon")
         words = _words(parts[2])
-        person = _person(_split(user[0]), list(map(_split, words)))
+        person = made_person(_split(user[0]), list(map(_split, words)))
         first = firsts.setdefault(person.name, number)
         if first != number:
             raise ValueError(f"{quoted(person.name)} is in line {first} already")
@@ -281,23 +317,28 @@ def passwd_files(passwd: str, group: str) -> List[Person]:
     def read_user(_: int, line: str) -> Person:
         name, number, fields = _account(line, "passwd(5)")
         own = _id_in(fields[3])
-        return _person((name, number), [(names.get(own, str(own)), own), *members.get(name, [])])
+        return made_person((name, number), [(names.get(own, str(own)), own), *members.get(name, [])])
 
     _each_line(group, read_group)
     return _each_line(passwd, read_user)
 
 
 def system_people() -> List[Person]:
-    """Returns the accounts that this system lists, as `getent passwd` and `getent group` do."""
-    groups = grp.getgrall()
-    names = {group.gr_gid: group.gr_name for group in groups}
-    members: Dict[str, List[Tuple[str, Optional[int]]]] = {}
-    for group in groups:
-        for name in group.gr_mem:
-            members.setdefault(name, []).append((group.gr_name, group.gr_gid))
-    return [_person((user.pw_name, user.pw_uid),
-                    [(names.get(user.pw_gid, str(user.pw_gid)), user.pw_gid), *members.get(user.pw_name, [])])
-            for user in pwd.getpwall()]
+    """Returns the accounts that this system lists, as `getent passwd` does, each with the groups of its processes."""
+    return [_system_person(user) for user in pwd.getpwall()]
+
+
+def system_person(name: str) -> Person:
+    """Returns a user of this system, who need not be one whom it lists. Raises TreeError if it has no such user."""
+    try:
+        return _system_person(pwd.getpwnam(name))
+    except (KeyError, ValueError):
+        raise TreeError(f"this system has no user {quoted(name)}") from None
+
+
+def _system_person(user: pwd.struct_passwd) -> Person:
+    return made_person((user.pw_name, user.pw_uid),
+                   [(group_name(number) or str(number), number) for number in groups_of(user.pw_name, user.pw_gid)])
 
 
 def snapshot_people(snapshot: Snapshot, only: Optional[str] = None) -> List[Person]:

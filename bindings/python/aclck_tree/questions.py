@@ -12,28 +12,16 @@ from typing import Dict, Iterable, Iterator, NamedTuple, Optional, Tuple, Union
 from aclck import mask_text
 
 from .ask import DENIED, GRANTED, UNKNOWN, Answer, Answers, Asker, Options, Want, chosen, ones, want_of
-from .commands import (
-    Counted,
-    Paths,
-    Tally,
-    asker_of,
-    count_by,
-    counted,
-    find,
-    opened,
-    people_of,
-    person_of,
-    selected,
-    status_of,
-)
+from .commands import Tally, asker_of, opened, people_of, person_of, status_of
 from .errors import NO, REFUSED, YES
 from .lists import Asked, Kind, RefusedList
 from .people import Person
 from .reach import reached
 from .reasons import Why, why_request
 from .reasons import why as why_of
+from .selecting import Counted, Paths, beginnings, count_by, counted, find, selected
 from .snapshot import Tree
-from .text import Named, Naming, Output, Row, name_in, plural, quoted, table, tell
+from .text import Form, Named, Naming, Output, Row, name_in, plural, quoted, table, tell
 
 
 def left_out(asker: Asker, faces: Iterable[int]) -> str:
@@ -109,6 +97,13 @@ class Question:
         parts = [quoted(name) for name, _ in sorted(asked.specials)] if found.unknown & own.unknown else []
         return " ".join(parts + (["directories above"] if basis.above and found.unknown & basis.above.unknown else []))
 
+    def lacks_ids(self, basis: Basis) -> bool:
+        """Whether the list of an object is a POSIX list, which has ids, and no id is known for the one person who is
+        asked about, or for a group."""
+        face = self.asker.faces[basis.face]
+        is_posix = self.asker.stored[face.list].is_posix
+        return is_posix and self.asker.identity(self.asker.people[0], face, Kind.POSIX) is None
+
     def _list(self, basis: Basis) -> int:
         return self.asker.faces[basis.face].list
 
@@ -118,13 +113,17 @@ class Question:
         has_posix = any(self.asker.stored[self.asker.faces[face].list].is_posix for face in faces)
         missing = f"; POSIX lists have no {mask_text(self.want.missing)}" if has_posix and self.want.missing else ""
         above = "" if self.is_reach or not counts else "; directories above were not asked (--reach)"
-        return f"{what}: {tally.line()}{missing}{left_out(self.asker, faces)}{self._linux(counts)}{above}"
+        where = f"; {beginnings(self.asker.snapshot)}" if self.glob is not None and not counts else ""
+        return f"{what}: {tally.line()}{where}{missing}{left_out(self.asker, faces)}{self._linux(counts)}{above}"
 
     def _linux(self, counts: Dict[Basis, int]) -> str:
-        """Reports how many answers `--linux` changes."""
-        if not self.asker.options.linux:
+        """Reports how many answers `--linux` changes, or would change."""
+        options = self.asker.options
+        is_asked = options.linux and not options.is_default
+        held = {face.list for face in self.asker.faces.values()}
+        if not is_asked and not any(map(self.asker.is_other_on_linux, held)):
             return ""
-        plain = Asker(self.asker.snapshot, self.asker.people, Options(self.asker.options.domain))
+        plain = Asker(self.asker.snapshot, self.asker.people, Options(options.domain, not options.linux))
         other = Question(plain, self.want, self.glob, self.is_reach)
         pairs = {(basis, basis): count for basis, count in counts.items()}
         if self.is_reach:
@@ -134,7 +133,12 @@ class Question:
             one, two = self.found(mine), other.found(its)
             if not isinstance(one, RefusedList) and not isinstance(two, RefusedList):
                 changed += count * ones((one.granted ^ two.granted) | (one.denied ^ two.denied))
-        return f"; --linux changes {plural(changed, 'answer')}"
+        if is_asked:
+            return f"; --linux changes {plural(changed, 'answer')}"
+        if not changed:
+            return ""
+        return (f"; of Linux, and not of acl(5), {'is' if changed == 1 else 'are'} {plural(changed, 'answer')} (--draft)"
+                if options.linux else f"; Linux gives {plural(changed, 'other answer')} (--linux)")
 
 
 MOST_NAMES = 1000000
@@ -216,14 +220,19 @@ def may(args: argparse.Namespace) -> int:
     question = Question(asker, want_of(args.may, args.any), args.path, args.reach)
     answers: Dict[Basis, Tuple[Answer, str]] = {}
     counts: Dict[Basis, int] = {}
+    without_ids = 0
     out = Output(args.form, question.naming.columns("answer", "path", "reason"), _may_text)
     for name, basis in question.objects():
         if basis not in answers:
             answers[basis], counts[basis] = _may_answer(question, basis), 0
         counts[basis] += 1
         answer, reason = answers[basis]
-        if args.all or answer is not DENIED:
+        if args.form is Form.TEXT and answer is UNKNOWN and question.lacks_ids(basis):
+            without_ids += 1
+        elif args.all or answer is not DENIED:
             out.put({"answer": answer.value, **name.row(), "reason": reason})
+    if without_ids:
+        out.note(f"unknown: {plural(without_ids, 'object')} with POSIX lists, because an id is not known")
     tally = Tally()
     for basis, count in counts.items():
         tally.add(answers[basis][0].value, count)
@@ -271,6 +280,12 @@ def why(args: argparse.Namespace) -> int:
             out.note(line)
     for one in found if args.form != "text" else []:
         out.put(_why_row(one, name.host, None))
+    if not asker.options.linux and asker.is_other_on_linux(face.list):
+        linux = Asker(snapshot, [person], Options(asker.options.domain, True))
+        others = why_of(linux, face, person)
+        if not isinstance(others, RefusedList) and args.form == "text" and any(
+                one.right == other.right and one.answer is not other.answer for one in found for other in others):
+            out.note("Linux answers otherwise, because the mask is empty (--linux)")
     stop = _stopped(asker, tree, path, person)
     if stop:
         at, one = stop

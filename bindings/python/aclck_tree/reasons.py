@@ -6,7 +6,8 @@ from typing import Dict, Iterator, List, NamedTuple, Optional, Tuple, Union
 
 from aclck import ALL, ALLOW, Decision, mask_text
 
-from .ask import DENIED, GRANTED, UNKNOWN, Answer, Asker, Identity, Want, check
+from .ask import DENIED, GRANTED, UNKNOWN, Answer, Asker, Want, check
+from .identities import Identity
 from .lists import POSIX_MASKS, Asked, Kind, RefusedList
 from .people import Person
 from .snapshot import Face
@@ -24,8 +25,14 @@ class Why(NamedTuple):
 
 def why_nfs(asker: Asker, face: Face, asked: Asked, person: Person) -> List[Why]:
     """Returns for each right the ACE that decides it (RFC 8881, section 6.2.1)."""
-    identity = asker.identity(person, face, Kind.NFS4)
-    assert identity
+    first, *others = (_why_as(asker, face, asked, one) for one in asker.identities(person, face, Kind.NFS4, asked.acl))
+    return [one if all(other[place].answer is one.answer for other in others) else Why(
+        one.right, UNKNOWN, None, "the name and the id of the user or of a group may be those of two accounts")
+        for place, one in enumerate(first)]
+
+
+def _why_as(asker: Asker, face: Face, asked: Asked, identity: Identity) -> List[Why]:
+    """Returns the same for one way in which the list may name the person."""
     lines = asked.lines()
     names = ", ".join(quoted(name) for name, _ in asked.specials)
     possible = asker.possible(face, asked, identity, ALL) if asked.specials else None

@@ -12,7 +12,7 @@ from typing import Any, Dict, Iterable, Iterator, List, NamedTuple, Optional, Se
 
 from .ask import DENIED, GRANTED, UNKNOWN, Answers, Asker, Want
 from .checking import Applied, Policy, tell_slips, verdict_of, words_of
-from .commands import Paths, asker_of, opened, people_of, status_of
+from .commands import asker_of, opened, people_of, status_of
 from .errors import NO, REFUSED, YES, UsageError
 from .files import replaced
 from .findings import Finding, everyone_words, findings, special_bits_words
@@ -23,6 +23,7 @@ from .people import HIGHEST_ID, Person, stranger_of
 from .policies import read_policy
 from .reach import reached
 from .rows import NAMED, Cells, Level, Name, Rows, level_by, level_of, name_of, questions_of
+from .selecting import Paths, beginnings
 from .snapshot import Face, Snapshot
 from .text import Form, Naming, Output, quoted, quoted_host, tell
 
@@ -227,9 +228,8 @@ class Report:
         if key not in self._users:
             users: Dict[str, Tuple[int, ...]] = {}
             for place, person in enumerate(self.people):
-                identity = self.asker.identity(person, face, asked.kind)
-                if identity is not None:
-                    users[identity.user] = (*users.get(identity.user, ()), place)
+                for user in {one.user for one in self.asker.identities(person, face, asked.kind)}:
+                    users[user] = (*users.get(user, ()), place)
             self._users[key] = users
         return self._users[key].get(self.asker.owner_and_group(face, asked.kind)[0], ())
 
@@ -309,7 +309,7 @@ def report(args: argparse.Namespace) -> int:
     # with --path, rules may be about other objects
     has_empty = policy is not None and args.path is None and tell_slips(args.policy, asker, policy)
     if not made.folders + made.files:
-        tell(f"{quoted(args.snapshot)}: no object is selected")
+        tell(f"{quoted(args.snapshot)}: no object is selected; {beginnings(snapshot)}")
     with replaced(args.output) if args.output else contextlib.nullcontext(sys.stdout) as file:
         if args.form is Form.TEXT:
             file.writelines(page(made))

@@ -2,14 +2,17 @@
 
 from __future__ import annotations
 
+import functools
 import itertools
+import operator
 from typing import Dict, Iterator, List, NamedTuple, Optional, Sequence, Tuple
 
 from aclck import ALL
 
-from .ask import Identity
 from .crowd import AT_ONCE, NOTHING, Alike, Asking, Crowd, Granted, Missing
+from .identities import Identity
 from .lists import POSIX_MASKS, Kind
+from .people import Person
 from .sides import Place, Question, Side, is_same_owner, who_at
 from .text import quoted
 
@@ -53,6 +56,8 @@ Effect = Tuple[int, int, int]
 
 Affected = Tuple[Requester, Effect]
 """A requester for whom something differs."""
+
+_NO_EFFECT: Effect = (0, 0, 0)
 
 _Part = List[Optional[Granted]]
 
@@ -101,18 +106,35 @@ class Rows:
         self._new = Crowd(new) if self.have_moved else self._old
 
     def differences(self, question: Question, has_known_list: bool = False) -> Iterator[Affected]:
-        """Yields those for whom something differs. Usually whole parts of the rows are equal. If the list grants the
-        same on both sides, nothing is unclear about somebody who has an id on neither side."""
+        """Yields those for whom something differs. If the list grants the same on both sides, nothing is unclear about
+        somebody who has an id on neither side. Where a list depends on a umask, both sides have the same one."""
+        cases = [dict(self._effects(case)) for case in question.cases()]
+        for place in sorted(set().union(*cases)):
+            row = self._rows[place]
+            found = _in_each_case([case.get(place, _NO_EFFECT) for case in cases])
+            if not (has_known_list and row.old is row.new is Missing.ID):
+                yield row, found
+
+    def _effects(self, question: Question) -> Iterator[Tuple[int, Effect]]:
+        """Yields the places of those for whom something differs. Usually whole parts of the rows are equal."""
         is_sure = all(len(place.views) == 1 and not place.views[0].asked.specials for place in question.places())
         alike = Alike(question.old.views[0], question.new.views[0]) if question.old and question.new else None
         start = 0
         for before, after in zip(_granted_at(question.old, self._old), _granted_at(question.new, self._new)):
             if not is_sure or before != after or None in before:
-                for row, one, other in zip(self._rows[start:start + len(before)], before, after):
-                    found = _effect(question, row, one or _ID_NOT_KNOWN, other or _ID_NOT_KNOWN, alike)
-                    if any(found) and not (has_known_list and row.old is row.new is Missing.ID):
-                        yield row, found
+                for place, (one, other) in enumerate(zip(before, after), start):
+                    found = _effect(question, self._rows[place], one or _ID_NOT_KNOWN, other or _ID_NOT_KNOWN, alike)
+                    if any(found):
+                        yield place, found
             start += len(before)
+
+
+def _in_each_case(effects: Sequence[Effect]) -> Effect:
+    """Returns what differs for somebody, given what does in each of some cases of which one is so."""
+    gained = functools.reduce(operator.and_, (effect[0] for effect in effects))
+    lost = functools.reduce(operator.and_, (effect[1] for effect in effects))
+    some = functools.reduce(operator.or_, itertools.chain.from_iterable(effects))
+    return gained, lost, some & ~gained & ~lost
 
 
 def paired_people(old: Side, new: Side, question: Question) -> Rows:
@@ -123,9 +145,22 @@ def paired_people(old: Side, new: Side, question: Question) -> Rows:
     for name in dict.fromkeys(one.name for one in itertools.chain(new.asker.people, old.asker.people)):
         sides = [place.side.identity(people.get(name), place.face, place.kind) if place else Missing.PERSON
                  for people, place in ((before, question.old), (after, question.new))]
+        if sides[0] is sides[1] is Missing.ID:
+            if _known(question.old, before[name]) != _known(question.new, after[name]):
+                sides[0] = Missing.OTHER_ID
         note = "is new" if name not in before else "is gone" if name not in after else ""
         rows.append(Requester(Whom("", name), sides[0], sides[1], note))
     return Rows(rows)
+
+
+def _known(place: Optional[Place], person: Person) -> object:
+    """Returns what is known of a person at a place: the ids, and the names without one."""
+    if not place:
+        return None
+    groups = person.groups_in(place.face.tree)
+    names = ((person.name, False), *((group, True) for group in groups or ()))
+    return groups is None, frozenset((is_group, one) for name, is_group in names for one in (
+        place.side.asker.ids(person, name, is_group, place.face.tree) or (name,)))
 
 
 def mentioned(question: Question) -> List[Requester]:

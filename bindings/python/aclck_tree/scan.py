@@ -4,289 +4,31 @@ times of access do not change either."""
 from __future__ import annotations
 
 import datetime
-import errno
-import functools
 import os
-import socket
-import stat
 import time
 from concurrent.futures import FIRST_COMPLETED, Future, ThreadPoolExecutor, wait
-from dataclasses import dataclass, field
-from typing import Dict, FrozenSet, Iterator, List, NamedTuple, Optional, Sequence, Set, Tuple, Union
+from typing import Dict, Iterator, List, Optional, Set, Tuple
 
-from . import VERSION, accounts
-from .errors import DeviceError, TreeError
-from .handles import OBJECT, Directory, Handles, Held, at_one_time, open_list, open_root, read_names
-from .portions import MIXED, Device, Portion
+from . import VERSION, accounts, others
+from .errors import TreeError
+from .handles import Directory
+from .portions import MIXED
 from .progress import Progress
-from .snapshot import TIME, Account, Found, ListForm, StoredList, Tree
+from .reader import Check, Listing, Options, Reader, Result, Task, words_of
+from .snapshot import TIME, Account, Tree
 from .writer import Writer
 
 SLOW = 0.0002
 """Seconds per object from which on objects are read side by side; a local file system is faster without threads."""
 
-_KINDS = {stat.S_IFDIR: "d", stat.S_IFREG: "f", stat.S_IFIFO: "p", stat.S_IFSOCK: "s", stat.S_IFBLK: "b",
-          stat.S_IFCHR: "c"}
-_ABSENT = (errno.ENODATA, errno.ENOTSUP)
+PATH, ROOM = 1 << 14, 1 << 20
+"""How many bytes of paths a snapshot has room for: so many for each object, and so many more. Otherwise directories
+within directories, each with a long name, would make a snapshot that grows with the square of their number."""
 
-ATTRIBUTES = ("system.nfs4_acl", "system.nfs4_dacl", "security.nfs4acl_xdr", "system.nfs4_acl_xdr")
-"""The attributes with NFSv4 lists. If an object has several of them, the first counts."""
+LONG = f"something below is left out: its paths have more than {PATH:,} bytes for each object, and {ROOM:,} more"
 
-OTHER_FORMS = ATTRIBUTES[1:]
-"""Those that are in another form than the first (`values.py`)."""
-
-_MOST_VALUES = 1024
-"""How many values of attributes are kept with the lists that they are."""
-
-_NEW_DIRECTORY = "it was no directory when its name was read: other shards may lack what is below it"
-
-
-@dataclass
-class Options:
-    """The options of a scan. `shard` is 0 if it is not cut into shards."""
-
-    threads: int = 32
-    one_file_system: bool = False
-    attributes: Sequence[str] = ATTRIBUTES
-    host: str = field(default_factory=socket.gethostname)
-    quiet: bool = False
-    shard: int = 0
-    shards: int = 0
-    key: bytes = b""
-
-    def portion(self) -> Portion:
-        """Returns the shard, or what the scan of a list reads."""
-        return Portion(self.shard, self.shards, self.key, ",".join(self.attributes), self.one_file_system)
-
-
-@dataclass
-class Result:
-    """What one task found: objects, tasks that follow from it, failures, and the number of links."""
-
-    found: List[Found] = field(default_factory=list)
-    tasks: List[Task] = field(default_factory=list)
-    errors: List[Tuple[bytes, str, str]] = field(default_factory=list)
-    links: int = 0
-
-
-class Listing(NamedTuple):
-    """A directory whose names are to be read, and where in the directory to begin."""
-
-    directory: Directory
-    start: int = 0
-
-
-class Piece(NamedTuple):
-    """A directory, and names in it whose objects are to be read. `others` are those of them that were no directories
-    when the names were read. If a list gave the names, directories among them are not entered."""
-
-    directory: Directory
-    names: List[bytes]
-    others: FrozenSet[bytes] = frozenset()
-    is_listed: bool = False
-
-
-class _Place(NamedTuple):
-    """Where objects are read: the directory, its handle and its path with a slash behind it, and whether its objects
-    are in the shard."""
-
-    piece: Piece
-    held: Held
-    prefix: bytes
-    is_own: bool
-
-
-Task = Union[Listing, Piece]
-
-
-class Reader:
-    """Reads the objects of one tree. Any number of threads can use it at once."""
-
-    def __init__(self, root: bytes, options: Options) -> None:
-        """Opens the root. Raises OSError if that fails."""
-        self._options = options
-        self._root_handle = open_root(root)
-        status = os.fstat(self._root_handle)
-        self._device = status.st_dev
-        self._root = Directory(None, b"", status)
-        self._handles = Handles(self._root, self._root_handle)
-        self._with_lists: Set[int] = set()  # devices on which an object has the first of the attributes
-        self._unsupported: Dict[int, bytes] = {}  # devices without support for it: the path that showed it
-        self._accounts = accounts.System()
-        self._values = functools.lru_cache(_MOST_VALUES)(self._read_value)
-        self._mounts: Dict[int, bytes] = {}  # where the tree enters a device: the first of these places
-        self._shard = options.portion() if options.shards else None
-
-    @property
-    def root(self) -> Directory:
-        """The root of the tree."""
-        return self._root
-
-    def close(self) -> None:
-        """Closes the handles."""
-        self._handles.close()
-
-    def mixed(self) -> List[bytes]:
-        """Returns the path of an object that seemed to be on a device without NFSv4 lists, for each device on which
-        another object turned out to have one."""
-        return [path for device, path in self._unsupported.items() if device in self._with_lists]
-
-    def devices(self) -> List[Device]:
-        """Returns what was found out about each file system, for the scans of other portions of the tree."""
-        return [Device(place, device in self._with_lists, self._unsupported.get(device))
-                for device, place in sorted(self._mounts.items(), key=lambda item: item[1])]
-
-    def read_root(self) -> Result:
-        """Reads the root itself, which may be a symbolic link to the tree. Raises OSError."""
-        result = Result()
-        status = os.fstat(self._root_handle)
-        if self._has(b""):
-            self._keep(self._root_handle, status, b"", b"", result)
-        if stat.S_ISDIR(status.st_mode):
-            result.tasks.append(Listing(self._root))
-        return result
-
-    def run(self, task: Task) -> Result:
-        """Does one task. Failures are in the result; the only exception it raises is MemoryError."""
-        result = Result()
-        try:
-            with self._handles.held(task.directory) as held:
-                if isinstance(task, Piece):
-                    self._read_names(task, held, result)
-                else:
-                    self._list(task, held, result)
-        except OSError as error:
-            path = task.directory.path()
-            if isinstance(task, Piece) and task.is_listed:
-                result.errors += [(path + b"/" + name, "read", _words(error)) for name in task.names]
-            else:
-                result.errors.append((path, "list", _words(error)))
-        return result
-
-    def _has(self, directory: bytes) -> bool:
-        return self._shard is None or self._shard.has(directory)
-
-    def _list(self, task: Listing, held: Held, result: Result) -> None:
-        """Reads the names of a directory, and their objects too if there are few."""
-        names = open_list(held.handle)
-        try:
-            if task.start:
-                os.lseek(names, task.start, os.SEEK_SET)
-            first = read_names(names)
-            second = read_names(names)
-        finally:
-            os.close(names)
-        if first and second:  # tasks are done last first: so the objects of these names, and all below them, come next
-            result.tasks = [Listing(task.directory, second.after), Piece(task.directory, second.names, second.others),
-                            Piece(task.directory, first.names, first.others)]
-        elif first:
-            self._read_names(Piece(task.directory, first.names, first.others), held, result)
-
-    def _read_names(self, piece: Piece, held: Held, result: Result) -> None:
-        """Reads the objects of some names. In a directory of another shard these are only directories."""
-        path = piece.directory.path()
-        place = _Place(piece, held, path + b"/" if path else b"", self._has(path))
-        for name in piece.names if place.is_own else [one for one in piece.names if one not in piece.others]:
-            try:
-                self._read(place, name, result)
-            except OSError as error:
-                result.errors.append((place.prefix + name, "read", _words(error)))
-
-    def _read(self, place: _Place, name: bytes, result: Result) -> None:
-        handle = os.open(name, OBJECT, dir_fd=place.held.handle)
-        try:
-            status = os.fstat(handle)
-            is_directory = stat.S_ISDIR(status.st_mode)
-            if stat.S_ISLNK(status.st_mode):
-                result.links += place.is_own
-            elif place.is_own and not is_directory:
-                self._keep_in(place, handle, status, name, result)
-        finally:
-            os.close(handle)
-        if is_directory:
-            self._read_directory(place, name, result)
-
-    def _read_directory(self, place: _Place, name: bytes, result: Result) -> None:
-        handle = os.open(name, OBJECT | os.O_DIRECTORY, dir_fd=place.held.handle)  # mounts what is mounted on demand
-        try:
-            found = os.fstat(handle)
-            is_entered = not self._options.one_file_system or found.st_dev == self._device
-            if is_entered and not place.piece.is_listed:
-                result.tasks.append(Listing(Directory(place.piece.directory, name, found)))
-            if self._shard and name in place.piece.others:
-                result.errors.append((place.prefix + name, "list", _NEW_DIRECTORY))
-            if place.is_own:
-                self._keep_in(place, handle, found, name, result)
-        finally:
-            os.close(handle)
-
-    def _keep_in(self, place: _Place, handle: int, status: os.stat_result, name: bytes, result: Result) -> None:
-        path = place.prefix + name
-        mount = place.held.mount if status.st_dev == place.held.device else path
-        self._keep(handle, status, path, mount, result)
-
-    def _keep(self, handle: int, status: os.stat_result, path: bytes, mount: bytes, result: Result) -> None:
-        self._mounts[status.st_dev] = min(self._mounts.get(status.st_dev, mount), mount)
-        kind = _KINDS.get(stat.S_IFMT(status.st_mode), "?")
-        place = b"/proc/self/fd/%d" % handle
-        status, stored = at_one_time(handle, status, lambda now: self._stored(place, now, path))
-        result.found.append(Found(path, kind, stat.S_IMODE(status.st_mode), status.st_uid, status.st_gid, stored))
-
-    def _stored(self, place: bytes, status: os.stat_result, path: bytes) -> StoredList:
-        """Returns the list of an object. `place` leads to the object that the handle has, and not by its name."""
-        nfs = self._nfs(place, status.st_dev, path)
-        if nfs:
-            return nfs
-        access = _attribute(place, "system.posix_acl_access")
-        default = _attribute(place, "system.posix_acl_default") if stat.S_ISDIR(status.st_mode) else None
-        if access is None and default is None:
-            return StoredList(ListForm.MODE, status.st_mode & 0o777, None, None)
-        return StoredList(ListForm.POSIX, status.st_mode & 0o777 if access is None else 0, access, default)
-
-    def _nfs(self, place: bytes, device: int, path: bytes) -> Optional[StoredList]:
-        """Returns the first NFSv4 list of an object, or None if it has none."""
-        first, *others = self._options.attributes
-        is_unsupported = False
-        try:
-            data = os.getxattr(place, first)
-            self._with_lists.add(device)
-            return self._value(first, data)
-        except OSError as error:
-            if error.errno == errno.ENOTSUP and device not in self._with_lists:
-                is_unsupported = True
-            elif error.errno != errno.ENODATA:
-                raise
-        for name in others:
-            value = _attribute(place, name)
-            if value is not None:
-                return self._value(name, value)
-        if is_unsupported:
-            self._unsupported.setdefault(device, path)
-        return None
-
-    def _value(self, name: str, value: bytes) -> StoredList:
-        """Returns the list of an attribute."""
-        return self._values(name, value) if name in OTHER_FORMS else StoredList(ListForm.NFS4, 0, value, None)
-
-    def _read_value(self, name: str, value: bytes) -> StoredList:
-        try:
-            from .values import read_value  # which needs the library; a scan without such attributes does not
-        except ImportError as error:
-            raise DeviceError(str(error)) from None
-        return read_value(name, value, self._accounts)
-
-
-def _attribute(place: bytes, name: str) -> Optional[bytes]:
-    try:
-        return os.getxattr(place, name)
-    except OSError as error:
-        if error.errno not in _ABSENT:
-            raise
-    return None
-
-
-def _words(error: OSError) -> str:
-    return error.strerror or str(error)
+_AT_ONCE = 100
+"""How many directories are looked at again in one task."""
 
 
 def utc_now() -> str:
@@ -302,12 +44,16 @@ class Scan:
         try:
             self._reader = Reader(root, options)
         except OSError as error:
-            raise TreeError(f"{os.fsdecode(root)}: {_words(error)}") from None
+            raise TreeError(f"{os.fsdecode(root)}: {words_of(error)}") from None
         self._options = options
         self._writer = writer
         self._progress = progress
         self._tasks: List[Task] = []
         self._links = 0
+        self._listed: List[Directory] = []
+        self._room = ROOM
+        self._left_out: Optional[bytes] = None  # the first path that the snapshot has no room for
+        self._others: Dict[str, Tuple[int, bytes]] = {}  # by the kind of list: how many objects, and the first
         self.errors = 0
         typed, place = os.path.normpath(root), os.path.realpath(root)
         self.tree = writer.add_tree(Tree(0, options.host, typed, place, utc_now(), None, False, VERSION, 0))
@@ -328,20 +74,25 @@ class Scan:
         try:
             self._begin()
             self._walk()
+            self._tasks = [Check(self._listed[at:at + _AT_ONCE]) for at in range(0, len(self._listed), _AT_ONCE)]
+            self._tasks.reverse()  # they are done last first
+            self._walk()
             whole = True
             for path in self._reader.mixed():
                 self._fail(path, "read", MIXED)
         finally:
             self._reader.close()
+            if self._left_out:
+                self.errors += 1
+                self._writer.add_error(self.tree, self._left_out[:PATH].rpartition(b"/")[0], "list", LONG)
+            for name, (count, path) in sorted(self._others.items()):
+                self._writer.add_error(self.tree, path, "read", others.message(count, name))
             self._writer.end_tree(self.tree, utc_now(), whole, self._links)
             if self._is_portion():
                 self._writer.add_devices(self.tree, self._reader.devices())
 
     def _begin(self) -> None:
-        try:
-            self._keep(self._reader.read_root())
-        except OSError as error:
-            self._fail(b"", "read", _words(error))
+        self._keep(self._reader.read_root())
 
     def _next(self) -> Optional[Task]:
         """Returns the next task, or None if there is none now."""
@@ -381,13 +132,38 @@ class Scan:
                     future.cancel()
 
     def _keep(self, result: Result) -> None:
-        self._writer.add_objects(self.tree, result.found)
+        found = [one for one in result.found if self._has_room(one.path)]
+        if len(found) < len(result.found):
+            self._leave_out(result, {one.path for one in found})
+        self._writer.add_objects(self.tree, found)
         for path, step, message in result.errors:
             self._fail(path, step, message)
+        for path, name in result.others:
+            count, first = self._others.get(name, (0, path))
+            self._others[name] = count + 1, min(first, path)
+        self._listed += [result.listed] if result.listed else []
         self._links += result.links
         self._tasks += result.tasks
         self._progress.tell()
 
+    def _has_room(self, path: bytes) -> bool:
+        """Whether the snapshot has room for one more path. A path of at most `PATH` bytes always has some."""
+        if len(path) > self._room + PATH:
+            return False
+        self._room += PATH - len(path)
+        return True
+
+    def _leave_out(self, result: Result, kept: Set[bytes]) -> None:
+        """Leaves out the objects of a result that are not kept, and what is below them."""
+        absent = [one.path for one in result.found if one.path not in kept]
+        self._left_out = self._left_out or absent[0]
+        below = set(absent)
+        result.tasks = [task for task in result.tasks
+                        if not isinstance(task, Listing) or task.start or task.directory.path() not in below]
+
     def _fail(self, path: bytes, step: str, message: str) -> None:
         self.errors += 1
-        self._writer.add_error(self.tree, path, step, message)
+        if self._has_room(path):
+            self._writer.add_error(self.tree, path, step, message)
+        else:
+            self._left_out = self._left_out or path

@@ -7,8 +7,9 @@ from typing import Callable, Dict, Iterator, List, NamedTuple, Optional, Sequenc
 
 from aclck import PosixAcl, Refused
 
-from .ask import Asker, Identity
+from .ask import Asker
 from .crowd import Asking, Missing, View
+from .identities import Identity
 from .lists import Asked, Kind
 from .people import Accounts, Person, fresh_ids, stranger_of
 from .snapshot import Face
@@ -87,6 +88,15 @@ class Question(NamedTuple):
     def places(self) -> List[Place]:
         """Returns the places that there are."""
         return [place for place in (self.old, self.new) if place]
+
+    def cases(self) -> List[Question]:
+        """Returns the question for each umask on which the list of a new object depends, if it does so on both sides:
+        the process that makes the object has one umask. Otherwise it is the question itself."""
+        old, new = self.old, self.new
+        if not old or not new or len(old.views) != len(new.views):
+            return [self]
+        return [self._replace(old=old._replace(views=(one,)), new=new._replace(views=(two,)))
+                for one, two in zip(old.views, new.views)]
 
     def each(self, is_group: bool, who: Callable[[Place], str]) -> Tuple[Asking, Asking]:
         """Returns a user on each side, or a stranger in a group there. `who` names the user or the group."""
@@ -173,7 +183,7 @@ def _counterpart(is_group: bool, number: int, here: Accounts, there: Accounts) -
 
 def _label(is_group: bool, number: int, accounts: Accounts) -> Optional[str]:
     """Returns the name of an id if it is the name of no other id."""
-    name = accounts.names.get((is_group, number))
+    name = accounts.own_name(is_group, number)
     return name if name is not None and accounts.ids.get((is_group, name)) == number else None
 
 

@@ -60,6 +60,10 @@ WORK, WORK_PER_BYTE = 2_000_000, 30
 """How many instructions the questions of one run may need, and how many more for each byte of the file."""
 
 
+PAIRS, PAIRS_PER_BYTE = 1_000_000, 4
+"""How many pairs of a person and a tree one run may ask about, and how many more for each byte of the file."""
+
+
 @dataclass(frozen=True)
 class Tree:
     """One scanned tree."""
@@ -183,6 +187,14 @@ class Snapshot:
         self._steps += (WORK + WORK_PER_BYTE * size) // STEP
         self._db.set_progress_handler(self._count_step, STEP)
 
+    def allow_people(self, count: int) -> None:
+        """Raises TreeError if so many people cannot be asked about: each has ids of their own in each tree, and a small
+        file can have many of both."""
+        most = PAIRS + PAIRS_PER_BYTE * self._size
+        if count * len(self.trees) > most:
+            raise TreeError(f"{self.place}: {count:,} people in {len(self.trees):,} trees are more than the {most:,} "
+                            "pairs that a snapshot of this size is asked about: name fewer people")
+
     def _count_step(self) -> bool:
         self._steps -= 1
         return self._steps < 0
@@ -217,6 +229,11 @@ class Snapshot:
     def lists(self) -> Dict[int, StoredList]:
         """Returns all lists by their numbers."""
         return {row[0]: StoredList(ListForm(row[1]), *row[2:]) for row in self._rows("SELECT * FROM lists")}
+
+    def posix_lists(self) -> Iterator[Optional[bytes]]:
+        """Yields the attributes of all POSIX lists."""
+        for row in self._rows("SELECT access, dflt FROM lists WHERE kind = 'posix'"):
+            yield from row
 
     def is_posix(self, number: int) -> bool:
         """Whether a list is a POSIX list or a mode."""

@@ -8,6 +8,7 @@ import os
 import re
 import stat
 import sys
+import unicodedata
 from typing import TYPE_CHECKING, Any, Callable, Dict, Iterable, List, NamedTuple, Optional, Sequence, TextIO
 
 if TYPE_CHECKING:
@@ -183,7 +184,16 @@ def _cell(value: Any) -> str:
 def _guarded(cell: str) -> str:
     """Returns a cell with an apostrophe in front if a spreadsheet would run it. A cell that begins with an apostrophe
     gets one more, so that a reader can take the first apostrophe of each cell away."""
-    return "'" + cell if cell.startswith(tuple("=+-@\t\r\n'")) else cell
+    return "'" + cell if cell.startswith(tuple("\t\r\n'")) or _is_formula(cell) else cell
+
+
+def _is_formula(cell: str) -> bool:
+    """Whether a spreadsheet may take a cell for a formula: also one with another form of a sign, such as the full-width
+    `\uff1d`, and one with blanks or characters that are not shown in front of the sign."""
+    if cell[:1].isalnum():  # as most cells begin
+        return False
+    first = next((letter for letter in cell if is_shown(letter) and not letter.isspace()), "")
+    return unicodedata.normalize("NFKC", first).startswith(("=", "+", "-", "@", "\u2212"))
 
 
 _IN_QUOTES = frozenset(',"\r\n;\t')

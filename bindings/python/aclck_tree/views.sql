@@ -30,8 +30,8 @@ SELECT tree, NULL, 'the scan was ended early' FROM trees WHERE NOT is_whole;
 -- What the list of a face grants a person of a request. `granted` is NULL if that is not known, and `reason` says why.
 CREATE VIEW answers WITH (security_invoker) AS
 SELECT f.tree, f.face, f.objects, f.first, p.person, p.name, q.rights,
-       coalesce(acl_grants(l.nfs4, f.owner, f.owning_group, p."user", p.groups, q.mask),
-                acl_posix_grants(l.posix, f.uid, f.gid, p.uid, p.gids, q.perms)) AS granted,
+       coalesce(:aclck.acl_grants(l.nfs4, f.owner, f.owning_group, p."user", p.groups, q.mask),
+                :aclck.acl_posix_grants(l.posix, f.uid, f.gid, p.uid, p.gids, q.perms)) AS granted,
        CASE WHEN l.fault IS NOT NULL THEN l.fault
             WHEN l.kind = 'nfs4' AND num_nulls(f.owner, f.owning_group, p."user", p.groups) > 0
             THEN 'a name is not text'
@@ -40,12 +40,17 @@ SELECT f.tree, f.face, f.objects, f.first, p.person, p.name, q.rights,
 FROM faces f JOIN lists l USING (list) JOIN people p USING (tree) CROSS JOIN requests q;
 
 -- Whether a person may do something: a row for each object, person and request. What was not read has a row too.
+-- `reach` says whether the directories of the tree above let the person pass, and is NULL if `load` was not asked.
 CREATE VIEW may WITH (security_invoker) AS
 SELECT o.tree, shown(whole_path(t.place, o.path)) AS path, o.path AS below, o.kind, shown(a.name) AS "user", a.rights,
-       CASE WHEN a.granted THEN 'granted' WHEN NOT a.granted THEN 'denied' ELSE 'unknown' END AS answer, a.reason
+       CASE WHEN a.granted THEN 'granted' WHEN NOT a.granted THEN 'denied' ELSE 'unknown' END AS answer, a.reason,
+       CASE WHEN o.way IS NOT NULL THEN CASE WHEN a.person = ANY (w.granted) THEN 'granted'
+            WHEN a.person = ANY (w.denied) THEN 'denied' ELSE 'unknown' END END AS reach
 FROM objects o JOIN answers a ON a.tree = o.tree AND a.face = o.face JOIN trees t ON t.tree = o.tree
+LEFT JOIN ways w ON w.tree = o.tree AND w.way = o.way
 UNION ALL
-SELECT g.tree, shown(whole_path(t.place, g.path)), g.path, NULL, shown(p.name), q.rights, 'unknown', g.reason
+SELECT g.tree, shown(whole_path(t.place, g.path)), g.path, NULL, shown(p.name), q.rights, 'unknown', g.reason,
+       CASE WHEN EXISTS (SELECT FROM ways w WHERE w.tree = g.tree) THEN 'unknown' END
 FROM gaps g JOIN trees t USING (tree) JOIN people p USING (tree) CROSS JOIN requests q;
 
 -- Who may do something: a row for each face and request. `granted` is NULL for what was not read, and never empty.
@@ -62,19 +67,30 @@ SELECT g.tree, NULL, q.rights, CASE WHEN g.path IS NOT NULL THEN 1 END, shown(wh
 FROM gaps g JOIN trees t USING (tree) CROSS JOIN requests q
 LEFT JOIN (SELECT tree, array_agg(shown(name) ORDER BY name) AS names FROM people GROUP BY tree) p USING (tree);
 
+-- Whether two POSIX ACLs grant everybody the same, also where several permissions are asked for at once.
+CREATE FUNCTION is_same_posix(first bytea, second bytea) RETURNS bool LANGUAGE sql IMMUTABLE PARALLEL SAFE COST 1000
+RETURN first = second OR (:aclck.acl_posix_excess(first, second) IS NULL
+                          AND :aclck.acl_posix_excess(second, first) IS NULL);
+
+-- The first POSIX ACL that grants the same as a list. It is a function so that the planner does not count its costs for
+-- each list.
+CREATE FUNCTION first_same_posix(own lists) RETURNS int LANGUAGE sql STABLE PARALLEL SAFE COST 1000
+RETURN (SELECT min(m.list + 0) FROM lists m WHERE m.kind <> 'nfs4' AND m.meaning = own.meaning AND m.list <= own.list
+        AND is_same_posix(own.posix, m.posix));
+
 -- The lists, each with the first list that grants the same; NULL for a list that is refused. The bridge of a POSIX ACL
--- is about single permissions, so POSIX ACLs with one bridge are also compared for several permissions at once.
+-- is about single permissions, so a POSIX ACL is also compared for several permissions at once: with the first ACL that
+-- has this bridge, and with all before it only if it is not the same as that one.
 CREATE VIEW classes WITH (security_invoker) AS
 SELECT l.list, m.class, l.kind, l.fault
 FROM lists l JOIN (SELECT meaning, min(list) AS class FROM lists WHERE kind = 'nfs4' AND fault IS NULL
                    GROUP BY meaning) m USING (meaning)
 WHERE l.kind = 'nfs4' AND l.fault IS NULL
 UNION ALL
-SELECT l.list, (SELECT min(m.list + 0) FROM lists m
-                WHERE m.kind <> 'nfs4' AND m.meaning = l.meaning AND m.list <= l.list
-                AND acl_posix_excess(l.posix, m.posix) IS NULL AND acl_posix_excess(m.posix, l.posix) IS NULL),
-       l.kind, l.fault
-FROM lists l WHERE l.kind <> 'nfs4' AND l.fault IS NULL
+SELECT l.list, CASE WHEN is_same_posix(l.posix, f.posix) THEN f.list ELSE first_same_posix(l) END, l.kind, l.fault
+FROM lists l JOIN (SELECT meaning, min(list) AS list FROM lists WHERE kind <> 'nfs4' AND fault IS NULL
+                   GROUP BY meaning) g USING (meaning) JOIN lists f ON f.list = g.list
+WHERE l.kind <> 'nfs4' AND l.fault IS NULL
 UNION ALL
 SELECT list, NULL, kind, fault FROM lists WHERE fault IS NOT NULL;
 
@@ -93,7 +109,7 @@ FROM gaps g JOIN trees t USING (tree);
 
 -- Whether a list in its normal form says something about OWNER@ or GROUP@.
 CREATE FUNCTION mentions(meaning bytea, name text) RETURNS bool LANGUAGE sql IMMUTABLE STRICT PARALLEL SAFE
-RETURN EXISTS (SELECT FROM acl_entries(meaning) WHERE who = name);
+RETURN EXISTS (SELECT FROM :aclck.acl_entries(meaning) WHERE who = name);
 
 -- What changed on an object, from the face of one tree to that of another: 'bits', 'bytes', 'inherits', 'meaning', or
 -- 'unknown' if a list is refused. Owners and groups are names for NFSv4 lists, and ids for POSIX ACLs. It is a function
@@ -104,7 +120,7 @@ RETURN (SELECT CASE
     WHEN l.list = m.list AND f.uid IS NOT DISTINCT FROM g.uid AND f.gid IS NOT DISTINCT FROM g.gid THEN 'bits'
     WHEN num_nulls(l.meaning, m.meaning) > 0 THEN 'unknown'
     WHEN (l.kind = 'nfs4') <> (m.kind = 'nfs4') OR l.meaning <> m.meaning THEN 'meaning'
-    WHEN acl_posix_excess(l.posix, m.posix) IS NOT NULL OR acl_posix_excess(m.posix, l.posix) IS NOT NULL THEN 'meaning'
+    WHEN NOT is_same_posix(l.posix, m.posix) THEN 'meaning'
     WHEN mentions(l.meaning, 'OWNER@') AND CASE WHEN l.kind = 'nfs4'
          THEN f.owner IS DISTINCT FROM g.owner OR g.owner IS NULL
          ELSE f.uid IS DISTINCT FROM g.uid END THEN 'meaning'
@@ -112,7 +128,7 @@ RETURN (SELECT CASE
          THEN f.owning_group IS DISTINCT FROM g.owning_group OR g.owning_group IS NULL
          ELSE f.gid IS DISTINCT FROM g.gid END THEN 'meaning'
     WHEN change_of.kind = 'd' AND CASE WHEN l.kind = 'nfs4'
-         THEN acl_normal_inherit(l.nfs4) <> acl_normal_inherit(m.nfs4)
+         THEN :aclck.acl_normal_inherit(l.nfs4) <> :aclck.acl_normal_inherit(m.nfs4)
          ELSE l.dflt IS DISTINCT FROM m.dflt END THEN 'inherits'
     ELSE 'bytes' END
     FROM faces f JOIN lists l ON l.list = f.list, faces g JOIN lists m ON m.list = g.list
@@ -155,39 +171,37 @@ WHERE num_nonnulls(at_least, posix_at_least) > 0;
 
 -- Whether a list keeps a bound on an object with an owner and a group, and a requester and a right for which it does
 -- not. The owner and the group of a POSIX ACL are its ids in digits. It is asked by its bridge, right by right, and is
--- unknown where it only grants more than the bound for several permissions at once, or for another owner. In PL/pgSQL
--- each function is called once.
+-- unknown where it only grants more than the bound for several permissions at once, or for another owner. Each function
+-- of the extension is called once.
 CREATE FUNCTION judgement(list lists, bound text, bound_nfs4 bytea, bound_posix bytea, owner text, owning_group text,
                           OUT verdict text, OUT "user" text, OUT groups text[], OUT rights text, OUT reason text)
-LANGUAGE plpgsql IMMUTABLE PARALLEL SAFE COST 2000 AS $$
-DECLARE
-    limiting bytea := CASE WHEN list.kind = 'nfs4' THEN bound_nfs4 ELSE acl_posix_bridge(bound_posix) END;
-    mine bytea := acl_resolved(coalesce(list.nfs4, acl_posix_bridge(list.posix)), owner, owning_group);
-    other bytea := acl_resolved(limiting, owner, owning_group);
-    found acl_difference;
-BEGIN
-    verdict := 'unknown';
-    IF list.fault IS NOT NULL THEN
-        reason := list.fault;
-    ELSIF limiting IS NULL THEN
-        reason := 'the rule has no bound for lists of this kind';
-    ELSIF num_nulls(mine, other) > 0 THEN
-        reason := 'no list can have the name of the owner or the group';
-    ELSE
-        found := CASE WHEN bound = 'at_most' THEN acl_excess(mine, other) ELSE acl_excess(other, mine) END;
-        IF found."right" IS NOT NULL THEN
-            verdict := 'broken';
-            "user" := found."user";
-            groups := found.groups;
-            rights := acl_rights_text(found."right");
-        ELSIF (CASE WHEN bound = 'at_most' THEN acl_posix_excess(list.posix, bound_posix)
-                    ELSE acl_posix_excess(bound_posix, list.posix) END) IS NOT NULL THEN
-            reason := 'it depends on the owner, or on several permissions at once';
-        ELSE
-            verdict := 'kept';
-        END IF;
-    END IF;
-END $$;
+LANGUAGE sql IMMUTABLE PARALLEL SAFE COST 2000
+BEGIN ATOMIC
+    WITH given AS MATERIALIZED (
+        SELECT bound = 'at_most' AS is_most,
+               CASE WHEN list.kind = 'nfs4' THEN bound_nfs4 ELSE :aclck.acl_posix_bridge(bound_posix) END AS limiting),
+    sides AS MATERIALIZED (
+        SELECT is_most, limiting,
+               :aclck.acl_resolved(coalesce(list.nfs4, :aclck.acl_posix_bridge(list.posix)), owner, owning_group)
+               AS mine,
+               :aclck.acl_resolved(limiting, owner, owning_group) AS other FROM given),
+    compared AS MATERIALIZED (
+        SELECT is_most, CASE WHEN list.fault IS NOT NULL THEN list.fault
+                             WHEN limiting IS NULL THEN 'the rule has no bound for lists of this kind'
+                             WHEN num_nulls(mine, other) > 0 THEN 'no list can have the name of the owner or the group'
+                        END AS fault,
+               CASE WHEN is_most THEN :aclck.acl_excess(mine, other) ELSE :aclck.acl_excess(other, mine) END AS found
+        FROM sides),
+    judged AS MATERIALIZED (
+        SELECT found, CASE WHEN fault IS NOT NULL OR (found)."right" IS NOT NULL THEN fault
+                           WHEN (CASE WHEN is_most THEN :aclck.acl_posix_excess(list.posix, bound_posix)
+                                      ELSE :aclck.acl_posix_excess(bound_posix, list.posix) END) IS NOT NULL
+                           THEN 'it depends on the owner, or on several permissions at once' END AS fault
+        FROM compared)
+    SELECT CASE WHEN fault IS NOT NULL THEN 'unknown' WHEN (found)."right" IS NOT NULL THEN 'broken' ELSE 'kept' END,
+           (found)."user", (found).groups, :aclck.acl_rights_text((found)."right"), fault
+    FROM judged;
+END;
 
 -- Whether a face keeps a bound.
 CREATE VIEW judged WITH (security_invoker) AS

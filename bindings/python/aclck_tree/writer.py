@@ -3,13 +3,15 @@
 from __future__ import annotations
 
 import contextlib
+import errno
 import itertools
 import os
 import sqlite3
 from typing import Dict, Iterable, Iterator, List, Optional, Sequence, Tuple
 
+from . import others
 from .errors import DeviceError
-from .files import Part, refuse_what_is_no_file
+from .files import EXCHANGED, Part, refuse_what_is_no_file
 from .portions import Device, Portion
 from .schema import APPLICATION, FORMAT, KINDS, PORTION_TABLES, PORTIONS, SCHEMA, TABLES
 from .snapshot import Account, Found, ListForm, Snapshot, Tree, uri
@@ -18,17 +20,19 @@ from .snapshot import Account, Found, ListForm, Snapshot, Tree, uri
 class Writer:
     """Makes a new snapshot in an empty file."""
 
-    def __init__(self, place: str, part: str) -> None:
-        """`place` is the name of the snapshot in messages, and `part` that of the file."""
+    def __init__(self, place: str, part: Part) -> None:
+        """`place` is the name of the snapshot in messages, and `part` is the file. Raises OSError if the file is no
+        longer where it was made."""
         self._lists: Dict[bytes, int] = {}
         self._faces: Dict[Tuple[int, int, int, int], int] = {}
         self._version = FORMAT
         self.objects = 0
+        self.others: List[str] = []  # the messages about other lists
         self.whole = True
         self.place = place
-        # No other program knows the name of the file, so it needs no locks of SQLite.
-        self._db = sqlite3.connect(uri(part, "mode=rw&nolock=1"), uri=True, isolation_level=None)
-        for line in ("PRAGMA journal_mode = OFF", "PRAGMA synchronous = OFF", "PRAGMA locking_mode = EXCLUSIVE",
+        self._db = _opened(part)
+        # In this mode, SQLite looks for no journal beside the file once it has written something.
+        for line in ("PRAGMA locking_mode = EXCLUSIVE", "PRAGMA journal_mode = OFF", "PRAGMA synchronous = OFF",
                      f"PRAGMA application_id = {APPLICATION}", f"PRAGMA user_version = {FORMAT}"):
             self._db.execute(line)
         self._db.execute("BEGIN")
@@ -94,6 +98,8 @@ class Writer:
 
     def add_error(self, tree: int, path: bytes, step: str, message: str) -> None:
         """Records that a step failed at a path."""
+        if others.is_other(message):
+            self.others.append(message)
         self._db.execute("INSERT INTO errors VALUES (?, ?, ?, CAST(? AS TEXT))", (tree, path, step, _bytes(message)))
 
     def add_names(self, accounts: Iterable[Account]) -> None:
@@ -127,6 +133,17 @@ class Writer:
             self._db.close()
 
 
+def _opened(part: Part) -> sqlite3.Connection:
+    """Opens a new file as a database, which it is the only one to use. SQLite can only open it by its name, and who may
+    write to the directory can put a link there. So before anything is written or even read, one of the files that are
+    open must be the file that was made. Raises OSError if none is."""
+    db = sqlite3.connect(uri(part.name, "mode=rw&nolock=1"), uri=True, isolation_level=None)
+    if not any(part.is_held_by(int(number)) for number in os.listdir("/proc/self/fd")):
+        db.close()
+        raise OSError(errno.ESTALE, EXCHANGED)
+    return db
+
+
 def merge(writer: Writer, snapshot: Snapshot) -> None:
     """Adds everything in a snapshot of whole trees to a new one."""
     numbers = {number: writer.add_tree(tree) for number, tree in snapshot.trees.items()}
@@ -153,7 +170,7 @@ def new_snapshot(place: str) -> Iterator[Writer]:
         part = Part(place)
         writer: Optional[Writer] = None
         try:
-            writer = Writer(place, part.name)
+            writer = Writer(place, part)
             yield writer
             writer.finish()
             if not writer.whole and os.path.lexists(place):

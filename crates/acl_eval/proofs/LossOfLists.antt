@@ -12,7 +12,7 @@ use Rattle.acl_nfs4.specs.Ace.{Ace}
 use Rattle.acl_eval.specs.Bridge.{image}
 use Rattle.acl_eval.specs.BridgeLaws.{IsAsked, by_name}
 use Rattle.acl_eval.specs.Grant.{Grant, grants_bit}
-use Rattle.acl_eval.specs.LostGrants.{AreMoreThan, IsLossOf, KeepsSingles, lost_object, lost_requester}
+use Rattle.acl_eval.specs.LostGrants.{AreAtMost, AreMoreThan, IsLossOf, KeepsSingles, lost_object, lost_requester}
 use Rattle.acl_eval.specs.ToPosix.{size_of}
 use Rattle.acl_eval.specs.internal.LossBody.{AreKept, AreSmall, AreUnused, IsBounded, IsFoundOr, IsKeptWith, LossSearch, chosen_object, chosen_requester, is_lost, search_of, used_numbers}
 use Rattle.acl_eval.specs.internal.ShapeBody.{AreColumns, IsColumnOf, has_tag, keys_of}
@@ -150,6 +150,11 @@ more_than most table list E few b e = record {
     | inr less ↦ absurd (true≢false (sym (b.bounded.1 less) ∙ e))
   ];
 }
+
+-- otherwise they are at most as many
+pub at_most : (most : ℕ) (table : Table) (list : List Ace) (E : Entries) (few : Bool)
+    → IsBounded most table list E few → few ≡ true → AreAtMost most table list E
+at_most most table list E few b e = record { named = b.named; names = b.names; few = b.bounded.0 e }
 
 -- the columns of a list and an ACL within the bound are small
 pub few_entries : (most : ℕ) (table : Table) (list given : List Ace) (E : Entries) (few : Bool) (columns : Columns)

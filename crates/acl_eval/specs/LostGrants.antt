@@ -52,6 +52,12 @@ pub record IsLossOf (list : List Ace) (entries : Entries) (lost : LostGrant) : T
   pub denied : IsFalse (grants entries (lost_object lost) (lost_requester lost) lost.perm.bits)
   pub few : length lost.groups.items ≤ most_lost_groups
 
+-- the users and the groups that the list names, each once, and the entries of the ACL are together at most a bound
+pub record AreAtMost (most : ℕ) (table : Table) (list : List Ace) (entries : Entries) : Type 0 where
+  pub named : EntryShape
+  pub names : AreNamesOf table list named
+  pub few : size_of named + length (set.entries entries) ≤ most
+
 -- the users and the groups that the list names, each once, and the entries of the ACL are together more than a bound
 pub record AreMoreThan (most : ℕ) (table : Table) (list : List Ace) (entries : Entries) : Type 0 where
   pub named : EntryShape

@@ -4,7 +4,7 @@ ghost use Rattle.std.specs.FinMap as set;
 ghost use Rattle.acl_posix.specs.Tag.{tag_of};
 ghost use Rattle.acl_nfs4.specs.Ace.{Ace};
 ghost use Rattle.acl_eval.specs.Ids.{with_ids};
-ghost use Rattle.acl_eval.specs.LostGrants.{IsLossFault, IsLossOf, KeepsSingles};
+ghost use Rattle.acl_eval.specs.LostGrants.{AreAtMost, IsLossFault, IsLossOf, KeepsSingles};
 ghost use Rattle.acl_eval.specs.internal.LossBody.{AreKept, AreKeptWith, AreKeptWithOne, AreSmall, IsBounded, IsFoundOr, allowed_tags, are_together, are_two_users, is_first, is_lost, is_passed, is_second, is_user_but, search_of};
 ghost use Rattle.acl_eval.specs.internal.ShapeBody.{AreColumns};
 
@@ -80,7 +80,7 @@ impl<'a> Wanted<'a> {
 /// let lost = lost_grant(alloc, &list.view(), &acl, &Names::new(alloc), 256)?;
 /// assert!(rt; lost.is_some_and(|lost| lost.perm == Perm::WRITE && lost.groups.len() == 2));
 /// ```
-#[tactic(auto, using(crate::proofs::LossOfLists::more_than, crate::proofs::LossOfLists::few_entries))]
+#[tactic(auto, using(crate::proofs::LossOfLists::more_than, crate::proofs::LossOfLists::at_most, crate::proofs::LossOfLists::few_entries))]
 pub fn lost_grant(
     alloc: Global,
     list: &AclView<'_>,
@@ -94,6 +94,8 @@ pub fn lost_grant(
     // Without an answer, the ACL grants each of the three permissions wherever the list does.
     ensures none { IfOk result (λ lost.
         lost ≡ None → KeepsSingles (with_ids names.now list.now) acl.now) }
+    // An answer is given only if the names and the entries are at most `most`.
+    ensures few { IfOk result (λ _. AreAtMost most names.now list.now acl.now) }
     ensures fault { IfErr result (IsLossFault names.now list.now acl.now most) }
 {
     if let Some(place) = first_unknown(list, names) {

@@ -15,3 +15,4 @@ pub mod Parts
 pub mod AnyLists
 pub mod AcesAt
 pub mod StandIns
+pub mod Places

@@ -1,12 +1,16 @@
--- What the laws of the XDR layout say (RFC 4506, over the types of RFC 8881, section 6.2.1).
+-- What the laws of the XDR layout say (RFC 4506, over the types of RFC 8881, section 6.2.1), and those of the texts,
+-- which are this library's own.
 use Rattle.std.specs.Prelude.{ℕ, List, [], ◌++◌, map}
 use Rattle.std.specs.List.{concat, enumerate_from, filter, flat_map, range_with_len}
 use Rattle.acl_perm.specs.Bits.{has_bit}
+use Rattle.acl_perm.specs.Lines.{IsTextPlace}
 use Rattle.acl_perm.specs.Profile.{Profile}
 use Rattle.acl_nfs4.specs.Ace.{Ace}
 use Rattle.acl_nfs4.specs.Spelling.{Xdr}
 use Rattle.acl_nfs4.specs.Stream.{Feeds, FeedsEach, SameOrFails, StreamState, more, together}
 use Rattle.acl_nfs4.specs.declared.feed.fed.Fed.{Fed}
+use Rattle.acl_nfs4.specs.declared.text.fault.AceTextFault.{AceTextFault}
+use Rattle.acl_nfs4.specs.declared.text.fault.AceTextFault.TheVariants.{TooManyAces, Fields, AceType, Flag, Mask, TooHeavy, WhoLength, WhoUtf8, WhoControl, SpecialWho, Memory}
 
 -- the text is a beginning of the spelling of some accepted list
 abbrev pub BeginsSpelling : Profile → List ℕ → Type 0
@@ -30,3 +34,17 @@ pairs_at placed = map (λ bit. (placed.0, bit)) (bits_of placed.1.mask)
 -- the pairs of a place in the list and a bit that the ACE there has
 abbrev pub pairs_of : List Ace → List (ℕ × ℕ)
 pairs_of list = flat_map pairs_at (enumerate_from 0 list)
+
+-- the line and the column of a fault are a place in the text; `Memory` has no place
+abbrev pub IsInAceText : List ℕ → AceTextFault → Type 0
+IsInAceText text (TooManyAces line column) = IsTextPlace text line column
+IsInAceText text (Fields line column) = IsTextPlace text line column
+IsInAceText text (AceType line column) = IsTextPlace text line column
+IsInAceText text (Flag line column) = IsTextPlace text line column
+IsInAceText text (Mask line column) = IsTextPlace text line column
+IsInAceText text (TooHeavy line column) = IsTextPlace text line column
+IsInAceText text (WhoLength line column) = IsTextPlace text line column
+IsInAceText text (WhoUtf8 line column) = IsTextPlace text line column
+IsInAceText text (WhoControl line column) = IsTextPlace text line column
+IsInAceText text (SpecialWho line column) = IsTextPlace text line column
+IsInAceText text Memory = Unit {0}

@@ -1,6 +1,6 @@
 //! Laws of the bytes and of the texts of lists.
 
-ghost use Rattle.std.specs.Prelude.{◌≡◌, ◌↔◌, ◌<◌, ◌++◌, ℕ, List, Some, length, take};
+ghost use Rattle.std.specs.Prelude.{◌≡◌, ◌↔◌, ◌<◌, ◌≤◌, ◌++◌, ℕ, List, Some, length, take};
 ghost use Rattle.std.specs.List.{AllByRecursion, concat};
 ghost use Rattle.acl_nfs4.specs.Ace.{Ace};
 ghost use Rattle.acl_nfs4.specs.Spelling.{Fits, IsAccepted, Xdr, weight, word_limit};
@@ -12,10 +12,11 @@ ghost use Rattle.acl_nfs4.specs.AceTextFault.{IsAceTextFault};
 ghost use Rattle.acl_nfs4.specs.BitNames.{first_name};
 ghost use Rattle.acl_nfs4.specs.Rights.{SpellsMask, rights};
 ghost use Rattle.acl_nfs4.specs.declared.text.fault.AceTextFault.{AceTextFault};
-ghost use Rattle.acl_nfs4.specs.Laws.{BeginsSpelling, FedAsAtOnce, pairs_of};
+ghost use Rattle.acl_nfs4.specs.Laws.{BeginsSpelling, FedAsAtOnce, IsInAceText, pairs_of};
+ghost use Rattle.acl_nfs4.specs.declared.xdr.fault.Fault.{Fault};
 ghost use Rattle.acl_nfs4.specs.declared.xdr.fault.Reason.{Reason};
 ghost use Rattle.std.specs.Prelude.{[]};
-ghost use Rattle.acl_nfs4.specs.Stream.{Feeds, FeedsEach, StreamState, more, together};
+ghost use Rattle.acl_nfs4.specs.Stream.{Feeds, FeedsEach, RefusesStream, StreamState, more, together};
 ghost use Rattle.acl_nfs4.specs.declared.feed.fed.Fed.{Fed};
 
 /// No spelling is the beginning of another, and none spells two lists, under each profile.
@@ -62,6 +63,18 @@ pub fn one_whole_fault()
         → Xdr p list bytes → IsWholeFault p bytes o r → ⊥ }
 {}
 
+/// A fault of bytes is in the bytes or at their end, whether the bytes should be one list and nothing more, should begin
+/// with a list, or are a stream so far. The bytes that a reader takes are bytes of the input, and a fault is not behind
+/// them.
+pub fn faults_are_in_the_bytes()
+    ensures first { (p : Profile) (bytes : List ℕ) (offset taken : ℕ) (r : Reason)
+        → IsFirstFault p bytes offset taken r → (offset ≤ taken) × (taken ≤ length bytes) }
+    ensures whole { (p : Profile) (bytes : List ℕ) (offset : ℕ) (r : Reason)
+        → IsWholeFault p bytes offset r → offset ≤ length bytes }
+    ensures stream { (p : Profile) (stream : List ℕ) (fault : Fault)
+        → RefusesStream p stream fault → fault.offset ≤ length stream }
+{}
+
 /// If the masks of a list are below 2^32, its weight is the number of pairs of a place in the list and a bit of the ACE
 /// at that place.
 #[tactic(auto, using(crate::proofs::list::Weights::weight_counts))]
@@ -97,6 +110,12 @@ pub fn one_text_fault()
     ensures none { (p : Profile) (text : List ℕ) (list : List Ace) (f : AceTextFault)
         → IsAceText p list text
         → IsAceTextFault p text f → ⊥ }
+{}
+
+/// A fault of a text is at a line of the text, at the column of a byte of this line or of the byte after the line.
+pub fn text_faults_are_in_the_text()
+    ensures { (p : Profile) (text : List ℕ) (fault : AceTextFault) → IsAceTextFault p text fault
+        → IsInAceText text fault }
 {}
 
 /// The name of a right names its bit, and nothing else.

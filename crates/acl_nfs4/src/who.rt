@@ -19,7 +19,8 @@ pub const GROUP_NAME: &str = "GROUP@";
 /// The special identifier of everyone.
 pub const EVERYONE_NAME: &str = "EVERYONE@";
 
-/// Why bytes are not valid as a who, in the order in which this is judged.
+/// Why bytes are not valid as a who, in the order in which this is judged. It has no error traits, since no caller of the
+/// crate sees it: each public call turns it into its own fault.
 #[derive(Clone, Copy)]
 pub(crate) enum WhoFault {
     Length,

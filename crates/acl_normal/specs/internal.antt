@@ -10,6 +10,8 @@ pub mod comparison
 pub mod Alike
 -- the keys that play a part, without a look at any situation
 pub mod Plain
+-- the plain way to the normal form, pass by pass
+pub mod Best
 -- what is left of a list after rights that play no part are removed
 pub mod Reduced
 -- how many keys the columns of a list have

@@ -6,8 +6,8 @@ use acl_perm::Principal;
 
 /// The class of a principal. Two different users never overlap; a principal of the other class overlaps with every
 /// principal.
-#[derive(Clone, Copy, Debug, PartialEq, Eq)]
-pub enum Class {
+#[derive(Clone, Copy)]
+pub(crate) enum Class {
     /// A user by name.
     Users,
     /// The owner, the owning group, a group by name, or everyone.
@@ -24,6 +24,13 @@ impl Class {
         } else {
             Class::Others
         }
+    }
+
+    /// Returns the class of users, or the other class.
+    pub(crate) fn of_users(users: bool) -> Class
+        ensures { is_users result ≡ users }
+    {
+        if users { Class::Users } else { Class::Others }
     }
 
     pub(crate) fn is_users(self) -> bool

@@ -22,7 +22,6 @@ mod tests;
 mod whom;
 
 pub use bit_table::{BorrowedRow, Row, borrowed_rows, table, table_of_view};
-pub use class::Class;
 pub use comparison::{
     Difference, RequesterNames, compare, compare_views, excess, excess_of_views, implies,
     implies_of_view, same, same_views,

@@ -87,15 +87,16 @@ impl<'a> MergedRows<'a> {
     }
 
     /// Returns the places that wait with a right: the places of the ACEs that still have the right, are of the kind,
-    /// and name a principal of the class. If `bits` has several rights, the lowest one counts; if it has none, no place
-    /// waits. It takes no memory.
-    pub fn waiting(&self, kind: Kind, class: Class, bits: Mask) -> &BTreeSet<usize>
-        ensures places { (bit : ℕ) → IsLowest bit bits.bits → (place : ℕ)
-            → contains nat_cmp result.now place ≡ waits kind (is_users class) bit self.now place }
+    /// and name a user if `users` is true, and otherwise another principal. If `bit` has several rights, the lowest one
+    /// counts; if it has none, no place waits. It takes no memory.
+    pub fn waiting(&self, kind: Kind, users: bool, bit: Mask) -> &BTreeSet<usize>
+        ensures places { (right : ℕ) → IsLowest right bit.bits → (place : ℕ)
+            → contains nat_cmp result.now place ≡ waits kind users right self.now place }
         // For no right, the set is empty.
-        ensures none { bits.bits ≡ 0 → (place : ℕ) → contains nat_cmp result.now place ≡ false }
+        ensures none { bit.bits ≡ 0 → (place : ℕ) → contains nat_cmp result.now place ≡ false }
     {
-        match lowest(bits) {
+        let class = Class::of_users(users);
+        match lowest(bit) {
             Some(right) => self.waiting_at(kind, class, right),
             None => self.waiting_at(kind, class, NO_RIGHT),
         }

@@ -12,6 +12,7 @@ mod forms;
 mod harness;
 mod holder_words;
 mod implications;
+mod largest;
 mod merged_rows;
 mod names;
 mod needed_rights;

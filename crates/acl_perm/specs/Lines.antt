@@ -1,6 +1,6 @@
 -- Lines of a text, and parts of a line with their columns. Lines end at line feeds, columns count bytes from 1, and a
 -- blank is a space or a tab: this library's own, for its text forms.
-use Rattle.std.specs.Prelude.{ℕ, ◌≡◌, ◌+◌, ◌<◌, ◌≤◌, ◌==◌, ◌||◌, not, Bool, List, [], ◌∷◌, length, drop, Option, Some, None, if◌then◌else◌}
+use Rattle.std.specs.Prelude.{ℕ, ◌≡◌, ◌+◌, ◌<◌, ◌≤◌, ◌==◌, ◌||◌, not, Bool, List, [], ◌∷◌, ◌++◌, length, drop, Option, Some, None, if◌then◌else◌}
 use Rattle.std.specs.Borrow.{Bor}
 use Rattle.std.specs.List.{slice_split, list_all, before_first, position_or_len}
 use Rattle.acl_perm.specs.Ascii.{space, tab}
@@ -12,6 +12,17 @@ use Rattle.acl_perm.specs.declared.lines.Piece.{Piece}
 -- the lines of a text; the part after the last line feed is a line too
 abbrev pub lines_of : List ℕ → List (List ℕ)
 lines_of text = slice_split (λ b. b == line_feed) text
+
+-- a place in a text: the number of a line, and the column of a byte of this line or of the byte after the line; lines
+-- and columns count from 1
+pub record IsTextPlace (text : List ℕ) (line column : ℕ) : Type 0 where
+  pub before : List (List ℕ)
+  pub bytes : List ℕ
+  pub after : List (List ℕ)
+  pub lines : lines_of text ≡ before ++ bytes ∷ after
+  pub number : line ≡ length before + 1
+  pub from_one : 1 ≤ column
+  pub to_end : column ≤ length bytes + 1
 
 -- some bytes of a line, and the column of the first of them
 pub record Span : Type 0 where

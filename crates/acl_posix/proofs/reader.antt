@@ -6,3 +6,5 @@ pub mod Judged
 pub mod Settled
 -- what a text spells is within the limits
 pub mod Limits
+-- where the fault of a text is
+pub mod Places

@@ -3,6 +3,7 @@
 ghost use Rattle.std.specs.Prelude.{◌≡◌, ◌↔◌, ℕ, IsTrue, List};
 ghost use Rattle.acl_posix.specs.declared.fault.AclFault.{AclFault};
 ghost use Rattle.acl_posix.specs.declared.file.PosixFile.{PosixFile};
+ghost use Rattle.acl_posix.specs.declared.text_fault.Cause.{Cause};
 ghost use Rattle.acl_posix.specs.declared.text_fault.TextFault.{TextFault};
 ghost use Rattle.acl_posix.specs.Entries.{Entries};
 ghost use Rattle.acl_posix.specs.Excess.{AnswerAlike, GrantsNothingMore};
@@ -10,8 +11,8 @@ ghost use Rattle.acl_posix.specs.Grammar.{Reads};
 ghost use Rattle.acl_posix.specs.Laws.{AttributeReadsBack, MaskLeavesAll, MaskStays, ModeIsSet};
 ghost use Rattle.acl_posix.specs.Names.{Table};
 ghost use Rattle.acl_posix.specs.Tag.{Tag};
-ghost use Rattle.acl_posix.specs.TextFault.{IsTextFault};
-ghost use Rattle.acl_posix.specs.TextLaws.{ReadsBack, TextTellsApart};
+ghost use Rattle.acl_posix.specs.TextFault.{IsTextFault, acl_fault};
+ghost use Rattle.acl_posix.specs.TextLaws.{IsAtEntry, IsInText, ReadsBack, TextTellsApart};
 ghost use Rattle.acl_posix.specs.Texts.{canonical_text, short_text, shown_text};
 ghost use Rattle.acl_posix.specs.Valid.{IsFaultOf, IsValidList, is_refusal};
 
@@ -86,4 +87,13 @@ pub fn one_text_fault()
         → IsTextFault text names g → f ≡ g }
     ensures none { (text : List ℕ) (names : Table) (file : PosixFile) (f : TextFault)
         → Reads text names file → IsTextFault text names f → ⊥ }
+{}
+
+/// A fault of a text is at a line of the text, at the column of a byte of this line or of the byte after the line. A
+/// fault of entries that are not a valid ACL is at one of these entries, unless an entry is absent.
+pub fn faults_are_in_the_text()
+    ensures text { (text : List ℕ) (names : Table) (fault : TextFault)
+        → IsTextFault text names fault → IsInText text names fault }
+    ensures entries { (entries : List (Tag × ℕ)) (why : Cause) → IsFaultOf entries (acl_fault why)
+        → IsAtEntry entries why }
 {}

@@ -12,13 +12,16 @@ use acl_perm::{Sink, Source, put_all};
 use clap::ArgMatches;
 use std::alloc::{AllocError, Global};
 use std::io::Write;
+use thiserror::Error;
 
 /// Why a command line was not carried out.
-#[derive(Clone, Copy, Debug)]
+#[derive(Clone, Copy, Debug, PartialEq, Eq, Error)]
 pub enum CommandFault {
     /// The first word names no command, the command does not take the words, or a value is bad.
+    #[error("usage")]
     Usage,
     /// The command did not run to its end, or memory ran out for its words.
+    #[error("{0}")]
     Run(RunFault),
 }
 
@@ -147,10 +150,7 @@ const LINE_ROOM: usize = 80;
 fn report<E: Sink>(err: &mut E, fault: CommandFault) {
     let mut buffer = [0u8; LINE_ROOM];
     let mut room = buffer.as_mut_slice();
-    let _ = match fault {
-        CommandFault::Usage => writeln!(room, "aclck: usage"),
-        CommandFault::Run(fault) => writeln!(room, "aclck: {fault}"),
-    };
+    let _ = writeln!(room, "aclck: {fault}");
     let left = room.len();
     let _ = put_all(err, &buffer[..LINE_ROOM.saturating_sub(left)]);
 }

@@ -10,6 +10,7 @@ ghost use Rattle.aclck.specs.declared.line.LineFault.TheVariants.{Memory};
 use clap::error::ErrorKind;
 use clap::{Arg, ArgAction, ArgMatches, Command};
 use std::alloc::{AllocError, AllocFailed, Global};
+use thiserror::Error;
 
 /// An option of a command, or the words that belong to no option.
 #[derive(Clone, Copy)]
@@ -45,11 +46,13 @@ impl Argument {
 }
 
 /// Why words ask for nothing.
-#[derive(Clone, Copy, Debug)]
+#[derive(Clone, Copy, Debug, PartialEq, Eq, Error)]
 pub enum LineFault {
     /// The command does not take the words, or a value is bad.
+    #[error("usage")]
     Usage,
     /// Memory ran out for the words.
+    #[error("out of memory")]
     Memory,
 }
 

@@ -1,12 +1,15 @@
 //! Checks, converts and compares access control lists on standard input.
+//!
+//! `command` runs the command that the words of a line name. `task` has one file per command with its engine, such as
+//! `run_normalize`, and `answer` has what an engine returns.
 #![tactic(auto)]
 
-mod answer;
-mod command;
+pub mod answer;
+pub mod command;
 mod input;
 pub mod laws;
 mod line;
-mod task;
+pub mod task;
 #[cfg(test)]
 mod tests;
 mod words;

@@ -223,17 +223,27 @@ impl<'a> Task<'a> {
     {
         match self {
             Task::ShowPosix(v) => run_show_posix(alloc, source, sink, v.form, &v.names),
-            Task::CheckPosix(v) => run_check_posix(alloc, source, sink, v),
+            Task::CheckPosix(v) => run_check_posix(
+                alloc, source, sink, v.owner, v.group, v.user, &v.groups, v.want, &v.names,
+            ),
             Task::CalcMask(names) => run_calc_mask(alloc, source, sink, names),
             Task::Chmod(v) => run_chmod(alloc, source, sink, v.mode, &v.names),
-            Task::Create(v) => run_create(alloc, source, sink, v),
+            Task::Create(v) => run_create(alloc, source, sink, v.mode, v.umask, v.dir, &v.names),
             Task::ShowNfs(profile) => run_show_nfs(alloc, source, sink, *profile),
             Task::Encode(profile) => run_encode(alloc, source, sink, *profile),
-            Task::CheckNfs(v) => run_check_nfs(alloc, source, sink, v),
-            Task::Child(v) => run_child(alloc, source, sink, *v),
+            Task::CheckNfs(v) => run_check_nfs(
+                alloc,
+                source,
+                sink,
+                &v.object,
+                &v.requester,
+                v.mask,
+                v.profile,
+            ),
+            Task::Child(v) => run_child(alloc, source, sink, v.kind, v.profile),
             Task::Mode(profile) => run_mode(alloc, source, sink, *profile),
             Task::Bridge(names) => run_bridge(alloc, source, sink, names),
-            Task::Table(v) => run_table(alloc, source, sink, *v),
+            Task::Table(v) => run_table(alloc, source, sink, v.bit, v.profile),
             Task::Normalize(v) if v.inherit => run_normalize_inherit(
                 alloc, source, sink, v.profile,
             ),

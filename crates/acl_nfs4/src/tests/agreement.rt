@@ -1,15 +1,32 @@
-//! Faults that every reader returns alike, however the bytes arrive. The offsets are those of the fields in the layout
-//! of RFC 4506 over RFC 8881, section 6.2.1; the reasons are those of docs/formats.md.
+//! The property that every reader returns the same list or the same fault, however the bytes arrive. The offsets of the
+//! faults are those of the fields in the layout of RFC 4506 over RFC 8881, section 6.2.1; the reasons are those of
+//! docs/formats.md.
 
-use super::readers::{ONE, decoded, fault, fed, parsed};
+use super::readers::{ALICE, ONE, THREE, decoded, fault, fed, parsed};
 use crate::*;
 use std::alloc::{AllocError, Global};
 use std::process::Abort;
 
-// Returns whether all readers return the same fault, or each returns a list.
+// Returns whether two readers return the same list or the same fault.
+fn is_same(one: &Result<Acl, Fault>, other: &Result<Acl, Fault>) -> bool {
+    match (one, other) {
+        (Ok(list), Ok(same)) => list == same,
+        (Err(fault), Err(same)) => fault == same,
+        _ => false,
+    }
+}
+
+// Returns whether all readers return the same list or the same fault. The feed takes two pieces.
 fn agree(alloc: Global, bytes: &[u8], first: usize) -> bool {
-    let fault = parsed(alloc, bytes).err();
-    decoded(alloc, bytes, u64::MAX, 7).err() == fault && fed(alloc, bytes, first).err() == fault
+    let list = parsed(alloc, bytes);
+    is_same(&decoded(alloc, bytes, u64::MAX, 7), &list) && is_same(&fed(alloc, bytes, first), &list)
+}
+
+// Returns whether the beginning of this length of a list is cut short for every reader.
+fn is_cut_short(alloc: Global, list: &[u8], len: usize) -> bool {
+    let (front, _) = list.split_at(len.min(list.len()));
+    let fault = parsed(alloc, front).err();
+    fault.is_some_and(|fault| fault.reason == Reason::Truncated) && agree(alloc, front, len / 2)
 }
 
 // A place, the bytes from there on, and the fault of the list with these bytes.
@@ -46,6 +63,25 @@ fn longest(alloc: Global) -> Result<Vec<u8>, AllocError> {
 
 mod ample {
     use super::*;
+
+    // Every proper beginning of three lists, and a list with each of its bytes replaced by each byte.
+    #[test]
+    fn parsing_decoding_and_feeding_agree(rt: HostRuntime) {
+        for list in [ONE.as_slice(), &ALICE, &THREE] {
+            for len in 0..list.len() {
+                assert!(rt; is_cut_short(rt.alloc(), list, len), "{len} bytes");
+            }
+        }
+        for place in 0..72usize {
+            for byte in 0..=255u8 {
+                let mut damaged = THREE;
+                if let Some(at) = damaged.get_mut(place) {
+                    *at = byte;
+                }
+                assert!(rt; agree(rt.alloc(), &damaged, place), "{byte} at {place}");
+            }
+        }
+    }
 
     // Words and names that every reader refuses at the same place, and the longest name.
     #[test]

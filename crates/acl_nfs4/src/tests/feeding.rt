@@ -1,9 +1,51 @@
 //! The property that a list that arrives in pieces is the list of all its bytes, with the same fault if it has one. The
 //! offsets are those of the fields in the layout of RFC 4506 over RFC 8881, section 6.2.1.
 
-use super::readers::{THREE, fault, parsed, same_list};
+use super::readers::{ONE, THREE, decoded, fault, parsed, same_list};
 use crate::*;
 use std::alloc::{AllocError, Global};
+use std::process::Abort;
+
+// Feeds the list `THREE` in two pieces, of which the first has `first` bytes. The bytes of the first piece and those
+// that are taken of the second one add up to the 72 bytes of the list.
+fn feed_two_pieces(rt: &impl Abort, alloc: Global, first: usize, list: &Acl) {
+    let mut feed = Feed::new(alloc);
+    let (front, back) = THREE.split_at(first.min(72));
+    let taken = 72usize.saturating_sub(first);
+    assert!(rt; feed.feed(front) == Fed::More);
+    assert!(rt; feed.feed(&[]) == Fed::More);
+    assert!(rt; feed.feed(back) == Fed::Done { taken });
+    assert!(rt; feed.feed(back) == Fed::Done { taken: 0 });
+    assert!(rt; feed.finish().is_ok_and(|fed| fed == *list));
+}
+
+fn feed_byte_by_byte(rt: &impl Abort, alloc: Global, list: &Acl) {
+    let mut feed = Feed::new(alloc);
+    for (place, byte) in THREE.chunks(1).enumerate() {
+        let last = Fed::Done { taken: 1 };
+        assert!(rt; feed.feed(byte) == (if place < 71 { Fed::More } else { last }));
+    }
+    assert!(rt; feed.finish().is_ok_and(|fed| fed == *list));
+}
+
+fn feed_past_the_end(rt: &impl Abort, alloc: Global) {
+    let mut feed = Feed::new(alloc);
+    let (front, _) = ONE.split_at(30);
+    assert!(rt; feed.feed(&[]) == Fed::More);
+    assert!(rt; feed.feed(front) == Fed::More);
+    assert!(rt; feed.feed(&[0, 0, 0xff]) == Fed::Done { taken: 2 });
+    assert!(rt; feed.feed(&[1, 2]) == Fed::Done { taken: 0 });
+}
+
+// Returns a feed that has taken everything up to the padding, and one byte of the padding.
+fn fed_to_padding(rt: &impl Abort, alloc: Global) -> Feed {
+    let mut feed = Feed::new(alloc);
+    let (front, _) = ONE.split_at(29);
+    assert!(rt; feed.feed(front) == Fed::More);
+    assert!(rt; feed.feed(&[1]) == Fed::More);
+    assert!(rt; feed.feed(&[]) == Fed::More);
+    feed
+}
 
 // Feeds two pieces under the narrow profile. The first piece has `first` bytes.
 fn fed_narrowly(alloc: Global, bytes: &[u8], first: usize) -> Result<Acl, Fault> {
@@ -53,6 +95,36 @@ fn a_feed_that_ran_out_of_memory_stays_refused(rt: HostRuntime) {
 
 mod ample {
     use super::*;
+
+    // However a list is cut, the feed returns how many bytes belong to it, and later pieces change nothing. A source
+    // gives the same list, however many bytes it gives at once.
+    #[test]
+    fn a_list_may_be_cut_into_any_two_pieces(rt: HostRuntime) -> Result<(), Fault> {
+        let list = parsed(rt.alloc(), &THREE)?;
+        for first in 0..72usize {
+            feed_two_pieces(&rt, rt.alloc(), first, &list);
+        }
+        feed_byte_by_byte(&rt, rt.alloc(), &list);
+        for step in 1..=72usize {
+            let read = decoded(rt.alloc(), &THREE, u64::MAX, step);
+            assert!(rt; read.is_ok_and(|read| read == list), "{step}");
+        }
+        Ok(())
+    }
+
+    #[test]
+    fn a_feed_reports_the_end_of_a_list_and_a_fault(rt: HostRuntime) {
+        feed_past_the_end(&rt, rt.alloc());
+        let found = fed_to_padding(&rt, rt.alloc()).finish().err();
+        assert!(rt; found == Some(fault(29, Reason::Truncated)));
+        let mut feed = fed_to_padding(&rt, rt.alloc());
+        let padding = fault(29, Reason::Padding);
+        assert!(rt; feed.feed(&[0, 0]) == Fed::Refused(padding));
+        assert!(rt; feed.feed(&[0, 0]) == Fed::Refused(padding));
+        assert!(rt; feed.finish().err() == Some(padding));
+        let mut feed = Feed::new(rt.alloc());
+        assert!(rt; feed.feed(&[0, 0, 0, 0]) == Fed::Done { taken: 4 });
+    }
 
     #[test]
     fn a_list_of_the_narrow_profile_may_be_cut_into_any_two_pieces(rt: HostRuntime) {

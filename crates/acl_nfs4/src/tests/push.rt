@@ -8,7 +8,8 @@ use crate::*;
 use std::alloc::Global;
 use std::process::Abort;
 
-// Pushes an ACE with this mask and who, and checks the answer and the list after it.
+// Pushes an ACE with this mask and who, and checks the answer and the list after it. The list stays as it was if the ACE
+// is refused or memory runs out.
 fn check_push(
     rt: &impl Abort,
     alloc: Global,
@@ -20,13 +21,13 @@ fn check_push(
     let mut list = built(alloc, &[EVERYONE])?;
     if let Some(ace) = item(row) {
         let pushed = list.push(ace);
+        assert!(rt; pushed == answer || pushed == Err(Memory));
+        let both = [EVERYONE, row];
+        let (after, _) = both.split_at(if pushed.is_ok() { 2 } else { 1 });
+        assert!(rt; shows(list.aces(), after));
         if pushed == Err(Memory) {
             return pushed;
         }
-        assert!(rt; pushed == answer);
-        let both = [EVERYONE, row];
-        let (after, _) = both.split_at(if answer.is_ok() { 2 } else { 1 });
-        assert!(rt; shows(list.aces(), after));
     }
     Ok(())
 }

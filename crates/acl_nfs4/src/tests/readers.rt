@@ -1,4 +1,4 @@
-//! What the tests of readers share: two lists as the bytes of RFC 4506, sections 4.2, 4.10 and 4.13, over RFC 8881,
+//! What the tests of readers share: three lists as the bytes of RFC 4506, sections 4.2, 4.10 and 4.13, over RFC 8881,
 //! section 6.2.1, and the three ways to read a list: whole, from a source, and in pieces.
 
 use crate::*;
@@ -15,6 +15,12 @@ pub const THREE: [u8; 72] = [
     0, 0, 0, 3, 0, 0, 0, 0, 0, 0, 0, 0, 0, 0, 0, 1, 0, 0, 0, 6, 0x4f, 0x57, 0x4e, 0x45, 0x52, 0x40,
     0, 0, 0, 0, 0, 1, 0, 0, 0, 0, 0, 0, 0, 2, 0, 0, 0, 3, 0x62, 0x6f, 0x62, 0, 0, 0, 0, 0, 0, 0, 0,
     0, 0, 0, 0, 2, 0, 0, 0, 6, 0x4f, 0x57, 0x4e, 0x45, 0x52, 0x40, 0, 0,
+];
+
+/// A list of one ACE: ALLOW READ_DATA for alice.
+pub const ALICE: [u8; 28] = [
+    0, 0, 0, 1, 0, 0, 0, 0, 0, 0, 0, 0, 0, 0, 0, 1, 0, 0, 0, 5, 0x61, 0x6c, 0x69, 0x63, 0x65, 0, 0,
+    0,
 ];
 
 /// Returns the fault with this reason at this place.

@@ -45,7 +45,7 @@ pub same_left : (xs : List Ace) → SameGrants all_rights xs (left xs)
 same_left xs = same_grants_from_columns xs (left xs) (λ b inside s valid. rw (column_left b xs) refl)
 
 -- a column that is alike the empty column is empty
-alike_nothing : (c : Column) → IsAlike [] c → c ≡ []
+pub alike_nothing : (c : Column) → IsAlike [] c → c ≡ []
 alike_nothing [] a = refl
 alike_nothing ((p, k) ∷ c) a =
     let some : first_kind (is_either p p) ((p, k) ∷ c) ≡ Some k = rw (either_first p p) refl in

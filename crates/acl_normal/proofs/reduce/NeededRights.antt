@@ -75,7 +75,7 @@ left_was_there xs ys i b r l has =
 -- ---- no list has fewer
 
 -- the reduction of a column with names is irreducible
-reduced_irreducible : (c : Column) → HaveNames c → IsIrreducible (reduced c)
+pub reduced_irreducible : (c : Column) → HaveNames c → IsIrreducible (reduced c)
 reduced_irreducible c names =
     settled_irreducible (reduced c) (default (unshadowed [] c)) (reduced_once c)
     (from_splits (λ e. HasName e.0) (reduced c) (λ l e r is.

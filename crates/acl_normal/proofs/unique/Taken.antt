@@ -34,7 +34,7 @@ at_front : (f e : ColumnKey) (c : Column) → f ≡ e → Has (f ∷ c) e
 at_front f e c same = record { before = []; after = c; is = ap (λ v. v ∷ c) same }
 
 -- the empty column has no key
-no_key : {P : Type 0} (e : ColumnKey) → Has [] e → P
+pub no_key : {P : Type 0} (e : ColumnKey) → Has [] e → P
 no_key e h = go h.before h.is
   where
     go : {P : Type 0} (before : Column) → [] ≡ before ++ e ∷ h.after → P

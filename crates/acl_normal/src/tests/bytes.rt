@@ -4,7 +4,7 @@
 use super::harness::{ALLOW, AceRow, EVERYONE, NO_WRITE_FORM, built};
 use crate::{normal_bytes, normal_bytes_with};
 use acl_nfs4::{Acl, AclView, Fault, Reason};
-use acl_perm::Profile;
+use acl_perm::{Flags, Mask, Profile};
 use std::alloc::Global;
 
 const EMPTY: &[u8; 4] = b"\0\0\0\0";
@@ -21,6 +21,12 @@ const PADDED: &[u8; 32] = b"\0\0\0\x01\0\0\0\0\0\0\0\0\0\0\0\x01\0\0\0\x09EVERYO
 const TRAILED: &[u8; 33] = b"\0\0\0\x01\0\0\0\0\0\0\0\0\0\0\0\x01\0\0\0\x09EVERYONE@\0\0\0\0";
 
 const RETENTION: &[u8; 32] = b"\0\0\0\x01\0\0\0\0\0\0\0\0\0\0\x02\0\0\0\0\x09EVERYONE@\0\0\0";
+
+// Three ACEs without rights: one that denies, one for new files, and one of a group.
+const NO_RIGHTS: &[u8; 76] = b"\0\0\0\x03\
+    \0\0\0\x01\0\0\0\0\0\0\0\0\0\0\0\x06OWNER@\0\0\
+    \0\0\0\0\0\0\0\x09\0\0\0\0\0\0\0\x09EVERYONE@\0\0\0\
+    \0\0\0\0\0\0\0\x40\0\0\0\0\0\0\0\x03ops\0";
 
 // The ACEs that the bytes of a normal form spell, or the fault.
 type Spelled = Result<&'static [AceRow], Fault>;
@@ -72,6 +78,22 @@ mod ample {
         ];
         for (bytes, wanted) in rows {
             let answer = normal_bytes_with(alloc, bytes, Profile::NARROW);
+            assert!(rt; is_answer(alloc, answer, wanted));
+        }
+    }
+
+    // Whatever a list of such a profile has, no ACE of it has a right.
+    #[test]
+    fn under_a_profile_of_no_rights_each_list_normalizes_to_the_empty_list(rt: HostRuntime) {
+        let alloc = rt.alloc();
+        let profile = Profile::new(Mask::NONE, Flags::ALL);
+        let rows: [(&[u8], Spelled); 3] = [
+            (EMPTY, Ok(&[])),
+            (NO_RIGHTS, Ok(&[])),
+            (ALL_MAY_READ, fault(12, Reason::MaskBits)),
+        ];
+        for (bytes, wanted) in rows {
+            let answer = normal_bytes_with(alloc, bytes, profile);
             assert!(rt; is_answer(alloc, answer, wanted));
         }
     }

@@ -4,10 +4,13 @@ use super::harness::{
     ALLOW, AMY, AceRow, DENY, EVERYONE, EXECUTE, FOR_FILES, GROUP, NO_STAFF, NO_WRITE,
     NO_WRITE_FORM, OWNER, READ_DATA, STAFF, WRITE_DATA, ace_of, built, kept, passes,
 };
-use crate::{is_normal, normal_bytes, normalize};
+use crate::{is_normal, normal_bytes, normalize, plain};
 use acl_nfs4::{Acl, PushFault};
 use std::alloc::{AllocError, Global};
 use std::process::Abort;
+
+// The rights WRITE_DATA and APPEND_DATA, which a bridge makes of the permission w.
+const WRITE: u32 = WRITE_DATA | 4;
 
 const ALICE: AceRow = (ALLOW, 0, READ_DATA, b"alice");
 
@@ -27,7 +30,7 @@ const OWNER_BETWEEN_USERS: [AceRow; 3] = [
 ];
 
 // Lists and their normal forms.
-static FORMS: [(&[AceRow], &[AceRow]); 20] = [
+static FORMS: [(&[AceRow], &[AceRow]); 22] = [
     (&[], &[]),
     (&[EVERYONE], &[EVERYONE]),
     (&[ALL, ALL, ALL], &[ALL]),
@@ -80,6 +83,33 @@ static FORMS: [(&[AceRow], &[AceRow]); 20] = [
         &[(ALLOW, 0xf7, READ_DATA, b"ops")],
         &[(ALLOW, GROUP, READ_DATA, b"ops")],
     ),
+    // What `bridge` makes of the POSIX ACL u::rw-,g::r--,o::r--.
+    (
+        &[
+            (ALLOW, 0, READ_DATA | WRITE, b"OWNER@"),
+            (DENY, 0, EXECUTE, b"OWNER@"),
+            (ALLOW, 0, READ_DATA, b"GROUP@"),
+            (DENY, 0, WRITE | EXECUTE, b"GROUP@"),
+            EVERYONE,
+        ],
+        &[(ALLOW, 0, WRITE, b"OWNER@"), EVERYONE],
+    ),
+    // What it makes of u::rwx,g::---,g:50:r--,g:60:-w-,m::rw-,o::---.
+    (
+        &[
+            (ALLOW, 0, READ_DATA | WRITE | EXECUTE, b"OWNER@"),
+            (ALLOW, GROUP, READ_DATA, b"50"),
+            (ALLOW, GROUP, WRITE, b"60"),
+            (DENY, 0, READ_DATA | WRITE | EXECUTE, b"GROUP@"),
+            (DENY, GROUP, WRITE | EXECUTE, b"50"),
+            (DENY, GROUP, READ_DATA | EXECUTE, b"60"),
+        ],
+        &[
+            (ALLOW, 0, READ_DATA | WRITE | EXECUTE, b"OWNER@"),
+            (ALLOW, GROUP, READ_DATA, b"50"),
+            (ALLOW, GROUP, WRITE, b"60"),
+        ],
+    ),
 ];
 
 /// The worked lists and their normal forms.
@@ -90,6 +120,13 @@ pub fn forms() -> &'static [(&'static [AceRow], &'static [AceRow])] {
 fn has_form(alloc: Global, list: &Acl, wanted: &Acl) -> Result<bool, AllocError> {
     let form = normalize(alloc, list)?;
     Ok(form == *wanted)
+}
+
+// Returns whether the two plain ways find the form.
+fn has_plain_forms(alloc: Global, list: &Acl, wanted: &Acl) -> Result<bool, AllocError> {
+    let form = plain::normalize(alloc, list)?;
+    let by_rows = plain::normalize_by_rows(alloc, list)?;
+    Ok(form == *wanted && by_rows == *wanted)
 }
 
 // Returns whether the list has this normal form, the normal form is its own, and the list is normal only if it is its
@@ -108,6 +145,7 @@ pub fn normal_forms(rt: &impl Abort, alloc: Global) -> Result<(), PushFault> {
         let list = built(alloc, lines)?;
         let wanted = built(alloc, form)?;
         assert!(rt; kept(is_normalized(alloc, &list, &wanted))?);
+        assert!(rt; kept(has_plain_forms(alloc, &list, &wanted))?);
     }
     Ok(())
 }

@@ -2,7 +2,7 @@
 //! ALLOW of the owner must stay after an earlier DENY of a user who may be the owner.
 
 use super::harness::{NO_WRITE, READ_DATA, WRITE_DATA, built};
-use crate::{Class, MergedRows};
+use crate::MergedRows;
 use acl_perm::{Kind, Mask, Principal};
 use std::process::Abort;
 use std::test::Fail;
@@ -13,10 +13,10 @@ fn bob_goes_first(rt: &impl Abort, rows: &mut MergedRows<'_>, read: Mask, write:
     assert!(rt; rows.is_free(Principal::Owner, read));
     assert!(rt; !rows.is_free(Principal::Owner, write));
     assert!(rt; rows.is_free(bob, write));
-    assert!(rt; rows.waiting(Kind::Deny, Class::Users, write).contains(&0));
-    assert!(rt; rows.waiting(Kind::Allow, Class::Others, write).contains(&1));
+    assert!(rt; rows.waiting(Kind::Deny, true, write).contains(&0));
+    assert!(rt; rows.waiting(Kind::Allow, false, write).contains(&1));
     rows.emit(bob, write);
-    assert!(rt; !rows.waiting(Kind::Deny, Class::Users, write).contains(&0));
+    assert!(rt; !rows.waiting(Kind::Deny, true, write).contains(&0));
     assert!(rt; rows.is_free(Principal::Owner, write));
 }
 

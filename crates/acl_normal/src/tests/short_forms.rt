@@ -1,11 +1,12 @@
-//! The property that the way for short lists and the way for long ones find the same normal form, below and above the
-//! number of ACEs at which `normalize` takes the other way. Each way is compared with the other, over lists that look
-//! random, so no expected value is written here.
+//! The property that all ways to the normal form give equal lists: `normalize`, its way for short lists and its way for
+//! long ones, below and above the number of ACEs at which it takes the other way, and the two plain ways, which share
+//! nothing or little with it. Each way is compared with the others, over lists that look random, so no expected value
+//! is written here.
 
 use super::harness::{ALLOW, AceRow, DENY, Dice, GROUP, READ_DATA, WRITE_DATA, built, kept};
 use crate::normal_form::long_form;
-use crate::normalize;
 use crate::short_form::short_form;
+use crate::{normalize, plain};
 use acl_nfs4::{Acl, PushFault};
 use std::alloc::{AllocError, Global};
 
@@ -48,7 +49,9 @@ fn is_one_form(alloc: Global, list: &Acl) -> Result<bool, AllocError> {
     let form = normalize(alloc, list)?;
     let short = short_form(alloc, &list.view())?;
     let long = long_form(alloc, &list.view())?;
-    Ok(form == short && form == long)
+    let plain = plain::normalize(alloc, list)?;
+    let by_rows = plain::normalize_by_rows(alloc, list)?;
+    Ok(form == short && form == long && form == plain && form == by_rows)
 }
 
 mod ample {
@@ -56,7 +59,7 @@ mod ample {
 
     // 2,400 lists of up to four ACEs, and some of 9, 10 and 11.
     #[test]
-    fn both_ways_find_one_form(rt: HostRuntime) -> Result<(), PushFault> {
+    fn both_bodies_give_equal_lists(rt: HostRuntime) -> Result<(), PushFault> {
         let mut dice = Dice { state: 1 };
         for round in 0..2400usize {
             let count = round % 4 + 1;

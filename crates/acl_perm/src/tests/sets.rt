@@ -1,5 +1,5 @@
-//! The numbers of rights and flags, by the tables of RFC 8881, sections 6.2.1.3.1 and 6.2.1.4.1, and the rights of a
-//! mask.
+//! The numbers of rights and flags, by the tables of RFC 8881, sections 6.2.1.3.1 and 6.2.1.4.1, the rights of a mask,
+//! and numbers that are no set.
 
 use super::harness::is_shown;
 use crate::bit_names::BitName;
@@ -128,4 +128,12 @@ fn the_constants_have_the_numbers_of_the_standard(rt: HostRuntime) {
     for (mask, number) in MASKS {
         assert!(rt; mask.bits() == number, "{number}");
     }
+}
+
+#[test]
+fn a_number_with_another_bit_is_no_set(rt: HostRuntime) {
+    assert!(rt; Perm::new(8).is_none());
+    assert!(rt; Mode::new(0o1000).is_none());
+    assert!(rt; Mask::new(0x800).is_none());
+    assert!(rt; Flags::new(0x100).is_none());
 }

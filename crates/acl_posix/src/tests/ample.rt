@@ -5,8 +5,7 @@
 use super::faults::{
     FAULTS, MESSAGES, is_judged, is_refused, is_refused_repeated, is_shown, zeros_are_read,
 };
-use super::harness::Who::{Group, Mask, Other, Owner};
-use super::harness::{DEFAULT, Memory, NO_OWNER, has_rows};
+use super::harness::{DEFAULT, Memory, NO_OWNER, WITH_MASK, has_rows};
 use super::names::add_each;
 use super::samples::{LISTED, is_read, names_of};
 use super::worked_lists;
@@ -59,7 +58,7 @@ fn a_copy_equals_its_list_and_a_copy_can_get_a_mask(rt: HostRuntime) -> Result<(
     assert!(rt; copy == acl);
     let added = masked_copy(memory)?;
     assert!(rt; added != acl);
-    assert!(rt; has_rows(&added, (&[Owner, Group, Mask, Other], b"0777")));
+    assert!(rt; has_rows(&added, WITH_MASK));
     Ok(())
 }
 

@@ -56,6 +56,9 @@ pub const DEFAULT: Rows = (&[Owner, Eve, Group, Mask, Other], b"77575");
 /// `u::---,g::rwx,o::rwx`
 pub const NO_OWNER: Rows = (&[Owner, Group, Other], b"077");
 
+/// `NO_OWNER` with its mask, `u::---,g::rwx,m::rwx,o::rwx`
+pub const WITH_MASK: Rows = (&[Owner, Group, Mask, Other], b"0777");
+
 /// `u::rwx,g::rwx,m::r--,o::rwx`
 pub const MASKED: Rows = (&[Owner, Group, Mask, Other], b"7747");
 

@@ -34,28 +34,35 @@ pub fn add_each(rt: &impl Abort, names: &mut Names) {
     }
 }
 
-// Adds a name to each half of the table. A call that runs out of memory leaves the table as it was, so that the call
-// can be made again.
+// Returns all ids that a table can have after `add_names`: those of each name as a user, and then as a group.
+fn all_ids(names: &Names) -> [Option<Id>; 4] {
+    [
+        names.user(b"bob"),
+        names.user(b"staff ops"),
+        names.group(b"bob"),
+        names.group(b"staff ops"),
+    ]
+}
+
+// Adds a name, and again if it was added. A call that runs out of memory leaves the whole table as it was, so that the
+// call can be made again.
+fn add_twice(rt: &impl Abort, names: &mut Names, is_group: bool, name: &[u8], id: Id) {
+    let before = all_ids(names);
+    match add(names, is_group, name, id) {
+        Ok(()) => assert!(rt; add(names, is_group, name, id) == Err(NameFault::Taken)),
+        Err(fault) => {
+            assert!(rt; fault == NameFault::Memory);
+            assert!(rt; all_ids(names) == before);
+        }
+    }
+}
+
+// Adds a name to each half of the table.
 fn add_names(rt: &impl Abort, names: &mut Names) -> Option<()> {
-    let id = Id::new(1002)?;
-    let added = names.add_user(b"bob", id);
-    match added {
-        Ok(()) => assert!(rt; names.add_user(b"bob", id) == Err(NameFault::Taken)),
-        Err(fault) => {
-            assert!(rt; fault == NameFault::Memory);
-            assert!(rt; names.user(b"bob") == None);
-            assert!(rt; names.group(b"bob") == None);
-        }
-    }
-    let id = Id::new(50)?;
-    match names.add_group(b"staff ops", id) {
-        Ok(()) => assert!(rt; names.add_group(b"staff ops", id) == Err(NameFault::Taken)),
-        Err(fault) => {
-            assert!(rt; fault == NameFault::Memory);
-            assert!(rt; names.group(b"staff ops") == None);
-        }
-    }
-    assert!(rt; names.user(b"bob").is_some() == added.is_ok());
+    add_twice(rt, names, false, b"bob", Id::new(1002)?);
+    let has_user = names.user(b"bob").is_some();
+    add_twice(rt, names, true, b"staff ops", Id::new(50)?);
+    assert!(rt; names.user(b"bob").is_some() == has_user);
     Some(())
 }
 

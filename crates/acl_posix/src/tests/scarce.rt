@@ -1,7 +1,7 @@
 //! The tables again with memory that may run out: each call succeeds with the same answer, or it fails and changes
 //! nothing. The files of the tables have their expected values and say where they are from.
 
-use super::harness::{Memory, NO_OWNER};
+use super::harness::{Memory, NO_OWNER, WITH_MASK, has_rows};
 use super::worked_lists;
 use crate::*;
 
@@ -24,6 +24,9 @@ fn a_call_that_fails_adds_no_mask(rt: HostRuntime) {
     let Ok(mut acl) = built.copy(memory.alloc) else {
         return;
     };
-    let is_added = acl.calc_mask().is_ok();
-    assert!(rt; acl.entries().len() == (if is_added { 4 } else { 3 }));
+    let rows = match acl.calc_mask() {
+        Ok(()) => WITH_MASK,
+        Err(_) => NO_OWNER,
+    };
+    assert!(rt; has_rows(&acl, rows));
 }

@@ -13,13 +13,17 @@ use acl_nfs4::{Acl, Fault, Fed, Feed, Reason};
 use acl_perm::{Profile, Source};
 use std::alloc::Global;
 use std::marker::Model;
+use thiserror::Error;
 
 /// Why a list was not read.
-#[derive(Clone, Copy, Debug)]
+#[derive(Clone, Copy, Debug, PartialEq, Eq, Error)]
 pub(crate) enum ListFault {
     /// The input is not an accepted list of the profile.
+    #[error("{0}")]
     Refused(Fault),
+    #[error("read failed")]
     Read,
+    #[error("out of memory")]
     Memory,
 }
 

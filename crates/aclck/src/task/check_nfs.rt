@@ -1,6 +1,6 @@
 //! `check-nfs`: whether a list grants a request.
 ghost use Rattle.std.specs.Prelude.{◌≡◌};
-ghost use Rattle.aclck.specs.Common.{ReadsValues, RunsCommand, option_and_then, option_map, rows_in, text_if_any, texts};
+ghost use Rattle.aclck.specs.Common.{ReadsValues, RunsCommand, option_and_then, option_map, profile_of, rows_in, text_if_any, texts};
 ghost use Rattle.aclck.specs.Values.{mask_within};
 ghost use Rattle.aclck.specs.commands.CheckNfs.{check_nfs, check_nfs_held, check_nfs_in, object_named, object_names, requester_named, requester_names};
 
@@ -13,7 +13,7 @@ use crate::words::profile::profile_in;
 use crate::words::values::within;
 use acl_eval::{Object, Requester, grants_for_many_groups};
 use acl_nfs4::read_mask;
-use acl_perm::{Mask, Sink, Source};
+use acl_perm::{Mask, Profile, Sink, Source};
 use clap::ArgMatches;
 use std::alloc::Global;
 
@@ -82,23 +82,29 @@ fn mask_in(word: Option<&str>, rights: Mask) -> Option<Mask>
     within(rights, mask)
 }
 
-/// Writes whether the list that the whole input spells grants the requester of the task the mask on its object (RFC
-/// 8881, section 6.2.1): `granted`, or `denied` and No. Nothing is written before the input is accepted as a list of
-/// the profile. Nothing is read after a refusal. Fails if the input is refused, if a read or a write fails, or if
-/// memory runs out.
+/// Writes whether the list that the whole input spells grants the requester the mask on the object (RFC 8881, section
+/// 6.2.1): `granted`, or `denied` and No. Nothing is written before the input is accepted as a list of the profile.
+/// Nothing is read after a refusal. Fails if the input is refused, if a read or a write fails, or if memory runs out.
 pub fn run_check_nfs<S: Source, K: Sink>(
     alloc: Global,
     source: &mut S,
     sink: &mut K,
-    task: &CheckNfs<'_>,
+    object: &Object<'_>,
+    requester: &Requester<'_>,
+    mask: Mask,
+    profile: Profile,
 ) -> Result<Outcome, RunFault>
-    ensures { RunsCommand check_nfs (check_nfs_held task.now)
+    ensures { RunsCommand check_nfs (record {
+      object = object_names object.now;
+      requester = requester_names requester.now;
+      mask = mask.bits;
+      profile = profile_of profile;
+    })
         S.remaining S.failure_count source.old source.new
         K.contents K.failure_count sink.old sink.new result }
 {
-    let list = read_list(alloc, source, task.profile)?;
-    let mask = task.mask;
-    let granted = grants_for_many_groups(alloc, &list.view(), &task.object, &task.requester, mask)?;
+    let list = read_list(alloc, source, profile)?;
+    let granted = grants_for_many_groups(alloc, &list.view(), object, requester, mask)?;
     let outcome = Outcome::of(granted);
     write_answer(sink, outcome, decision_line(outcome))
 }

@@ -15,7 +15,7 @@ use crate::words::names::names_in;
 use crate::words::options::{GROUP, GROUPS, OWNER, USER, WANT};
 use crate::words::values::id_value;
 use acl_perm::{Perm, Sink, Source};
-use acl_posix::Id;
+use acl_posix::{Id, Names};
 use clap::ArgMatches;
 use std::alloc::{AllocError, Global};
 
@@ -126,23 +126,32 @@ fn count(bytes: &[u8], letter: u8) -> usize
     bytes.iter().filter(|b| **b == letter).count()
 }
 
-/// Writes whether the access ACL of the file that the input spells grants the requester of the task the permissions on
-/// its object (acl(5), "ACCESS CHECK ALGORITHM"; POSIX.1e draft 17, section 23): `granted`, or `denied` and No. Nothing
-/// is written before the whole input is accepted, with its default part. Fails if the input is refused, if a read or a
-/// write fails, or if memory runs out.
+/// Writes whether the access ACL of the file that the input spells grants the user, who is in these groups, the
+/// permissions on an object of this owner and owning group (acl(5), "ACCESS CHECK ALGORITHM"; POSIX.1e draft 17,
+/// section 23): `granted`, or `denied` and No. Nothing is written before the whole input is accepted, with its default
+/// part. Fails if the input is refused, if a read or a write fails, or if memory runs out.
 pub fn run_check_posix<S: Source, K: Sink>(
     alloc: Global,
     source: &mut S,
     sink: &mut K,
-    task: &CheckPosix,
+    owner: Id,
+    group: Id,
+    user: Id,
+    groups: &[Id],
+    want: Perm,
+    names: &Names,
 ) -> Result<Outcome, RunFault>
-    ensures { RunsCommand check_posix (check_posix_held task.now)
+    ensures { RunsCommand check_posix (record {
+      object = record { user = owner.value; group = group.value };
+      requester = record { user = user.value; groups = ids groups.now };
+      want = want.bits;
+      names = names.now;
+    })
         S.remaining S.failure_count source.old source.new
         K.contents K.failure_count sink.old sink.new result }
 {
-    let file = read_file(alloc, source, &task.names)?;
-    let acl = &file.access;
-    let granted = acl.check(task.owner, task.group, task.user, &task.groups, task.want);
+    let file = read_file(alloc, source, names)?;
+    let granted = file.access.check(owner, group, user, groups, want);
     let outcome = Outcome::of(granted);
     write_answer(sink, outcome, decision_line(outcome))
 }

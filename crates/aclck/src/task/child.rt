@@ -1,6 +1,6 @@
 //! `child`: the list that a new object gets from its directory.
 ghost use Rattle.std.specs.Prelude.{◌≡◌};
-ghost use Rattle.aclck.specs.Common.{ReadsValues, RunsCommand, rows_in};
+ghost use Rattle.aclck.specs.Common.{ReadsValues, RunsCommand, profile_of, rows_in};
 ghost use Rattle.aclck.specs.commands.Child.{child, child_held, child_in, kind_value};
 
 use crate::answer::{Outcome, RunFault, write_list_answer};
@@ -10,7 +10,7 @@ use crate::task::values::Child;
 use crate::words::options::{KIND, PROFILE};
 use crate::words::profile::profile_in;
 use acl_eval::{ChildKind, child};
-use acl_perm::{Sink, Source};
+use acl_perm::{Profile, Sink, Source};
 use clap::ArgMatches;
 use std::alloc::Global;
 
@@ -50,16 +50,13 @@ pub fn run_child<S: Source, K: Sink>(
     alloc: Global,
     source: &mut S,
     sink: &mut K,
-    values: Child,
+    kind: ChildKind,
+    profile: Profile,
 ) -> Result<Outcome, RunFault>
-    ensures { RunsCommand child (child_held values)
+    ensures { RunsCommand child (record { created = kind; profile = profile_of profile })
         S.remaining S.failure_count source.old source.new
         K.contents K.failure_count sink.old sink.new result }
 {
-    let list = child(
-        alloc,
-        &read_list(alloc, source, values.profile)?,
-        values.kind,
-    )?;
+    let list = child(alloc, &read_list(alloc, source, profile)?, kind)?;
     write_list_answer(sink, &list)
 }

@@ -9,8 +9,8 @@ use crate::task::values::Create;
 use crate::words::names::names_in;
 use crate::words::options::{DIR, MODE, UMASK};
 use crate::words::values::mode_in;
-use acl_perm::{Sink, Source};
-use acl_posix::{Form, create};
+use acl_perm::{Mode, Sink, Source};
+use acl_posix::{Form, Names, create};
 use clap::ArgMatches;
 use std::alloc::Global;
 
@@ -31,23 +31,31 @@ pub(crate) fn read(alloc: Global, matches: &ArgMatches<'_>) -> Result<Create, Li
     })
 }
 
-/// Writes the canonical text of a new object in the directory that the input spells: a file, or a directory if `dir` of
-/// the task is true (acl(5), "OBJECT CREATION AND DEFAULT ACLs"). The umask is ignored if the directory has a default
-/// ACL. Nothing is written before the input is accepted. Fails if the input is refused, if a read or a write fails, or
-/// if memory runs out.
+/// Writes the canonical text of a new object in the directory that the input spells: a file, or a directory if `dir` is
+/// true (acl(5), "OBJECT CREATION AND DEFAULT ACLs"). The umask is ignored if the directory has a default ACL. Nothing
+/// is written before the input is accepted. Fails if the input is refused, if a read or a write fails, or if memory
+/// runs out.
 pub fn run_create<S: Source, K: Sink>(
     alloc: Global,
     source: &mut S,
     sink: &mut K,
-    task: &Create,
+    mode: Mode,
+    umask: Mode,
+    dir: bool,
+    names: &Names,
 ) -> Result<Outcome, RunFault>
-    ensures { RunsCommand create (create_held task.now)
+    ensures { RunsCommand create (record {
+      mode = mode.bits;
+      umask = umask.bits;
+      is_directory = dir;
+      names = names.now;
+    })
         S.remaining S.failure_count source.old source.new
         K.contents K.failure_count sink.old sink.new result }
 {
-    let parent = read_file(alloc, source, &task.names)?;
+    let parent = read_file(alloc, source, names)?;
     let default = parent.default.as_ref();
-    let file = create(alloc, default, task.mode, task.umask, task.dir)?;
+    let file = create(alloc, default, mode, umask, dir)?;
     drop(parent);
     write_file(alloc, sink, file, Form::Canonical)
 }

@@ -1,6 +1,6 @@
 //! `table`: what the normal form of a list says about one right.
 ghost use Rattle.std.specs.Prelude.{◌≡◌};
-ghost use Rattle.aclck.specs.Common.{ReadsValues, RunsCommand, option_and_then, option_map, rows_in, text_if_any};
+ghost use Rattle.aclck.specs.Common.{ReadsValues, RunsCommand, option_and_then, option_map, profile_of, rows_in, text_if_any};
 ghost use Rattle.aclck.specs.commands.BitTable.{bit_value, right_named, table, table_held, table_in};
 
 use crate::answer::{Outcome, RunFault, write_answer};
@@ -12,7 +12,7 @@ use crate::words::profile::profile_in;
 use crate::words::values::within;
 use acl_nfs4::read_mask;
 use acl_normal::table_text;
-use acl_perm::{Mask, Sink, Source};
+use acl_perm::{Mask, Profile, Sink, Source};
 use clap::ArgMatches;
 use std::alloc::Global;
 
@@ -57,16 +57,13 @@ pub fn run_table<S: Source, K: Sink>(
     alloc: Global,
     source: &mut S,
     sink: &mut K,
-    values: BitTable,
+    bit: Mask,
+    profile: Profile,
 ) -> Result<Outcome, RunFault>
-    ensures { RunsCommand table (table_held values)
+    ensures { RunsCommand table (record { bit = bit.bits; profile = profile_of profile })
         S.remaining S.failure_count source.old source.new
         K.contents K.failure_count sink.old sink.new result }
 {
-    let text = table_text(
-        alloc,
-        &read_list(alloc, source, values.profile)?,
-        values.bit,
-    )?;
+    let text = table_text(alloc, &read_list(alloc, source, profile)?, bit)?;
     write_answer(sink, Outcome::Yes, text.as_slice())
 }

@@ -1,10 +1,11 @@
 //! `check-nfs` over devices that fail once and then work, or that fail at every later call: each failure is reported at
-//! once. What the list grants is by RFC 8881, section 6.2.1, the faults are those of docs/formats.md, "XDR", and the
-//! statuses those of aclck(1), "EXIT STATUS". The answers over devices that work are in `check_nfs`.
+//! once. `normalize` over sources that give a fault and then fail. What the list grants is by RFC 8881, section 6.2.1,
+//! the faults are those of docs/formats.md, "XDR", and the statuses those of aclck(1), "EXIT STATUS". The answers over
+//! devices that work are in `check_nfs`.
 
 use crate::answer::{Outcome, RunFault};
 use crate::task::check_nfs::run_check_nfs;
-use crate::task::values::CheckNfs;
+use crate::task::normalize::run_normalize;
 use crate::tests::check_nfs::changed;
 use crate::tests::harness::{Calls, Devices, FINE, fails_at_read, fails_at_write, run};
 use crate::tests::lists::READ_OF_ALL;
@@ -107,16 +108,27 @@ const FAULTS: [(&[u8], u64, usize, RunFault, u64); 6] = [
 
 // A check of no rights for bob, on an object that alice owns.
 fn run_check<S: Source>(alloc: Global, source: &mut S) -> Option<Result<Outcome, RunFault>> {
-    let task = CheckNfs {
-        object: Object::new(b"alice", b"staff")?,
-        requester: Requester::new(b"bob", &[])?,
-        mask: Mask::NONE,
-        profile: Profile::FULL,
-    };
+    let object = Object::new(b"alice", b"staff")?;
+    let requester = Requester::new(b"bob", &[])?;
     let mut room = [0u8; 16];
     let mut out = Counted::new(room.as_mut_slice());
-    let answer = run_check_nfs(alloc, source, &mut out, &task);
+    let answer = run_check_nfs(
+        alloc,
+        source,
+        &mut out,
+        &object,
+        &requester,
+        Mask::NONE,
+        Profile::FULL,
+    );
     Some(answer)
+}
+
+// The normal form of a list that should be refused, so there is no room for it.
+fn run_form<S: Source>(alloc: Global, source: &mut S) -> Result<Outcome, RunFault> {
+    let mut room = [0u8; 0];
+    let mut out = Counted::new(room.as_mut_slice());
+    run_normalize(alloc, source, &mut out, Profile::FULL)
 }
 
 // What is answered if there is enough memory.
@@ -184,7 +196,13 @@ mod ample {
             let answer = run_check(rt.alloc(), &mut source);
             assert!(rt;
                 answer == Some(Err(*fault)) && source.failures() == *failures,
-                "{input:?}"
+                "check-nfs: {input:?}"
+            );
+            let mut source = Counted::new(Fused::new(*input, *reads, *step));
+            let answer = run_form(rt.alloc(), &mut source);
+            assert!(rt;
+                answer == Err(*fault) && source.failures() == *failures,
+                "normalize: {input:?}"
             );
         }
     }

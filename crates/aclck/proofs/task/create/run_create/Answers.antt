@@ -7,10 +7,10 @@ use Rattle.aclck.proofs.task.create.run_create.Goals as goal
 
 pub returns : goal.returns
 returns g c =
-    let task = c.args.task.now in
-    written_file (created_text task.mode.bits task.umask.bits task.dir) c.in_ok-parent.parent c.write_file.result
+    let values = c.args in
+    written_file (created_text values.mode.bits values.umask.bits values.dir) c.in_ok-parent.parent c.write_file.result
     c.write_file.ensures c.in_ok-parent.ensures.found
     ((λ t. canonical_text (c.in_ok-file.ensures.access t) (c.in_ok-file.ensures.default t))
-    ∙ ap (λ default. canonical_text (created_access default task.mode.bits task.umask.bits)
-    (created_default default task.dir)) c.as_ref-default.ensures.value)
+    ∙ ap (λ default. canonical_text (created_access default values.mode.bits values.umask.bits)
+    (created_default default values.dir)) c.as_ref-default.ensures.value)
     c.in_ok-parent.ensures.whole c.in_ok-parent.ensures.reads
