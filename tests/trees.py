@@ -48,9 +48,14 @@ def coarse(fstat, grain, ahead=0):
     clock is ahead by some."""
     def cut(handle):
         status = fstat(handle)
-        rest = {name: getattr(status, name) for name in dir(status) if name.startswith("st_")}
-        return os.stat_result(status, {**rest, "st_ctime_ns": (status.st_ctime_ns + ahead) // grain * grain})
+        return changed_at(status, (status.st_ctime_ns + ahead) // grain * grain)
     return cut
+
+
+def changed_at(status, nanoseconds):
+    """Returns a status with another time of the last change."""
+    rest = {name: getattr(status, name) for name in dir(status) if name.startswith("st_")}
+    return os.stat_result(status, {**rest, "st_ctime_ns": nanoseconds})
 
 
 @contextlib.contextmanager

@@ -11,12 +11,14 @@ import stat
 from dataclasses import dataclass, field
 from typing import Dict, FrozenSet, List, NamedTuple, Optional, Sequence, Set, Tuple, Union
 
+from aclck.rest import at_one_time, clock
+
 from . import accounts
 from .errors import DeviceError
 from .handles import OBJECT, Directory, Handles, Held, open_list, open_root, read_names
 from .mounts import LISTS, Mounts
 from .portions import Device, Portion
-from .rest import MOVED, Patience, at_one_time, changed_last, clock
+from .rest import MOVED, Patience, changed_last
 from .snapshot import Found, ListForm, StoredList
 
 _KINDS = {stat.S_IFDIR: "d", stat.S_IFREG: "f", stat.S_IFIFO: "p", stat.S_IFSOCK: "s", stat.S_IFBLK: "b",
@@ -261,8 +263,8 @@ class Reader:
     def _keep(self, handle: int, now: int, status: os.stat_result, path: bytes, mount: bytes, result: Result) -> None:
         self._mounts[status.st_dev] = min(self._mounts.get(status.st_dev, mount), mount)
         kind = _KINDS.get(stat.S_IFMT(status.st_mode), "?")
-        status, (stored, other) = at_one_time(handle, now, status, lambda found: self._stored(handle, found, path),
-                                              self._patience)
+        status, (stored, other) = at_one_time(handle, lambda found: self._stored(handle, found, path), (now, status),
+                                              self._patience.wait)
         result.found.append(Found(path, kind, stat.S_IMODE(status.st_mode), status.st_uid, status.st_gid, stored))
         if other:
             result.others.append((path, other))
