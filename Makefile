@@ -11,14 +11,19 @@ PAGES = docs/*.md CHANGELOG.md
 MODULES = $(DESTDIR)$(PREFIX)/lib/aclck/python
 
 # The first example of the README: may bob, an editor, write under a list of two entries?
-EXAMPLE = check-nfs --owner alice --group staff --user bob --mask 'WRITE_DATA|APPEND_DATA' editors < ../../examples/plan.xdr
+EXAMPLE = check-nfs --owner alice --group staff --user bob --mask 'WRITE_DATA|APPEND_DATA' editors
+PLAN = examples/plan.xdr
 
-## try                runs an example and proves nothing, in about a minute
+# `make try` gives the list in the file LIST to the program with the words ARGS, whose status 1 is an answer.
+LIST =
+ARGS = $(if $(LIST),show-nfs,$(EXAMPLE))
+
+## try                runs an example, or `aclck ARGS` on the list in the file LIST, and proves nothing
 try:
-	cd crates/aclck && rt try -- $(EXAMPLE)
+	{ (cd crates/aclck && rt try -- $(ARGS)) $(if $(LIST),|| [ $$? = 1 ]); } < '$(or $(LIST),$(PLAN))'
 	@echo
 	@echo 'Nothing is proved or built yet. `make run` proves and builds the program, and `make install` installs it.'
-	@echo 'Then try a list of your own: getfattr --only-values -n system.nfs4_acl FILE | aclck show-nfs'
+	@echo "Then try a list of your own: getfacl -n FILE > list && make try LIST=list ARGS='show-posix'"
 	@echo 'docs/recipes.md answers common questions, one by one.'
 
 ## help               prints this list
@@ -30,13 +35,13 @@ JOBS ?= $(shell nproc)
 run:
 	tools/prove --jobs $(JOBS) aclck
 	$(MAKE) --no-print-directory $(STATIC)
-	cd crates/aclck && out/aclck-static $(EXAMPLE)
+	crates/aclck/out/aclck-static $(EXAMPLE) < $(PLAN)
 
 ## quick CRATE=NAME   formats a crate, proves it and its tests, and tries its must-fail edits
 quick:
 	cd crates/$(CRATE) && rt fmt && rt test && ../../tests/edits $(CRATE)
 
-## test               installs the packages that tests use, where it can, and runs every proof and every test
+## test               installs what tests use, where it can, runs every proof and test, and counts what passed and failed
 test:
 	.ci/run
 
