@@ -41,7 +41,7 @@ run:
 quick:
 	cd crates/$(CRATE) && rt fmt && rt test && ../../tests/edits $(CRATE)
 
-## test               installs what tests use, where it can, runs every proof and test, and counts what passed and failed
+## test               installs what tests use, where it can, runs every proof and test, and counts what passed
 test:
 	.ci/run
 
@@ -98,7 +98,7 @@ crates/aclck/out/aclck:
 crates/aclck/out/aclck.o: | crates/aclck/out/aclck
 	tools/prove aclck
 
-## package            makes the Debian packages and a tarball of what run and library built, in debian/out
+## package            makes all packages of what run and library built, in debian/out
 package: $(STATIC)
 	$(MAKE) --no-print-directory $(MADE)/$(SHARED) $(MADE)/libaclck.a extensions
 	debian/build

@@ -5,7 +5,7 @@ MADE = library/out
 PROVED = crates/aclck_c/out/libaclck_c.a
 # malloc, realloc and free as Rattle's code calls them. They are in an archive of the kit, next to its first page.
 HEAP = $(dir $(shell rt doc))c/liblibc_c.a
-# The version of the library, which is not that of the program (docs/DECISIONS.md).
+# The one version of the library, the programs and the packages (docs/DECISIONS.md).
 VERSION = 1.0.0
 SONAME = libaclck.so.1
 SHARED = libaclck.so.$(VERSION)

@@ -1,5 +1,5 @@
 -- Measures what each function takes, as a multiple of what int4pl takes: psql -f postgres/costs.sql, in a database with
--- the extension. The COST of a function in aclck--0.6.sql is this number, rounded. The lists are that of
+-- the extension. The COST of a function in aclck--1.0.sql is this number, rounded. The lists are that of
 -- examples/shared_folder.xdr, and one with another name in it.
 SET max_parallel_workers_per_gather = 0;
 SET jit = off;

@@ -14,9 +14,9 @@ EXECUTE replace($script$
 
 -- Rights
 
-CREATE OR REPLACE FUNCTION acl_rights(names text) RETURNS int
+CREATE FUNCTION acl_rights(names text) RETURNS int
     AS 'MODULE_PATHNAME', 'sql_rights' LANGUAGE C IMMUTABLE STRICT PARALLEL SAFE COST 40;
-CREATE OR REPLACE FUNCTION acl_rights_text(rights int) RETURNS text
+CREATE FUNCTION acl_rights_text(rights int) RETURNS text
     AS 'MODULE_PATHNAME', 'sql_rights_text' LANGUAGE C IMMUTABLE STRICT PARALLEL SAFE COST 30;
 
 -- NFSv4 lists: what is refused, and the type of a column that has only lists that are not
@@ -27,10 +27,10 @@ CREATE DOMAIN nfs4acl AS bytea CONSTRAINT nfs4acl_is_accepted CHECK (acl_fault(V
 
 -- NFSv4 lists: questions
 
-CREATE OR REPLACE FUNCTION acl_granted(acl bytea, owner @name@, owning_group @name@, "user" @name@, groups @name@[],
+CREATE FUNCTION acl_granted(acl bytea, owner @name@, owning_group @name@, "user" @name@, groups @name@[],
                                        rights int) RETURNS int
     AS 'MODULE_PATHNAME', 'sql_granted' LANGUAGE C IMMUTABLE STRICT PARALLEL SAFE COST 70;
-CREATE OR REPLACE FUNCTION acl_grants(acl bytea, owner @name@, owning_group @name@, "user" @name@, groups @name@[],
+CREATE FUNCTION acl_grants(acl bytea, owner @name@, owning_group @name@, "user" @name@, groups @name@[],
                                       rights int) RETURNS bool
     AS 'MODULE_PATHNAME', 'sql_grants' LANGUAGE C IMMUTABLE STRICT PARALLEL SAFE COST 70;
 CREATE TYPE acl_decision AS (place int, kind text);
@@ -42,11 +42,11 @@ CREATE FUNCTION acl_mode(acl bytea) RETURNS int
 
 -- NFSv4 lists: what they mean
 
-CREATE OR REPLACE FUNCTION acl_normal(acl bytea) RETURNS bytea
+CREATE FUNCTION acl_normal(acl bytea) RETURNS bytea
     AS 'MODULE_PATHNAME', 'sql_normal' LANGUAGE C IMMUTABLE STRICT PARALLEL SAFE COST 400;
 CREATE FUNCTION acl_normal_inherit(acl bytea) RETURNS bytea
     AS 'MODULE_PATHNAME', 'sql_normal_inherit' LANGUAGE C IMMUTABLE STRICT PARALLEL SAFE COST 1000;
-CREATE OR REPLACE FUNCTION acl_same(first bytea, second bytea) RETURNS bool
+CREATE FUNCTION acl_same(first bytea, second bytea) RETURNS bool
     AS 'MODULE_PATHNAME', 'sql_same' LANGUAGE C IMMUTABLE STRICT PARALLEL SAFE COST 1000;
 CREATE TYPE acl_difference AS (owner @name@, "group" @name@, "user" @name@, groups @name@[], "right" int, first bool);
 CREATE FUNCTION acl_compare(first bytea, second bytea) RETURNS acl_difference
@@ -62,9 +62,9 @@ CREATE FUNCTION acl_entries(acl bytea, OUT place int, OUT kind text, OUT flags i
 
 -- NFSv4 lists: texts and bytes
 
-CREATE OR REPLACE FUNCTION acl_show(acl bytea) RETURNS @name@
+CREATE FUNCTION acl_show(acl bytea) RETURNS @name@
     AS 'MODULE_PATHNAME', 'sql_show' LANGUAGE C IMMUTABLE STRICT PARALLEL SAFE COST 200;
-CREATE OR REPLACE FUNCTION acl_encode(acl @name@) RETURNS bytea
+CREATE FUNCTION acl_encode(acl @name@) RETURNS bytea
     AS 'MODULE_PATHNAME', 'sql_encode' LANGUAGE C IMMUTABLE STRICT PARALLEL SAFE COST 300;
 CREATE FUNCTION acl_child(acl bytea, directory bool) RETURNS bytea
     AS 'MODULE_PATHNAME', 'sql_child' LANGUAGE C IMMUTABLE STRICT PARALLEL SAFE COST 70;

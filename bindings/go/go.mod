@@ -1,0 +1,4 @@
+// README.md says what the licence is.
+module aclck
+
+go 1.18
