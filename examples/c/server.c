@@ -16,8 +16,8 @@
  *
  * No client can stop the server for others. A thread takes a client that has sent something, answers its whole lines,
  * and waits for nobody: neither for the rest of a line, nor for a client that does not take its replies, which is
- * closed, nor for a list that is no file. A line has a bound, and so has the number of clients: a new one takes the
- * place of the one that asked nothing for the longest time.
+ * closed, nor for a list that is no file. A line has a bound, and one that is too long is the last request of a client.
+ * The number of clients has a bound too: a new one takes the place of the one that asked nothing for the longest time.
  *
  * The cache is right without any event that removes something, because what it keeps of a list depends on the bytes of
  * the list alone, which are the key. The owner, the owning group, the user and the groups come from the object and from
@@ -301,6 +301,7 @@ static void serve(FILE *in, FILE *out) {
 /* A client. One thread at a time has it, and what is in the line is the beginning of a request. */
 typedef struct {
     int handle;
+    int is_over; /* whether a line was too long */
     size_t len;
     struct timespec asked; /* when it came, or asked last */
     char line[LINE];
@@ -326,6 +327,15 @@ static int reply(int handle, char *request) {
     return is_sent;
 }
 
+/* Sends the last reply, to a line that is too long. What follows the line is read and dropped, because a client whose
+   connection is closed while it sends never sees the reply. Returns 0 if the client is to be closed. */
+static int refuse_line(client *c) {
+    c->is_over = 1;
+    c->len = 0;
+    c->line[0] = '\0';
+    return reply(c->handle, c->line) && !shutdown(c->handle, SHUT_WR);
+}
+
 /* Answers what a client has sent, and counts the requests. Returns 0 if the client is to be closed. */
 static int serve_client(client *c, size_t *requests) {
     size_t begin = 0, seen = c->len;
@@ -333,6 +343,8 @@ static int serve_client(client *c, size_t *requests) {
     char *end;
     if (got <= 0)
         return got < 0 && (errno == EAGAIN || errno == EINTR);
+    if (c->is_over)
+        return 1;
     c->len += (size_t)got;
     while ((end = memchr(c->line + seen, '\n', c->len - seen)) != NULL) {
         *end = '\0';
@@ -343,7 +355,7 @@ static int serve_client(client *c, size_t *requests) {
     }
     c->len -= begin;
     memmove(c->line, c->line + begin, c->len);
-    return c->len < LINE;
+    return c->len < LINE || refuse_line(c);
 }
 
 /* Lets a thread take a client that sends something. Returns 0 if that fails. */
@@ -418,6 +430,7 @@ static void accept_client(void) {
         return;
     }
     c->handle = handle;
+    c->is_over = 0;
     c->len = 0;
     clock_gettime(CLOCK_MONOTONIC, &c->asked);
     pthread_mutex_lock(&clients_lock);
