@@ -6,7 +6,7 @@ import functools
 import itertools
 from dataclasses import dataclass
 from enum import Enum
-from typing import AbstractSet, Dict, FrozenSet, Iterable, List, NamedTuple, Optional, Sequence, Tuple, TypeVar, Union
+from typing import AbstractSet, Dict, FrozenSet, List, NamedTuple, Optional, Sequence, Tuple, Union
 
 from aclck import (
     APPEND_DATA,
@@ -23,6 +23,7 @@ from aclck import (
     read_mask,
 )
 
+from .classes import Classes, bits_of, chosen, everybody
 from .errors import TreeError, UsageError
 from .identities import Identities, Identity, Ways, account_name, full_name
 from .lists import POSIX_MASKS, Asked, Kind, Ready, RefusedList, decoded, has_empty_mask, nfs_bytes, ready
@@ -56,27 +57,6 @@ class Answers:
     def of(self, place: int) -> Answer:
         """Returns the answer for the person at a place."""
         return GRANTED if self.granted >> place & 1 else DENIED if self.denied >> place & 1 else UNKNOWN
-
-
-_DIGITS, _FLAGS = bytes.maketrans(b"\0\1", b"01"), bytes.maketrans(b"01", b"\0\1")
-
-
-def _bits(flags: Iterable[bool]) -> int:
-    """Returns a number whose bit at each place is the flag at that place."""
-    return int(b"0" + bytes(flags)[::-1].translate(_DIGITS), 2)
-
-
-def ones(bits: int) -> int:
-    """Returns how many bits are set."""
-    return f"{bits:b}".count("1")
-
-
-_Item = TypeVar("_Item")
-
-
-def chosen(items: Iterable[_Item], bits: int) -> List[_Item]:
-    """Returns the items at the places where a bit is set."""
-    return list(itertools.compress(items, f"{bits:b}".encode()[::-1].translate(_FLAGS)))
 
 
 class Want(NamedTuple):
@@ -141,6 +121,7 @@ class _Forms(NamedTuple):
     identities: List[Optional[Identity]]
     requesters: Requesters
     known: int
+    classes: Classes
     if_named: Sequence[AbstractSet[Tuple[bool, str]]] = ()
 
     @classmethod
@@ -148,7 +129,7 @@ class _Forms(NamedTuple):
            if_named: Sequence[AbstractSet[Tuple[bool, str]]] = ()) -> _Forms:
         """Returns the forms for the identities of the people."""
         return cls(identities, Requesters([one or _UNUSED for one in identities]),
-                   _bits(one is not None for one in identities), if_named)
+                   bits_of(one is not None for one in identities), Classes(identities), if_named)
 
 
 _MOST_FORMS = 8
@@ -276,7 +257,7 @@ class Asker:
             return forms
         named = {(ace.is_group, ace.who) for ace in acl}
         return [one if not one.if_named else one._replace(
-            known=_bits(not names.isdisjoint(named) for names in one.if_named)) for one in forms]
+            known=bits_of(not names.isdisjoint(named) for names in one.if_named)) for one in forms]
 
     def masks(self, face: Face, asked: Asked) -> Sequence[Optional[int]]:
         """Returns what each person is granted by a list without special names, or None for a person of whom that is
@@ -322,13 +303,13 @@ class Asker:
     def _whomever(self, face: Face, asked: Asked, want: Want, forms: _Forms) -> Tuple[int, int]:
         """Returns whom a list with special names grants what is asked, and whom it denies that, whomever the server
         takes for these names."""
-        found: List[Optional[Request]] = [None] * len(self.people)
-        for place in chosen(range(len(self.people)), forms.known):
+        found: List[Optional[Request]] = [None] * len(forms.identities)
+        for place in chosen(range(len(found)), forms.known):
             one = forms.identities[place]
             assert one
             found[place] = (self._is_any(face, asked, one, want.mask) if want.any
                             else self.possible(face, asked, one, want.mask).request)
-        return _bits(one is Request.ALWAYS for one in found), _bits(one is Request.NEVER for one in found)
+        return bits_of(one is Request.ALWAYS for one in found), bits_of(one is Request.NEVER for one in found)
 
     def _row(self, granted: int, denied: int) -> Answers:
         key = granted, denied
@@ -359,17 +340,29 @@ class Asker:
         return self._row(granted, denied)
 
     def _answered(self, face: Face, asked: Asked, want: Want, forms: _Forms) -> Tuple[int, int]:
-        """Returns whom of the people in one form a list grants what is asked, and whom it denies that."""
+        """Returns whom of the people in one form a list grants what is asked, and whom it denies that. Of those whom it
+        cannot treat differently, the first is asked."""
+        owner, group = self.owner_and_group(face, asked.kind)
+        classes = forms.classes.of(forms.known, itertools.chain(asked.named, ((False, owner), (True, group))))
+        if classes is None:
+            return self._each_answered(face, asked, want, forms)
+        firsts = _Forms.of([one.first for one in classes])
+        granted, denied = self._each_answered(face, asked, want, firsts) if classes else (0, 0)
+        return everybody(classes, granted), everybody(classes, denied)
+
+    def _each_answered(self, face: Face, asked: Asked, want: Want, forms: _Forms) -> Tuple[int, int]:
+        """Returns the same. Each of the people is asked."""
         if asked.specials:
             return self._whomever(face, asked, want, forms)
         owner, group = self.owner_and_group(face, asked.kind)
         found = asked.acl.granted_many(forms.requesters, owner=owner, group=group, mask=want.mask)
-        granted = _bits([one != 0 for one in found] if want.any else [one == want.mask for one in found])
+        granted = bits_of([one != 0 for one in found] if want.any else [one == want.mask for one in found])
         if asked.posix and not want.any and want.perms & (want.perms - 1):
-            granted = self._at_once(face, asked.posix, granted & forms.known, want.perms)
+            granted = self._at_once(face, asked.posix, forms, granted & forms.known, want.perms)
         return granted & forms.known, ~granted & forms.known
 
-    def _at_once(self, face: Face, acl: PosixAcl, people: int, perms: int) -> int:
+    @staticmethod
+    def _at_once(face: Face, acl: PosixAcl, forms: _Forms, people: int, perms: int) -> int:
         """Returns whom of some people a POSIX list grants several permissions at once, which one entry must have
         (acl(5)). Each of these people has ids, and is granted each single permission.
 
@@ -378,16 +371,15 @@ class Asker:
         users, groups = ({str(number), *(str(one.id) for one in acl if one.tag == tag)} for tag, number in
                          (("user", face.uid), ("group", face.gid)))
         known: Dict[Tuple[str, FrozenSet[str]], bool] = {}
-        granted = [False] * len(self.people)
-        identities = self._forms_of(face, Kind.POSIX)[0].identities
-        for place in chosen(range(len(self.people)), people):
-            one = identities[place]
+        granted = [False] * len(forms.identities)
+        for place in chosen(range(len(granted)), people):
+            one = forms.identities[place]
             assert one
             key = one.user if one.user in users else "", frozenset(groups.intersection(one.groups))
             if key not in known:
                 known[key] = check(acl, face, one, perms)
             granted[place] = known[key]
-        return _bits(granted)
+        return bits_of(granted)
 
 
 def check(acl: PosixAcl, face: Face, identity: Identity, perms: int) -> bool:

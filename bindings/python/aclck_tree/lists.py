@@ -13,7 +13,7 @@ import itertools
 import struct
 from dataclasses import dataclass
 from enum import Enum, IntEnum
-from typing import Dict, List, NamedTuple, Optional, Sequence, Tuple, Union
+from typing import Dict, FrozenSet, List, NamedTuple, Optional, Sequence, Tuple, Union
 
 from aclck import APPEND_DATA, EXECUTE, READ_DATA, WRITE_DATA, Ace, AceFlag, NfsAcl, PosixAcl, Refused
 
@@ -104,6 +104,12 @@ class Asked:
         are exchanged, and what no ACE decides is allowed."""
         found = [piece._replace(kind=piece.kind ^ 1) for piece in pieces(self.whomever) if piece.mask & mask]
         return joined([*found, Piece(0, 0, AceType.ALLOW, 0, mask, _EVERYONE)])
+
+    @functools.cached_property
+    def named(self) -> FrozenSet[Tuple[bool, str]]:
+        """The names in the list, and whether each is that of a group. A special name counts as both."""
+        return frozenset((piece.is_group, decoded(piece.who)) for piece in pieces(bytes(self.acl))).union(
+            (is_group, name) for name, _ in self.specials for is_group in (False, True))
 
     @functools.cached_property
     def by_who(self) -> Dict[Tuple[Optional[bool], str], List[Tuple[int, Ace]]]:

@@ -11,7 +11,8 @@ from typing import Dict, Iterable, Iterator, NamedTuple, Optional, Tuple, Union
 
 from aclck import mask_text
 
-from .ask import DENIED, GRANTED, UNKNOWN, Answer, Answers, Asker, Options, Want, chosen, ones, want_of
+from .ask import DENIED, GRANTED, UNKNOWN, Answer, Answers, Asker, Options, Want, want_of
+from .classes import chosen, ones
 from .commands import Tally, asker_of, opened, people_of, person_of, status_of
 from .errors import NO, REFUSED, YES
 from .lists import Asked, Kind, RefusedList
