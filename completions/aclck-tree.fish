@@ -35,7 +35,8 @@ complete -c aclck-tree -n '__fish_seen_subcommand_from scan' -l host -x -d 'The 
 complete -c aclck-tree -n '__fish_seen_subcommand_from who may why' -l may -x -a "$rights" -d 'What is asked'
 complete -c aclck-tree -n '__fish_seen_subcommand_from who may' -l any -d 'Any of the rights'
 complete -c aclck-tree -n '__fish_seen_subcommand_from who may same diff report' -l path -x -d 'Only these objects'
-complete -c aclck-tree -n '__fish_seen_subcommand_from who may report load' -l reach -d 'Directories above count too'
+complete -c aclck-tree -n '__fish_seen_subcommand_from who may report load' -l reach \
+    -d 'The directories above count too'
 complete -c aclck-tree -n '__fish_seen_subcommand_from report' -l policy -r -d 'Rules that come first'
 complete -c aclck-tree -n '__fish_seen_subcommand_from may why' -l user -x -a '(__fish_complete_users)' -d 'Who asks'
 complete -c aclck-tree -n '__fish_seen_subcommand_from may why' -l groups -x -a '(__fish_complete_groups)' \
@@ -60,7 +61,7 @@ complete -c aclck-tree -n '__fish_seen_subcommand_from who policy report' -l dra
 complete -c aclck-tree -n '__fish_seen_subcommand_from who same diff policy' -l each -d 'One line per object'
 complete -c aclck-tree -n '__fish_seen_subcommand_from load' -l dsn -x -d 'The database'
 complete -c aclck-tree -n '__fish_seen_subcommand_from load' -l as-superuser -d 'Load although the role is a superuser'
-complete -c aclck-tree -n '__fish_seen_subcommand_from diff' -l pair -x -d 'OLD=NEW are one tree'
+complete -c aclck-tree -n '__fish_seen_subcommand_from diff' -l pair -x -d 'These are one tree, OLD=NEW'
 complete -c aclck-tree -n '__fish_seen_subcommand_from same' -l inherit -d 'What is made below counts too'
 complete -c aclck-tree -n '__fish_seen_subcommand_from who may why same diff policy report info' -l csv \
     -d 'Write CSV'
