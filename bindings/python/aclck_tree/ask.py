@@ -343,7 +343,8 @@ class Asker:
         """Returns whom of the people in one form a list grants what is asked, and whom it denies that. Of those whom it
         cannot treat differently, the first is asked."""
         owner, group = self.owner_and_group(face, asked.kind)
-        classes = forms.classes.of(forms.known, itertools.chain(asked.named, ((False, owner), (True, group))))
+        named = itertools.chain(asked.named, ((False, owner), (True, group)))
+        classes = forms.classes.of(forms.known, named, bool(asked.specials))
         if classes is None:
             return self._each_answered(face, asked, want, forms)
         firsts = _Forms.of([one.first for one in classes])

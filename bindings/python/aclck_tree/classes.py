@@ -35,7 +35,8 @@ def chosen(items: Iterable[_Item], bits: int) -> List[_Item]:
 
 
 _SHARE = 16
-"""One of how many people may be asked at most for a class: with more classes, it is quicker to ask everybody."""
+"""How many people there must be for each class, so that it is quicker to ask about the classes. It does not count for
+lists with special names, because a question about these takes much longer."""
 
 _MOST_KEPT = 1024
 """Of how many groups the members are kept as bits."""
@@ -53,7 +54,6 @@ class Classes:
 
     def __init__(self, identities: Sequence[Optional[Identity]]) -> None:
         self._identities = identities
-        self._most = len(identities) // _SHARE
         self._kept: Dict[str, int] = {}
 
     @functools.cached_property
@@ -79,12 +79,13 @@ class Classes:
             self._kept[group] = self._at(self._places[True, group])
         return self._kept[group]
 
-    def of(self, known: int, named: Iterable[Tuple[bool, str]]) -> Optional[List[Class]]:
+    def of(self, known: int, named: Iterable[Tuple[bool, str]], has_specials: bool) -> Optional[List[Class]]:
         """Returns the classes of some people for the names that a list, an owner and an owning group have. Returns None
         if there are too many classes."""
+        most = len(self._identities) // (1 if has_specials else _SHARE)
         if not known:
             return []
-        if not self._most:
+        if not most:
             return None
         alone: Dict[int, None] = {}
         parts = [known]
@@ -95,7 +96,7 @@ class Classes:
                 parts = [part for one in parts for part in (one & members, one & ~members) if part]
             elif places:
                 alone.update(dict.fromkeys(places))
-            if len(parts) + len(alone) > self._most:
+            if len(parts) + len(alone) > most + 1:
                 return None
         others = ~self._at(alone) if alone else ~0
         parts = [part & others for part in parts] + [known & 1 << place for place in alone]
