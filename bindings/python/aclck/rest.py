@@ -84,6 +84,11 @@ def at_one_time(handle: int, read: Callable[[os.stat_result], T], first: Optiona
     raise OSError(errno.EBUSY, CHANGING)
 
 
+def is_same(one: os.stat_result, other: os.stat_result) -> bool:
+    """Whether two statuses of an object have the same owner, group, mode and time of the last change."""
+    return _decisive(one) == _decisive(other)
+
+
 def _decisive(status: os.stat_result) -> Tuple[int, int, int, int]:
     """Returns what of the status of an object a list is asked with, and when it was changed last."""
     return status.st_mode, status.st_uid, status.st_gid, status.st_ctime_ns

@@ -58,8 +58,8 @@ _OUTPUT: _Argument = ("-o", dict(dest="output", metavar="SNAPSHOT", required=Tru
 _EACH: _Argument = ("--each", dict(action="store_true", help="write one line per object"))
 _PATH: _Argument = ("--path", dict(metavar="GLOB", help="only the objects whose path matches, where * matches a slash "
                                    "too"))
-_REACH: _Argument = ("--reach", dict(action="store_true", help="EXECUTE, or x, on each directory of the tree above an "
-                                     "object counts too"))
+_REACH: _Argument = ("--reach", dict(action="store_true", help="EXECUTE, or x, on each directory above an object, "
+                                     "from / down, counts too"))
 _WANT: _Arguments = [
     ("--may", dict(metavar="RIGHTS", required=True, help="letters of rwx, or names of rights with | between")),
     ("--any", dict(action="store_true", help="ask for any of the rights, and not for all")),

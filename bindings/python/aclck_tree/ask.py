@@ -23,7 +23,8 @@ from aclck import (
     read_mask,
 )
 
-from .classes import Classes, bits_of, chosen, everybody
+from .bits import bits_of, chosen
+from .classes import Classes, everybody
 from .errors import TreeError, UsageError
 from .identities import Identities, Identity, Ways, account_name, full_name
 from .lists import POSIX_MASKS, Asked, Kind, Ready, RefusedList, decoded, has_empty_mask, nfs_bytes, ready
@@ -147,6 +148,7 @@ class Asker:
         self.accounts = self._identities.accounts
         self.faces = snapshot.faces()
         self.stored = snapshot.lists()
+        self._above: Dict[StoredList, int] = {}
         self._ready: Dict[int, Ready] = {}
         self._forms: Dict[Tuple[Kind, int], List[_Forms]] = {}
         self._rows: Dict[Tuple[int, int], Answers] = {}
@@ -161,6 +163,16 @@ class Asker:
     def nobody_known(self) -> Answers:
         """The answer that it is known of nobody."""
         return self._row(0, 0)
+
+    def number_of(self, stored: StoredList) -> int:
+        """Returns the number of a list of a directory above a tree. No object has this number."""
+        number = self._above.setdefault(stored, -1 - len(self._above))
+        self.stored[number] = stored
+        return number
+
+    def roots(self, tree: int) -> int:
+        """Returns who of the people has the id 0 in a tree."""
+        return bits_of(self.ids(person, person.name, False, tree) == (0,) for person in self.people)
 
     def ready(self, number: int) -> Ready:
         """Returns a list that is ready for questions."""
@@ -316,6 +328,10 @@ class Asker:
         if key not in self._rows:
             self._rows[key] = Answers(granted, denied, self._everybody & ~(granted | denied))
         return self._rows[key]
+
+    def granted_too(self, one: Answers, people: int) -> Answers:
+        """Returns an answer that is granted to some more people."""
+        return self._row(one.granted | people, one.denied & ~people)
 
     def both(self, one: Answers, other: Answers) -> Answers:
         """Returns what two answers are together: granted if both are, and denied if one is."""

@@ -8,31 +8,10 @@ are alike if the list, the owner and the owning group mention neither of them, a
 from __future__ import annotations
 
 import functools
-import itertools
-from typing import Dict, Iterable, List, NamedTuple, Optional, Sequence, Tuple, TypeVar
+from typing import Dict, Iterable, List, NamedTuple, Optional, Sequence, Tuple
 
+from .bits import bits_of, chosen
 from .identities import Identity
-
-_DIGITS, _FLAGS = bytes.maketrans(b"\0\1", b"01"), bytes.maketrans(b"01", b"\0\1")
-
-
-def bits_of(flags: Iterable[int]) -> int:
-    """Returns a number whose bit at each place is the flag (0 or 1) at that place."""
-    return int(b"0" + bytes(flags)[::-1].translate(_DIGITS), 2)
-
-
-def ones(bits: int) -> int:
-    """Returns how many bits are set."""
-    return f"{bits:b}".count("1")
-
-
-_Item = TypeVar("_Item")
-
-
-def chosen(items: Iterable[_Item], bits: int) -> List[_Item]:
-    """Returns the items at the places where a bit is set."""
-    return list(itertools.compress(items, f"{bits:b}".encode()[::-1].translate(_FLAGS)))
-
 
 _SHARE = 16
 """How many people there must be for each class, so that it is quicker to ask about the classes. It does not count for

@@ -18,7 +18,7 @@ from .accounts import ids_in_lists
 from .errors import TreeError
 from .people import read_id
 from .portions import MIXED, Device, Portion, above
-from .snapshot import TIME, Found, Snapshot, Tree
+from .snapshot import TIME, Above, Found, Snapshot, Tree
 from .text import quoted, quoted_path
 from .writer import Writer
 
@@ -27,6 +27,8 @@ SHOWN = 5
 
 MOST_LINKS = 2**53
 """How many links a snapshot can count."""
+
+_OTHER_ABOVE = "the scans of the portions found other owners, groups, modes or lists"
 
 AT_ONCE = 1000
 """How many objects are written at once."""
@@ -231,6 +233,10 @@ def _seen(source: Source) -> Set[Tuple[bool, int]]:
         if face.tree == source.tree.tree:
             users.add(face.uid)
             groups.add(face.gid)
+    for one in source.snapshot.above(source.tree.tree) or ():
+        if one.stored:
+            users.add(one.uid)
+            groups.add(one.gid)
     return {*((False, number) for number in users), *((True, number) for number in groups)}
 
 
@@ -267,6 +273,7 @@ def join(writer: Writer, sources: Sequence[Source]) -> None:
     objects = _joined_objects(sources)
     for batch in iter(lambda: list(itertools.islice(objects, AT_ONCE)), []):
         writer.add_objects(number, batch)
+    writer.add_above(number, _joined_above(sources))
     writer.add_names((number, *row) for row in accounts.rows())
     writer.add_members((number, *row) for row in accounts.members())
     for path, step, message in _joined_errors(sources, devices):
@@ -297,6 +304,17 @@ def _joined_objects(sources: Sequence[Source]) -> Iterator[Found]:
             places = " and ".join(dict.fromkeys((before[1].place, one[1].place)))
             raise TreeError(f"{places}: {quoted_path(one[0])} is there twice, and not alike")
         before = one
+
+
+def _joined_above(sources: Sequence[Source]) -> Optional[List[Above]]:
+    """Returns the directories above the root, or None if a scan did not ask them. Each scan asked them at another time,
+    and perhaps on another host: one that is not the same for all of them is not known."""
+    found = [source.snapshot.above(source.tree.tree) for source in sources]
+    asked = [one for one in found if one is not None]
+    if len(asked) < len(found):
+        return None
+    return [rows[0] if len(set(rows)) == 1 else next((one for one in rows if one.message), Above(
+        rows[0].path, message=_OTHER_ABOVE)) for rows in zip(*asked)]
 
 
 def _joined_devices(sources: Sequence[Source]) -> List[Device]:

@@ -143,7 +143,7 @@ class Identities:
     @functools.cached_property
     def _in_lists(self) -> FrozenSet[Tuple[bool, str]]:
         """The names in NFSv4 lists, as they are and with the domain, and whether they are those of groups."""
-        held = {(piece.is_group, piece.who) for stored in self._snapshot.lists().values() if stored.is_nfs
+        held = {(piece.is_group, piece.who) for stored in self._snapshot.nfs_lists()
                 for piece in pieces(stored.access or b"")}
         return frozenset((is_group, full_name(decoded(who), domain)) for is_group, who in held
                          for domain in ("", self._domain))
@@ -151,8 +151,7 @@ class Identities:
     @functools.cached_property
     def _has_digits(self) -> bool:
         """Whether an NFSv4 list may have a name that begins with a digit."""
-        return any(_DIGIT_FIRST.search(stored.access or b"") for stored in self._snapshot.lists().values()
-                   if stored.is_nfs)
+        return any(_DIGIT_FIRST.search(stored.access or b"") for stored in self._snapshot.nfs_lists())
 
 
 def _parts(if_named: Tuple[str, ...]) -> Iterator[Tuple[str, ...]]:

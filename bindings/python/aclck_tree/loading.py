@@ -27,7 +27,7 @@ from .ask import Answers, Asker, Options
 from .commands import opened, people_of, status_of
 from .errors import YES, DeviceError, TreeError, UsageError
 from .people import HIGHEST_ID, Person
-from .reach import reached
+from .reach import reached, tell_above
 from .snapshot import TIME, Face, Snapshot, Tree
 from .text import plural, quoted, quoted_line, quoted_path
 
@@ -331,6 +331,8 @@ def _sources(args: argparse.Namespace) -> List[_Source]:
             raise TreeError(f"{place}: {portion.words()} is not loaded{hint}")
         asker = Asker(snapshot, people_of(args, snapshot), Options(args.domain or ""))
         reached_objects = reached(asker) if args.reach else None
+        if args.reach:
+            tell_above(asker)
         found += [_Source(snapshot, tree, asker, args.domain or "", reached_objects)
                   for tree in snapshot.trees.values()]
     return found

@@ -9,6 +9,10 @@ from typing import Dict, Iterable, Optional
 _MESSAGE = re.compile(r"([0-9]{1,16}) (?:object has|objects have) another list that decides too: (.+)", re.DOTALL)
 
 
+UNREAD = "another list decides too, and is not read"
+"""What is said of an object that has another list."""
+
+
 def message(count: int, name: str) -> str:
     """Returns the message of the failure: how many objects have another list, and the name of its attribute or of its
     file system."""

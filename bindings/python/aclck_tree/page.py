@@ -13,6 +13,7 @@ from .lists import Asked
 from .page_script import SCRIPT
 from .page_style import STYLE
 from .people import Person, system_accounts
+from .reach import root_note
 from .rows import Level, Name, Row, Shown, columns_of, shortened, shown
 from .text import plural, quoted, quoted_host, quoted_line, quoted_path
 
@@ -99,6 +100,8 @@ def _summary(report: Report) -> Iterator[str]:
     yield f"access control lists. It asks about {_number_of_people(report)}. "
     yield ("Nobody has access below a folder that does not let them pass. " if report.is_reach else
            "It does not ask whether somebody gets past the folders above an object. ")
+    if report.is_reach and root_note(report.asker):
+        yield "Root gets past every folder with a POSIX list or a mode. "
     yield "What a server grants beyond a list, as to root, is not counted.</p>\n"
     for tree in report.snapshot.trees.values():
         where = tree.words()

@@ -12,12 +12,12 @@ from typing import Dict, Iterable, Iterator, NamedTuple, Optional, Tuple, Union
 from aclck import mask_text
 
 from .ask import DENIED, GRANTED, UNKNOWN, Answer, Answers, Asker, Options, Want, want_of
-from .classes import chosen, ones
+from .bits import chosen, ones
 from .commands import Tally, asker_of, opened, people_of, person_of, status_of
 from .errors import NO, REFUSED, YES
 from .lists import Asked, Kind, RefusedList
 from .people import Person
-from .reach import reached
+from .reach import reached, root_note, stopped, tell_above
 from .reasons import Why, why_request
 from .reasons import why as why_of
 from .selecting import Counted, Paths, beginnings, count_by, counted, find, selected
@@ -113,7 +113,8 @@ class Question:
         faces = {basis.face for basis in counts}
         has_posix = any(self.asker.stored[self.asker.faces[face].list].is_posix for face in faces)
         missing = f"; POSIX lists have no {mask_text(self.want.missing)}" if has_posix and self.want.missing else ""
-        above = "" if self.is_reach or not counts else "; directories above were not asked (--reach)"
+        above = "" if not counts else (root_note(self.asker) if self.is_reach else
+                                       "; directories above were not asked (--reach)")
         where = f"; {beginnings(self.asker.snapshot)}" if self.glob is not None and not counts else ""
         return f"{what}: {tally.line()}{where}{missing}{left_out(self.asker, faces)}{self._linux(counts)}{above}"
 
@@ -170,6 +171,8 @@ def who(args: argparse.Namespace) -> int:
     objects = sum(one.objects for one in counts.values())
     what = f"{plural(objects, 'object')}, {plural(len(people), 'person').replace('persons', 'people')}"
     out.note(question.last_line(what, tally, {basis: one.objects for basis, one in counts.items()}))
+    if args.reach:
+        tell_above(question.asker)
     return status_of(tally.status(), snapshot)
 
 
@@ -238,6 +241,8 @@ def may(args: argparse.Namespace) -> int:
     for basis, count in counts.items():
         tally.add(answers[basis][0].value, count)
     out.note(question.last_line(plural(sum(counts.values()), "object"), tally, counts))
+    if args.reach:
+        tell_above(asker)
     return status_of(tally.status(), snapshot)
 
 
@@ -287,16 +292,19 @@ def why(args: argparse.Namespace) -> int:
         if not isinstance(others, RefusedList) and args.form == "text" and any(
                 one.right == other.right and one.answer is not other.answer for one in found for other in others):
             out.note("Linux answers otherwise, because the mask is empty (--linux)")
-    stop = _stopped(asker, tree, path, person)
+    stop, is_root = stopped(asker, tree, path, person)
+    tell_above(asker, [tree.tree])
+    if is_root and args.form == "text":
+        out.note(f"{quoted(person.name)} is counted as root: it gets past each directory with a POSIX list or a mode")
     if stop:
         at, one = stop
         verb = "stops" if one.answer is DENIED else "may stop"
         if args.form == "text":
             place = "" if one.place is None else f" {one.place}"
-            out.note(f"{naming.name(tree, at).words()} {verb} {quoted(person.name)}: {one.right} {one.answer.value}"
+            out.note(f"{name._replace(path=at).words()} {verb} {quoted(person.name)}: {one.right} {one.answer.value}"
                      f"{place}: {one.text}")
         else:
-            out.put(_why_row(one, name.host, tree.full(at)))
+            out.put(_why_row(one, name.host, at))
     answers = {one.answer for one in found} | ({stop[1].answer} if stop else set())
     is_known = answers.isdisjoint((UNKNOWN, Answer.REFUSED))
     return status_of(REFUSED if not is_known else NO if DENIED in answers else YES, snapshot)
@@ -310,34 +318,6 @@ def _why_row(one: Why, host: Optional[str], directory: Optional[bytes]) -> Row:
     return {"right": one.right, "answer": one.answer.value, "place": one.place, "decided_by": one.text,
             "directory": None if directory is None else os.fsdecode(directory),
             **({} if host is None else {"host": host})}
-
-
-def _stopped(asker: Asker, tree: Tree, path: bytes, person: Person) -> Optional[Tuple[bytes, Why]]:
-    """Returns the path below the root of the first directory from the root down that does not let a person pass, and
-    what decides that there: one that denies it, or else one of which it is not known."""
-    unsure: Optional[Tuple[bytes, Why]] = None
-    for directory in _above(path):
-        known = asker.snapshot.find(tree.tree, directory)
-        found = why_of(asker, asker.faces[known[2]], person) if known else RefusedList("not in the snapshot")
-        if isinstance(found, RefusedList):
-            one = Why("EXECUTE", UNKNOWN, None, found.reason)
-        else:
-            one = next(one for one in found if one.right in ("EXECUTE", "x"))
-        if one.answer is DENIED:
-            return directory, one
-        if one.answer is UNKNOWN and not unsure:
-            unsure = directory, one
-    return unsure
-
-
-def _above(path: bytes) -> Iterator[bytes]:
-    """Yields the paths of the directories above an object, below the root of its tree, from the root down."""
-    if path:
-        yield b""
-    at = path.find(b"/")
-    while at >= 0:
-        yield path[:at]
-        at = path.find(b"/", at + 1)
 
 
 def _is_asked(right: str, want: Want) -> bool:

@@ -133,6 +133,11 @@ class Reader:
         self._mounts_met = Mounts()
 
     @property
+    def root_handle(self) -> int:
+        """The handle of the root, which this reader closes."""
+        return self._root_handle
+
+    @property
     def root(self) -> Directory:
         """The root of the tree."""
         return self._root
@@ -263,13 +268,13 @@ class Reader:
     def _keep(self, handle: int, now: int, status: os.stat_result, path: bytes, mount: bytes, result: Result) -> None:
         self._mounts[status.st_dev] = min(self._mounts.get(status.st_dev, mount), mount)
         kind = _KINDS.get(stat.S_IFMT(status.st_mode), "?")
-        status, (stored, other) = at_one_time(handle, lambda found: self._stored(handle, found, path), (now, status),
+        status, (stored, other) = at_one_time(handle, lambda found: self.read_list(handle, found, path), (now, status),
                                               self._patience.wait)
         result.found.append(Found(path, kind, stat.S_IMODE(status.st_mode), status.st_uid, status.st_gid, stored))
         if other:
             result.others.append((path, other))
 
-    def _stored(self, handle: int, status: os.stat_result, path: bytes) -> Tuple[StoredList, Optional[str]]:
+    def read_list(self, handle: int, status: os.stat_result, path: bytes) -> Tuple[StoredList, Optional[str]]:
         """Returns the list of an object, and what says that it has another list, which is not read."""
         place = b"/proc/self/fd/%d" % handle  # which leads to the object that the handle has, and not by its name
         names = _names(place)

@@ -21,7 +21,7 @@ from .lists import Asked, Kind, RefusedList
 from .page import page
 from .people import HIGHEST_ID, Person, stranger_of
 from .policies import read_policy
-from .reach import reached
+from .reach import reached, tell_above
 from .rows import NAMED, Cells, Level, Name, Rows, level_by, level_of, name_of, questions_of
 from .selecting import Paths, beginnings
 from .snapshot import Face, Snapshot
@@ -306,6 +306,8 @@ def report(args: argparse.Namespace) -> int:
     asker = asker_of(args, snapshot, people_of(args, snapshot))
     policy = Policy(asker, rules) if rules else None
     made = Report(asker, args.path, args.reach, policy)
+    if args.reach:
+        tell_above(asker)
     # with --path, rules may be about other objects
     has_empty = policy is not None and args.path is None and tell_slips(args.policy, asker, policy)
     if not made.folders + made.files:

@@ -10,6 +10,7 @@ from concurrent.futures import FIRST_COMPLETED, Future, ThreadPoolExecutor, wait
 from typing import Dict, Iterator, List, Optional, Set, Tuple
 
 from . import VERSION, accounts, others
+from .above import read_above
 from .errors import TreeError
 from .handles import Directory
 from .portions import MIXED
@@ -55,8 +56,8 @@ class Scan:
         self._left_out: Optional[bytes] = None  # the first path that the snapshot has no room for
         self._others: Dict[str, Tuple[int, bytes]] = {}  # by the kind of list: how many objects, and the first
         self.errors = 0
-        typed, place = os.path.normpath(root), os.path.realpath(root)
-        self.tree = writer.add_tree(Tree(0, options.host, typed, place, utc_now(), None, False, VERSION, 0))
+        typed, self._place = os.path.normpath(root), os.path.realpath(root)
+        self.tree = writer.add_tree(Tree(0, options.host, typed, self._place, utc_now(), None, False, VERSION, 0))
         if self._is_portion():
             writer.add_portion(self.tree, options.portion())
 
@@ -72,6 +73,7 @@ class Scan:
         """Walks the tree. If Ctrl-C ends it early, what was found until then is kept, and is not marked as whole."""
         whole = False
         try:
+            self._writer.add_above(self.tree, read_above(self._place, self._reader.root.identity, self._options))
             self._begin()
             self._walk()
             self._tasks = [Check(self._listed[at:at + _AT_ONCE]) for at in range(0, len(self._listed), _AT_ONCE)]

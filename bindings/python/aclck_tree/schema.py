@@ -15,6 +15,9 @@ PORTIONS = 2
 KINDS = 3
 """The version of a snapshot whose lists may be of the kinds that came later."""
 
+ABOVE = 4
+"""The version of a snapshot with the directories above the roots of trees."""
+
 APPLICATION = 0x61636C6B  # "aclk"
 
 LEAST_ROW = 4
@@ -41,6 +44,7 @@ def _word(*words: str) -> _Column:
 
 _KEY = _number(1, 2**53, "INTEGER PRIMARY KEY")
 _ID = _number(0, 2**32 - 1)
+_MAY_BE_ID = _Column("INTEGER", f"{{0}} IS NULL OR {_ID.condition}")
 _FLAG = _number(0, 1)
 _NO_NUL = "NOT instr({0}, x'00')"
 _NAME = _Column("BLOB NOT NULL", f"typeof({{0}}) = 'blob' AND {_NO_NUL}")
@@ -82,6 +86,13 @@ PORTION_TABLES: Dict[str, Dict[str, _Column]] = {
 }
 """The tables that a snapshot with portions of trees has in addition."""
 
+ABOVE_TABLES: Dict[str, Dict[str, _Column]] = {
+    "above": {"tree": _TREE, "path": _NAME, "uid": _MAY_BE_ID, "gid": _MAY_BE_ID,
+              "kind": _Column("TEXT", "{0} IS NULL OR {0} IN ('nfs4', 'posix', 'mode', 'accounts', 'refused')"),
+              "mode": _number(0, 0o777), "access": _BYTES, "dflt": _BYTES, "message": _MAY_BE_TEXT},
+}
+"""The table that a snapshot with directories above the roots of trees has in addition."""
+
 _BOTH = """CASE kind WHEN 'nfs4' THEN access IS NOT NULL AND dflt IS NULL
                      WHEN 'mode' THEN access IS NULL AND dflt IS NULL
                      WHEN 'accounts' THEN access IS NOT NULL AND dflt IS NULL
@@ -89,11 +100,16 @@ _BOTH = """CASE kind WHEN 'nfs4' THEN access IS NOT NULL AND dflt IS NULL
                      ELSE access IS NOT NULL OR dflt IS NOT NULL END"""
 """The condition for the two attributes of a list."""
 
-_ROWS = {"lists": _BOTH, "portions": "shard BETWEEN 1 AND shards OR shard = 0 AND shards = 0"}
+_ABOVE = (f"CASE WHEN message IS NULL THEN uid IS NOT NULL AND gid IS NOT NULL AND kind IS NOT NULL AND ({_BOTH}) "
+          "ELSE uid IS NULL AND gid IS NULL AND kind IS NULL AND access IS NULL AND dflt IS NULL END")
+"""The condition for a directory above a root: it has an owner, a group and a list, or else a message that says why
+not."""
+
+_ROWS = {"lists": _BOTH, "portions": "shard BETWEEN 1 AND shards OR shard = 0 AND shards = 0", "above": _ABOVE}
 """The conditions for several values of a row."""
 
 SCHEMA = {**{name: f"CREATE TABLE {name} ({', '.join(f'{one} {is_a.declaration}' for one, is_a in columns.items())})"
-             for name, columns in {**TABLES, **PORTION_TABLES}.items()},
+             for name, columns in {**TABLES, **PORTION_TABLES, **ABOVE_TABLES}.items()},
           "objects_by_path": "CREATE INDEX objects_by_path ON objects (tree, path)"}
 
 Rows = Callable[[str], Iterator[Any]]
@@ -105,10 +121,11 @@ _LATER = {**TABLES["lists"], "kind": _word("nfs4", "posix", "mode", "accounts", 
 
 
 class Judged(NamedTuple):
-    """The number of objects of a snapshot, and whether it has portions of trees."""
+    """The number of objects of a snapshot, and whether it has portions of trees, and directories above them."""
 
     objects: int
     has_portions: bool
+    has_above: bool
 
 
 def judge(place: str, rows: Rows, size: int) -> Judged:
@@ -117,19 +134,22 @@ def judge(place: str, rows: Rows, size: int) -> Judged:
         "application_id", "user_version", "encoding"))
     if application != APPLICATION:
         raise TreeError(f"{place}: no snapshot of aclck-tree")
-    if version not in (FORMAT, PORTIONS, KINDS):
-        age = "a newer" if version > KINDS else "no"
-        raise TreeError(f"{place}: format {version} of {age} aclck-tree; formats {FORMAT} to {KINDS} are read")
+    if version not in (FORMAT, PORTIONS, KINDS, ABOVE):
+        age = "a newer" if version > ABOVE else "no"
+        raise TreeError(f"{place}: format {version} of {age} aclck-tree; formats {FORMAT} to {ABOVE} are read")
     if encoding != "UTF-8":
         raise TreeError(f"{place}: text in it is not UTF-8")
-    has_portions = version >= PORTIONS
+    has_portions, has_above = version >= PORTIONS, version >= ABOVE
     for name, sql in rows("SELECT name, sql FROM sqlite_master"):  # also views, triggers, and virtual tables
         if " ".join(str(sql).split()) != SCHEMA.get(name):
             raise TreeError(f"{place}: no snapshot: its tables are not those of a snapshot")
         if name in PORTION_TABLES and not has_portions:
             raise TreeError(f"{place}: no snapshot: a snapshot of whole trees has no table {name}")
-    objects = _judge_values(place, rows, size, {**TABLES, **({"lists": _LATER} if version == KINDS else {}),
-                                                **(PORTION_TABLES if has_portions else {})})
+        if name in ABOVE_TABLES and not has_above:
+            raise TreeError(f"{place}: no snapshot: an older snapshot has no table {name}")
+    objects = _judge_values(place, rows, size, {**TABLES, **({"lists": _LATER} if version >= KINDS else {}),
+                                                **(PORTION_TABLES if has_portions else {}),
+                                                **(ABOVE_TABLES if has_above else {})})
     # The signs make SQLite read all of the index. A path that is there twice counts once.
     query = ("SELECT COUNT(*) FROM (SELECT DISTINCT tree, path FROM objects INDEXED BY objects_by_path WHERE "
              f"{_TREE.condition.format('+tree')} AND "
@@ -137,7 +157,7 @@ def judge(place: str, rows: Rows, size: int) -> Judged:
     if next(rows(query))[0] != objects:
         raise TreeError(f"{place}: damaged: the index does not fit the objects, or a path is there twice or is one that "
                         "no scan writes")
-    return Judged(objects, has_portions)
+    return Judged(objects, has_portions, has_above)
 
 
 def _judge_values(place: str, rows: Rows, size: int, tables: Dict[str, Dict[str, _Column]]) -> int:

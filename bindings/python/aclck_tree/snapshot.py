@@ -19,8 +19,13 @@ The tables:
   other columns say how the tree was cut, and must be equal in snapshots that are joined.
 - `devices`: what the scan of a portion found out about each file system (`portions.Device`).
 
-The version of this layout is in `PRAGMA user_version`: 3 if a list may be of a kind that came later, 2 if there are
-`portions` and `devices`, and 1 if these two tables are absent. A newer version is refused, with a message that says so.
+- `above`: the directories above the root of each tree from `/` down, each with its owner, its group and its list as
+  `lists` has it, or with a message that says why these are not known. A tree that has none of them was scanned by an
+  older program, or is `/` or an archive.
+
+The version of this layout is in `PRAGMA user_version`: 4 if there is the table `above`, 3 if a list may be of a kind
+that came later, 2 if there are `portions` and `devices`, and 1 if these two tables are absent. A newer version is
+refused, with a message that says so.
 """
 
 from __future__ import annotations
@@ -28,13 +33,14 @@ from __future__ import annotations
 import enum
 import functools
 import hashlib
+import itertools
 import os
 import sqlite3
 import stat
 import sys
 import urllib.parse
 from dataclasses import dataclass
-from typing import Any, Dict, Iterator, Optional, Sequence, Set, Tuple
+from typing import Any, Dict, Iterator, List, Optional, Sequence, Set, Tuple
 
 from .errors import TreeError
 from .portions import Device, Portion
@@ -148,6 +154,18 @@ class Found:
     stored: StoredList
 
 
+@dataclass(frozen=True)
+class Above:
+    """A directory above the root of a tree: its path from `/`, its owner, its group and its list, or the reason why
+    these are not known."""
+
+    path: bytes
+    uid: int = 0
+    gid: int = 0
+    stored: Optional[StoredList] = None
+    message: str = ""
+
+
 Account = Tuple[int, bool, int, bytes]  # tree, whether it is a group, id, name
 
 Parts = Tuple[Dict[int, StoredList], Dict[int, Face]]
@@ -174,7 +192,7 @@ class Snapshot:
         self.allow_work(self._size)
         for line in ("trusted_schema = OFF", "cell_size_check = ON"):
             self._db.execute(f"PRAGMA {line}")
-        self.count, self._has_portions = judge(place, self._rows, self._size)
+        self.count, self._has_portions, self._has_above = judge(place, self._rows, self._size)
         rows = self._rows("SELECT * FROM trees ORDER BY tree")
         self.trees = {row[0]: Tree(row[0], row[1], row[2], row[3], row[4], row[5], bool(row[6]), row[7], row[8])
                       for row in rows}
@@ -231,9 +249,34 @@ class Snapshot:
         return {row[0]: StoredList(ListForm(row[1]), *row[2:]) for row in self._rows("SELECT * FROM lists")}
 
     def posix_lists(self) -> Iterator[Optional[bytes]]:
-        """Yields the attributes of all POSIX lists."""
+        """Yields the attributes of all POSIX lists, also of directories above the roots of trees."""
         for row in self._rows("SELECT access, dflt FROM lists WHERE kind = 'posix'"):
             yield from row
+        for one in itertools.chain.from_iterable(self._above.values()):
+            if one.stored and one.stored.kind == ListForm.POSIX:
+                yield from (one.stored.access, one.stored.default)
+
+    def nfs_lists(self) -> Iterator[StoredList]:
+        """Yields all NFSv4 lists, also of directories above the roots of trees."""
+        above = (one.stored for one in itertools.chain.from_iterable(self._above.values()) if one.stored)
+        return (one for one in itertools.chain(self.lists().values(), above) if one.is_nfs)
+
+    def above(self, tree: int) -> Optional[List[Above]]:
+        """Returns the directories above the root of a tree, from `/` down, or None if the scan did not ask them."""
+        found = self._above.get(tree)
+        return found or ([] if self._has_above and self.trees[tree].place == b"/" else None)
+
+    @functools.cached_property
+    def _above(self) -> Dict[int, List[Above]]:
+        found: Dict[int, List[Above]] = {}
+        query = "SELECT tree, path, uid, gid, kind, mode, access, dflt, message FROM above ORDER BY tree, length(path)"
+        for tree, path, uid, gid, kind, *values, message in self._rows(query) if self._has_above else ():
+            stored = None if kind is None else StoredList(ListForm(kind), *values)
+            found.setdefault(tree, []).append(Above(path, uid or 0, gid or 0, stored, message or ""))
+        for tree, held in found.items():
+            if not are_above(self.trees[tree].place, [one.path for one in held]):
+                raise TreeError(f"{self.place}: damaged: the directories above a tree are others than its path has")
+        return found
 
     def is_posix(self, number: int) -> bool:
         """Whether a list is a POSIX list or a mode."""
@@ -312,6 +355,18 @@ class Snapshot:
         self.allow_work(self._size + later._size)
         self._db.execute("ATTACH ? AS later", (uri(later.place, READ_ONLY),))
         return self._db
+
+
+def are_above(place: bytes, paths: Sequence[bytes]) -> bool:
+    """Whether some paths are those of all directories above a place, from `/` down."""
+    if place == b"/" or len(paths) != place.count(b"/"):
+        return False
+    at = 0
+    for path in paths:
+        if path != (place[:at] or b"/"):
+            return False
+        at = place.find(b"/", at + 1)
+    return True
 
 
 def uri(place: str, options: str) -> str:

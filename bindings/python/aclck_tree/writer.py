@@ -13,8 +13,8 @@ from . import others
 from .errors import DeviceError
 from .files import EXCHANGED, Part, refuse_what_is_no_file
 from .portions import Device, Portion
-from .schema import APPLICATION, FORMAT, KINDS, PORTION_TABLES, PORTIONS, SCHEMA, TABLES
-from .snapshot import Account, Found, ListForm, Snapshot, Tree, uri
+from .schema import ABOVE, ABOVE_TABLES, APPLICATION, FORMAT, KINDS, PORTION_TABLES, PORTIONS, SCHEMA, TABLES
+from .snapshot import Above, Account, Found, ListForm, Snapshot, Tree, uri
 
 
 class Writer:
@@ -58,12 +58,23 @@ class Writer:
 
     def _raise_version(self, version: int) -> None:
         """Makes the snapshot one of at least some version, which is a later one than `FORMAT`."""
-        if self._version == FORMAT:
-            for name in PORTION_TABLES:
-                self._db.execute(SCHEMA[name])
+        tables = PORTION_TABLES if self._version == FORMAT else {}
+        for name in {**tables, **(ABOVE_TABLES if self._version < ABOVE <= version else {})}:
+            self._db.execute(SCHEMA[name])
         if self._version < version:
             self._version = version
             self._db.execute(f"PRAGMA user_version = {version}")
+
+    def add_above(self, tree: int, directories: Optional[Sequence[Above]]) -> None:
+        """Records the directories above the root of a tree, from `/` down, or nothing if they were not asked."""
+        if directories is None:
+            return
+        self._raise_version(ABOVE)
+        for one in directories:
+            values = ((one.uid, one.gid, one.stored.kind, one.stored.mode, one.stored.access, one.stored.default, None)
+                      if one.stored else (None, None, None, 0, None, None, _bytes(one.message)))
+            self._db.execute("INSERT INTO above VALUES (?, ?, ?, ?, ?, ?, ?, ?, CAST(? AS TEXT))",
+                             (tree, one.path, *values))
 
     def add_devices(self, tree: int, devices: Iterable[Device]) -> None:
         """Records what the scan of a portion found out about file systems."""
@@ -112,14 +123,20 @@ class Writer:
 
     def seen_ids(self, tree: int) -> Tuple[List[int], List[int]]:
         """Returns the ids of the owners and of the groups of a tree."""
-        both = [[row[0] for row in self._db.execute(f"SELECT DISTINCT {column} FROM faces WHERE tree = ?", (tree,))]
+        both = [{row[0] for table in self._with_lists("faces") for row in self._db.execute(
+            f"SELECT DISTINCT {column} FROM {table} WHERE tree = ? AND {column} IS NOT NULL", (tree,))}
                 for column in ("uid", "gid")]
-        return both[0], both[1]
+        return sorted(both[0]), sorted(both[1])
+
+    def _with_lists(self, table: str) -> List[str]:
+        """Returns a table, and with it that of the directories above the roots of trees if there is one."""
+        return [table, "above"] if self._version >= ABOVE else [table]
 
     def posix_lists(self) -> Iterator[Optional[bytes]]:
         """Yields the attributes of all POSIX lists."""
-        for row in self._db.execute("SELECT access, dflt FROM lists WHERE kind = 'posix'"):
-            yield from row
+        for table in self._with_lists("lists"):
+            for row in self._db.execute(f"SELECT access, dflt FROM {table} WHERE kind = 'posix'"):
+                yield from row
 
     def finish(self) -> None:
         """Makes the file whole."""
@@ -152,6 +169,7 @@ def merge(writer: Writer, snapshot: Snapshot) -> None:
         found = snapshot.objects_of(tree, parts)
         for first in found:
             writer.add_objects(number, [first, *itertools.islice(found, 999)])
+        writer.add_above(number, snapshot.above(tree))
     writer.add_names((numbers[tree], is_group, number, name) for tree, is_group, number, name in snapshot.names())
     writer.add_members((numbers[tree], user, group) for tree, user, group in snapshot.members())
     for tree, path, step, message in snapshot.errors():
