@@ -1,5 +1,5 @@
-"""Reads the directories above the root of a tree: each is opened from the one above it, by one name that is not followed
-if it is a link."""
+"""Reads the directories above the root of a tree: each is opened from the one above it, by one name, and a link is never
+followed."""
 
 from __future__ import annotations
 
@@ -20,8 +20,7 @@ _MOST_READINGS = 10
 
 
 def read_above(place: bytes, root: Tuple[int, int], options: Options) -> List[Above]:
-    """Returns the directories above a place, from `/` down. `root` is the device and the inode of what was opened there.
-    If a directory cannot be read, or another object is at the place now, the message says so."""
+    """Returns the directories above a place, from `/` down. `root` is the device and inode of what was opened there. If a directory cannot be read, or another object is at the place now, the message says so."""
     names = place.split(b"/")[1:] if place != b"/" else []
     reader = Reader(b"/", options)
     handle = os.dup(reader.root_handle)

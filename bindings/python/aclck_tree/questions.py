@@ -17,7 +17,7 @@ from .commands import Tally, asker_of, opened, people_of, person_of, status_of
 from .errors import NO, REFUSED, YES
 from .lists import Asked, Kind, RefusedList
 from .people import Person
-from .reach import reached, root_note, stopped, tell_above
+from .reach import AS_ROOT, reached, root_note, stopped, tell_above
 from .reasons import Why, why_request
 from .reasons import why as why_of
 from .selecting import Counted, Paths, beginnings, count_by, counted, find, selected
@@ -295,7 +295,7 @@ def why(args: argparse.Namespace) -> int:
     stop, is_root = stopped(asker, tree, path, person)
     tell_above(asker, [tree.tree])
     if is_root and args.form == "text":
-        out.note(f"{quoted(person.name)} is counted as root: it gets past each directory with a POSIX list or a mode")
+        out.note(f"{quoted(person.name)} is counted as root: {AS_ROOT}")
     if stop:
         at, one = stop
         verb = "stops" if one.answer is DENIED else "may stop"

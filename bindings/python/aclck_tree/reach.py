@@ -1,5 +1,5 @@
-"""Who gets past the directories above an object: each directory from `/` down must grant EXECUTE (x). A user with the id
-0 gets past each directory with a POSIX list or a mode, as on Linux (capabilities(7), CAP_DAC_READ_SEARCH)."""
+"""Who gets past the directories above an object: each directory from `/` down must grant EXECUTE (x). A user with the
+id 0 gets past each directory with a POSIX list or a mode, as on Linux (capabilities(7), CAP_DAC_READ_SEARCH)."""
 
 from __future__ import annotations
 
@@ -17,6 +17,10 @@ from .text import plural, quoted, quoted_line, quoted_path, tell
 
 _SHOWN = 5
 """How many directories a line names; it counts the others."""
+
+
+AS_ROOT = "it gets past each directory with a POSIX list or a mode"
+"""What is said of root."""
 
 
 @functools.lru_cache(maxsize=None)
@@ -100,12 +104,13 @@ def tell_above(asker: Asker, trees: Optional[Sequence[int]] = None) -> None:
              f"{', '.join(shown[:_SHOWN])}{more}")
     if None in found:
         of_some = f" of {plural(found.count(None), 'tree')}" if len(found) > 1 else ""
-        tell(f"{quoted(asker.snapshot.place)}: the directories above the root{of_some} were not asked when it was scanned")
+        tell(f"{quoted(asker.snapshot.place)}: the directories above the root{of_some} were not asked when it was "
+             "scanned")
 
 
 def stopped(asker: Asker, tree: Tree, path: bytes, person: Person) -> Tuple[Optional[Tuple[bytes, Why]], bool]:
-    """Returns the first directory from `/` down that does not let the only one of the people pass, and what decides that
-    there: one that denies it, or else one of which it is not known. Returns also whether the person gets past another
+    """Returns the first directory from `/` down that does not let the only one of the people pass, and what decides
+    that there: one that denies it, or else one of which it is not known. Returns also whether the person gets past another
     one only as root."""
     unsure: Optional[Tuple[bytes, Why]] = None
     is_root = False
@@ -137,4 +142,4 @@ def root_note(asker: Asker) -> str:
     trees = {face.tree for face in asker.faces.values() if asker.stored[face.list].is_posix}
     trees.update(tree for tree in asker.snapshot.trees for one in asker.snapshot.above(tree) or ()
                  if one.stored and one.stored.is_posix)
-    return "; root is counted as root: it gets past each directory with a POSIX list or a mode" if any(map(asker.roots, trees)) else ""
+    return f"; root is counted as root: {AS_ROOT}" if any(map(asker.roots, trees)) else ""
