@@ -147,6 +147,7 @@ class _Check:
         self.naming = Naming(asker.snapshot)
         self.counts: Dict[str, int] = {}
         self._known: Dict[_Key, List[_Found]] = {}
+        self._kept = 0  # how many answers are known
 
     def keys(self) -> Iterator[Tuple[_Key, int, bytes]]:
         """Yields the key of each object, its tree and its path."""
@@ -166,9 +167,11 @@ class _Check:
     def found(self, key: _Key) -> List[_Found]:
         """Returns what is found about the objects of a key, for each rule that applies to them."""
         if key not in self._known:
-            if len(self._known) > _MOST_KNOWN:
-                self._known.clear()
             face, is_directory, applied = key
+            self._kept += len(applied)
+            if self._kept > _MOST_KNOWN:
+                self._kept = len(applied)
+                self._known.clear()
             rows = [(one, self.policy.breaches(one.rule, face, is_directory)) for one in applied]
             self._known[key] = [
                 _Found(_KEPT if not breaches else verdict_of(breaches).value if one.exemption is None else _EXCEPTED,

@@ -11,8 +11,9 @@ from __future__ import annotations
 import fnmatch
 import os
 import re
-from typing import Dict, FrozenSet, Iterable, List, NamedTuple, Pattern, Sequence, Tuple
+from typing import Dict, FrozenSet, Iterable, List, NamedTuple, Sequence, Tuple
 
+from .names import Names
 from .snapshot import Snapshot
 
 ANY_PARTS = "**"
@@ -20,8 +21,8 @@ ANY_PARTS = "**"
 MOST_LETTERS = 1000
 """How many characters a part of a pattern may have. The names of files have 255 bytes."""
 
-_AT_ONCE = 4
-"""From how many patterns on it is asked at once whether a name matches any of them."""
+MOST_PARTS = 1000
+"""How many parts a pattern may have."""
 
 
 class PathPattern(NamedTuple):
@@ -35,6 +36,8 @@ def path_pattern(text: str) -> PathPattern:
     """Reads a pattern. Raises ValueError, with the reason, if it is none."""
     is_absolute = text.startswith("/")
     parts = tuple(text[1:].split("/")) if is_absolute and text != "/" else () if is_absolute else tuple(text.split("/"))
+    if len(parts) > MOST_PARTS:
+        raise ValueError(f"the path has more than {MOST_PARTS:,} parts")
     for part in parts:
         if part in ("", ".", ".."):
             raise ValueError(f"a part of the path is {part!r}")
@@ -44,7 +47,7 @@ def path_pattern(text: str) -> PathPattern:
             raise ValueError("** is not a whole part of the path")
         if len(part) > MOST_LETTERS:
             raise ValueError(f"a part of the path has more than {MOST_LETTERS:,} characters")
-        _compiled(part)
+        _judge(part)
     # two of these parts mean the same as one
     kept = tuple(part for before, part in zip(("", *parts), parts) if not before == part == ANY_PARTS)
     return PathPattern(kept, is_absolute)
@@ -54,10 +57,10 @@ def _is_glob(part: str) -> bool:
     return not set(part).isdisjoint("*?[")
 
 
-def _compiled(part: str) -> Pattern[str]:
-    """Returns what matches a part. Raises ValueError if it has brackets with characters in the wrong order."""
+def _judge(part: str) -> None:
+    """Raises ValueError if a part has brackets with characters in the wrong order."""
     try:
-        return re.compile(fnmatch.translate(part))
+        re.compile(fnmatch.translate(part))
     except re.error as error:
         raise ValueError(f"{part!r} is no pattern: {error}") from None
 
@@ -70,20 +73,22 @@ class _State:
     `always` is what is matched after one more name, whatever the name is, and `after` keeps what is matched then by
     what else the name matches."""
 
-    def __init__(self, patterns: Sequence[PathPattern], positions: FrozenSet[_Position]) -> None:
+    def __init__(self, patterns: Sequence[PathPattern], positions: FrozenSet[_Position],
+                 known: Dict[Tuple[str, ...], Names]) -> None:
+        """`known` keeps what matches the same parts at another path."""
         self.positions = positions
+        self._known = known
         self.matched = tuple(sorted({number for number, at in positions if at == len(patterns[number].parts)}))
         self.always: List[_Position] = []
         self.after: Dict[Tuple[_Position, ...], _State] = {}
         self._literals: Dict[bytes, List[_Position]] = {}
         self._begins: Dict[int, Dict[bytes, List[_Position]]] = {}
         self._ends: Dict[int, Dict[bytes, List[_Position]]] = {}
-        self._globs: List[Tuple[Pattern[str], _Position]] = []
+        self._globs: Dict[str, List[_Position]] = {}
         for number, at in positions:
             if at < len(patterns[number].parts):
                 self._add(patterns[number].parts[at], number, at)
-        many = len(self._globs) >= _AT_ONCE
-        self._any = re.compile("|".join(one.pattern for one, _ in self._globs)) if many else None
+        self._parts = tuple(sorted(self._globs))
 
     def _add(self, part: str, number: int, at: int) -> None:
         if part == ANY_PARTS:
@@ -95,7 +100,7 @@ class _State:
         elif part[0] == "*" and not _is_glob(part[1:]):
             self._put(self._ends, part[1:], (number, at + 1))
         elif _is_glob(part):
-            self._globs.append((_compiled(part), (number, at + 1)))
+            self._globs.setdefault(part, []).append((number, at + 1))
         else:
             self._literals.setdefault(os.fsencode(part), []).append((number, at + 1))
 
@@ -110,10 +115,11 @@ class _State:
             found = found + begins.get(name[:size], _NOTHING)
         for size, ends in self._ends.items():
             found = found + ends.get(name[-size:], _NOTHING)
-        if self._globs:
-            text = os.fsdecode(name)
-            if self._any is None or self._any.match(text):
-                return [*found, *(position for glob, position in self._globs if glob.match(text))]
+        if self._parts:
+            if self._parts not in self._known:
+                self._known[self._parts] = Names(self._parts)
+            for place in self._known[self._parts].matched(os.fsdecode(name)):
+                found = found + self._globs[self._parts[place]]
         return found
 
 
@@ -122,11 +128,12 @@ _NOTHING: List[_Position] = []
 
 class Matcher:
     """Says which of many patterns match the objects of a snapshot. What is matched at a directory is kept for what is
-    in it, so an object costs one step, whatever the number of patterns."""
+    in it, so an object costs what its last name costs (`names.Names`), mostly whatever the number of patterns."""
 
     def __init__(self, snapshot: Snapshot, patterns: Sequence[PathPattern]) -> None:
         self._patterns = patterns
         self._states: Dict[FrozenSet[_Position], _State] = {}
+        self._names: Dict[Tuple[str, ...], Names] = {}
         self._roots: Dict[int, _State] = {}
         for number, tree in snapshot.trees.items():
             positions: List[_Position] = []
@@ -146,7 +153,7 @@ class Matcher:
                 closed.add((number, at + 1))
         key = frozenset(closed)
         if key not in self._states:
-            self._states[key] = _State(self._patterns, key)
+            self._states[key] = _State(self._patterns, key, self._names)
         return self._states[key]
 
     def _step(self, state: _State, name: bytes) -> _State:
@@ -160,6 +167,11 @@ class Matcher:
             if name not in (b"", b"."):
                 state = self._step(state, name)
         return state
+
+    @property
+    def steps(self) -> int:
+        """How many steps the patterns for parts of paths took so far."""
+        return sum(one.steps for one in self._names.values())
 
     def matched(self, tree: int, path: bytes, is_directory: bool) -> Tuple[int, ...]:
         """Returns the numbers of the patterns that match an object, in rising order. It is quick if the objects of a
