@@ -6,7 +6,7 @@ import functools
 import itertools
 from dataclasses import dataclass
 from enum import Enum
-from typing import AbstractSet, Dict, FrozenSet, List, NamedTuple, Optional, Sequence, Tuple, Union
+from typing import AbstractSet, Dict, List, NamedTuple, Optional, Sequence, Tuple, Union
 
 from aclck import (
     APPEND_DATA,
@@ -14,7 +14,6 @@ from aclck import (
     READ_DATA,
     WRITE_DATA,
     NfsAcl,
-    PosixAcl,
     Possible,
     Refused,
     Request,
@@ -29,6 +28,7 @@ from .errors import TreeError, UsageError
 from .identities import Identities, Identity, Ways, account_name, full_name
 from .lists import POSIX_MASKS, Asked, Kind, Ready, RefusedList, decoded, has_empty_mask, nfs_bytes, ready
 from .people import Person
+from .posix import at_once
 from .snapshot import Face, ListForm, Snapshot, StoredList
 
 
@@ -375,31 +375,5 @@ class Asker:
         found = asked.acl.granted_many(forms.requesters, owner=owner, group=group, mask=want.mask)
         granted = bits_of([one != 0 for one in found] if want.any else [one == want.mask for one in found])
         if asked.posix and not want.any and want.perms & (want.perms - 1):
-            granted = self._at_once(face, asked.posix, forms, granted & forms.known, want.perms)
+            granted = at_once(face, asked.posix, forms.identities, granted & forms.known, want.perms)
         return granted & forms.known, ~granted & forms.known
-
-    @staticmethod
-    def _at_once(face: Face, acl: PosixAcl, forms: _Forms, people: int, perms: int) -> int:
-        """Returns whom of some people a POSIX list grants several permissions at once, which one entry must have
-        (acl(5)). Each of these people has ids, and is granted each single permission.
-
-        Of the people of whom the list, the owner and the group of the object mention the same ids, the first is asked.
-        """
-        users, groups = ({str(number), *(str(one.id) for one in acl if one.tag == tag)} for tag, number in
-                         (("user", face.uid), ("group", face.gid)))
-        known: Dict[Tuple[str, FrozenSet[str]], bool] = {}
-        granted = [False] * len(forms.identities)
-        for place in chosen(range(len(granted)), people):
-            one = forms.identities[place]
-            assert one
-            key = one.user if one.user in users else "", frozenset(groups.intersection(one.groups))
-            if key not in known:
-                known[key] = check(acl, face, one, perms)
-            granted[place] = known[key]
-        return bits_of(granted)
-
-
-def check(acl: PosixAcl, face: Face, identity: Identity, perms: int) -> bool:
-    """Returns whether a POSIX list grants some permissions to a user and groups, which are ids in digits."""
-    return acl.check(user=int(identity.user), groups=map(int, identity.groups), owner=face.uid, group=face.gid,
-                     want=perms)

@@ -13,7 +13,7 @@ from typing import Callable, Dict, FrozenSet, Iterator, List, NamedTuple, Option
 
 from aclck import ALLOW, Ace, AceFlag, Difference, NfsAcl, mask_text
 
-from .ask import Asker, check
+from .ask import Asker
 from .compare import named_of
 from .creations import creations
 from .identities import Identity
@@ -21,6 +21,7 @@ from .limits import Limit, Limits, Unjudged, lacks, no_ids
 from .lists import POSIX_MASKS, Asked, Kind, RefusedList
 from .people import Person, read_id
 from .policies import Rule
+from .posix import check
 from .snapshot import Face
 from .text import quoted
 

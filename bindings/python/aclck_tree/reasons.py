@@ -6,10 +6,11 @@ from typing import Dict, Iterator, List, NamedTuple, Optional, Tuple, Union
 
 from aclck import ALL, ALLOW, Decision, mask_text
 
-from .ask import DENIED, GRANTED, UNKNOWN, Answer, Asker, Want, check
+from .ask import DENIED, GRANTED, UNKNOWN, Answer, Asker, Want
 from .identities import Identity
 from .lists import POSIX_MASKS, Asked, Kind, RefusedList
 from .people import Person
+from .posix import check
 from .snapshot import Face
 from .text import quoted
 
