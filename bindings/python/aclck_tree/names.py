@@ -39,8 +39,8 @@ def tokens_of(pattern: str) -> List[_Token]:
 
 
 class _Loops:
-    """The stars that were met, which stand for any letters. `letters` says what is matched with the letter behind one of
-    them, and `others` are the positions behind them of what is no letter."""
+    """The stars that were met, which stand for any letters. `letters` says what is matched with the letter behind one
+    of them, and `others` are the positions behind them of what is no letter."""
 
     def __init__(self, stars: FrozenSet[_Position], tokens: Sequence[Sequence[_Token]]) -> None:
         self.stars = stars
