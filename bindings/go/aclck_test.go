@@ -269,7 +269,7 @@ func TestPosixEntriesHaveForms(t *testing.T) {
 		}
 	}
 	_, err = EntriesCheck([]Entry{entries[1], entries[0]}, PosixQuestion{})
-	refused(t, err, 31, 0)
+	refused(t, err, 31, 1)
 	_, err = PosixCheck(text, []Name{names[0], names[0]}, PosixQuestion{})
 	if err != ErrArgument {
 		t.Errorf("of a name with two ids: %v", err)
