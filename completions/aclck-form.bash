@@ -11,7 +11,7 @@ _aclck_form() {
             compopt -o default 2> /dev/null  # bash itself offers files: a name can have several lines
             return ;;
         --drop) forms='flags access default' ;;
-        --flags) forms='none AUTO_INHERIT PROTECTED DEFAULTED' ;;
+        --flags) forms='none AUTO_INHERIT PROTECTED DEFAULTED IS_TRIVIAL IS_DIR' ;;
         --mode | --domain) return ;;
     esac
     [[ $current != -* ]] || forms=$options

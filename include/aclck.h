@@ -194,8 +194,14 @@ enum aclck_flag {
     ACLCK_INHERITED = 0x80
 };
 
-/* Flags of a whole list (RFC 8881, section 6.2.2). */
-enum aclck_acl_flag { ACLCK_AUTO_INHERIT = 1, ACLCK_PROTECTED = 2, ACLCK_DEFAULTED = 4 };
+/* Flags of a whole list (RFC 8881, section 6.2.2). OpenZFS sets the last two in the same word. */
+enum aclck_acl_flag {
+    ACLCK_AUTO_INHERIT = 0x1,
+    ACLCK_PROTECTED = 0x2,
+    ACLCK_DEFAULTED = 0x4,
+    ACLCK_IS_TRIVIAL = 0x10000,
+    ACLCK_IS_DIR = 0x20000
+};
 
 /* Forms in which other systems keep or print a list (docs/c.md). */
 enum aclck_form {
@@ -729,7 +735,7 @@ enum aclck_status aclck_read_part(aclck_bytes value, enum aclck_form form, aclck
    *needed. ACLCK_REFUSED also where the form cannot hold the list or the flags. Where it can, aclck_read_form() reads
    the value as the same flags and list; only in the texts of nfs4_getfacl does GROUP@ get the flag IDENTIFIER_GROUP,
    and in the text of FreeBSD does each special identifier lose it. It has no effect there. ACLCK_BAD_ARGUMENT also
-   where `flags` is above 7. ACLCK_DONE (`out`, *needed), ACLCK_SHORT (*needed). */
+   where `flags` has another bit. ACLCK_DONE (`out`, *needed), ACLCK_SHORT (*needed). */
 ACLCK_CALL ACLCK_WRITES(5) ACLCK_WRITES(6)
 enum aclck_status aclck_write_form(aclck_bytes acl, enum aclck_form form, uint32_t flags, aclck_buffer out,
                                    size_t *needed, aclck_fault *fault);

@@ -47,11 +47,14 @@ class TextStyle(enum.IntFlag):
 
 
 class ListFlag(enum.IntFlag):
-    """The flags of a whole list (section 6.2.2). A set of flags is equal to its number, and is written as it."""
+    """The flags of a whole list (section 6.2.2). OpenZFS sets the last two in the same word. No flag changes what the
+    list grants. A set of flags is equal to its number, and is written as it."""
 
-    AUTO_INHERIT = 1
-    PROTECTED = 2
-    DEFAULTED = 4
+    AUTO_INHERIT = 0x1
+    PROTECTED = 0x2
+    DEFAULTED = 0x4
+    IS_TRIVIAL = 0x10000
+    IS_DIR = 0x20000
 
     def __str__(self) -> str:
         return str(self.value)

@@ -60,7 +60,7 @@ impl BitOr for TextStyle {
     }
 }
 
-/// Flags of a whole list (RFC 8881, section 6.2.2).
+/// Flags of a whole list (RFC 8881, section 6.2.2). OpenZFS sets the last two in the same word.
 #[derive(Clone, Copy, Debug, Default, PartialEq, Eq)]
 pub struct ListFlags(u32);
 
@@ -69,6 +69,8 @@ impl ListFlags {
     pub const AUTO_INHERIT: ListFlags = ListFlags(1);
     pub const PROTECTED: ListFlags = ListFlags(2);
     pub const DEFAULTED: ListFlags = ListFlags(4);
+    pub const IS_TRIVIAL: ListFlags = ListFlags(0x10000);
+    pub const IS_DIR: ListFlags = ListFlags(0x20000);
 
     /// Returns the number of the set.
     pub fn bits(self) -> u32 {

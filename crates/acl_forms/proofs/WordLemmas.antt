@@ -1,15 +1,15 @@
 -- A word that is read is the word that was written, and what was written is read again.
-use Rattle.std.proofs.Common.{◌≡◌, ◌∙◌, ◌+◌, ◌<◌, ◌≤◌, ◌^◌, ◌++◌, ℕ, List, false, ltb, Result, Ok, Err, length, take, drop, arith, refl, ap, sym, subst, append_assoc, length-append}
-use Rattle.std.proofs.lemmas.Bool.{le-ltb, ltb-false, le-leb}
+use Rattle.std.proofs.Common.{◌≡◌, ◌∙◌, ◌+◌, ◌<◌, ◌≤◌, ◌^◌, ◌++◌, ℕ, List, bit_and, false, ltb, Result, Ok, Err, length, take, drop, arith, refl, ap, sym, subst, append_assoc, length-append}
+use Rattle.std.proofs.lemmas.Bool.{le-ltb, ltb-false, eq-eqb}
 use Rattle.std.proofs.lemmas.Bool.Decides.{nat_tests}
 use Rattle.std.proofs.lemmas.List.{length-take, take-append-drop}
-use Rattle.std.proofs.lemmas.Nat.{be_bytes_4, from_be_bytes-to_be_bytes_4}
+use Rattle.std.proofs.lemmas.Nat.{and_le_r, be_bytes_4, from_be_bytes-to_be_bytes_4}
 use Rattle.acl_nfs4.proofs.Exports.{IsBytes-drop, IsBytes-take, guard_ok, ok_is}
 use Rattle.acl_nfs4.specs.Fields.{number}
 use Rattle.acl_nfs4.specs.Spelling.{word}
 use Rattle.acl_nfs4.specs.internal.Progress.{IsBytes}
 use Rattle.acl_nfs4.specs.declared.xdr.fault.Reason.TheVariants.{Truncated}
-use Rattle.acl_forms.specs.AclFlags.{IsAclFlags}
+use Rattle.acl_forms.specs.AclFlags.{IsAclFlags, all_acl_flags}
 use Rattle.acl_forms.specs.ReadFaults.{read_fault_at}
 use Rattle.acl_forms.specs.Words.{WordPlace, acl_flags_of, judged_word, start, word_at}
 use Rattle.acl_forms.specs.declared.fault.ReadReason.{ReadReason}
@@ -93,7 +93,11 @@ flags_are n m e = grind (arith, nat_tests)
 
 -- flags of the standard are accepted
 flags_accepted : (n : ℕ) → IsAclFlags n → acl_flags_of n ≡ Ok n
-flags_accepted n is = rw (le-leb _ _ is) refl
+flags_accepted n is = rw (eq-eqb (bit_and n all_acl_flags) n is) refl
+
+-- a set of flags is a word
+flags_lt : (n : ℕ) → IsAclFlags n → n < 2 ^ 32
+flags_lt n is = let le : n ≤ all_acl_flags = rw (← is) (and_le_r n all_acl_flags) in omega arith
 
 -- flags that were read are flags, and the bytes are their word and the rest
 pub flags_found : (bytes : List ℕ) (flags : ℕ) (after : WordPlace) → IsBytes bytes
@@ -109,4 +113,4 @@ pub flags_again : (bytes : List ℕ) (flags : ℕ) (text : List ℕ) → IsAclFl
     → word_at acl_flags_of (start bytes) ≡ Ok (flags, place_at 4 text)
 flags_again bytes flags text is e =
     ap (λ (b : List ℕ). word_at acl_flags_of (start b)) e
-    ∙ word_again acl_flags_of 0 flags text flags (omega arith) (flags_accepted flags is)
+    ∙ word_again acl_flags_of 0 flags text flags (flags_lt flags is) (flags_accepted flags is)

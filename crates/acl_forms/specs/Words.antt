@@ -1,9 +1,10 @@
 -- A value that is read word by word from the left, as XDR has it (RFC 4506, section 4.1), and the answers of a call
 -- that reads a list of a form. The reasons are this library's own.
-use Rattle.std.specs.Prelude.{◌≡◌, ◌⊎◌, ℕ, ◌+◌, List, length, take, drop, Result, Ok, Err, IfOk, MatchResult, nat_le, nat_lt, if◌then◌else◌}
+use Rattle.std.specs.Prelude.{◌≡◌, ◌⊎◌, ℕ, ◌+◌, List, length, take, drop, Result, Ok, Err, IfOk, MatchResult, nat_lt, if◌then◌else◌}
 use Rattle.acl_nfs4.specs.Ace.{Ace}
 use Rattle.acl_nfs4.specs.Fields.{number}
 use Rattle.acl_nfs4.specs.Spelling.{word_size}
+use Rattle.acl_nfs4.specs.Within.{is_within}
 use Rattle.acl_nfs4.specs.declared.xdr.fault.Reason.TheVariants.{Truncated}
 use Rattle.acl_forms.specs.AclFlags.{all_acl_flags}
 use Rattle.acl_forms.specs.ReadFaults.{no_memory_left, read_fault_at}
@@ -37,7 +38,7 @@ word_at means p = if nat_lt (length p.rest) word_size then Err (read_fault_at p.
 
 -- the flags of the list that a word says, or why they are refused
 abbrev pub acl_flags_of : ℕ → Result ℕ ReadReason
-acl_flags_of n = if nat_le n all_acl_flags then Ok n else Err reason.AclFlagBits
+acl_flags_of n = if is_within all_acl_flags n then Ok n else Err reason.AclFlagBits
 
 -- ---- the answers of a call that reads flags and a list
 

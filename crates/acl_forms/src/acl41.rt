@@ -99,6 +99,6 @@ pub(crate) fn flags_word(flags: AclFlags) -> [u8; 4]
     ensures { result ≡ word flags.bits }
 {
     let mut bytes = [0u8; 4];
-    BigEndian::write_u32(&mut bytes, u32::from(flags.bits()));
+    BigEndian::write_u32(&mut bytes, flags.bits());
     bytes
 }

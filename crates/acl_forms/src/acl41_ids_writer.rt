@@ -96,7 +96,7 @@ fn head_of(flags: AclFlags, count: u32) -> [u8; 8]
     ensures { result ≡ word flags.bits ++ word count }
 {
     let mut bytes = [0u8; 8];
-    BigEndian::write_u32(&mut bytes, u32::from(flags.bits()));
+    BigEndian::write_u32(&mut bytes, flags.bits());
     BigEndian::write_u32(&mut bytes[4..], count);
     bytes
 }

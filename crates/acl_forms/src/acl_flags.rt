@@ -3,10 +3,14 @@ ghost use Rattle.std.specs.Prelude.{◌≡◌, ◌↔◌, ◌==◌, IfSome, IsSo
 ghost use Rattle.acl_perm.specs.Bits.{IsSubset, IsUnion};
 ghost use Rattle.acl_forms.specs.AclFlags.{IsAclFlags};
 
-/// A set of the three flags of a whole list, one bit each (RFC 8881, section 6.2.2).
+// The five flags together.
+const ALL: u32 = 0x0003_0007;
+
+/// A set of flags of a whole list, one bit each: the three of RFC 8881, section 6.2.2, and the two that OpenZFS sets
+/// beside them in the same word (ACL_IS_TRIVIAL and ACL_IS_DIR). No flag changes what the list grants.
 #[derive(Clone, Copy, Debug, PartialEq, Eq)]
 pub struct AclFlags {
-    pub bits: u8,
+    pub bits: u32,
     ghost within: { IsAclFlags bits },
 }
 
@@ -23,10 +27,16 @@ impl AclFlags {
     /// A program and no person set the list.
     pub const DEFAULTED: AclFlags = AclFlags { bits: 4 };
 
-    /// Returns the set of this number, or `None` if the number is above 7. Constant time.
+    /// The list says no more than the mode (OpenZFS).
+    pub const IS_TRIVIAL: AclFlags = AclFlags { bits: 0x0001_0000 };
+
+    /// The list is that of a directory (OpenZFS).
+    pub const IS_DIR: AclFlags = AclFlags { bits: 0x0002_0000 };
+
+    /// Returns the set of this number, or `None` if the number has a bit outside `0x00030007`. Constant time.
     ///
     /// ```rust
-    /// let flags = AclFlags::new(3).ok_or("below 8")?;
+    /// let flags = AclFlags::new(3).ok_or("flags")?;
     /// assert!(rt; flags.contains(AclFlags::PROTECTED));
     /// assert!(rt; !flags.contains(AclFlags::DEFAULTED));
     /// assert!(rt; flags.bits() == 3);
@@ -35,15 +45,15 @@ impl AclFlags {
         ensures within { IsSome result ↔ IsAclFlags bits }
         ensures value { IfSome result (λ flags. flags.bits ≡ bits) }
     {
-        if bits < 8 {
-            Some(AclFlags { bits: bits as u8 })
+        if bits & ALL == bits {
+            Some(AclFlags { bits })
         } else {
             None
         }
     }
 
     /// Returns the flags as the number that a value has. Constant time.
-    pub fn bits(self) -> u8
+    pub fn bits(self) -> u32
         ensures value { result ≡ self.bits }
         ensures within { IsAclFlags result }
     {

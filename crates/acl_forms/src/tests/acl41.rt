@@ -7,8 +7,9 @@ use std::alloc::{AllocError, Global};
 use std::test::Fail;
 
 // The value, its flags, and the text of its list.
-static VALUES: [(&[u8], u8, &str); 4] = [
+static VALUES: [(&[u8], u32, &str); 5] = [
     (b"\0\0\0\x01\0\0\0\0", 1, ""),
+    (b"\0\x03\0\x02\0\0\0\0", 0x0003_0002, ""),
     (b"\0\0\0\x04\0\0\0\0", 4, ""),
     (
         b"\0\0\0\0\0\0\0\x01\0\0\0\0\0\0\0\0\0\x10\0C\0\0\0\x06GROUP@\0\0",

@@ -7,7 +7,8 @@ use std::alloc::{AllocError, Global};
 use std::test::Fail;
 
 // The value, its flags, and the text of its list.
-static VALUES: [(&[u8], u8, &str); 6] = [
+static VALUES: [(&[u8], u32, &str); 7] = [
+    (b"\0\x01\0\x01\0\0\0\0", 0x0001_0001, ""),
     (b"\0\0\0\x04\0\0\0\0", 4, ""),
     (
         b"\0\0\0\x02\0\0\0\x01\0\0\0\x01\0\0\0C\0\0\0\x01\0\x05\0\xa5\0\0\0\x03",

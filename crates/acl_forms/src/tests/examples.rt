@@ -9,7 +9,7 @@ use std::test::Fail;
 
 #[test]
 fn flags_of_a_list_are_a_number_below_eight(rt: HostRuntime) -> Result<(), Fail> {
-    let flags = AclFlags::new(3).ok_or("below 8")?;
+    let flags = AclFlags::new(3).ok_or("flags")?;
     assert!(rt; flags.contains(AclFlags::PROTECTED));
     assert!(rt; !flags.contains(AclFlags::DEFAULTED));
     assert!(rt; flags.bits() == 3);

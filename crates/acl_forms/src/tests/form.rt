@@ -8,7 +8,7 @@ use std::alloc::{AllocError, Global};
 use std::test::Fail;
 
 // A form, the flags, and the value of a list in which only the user 1001 may read.
-static VALUES: [(Form, u8, &[u8]); 6] = [
+static VALUES: [(Form, u32, &[u8]); 6] = [
     (Form::NfsTools(ObjectKind::File), 0, b"A::1001:r\n"),
     (Form::NfsTools(ObjectKind::Directory), 0, b"A::1001:r\n"),
     (
@@ -147,7 +147,7 @@ mod ample {
     fn what_a_form_cannot_hold_is_refused(rt: HostRuntime) -> Result<(), Fail> {
         let alloc = rt.alloc();
         for (form, bits, text, message) in NOT_HELD {
-            let flags = AclFlags::new(bits).ok_or("below 8")?;
+            let flags = AclFlags::new(bits).ok_or("flags")?;
             let list = parse_text(alloc, text)?;
             assert!(rt; fits(form, &list.view(), flags).is_some());
             assert!(rt;

@@ -90,7 +90,7 @@ fn part_in(alloc: Global, value: &[u8], form: Form) -> Result<MadePart, Failure>
 {
     let part = read_part(alloc, form, value)?;
     Ok(MadePart {
-        flags: u32::from(part.flags.bits()),
+        flags: part.flags.bits(),
         bytes: part.list.to_bytes(alloc)?,
         left_out: numbers_of(alloc, &part.left_out)?,
     })

@@ -76,7 +76,7 @@ fn list_in(alloc: Global, value: &[u8], form: Form) -> Result<FoundList, Failure
 {
     let (flags, list) = read(alloc, form, value)?;
     Ok(FoundList {
-        flags: u32::from(flags.bits()),
+        flags: flags.bits(),
         bytes: list.to_bytes(alloc)?,
     })
 }

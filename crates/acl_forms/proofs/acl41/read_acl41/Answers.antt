@@ -1,9 +1,15 @@
 use Rattle.std.proofs.Common.{◌∙◌, inr, arith, ap, sym}
 use Rattle.acl_forms.specs.Acl41.IsAcl41Fault.{of_flags}
 use Rattle.acl_forms.specs.Words.{acl_flags_of, word_at}
-use Rattle.acl_forms.proofs.Acl41Lemmas.{list_fault}
+use Rattle.acl_forms.proofs.Acl41Lemmas.{found, list_fault}
 use Rattle.acl_nfs4.proofs.Exits.{exit_is}
 use Rattle.acl_forms.proofs.acl41.read_acl41.Goals as goal
+
+pub returns-clause-found : goal.returns-clause-found
+returns-clause-found c =
+    let read = ap (word_at acl_flags_of) (sym c.start-cursor.ensures) ∙ c.in_ok-flags.ensures in
+    found c.args.bytes.now _ _ _ (λ i. omega (arith, c.type_inv.bytes i)) read
+    (rw c.in_ok-list.ensures c.in_ok-view.ensures.found)
 
 pub returns-in_err-flags-clause-fault : goal.returns-in_err-flags-clause-fault
 returns-in_err-flags-clause-fault c =
