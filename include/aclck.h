@@ -908,9 +908,9 @@ enum aclck_status aclck_entries_bridge(aclck_entries entries, aclck_buffer out, 
    APPEND_DATA, execute only where it grants EXECUTE. By POSIX, write on a directory is also the right to remove what is
    in it: DELETE_CHILD is not asked for. ACEs with INHERIT_ONLY do not count. The ids of names are as for
    aclck_prepare_ids(), and so is ACLCK_UNKNOWN_NAME. ACLCK_REFUSED also where the bytes are no list, and with
-   ACLCK_LIMITS where the list names more than `most` users and groups: the time grows with the cube of their number.
-   ACLCK_BAD_ARGUMENT where `most` is above 65535, or the names make no table. *loss is also written at ACLCK_SHORT; if
-   the call fails otherwise, all of it is 0. */
+   ACLCK_LIMITS where the list names more than `most` users and groups in ACEs that count and have a right that becomes
+   read, write or execute: the time grows with the cube of their number. ACLCK_BAD_ARGUMENT where `most` is above 65535,
+   or the names make no table. *loss is also written at ACLCK_SHORT; if the call fails otherwise, all of it is 0. */
 ACLCK_CALL ACLCK_READS(2) ACLCK_WRITES(5) ACLCK_WRITES(6) ACLCK_WRITES(7)
 enum aclck_status aclck_to_posix(aclck_bytes acl, const aclck_names *names, uint32_t most, aclck_entry_buffer out,
                                  size_t *needed, aclck_posix_loss *loss, aclck_fault *fault);

@@ -307,8 +307,8 @@ class NfsAcl:
         the ids of names: name, id, whether it is a group. A name of digits is an id.
 
         Raises Refused: with the reason `UnknownName` and the place of the ACE, from 0, if a name has no id, and with
-        the reason `Limits` if the list names more than `most` users and groups. Raises ValueError if `most` is above
-        65535, and for names as `PosixAcl` does.
+        the reason `Limits` if the list names more than `most` users and groups in ACEs that count and have a right that
+        becomes r, w or x. Raises ValueError if `most` is above 65535, and for names as `PosixAcl` does.
         """
         from .posix import posix_of  # which imports this module
         return posix_of(self._list, names, most)
