@@ -1216,6 +1216,9 @@ static void ask_foreign_bytes(const uint8_t *data, size_t size) {
         abort();
 }
 
+static const uint32_t FLAGS_OF_LISTS =
+    ACLCK_AUTO_INHERIT | ACLCK_PROTECTED | ACLCK_DEFAULTED | ACLCK_IS_TRIVIAL | ACLCK_IS_DIR;
+
 /* Reads bytes in each form. A list that is read is written in the form, and read again: it must grant the same. */
 static void ask_forms(aclck_bytes value) {
     static unsigned char room[3][1 << 14];
@@ -1226,7 +1229,7 @@ static void ask_forms(aclck_bytes value) {
         size_t len = 0, written = 0;
         aclck_fault fault;
         status = aclck_read_form(value, (enum aclck_form)form, list, &len, &flags, &fault);
-        if (status ? status == ACLCK_REFUSED && fault.offset > value.len : flags > 7)
+        if (status ? status == ACLCK_REFUSED && fault.offset > value.len : (flags & ~FLAGS_OF_LISTS) != 0)
             abort();
         if (status)
             continue;

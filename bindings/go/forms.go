@@ -33,6 +33,9 @@ const (
 	AutoInherit ListFlags = C.ACLCK_AUTO_INHERIT
 	Protected   ListFlags = C.ACLCK_PROTECTED
 	Defaulted   ListFlags = C.ACLCK_DEFAULTED
+	// IsTrivial and IsDir are flags that OpenZFS sets in the same word.
+	IsTrivial ListFlags = C.ACLCK_IS_TRIVIAL
+	IsDir     ListFlags = C.ACLCK_IS_DIR
 )
 
 // PosixForm is a form in which another system keeps a POSIX ACL.
