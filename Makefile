@@ -8,6 +8,7 @@ MANUAL = $(DESTDIR)$(PREFIX)/share/man/man1/aclck.1
 COMPLETION = $(DESTDIR)$(PREFIX)/share/bash-completion/completions/aclck
 SHARE = $(DESTDIR)$(PREFIX)/share
 PAGES = docs/*.md CHANGELOG.md
+PACKAGES = bindings/python/aclck bindings/python/aclck_tree bindings/python/aclck_form
 MODULES = $(DESTDIR)$(PREFIX)/lib/aclck/python
 
 # The first example of the README: may bob, an editor, write under a list of two entries?
@@ -24,7 +25,7 @@ try:
 	@echo
 	@echo 'Nothing is proved or built yet. `make run` proves and builds the program, and `make install` installs it.'
 	@echo "Then try a list of your own: getfacl -n FILE > list && make try LIST=list ARGS='show-posix'"
-	@echo 'docs/recipes.md answers common questions, one by one.'
+	@echo 'docs/use/recipes.md answers common questions, one by one.'
 
 ## help               prints this list
 help:
@@ -63,7 +64,7 @@ install: $(STATIC) install-tree
 	install -D -m 755 $(STATIC) '$(PROGRAM)'
 	install -D -m 644 man/aclck.1 '$(MANUAL)'
 	install -D -m 644 completions/aclck.bash '$(COMPLETION)'
-	install -D -m 644 -t '$(SHARE)/doc/aclck' $(PAGES)
+	for page in $(PAGES) docs/*/*.md; do install -D -m 644 "$$page" '$(SHARE)/doc/aclck/'"$${page#docs/}" || exit 1; done
 	install -D -m 644 -t '$(SHARE)/doc/aclck/examples' examples/*.xdr examples/*.acl examples/systemd/*
 
 ## uninstall          removes what install installs
@@ -80,7 +81,7 @@ install-tree:
 	for name in aclck aclck-tree aclck-form; do \
 	  install -D -m 644 completions/_$$name '$(SHARE)/zsh/site-functions/'_$$name && \
 	  install -D -m 644 completions/$$name.fish '$(SHARE)/fish/vendor_completions.d/'$$name.fish || exit 1; done
-	for file in bindings/python/aclck*/*.py bindings/python/aclck*/py.typed bindings/python/aclck*/*.sql; do \
+	for file in $$(find $(PACKAGES) -type f ! -path '*/__pycache__/*'); do \
 	  install -D -m 644 "$$file" '$(MODULES)/'"$${file#bindings/python/}" || exit 1; done
 
 ## uninstall-tree     removes what install-tree installs

@@ -1,7 +1,7 @@
 /* aclck.h: access control lists of NFSv4 and POSIX, checked, converted and compared, for C99 and C++.
  *
- * Every call is proved to keep its contract, which docs/contracts.md lists and man/libaclck.3 explains. These rules
- * hold for all calls:
+ * Every call is proved to keep its contract. docs/proofs/contracts.md says what is proved, and man/libaclck.3 explains
+ * the calls. These rules hold for all calls:
  *
  * - A call returns ACLCK_DONE, which is 0, if its answer is written, and another number of `enum aclck_status` if it
  *   failed. So `if (aclck_...(...))` means "it failed". No status is an answer: answers are written through pointers.
@@ -78,7 +78,7 @@ enum aclck_status {
 /* Options. Their numbers are outside ACLCK_ALL_RIGHTS. */
 enum aclck_option {
     ACLCK_FULL = 0,                     /* every right and every flag of RFC 8881 */
-    ACLCK_NARROW = 0x01000000,          /* only the rights and flags of the narrow profile (docs/formats.md) */
+    ACLCK_NARROW = 0x01000000,          /* only rights and flags of the narrow profile (docs/reference/formats.md) */
     ACLCK_FILE = 0,                     /* the new object is a file */
     ACLCK_DIRECTORY = 0x02000000,       /* the new object is a directory */
     ACLCK_CANONICAL = 0,                /* the canonical text: one line per entry, with ids */
@@ -203,7 +203,7 @@ enum aclck_acl_flag {
     ACLCK_IS_DIR = 0x20000
 };
 
-/* Forms in which other systems keep or print a list (docs/c.md). */
+/* Forms in which other systems keep or print a list (docs/reference/c.md). */
 enum aclck_form {
     ACLCK_NFS_TOOLS_FILE = 1,      /* the text of nfs4_getfacl for a file; it has no flags of the list */
     ACLCK_NFS_TOOLS_DIRECTORY = 2, /* the text of nfs4_getfacl for a directory; it has no flags of the list */
@@ -215,7 +215,7 @@ enum aclck_form {
     ACLCK_FORM_FULL = 32           /* may be added to 5 and 6: a place for each letter, with - for one that is absent */
 };
 
-/* Forms in which other systems keep POSIX ACLs, and which ACL of a value is meant (docs/c.md). */
+/* Forms in which other systems keep POSIX ACLs, and which ACL of a value is meant (docs/reference/c.md). */
 enum aclck_posix_form {
     ACLCK_POSIX_ATTRIBUTE = 1,       /* the attributes system.posix_acl_access and system.posix_acl_default of Linux */
     ACLCK_POSIX_TEXT = 2,            /* the access ACL of a text SCHILY.acl.access of an archive */
@@ -674,7 +674,7 @@ ACLCK_CALL ACLCK_READS(2) ACLCK_WRITES(5) ACLCK_WRITES(6)
 enum aclck_status aclck_with_groups(aclck_bytes acl, const aclck_bytes *suffix, enum aclck_option options,
                                     aclck_buffer out, size_t *needed, aclck_fault *fault);
 
-/* The text of the list, one line per ACE (docs/formats.md). Options: ACLCK_NARROW. */
+/* The text of the list, one line per ACE (docs/reference/formats.md). Options: ACLCK_NARROW. */
 ACLCK_CALL ACLCK_WRITES(4) ACLCK_WRITES(5)
 enum aclck_status aclck_show(aclck_bytes acl, enum aclck_option options, aclck_buffer out, size_t *needed,
                              aclck_fault *fault);
@@ -801,7 +801,8 @@ enum aclck_status aclck_mask_text(enum aclck_right mask, aclck_buffer out, size_
 ACLCK_CALL ACLCK_WRITES(3)
 enum aclck_status aclck_reason_text(enum aclck_reason reason, aclck_buffer out, size_t *needed);
 
-/* ---- POSIX ACLs: texts as acl(5) and docs/formats.md describe them, with a table of the names that a text may use. */
+/* ---- POSIX ACLs: texts as acl(5) and docs/reference/formats.md describe them, with a table of the names that a text
+   may use. */
 
 /* Writes to *granted 1 if the access ACL of the text grants what is asked (acl(5), "ACCESS CHECK ALGORITHM"), and
    otherwise 0, also if it fails. ACLCK_DONE, ACLCK_REFUSED (*fault), ACLCK_BAD_ARGUMENT: also an id of 4294967295, or

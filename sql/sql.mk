@@ -1,18 +1,19 @@
-# The functions of SQL over the library: an extension of SQLite in sqlite/out, and one of PostgreSQL in postgres/out.
+# The functions of SQL over the library: an extension of SQLite in sql/sqlite/out, and one of PostgreSQL in
+# sql/postgres/out.
 .PHONY: extensions sqlite install-sqlite uninstall-sqlite postgres install-postgres uninstall-postgres
 
-SQLITE = sqlite/out/aclck.so
+SQLITE = sql/sqlite/out/aclck.so
 SQLITEDIR = $(LIBDIR)/sqlite
 PG_CONFIG ?= pg_config
-PGXS = $(MAKE) --no-print-directory -C postgres/out -f $(CURDIR)/postgres/Makefile PG_CONFIG='$(PG_CONFIG)'
+PGXS = $(MAKE) --no-print-directory -C sql/postgres/out -f $(CURDIR)/sql/postgres/Makefile PG_CONFIG='$(PG_CONFIG)'
 
-## sqlite             builds the extension of SQLite, in sqlite/out, after `make library`
+## sqlite             builds the extension of SQLite, in sql/sqlite/out, after `make library`
 sqlite: $(SQLITE)
 
 # The extension exports the name by which SQLite loads it, and none of the library's.
-$(SQLITE): sqlite/aclck.c sql/answers.h include/aclck.h $(MADE)/libaclck.a
-	mkdir -p sqlite/out
-	$(CC) -std=c99 -O2 -fPIC -Wall -Wextra -shared -o $@ -Iinclude sqlite/aclck.c $(MADE)/libaclck.a \
+$(SQLITE): sql/sqlite/aclck.c sql/common/answers.h include/aclck.h $(MADE)/libaclck.a
+	mkdir -p sql/sqlite/out
+	$(CC) -std=c99 -O2 -fPIC -Wall -Wextra -shared -o $@ -Iinclude sql/sqlite/aclck.c $(MADE)/libaclck.a \
 	  -Wl,-z,defs,-z,relro,-z,now,-z,noexecstack -Wl,--exclude-libs,ALL
 
 ## install-sqlite     installs the extension of SQLite below PREFIX, in lib/sqlite
@@ -30,9 +31,9 @@ extensions:
 	@if [ -f "$$($(PG_CONFIG) --includedir-server 2> /dev/null)/postgres.h" ]; then $(MAKE) --no-print-directory postgres; \
 	else echo 'package: skipped postgresql-15-aclck, because postgres.h is missing'; fi
 
-## postgres           builds the extension of PostgreSQL, in postgres/out, after `make library`
+## postgres           builds the extension of PostgreSQL, in sql/postgres/out, after `make library`
 postgres: $(MADE)/libaclck.a
-	mkdir -p postgres/out
+	mkdir -p sql/postgres/out
 	$(PGXS) all
 
 ## install-postgres   installs the extension where `pg_config`, or PG_CONFIG, says

@@ -2,7 +2,7 @@
 
 A file *.edits has the edits of one file. Each begins with its name, in brackets:
 
-    file: bindings/python/aclck_tree/scan.py
+    file: bindings/python/aclck_tree/scan/scan.py
     test: tests/tree_scan Reading
 
     [a_link_is_followed]

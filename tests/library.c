@@ -883,7 +883,7 @@ static int is_refused(const testcase *c, uint32_t status, const results *r, aclc
         ok &= is_refused(c, status, &r, fault);                                                                        \
     } while (0)
 
-/* The limits of a list (docs/formats.md): 65,536 ACEs, and as many rights over all its ACEs. */
+/* The limits of a list (docs/reference/formats.md): 65,536 ACEs, and as many rights over all its ACEs. */
 static int are_limits_kept(void) {
     const uint32_t all = ACLCK_ALL_RIGHTS, mask_at = 4 + 28 * HEAVY_ACES + 8;
     aclck_bytes full = many_aces(MOST_ACES, 1), heavy = many_aces(HEAVY_ACES, all);

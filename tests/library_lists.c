@@ -689,7 +689,8 @@ static void is_every_case_counted(void) {
 
 /* ---- rows worked by hand */
 
-/* RFC 8881, section 6.4.1.1, by docs/contracts.md: the owner first, names within the group, group and others last. */
+/* RFC 8881, section 6.4.1.1, by docs/proofs/contracts.md: the owner first, names within the group, group and others
+   last. */
 static void are_modes_set_by_hand(void) {
 #define OWNER_RW "ALLOW - READ_DATA|WRITE_DATA|APPEND_DATA OWNER@\nDENY - EXECUTE OWNER@\n"
 #define GROUP_R "ALLOW - READ_DATA GROUP@\nDENY - WRITE_DATA|APPEND_DATA|EXECUTE GROUP@\n"
@@ -877,6 +878,60 @@ static void are_unknown_names_answered_by_hand(void) {
         }
 #endif
     }
+}
+
+enum { LONG = 5000 };
+
+/* Asks for READ_DATA|WRITE_DATA of a list that begins with one ACE many times and ends with another. */
+static void is_long_list_answered(uint32_t kind, uint32_t mask, uint32_t last_kind, uint32_t last_mask,
+                                  aclck_possible wanted) {
+    static unsigned char bytes[(LONG + 1) * 32];
+    const aclck_object object = {aclck_string("a"), aclck_string("s")};
+    const aclck_requester bob = aclck_requester_of(aclck_string("bob"), NULL, 0);
+    const aclck_question question = asks(3, 0);
+    unsigned char *at = put_word(bytes, LONG + 1);
+    aclck_possible found;
+    aclck_fault fault = no_fault();
+    for (int i = 0; i < LONG; i++)
+        at = put_ace(at, kind, 0, mask, "INTERACTIVE@");
+    at = put_ace(at, last_kind, 0, last_mask, "EVERYONE@");
+    EXPECT(aclck_decide_unknown(aclck_bytes_of(bytes, (size_t)(at - bytes)), &object, &bob, &question, &found,
+                                &fault) == ACLCK_DONE);
+    EXPECT(memcmp(&found, &wanted, sizeof wanted) == 0);
+}
+
+/* Lists of more ACEs than 4,096, and tables of more names: no call gives up. */
+static void are_long_lists_answered_by_hand(void) {
+    static char names[2][LONG][8];
+    static aclck_renaming rows[LONG];
+    const aclck_possible always = {3, 0, 0, ACLCK_ALWAYS, 0}, never = {0, 2, 1, ACLCK_NEVER, 0},
+                         depends = {1, 0, 2, ACLCK_DEPENDS, 0};
+    const aclck_bytes after = list_of("ALLOW - READ_DATA v4999\nALLOW - READ_DATA v0\nALLOW - READ_DATA w\n");
+    is_long_list_answered(ACLCK_ALLOW, 1, ACLCK_ALLOW, 3, always);
+    is_long_list_answered(ACLCK_ALLOW, 1, ACLCK_DENY, 2, never);
+    is_long_list_answered(ACLCK_DENY, 2, ACLCK_ALLOW, 3, depends);
+    for (size_t i = 0; i < LONG; i++) {
+        snprintf(names[0][i], sizeof names[0][i], "u%zu", i);
+        snprintf(names[1][i], sizeof names[1][i], "v%zu", i);
+        rows[i] = (aclck_renaming){aclck_string(names[0][i]), aclck_string(names[1][i]), 0};
+    }
+    given g = list_with(list_of("ALLOW - READ_DATA u4999\nALLOW - READ_DATA u0\nALLOW - READ_DATA w\n"), 0);
+    g.table.at = rows;
+    g.table.len = LONG;
+    writes(exchange, &g, 1, after.at, after.len);
+}
+
+/* The bytes of both forms, by crates/acl_eval/specs/Prepared.antt and PreparedIds.antt: another form has another start.
+   The number in front of a name, 181 or 8, is a key of its bytes. */
+static void are_prepared_bytes_those_of_the_form(void) {
+    static const char named[] = "aclprep1\1\0\0\0\2\265\3\0bob\1\0\0\0\7\10\5\0users\1\0\0\0\10\0\0\0",
+                      numbered[] = "aclpids1\1\0\0\40\351\3\0\0\1\0\0\160\7\0\0\0\1\0\0\200\0\0\0\0";
+    const aclck_name rows[] = {{aclck_string("bob"), 1001, 0}, {aclck_string("users"), 7, 1}};
+    given g = list_with(list_of("ALLOW - READ_DATA bob\nDENY GROUP READ_DATA users\nALLOW - READ_DATA EVERYONE@\n"), 0);
+    writes(prepare, &g, 1, named, sizeof named - 1);
+    g.names.at = rows;
+    g.names.len = 2;
+    writes(prepare_ids, &g, 1, numbered, sizeof numbered - 1);
 }
 
 static void are_groups_put_for_names_by_hand(void) {
@@ -1402,6 +1457,7 @@ static void run_rows(void) {
     static const test tests[] = {
         TEST(are_modes_set_by_hand), TEST(are_names_exchanged_by_hand), TEST(are_bad_names_refused),
         TEST(are_owners_named_by_hand), TEST(are_wrong_aces_refused), TEST(are_unknown_names_answered_by_hand),
+        TEST(are_long_lists_answered_by_hand), TEST(are_prepared_bytes_those_of_the_form),
         TEST(are_groups_put_for_names_by_hand), TEST(are_forms_read_and_written_by_hand),
         TEST(are_other_values_refused), TEST(are_aces_left_out), TEST(are_lists_kept_out_of_forms),
         TEST(are_bad_questions_refused), TEST(are_lengths_judged), TEST(are_bad_ids_refused),

@@ -1,7 +1,7 @@
-/* Runs the pieces of C that docs/c.md shows, with each status that their calls can return. tests/library writes each
-   piece into pieces.h, as a function piece_CALL that begins with the declarations of the first piece. A call writes its
-   fault at ACLCK_REFUSED alone, so complain() must see zeros at every other status. Under valgrind it must not read what
-   nobody wrote. */
+/* Runs the pieces of C that docs/reference/c.md shows, with each status that their calls can return. tests/library
+   writes each piece into pieces.h, as a function piece_CALL that begins with the declarations of the first piece. A
+   call writes its fault at ACLCK_REFUSED alone, so complain() must see zeros at every other status. Under valgrind it
+   must not read what nobody wrote. */
 #include <stdio.h>
 #include <stdlib.h>
 #include <string.h>
@@ -150,11 +150,13 @@ int main(void) {
                 continue;
             count++;
             if (!reaches(&pieces[i], all[k])) {
-                fprintf(stderr, "docs/c.md: the piece with aclck_%s at status %d\n", pieces[i].call, (int)all[k]);
+                fprintf(stderr, "docs/reference/c.md: the piece with aclck_%s at status %d\n", pieces[i].call,
+                        (int)all[k]);
                 failed = 1;
             }
         }
     free(out);
-    fprintf(stderr, "library: %d runs of %d pieces of docs/c.md\n", count, (int)(sizeof pieces / sizeof *pieces));
+    fprintf(stderr, "library: %d runs of %d pieces of docs/reference/c.md\n", count,
+            (int)(sizeof pieces / sizeof *pieces));
     return failed;
 }

@@ -61,7 +61,7 @@ class Server:
         built = os.path.join(self.folder, "built")
         os.mkdir(built)
         for target in (["all"], ["install", f"DESTDIR={self.folder}/destination"]):
-            done = subprocess.run(["make", "-s", "-C", built, "-f", os.path.join(ROOT, "postgres/Makefile"),
+            done = subprocess.run(["make", "-s", "-C", built, "-f", os.path.join(ROOT, "sql/postgres/Makefile"),
                                    f"LIBACLCK={MADE}/libaclck.a", *target], stdout=subprocess.PIPE,
                                   stderr=subprocess.STDOUT, text=True, env=self.environment)
             if done.returncode or "warning:" in done.stdout:

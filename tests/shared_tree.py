@@ -1,11 +1,11 @@
-"""The snapshots of docs/database.md, for tests/sqlite and tests/tree_load."""
+"""The snapshots of docs/reference/database.md, for tests/sqlite and tests/tree_load."""
 import os
 
 from encoders import nfs, posix
 from sql_cases import ENTRIES, POSIX
-from trees import ROOT  # which finds the library
-from aclck_tree.snapshot import Found, StoredList, Tree
-from aclck_tree.writer import new_snapshot
+from trees import ROOT, open_above  # which finds the library
+from aclck_tree.snapshot.snapshot import Found, StoredList, Tree
+from aclck_tree.snapshot.writer import new_snapshot
 
 DAYS = {"monday": "2026-11-23T00:00:00Z", "tuesday": "2026-11-24T00:00:00Z"}
 LISTS = {b"": nfs((0, 0, 7, "OWNER@"), (0, 0x43, 7, "editors@example.com"), (0, 0, 0x80, "EVERYONE@")),
@@ -20,8 +20,8 @@ PLAN_OF_TUESDAY = nfs((0, 0, 7, "OWNER@"), (0, 0x40, 7, "editors@example.com"), 
 
 
 def page():
-    """Returns the text of docs/database.md."""
-    with open(os.path.join(ROOT, "docs/database.md"), encoding="utf-8") as file:
+    """Returns the text of docs/reference/database.md."""
+    with open(os.path.join(ROOT, "docs/reference/database.md"), encoding="utf-8") as file:
         return file.read()
 
 
@@ -37,6 +37,7 @@ def make_snapshots(directory):
         with new_snapshot(os.path.join(directory, name)) as writer:
             when = DAYS[name]
             tree = writer.add_tree(Tree(0, "server", b"shared", b"/srv/shared", when, when, True, "0", 0))
+            writer.add_above(tree, open_above(b"/srv/shared"))
             writer.add_objects(tree, found)
             writer.add_names([(tree, False, 1001, b"alice"), (tree, False, 1002, b"bob"),
                               (tree, True, 20, b"staff"), (tree, True, 30, b"editors")])

@@ -13,6 +13,7 @@ from unittest import mock
 
 from encoders import ANYBODY, nfs, posix
 from harness import LIBRARY, ROOT, run, say_skipped
+from aclck_tree.snapshot.snapshot import Above, StoredList
 
 TOOL = os.path.join(ROOT, "bin/aclck-tree")
 IS_ROOT = os.getuid() == 0
@@ -71,6 +72,12 @@ def before(name, call, function="os.open"):
     with mock.patch(function, hooked):
         yield
     assert place, name
+
+
+def open_above(place):
+    """Returns the directories above a place, which let everybody pass."""
+    ends = [at for at, byte in enumerate(place) if byte == ord("/") and place != b"/"]
+    return [Above(place[:at] or b"/", stored=StoredList("mode", 0o755, None, None)) for at in ends]
 
 
 class Scratch(unittest.TestCase):

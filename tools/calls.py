@@ -1,5 +1,6 @@
-"""Reads the public calls of the crates, for the tables of docs/contracts.md: each `pub fn`, each method of a public
-trait, and each method with clauses that a type has of another trait, if the method or its `impl` has a doc comment.
+"""Reads the public calls of the crates, for the tables that `tools/tables contracts` prints: each `pub fn`, each method
+of a public trait, and each method with clauses that a type has of another trait, if the method or its `impl` has a doc
+comment.
 
 The sources are as `rt fmt` writes them, so lines suffice. Above the line of an `fn` is its doc comment, after a blank
 line or the line of its `impl`. Below it are its clauses, up to the brace of its body.
@@ -119,12 +120,17 @@ def calls_in(path, definitions):
             yield f"{where}::{name}".removeprefix("::"), promise, "; ".join(clauses)
 
 
+def internal_of(crate):
+    """Returns the words of the module `internal` of a crate, which offers calls to the crates above only."""
+    return set(words_of(" ".join(lines_of(TOP / "crates" / crate / "src/internal.rt"))))
+
+
 def table_of(crate):
     """Returns the table of the calls of a crate, without those of `internal`. Calls that promise the same in the same
     clauses share a row."""
     # Of two definitions with one name, that of this crate counts.
     definitions = {name: fields for one in [*crates(), crate] for name, fields in definitions_of(one).items()}
-    names, internal = {}, words_of(" ".join(lines_of(TOP / "crates" / crate / "src/internal.rt")))
+    names, internal = {}, internal_of(crate)
     for name, *row in (call for path in sources_of(crate) for call in calls_in(path, definitions)):
         if name.partition("::")[0] not in internal:
             names.setdefault(tuple(row), []).append(f"`{name}`")

@@ -27,7 +27,7 @@ type Profile uint32
 const (
 	// Full has every right and every flag of RFC 8881.
 	Full Profile = C.ACLCK_FULL
-	// Narrow has the rights and flags of the narrow profile (docs/formats.md).
+	// Narrow has the rights and flags of the narrow profile (docs/reference/formats.md).
 	Narrow Profile = C.ACLCK_NARROW
 )
 

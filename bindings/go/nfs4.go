@@ -91,7 +91,7 @@ func Mode(list []byte, profile Profile) (uint32, error) {
 	return uint32(mode), errorOf(status, &fault)
 }
 
-// Show returns the text of the list, one line per ACE (docs/formats.md).
+// Show returns the text of the list, one line per ACE (docs/reference/formats.md).
 func Show(list []byte, profile Profile) ([]byte, error) {
 	return made(4*len(list), func(out C.aclck_buffer, needed *C.size_t, fault *C.aclck_fault) C.enum_aclck_status {
 		return C.aclck_show(bytesOf(list), C.enum_aclck_option(profile), out, needed, fault)

@@ -110,8 +110,9 @@ static object look(size_t number) {
 
 /* ---- The decision */
 
-/* Returns what the server adds to the rights of the list, as nfs-ganesha does (docs/others.md): the owner may always
-   read and write the list and the attributes. The superuser may do everything but run a file that nobody may run. */
+/* Returns what the server adds to the rights of the list, as nfs-ganesha does (docs/reference/others.md): the owner may
+   always read and write the list and the attributes. The superuser may do everything but run a file that nobody may
+   run. */
 static uint32_t rights_of_the_server(const object *o, uint32_t user) {
     if (user == 0)
         return o->is_directory || o->list->executes ? ACLCK_ALL_RIGHTS : ACLCK_ALL_RIGHTS & ~ACLCK_EXECUTE;

@@ -1,8 +1,8 @@
 /* The access check of nfs-ganesha 4.3 with libaclck, in place of its own walk over the ACEs of a list.
  *
  * The script `apply` puts this file into the sources of the server, and lets FSAL/access_check.c call it. libaclck
- * answers what a list says. This file has what the server adds to that, as docs/others.md describes it: what a
- * superuser and the owner may do whatever the list says, and which error a refused request gets.
+ * answers what a list says. This file has what the server adds to that, as docs/reference/others.md describes it: what
+ * a superuser and the owner may do whatever the list says, and which error a refused request gets.
  *
  * Ids are names of decimal digits for the library. Each call makes the bytes of the list again. A server can also keep
  * them: they depend on the ACEs and on whether the object is a directory.

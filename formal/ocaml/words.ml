@@ -1,4 +1,4 @@
-(* The words of a command line (docs/formats.md, "The program"), read by hand. Nothing here is
+(* The words of a command line (docs/reference/formats.md, "The program"), read by hand. Nothing here is
    proved. *)
 
 exception Usage

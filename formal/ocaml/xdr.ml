@@ -1,4 +1,4 @@
-(* Lists of ACEs as XDR (docs/formats.md, "XDR"), read and written by hand. What is read goes to the
+(* Lists of ACEs as XDR (docs/reference/formats.md, "XDR"), read and written by hand. What is read goes to the
    types of the extracted program, acl.ml. Nothing here is proved. *)
 
 exception Refused of string * int (* the reason, and the offset of the field *)

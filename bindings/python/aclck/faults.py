@@ -12,7 +12,7 @@ class Refused(ValueError):
     """The library refuses a list or a text. Its `str` is the line that aclck(1) prints, without `aclck: `.
 
     Attributes:
-        reason: the name of the reason, such as `Truncated` (docs/formats.md has all).
+        reason: the name of the reason, such as `Truncated` (docs/reference/formats.md has all).
         offset: for bytes and for a text of an archive, the place of the refused field in bytes, from 0. For a POSIX
             list that is not valid, the place of the entry in its part, from 0. Otherwise None.
         ace: for a list that is made of ACEs, and for one whose names are exchanged, the place of the ACE, from 0.

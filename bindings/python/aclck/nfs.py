@@ -34,7 +34,7 @@ class NfsAcl:
     __slots__ = ("_bytes", "_options", "_list")
 
     def __init__(self, data: bytes, *, narrow: bool = False) -> None:
-        """Takes the bytes of a list; with `narrow`, only those of the narrow profile (docs/formats.md).
+        """Takes the bytes of a list; with `narrow`, only those of the narrow profile (docs/reference/formats.md).
 
         Raises Refused, with the offset, if the bytes are not a list, and TypeError if they are not bytes.
         """
@@ -61,7 +61,8 @@ class NfsAcl:
 
     @classmethod
     def from_text(cls, text: Name, *, narrow: bool = False) -> NfsAcl:
-        """Makes a list from its text, one line per ACE (docs/formats.md). Raises Refused, with line and column."""
+        """Makes a list from its text, one line per ACE (docs/reference/formats.md). Raises Refused, with line and
+        column."""
         given = c.encoded(text)
         data = c.bytes_of("encode", (c.in_c(given), c.NARROW if narrow else 0), 2 * len(given) + 4)
         return cls(data, narrow=narrow)
@@ -237,14 +238,14 @@ class NfsAcl:
         return None if found.kind == c.UNDECIDED else Decision(found.place, ace_values.kind_of(found.kind))
 
     def normal(self) -> NfsAcl:
-        """Returns the one normal list that grants the same (docs/lists.md, "The normal form")."""
+        """Returns the one normal list that grants the same (docs/reference/lists.md, "The normal form")."""
         return self._like(c.bytes_of("normalize", (self._list, self._options), len(self._bytes)))
 
     def inherited(self) -> Tuple[NfsAcl, ...]:
         """Returns five normal forms: of this list, which is the list of a directory, of a new file and a new directory
         in it, and of a new file and a new directory in the latter. They are equal for two lists if and only if the
-        lists grant the same, and so do the lists of everything that is ever made below the directories (docs/lists.md,
-        "Paths of creations")."""
+        lists grant the same, and so do the lists of everything that is ever made below the directories
+        (docs/reference/lists.md, "Paths of creations")."""
         data = c.bytes_of("normalize_inherit", (self._list, self._options), 5 * len(self._bytes))
         parts = []
         while data:
@@ -300,8 +301,8 @@ class NfsAcl:
         return self._like(c.bytes_of("resolved", args, len(self._bytes) + names))
 
     def to_posix(self, names: NamedIds = (), most: int = 256) -> ToPosix:
-        """Returns a POSIX list in place of this list, and who loses by it (docs/convert.md, "An NFSv4 list as a POSIX
-        list"). It never grants more than this list: r only if this list grants READ_DATA, w only if it grants
+        """Returns a POSIX list in place of this list, and who loses by it (docs/use/convert.md, "An NFSv4 list as a
+        POSIX list"). It never grants more than this list: r only if this list grants READ_DATA, w only if it grants
         WRITE_DATA and APPEND_DATA, x only if it grants EXECUTE. DELETE_CHILD, which POSIX systems give with w on a
         directory, is not asked for. ACEs with INHERIT_ONLY do not count, and there are no default entries. `names` has
         the ids of names: name, id, whether it is a group. A name of digits is an id.
@@ -321,13 +322,13 @@ class NfsAcl:
 
     def holders(self, right: int) -> str:
         """Returns who has one right, in words: one line for each row of the table, from the last row to the first. Of
-        the lines that are about a requester, the last one decides (docs/lists.md, "Who has a right"). Raises ValueError
-        if it is not exactly one right."""
+        the lines that are about a requester, the last one decides (docs/reference/lists.md, "Who has a right"). Raises
+        ValueError if it is not exactly one right."""
         return c.decoded(c.bytes_of("holders", (self._list, self._question(right)), 64 * (len(self) + 1)))
 
     def needed(self) -> List[int]:
         """Returns for each ACE, in order, the rights that are needed: the list cut to these masks grants the same, and
-        no right can be taken out of it (docs/lists.md, "Needed rights")."""
+        no right can be taken out of it (docs/reference/lists.md, "Needed rights")."""
         masks, count, fault = (c.Word * len(self))(), ctypes.c_size_t(), c.Fault()
         c.judge(c.calls["needed"](self._list, self._options, c.Masks(masks, len(masks)), ctypes.byref(count),
                                   ctypes.byref(fault)), fault)
@@ -342,7 +343,7 @@ class NfsAcl:
 
     def compare(self, other: NfsAcl) -> Optional[Difference]:
         """Returns None if both lists grant everybody the same, and otherwise a requester whom they treat differently
-        (docs/lists.md, "Comparison")."""
+        (docs/reference/lists.md, "Comparison")."""
         return self._found("compare", other._list, self._options & other._options)
 
     def exceeds(self, other: NfsAcl) -> Optional[Difference]:
@@ -352,8 +353,8 @@ class NfsAcl:
 
     def implies(self, right: int, others: int) -> Optional[Difference]:
         """Returns None if everybody to whom this list grants a right also gets each of some others, and otherwise a
-        requester who gets the right, with the lowest of the others that the list denies (docs/lists.md, "What one right
-        implies"). Raises ValueError if `right` is not exactly one right, or `others` is no mask."""
+        requester who gets the right, with the lowest of the others that the list denies (docs/reference/lists.md, "What
+        one right implies"). Raises ValueError if `right` is not exactly one right, or `others` is no mask."""
         asked = c.Implication(c.word(right), c.word(others), self._options)
         return self._found("implies", ctypes.byref(asked))
 

@@ -143,8 +143,8 @@ class PosixAcl:
     @classmethod
     def from_file(cls, file: File) -> PosixAcl:
         """Reads the lists of a file, or its mode if it has no list, as the file has them at one time. A file that
-        changed just before is waited for, some milliseconds mostly, and up to eight seconds. A path needs `/proc`. Raises
-        OSError, also if the file is never at rest, and Refused."""
+        changed just before is waited for, some milliseconds mostly, and up to eight seconds. A path needs `/proc`.
+        Raises OSError, also if the file is never at rest, and Refused."""
         return cls.from_attributes(*at_one_time(file))
 
     def to_attributes(self) -> Tuple[bytes, Optional[bytes]]:
@@ -156,9 +156,9 @@ class PosixAcl:
 
     def to_archive(self, style: TarStyle = TarStyle.STAR,
                    names: NamedIds = ()) -> Tuple[str, Optional[str]]:
-        """Returns the texts of `SCHILY.acl.access` and of `SCHILY.acl.default`, which is None if the list has no default
-        entries. An id is written as its first name in `names` (name, id, whether it is a group), or as a number.
-        `from_archive` reads the texts back, those of GNU tar with the same names and the same style.
+        """Returns the texts of `SCHILY.acl.access` and of `SCHILY.acl.default`, which is None if the list has no
+        default entries. An id is written as its first name in `names` (name, id, whether it is a group), or as a
+        number. `from_archive` reads the texts back, those of GNU tar with the same names and the same style.
 
         Raises Refused with the part and the place of the entry in it, from 0: for Separator and TooLong if its name
         would not be read back, and in the style of star for Id if its id is above 2147483647, which bsdtar loses.

@@ -68,8 +68,8 @@ class PreparedIds(_Made):
     def decide(self, *, user: int, groups: Iterable[int] = (), owner: int, group: int, mask: int = ALL) -> Decided:
         """Returns which rights of the mask are allowed, denied, and undecided.
 
-        Raises ValueError if an id is outside 32 bits, the mask has a bit that is not a right, or the bytes are not those
-        of such a list, and TypeError if `groups` is a text.
+        Raises ValueError if an id is outside 32 bits, the mask has a bit that is not a right, or the bytes are not
+        those of such a list, and TypeError if `groups` is a text.
         """
         members = sorted({c.word(number) for number in c.several(groups)})
         who = c.IdRequester(c.word(user), (c.Word * len(members))(*members), len(members))

@@ -13,8 +13,8 @@ from typing import TYPE_CHECKING, List, NoReturn, Optional, Tuple
 from aclck import (APPEND_DATA, DELETE_CHILD, WRITE_DATA, AceFlag, LeftOut, ListFlag, NfsAcl, PosixAcl,
                    PosixDifference, Refused, mask_text)
 from aclck_tree import VERSION
-from aclck_tree.errors import DEVICE, REFUSED, YES, DeviceError, TreeError, UsageError
-from aclck_tree.text import quoted, quoted_line
+from aclck_tree.output.errors import DEVICE, REFUSED, YES, DeviceError, TreeError, UsageError
+from aclck_tree.output.text import quoted, quoted_line
 
 from .accounts import System, Table, exchanged, ids_of_names, names_of_ids
 from .values import (BYTES, NFS, OF_DEFAULT, POSIX, TOOLS, WITH_FLAGS, WITH_IDS, WITH_NAMES, WITH_PARTS, read_nfs,

@@ -11,8 +11,8 @@ from typing import Dict, Iterable, Iterator, Optional, Tuple, Union
 
 from aclck import ALLOW, Ace, AceFlag, Entry, NfsAcl, Refused, TarStyle
 from aclck.tar_texts import unspelled
-from aclck_tree.errors import TreeError
-from aclck_tree.headers import accounts_in
+from aclck_tree.output.errors import TreeError
+from aclck_tree.scan.headers import accounts_in
 
 from .values import NamedId
 
@@ -108,8 +108,8 @@ def ids_of_names(text: bytes, accounts: System, style: TarStyle) -> Iterator[Nam
 
 
 def names_of_ids(entries: Iterable[Entry], accounts: System) -> Iterator[NamedId]:
-    """Yields the names that the accounts have for the ids of entries, but for those of digits alone. Raises TreeError if
-    a name and an id are not each other's only one."""
+    """Yields the names that the accounts have for the ids of entries, but for those of digits alone. Raises TreeError
+    if a name and an id are not each other's only one."""
     for is_group, number in sorted({(entry.tag == "group", entry.id) for entry in entries if entry.id is not None}):
         name = accounts.name_of(is_group, number)
         if name is None or _ID.fullmatch(name):

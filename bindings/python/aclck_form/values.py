@@ -5,7 +5,7 @@ from __future__ import annotations
 from typing import Iterable, List, Optional, Tuple
 
 from aclck import LeftOut, ListFlag, ListForm, NfsAcl, PosixAcl, TarStyle
-from aclck_tree.errors import TreeError
+from aclck_tree.output.errors import TreeError
 
 NFS = ("xdr", "text", "nfs4-tools", "nfs-text", "nfs-text-ids", "nfs41", "nfs41-ids")
 _STAR, _STAR_DEFAULT = "posix-archive", "posix-archive-default"

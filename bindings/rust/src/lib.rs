@@ -49,7 +49,7 @@ pub enum Profile {
     /// Every right and every flag of RFC 8881.
     #[default]
     Full,
-    /// The rights and flags of the narrow profile (docs/formats.md).
+    /// The rights and flags of the narrow profile (docs/reference/formats.md).
     Narrow,
 }
 

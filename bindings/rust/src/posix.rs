@@ -1,4 +1,4 @@
-//! POSIX ACLs by their texts (acl(5); docs/formats.md).
+//! POSIX ACLs by their texts (acl(5); docs/reference/formats.md).
 
 use crate::answers::{answered, made};
 use crate::entries::{entry, raw_entries, Entry};

@@ -12,6 +12,10 @@ use Rattle.acl_posix.specs.Check.{Object, Requester, grants}
 use Rattle.acl_eval.specs.Grant.{Grant}
 use Rattle.acl_eval.specs.Bridge.{image, bridge_list}
 
+-- an object with this owner and this owning group
+abbrev pub object_for : ℕ → ℕ → Object
+object_for owner group = record { user = owner; group = group }
+
 -- a requester and the owner and group of an object, given by ids
 pub record IsAsked (object : Object) (requester : Requester) : Type 0 where
   pub owner : IsId object.user

@@ -204,7 +204,7 @@ fn push_denied(list: &mut Acl, acl: &PosixAcl, entry: Entry) -> Result<(), Alloc
 }
 
 /// Returns the permissions that are denied if these are allowed.
-pub(crate) fn rest_of(perm: Perm) -> Perm
+pub fn rest_of(perm: Perm) -> Perm
     ensures { result.bits ≡ all_permissions - perm.bits }
 {
     Perm::ALL.difference(perm)
@@ -251,7 +251,7 @@ fn flags_of(tag: Tag) -> Flags
 }
 
 /// Returns the rights of each permission in the set, together.
-pub(crate) fn image(perm: Perm) -> Mask
+pub fn image(perm: Perm) -> Mask
     ensures { result.bits ≡ image perm.bits }
 {
     rights_of(perm, READ, Mask::READ_DATA)

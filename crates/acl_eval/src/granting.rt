@@ -92,14 +92,14 @@ fn decided_to(aces: Aces<'_>, standing: &Standing<'_>, mask: Mask) -> GrantedSoF
 
 /// The rights that the ACEs so far grant, and those that none of them has decided.
 #[derive(Clone, Copy)]
-pub(crate) struct GrantedSoFar {
+pub struct GrantedSoFar {
     pub granted: Mask,
     pub left: Mask,
 }
 
 impl GrantedSoFar {
     /// Makes the state before the first ACE, for a request for these rights.
-    pub(crate) fn new(mask: Mask) -> GrantedSoFar
+    pub fn new(mask: Mask) -> GrantedSoFar
         ensures granted { result.granted.bits ≡ 0 }
         ensures left { result.left.bits ≡ mask.bits }
     {
@@ -111,7 +111,7 @@ impl GrantedSoFar {
 
     /// Returns the rights of the mask that are decided: those that are granted, and those that are neither granted nor
     /// left.
-    pub(crate) fn decided(self, mask: Mask) -> DecidedRights
+    pub fn decided(self, mask: Mask) -> DecidedRights
         ensures allowed { result.allowed ≡ self.granted }
         ensures denied { (bit : ℕ) → has_bit result.denied.bits bit ≡ (has_bit mask.bits bit
             && (not (has_bit self.granted.bits bit) && not (has_bit self.left.bits bit))) }
@@ -144,7 +144,7 @@ impl GrantedSoFar {
     /// Returns the state after an ACE of this kind and mask, which matches the requester.
     #[inline(always)]
     #[tactic(auto)]
-    pub(crate) fn decide(self, kind: Kind, mask: Mask) -> GrantedSoFar
+    pub fn decide(self, kind: Kind, mask: Mask) -> GrantedSoFar
         ensures granted { (is_granted : Bool) (bit : ℕ) → decided_by result is_granted bit
             ≡ decided_by self (if has_bit mask.bits bit then is_allow kind else is_granted) bit }
         ensures left { (bit : ℕ) → has_bit result.left.bits bit

@@ -2,13 +2,13 @@
 
 use acl_perm::{Mask, Perm};
 
-pub(crate) const READ: Perm = Perm { bits: 4 };
+pub const READ: Perm = Perm { bits: 4 };
 
-pub(crate) const WRITE: Perm = Perm { bits: 2 };
+pub const WRITE: Perm = Perm { bits: 2 };
 
-pub(crate) const EXECUTE: Perm = Perm { bits: 1 };
+pub const EXECUTE: Perm = Perm { bits: 1 };
 
 /// The rights of write: to change existing data, and to append data.
-pub(crate) const WRITE_RIGHTS: Mask = Mask {
+pub const WRITE_RIGHTS: Mask = Mask {
     bits: Mask::WRITE_DATA.bits | Mask::APPEND_DATA.bits,
 };

@@ -35,13 +35,15 @@ impl<'a> Object<'a> {
         }
     }
 
-    pub(crate) fn owner(&self) -> &'a [u8]
+    /// Returns the name of the owner, which is not empty.
+    pub fn owner(&self) -> &'a [u8]
         ensures { result.now ≡ owner_of self.now }
     {
         self.owner
     }
 
-    pub(crate) fn group(&self) -> &'a [u8]
+    /// Returns the name of the owning group, which is not empty.
+    pub fn group(&self) -> &'a [u8]
         ensures { result.now ≡ owning_group_of self.now }
     {
         self.group
@@ -150,7 +152,7 @@ impl<'a> Requester<'a> {
     }
 
     /// Returns the same requester, for this many look-ups of groups.
-    pub(crate) fn for_look_ups(self, look_ups: usize) -> Self
+    pub fn for_look_ups(self, look_ups: usize) -> Self
         ensures user { user_of result ≡ user_of self.entry }
         ensures groups { groups_of result ≡ groups_of self.entry }
         ensures given { given_groups_of result ≡ given_groups_of self.entry }
@@ -183,7 +185,7 @@ impl<'a> Requester<'a> {
     }
 
     /// Returns whether the user has this name.
-    pub(crate) fn is_named(&self, name: &[u8]) -> bool
+    pub fn is_named(&self, name: &[u8]) -> bool
         ensures { result ≡ bytes_eq (user_of self.now) name.now }
     {
         self.user == name
@@ -197,7 +199,7 @@ impl<'a> Requester<'a> {
     }
 
     /// Returns whether the user is in the group with this name.
-    pub(crate) fn is_in(&self, name: &[u8]) -> bool
+    pub fn is_in(&self, name: &[u8]) -> bool
         ensures { result ≡ list_any (bytes_eq name.now) (groups_of self.now) }
     {
         self.groups.contains(name)

@@ -110,24 +110,6 @@ fn decided_of(alloc: Global, count: u32, groups: usize, times: usize) -> Option<
     Some(done)
 }
 
-// The same from prepared bytes.
-fn prepared_of(alloc: Global, count: u32, groups: usize, times: usize) -> Option<usize> {
-    let bytes = list_of(alloc, count, 0x40).ok()?;
-    let list = AclView::parse_whole(&bytes).ok()?;
-    let made = prepare(alloc, &list).ok()?;
-    let object = Object::new(b"owner", b"group")?;
-    let requester = Requester::new(b"u70000", GROUPS.get(..groups)?)?;
-    let mask = Mask::new(1)?;
-    let prepared = Prepared::read(&made)?;
-    let done = (0..times)
-        .filter(|_| match prepared.decided(&object, &requester, mask) {
-            Some(rights) => rights.denied != Mask::NONE,
-            None => true,
-        })
-        .count();
-    Some(done)
-}
-
 #[test]
 fn a_list_of_128_aces_is_decided_once(rt: HostRuntime) {
     let done = decided_of(rt.alloc(), 128, 16, 1);
@@ -137,17 +119,5 @@ fn a_list_of_128_aces_is_decided_once(rt: HostRuntime) {
 #[test]
 fn a_list_of_128_aces_is_decided_1000_times(rt: HostRuntime) {
     let done = decided_of(rt.alloc(), 128, 16, 1000);
-    assert!(rt; done == None || done == Some(0));
-}
-
-#[test]
-fn a_prepared_list_of_128_aces_is_decided_once(rt: HostRuntime) {
-    let done = prepared_of(rt.alloc(), 128, 16, 1);
-    assert!(rt; done == None || done == Some(0));
-}
-
-#[test]
-fn a_prepared_list_of_128_aces_is_decided_1000_times(rt: HostRuntime) {
-    let done = prepared_of(rt.alloc(), 128, 16, 1000);
     assert!(rt; done == None || done == Some(0));
 }

@@ -16,7 +16,7 @@ use acl_perm::Principal;
 /// A requester of an object, with the facts that are the same for each ACE: whether the requester is the owner, whether
 /// the requester is in the owning group, and the last byte of the requester's name.
 #[derive(Drop)]
-pub(crate) struct Standing<'a> {
+pub struct Standing<'a> {
     object: Object<'a>,
     requester: Requester<'a>,
     is_owner: bool,
@@ -31,7 +31,7 @@ impl<'a> Standing<'a> {
     ghost use Rattle.acl_eval.specs.internal.Asked.{asked_situation};
 
     /// Computes the facts for a list of this many ACEs.
-    pub(crate) fn new(object: Object<'a>, requester: Requester<'a>, aces: usize) -> Self
+    pub fn new(object: Object<'a>, requester: Requester<'a>, aces: usize) -> Self
         ensures { asked_situation result ≡ situation object.entry requester.entry }
     {
         let requester = requester.for_look_ups(aces);
@@ -47,7 +47,7 @@ impl<'a> Standing<'a> {
     /// Returns whether the ACE applies: it takes part and matches the requester. Most ACEs are for a user, and are
     /// tested first: they have neither flag, and a who that does not end in `@` is not special.
     #[inline(always)]
-    pub(crate) fn applies(&self, item: &AceRef<'_>) -> bool
+    pub fn applies(&self, item: &AceRef<'_>) -> bool
         requires { 1 ≤ length item.now.who.now }
         ensures { result ≡ applies (asked_situation self.now) (ace item.now) }
     {

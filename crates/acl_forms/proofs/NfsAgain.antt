@@ -22,7 +22,8 @@ use Rattle.acl_nfs4.proofs.Exports.{all_weaker, plain_who}
 use Rattle.acl_forms.specs.Acl41Ids.{id_of_digits}
 use Rattle.acl_forms.specs.Letters.{nfs_flag_letters, nfs_right_letters}
 use Rattle.acl_forms.specs.NfsRules.{nfs_rules, SpellsNfsText}
-use Rattle.acl_forms.specs.NfsWritten.{account_word, as_nfs_written, id_after, is_cut_who, is_id_cut, kept_flags, kind_word, nfs_ace_fault, nfs_entry_text, nfs_fault_from, nfs_text, nfs_text_fault, principal_text, special_word, IsSameButSpecialGroup}
+use Rattle.acl_forms.specs.NfsText.{is_odd_number}
+use Rattle.acl_forms.specs.NfsWritten.{account_word, as_nfs_written, id_after, is_cut_who, is_id_cut, is_other_id, kept_flags, kind_word, nfs_ace_fault, nfs_entry_text, nfs_fault_from, nfs_text, nfs_text_fault, principal_text, special_word, IsSameButSpecialGroup}
 use Rattle.acl_forms.specs.ToolsWritten.{is_separator, meets, retention_rights}
 use Rattle.acl_forms.specs.declared.fault.FormReason.TheVariants.{Id, Retention, Separator}
 use Rattle.acl_forms.specs.declared.nfs_text.fields.NfsTag.{NfsTag}
@@ -89,13 +90,13 @@ read_account letters by tag a word h name within is = record {
   again = λ list column room light. account_again letters by tag a word list column h name within is room light;
 }
 
--- if no test answers true, the first two do not
+-- if no test answers true, none does
 none_true : (r s i : Bool) → cond r (Some Retention) (cond s (Some Separator) (cond i (Some Id) None)) ≡ None
-    → (r ≡ false) × (s ≡ false)
+    → (r ≡ false) × (s ≡ false) × (i ≡ false)
 none_true true s i e = absurd cc
 none_true false true i e = absurd cc
 none_true false false true e = absurd cc
-none_true false false false e = (refl, refl)
+none_true false false false e = (refl, refl, refl)
 
 -- the who of an ACE is a special identifier, or none of the three
 who_cases : (C : Type 0) (who : List ℕ) → (who ≡ owner_name → C) → (who ≡ group_name → C) → (who ≡ everyone_name → C)
@@ -116,7 +117,8 @@ who_cases C who on_owner on_group on_everyone on_none =
 read_ace : (letters : LetterStyle) (by : WhoField) (a : Ace) → IsAce full a → nfs_ace_fault a ≡ None
     → IsEntryAgain by (nfs_entry_text letters a) (as_nfs_written a)
 read_ace letters by a is none =
-    let no = none_true (meets a.mask retention_rights) (is_cut_who a.who) (is_id_cut (id_of_digits a.who)) none in
+    let no = none_true (meets a.mask retention_rights) (is_cut_who a.who) (is_other_id a.who) none in
+    let plain = or_parts (is_odd_number a.who) (is_id_cut (id_of_digits a.who)) no.2 in
     let within = rights_within a.mask is.mask (apart_sets a.mask retention_rights no.0) in
     let apart = or_parts (list_any is_separator a.who) (not (bytes_eq (trimmed a.who) a.who)) no.1 in
     let same : trimmed a.who ≡ a.who = bytes_eq_same (trimmed a.who) a.who (not_false _ apart.1) in
@@ -130,7 +132,14 @@ read_ace letters by a is none =
     (subst (λ (n : List ℕ). IsSpecialWord Everyone n (codes "everyone@")) (sym e) everyone_word) within is.who)
     (λ o.
     let name : IsNameKept a.who =
-    record { no_word = o.0; no_special = o.1; inside = pass.0; no_colon = pass.1; same = same } in
+    record {
+      no_word = o.0;
+      no_special = o.1;
+      no_odd = plain.0;
+      inside = pass.0;
+      no_colon = pass.1;
+      same = same;
+    } in
     elim (meets a.flags 0x40) as (λ t. meets a.flags 0x40 ≡ t
     → IsEntryAgain by (nfs_entry_text letters a) (as_nfs_written a)) [
       | true ↦ λ met.

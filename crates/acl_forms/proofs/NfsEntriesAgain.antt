@@ -14,7 +14,7 @@ use Rattle.acl_nfs4.specs.Who.{is_special, IsWho}
 use Rattle.acl_nfs4.specs.Within.{IsWithin}
 use Rattle.acl_forms.specs.Acl41Ids.{id_of_digits}
 use Rattle.acl_forms.specs.Letters.{nfs_flag_letters, nfs_right_letters, no_letter, set_of_letters}
-use Rattle.acl_forms.specs.NfsText.{fields_of_parts, flags_by_tag, nfs_ace, nfs_entry, nfs_fields_of, nfs_fields_read, tag_special, trimmed_span, who_by_tag, who_of_fields, NfsFields}
+use Rattle.acl_forms.specs.NfsText.{fields_of_parts, flags_by_tag, is_odd_number, nfs_ace, nfs_entry, nfs_fields_of, nfs_fields_read, tag_special, trimmed_span, who_by_tag, who_of_fields, NfsFields}
 use Rattle.acl_forms.specs.NfsWritten.{as_nfs_written, id_after, kept_flags, kind_word, nfs_entry_text, special_word}
 use Rattle.acl_forms.specs.ToolsText.{unless_refused}
 use Rattle.acl_forms.specs.declared.fault.ReadReason.TheVariants as reasons
@@ -169,6 +169,7 @@ special_again letters by tag a word list column h within is room light =
 pub record IsNameKept (who : List ℕ) : Type 0 where
   pub no_word : special_word who ≡ None
   pub no_special : is_special who ≡ false
+  pub no_odd : is_odd_number who ≡ false
   pub inside : list_all is_inside who ≡ true
   pub no_colon : list_all is_no_colon who ≡ true
   pub same : trimmed who ≡ who
@@ -240,11 +241,11 @@ account_parts letters column tag a word (Some id) h = rw (kept word h.word_is.no
 -- the who of a name and an id
 name_again : (by : WhoField) (who : List ℕ) (place column : ℕ) (id : Option ℕ) → IsNameKept who
     → id_of_digits who ≡ id → who_of_fields by (trimmed_span (part_at place who)) (id_at column who id) ≡ Ok who
-name_again by who place column None h e = rw (h.same, h.no_special) refl
+name_again by who place column None h e = rw (h.same, h.no_odd, h.no_special) refl
 name_again source.Name who place column (Some id) h e =
-    let i = id_again who id e in rw (h.same, i.0) (rw (i.1, h.no_special) refl)
+    let i = id_again who id e in rw (h.same, h.no_odd, i.0) (rw (i.1, h.no_special) refl)
 name_again source.Id who place column (Some id) h e =
-    let i = id_again who id e in rw (h.same, i.0) (rw i.1 (ap (λ (n : List ℕ). Ok n) i.2))
+    let i = id_again who id e in rw (h.same, h.no_odd, i.0) (rw i.1 (ap (λ (n : List ℕ). Ok n) i.2))
 
 -- such an entry is read as the ACE
 pub account_again : (letters : LetterStyle) (by : WhoField) (tag : NfsTag) (a : Ace) (word : List ℕ) (list : List Ace)

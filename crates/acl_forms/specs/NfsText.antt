@@ -3,6 +3,7 @@
 -- end where a user or a group has one. Which of the name and the id counts is this library's own.
 use Rattle.std.specs.Prelude.{◌==◌, ◌&&◌, ℕ, Bool, not, List, [], ◌∷◌, codes, length, map, nat_le, bit_or, Option, None, Some, ok_or, Result, Ok, Err, if◌then◌else◌}
 use Rattle.std.specs.Fmt.{decimal}
+use Rattle.std.specs.Option.{is_none}
 use Rattle.std.specs.Str.{bytes_eq}
 use Rattle.std.specs.Str.Parse.{digits_value}
 use Rattle.acl_perm.specs.Ascii.{colon}
@@ -16,6 +17,7 @@ use Rattle.acl_nfs4.specs.Ace.{Ace}
 use Rattle.acl_nfs4.specs.Limits.{most_aces}
 use Rattle.acl_nfs4.specs.Who.{everyone_name, group_name, is_special, owner_name}
 use Rattle.acl_nfs4.specs.declared.xdr.fault.Reason.TheVariants as list
+use Rattle.acl_forms.specs.Acl41Ids.{id_of_digits}
 use Rattle.acl_forms.specs.Letters.{nfs_flag_letters, nfs_right_letters, no_letter, set_of_letters}
 use Rattle.acl_forms.specs.ReadFaults.{read_fault_at}
 use Rattle.acl_forms.specs.ToolsText.{kind_at, taken}
@@ -144,6 +146,11 @@ nfs_kind field = nfs_type field >>= λ number. kind_at field.column number
 abbrev pub id_alone : List ℕ → Option ℕ
 id_alone bytes = if is_number bytes then id_of bytes else None
 
+-- a name is digits alone, and not the decimal digits of an id, as 007 is not: libarchive reads 007 as the id 7, and an
+-- NFSv4 server as a name (RFC 8881, section 5.9)
+abbrev pub is_odd_number : List ℕ → Bool
+is_odd_number name = is_number name && is_none (id_of_digits name)
+
 -- a name is digits alone, and their number is another one than the id
 abbrev pub is_other_number : List ℕ → ℕ → Bool
 is_other_number name id = is_number name && not (digits_value 10 name == id)
@@ -164,12 +171,17 @@ who_with_id source name field id =
     if is_other_number name.bytes id then Err (read_fault_at field.column reasons.IdDiffers)
     else name_or_id source name id
 
--- the who of a name and the field of an id, if there is one
-abbrev pub who_of_fields : WhoField → Span → Option Span → Result (List ℕ) ReadFault
-who_of_fields source name None = unless_special name
-who_of_fields source name (Some field) = do
+-- the who of a name that readers read alike and the field of an id, if there is one
+abbrev pub who_by_fields : WhoField → Span → Option Span → Result (List ℕ) ReadFault
+who_by_fields source name None = unless_special name
+who_by_fields source name (Some field) = do
   id ← ok_or (id_alone field.bytes) (read_fault_at field.column reasons.Id)
   who_with_id source name field id
+
+-- the who of a name and the field of an id, unless the name is digits that readers read differently
+abbrev pub who_of_fields : WhoField → Span → Option Span → Result (List ℕ) ReadFault
+who_of_fields source name field =
+    if is_odd_number name.bytes then Err (read_fault_at name.column reasons.Id) else who_by_fields source name field
 
 -- the who of the fields, by the special identifier of the tag, if it has one
 abbrev pub who_by_tag : WhoField → NfsFields → Option (List ℕ) → Result (List ℕ) ReadFault

@@ -13,6 +13,7 @@ use Rattle.acl_nfs4.specs.Ace.{Ace}
 use Rattle.acl_nfs4.specs.Who.{everyone_name, group_name, is_special, owner_name}
 use Rattle.acl_forms.specs.Acl41Ids.{id_of_digits}
 use Rattle.acl_forms.specs.Letters.{nfs_flag_letters, nfs_right_letters}
+use Rattle.acl_forms.specs.NfsText.{is_odd_number}
 use Rattle.acl_forms.specs.ToolsWritten.{fault_or, is_separator, letters_of, meets, retention_rights}
 use Rattle.acl_forms.specs.declared.fault.FormFault.{FormFault}
 use Rattle.acl_forms.specs.declared.fault.FormReason.{FormReason}
@@ -107,11 +108,15 @@ abbrev pub is_id_cut : Option ℕ → Bool
 is_id_cut None = false
 is_id_cut (Some id) = nat_lt greatest_kept_id id
 
+-- digits that libarchive reads as another id
+abbrev pub is_other_id : List ℕ → Bool
+is_other_id who = is_odd_number who || is_id_cut (id_of_digits who)
+
 -- the first reason for which the form cannot hold an ACE
 abbrev pub nfs_ace_fault : Ace → Option FormReason
 nfs_ace_fault a = if meets a.mask retention_rights then Some Retention
     else (if is_cut_who a.who then Some Separator
-    else (if is_id_cut (id_of_digits a.who) then Some Id else None))
+    else (if is_other_id a.who then Some Id else None))
 
 -- the first ACE from a place on that the form cannot hold
 abbrev pub nfs_fault_from : ℕ → List Ace → Option FormFault

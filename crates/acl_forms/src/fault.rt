@@ -18,7 +18,8 @@ pub enum ReadReason {
     /// A flag that says what kind of who follows is not a flag of the form.
     #[error("IflagBits")]
     IflagBits,
-    /// The id is above 4294967294, or is not digits alone.
+    /// The id is above 4294967294, or is not digits alone; or the name is digits alone, but not the decimal digits of an
+    /// id.
     #[error("Id")]
     Id,
     /// The version is not that of the form.
@@ -126,7 +127,7 @@ pub enum FormReason {
     /// The list has no ACE, and the form must have one.
     #[error("Empty")]
     Empty,
-    /// The id is above those that readers of the form keep.
+    /// The who is digits that readers of the form read as another id.
     #[error("Id")]
     Id,
     /// There are flags of the list, for which the form has no place.

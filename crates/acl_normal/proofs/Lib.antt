@@ -1,3 +1,4 @@
+pub mod Exports
 -- the names that most proofs import
 pub mod Common
 -- what holds of each element of a list, and lists that are cut at a place
@@ -13,5 +14,3 @@ pub mod Tables
 pub mod Vectors
 -- whos: those that do not end in `@` are names, and principals of one rank are in the order of their whos
 pub mod Whoms
--- the rows of a table in reverse
-pub mod TurnedRows

@@ -48,5 +48,3 @@ pub mod ApartLemmas
 pub mod MembersFacts
 -- lists that name the same as another, place by place
 pub mod SamePlacesLemmas
--- the list that grants some rights where another list grants one right
-pub mod RightReplaced

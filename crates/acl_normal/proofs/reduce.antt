@@ -16,7 +16,7 @@ pub mod Reduced
 pub mod Shorter
 -- the unshadowed keys of a column decide as the column, and are a clean column
 pub mod Unshadowed
--- the rights that a reduction leaves are those that are needed
-pub mod NeededRights
+-- no column decides alike with fewer keys than an irreducible one
+pub mod Fewest
 -- how many rights the reductions of lists have
 pub mod RightCounts

@@ -14,9 +14,6 @@ pub mod Classes
 pub mod Common
 pub mod Difference
 pub mod Excess
-pub mod Implied
 pub mod RequesterNames
 pub mod Tables
 pub mod Programs
-pub mod Needed
-pub mod Holders

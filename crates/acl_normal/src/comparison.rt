@@ -5,12 +5,10 @@ ghost use Rattle.acl_normal.specs.OneRight.{IsOneRight};
 mod apart;
 pub(crate) mod columns;
 pub(crate) mod compared;
-mod comparing;
+pub(crate) mod comparing;
 pub(crate) mod direction;
 pub(crate) mod evaluation;
-mod exceeding;
 pub(crate) mod found;
-mod implying;
 mod inversions;
 pub(crate) mod members;
 pub(crate) mod mentioned;
@@ -24,9 +22,7 @@ mod situation;
 pub(crate) mod small_set;
 
 use acl_perm::Mask;
-pub use comparing::{compare, compare_views, same, same_views};
-pub use exceeding::{excess, excess_of_views};
-pub use implying::{implies, implies_of_view};
+pub use comparing::{compare, compare_views};
 pub use requester_names::RequesterNames;
 
 /// A requester and an object for which one of two lists grants a right that the other denies. The groups are in the

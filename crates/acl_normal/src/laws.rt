@@ -1,10 +1,10 @@
 //! Laws of normal forms.
 
 ghost use Rattle.std.specs.Prelude.{◌↔◌, ◌≡◌};
-ghost use Rattle.acl_normal.specs.Common.{Ace, all_rights, false, five_spellings, has_bit, IsIrreducibleList, IsNormal, IsNormalFormOf, IsProfile, List, Normalizes, Profile, SameGrants, ℕ};
+ghost use Rattle.acl_normal.specs.Common.{Ace, all_rights, false, five_spellings, has_bit, IsIrreducibleList, IsNormal, IsProfile, List, Normalizes, Profile, SameGrants, ℕ};
 ghost use Rattle.acl_perm.specs.Situation.{Situation};
 ghost use Rattle.acl_nfs4.specs.Spelling.{Fits, Xdr};
-ghost use Rattle.acl_eval.specs.Grant.{GrantsAtMost, grants_bit};
+ghost use Rattle.acl_eval.specs.Grant.{grants_bit};
 ghost use Rattle.acl_normal.specs.FiveForms.{AreSpelledAlike, TellApart};
 ghost use Rattle.acl_normal.specs.Laws.{HaveSameKeys, HaveSameOrder, IsForm, IsFormOfAccepted, SpellingsTellApart};
 ghost use Rattle.acl_normal.specs.Paths.{SameAtEveryPath, SameAtFive};
@@ -67,19 +67,6 @@ pub fn small_situations_suffice()
     // Each test of two answers of the lists, for one right or for two, passes in every situation if it passes in each
     // small one.
     ensures any { AnswersSuffice }
-{}
-
-/// Containment of grants: a list contains itself, what a contained list contains is contained too, and two lists grant
-/// the same if and only if each contains the other; the normal form of a list may replace it on either side.
-pub fn containment()
-    ensures both_ways { (rights : ℕ) (list other : List Ace) → SameGrants rights list other
-        ↔ (GrantsAtMost rights list other × GrantsAtMost rights other list) }
-    ensures reflexive { (rights : ℕ) (list : List Ace) → GrantsAtMost rights list list }
-    ensures transitive { (rights : ℕ) (list other third : List Ace) → GrantsAtMost rights list other
-        → GrantsAtMost rights other third → GrantsAtMost rights list third }
-    ensures normal_forms { (list other form other_form : List Ace) → IsNormalFormOf list form
-        → IsNormalFormOf other other_form
-        → GrantsAtMost all_rights list other ↔ GrantsAtMost all_rights form other_form }
 {}
 
 /// Lists grant the same at every path of creations if and only if they grant the same at five: the directory itself, a

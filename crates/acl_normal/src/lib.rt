@@ -7,7 +7,7 @@ mod class;
 mod comparison;
 mod emit;
 mod five_forms;
-mod holder_lines;
+pub mod internal;
 pub mod laws;
 mod merged;
 mod normal_form;
@@ -22,13 +22,8 @@ mod tests;
 mod whom;
 
 pub use bit_table::{BorrowedRow, Row, borrowed_rows, table, table_of_view};
-pub use comparison::{
-    Difference, RequesterNames, compare, compare_views, excess, excess_of_views, implies,
-    implies_of_view, same, same_views,
-};
+pub use comparison::{Difference, RequesterNames, compare, compare_views};
 pub use five_forms::{FiveForms, normalize_inherit};
-pub use holder_lines::holders;
 pub use merged::MergedRows;
 pub use normal_form::{is_normal, normal_bytes, normal_bytes_with, normalize, normalize_view};
-pub use reduce::{needed, needed_of_view};
 pub use row_lines::table_text;

@@ -18,7 +18,7 @@ use std::alloc::{AllocError, Global};
 
 /// The greatest number of ACEs of a list whose normal form is found without queues and without a heap. From 14 ACEs on,
 /// queues take less time.
-pub(crate) const SHORT: usize = 10;
+pub const SHORT: usize = 10;
 
 /// Returns whether a list is its own normal form. Fails if memory runs out.
 pub fn is_normal(alloc: Global, list: &Acl) -> Result<bool, AllocError>

@@ -36,7 +36,7 @@ pub(crate) fn short_form(alloc: Global, list: &AclView<'_>) -> Result<Acl, Alloc
 
 /// Returns whether two lists have one normal form, which is whether they grant the same. It takes time that grows with
 /// the square of the number of ACEs.
-pub(crate) fn have_one_form(
+pub fn have_one_form(
     alloc: Global,
     list: &[AceRef<'_>],
     other: &[AceRef<'_>],

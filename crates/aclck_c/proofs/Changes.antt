@@ -4,9 +4,9 @@ use Rattle.acl_perm.specs.Profile.{Profile, full}
 use Rattle.acl_nfs4.specs.Ace.{Ace}
 use Rattle.acl_nfs4.specs.Spelling.{IsAccepted, Xdr}
 use Rattle.std.specs.Prelude.{◌≡◌}
-use Rattle.acl_eval.specs.ListChmod.{chmod_list}
-use Rattle.acl_eval.specs.declared.mode_change.ChmodFault.{ChmodFault}
-use Rattle.acl_eval.specs.declared.mode_change.ChmodFault.TheVariants.{Limits, Memory}
+use Rattle.acl_change.specs.ListChmod.{chmod_list}
+use Rattle.acl_change.specs.declared.mode_change.ChmodFault.{ChmodFault}
+use Rattle.acl_change.specs.declared.mode_change.ChmodFault.TheVariants.{Limits, Memory}
 use Rattle.aclck_c.specs.declared.failure.Failure.{Failure}
 use Rattle.aclck_c.specs.declared.failure.Failure.TheVariants as failure
 use Rattle.aclck_c.specs.internal.Failures.{IsChmodFailure, IsListFailure, of_chmod}

@@ -6,9 +6,9 @@ use Rattle.acl_nfs4.specs.Ace.{Ace}
 use Rattle.acl_nfs4.specs.Fault.{IsWholeFault}
 use Rattle.acl_nfs4.specs.Spelling.{Xdr}
 use Rattle.acl_nfs4.specs.declared.xdr.fault.Fault.{Fault}
-use Rattle.acl_eval.specs.PreparedIds.{IsIdsFault}
-use Rattle.acl_eval.specs.declared.prepared_ids.IdsFault.{IdsFault}
-use Rattle.acl_eval.specs.declared.prepared_ids.IdsFault.TheVariants as faults
+use Rattle.acl_ids.specs.Ids.{IsIdsFault}
+use Rattle.acl_ids.specs.declared.id_names.IdsFault.{IdsFault}
+use Rattle.acl_ids.specs.declared.id_names.IdsFault.TheVariants as faults
 use Rattle.aclck_c.specs.Names.{AreNames, names_added}
 use Rattle.aclck_c.specs.declared.failure.Failure.{Failure}
 use Rattle.aclck_c.specs.declared.failure.Failure.TheVariants as failure

@@ -8,7 +8,7 @@ use Rattle.acl_perm.specs.declared.kind.Kind.TheVariants.{Allow}
 use Rattle.acl_nfs4.specs.AccessPart.{AnyAce, access_part, is_for_access, kept_ace, kind_of_type}
 use Rattle.acl_nfs4.specs.Ace.{Ace}
 use Rattle.acl_nfs4.specs.Who.{is_unknown_special}
-use Rattle.acl_eval.specs.Unknown.{Assignment, answer_under, decides_under}
+use Rattle.acl_decide.specs.Unknown.{Assignment, answer_under, decides_under}
 use Rattle.acl_forms.specs.Part.{PlacedAce, is_unknown_deny, kept, reason_of}
 use Rattle.acl_forms.specs.declared.part.left_out.LeftOutReason.TheVariants.{AuditOrAlarm, SpecialWho}
 use Rattle.acl_forms.specs.PartWords.{IsPartAce, SpelledAce, SpellsWhole}

@@ -3,8 +3,8 @@ use Rattle.std.proofs.Common.{◌≡◌, List, Option, None, Some, inl, inr, ref
 use Rattle.std.specs.Prelude.{◌≤◌, ◌↔◌, IfSome, length}
 use Rattle.acl_posix.specs.Entries.{Entries}
 use Rattle.acl_nfs4.specs.Ace.{Ace}
-use Rattle.acl_eval.specs.LostGrants.{IsExact, IsLossOf}
-use Rattle.acl_eval.specs.declared.losing.LostGrant.{LostGrant}
+use Rattle.acl_to_posix.specs.LostGrants.{IsExact, IsLossOf}
+use Rattle.acl_to_posix.specs.declared.losing.LostGrant.{LostGrant}
 use Rattle.aclck_c.specs.ToPosix.{LosesBy, loss_numbers}
 use Rattle.aclck_c.specs.declared.nfs4.to_posix.RawPosixLoss.{RawPosixLoss}
 

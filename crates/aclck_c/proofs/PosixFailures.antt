@@ -6,9 +6,9 @@ use Rattle.acl_nfs4.specs.Ace.{Ace}
 use Rattle.acl_nfs4.specs.Fault.{IsWholeFault}
 use Rattle.acl_nfs4.specs.Spelling.{Xdr}
 use Rattle.acl_nfs4.specs.declared.xdr.fault.Fault.{Fault}
-use Rattle.acl_eval.specs.PosixOfList.{IsToPosixFault}
-use Rattle.acl_eval.specs.declared.posix_shape.ShapeFault.{ShapeFault}
-use Rattle.acl_eval.specs.declared.posix_shape.ShapeFault.TheVariants as shape
+use Rattle.acl_to_posix.specs.PosixOfList.{IsToPosixFault}
+use Rattle.acl_to_posix.specs.declared.posix_shape.ShapeFault.{ShapeFault}
+use Rattle.acl_to_posix.specs.declared.posix_shape.ShapeFault.TheVariants as shape
 use Rattle.aclck_c.specs.Names.{AreNames, names_added}
 use Rattle.aclck_c.specs.declared.failure.Failure.{Failure}
 use Rattle.aclck_c.specs.declared.failure.Failure.TheVariants as failure

@@ -3,9 +3,9 @@ use Rattle.std.proofs.Common.{ℕ, List, inr, inl, refl}
 use Rattle.acl_perm.specs.Profile.{Profile}
 use Rattle.acl_nfs4.specs.Ace.{Ace}
 use Rattle.acl_nfs4.specs.Spelling.{Xdr}
-use Rattle.acl_eval.specs.Resolved.{IsResolveFault}
-use Rattle.acl_eval.specs.declared.resolving.ResolveFault.{ResolveFault}
-use Rattle.acl_eval.specs.declared.resolving.ResolveFault.TheVariants as fault
+use Rattle.acl_change.specs.Resolved.{IsResolveFault}
+use Rattle.acl_change.specs.declared.resolving.ResolveFault.{ResolveFault}
+use Rattle.acl_change.specs.declared.resolving.ResolveFault.TheVariants as fault
 use Rattle.aclck_c.specs.declared.failure.Failure.{Failure}
 use Rattle.aclck_c.specs.declared.failure.Failure.TheVariants as failure
 use Rattle.aclck_c.specs.internal.Failures.{IsListFailure, IsObjectFailure, of_resolve}

@@ -2,7 +2,7 @@
 use Rattle.std.specs.Prelude.{◌≤◌, ℕ, All, List}
 use Rattle.acl_posix.specs.Check.{Object, Requester}
 use Rattle.acl_posix.specs.Id.{IsId}
-use Rattle.acl_eval.specs.PosixForOwner.{object_for}
+use Rattle.acl_eval.specs.BridgeLaws.{object_for}
 use Rattle.aclck_c.specs.declared.posix.check.RawPosixQuestion.{RawPosixQuestion}
 
 -- who requests access

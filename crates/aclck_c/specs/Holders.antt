@@ -3,7 +3,7 @@ use Rattle.std.specs.Prelude.{ℕ, List}
 use Rattle.acl_perm.specs.Profile.{Profile}
 use Rattle.acl_nfs4.specs.Ace.{Ace}
 use Rattle.acl_nfs4.specs.Spelling.{Xdr}
-use Rattle.acl_normal.specs.Holders.{AreHolders}
+use Rattle.acl_contain.specs.Holders.{AreHolders}
 
 -- the bytes spell a list, and the text says who has the right
 pub record NamesHolders (p : Profile) (right : ℕ) (bytes text : List ℕ) : Type 0 where

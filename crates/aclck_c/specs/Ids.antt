@@ -8,8 +8,8 @@ use Rattle.acl_posix.specs.Names.{Table}
 use Rattle.acl_nfs4.specs.Ace.{Ace}
 use Rattle.acl_nfs4.specs.Spelling.{Xdr}
 use Rattle.acl_eval.specs.Deciding.{AreDecidedBy}
-use Rattle.acl_eval.specs.Ids.{AreRising, first_unknown, situation_of_ids, with_ids}
-use Rattle.acl_eval.specs.PreparedIds.{IsPreparedIds}
+use Rattle.acl_ids.specs.Ids.{AreRising, first_unknown, situation_of_ids, with_ids}
+use Rattle.acl_prepared.specs.PreparedIds.{IsPreparedIds}
 use Rattle.aclck_c.specs.Call.{ReportsFault}
 use Rattle.aclck_c.specs.Lists.{IsRefusedList}
 use Rattle.aclck_c.specs.Names.{AreGoodNames, AreNames}

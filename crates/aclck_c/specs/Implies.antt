@@ -6,7 +6,7 @@ use Rattle.acl_perm.specs.Profile.{Profile}
 use Rattle.acl_perm.specs.Situation.{Situation}
 use Rattle.acl_nfs4.specs.Ace.{Ace}
 use Rattle.acl_nfs4.specs.Spelling.{Xdr}
-use Rattle.acl_normal.specs.Implied.{Implies, IsFirstMissing}
+use Rattle.acl_contain.specs.Implied.{Implies, IsFirstMissing}
 use Rattle.aclck_c.specs.Compare.{names_text, no_difference, raw_difference}
 use Rattle.aclck_c.specs.Options.{IsProfileOption}
 use Rattle.aclck_c.specs.Requests.{IsRight, IsSomeRight}

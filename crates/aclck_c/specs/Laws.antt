@@ -7,7 +7,7 @@ use Rattle.acl_nfs4.specs.Ace.{Ace}
 use Rattle.acl_nfs4.specs.Spelling.{Xdr}
 use Rattle.acl_eval.specs.Grant.{SameGrants}
 use Rattle.acl_eval.specs.GroupSearch.{AreRisingNames}
-use Rattle.acl_eval.specs.Unknown.{Assignment, GrantsUnder}
+use Rattle.acl_decide.specs.Unknown.{Assignment, GrantsUnder}
 use Rattle.acl_forms.specs.Part.{PlacedAce, is_unknown_deny, kept}
 use Rattle.acl_forms.specs.PartTexts.{nfs_any_rules, tools_any_rules}
 use Rattle.acl_forms.specs.PartWords.{SpellsById, SpellsByName, SpellsWhole}

@@ -7,10 +7,10 @@ use Rattle.acl_nfs4.specs.Programs.{MakesText}
 use Rattle.acl_nfs4.specs.Spelling.{IsAccepted, Xdr, spelling}
 use Rattle.acl_nfs4.specs.declared.xdr.fault.Reason.{Reason}
 use Rattle.acl_eval.specs.Inheritance.{inherited_children}
-use Rattle.acl_eval.specs.ListChmod.{chmod_list}
+use Rattle.acl_change.specs.ListChmod.{chmod_list}
 use Rattle.acl_eval.specs.Programs.{child_bytes}
 use Rattle.acl_eval.specs.declared.inherit.ChildKind.{ChildKind}
-use Rattle.acl_normal.specs.Needed.{AreNeeded}
+use Rattle.acl_contain.specs.Needed.{AreNeeded}
 use Rattle.aclck_c.specs.Options.{IsMode, IsProfileOption, child_kind_from, has_option, mark_option, profile_from}
 use Rattle.aclck_c.specs.Refusal.{in_list, past_limits}
 use Rattle.aclck_c.specs.declared.refusal.Refusal.{Refusal}

@@ -9,7 +9,7 @@ use Rattle.acl_nfs4.specs.Ace.{Ace}
 use Rattle.acl_nfs4.specs.Spelling.{Xdr}
 use Rattle.acl_eval.specs.Deciding.{AreDecidedBy}
 use Rattle.acl_eval.specs.GroupSearch.{found_groups}
-use Rattle.acl_eval.specs.Prepared.{IsPrepared}
+use Rattle.acl_prepared.specs.Prepared.{IsPrepared}
 use Rattle.acl_eval.specs.Situation.{named_situation}
 use Rattle.aclck_c.specs.Options.{IsOrderOption, says_order}
 use Rattle.aclck_c.specs.Requests.{IsGoodObject, IsGoodRequester, nothing_decided}

@@ -4,7 +4,7 @@ use Rattle.std.specs.Prelude.{◌≡◌, ◌⊎◌, ℕ, List, None, Some}
 use Rattle.acl_perm.specs.Profile.{Profile}
 use Rattle.acl_nfs4.specs.Ace.{Ace}
 use Rattle.acl_nfs4.specs.Spelling.{Xdr, spelling}
-use Rattle.acl_eval.specs.Resolved.{first_nameless, resolved_list}
+use Rattle.acl_change.specs.Resolved.{first_nameless, resolved_list}
 use Rattle.aclck_c.specs.Ids.{unknown_at}
 use Rattle.aclck_c.specs.Lists.{IsRefusedList}
 use Rattle.aclck_c.specs.Options.{IsProfileOption}

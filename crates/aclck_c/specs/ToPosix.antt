@@ -9,13 +9,14 @@ use Rattle.acl_posix.specs.Names.{Table}
 use Rattle.acl_posix.specs.declared.raw_entry.RawEntry.{RawEntry}
 use Rattle.acl_nfs4.specs.Ace.{Ace}
 use Rattle.acl_nfs4.specs.Spelling.{Xdr}
-use Rattle.acl_eval.specs.Ids.{with_ids}
-use Rattle.acl_eval.specs.LostGrants.{IsExact, IsLossOf}
-use Rattle.acl_eval.specs.PosixOfList.{IsPosixOf, IsToPosixFault}
-use Rattle.acl_eval.specs.ToPosix.{IsSound}
-use Rattle.acl_eval.specs.declared.losing.LostGrant.{LostGrant}
-use Rattle.acl_eval.specs.declared.posix_shape.ShapeFault.{ShapeFault}
-use Rattle.acl_eval.specs.declared.posix_shape.ShapeFault.TheVariants as shape
+use Rattle.acl_ids.specs.Ids.{with_ids}
+use Rattle.acl_to_posix.specs.ListNames.{AreFewNames}
+use Rattle.acl_to_posix.specs.LostGrants.{IsExact, IsLossOf}
+use Rattle.acl_to_posix.specs.PosixOfList.{IsPosixOf, IsToPosixFault}
+use Rattle.acl_to_posix.specs.ToPosix.{IsSound}
+use Rattle.acl_to_posix.specs.declared.losing.LostGrant.{LostGrant}
+use Rattle.acl_to_posix.specs.declared.posix_shape.ShapeFault.{ShapeFault}
+use Rattle.acl_to_posix.specs.declared.posix_shape.ShapeFault.TheVariants as shape
 use Rattle.aclck_c.specs.Call.{ReportsFault}
 use Rattle.aclck_c.specs.Entries.{raws_of}
 use Rattle.aclck_c.specs.Ids.{unknown_at}
@@ -78,15 +79,16 @@ LosesBy list acl loss = (IsExact list acl × (loss ≡ nothing_lost)) ⊎ IsRawL
 
 -- ---- what is made
 
--- the names make a table, the bytes spell a list, and the entries are those of the ACL of the list, which grants no
--- more than the list, and loses this
-pub record BecomesPosix (bytes : List ℕ) (names : List RawName) (loss : RawPosixLoss) (made : List RawEntry)
-    : Type 0 where
+-- the names make a table, the bytes spell a list that names no more users and groups than the bound, and the entries
+-- are those of the ACL of the list, which grants no more than the list, and loses this
+pub record BecomesPosix (bytes : List ℕ) (names : List RawName) (most : ℕ) (loss : RawPosixLoss)
+    (made : List RawEntry) : Type 0 where
   pub table : Table
   pub list : List Ace
   pub acl : Entries
   pub named : AreNames names table
   pub spelled : Xdr full list bytes
+  pub few : AreFewNames most table list
   pub rule : IsPosixOf table list acl
   pub sound : IsSound (with_ids table list) acl
   pub lost : LosesBy (with_ids table list) acl loss

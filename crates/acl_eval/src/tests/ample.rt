@@ -2,26 +2,14 @@
 //! its subject. That file has the expected values and says where they are from. Its module `ample` has the other tests
 //! that need ample memory.
 
-use super::{
-    bridging, creation, granting, ids, losses, mode_changes, modes, naming, owners, pruning, shapes,
-};
+use super::{bridging, creation, modes, naming};
 use acl_nfs4::PushFault;
 
 #[test]
 fn every_row_holds_with_enough_memory(rt: HostRuntime) -> Result<(), PushFault> {
     let alloc = rt.alloc();
-    granting::check_prepared(&rt, alloc);
-    ids::check_ids(&rt, alloc)?;
-    ids::check_unknown(&rt, alloc)?;
     bridging::check_lists(&rt, alloc)?;
     creation::check_creations(&rt, alloc)?;
-    losses::check_losses(&rt, alloc)?;
-    mode_changes::check_mode_changes(&rt, alloc)?;
-    mode_changes::check_second_change(&rt, alloc)?;
     modes::check_modes(&rt, alloc)?;
-    owners::check_owners(&rt, alloc)?;
-    pruning::check_conversions(&rt, alloc)?;
-    shapes::check_named(&rt, alloc)?;
-    shapes::check_shapes(&rt, alloc)?;
     naming::check_sorted_groups(&rt, alloc)
 }

@@ -1,6 +1,7 @@
 //! Bridged lists, row by row, and how many entries an ACL with a list can have. The lists are worked by hand from
-//! docs/lists.md, "From POSIX to NFSv4", because no standard has them. What the check answers is by acl(5), "ACCESS
-//! CHECK ALGORITHM", what a list grants by RFC 8881, section 6.2.1, and the mode of a list by its section 6.3.2.
+//! docs/reference/lists.md, "From POSIX to NFSv4", because no standard has them. What the check answers is by acl(5),
+//! "ACCESS CHECK ALGORITHM", what a list grants by RFC 8881, section 6.2.1, and the mode of a list by its section
+//! 6.3.2.
 
 use super::harness::{kept, passes};
 use crate::*;

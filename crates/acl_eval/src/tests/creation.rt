@@ -1,5 +1,5 @@
 //! What a new file or directory inherits, row by row and over all flags. RFC 8881, section 6.2.1.4.1, has the flags,
-//! and docs/lists.md, "Creation", has the rules, which are this library's own.
+//! and docs/reference/lists.md, "Creation", has the rules, which are this library's own.
 
 use super::harness::{ALLOW, AceRow, DENY, built, kept, passes};
 use crate::*;

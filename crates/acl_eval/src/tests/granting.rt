@@ -1,11 +1,6 @@
 //! What a list grants, by RFC 8881, section 6.2.1.
 
 use super::lists::{GROUP_NAMED, INHERIT_ONLY, NONE, Question, THREE};
-use crate::{Object, Prepared, Requester};
-use acl_perm::Mask;
-use std::alloc::Global;
-use std::process::Abort;
-use std::test::Fail;
 
 // A list, the owner, the requester, who is in the group staff, the rights, and whether they are granted.
 static REQUESTS: [(&[u8], &str, &str, u32, bool); 11] = [
@@ -87,35 +82,4 @@ fn the_rights_are_allowed_denied_or_undecided(rt: HostRuntime) {
             "{user} of {owner}, {bits}"
         );
     }
-}
-
-/// Checks that prepared lists decide as the rows above.
-pub fn check_prepared(rt: &impl Abort, alloc: Global) {
-    for (bytes, owner, user, bits, allowed, denied) in DECIDED {
-        let question = Question::new(bytes, owner, user, &[b"staff", b"users"]);
-        assert!(rt;
-            question.decided_prepared(alloc, bits) == Some((allowed, denied)),
-            "{user} of {owner}, {bits}"
-        );
-    }
-}
-
-#[test]
-fn other_bytes_are_no_prepared_list(rt: HostRuntime) -> Result<(), Fail> {
-    let object = Object::new(b"alice", b"staff").ok_or("a name is empty")?;
-    let bob = Requester::new(b"bob", &[b"staff"]).ok_or("a name is empty")?;
-    assert!(rt; Prepared::read(b"aclprep").is_none());
-    assert!(rt; Prepared::read(b"aclprep2").is_none());
-    // A cut number, a name that is not there, a sixth principal, and a bit that is no right.
-    let others: [&[u8]; 4] = [
-        b"aclprep1\x01\0\0",
-        b"aclprep1\x01\0\0\0\x02\0\x01\0",
-        b"aclprep1\x01\0\0\0\x0a\0\0\0",
-        b"aclprep1\0\x08\0\0\x08\0\0\0",
-    ];
-    for bytes in others {
-        let prepared = Prepared::read(bytes).ok_or("it begins as prepared bytes")?;
-        assert!(rt; prepared.decided(&object, &bob, Mask::ALL).is_none());
-    }
-    Ok(())
 }

@@ -4,7 +4,6 @@
 use crate::*;
 use acl_nfs4::AclView;
 use acl_perm::Mask;
-use std::alloc::Global;
 
 /// No ACE.
 pub const NONE: &[u8; 4] = b"\0\0\0\0";
@@ -76,15 +75,6 @@ impl<'a> Question<'a> {
     pub fn decided(&self, bits: u32) -> Option<(u32, u32)> {
         let (list, object, requester) = self.values()?;
         let rights = decided(list.aces(), &object, &requester, Mask::new(bits)?);
-        Some((rights.allowed.bits(), rights.denied.bits()))
-    }
-
-    /// Returns what `decided` returns, from the prepared bytes of the list.
-    pub fn decided_prepared(&self, alloc: Global, bits: u32) -> Option<(u32, u32)> {
-        let (list, object, requester) = self.values()?;
-        let bytes = prepare(alloc, &list).ok()?;
-        let prepared = Prepared::read(&bytes)?;
-        let rights = prepared.decided(&object, &requester, Mask::new(bits)?)?;
         Some((rights.allowed.bits(), rights.denied.bits()))
     }
 }

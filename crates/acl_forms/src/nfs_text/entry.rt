@@ -4,7 +4,7 @@ ghost use Rattle.acl_perm.specs.Lines.{span_of, ColumnsFit};
 ghost use Rattle.acl_nfs4.specs.Limits.{most_aces, most_weight};
 ghost use Rattle.acl_nfs4.specs.internal.Reading.{Gives};
 ghost use Rattle.acl_forms.specs.Letters.{nfs_flag_letters, nfs_right_letters, no_letter, set_of_letters};
-ghost use Rattle.acl_forms.specs.NfsText.{nfs_ace, nfs_entry, nfs_fields_read, nfs_kind, nfs_type, tag_special, unless_special, who_by_tag, who_of_fields};
+ghost use Rattle.acl_forms.specs.NfsText.{nfs_ace, nfs_entry, nfs_fields_read, nfs_kind, nfs_type, tag_special, unless_special, who_by_fields, who_by_tag, who_of_fields};
 ghost use Rattle.acl_forms.specs.PartTexts.{nfs_any_ace, nfs_any_entry};
 ghost use Rattle.acl_forms.specs.internal.TextReading.{AddsOne};
 ghost use Rattle.acl_forms.specs.ToolsText.{taken};
@@ -16,7 +16,7 @@ ghost use Rattle.acl_forms.specs.declared.object.ObjectKind.TheVariants.{Directo
 use crate::fault::{ReadFault, ReadReason};
 use crate::letters::{NFS_FLAG_LETTERS, NFS_RIGHT_LETTERS, read_letters};
 use crate::nfs_text::fields::{EntryParts, fields_of, is_word};
-use crate::nfs_text::id::{id_alone, is_other_number};
+use crate::nfs_text::id::{id_alone, is_odd_number, is_other_number};
 use crate::object::ObjectKind;
 use crate::part::any_ace::AnyAceRef;
 use crate::part::any_entry::{AnyEntry, judged};
@@ -238,6 +238,21 @@ fn account_at<'a>(
 ) -> Result<EntryWho<'a>, ReadFault>
     ensures { Gives entry_name result
         (who_of_fields source (span_of name.entry) (option_map span_of field.entry)) }
+{
+    if is_odd_number(name.bytes) {
+        return Err(ReadFault::new(name.column, ReadReason::Id));
+    }
+    account_by(name, field, source)
+}
+
+// Returns the user or the group of a name that readers read alike, and of the field of an id.
+fn account_by<'a>(
+    name: Piece<'a>,
+    field: Option<Piece<'a>>,
+    source: WhoField,
+) -> Result<EntryWho<'a>, ReadFault>
+    ensures { Gives entry_name result
+        (who_by_fields source (span_of name.entry) (option_map span_of field.entry)) }
 {
     let Some(field) = field else {
         return named_at(name);

@@ -1,7 +1,8 @@
 //! Ids in a text.
 ghost use Rattle.std.specs.Prelude.{◌≡◌, option_map};
-ghost use Rattle.acl_forms.specs.NfsText.{id_alone, is_other_number};
+ghost use Rattle.acl_forms.specs.NfsText.{id_alone, is_odd_number, is_other_number};
 
+use crate::acl41_ids_writer::id_in_digits;
 use acl_posix::Id;
 use acl_posix::internal::{is_number, read_id};
 
@@ -14,6 +15,14 @@ pub(crate) fn id_alone(bytes: &[u8]) -> Option<Id>
     } else {
         None
     }
+}
+
+/// Returns whether a name is digits alone, but not the decimal digits of an id. Readers of the form differ in whom it
+/// means: libarchive reads `007` as the id 7.
+pub(crate) fn is_odd_number(name: &[u8]) -> bool
+    ensures { result ≡ is_odd_number name.now }
+{
+    is_number(name) && id_in_digits(name).is_none()
 }
 
 /// Returns whether a name is digits alone and spells another number than this id.

@@ -24,9 +24,9 @@ use std::alloc::Global;
 /// The faults are judged in this order. Nul: the text has a zero byte. In each line, Comment: a comment has a comma.
 /// In each entry of a line that is not blank, EmptyEntry: the entry is blank; TooManyAces; Tag: the principal is none
 /// of the five; Fields: there are too few fields or too many; Mask, Flag: the first letter that is no permission or no
-/// flag; AuditOrAlarm or AceType; Id: the id is not digits alone, or above 4294967294; IdDiffers: the name is the
-/// digits of another id; SpecialWho: the name is a special identifier; TooHeavy; and the faults of the who. If memory
-/// runs out, the reason is Memory.
+/// flag; AuditOrAlarm or AceType; Id: the name is digits alone, but not the decimal digits of an id, such as `007`; Id:
+/// the id is not digits alone, or above 4294967294; IdDiffers: the name is the digits of another id; SpecialWho: the
+/// name is a special identifier; TooHeavy; and the faults of the who. If memory runs out, the reason is Memory.
 ///
 /// ```rust
 /// let text = b"owner@:rw-p----------:-------:allow,user:bob:r::deny:1001";

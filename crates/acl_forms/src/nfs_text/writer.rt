@@ -8,7 +8,7 @@ ghost use Rattle.acl_nfs4.specs.Limits.{longest_who, most_aces};
 ghost use Rattle.acl_forms.specs.Acl41Ids.{id_of_digits};
 ghost use Rattle.acl_forms.specs.FormWrites.{WritesIfHeld};
 ghost use Rattle.acl_forms.specs.Letters.{nfs_flag_letters, nfs_right_letters};
-ghost use Rattle.acl_forms.specs.NfsWritten.{account_word, id_after, is_cut_who, is_id_cut, kind_word, nfs_ace_fault, nfs_entry_text, nfs_fault_from, nfs_text, nfs_text_fault, principal_text, special_word};
+ghost use Rattle.acl_forms.specs.NfsWritten.{account_word, id_after, is_cut_who, is_id_cut, is_other_id, kind_word, nfs_ace_fault, nfs_entry_text, nfs_fault_from, nfs_text, nfs_text_fault, principal_text, special_word};
 ghost use Rattle.acl_forms.specs.ToolsWritten.{letters_of};
 ghost use Rattle.acl_forms.specs.internal.TextWriting.{id_room, longest_special_word, longest_word, text_line_room};
 
@@ -16,6 +16,7 @@ use crate::acl41_ids_writer::id_in_digits;
 use crate::fault::{FormFault, FormReason};
 use crate::form_write::FormWriteFault;
 use crate::letters::{nfs_flag_letters, nfs_right_letters};
+use crate::nfs_text::id::is_odd_number;
 use crate::style::{LetterStyle, Style};
 use crate::tools::writer::has_separator;
 use crate::writing::{
@@ -57,8 +58,8 @@ pub fn write_nfs_text<S: Sink>(
 
 /// Returns why the text of FreeBSD and libarchive cannot hold a list, or `None` if it can: the first ACE that it cannot
 /// hold, and the first reason in this order. Retention: the ACE has one of the two rights of retention. Separator: its
-/// who has a comma, a colon or a `#`, or a blank at one of its ends. Id: its who is the digits of an id above
-/// 2147483647, which libarchive does not keep. Time linear in the list.
+/// who has a comma, a colon or a `#`, or a blank at one of its ends. Id: its who is digits alone, which libarchive takes
+/// for an id, but not the decimal digits of an id up to 2147483647, which it keeps. Time linear in the list.
 ///
 /// ```rust
 /// let list = parse_text(alloc, b"ALLOW - READ_DATA a,b\n")?;
@@ -94,7 +95,7 @@ fn ace_fault(item: AceRef<'_>) -> Option<FormReason>
         Some(FormReason::Retention)
     } else if is_cut_who(item.who) {
         Some(FormReason::Separator)
-    } else if has_id_cut(item.who) {
+    } else if is_other_id(item.who) {
         Some(FormReason::Id)
     } else {
         None
@@ -106,6 +107,13 @@ fn is_cut_who(who: &[u8]) -> bool
     ensures { result ≡ is_cut_who who.now }
 {
     has_separator(who) || trimmed(who) != who
+}
+
+// Returns whether a who is digits that libarchive reads as another id.
+fn is_other_id(who: &[u8]) -> bool
+    ensures { result ≡ is_other_id who.now }
+{
+    is_odd_number(who) || has_id_cut(who)
 }
 
 // Returns whether a who is the digits of an id that libarchive does not keep.

@@ -54,17 +54,18 @@ DENY GROUP WRITE_DATA|WRITE_NAMED_ATTRS|DELETE_CHILD 2001\n",
 ];
 
 // A text, and the list that libarchive made of it, with the ids where there are some.
-const READ_BY_ID: [(&[u8], &[u8]); 3] = [
+const READ_BY_ID: [(&[u8], &[u8]); 4] = [
     (
         b"group:staff:wpARs::deny:23273",
         b"DENY GROUP WRITE_DATA|APPEND_DATA|READ_NAMED_ATTRS|WRITE_ATTRIBUTES|SYNCHRONIZE 23273\n",
     ),
     (b"user:joe:rx::allow:007", b"ALLOW - READ_DATA|EXECUTE 7\n"),
     (b"user:bob:r::allow", b"ALLOW - READ_DATA bob\n"),
+    (b"user:0:r::allow", b"ALLOW - READ_DATA 0\n"),
 ];
 
 // A text that is refused, and the message that says why.
-const REFUSED: [(&[u8], &str); 24] = [
+const REFUSED: [(&[u8], &str); 29] = [
     (b"owner@:r::allow\0", "Nul at byte 15"),
     (b"owner@:r::allow#,user:eve:r::deny", "Comment at byte 16"),
     (b"owner@:r::allow,", "EmptyEntry at byte 16"),
@@ -84,6 +85,12 @@ const REFUSED: [(&[u8], &str); 24] = [
     (b"user:bob:r::allow:", "Id at byte 18"),
     (b"user:bob:r::allow:4294967295", "Id at byte 18"),
     (b"user:7:r::allow:8", "IdDiffers at byte 16"),
+    // libarchive reads these as the ids 7, 0, 7, 2147483647 and 8.
+    (b"user:007:r::allow", "Id at byte 5"),
+    (b"group:00:r::deny", "Id at byte 6"),
+    (b"user: 007 :r::allow:7", "Id at byte 6"),
+    (b"user:4294967295:r::deny", "Id at byte 5"),
+    (b"user:007:r::allow:8", "Id at byte 5"),
     (b"user:OWNER@:r::allow", "SpecialWho at byte 5"),
     (b"user:AUTHENTICATED@:r::allow", "SpecialWho at byte 5"),
     (b"user::r::allow", "WhoLength at byte 5"),
@@ -106,8 +113,8 @@ const PRINTED: [(Style, &[u8], &[u8]); 7] = [
     ),
     (
         LINES,
-        b"ALLOW - - 007\nALLOW - - 2147483647\n",
-        b"user:007:::allow\nuser:2147483647:::allow:2147483647\n",
+        b"ALLOW - - 7\nALLOW - - 2147483647\n",
+        b"user:7:::allow:7\nuser:2147483647:::allow:2147483647\n",
     ),
     (
         Style::ARCHIVE,
@@ -128,13 +135,15 @@ const PRINTED: [(Style, &[u8], &[u8]); 7] = [
 ];
 
 // A list in the text form that the text cannot hold, and the message that says why.
-const NOT_HELD: [(&[u8], &str); 6] = [
+const NOT_HELD: [(&[u8], &str); 8] = [
     (b"ALLOW - WRITE_RETENTION a,b\n", "Retention at entry 0"),
     (b"ALLOW - - a\nALLOW - - a,b\n", "Separator at entry 1"),
     (b"ALLOW - - a:b\n", "Separator at entry 0"),
     (b"ALLOW - - a#b\n", "Separator at entry 0"),
     (b"ALLOW - - a \n", "Separator at entry 0"),
     (b"ALLOW - - 2147483648\n", "Id at entry 0"),
+    (b"ALLOW - - a\nALLOW - - 007\n", "Id at entry 1"),
+    (b"ALLOW GROUP - 4294967295\n", "Id at entry 0"),
 ];
 
 // Returns whether a text spells the list with this text form, or is refused with this message.
@@ -190,6 +199,7 @@ mod ample {
         let alloc = rt.alloc();
         for (text, message) in REFUSED {
             assert!(rt; is_read(alloc, text, WhoField::Name, message.as_bytes())?);
+            assert!(rt; is_read(alloc, text, WhoField::Id, message.as_bytes())?);
         }
         Ok(())
     }

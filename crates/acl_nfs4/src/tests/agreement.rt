@@ -1,6 +1,6 @@
 //! The property that every reader returns the same list or the same fault, however the bytes arrive. The offsets of the
 //! faults are those of the fields in the layout of RFC 4506 over RFC 8881, section 6.2.1; the reasons are those of
-//! docs/formats.md.
+//! docs/reference/formats.md.
 
 use super::readers::{ALICE, ONE, THREE, decoded, fault, fed, parsed};
 use crate::*;

@@ -1,7 +1,7 @@
 //! Owned lists. The properties are that a copy and the list of a view are the same list, and that lists are ordered by
 //! their bytes (RFC 4506, sections 4.2, 4.10 and 4.13). The profiles, and the lines that display ACEs, are those of
-//! docs/formats.md and docs/contracts.md, with the names and numbers of RFC 8881, sections 6.2.1.3.1, 6.2.1.4.1 and
-//! 6.2.1.5.
+//! docs/reference/formats.md and docs/proofs/contracts.md, with the names and numbers of RFC 8881, sections 6.2.1.3.1,
+//! 6.2.1.4.1 and 6.2.1.5.
 
 use super::harness::{is_displayed_as, kept};
 use super::rows::{

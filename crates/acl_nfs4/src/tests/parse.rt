@@ -1,5 +1,6 @@
 //! Bytes that spell a list, and bytes that have a fault. The offsets are those of the fields in the layout of RFC 4506,
-//! sections 4.2, 4.10 and 4.13, over RFC 8881, section 6.2.1; the limits and the reasons are those of docs/formats.md.
+//! sections 4.2, 4.10 and 4.13, over RFC 8881, section 6.2.1; the limits and the reasons are those of
+//! docs/reference/formats.md.
 
 use super::harness::{is_displayed_as, kept};
 use super::readers::ONE;

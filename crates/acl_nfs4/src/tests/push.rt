@@ -1,5 +1,6 @@
 //! The answers when an ACE is pushed. RFC 3629, sections 3 and 4, says which bytes are UTF-8, and RFC 8881, section
-//! 6.2.1.5, has the special identifiers; the limits and the order of the answers are those of docs/formats.md.
+//! 6.2.1.5, has the special identifiers; the limits and the order of the answers are those of
+//! docs/reference/formats.md.
 
 use super::harness::is_displayed_as;
 use super::rows::{EVERYONE, built, check_copy, item, repeated, shows};

@@ -1,5 +1,5 @@
-//! Texts that spell a list, and texts that have a fault, by the grammar of docs/formats.md. The names of the rights are
-//! those of RFC 8881, section 6.2.1.3.1, and those of the flags shorten the names of section 6.2.1.4.1.
+//! Texts that spell a list, and texts that have a fault, by the grammar of docs/reference/formats.md. The names of the
+//! rights are those of RFC 8881, section 6.2.1.3.1, and those of the flags shorten the names of section 6.2.1.4.1.
 
 use super::harness::{is_displayed_as, kept};
 use crate::*;

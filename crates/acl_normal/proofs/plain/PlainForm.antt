@@ -2,7 +2,7 @@
 use Rattle.std.proofs.Common.{List, [], false, length, refl, true, ℕ, ◌≡◌, ◌≤◌, Bool}
 use Rattle.acl_normal.proofs.Common.{Ace, ColumnKey, Has, HasMasks, HasOnceColumns, HaveNames, IsAccepted, IsAlike, IsEmission, IsIrreducible, IsIrreducibleList, IsNormal, IsNormalFormOf, IsOnce, SameGrants, all_rights, ap, arith, column, Deny, equivalence, full, has_bit, left, matches, reduced, subst, sym, unwrap_or, ◌∙◌}
 use Rattle.acl_normal.proofs.emit.Leaving.{alike_nothing, column_left, left_normal, masks_of_quiet}
-use Rattle.acl_normal.proofs.reduce.NeededRights.{irreducible_fewest, reduced_irreducible}
+use Rattle.acl_normal.proofs.reduce.Fewest.{irreducible_fewest, reduced_irreducible}
 use Rattle.acl_normal.proofs.reduce.Reduced.{reduced_once, same_reduced}
 use Rattle.acl_normal.proofs.reduce.Reducing.{no_column}
 use Rattle.acl_normal.proofs.unique.Accepted.{accepted_masks, accepted_names}

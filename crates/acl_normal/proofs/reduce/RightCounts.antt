@@ -6,7 +6,7 @@ use Rattle.acl_eval.specs.Laws.{IsEquivalence}
 use Rattle.acl_normal.proofs.Common.{Ace, AceRef, Bool, IsIrreducible, IsReducedOf, List, Mask, SameGrants, [], aces_in, aces_with, all_rights, ap, arith, column, equivalence, false, full, has_bit, left, length, refl, subst, true, weight, ℕ, ◌∷◌, ◌≡◌, ◌≤◌}
 use Rattle.acl_normal.specs.internal.Counts.{rights_together}
 use Rattle.acl_normal.proofs.emit.Leaving.{column_left, masks_of_quiet}
-use Rattle.acl_normal.proofs.reduce.NeededRights.{irreducible_fewest}
+use Rattle.acl_normal.proofs.reduce.Fewest.{irreducible_fewest}
 use Rattle.acl_normal.proofs.reduce.Reducing.{names_kept}
 use Rattle.acl_normal.proofs.unique.Accepted.{accepted_names}
 use Rattle.acl_normal.proofs.unique.IrreducibleLists.{irreducible_column}

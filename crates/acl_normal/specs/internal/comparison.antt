@@ -18,8 +18,6 @@ pub mod Members
 pub mod MentionedRows
 -- tables that show at once whether a row inverts another
 pub mod PlaceTables
--- the list that grants some rights where another list grants one right
-pub mod RightReplaced
 -- the rights on which two lists may differ
 pub mod RightsApart
 -- where a list names the same as another

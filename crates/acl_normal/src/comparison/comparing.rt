@@ -1,6 +1,6 @@
 //! The comparison of two lists: the first small situation in which one grants a right that the other denies.
 ghost use Rattle.std.specs.Prelude.{◌↔◌, ◌≡◌, IsNone};
-ghost use Rattle.acl_normal.specs.Common.{aces_in, all_rights, IfOk, IfSome, IsOk, IsTrue, SameGrants, two_lists};
+ghost use Rattle.acl_normal.specs.Common.{aces_in, all_rights, IfOk, IfSome, IsOk, SameGrants, two_lists};
 ghost use Rattle.acl_normal.specs.Difference.{situation_of};
 ghost use Rattle.acl_normal.specs.SmallSets.{IsFirstDifference, TellsApart};
 ghost use Rattle.acl_normal.specs.internal.Tidy.{HasNames};
@@ -28,8 +28,8 @@ use std::alloc::{AllocError, Global};
 /// let difference = compare(alloc, &first, &second)?.ok_or("the lists grant the same")?;
 /// let names = difference.requester_names();
 /// let (object, requester) = (difference.object(), names.requester());
-/// let decision = deciding_ace(second.aces(), &object, &requester, difference.right());
-/// assert!(rt; decision.is_some_and(|decision| decision.place == 0));
+/// let rights = decided(second.aces(), &object, &requester, Mask::from(difference.right()));
+/// assert!(rt; rights.denied == Mask::READ_DATA);
 /// ```
 pub fn compare(alloc: Global, first: &Acl, second: &Acl) -> Result<Option<Difference>, AllocError>
     // None if and only if both lists grant the same.
@@ -75,49 +75,9 @@ pub fn compare_views(
     }
 }
 
-/// Returns whether two lists grant the same in every situation, as [`compare`] does, but names no situation in which
-/// they do not. So it takes less time for two short lists that differ. Fails if memory runs out.
-///
-/// ```rust
-/// let first = parse_text(alloc, b"DENY - WRITE_DATA bob\nALLOW - READ_DATA OWNER@\n")?;
-/// let second = parse_text(alloc, b"ALLOW - READ_DATA OWNER@\n")?;
-/// assert!(rt; same(alloc, &first, &second)?);
-/// ```
-pub fn same(alloc: Global, first: &Acl, second: &Acl) -> Result<bool, AllocError>
-    ensures answer { IfOk result (λ answer. IsTrue answer
-        ↔ SameGrants all_rights first.now second.now) }
-    // For equal lists memory never runs out.
-    ensures equal { first.now ≡ second.now → IsOk result }
-{
-    if *first == *second {
-        return Ok(true);
-    }
-    same_views(alloc, &first.view(), &second.view())
-}
-
-/// Returns whether the lists of two views grant the same in every situation, as [`same`] does for two owned lists. It
-/// copies neither list. Unlike `same`, it does not look first whether the lists are equal, so that it may run out of
-/// memory for equal lists too.
-pub fn same_views(
-    alloc: Global,
-    first: &AclView<'_>,
-    second: &AclView<'_>,
-) -> Result<bool, AllocError>
-    ensures answer { IfOk result (λ answer. IsTrue answer
-        ↔ SameGrants all_rights first.now second.now) }
-{
-    if first.len() > SHORT || second.len() > SHORT {
-        let difference = compare_views(alloc, first, second)?;
-        return Ok(difference.is_none());
-    }
-    let list = collect(alloc, first)?;
-    let other = collect(alloc, second)?;
-    have_one_form(alloc, &list, &other)
-}
-
 /// Returns the first small situation in which two lists differ in a direction. The lists are borrowed for the same
 /// lifetime, because one value holds both.
-pub(crate) fn searched<'a>(
+pub fn searched<'a>(
     alloc: Global,
     direction: Direction,
     first: &AclView<'a>,
@@ -131,7 +91,7 @@ pub(crate) fn searched<'a>(
 }
 
 /// Returns the first small situation in which two lists of ACEs differ in a direction.
-pub(crate) fn searched_among<'a>(
+pub fn searched_among<'a>(
     alloc: Global,
     direction: Direction,
     list: &[AceRef<'a>],

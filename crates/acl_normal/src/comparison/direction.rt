@@ -7,7 +7,7 @@ use acl_perm::Mask;
 
 /// Which differences of two lists a search looks for.
 #[derive(Clone, Copy)]
-pub(crate) enum Direction {
+pub enum Direction {
     /// One list, either the first or the second, grants a right that the other denies.
     Either,
     /// The first list grants a right that the second denies.

@@ -1,4 +1,4 @@
-//! The object, the requester and the right of a difference, in the types that `deciding_ace` of `acl_eval` takes.
+//! The object, the requester and the right of a difference, in the types that the calls of `acl_eval` take.
 ghost use Rattle.std.specs.Prelude.{◌^◌, ◌≡◌};
 ghost use Rattle.acl_normal.specs.Common.{slice_index_or};
 ghost use Rattle.acl_eval.specs.Situation.{groups_of, owner_of, owning_group_of, user_of};

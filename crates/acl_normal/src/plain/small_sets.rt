@@ -37,8 +37,8 @@ pub fn compare(alloc: Global, first: &Acl, second: &Acl) -> Result<Option<Differ
     searched(alloc, Direction::Either, first, second)
 }
 
-/// Returns the same as [`crate::excess`], but tries all small situations, as `compare` here does. Fails if memory runs
-/// out.
+/// Returns the same as the fast search over a first list, but tries all small situations, as `compare` here does. Fails
+/// if memory runs out.
 pub fn excess(alloc: Global, first: &Acl, second: &Acl) -> Result<Option<Difference>, AllocError>
     // The same result: `None` if and only if the second list grants whatever the first grants, and otherwise the first
     // excess.

@@ -6,10 +6,7 @@ use acl_nfs4::{AceRef, AclView};
 use std::alloc::{AllocError, Global};
 
 /// Returns the ACEs of the list, which borrow its bytes.
-pub(crate) fn collect<'a>(
-    alloc: Global,
-    source: &AclView<'a>,
-) -> Result<Vec<AceRef<'a>>, AllocError>
+pub fn collect<'a>(alloc: Global, source: &AclView<'a>) -> Result<Vec<AceRef<'a>>, AllocError>
     ensures aces { IfOk result (λ aces. aces_in aces.items ≡ source.now) }
     ensures accepted { IsAccepted full source.now }
 {

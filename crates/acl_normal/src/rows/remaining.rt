@@ -16,9 +16,9 @@ use std::marker::Model;
 
 /// The ACEs of a list, their masks without the rights that play no part, and the rows of their principals.
 #[derive(Drop)]
-pub(crate) struct Reduced<'a> {
-    pub(crate) aces: Vec<AceRef<'a>>,
-    pub(crate) masks: Vec<Mask>,
+pub struct Reduced<'a> {
+    pub aces: Vec<AceRef<'a>>,
+    pub masks: Vec<Mask>,
     pub(crate) numbers: RowNumbers,
 }
 

@@ -1,5 +1,5 @@
-//! The five forms of lists of one ACE, by its flags (the rules of creation in docs/lists.md, over RFC 8881, section
-//! 6.2.1.4.1).
+//! The five forms of lists of one ACE, by its flags (the rules of creation in docs/reference/lists.md, over RFC 8881,
+//! section 6.2.1.4.1).
 
 use super::harness::{ALLOW, READ_DATA, built, kept, passes};
 use crate::*;

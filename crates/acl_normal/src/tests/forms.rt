@@ -1,4 +1,5 @@
-//! Normal forms of worked lists, worked by hand from docs/lists.md ("The normal form", over RFC 8881, section 6.2.1).
+//! Normal forms of worked lists, worked by hand from docs/reference/lists.md ("The normal form", over RFC 8881, section
+//! 6.2.1).
 
 use super::harness::{
     ALLOW, AMY, AceRow, DENY, EVERYONE, EXECUTE, FOR_FILES, GROUP, NO_STAFF, NO_WRITE,

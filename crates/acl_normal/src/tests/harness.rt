@@ -1,6 +1,6 @@
 //! What the tests of this crate share: lists that are built from rows, some lists that several tests use, and how a
 //! table of tests treats a call that runs out of memory. `NO_WRITE_FORM` is the normal form of `NO_WRITE`, worked by
-//! hand from docs/lists.md ("The normal form").
+//! hand from docs/reference/lists.md ("The normal form").
 
 use acl_nfs4::{AceRef, Acl, PushFault};
 use acl_perm::{Flags, Kind, Mask};

@@ -1,6 +1,6 @@
 //! The order of names that begin with the same bytes. It is the order of byte strings in Rust (`Ord` for slices, in the
 //! documentation of std): byte by byte, and the beginning of a name before the name. That a normal form has each name
-//! once follows from docs/lists.md ("The normal form").
+//! once follows from docs/reference/lists.md ("The normal form").
 
 use super::harness::{ALLOW, GROUP, READ_DATA, ace_of, kept, passes};
 use crate::normalize;

@@ -1,6 +1,6 @@
 //! The property that the comparison finds the same as the plain search, which tries all small situations in the order
-//! of docs/lists.md, "Comparison", over lists that look random. `grants` shows each difference too. Where the lists of
-//! many groups differ is worked by hand from the first match (RFC 8881, section 6.2.1).
+//! of docs/reference/lists.md, "Comparison", over lists that look random. `grants` shows each difference too. Where the
+//! lists of many groups differ is worked by hand from the first match (RFC 8881, section 6.2.1).
 
 use super::differences::is_shown_by_grants;
 use super::harness::{

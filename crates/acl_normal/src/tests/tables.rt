@@ -1,5 +1,5 @@
 //! The tables of single rights of some lists: the ACEs of the normal form that have the right, worked by hand from
-//! docs/lists.md ("The normal form").
+//! docs/reference/lists.md ("The normal form").
 
 use super::harness::{
     ALLOW, AMY, AceRow, DENY, EXECUTE, FOR_FILES, GROUP, NO_WRITE, READ_DATA, STAFF, WRITE_DATA,

@@ -1,5 +1,5 @@
-//! Principals and kinds: their order, which is this library's own (docs/lists.md, "Order and overlap"), when they are
-//! equal, and which principals some requester can match together (RFC 8881, section 6.2.1.5).
+//! Principals and kinds: their order, which is this library's own (docs/reference/lists.md, "Order and overlap"), when
+//! they are equal, and which principals some requester can match together (RFC 8881, section 6.2.1.5).
 
 use super::harness::is_shown;
 use crate::*;

@@ -1,6 +1,6 @@
 //! The tables again with ample memory: no call fails for lack of memory. The files of the tables have their expected
 //! values and say where they are from. The mask that is added is worked by hand from POSIX.1e draft 17, section 23.4,
-//! and which long texts are refused, and where, from docs/formats.md ("Faults of POSIX texts").
+//! and which long texts are refused, and where, from docs/reference/formats.md ("Faults of POSIX texts").
 
 use super::faults::{
     FAULTS, MESSAGES, is_judged, is_refused, is_refused_repeated, is_shown, zeros_are_read,

@@ -1,5 +1,5 @@
 //! The first fault of a text, and texts of great length. The faults and their places are this library's own, as
-//! docs/formats.md states them ("Faults of POSIX texts").
+//! docs/reference/formats.md states them ("Faults of POSIX texts").
 
 use super::samples::{holds, write};
 use crate::*;

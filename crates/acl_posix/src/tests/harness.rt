@@ -1,5 +1,6 @@
 //! Code that the tests of this crate share: entries from the rows of a table, and the allocator of the calls. `ORDERED`
-//! is in the canonical order of docs/formats.md ("POSIX entries"). The files of the tests say what the lists give.
+//! is in the canonical order of docs/reference/formats.md ("POSIX entries"). The files of the tests say what the lists
+//! give.
 
 use crate::*;
 use Who::{Amy, Bob, Eve, Group, Guests, Mask, Ops, Other, Owner, Staff};

@@ -1,5 +1,5 @@
 //! Which lists of entries are valid (acl(5), "VALID ACLs"), and the fault of each that is not, which is this library's
-//! own (docs/lists.md, "POSIX ACLs").
+//! own (docs/reference/lists.md, "POSIX ACLs").
 
 use super::harness::Who::{Amy, Bob, Group, Guests, Mask, Other, Owner, Staff};
 use super::harness::{DEFAULT, MASKED, Memory, NO_OWNER, Rows, SHARED, TWO_GROUPS};

@@ -1,5 +1,5 @@
 //! Tables of names, and texts with names if memory may run out. Which names a table takes is this library's own:
-//! none that is empty, none of digits alone (docs/formats.md, "POSIX texts"), and none twice.
+//! none that is empty, none of digits alone (docs/reference/formats.md, "POSIX texts"), and none twice.
 
 use super::samples::{
     LISTED_CANONICAL, LISTED_SHORT, SHORT, SHOWN, TWO_MASKS, TWO_MASKS_SHOWN, is_written,

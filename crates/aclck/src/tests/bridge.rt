@@ -1,5 +1,5 @@
-//! `bridge` over texts of POSIX ACLs (docs/lists.md, "From POSIX to NFSv4"). The bytes are those of RFC 8881, section
-//! 6.2.1, as XDR (RFC 4506).
+//! `bridge` over texts of POSIX ACLs (docs/reference/lists.md, "From POSIX to NFSv4"). The bytes are those of RFC 8881,
+//! section 6.2.1, as XDR (RFC 4506).
 
 use crate::command::command;
 use crate::tests::harness::Table;

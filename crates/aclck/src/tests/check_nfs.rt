@@ -1,4 +1,5 @@
-//! `check-nfs` over lists in bytes: what RFC 8881, section 6.2.1, grants, and the faults of docs/formats.md, "XDR".
+//! `check-nfs` over lists in bytes: what RFC 8881, section 6.2.1, grants, and the faults of docs/reference/formats.md,
+//! "XDR".
 
 use crate::tests::harness::{Answer, Table, Trial, Way, repeated_ace};
 use crate::tests::lists::{OWNER_BOB_OWNER, READ_OF_ALL};

@@ -1,7 +1,7 @@
 //! `check-nfs` over devices that fail once and then work, or that fail at every later call: each failure is reported at
 //! once. `normalize` over sources that give a fault and then fail. What the list grants is by RFC 8881, section 6.2.1,
-//! the faults are those of docs/formats.md, "XDR", and the statuses those of aclck(1), "EXIT STATUS". The answers over
-//! devices that work are in `check_nfs`.
+//! the faults are those of docs/reference/formats.md, "XDR", and the statuses those of aclck(1), "EXIT STATUS". The
+//! answers over devices that work are in `check_nfs`.
 
 use crate::answer::{Outcome, RunFault};
 use crate::task::check_nfs::run_check_nfs;

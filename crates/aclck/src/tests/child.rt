@@ -1,4 +1,4 @@
-//! `child` over lists in bytes (the rules of creation in docs/lists.md).
+//! `child` over lists in bytes (the rules of creation in docs/reference/lists.md).
 
 use crate::tests::harness::Table;
 use crate::tests::lists::{EMPTY, READ_OF_ALICE, READ_OF_THE_GROUP};

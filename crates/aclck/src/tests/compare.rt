@@ -1,5 +1,5 @@
 //! `compare` over two lists in bytes, one after the other. Each row follows from what RFC 8881, section 6.2.1, grants,
-//! and from the order of situations in docs/lists.md.
+//! and from the order of situations in docs/reference/lists.md.
 
 use crate::tests::harness::{Answer, Trial};
 use crate::tests::lists::{

@@ -1,5 +1,5 @@
-//! `encode` over texts of lists (the format in docs/formats.md). The bytes are those of RFC 8881, section 6.2.1, as XDR
-//! (RFC 4506).
+//! `encode` over texts of lists (the format in docs/reference/formats.md). The bytes are those of RFC 8881, section
+//! 6.2.1, as XDR (RFC 4506).
 
 use crate::tests::harness::Table;
 use crate::tests::lists::{BLANKS, GROUP_FLAGGED, INHERITED_OF_BOB, NO_RIGHTS};

@@ -1,5 +1,5 @@
 //! `normalize` over lists in bytes, some of which are cut short or damaged. Each normal form follows from the rules of
-//! docs/lists.md, and the faults are those of docs/formats.md, "XDR".
+//! docs/reference/lists.md, and the faults are those of docs/reference/formats.md, "XDR".
 
 use crate::tests::harness::{Answer, FINE, Table, Trial, Way, repeated_ace, run};
 use crate::tests::lists::{

@@ -1,4 +1,4 @@
-//! `normalize --inherit` over lists of one ACE, by its flags (the rules of creation in docs/lists.md).
+//! `normalize --inherit` over lists of one ACE, by its flags (the rules of creation in docs/reference/lists.md).
 
 use crate::answer::Outcome;
 use crate::task::normalize::run_normalize_inherit;

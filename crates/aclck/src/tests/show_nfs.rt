@@ -1,4 +1,5 @@
-//! `show-nfs` over lists in bytes (the format in docs/formats.md; the bytes are those of RFC 8881, section 6.2.1).
+//! `show-nfs` over lists in bytes (the format in docs/reference/formats.md; the bytes are those of RFC 8881, section
+//! 6.2.1).
 
 use crate::tests::harness::Table;
 use crate::tests::lists::{BLANKS, EMPTY, GROUP_FLAGGED, INHERITED_OF_BOB, NO_RIGHTS, WITH_A_BYTE};

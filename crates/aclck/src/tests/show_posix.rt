@@ -1,5 +1,5 @@
 //! `show-posix` over texts of POSIX ACLs (acl(5), "LONG TEXT FORM" and "SHORT TEXT FORM"; the faults are those of
-//! docs/formats.md).
+//! docs/reference/formats.md).
 
 use crate::tests::harness::{Asked, FINE, Table, repeated, run};
 use crate::tests::texts::{MASKED, PLAIN, PRINTED};

@@ -1,4 +1,4 @@
-//! `table` over lists in bytes (the format in docs/formats.md).
+//! `table` over lists in bytes (the format in docs/reference/formats.md).
 
 use crate::tests::harness::{Asked, Table};
 use crate::tests::lists::{

@@ -8,10 +8,10 @@ use Rattle.acl_nfs4.specs.declared.xdr.unknown_groups.GroupsFault.{GroupsFault}
 use Rattle.acl_nfs4.specs.declared.xdr.unknown_groups.GroupsFault.TheVariants as groups
 use Rattle.acl_eval.specs.declared.bridging.BridgeFault.{BridgeFault}
 use Rattle.acl_eval.specs.declared.bridging.BridgeFault.TheVariants as bridge
-use Rattle.acl_eval.specs.declared.mode_change.ChmodFault.{ChmodFault}
-use Rattle.acl_eval.specs.declared.mode_change.ChmodFault.TheVariants as chmod
-use Rattle.acl_eval.specs.declared.resolving.ResolveFault.{ResolveFault}
-use Rattle.acl_eval.specs.declared.resolving.ResolveFault.TheVariants as resolve
+use Rattle.acl_change.specs.declared.mode_change.ChmodFault.{ChmodFault}
+use Rattle.acl_change.specs.declared.mode_change.ChmodFault.TheVariants as chmod
+use Rattle.acl_change.specs.declared.resolving.ResolveFault.{ResolveFault}
+use Rattle.acl_change.specs.declared.resolving.ResolveFault.TheVariants as resolve
 use Rattle.acl_posix.specs.Names.{Table}
 use Rattle.acl_forms.specs.PosixNames.{NamesOfIds}
 use Rattle.acl_posix.specs.declared.names.NameFault.{NameFault}

@@ -1,8 +1,8 @@
 -- Why a list is not prepared for ids (this library's own; only the code needs it).
 use Rattle.std.specs.Prelude.{⊤, ℕ, List}
 use Rattle.acl_perm.specs.Profile.{Profile}
-use Rattle.acl_eval.specs.declared.prepared_ids.IdsFault.{IdsFault}
-use Rattle.acl_eval.specs.declared.prepared_ids.IdsFault.TheVariants as faults
+use Rattle.acl_ids.specs.declared.id_names.IdsFault.{IdsFault}
+use Rattle.acl_ids.specs.declared.id_names.IdsFault.TheVariants as faults
 use Rattle.aclck_c.specs.Ids.{IsRefusedForIds, unknown_at}
 use Rattle.aclck_c.specs.Names.{AreGoodNames}
 use Rattle.aclck_c.specs.declared.failure.Failure.{Failure}

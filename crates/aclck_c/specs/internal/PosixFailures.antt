@@ -1,6 +1,6 @@
 -- Why an NFSv4 list has no POSIX ACL (this library's own; only the code needs it).
 use Rattle.std.specs.Prelude.{⊤, ℕ, List}
-use Rattle.acl_eval.specs.declared.posix_shape.ShapeFault.{ShapeFault}
+use Rattle.acl_to_posix.specs.declared.posix_shape.ShapeFault.{ShapeFault}
 use Rattle.aclck_c.specs.Names.{AreGoodNames}
 use Rattle.aclck_c.specs.ToPosix.{IsRefusedAsPosix, shape_refusal}
 use Rattle.aclck_c.specs.declared.failure.Failure.{Failure}

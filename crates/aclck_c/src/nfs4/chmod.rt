@@ -10,7 +10,7 @@ use crate::options::{mode_from, profile_from};
 use crate::out::answer;
 use crate::refusal::Refusal;
 use crate::status::BAD_ARGUMENT;
-use acl_eval::{ChmodFault, chmod};
+use acl_change::{ChmodFault, chmod};
 use acl_nfs4::AclView;
 use acl_perm::{Mode, Profile};
 use std::alloc::Global;

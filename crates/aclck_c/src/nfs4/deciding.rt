@@ -10,7 +10,7 @@ use crate::nfs4::request::{
 };
 use crate::refusal::Refusal;
 use crate::status::{BAD_ARGUMENT, DONE};
-use acl_eval::{Decision, deciding_ace};
+use acl_decide::{Decision, deciding_ace};
 use acl_nfs4::AclView;
 use acl_perm::{Mask, Right};
 use std::alloc::Global;

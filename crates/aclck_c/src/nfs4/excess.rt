@@ -12,8 +12,8 @@ use crate::options::profile_from;
 use crate::out::put;
 use crate::refusal::Refusal;
 use crate::status::BAD_ARGUMENT;
+use acl_contain::excess;
 use acl_nfs4::Acl;
-use acl_normal::excess;
 use acl_perm::Profile;
 use std::alloc::{AllocError, Global};
 

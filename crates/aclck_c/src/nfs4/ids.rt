@@ -2,7 +2,7 @@
 ghost use Rattle.std.specs.Prelude.{◌≡◌, ◌↔◌, List};
 ghost use Rattle.acl_nfs4.specs.Ace.{Ace};
 ghost use Rattle.acl_posix.specs.Names.{Table};
-ghost use Rattle.acl_eval.specs.PreparedIds.{IsPreparedIds, id_situation};
+ghost use Rattle.acl_prepared.specs.PreparedIds.{IsPreparedIds, id_situation};
 ghost use Rattle.aclck_c.specs.Ids.{AreDecidedByIds, AreGoodIdNumbers, JudgesIds, MakesIds, ReadsForIds, asked_by_ids, unknown_at};
 ghost use Rattle.aclck_c.specs.Requests.{nothing_decided};
 ghost use Rattle.aclck_c.specs.internal.IdFailures.{IsIdsFailure, of_ids};
@@ -17,9 +17,10 @@ use crate::posix::names::{RawName, table_of};
 use crate::reason::UNKNOWN_NAME;
 use crate::refusal::Refusal;
 use crate::status::{BAD_ARGUMENT, DONE};
-use acl_eval::{IdObject, IdRequester, IdsFault, PreparedIds, prepare_ids};
+use acl_ids::IdsFault;
 use acl_nfs4::AclView;
 use acl_perm::{Mask, Profile};
+use acl_prepared::{IdObject, IdRequester, PreparedIds, prepare_ids};
 use std::alloc::Global;
 
 /// `struct aclck_names`: the names that a list may use for ids.

@@ -16,8 +16,8 @@ use crate::options::profile_from;
 use crate::out::put;
 use crate::refusal::Refusal;
 use crate::status::BAD_ARGUMENT;
+use acl_contain::implies;
 use acl_nfs4::Acl;
-use acl_normal::implies;
 use acl_perm::{Mask, Profile, Right};
 use std::alloc::{AllocError, Global};
 

@@ -8,8 +8,8 @@ use crate::options::profile_from;
 use crate::out::answer;
 use crate::refusal::Refusal;
 use crate::status::BAD_ARGUMENT;
+use acl_contain::needed_of_view;
 use acl_nfs4::AclView;
-use acl_normal::needed_of_view;
 use acl_perm::{Mask, Profile};
 use std::alloc::{AllocError, Global};
 

@@ -1,7 +1,7 @@
 //! A list that is read once and then asked often, by its prepared bytes.
 ghost use Rattle.std.specs.Prelude.{◌≡◌, ◌↔◌, List};
 ghost use Rattle.acl_nfs4.specs.Ace.{Ace};
-ghost use Rattle.acl_eval.specs.Prepared.{IsPrepared};
+ghost use Rattle.acl_prepared.specs.Prepared.{IsPrepared};
 ghost use Rattle.acl_eval.specs.Situation.{groups_of, owner_of, owning_group_of, user_of};
 ghost use Rattle.aclck_c.specs.Options.{says_order};
 ghost use Rattle.aclck_c.specs.Prepared.{AnswersPrepared, AreDecidedIn, AreGoodForPrepared, IsPreparedCall, Prepares, asked_prepared, groups_asked};
@@ -15,9 +15,10 @@ use crate::options::{GROUPS_IN_ORDER, has_option, is_order_option, profile_from}
 use crate::out::answer;
 use crate::refusal::Refusal;
 use crate::status::{BAD_ARGUMENT, DONE};
-use acl_eval::{Object, Prepared, Requester, prepare};
+use acl_eval::{Object, Requester};
 use acl_nfs4::AclView;
 use acl_perm::{Mask, Profile};
+use acl_prepared::{Prepared, prepare};
 use std::alloc::Global;
 
 // The number of bytes of a prepared ACE without a name.

@@ -1,7 +1,7 @@
 //! What the list of prepared bytes decides for many requesters.
 ghost use Rattle.std.specs.Prelude.{◌≡◌, List, true};
 ghost use Rattle.acl_nfs4.specs.Ace.{Ace};
-ghost use Rattle.acl_eval.specs.Prepared.{IsPrepared};
+ghost use Rattle.acl_prepared.specs.Prepared.{IsPrepared};
 ghost use Rattle.acl_eval.specs.Situation.{owner_of, owning_group_of};
 ghost use Rattle.aclck_c.specs.Prepared.{AnswersPrepared, AreDecidedIn, AreEachDecided, AreGoodForPreparedMany, HaveDecided, asked_prepared, asked_prepared_by, nothing_decided_for};
 ghost use Rattle.aclck_c.specs.Requests.{IsGoodRequester};

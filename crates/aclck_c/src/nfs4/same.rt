@@ -9,7 +9,7 @@ use crate::options::profile_from;
 use crate::out::truth_number;
 use crate::refusal::Refusal;
 use crate::status::{BAD_ARGUMENT, DONE};
-use acl_normal::same_views;
+use acl_contain::same_views;
 use acl_perm::Profile;
 use std::alloc::Global;
 

@@ -23,9 +23,10 @@ use crate::options::{ChildOptions, child_options_from, profile_from};
 use crate::out::answer;
 use crate::refusal::Refusal;
 use crate::status::BAD_ARGUMENT;
+use acl_contain::holders;
 use acl_eval::{child_of_view, inherited_child};
 use acl_nfs4::{Acl, AclView, bit_name};
-use acl_normal::{FiveForms, holders, normalize_inherit, normalize_view, table_text};
+use acl_normal::{FiveForms, normalize_inherit, normalize_view, table_text};
 use acl_perm::{Counted, Mask, Profile};
 use std::alloc::{AllocError, Global};
 

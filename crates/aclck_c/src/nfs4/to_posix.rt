@@ -13,9 +13,9 @@ use crate::posix::entries::raws_of;
 use crate::posix::names::{RawName, table_of};
 use crate::refusal::Refusal;
 use crate::status::BAD_ARGUMENT;
-use acl_eval::{LostGrant, ShapeFault, to_posix};
 use acl_nfs4::AclView;
 use acl_posix::{Id, RawEntry};
+use acl_to_posix::{LostGrant, ShapeFault, to_posix};
 use std::alloc::Global;
 
 /// `struct aclck_posix_loss`: 1 if the ACL grants read, write and execute wherever the list does; otherwise the owner
@@ -90,7 +90,7 @@ pub extern "C" fn aclck_to_posix(
     loss: &mut RawPosixLoss,
     fault: &mut Refusal,
 ) -> u32
-    ensures entries { WritesBytes (BecomesPosix acl.now names.now.names.now loss.new)
+    ensures entries { WritesBytes (BecomesPosix acl.now names.now.names.now most loss.new)
         out.old out.new needed.old needed.new result }
     ensures loss { status.IfUnanswered result (loss.new ≡ loss_unknown) }
     ensures input { ReadsForPosix acl.now names.now.names.now most fault.old fault.new result }
@@ -131,7 +131,7 @@ fn posix_of(
     names: &[RawName<'_>],
     most: u16,
 ) -> Result<MadePosix, Failure>
-    ensures ok { IfOk result (λ made. BecomesPosix acl.now names.now made.loss made.entries.items) }
+    ensures ok { IfOk result (λ made. BecomesPosix acl.now names.now most made.loss made.entries.items) }
     ensures err { IfErr result (IsPosixFailure acl.now names.now most) }
 {
     let table = table_of(alloc, names)?;

@@ -13,7 +13,7 @@ use crate::nfs4::request::{
 };
 use crate::refusal::Refusal;
 use crate::status::{BAD_ARGUMENT, DONE};
-use acl_eval::{RequestAnswer, decided_with_unknown, request_answer};
+use acl_decide::{RequestAnswer, decided_with_unknown, request_answer};
 use acl_nfs4::{AccessPart, Fault, Reason};
 use acl_perm::Profile;
 use std::alloc::{AllocError, Global};

@@ -2,7 +2,7 @@
 ghost use Rattle.acl_posix.specs.Check.{ids};
 ghost use Rattle.acl_posix.specs.Id.{IsId};
 ghost use Rattle.acl_posix.specs.Programs.{Checks};
-ghost use Rattle.acl_eval.specs.PosixForOwner.{object_for};
+ghost use Rattle.acl_eval.specs.BridgeLaws.{object_for};
 ghost use Rattle.aclck_c.specs.CheckPosix.{AreGoodIds, AreNumbers, object_asked, requester_asking, requester_with_ids};
 ghost use Rattle.aclck_c.specs.Status as status;
 ghost use Rattle.std.specs.Prelude.{◌≡◌, ◌↔◌};

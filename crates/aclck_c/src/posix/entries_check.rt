@@ -1,5 +1,5 @@
 //! What POSIX entries in canonical order grant, and their mode. No call takes memory.
-ghost use Rattle.acl_eval.specs.PosixForOwner.{object_for};
+ghost use Rattle.acl_eval.specs.BridgeLaws.{object_for};
 ghost use Rattle.aclck_c.specs.CheckPosix.{AreGoodIds, object_asked, requester_asking, requester_with_ids};
 ghost use Rattle.acl_posix.specs.RawEntries.{raw_tag_number};
 ghost use Rattle.acl_posix.specs.Tag.{tag_of};

@@ -1,6 +1,6 @@
 use Rattle.std.specs.Prelude.{◌≡◌, ◌<◌, ℕ, List, Some, length, slice_get, slice_index_or}
 use Rattle.acl_nfs4.specs.Ace.{Ace}
-use Rattle.acl_eval.specs.Prepared.{IsPrepared}
+use Rattle.acl_prepared.specs.Prepared.{IsPrepared}
 use Rattle.acl_eval.specs.Situation.{owner_of, owning_group_of}
 use Rattle.aclck_c.specs.Prepared.{AreDecidedIn, asked_prepared_by}
 use Rattle.aclck_c.specs.Requests.{nothing_decided}

@@ -1,4 +1,4 @@
-use Rattle.acl_eval.specs.Ids.{with_ids}
+use Rattle.acl_ids.specs.Ids.{with_ids}
 use Rattle.aclck_c.proofs.PosixConversions.{few_groups, loses_by}
 use Rattle.aclck_c.proofs.nfs4.to_posix.posix_of.Goals as goal
 
@@ -17,6 +17,7 @@ returns-clause-ok c =
       acl = made.acl;
       named = c.in_ok-table.ensures;
       spelled = c.in_ok-list.ensures.found;
+      few = c.in_ok-made.ensures.few;
       rule = c.in_ok-made.ensures.rule;
       sound = c.in_ok-made.ensures.sound;
       lost = loses_by (with_ids c.in_ok-table.table c.in_ok-list.list) made.acl made.lost c.loss_of.result

@@ -1,0 +1,389 @@
+"""Questions about a snapshot: what is granted to whom, and why."""
+
+from __future__ import annotations
+
+import functools
+import itertools
+from dataclasses import dataclass
+from enum import Enum
+from typing import AbstractSet, Dict, List, NamedTuple, Optional, Sequence, Tuple, Union
+
+from aclck import (
+    APPEND_DATA,
+    EXECUTE,
+    READ_DATA,
+    WRITE_DATA,
+    NfsAcl,
+    Possible,
+    Refused,
+    Request,
+    Requesters,
+    mask_text,
+    read_mask,
+)
+
+from aclck_tree.answer.bits import bits_of, chosen
+from aclck_tree.answer.classes import Classes, everybody
+from aclck_tree.answer.identities import Identities, Identity, Ways, account_name, full_name
+from aclck_tree.answer.lists import (
+    POSIX_MASKS,
+    AskableList,
+    Kind,
+    Ready,
+    RefusedList,
+    decoded,
+    has_empty_mask,
+    nfs_bytes,
+    ready,
+)
+from aclck_tree.answer.posix import at_once
+from aclck_tree.output.errors import TreeError, UsageError
+from aclck_tree.people.people import Person
+from aclck_tree.snapshot.snapshot import Face, Snapshot, StoredForm, StoredList
+
+
+class Answer(Enum):
+    """An answer to one question. Its value is the word that the output has."""
+
+    GRANTED = "granted"
+    DENIED = "denied"
+    UNKNOWN = "unknown"
+    REFUSED = "refused"
+
+
+GRANTED, DENIED, UNKNOWN = Answer.GRANTED, Answer.DENIED, Answer.UNKNOWN
+
+
+@dataclass(frozen=True, eq=False)
+class Answers:
+    """Whom a question is answered how: one bit for each person, in the order of the people.
+
+    Equal answers of one `Asker` are one object, so a million objects keep a row for each different answer only.
+    """
+
+    granted: int
+    denied: int
+    unknown: int
+
+    def of(self, place: int) -> Answer:
+        """Returns the answer for the person at a place."""
+        return GRANTED if self.granted >> place & 1 else DENIED if self.denied >> place & 1 else UNKNOWN
+
+
+class Want(NamedTuple):
+    """What is asked for: rights of NFSv4 lists, and permissions of POSIX lists, or the reason why these have none."""
+
+    text: str
+    mask: int
+    perms: int
+    missing: int
+    any: bool
+
+    @property
+    def posix_mask(self) -> int:
+        """The rights that stand for the permissions in the bridge of a POSIX list."""
+        return sum(rights for bit, rights in POSIX_MASKS.items() if self.perms & bit)
+
+
+def want_of(text: str, any_of: bool = False) -> Want:
+    """Reads what is asked for: some of the letters r, w and x, or names of rights with `|` between them.
+
+    Raises UsageError if the text is neither, or is empty.
+    """
+    if text and set(text) <= set("rwx"):
+        perms = sum(bit for letter, bit in zip("rwx", (4, 2, 1)) if letter in text)
+        return Want(text, sum(mask for bit, mask in POSIX_MASKS.items() if perms & bit), perms, 0, any_of)
+    try:
+        mask = read_mask(text)
+    except ValueError:
+        mask = 0
+    if not mask:
+        raise UsageError(f"--may takes letters of rwx, or names of rights with | between them, and not {text!r}")
+    perms = sum(bit for bit, rights in POSIX_MASKS.items() if mask & rights)
+    known = READ_DATA | WRITE_DATA | APPEND_DATA | EXECUTE
+    return Want(text, mask, perms, mask & ~known, any_of)
+
+
+@dataclass(frozen=True)
+class AskOptions:
+    """The domain of names that have none, and whether the lists grant as Linux does (docs/reference/others.md), which
+    can be so although nobody asked for it."""
+
+    domain: str = ""
+    linux: bool = False
+    is_default: bool = False
+
+    def account(self, name: str) -> str:
+        """Returns the name of the account for a name: without the domain, if it has just that one."""
+        return account_name(name, self.domain)
+
+
+NOBODY = Person("")
+"""A person who gives no ids."""
+
+_UNUSED = Identity("?")
+"""Who asks in place of a person whose id is not known. The answer is not used."""
+
+
+class _Forms(NamedTuple):
+    """The people in one form for a kind of list, and a bit for each person who has such a form. If it counts only for
+    lists with some names, `if_named` has these for each person, and whether they are those of groups."""
+
+    identities: List[Optional[Identity]]
+    requesters: Requesters
+    known: int
+    classes: Classes
+    if_named: Sequence[AbstractSet[Tuple[bool, str]]] = ()
+
+    @classmethod
+    def of(cls, identities: List[Optional[Identity]],
+           if_named: Sequence[AbstractSet[Tuple[bool, str]]] = ()) -> _Forms:
+        """Returns the forms for the identities of the people."""
+        return cls(identities, Requesters([one or _UNUSED for one in identities]),
+                   bits_of(one is not None for one in identities), Classes(identities), if_named)
+
+
+_MOST_FORMS = 8
+"""For how many trees the people are kept with the ids that they have there."""
+
+
+class Asker:
+    """Asks the faces of a snapshot about some people."""
+
+    def __init__(self, snapshot: Snapshot, people: Sequence[Person], options: AskOptions) -> None:
+        self.snapshot = snapshot
+        self.people = list(people)
+        self.options = options
+        self._identities = Identities(snapshot, self.people, options.domain)
+        self.accounts = self._identities.accounts
+        self.faces = snapshot.faces()
+        self.stored = snapshot.lists()
+        self._above: Dict[StoredList, int] = {}
+        self._ready: Dict[int, Ready] = {}
+        self._forms: Dict[Tuple[Kind, int], List[_Forms]] = {}
+        self._rows: Dict[Tuple[int, int], Answers] = {}
+        self._everybody = (1 << len(self.people)) - 1
+
+    @functools.cached_property
+    def everybody_granted(self) -> Answers:
+        """The answer that everybody is granted what is asked."""
+        return self._row(self._everybody, 0)
+
+    @functools.cached_property
+    def nobody_known(self) -> Answers:
+        """The answer that it is known of nobody."""
+        return self._row(0, 0)
+
+    def number_of(self, stored: StoredList) -> int:
+        """Returns the number of a list of a directory above a tree. No object has this number."""
+        number = self._above.setdefault(stored, -1 - len(self._above))
+        self.stored[number] = stored
+        return number
+
+    def roots(self, tree: int) -> int:
+        """Returns who of the people has the id 0 in a tree."""
+        return bits_of(self.ids(person, person.name, False, tree) == (0,) for person in self.people)
+
+    def ready(self, number: int) -> Ready:
+        """Returns a list that is ready for questions."""
+        if number not in self._ready:
+            self._ready[number] = ready(self.stored[number], self.options.linux, self.options.domain)
+        return self._ready[number]
+
+    def is_other_on_linux(self, number: int) -> bool:
+        """Whether Linux may answer about a list otherwise than acl(5): its mask is empty (docs/reference/others.md)."""
+        return self.stored[number].is_posix and has_empty_mask(self.stored[number].access or b"")
+
+    def loadable(self, number: int) -> StoredList:
+        """Returns a list as a database has it, in which the names of accounts have the domain. Raises TreeError for a
+        value that the scan refused: a database has no reason for it."""
+        stored = self.stored[number]
+        if stored.kind == StoredForm.REFUSED:
+            raise TreeError(f"{self.snapshot.place}: a list that the scan refused is not loaded: "
+                            f"{decoded(stored.default or b'')}")
+        if stored.kind == StoredForm.ACCOUNTS:
+            return StoredList(StoredForm.NFS4, stored.mode, nfs_bytes(stored, self.options.domain), None)
+        return stored
+
+    def full_name(self, name: str) -> str:
+        """Returns a name, with the domain added if it has none."""
+        return full_name(name, self.options.domain)
+
+    def owner_and_group(self, face: Face, kind: str) -> Tuple[str, str]:
+        """Returns the names of the owner and the group of a face, in the form of its kind of list."""
+        if kind == Kind.POSIX:
+            return str(face.uid), str(face.gid)
+        return self._identities.word(False, face.uid, face.tree), self._identities.word(True, face.gid, face.tree)
+
+    def ids(self, person: Person, name: str, is_group: bool, tree: int) -> Tuple[int, ...]:
+        """Returns the ids that a person or a group of the person has in a tree, or none if they are not known. A name
+        with the domain is an account without it."""
+        return self._identities.ids(person, name, is_group, tree)
+
+    def id(self, person: Person, name: str, is_group: bool, tree: int) -> Optional[int]:
+        """Returns the only id that a person or a group of the person has in a tree, or None."""
+        found = self.ids(person, name, is_group, tree)
+        return found[0] if len(found) == 1 else None
+
+    def id_of(self, name: str, is_group: bool, tree: int) -> Optional[int]:
+        """Returns the id that a name has in a tree, or None if it is not known."""
+        return self.id(NOBODY, name, is_group, tree)
+
+    def identities(self, person: Person, face: Face, kind: Kind, acl: Optional[NfsAcl] = None) -> Tuple[Identity, ...]:
+        """Returns the ways in which a kind of list may name a person, the one by the given names first, and with a list
+        those that count only for this list. POSIX lists name a person in one way, or in none if an id is not known."""
+        if kind is Kind.POSIX:
+            found = self._identities.by_ids(person, face.tree)
+            return (found,) if found else ()
+        ways = self._identities.by_names(person, face.tree)
+        named = {(ace.is_group, ace.who) for ace in acl} if acl and ways.if_named else set()
+        return (*ways.always, *(one for one, names in ways.if_named if not names.isdisjoint(named)))
+
+    def ways(self, person: Person, tree: int) -> Ways:
+        """Returns the ways in which NFSv4 lists may name a person."""
+        return self._identities.by_names(person, tree)
+
+    def identity(self, person: Person, face: Face, kind: str) -> Optional[Identity]:
+        """Returns the first way in which a kind of list names a person, or None if an id is not known."""
+        if kind == Kind.NFS4:
+            return self._identities.by_names(person, face.tree).always[0]
+        return self._identities.by_ids(person, face.tree)
+
+    def _forms_of(self, face: Face, kind: Kind) -> List[_Forms]:
+        """Returns the people in the form of a kind of list in a tree, and in other forms those whom such a list may
+        name in several ways."""
+        key = (kind, face.tree)
+        if key not in self._forms:
+            if len(self._forms) == _MOST_FORMS:
+                self._forms.clear()
+            self._forms[key] = self._made_forms(face, kind)
+        return self._forms[key]
+
+    def _made_forms(self, face: Face, kind: Kind) -> List[_Forms]:
+        if kind is Kind.POSIX:
+            return [_Forms.of([self._identities.by_ids(person, face.tree) for person in self.people])]
+        ways = [self._identities.by_names(person, face.tree) for person in self.people]
+        forms = [_Forms.of([one.always[place] if place < len(one.always) else None for one in ways])
+                 for place in range(max([1, *(len(one.always) for one in ways)]))]
+        for place in range(max([0, *(len(one.if_named) for one in ways)])):
+            rows = [one.if_named[place] if place < len(one.if_named) else None for one in ways]
+            forms.append(_Forms.of([row[0] if row else None for row in rows],
+                                   [row[1] if row else frozenset() for row in rows]))
+        return forms
+
+    def _forms_for(self, face: Face, kind: Kind, acl: NfsAcl) -> List[_Forms]:
+        """Returns the forms that count for a list: of those that count only for some lists, the people of whom the list
+        has a name."""
+        forms = self._forms_of(face, kind)
+        if not any(one.if_named for one in forms):
+            return forms
+        named = {(ace.is_group, ace.who) for ace in acl}
+        return [one if not one.if_named else one._replace(
+            known=bits_of(not names.isdisjoint(named) for names in one.if_named)) for one in forms]
+
+    def masks(self, face: Face, asked: AskableList) -> Sequence[Optional[int]]:
+        """Returns what each person is granted by a list without special names, or None for a person of whom that is
+        not known."""
+        return self.granted_by(asked.acl, face, asked.kind, *self.owner_and_group(face, asked.kind))
+
+    def granted_by(self, acl: NfsAcl, face: Face, kind: Kind, owner: str, group: str) -> Sequence[Optional[int]]:
+        """Returns what each person is granted by a list in the names of a face and a kind of list, on an object of an
+        owner and a group, or None for a person of whom that is not known."""
+        first, *others = self._forms_for(face, kind, acl)
+        found: List[Optional[int]] = [mask if one else None for mask, one in zip(
+            acl.granted_many(first.requesters, owner=owner, group=group), first.identities)]
+        for forms in others:
+            masks = acl.granted_many(forms.requesters, owner=owner, group=group) if forms.known else ()
+            for place in chosen(range(len(masks)), forms.known):
+                found[place] = found[place] if masks[place] == found[place] else None
+        return found
+
+    def granted(self, face: Face, asked: AskableList, person: Person) -> int:
+        """Returns what a person whose ids are known is granted as a member of no special name."""
+        identity = self.identity(person, face, asked.kind)
+        assert identity
+        owner, group = self.owner_and_group(face, asked.kind)
+        return asked.acl.granted(user=identity.user, groups=asked.others(identity.groups), owner=owner, group=group)
+
+    def possible(self, face: Face, asked: AskableList, identity: Identity, mask: int) -> Possible:
+        """Returns what a list with special names grants somebody, whomever the server takes for these names."""
+        owner, group = self.owner_and_group(face, asked.kind)
+        return NfsAcl.decide_unknown(asked.whomever, user=identity.user, groups=identity.groups, owner=owner,
+                                     group=group, mask=mask)
+
+    def _is_any(self, face: Face, asked: AskableList, identity: Identity, mask: int) -> Request:
+        """Returns the same about a request for any of some rights: it is granted where a request for all of them is not
+        granted by the list that is turned round."""
+        owner, group = self.owner_and_group(face, asked.kind)
+        try:
+            none = NfsAcl.decide_unknown(asked.turned(mask), user=identity.user, groups=identity.groups, owner=owner,
+                                         group=group, mask=mask).request
+        except Refused:  # a list of the greatest length has no room for another ACE
+            return Request.DEPENDS
+        return {Request.ALWAYS: Request.NEVER, Request.NEVER: Request.ALWAYS}.get(none, none)
+
+    def _whomever(self, face: Face, asked: AskableList, want: Want, forms: _Forms) -> Tuple[int, int]:
+        """Returns whom a list with special names grants what is asked, and whom it denies that, whomever the server
+        takes for these names."""
+        found: List[Optional[Request]] = [None] * len(forms.identities)
+        for place in chosen(range(len(found)), forms.known):
+            one = forms.identities[place]
+            assert one
+            found[place] = (self._is_any(face, asked, one, want.mask) if want.any
+                            else self.possible(face, asked, one, want.mask).request)
+        return bits_of(one is Request.ALWAYS for one in found), bits_of(one is Request.NEVER for one in found)
+
+    def _row(self, granted: int, denied: int) -> Answers:
+        key = granted, denied
+        if key not in self._rows:
+            self._rows[key] = Answers(granted, denied, self._everybody & ~(granted | denied))
+        return self._rows[key]
+
+    def granted_too(self, one: Answers, people: int) -> Answers:
+        """Returns an answer that is granted to some more people."""
+        return self._row(one.granted | people, one.denied & ~people)
+
+    def both(self, one: Answers, other: Answers) -> Answers:
+        """Returns what two answers are together: granted if both are, and denied if one is."""
+        return self._row(one.granted & other.granted, one.denied | other.denied)
+
+    def answers(self, face: Face, want: Want) -> Union[RefusedList, Answers]:
+        """Returns whom the list of a face grants what is asked."""
+        asked = self.ready(face.list)
+        if isinstance(asked, RefusedList):
+            return asked
+        mask = want.mask
+        if asked.kind is Kind.POSIX:
+            if want.missing and not (want.any and want.perms):
+                return RefusedList(f"a POSIX list has no {mask_text(want.missing)}")
+            mask = want.posix_mask
+        granted = denied = self._everybody
+        for place, forms in enumerate(self._forms_for(face, asked.kind, asked.acl)):
+            if place == 0 or forms.known:
+                yes, no = self._answered(face, asked, want._replace(mask=mask), forms)
+                others = 0 if place == 0 else ~forms.known
+                granted, denied = granted & (yes | others), denied & (no | others)
+        return self._row(granted, denied)
+
+    def _answered(self, face: Face, asked: AskableList, want: Want, forms: _Forms) -> Tuple[int, int]:
+        """Returns whom of the people in one form a list grants what is asked, and whom it denies that. Of those whom it
+        cannot treat differently, the first is asked."""
+        owner, group = self.owner_and_group(face, asked.kind)
+        named = itertools.chain(asked.named, ((False, owner), (True, group)))
+        classes = forms.classes.of(forms.known, named, bool(asked.specials))
+        if classes is None:
+            return self._each_answered(face, asked, want, forms)
+        firsts = _Forms.of([one.first for one in classes])
+        granted, denied = self._each_answered(face, asked, want, firsts) if classes else (0, 0)
+        return everybody(classes, granted), everybody(classes, denied)
+
+    def _each_answered(self, face: Face, asked: AskableList, want: Want, forms: _Forms) -> Tuple[int, int]:
+        """Returns the same. Each of the people is asked."""
+        if asked.specials:
+            return self._whomever(face, asked, want, forms)
+        owner, group = self.owner_and_group(face, asked.kind)
+        found = asked.acl.granted_many(forms.requesters, owner=owner, group=group, mask=want.mask)
+        granted = bits_of([one != 0 for one in found] if want.any else [one == want.mask for one in found])
+        if asked.posix and not want.any and want.perms & (want.perms - 1):
+            granted = at_once(face, asked.posix, forms.identities, granted & forms.known, want.perms)
+        return granted & forms.known, ~granted & forms.known

@@ -1,0 +1,1 @@
+"""The command line: the words of the program and their options."""

@@ -1,0 +1,1 @@
+"""Scans and questions on the workers of a cluster."""

@@ -1,0 +1,1 @@
+"""The command `diff`: what changed between two snapshots, and for whom."""

@@ -1,0 +1,1 @@
+"""The command `load`: snapshots in a database of PostgreSQL."""

@@ -1,0 +1,1 @@
+"""Who is asked about: accounts, people and their groups."""

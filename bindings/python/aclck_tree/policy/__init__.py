@@ -1,0 +1,1 @@
+"""The command `policy`: which objects of a snapshot break a rule."""

@@ -1,0 +1,256 @@
+"""Which rules of a policy apply to which objects of a snapshot, and the command `policy`."""
+
+from __future__ import annotations
+
+import argparse
+from typing import Dict, Iterator, List, NamedTuple, Optional, Set, Tuple
+
+from aclck_tree.answer import mentions
+from aclck_tree.answer.ask import NOBODY, Asker
+from aclck_tree.answer.commands import asker_of, opened, people_of, status_of
+from aclck_tree.answer.questions import left_out
+from aclck_tree.output.errors import NO, REFUSED, YES
+from aclck_tree.output.text import ObjectName, ObjectNamer, Output, Row, plural, quoted, tell
+from aclck_tree.people.people import stranger_of
+from aclck_tree.policy.judging import Breach, Judge, Verdict
+from aclck_tree.policy.policies import Rule, names_in, read_policy
+from aclck_tree.snapshot.globs import Matcher
+from aclck_tree.snapshot.selecting import Counted, count_by
+
+
+class Applied(NamedTuple):
+    """A rule that applies to an object, and the exception that says that it does not hold there, by their numbers."""
+
+    rule: int
+    exemption: Optional[int]
+
+
+_MOST_KNOWN = 1_000_000
+"""How many answers are kept about faces and rules."""
+
+
+class Policy:
+    """The rules of a policy over a snapshot. Every rule whose pattern matches an object applies to it."""
+
+    def __init__(self, asker: Asker, rules: List[Rule]) -> None:
+        self.rules = rules
+        snapshot = asker.snapshot
+        lists = [asker.stored[number] for number in snapshot.lists()]
+        self._judge = Judge(asker, stranger_of(snapshot, lists, asker.people))
+        patterns = [(Applied(number, place), path) for number, rule in enumerate(rules)
+                    for place, path in [(None, rule.path), *enumerate(one.path for one in rule.exemptions)]]
+        self._meant = [meant for meant, _ in patterns]
+        self._matcher = Matcher(snapshot, [path for _, path in patterns])
+        self._applied: Dict[Tuple[int, ...], Tuple[Applied, ...]] = {}
+        self._known: Dict[Tuple[int, int, bool], Tuple[Breach, ...]] = {}
+
+    def applied(self, tree: int, path: bytes, is_directory: bool) -> Tuple[Applied, ...]:
+        """Returns the rules that apply to an object, each with the first exception that matches it. Objects come in the
+        order of trees and paths."""
+        matched = self._matcher.matched(tree, path, is_directory)
+        found = self._applied.get(matched)
+        if found is None:
+            rules: Dict[int, Optional[int]] = {}
+            exempt: Dict[int, int] = {}
+            for rule, place in map(self._meant.__getitem__, matched):
+                if place is None:
+                    rules[rule] = None
+                else:
+                    exempt.setdefault(rule, place)
+            found = self._applied[matched] = tuple(Applied(rule, exempt.get(rule)) for rule in rules)
+        return found
+
+    def breaches(self, rule: int, face: int, is_directory: bool) -> Tuple[Breach, ...]:
+        """Returns how the objects of a face break a rule."""
+        key = (rule, face, is_directory and self.rules[rule].children)
+        if key not in self._known:
+            if len(self._known) > _MOST_KNOWN:
+                self._known.clear()
+            self._known[key] = self._judge.breaches(self.rules[rule], face, is_directory)
+        return self._known[key]
+
+    def unmatched(self) -> Iterator[Tuple[Rule, Optional[str]]]:
+        """Yields the rules that apply to none of the objects, and the exceptions of others that are about none, with
+        their patterns."""
+        met: Set[Applied] = set()
+        for found in self._applied.values():
+            met.update(found)
+            met.update(one._replace(exemption=None) for one in found)
+        for number, rule in enumerate(self.rules):
+            if Applied(number, None) not in met:
+                yield rule, None
+                continue
+            for place, one in enumerate(rule.exemptions):
+                if Applied(number, place) not in met:
+                    yield rule, one.text
+
+
+def verdict_of(breaches: Tuple[Breach, ...]) -> Verdict:
+    """Returns what several breaches are together: broken if one of them is."""
+    return Verdict.BROKEN if any(one.verdict is Verdict.BROKEN for one in breaches) else Verdict.UNKNOWN
+
+
+def words_of(one: Breach) -> str:
+    """Returns a breach in words."""
+    on = f"{one.on}: " if one.on else ""
+    if one.reason:
+        return f"{on}{one.bound} cannot be judged: {one.reason}"
+    verb = "may" if one.bound == "at_most" else "may not"
+    place = "" if one.place is None else f"ACE {one.place}: "
+    who = quoted(one.who) if one.is_known else one.who
+    return f"{on}{who} {verb} {one.rights}, {place}{one.decided_by}"
+
+
+def tell_slips(place: str, asker: Asker, policy: Policy) -> bool:
+    """Reports the names of a policy that the snapshot does not mention, and the paths that match nothing. Returns
+    whether one of these is that of a rule."""
+    names = set(names_in(policy.rules))
+    found = mentions.unmentioned(asker, [(NOBODY, (is_group, name)) for name, kinds in names for is_group in kinds])
+    for name, kinds in names:
+        if len(kinds) == 2 and not found.names >= {(False, name), (True, name)}:  # one of the two is mentioned
+            found.names.difference_update((is_group, name) for is_group in kinds)
+            found.foreign.difference_update((is_group, name) for is_group in kinds)
+    together = asker.snapshot.together
+    for line in () if together else mentions.lines(asker, found, False):
+        tell(f"{quoted(place)}: {line}")
+    has_empty = False
+    for rule, exception in policy.unmatched():
+        if together:
+            together.unmatched += [rule.name] if exception is None else []
+        elif exception is None:
+            has_empty = True
+            tell(f"{quoted(place)}: the path of rule {quoted(rule.name)} matches nothing")
+        else:
+            tell(f"{quoted(place)}: rule {quoted(rule.name)}: the exception {quoted(exception)} matches nothing")
+    return has_empty
+
+
+_EXCEPTED, _KEPT = "excepted", "kept"
+_ORDER = [Verdict.BROKEN.value, Verdict.UNKNOWN.value, _EXCEPTED, _KEPT]
+
+_Key = Tuple[int, bool, Tuple[Applied, ...]]  # a face, whether it is of a directory, and the rules
+
+
+class _Found(NamedTuple):
+    """What is found about an object and a rule."""
+
+    verdict: str
+    applied: Applied
+    breaches: Tuple[Breach, ...]
+
+
+class _Check:
+    """The answers of the command about the objects of a snapshot."""
+
+    def __init__(self, asker: Asker, rules: List[Rule]) -> None:
+        self.asker = asker
+        self.policy = Policy(asker, rules)
+        self.naming = ObjectNamer(asker.snapshot)
+        self.counts: Dict[str, int] = {}
+        self._known: Dict[_Key, List[_Found]] = {}
+        self._kept = 0  # how many answers are known
+
+    def keys(self) -> Iterator[Tuple[_Key, int, bytes]]:
+        """Yields the key of each object, its tree and its path."""
+        for tree, path, is_directory, _, face in self.asker.snapshot.objects():
+            yield (face, is_directory, self.policy.applied(tree, path, is_directory)), tree, path
+
+    def count(self) -> Dict[_Key, Counted]:
+        """Counts the objects about which the same is found, those of one owner next to each other."""
+        faces = self.asker.faces
+
+        def order(key: _Key) -> Tuple[int, int, int, int]:
+            face = faces[key[0]]
+            return face.tree, face.uid, face.gid, face.face
+        counts = count_by(self.asker.snapshot, self.keys())
+        return {key: counts[key] for key in sorted(counts, key=order)}
+
+    def found(self, key: _Key) -> List[_Found]:
+        """Returns what is found about the objects of a key, for each rule that applies to them."""
+        if key not in self._known:
+            face, is_directory, applied = key
+            self._kept += len(applied)
+            if self._kept > _MOST_KNOWN:
+                self._kept = len(applied)
+                self._known.clear()
+            rows = [(one, self.policy.breaches(one.rule, face, is_directory)) for one in applied]
+            self._known[key] = [
+                _Found(_KEPT if not breaches else verdict_of(breaches).value if one.exemption is None else _EXCEPTED,
+                       one, breaches) for one, breaches in rows]
+        return self._known[key]
+
+    def rows(self, name: ObjectName, found: _Found) -> Iterator[Row]:
+        """Yields a row for each breach."""
+        rule = self.policy.rules[found.applied.rule]
+        place = found.applied.exemption
+        excepted = None if place is None else rule.exemptions[place].reason
+        for one in found.breaches:
+            yield {"verdict": found.verdict if place is not None else one.verdict.value, "rule": rule.name,
+                   **name.row(), "bound": one.bound, "on": one.on or None, "who": one.who or None,
+                   "known": one.is_known, "rights": one.rights or None, "place": one.place,
+                   "decided_by": one.decided_by or None, "reason": one.reason or None, "exception": excepted}
+
+
+_COLUMNS = ["verdict", "rule", "path", "bound", "on", "who", "known", "rights", "place", "decided_by", "reason",
+            "exception"]
+
+
+def policy(args: argparse.Namespace) -> int:
+    """Writes which objects break a rule of a policy, and for whom."""
+    rules = read_policy(args.policy)
+    snapshot = opened(args, args.snapshot)
+    check = _Check(asker_of(args, snapshot, people_of(args, snapshot)), rules)
+    counts = check.count()
+    out = Output(args.form, check.naming.columns(*_COLUMNS), lambda row: None)
+    classes: Dict[_Found, Counted] = {}
+    tally: Dict[str, int] = {}
+    for key, one in counts.items():
+        for found in check.found(key):
+            tally[found.verdict] = tally.get(found.verdict, 0) + one.objects
+            if found.verdict != _KEPT:
+                known = classes.get(found, Counted(0, one.first))
+                classes[found] = Counted(known.objects + one.objects, min(known.first, one.first))
+    if args.form == "text" and not args.each:
+        order = sorted(classes.items(), key=lambda item: (_ORDER.index(item[0].verdict), item[0].applied.rule,
+                                                          -item[1].objects, item[1].first))
+        for found, one in order:
+            _put_text(out, check, found, one)
+    else:
+        _put_each(args, check, out)
+    is_unknown = any(one.verdict is Verdict.UNKNOWN for found in classes if found.verdict != _EXCEPTED
+                     for one in found.breaches)
+    status = NO if tally.get(Verdict.BROKEN.value) else YES
+    return status_of(REFUSED if _ended(args, check, counts, tally, out) or is_unknown else status, snapshot)
+
+
+def _put_each(args: argparse.Namespace, check: _Check, out: Output) -> None:
+    for key, tree, path in check.keys():
+        name = check.naming.name(check.asker.snapshot.trees[tree], path)
+        for found in check.found(key):
+            if found.verdict != _KEPT and args.form == "text":
+                _put_text(out, check, found, Counted(1, name))
+            elif found.verdict != _KEPT:
+                for row in check.rows(name, found):
+                    out.put(row)
+
+
+def _put_text(out: Output, check: _Check, found: _Found, one: Counted) -> None:
+    rule, place = check.policy.rules[found.applied.rule], found.applied.exemption
+    others = f" and {plural(one.objects - 1, 'other object')}" if one.objects > 1 else ""
+    excepted = "" if place is None else f" ({rule.exemptions[place].reason})"
+    out.note(f"{found.verdict}: {one.first.words()}{others}, rule {quoted(rule.name)}{excepted}")
+    for breach in found.breaches:
+        out.note(f"    {words_of(breach)}")
+
+
+def _ended(args: argparse.Namespace, check: _Check, counts: Dict[_Key, Counted], tally: Dict[str, int],
+           out: Output) -> bool:
+    """Writes the last lines, and returns whether the path of a rule matches nothing."""
+    has_empty = tell_slips(args.policy, check.asker, check.policy)
+    words = [f"{tally[word]:,} {word}" for word in _ORDER if tally.get(word)]
+    objects = sum(one.objects for one in counts.values())
+    bare = sum(one.objects for (_, _, applied), one in counts.items() if not applied)
+    no_rule = f"; no rule is about {plural(bare, 'object')}" if bare else ""
+    out.note(f"{plural(objects, 'object')}, {plural(len(check.policy.rules), 'rule')}: "
+             f"{', '.join(words) or 'nothing judged'}{no_rule}{left_out(check.asker, {key[0] for key in counts})}")
+    return has_empty

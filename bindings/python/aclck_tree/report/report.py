@@ -1,0 +1,332 @@
+"""The command `report`: one page of HTML for people, or the findings as CSV or JSON."""
+
+from __future__ import annotations
+
+import argparse
+import contextlib
+import itertools
+import os
+import sys
+from dataclasses import dataclass, field, replace
+from typing import Any, Dict, Iterable, Iterator, List, NamedTuple, Optional, Set, TextIO, Tuple
+
+from aclck_tree.answer.ask import DENIED, GRANTED, UNKNOWN, Answers, Asker, Want
+from aclck_tree.answer.commands import asker_of, opened, people_of, status_of
+from aclck_tree.answer.lists import AskableList, Kind, RefusedList
+from aclck_tree.answer.reach import reached, tell_above
+from aclck_tree.output.errors import NO, REFUSED, YES, UsageError
+from aclck_tree.output.files import replaced
+from aclck_tree.output.text import Form, ObjectNamer, Output, quoted, quoted_host, tell
+from aclck_tree.people.people import HIGHEST_ID, Person, stranger_of
+from aclck_tree.policy.checking import Applied, Policy, tell_slips, verdict_of, words_of
+from aclck_tree.policy.judging import Verdict
+from aclck_tree.policy.policies import read_policy
+from aclck_tree.report.findings import Finding, everyone_words, findings, special_bits_words
+from aclck_tree.report.page import page
+from aclck_tree.report.rows import NAMED, Cells, Level, Name, RowBuilder, level_by, level_of, name_of, questions_of
+from aclck_tree.snapshot.selecting import Paths, beginnings
+from aclck_tree.snapshot.snapshot import Face, Snapshot
+
+
+@dataclass
+class Places:
+    """The objects of which one thing was found: how many, and the names of the first."""
+
+    words: str
+    folders: int = 0
+    files: int = 0
+    names: List[Name] = field(default_factory=list)
+
+
+@dataclass
+class _Kind:
+    """What all objects with one face, one kind and the same special bits of the mode have in common, and how many they
+    are. `unnamed` are those of `places` that still take names."""
+
+    is_folder: bool
+    cells: Cells
+    owners: Tuple[int, ...]
+    places: List[Places]
+    unnamed: List[Places]
+    objects: int = 0
+
+    def name(self, name: Name) -> None:
+        """Adds the name of an object to what was found about it."""
+        self.unnamed = [places for places in self.unnamed if len(places.names) < NAMED]
+        for places in self.unnamed:
+            places.names.append(name)
+
+
+class ObjectTraits(NamedTuple):
+    """What objects have in common about which the same is said. With --reach, `above` says who gets past the folders
+    above them, and with a policy, `rules` are those about them."""
+
+    is_folder: bool
+    bits: int
+    face: int
+    above: Optional[Answers] = None
+    rules: Tuple[Applied, ...] = ()
+
+
+_Object = Tuple[Any, ...]
+"""An object: its tree, its path, and the values of its `ObjectTraits`. An `ObjectTraits` for each object would be
+slower."""
+
+
+class Report:
+    """What the page shows about a snapshot: with a pattern, only about the objects whose path matches. With `is_reach`,
+    nobody has access to what is below a folder that does not let them pass. With a policy, what breaks it is found
+    first."""
+
+    def __init__(self, asker: Asker, glob: Optional[str] = None, is_reach: bool = False,
+                 policy: Optional[Policy] = None) -> None:
+        self.glob = glob
+        self.is_reach = is_reach
+        self.snapshot: Snapshot = asker.snapshot
+        self.people = asker.people
+        self.faces = asker.faces
+        self._nobody = _id_of_nobody(asker)
+        self._owner, self._stranger = len(self.people), len(self.people) + 1
+        stored = (asker.stored[number] for number in {face.list for face in self.faces.values()})
+        # Two more are asked about: who owns all objects that none of the people owns, and somebody whom nothing names.
+        stranger = stranger_of(self.snapshot, stored, asker.people)
+        self.asker = Asker(self.snapshot, [*asker.people, Person(str(self._nobody)), stranger], asker.options)
+        self.policy = policy
+        self.findings = [*(_policy_findings() if policy else ()),
+                         *findings(self.asker, self.snapshot.directory_faces(), stranger)]
+        self.found: Dict[str, Dict[str, Places]] = {finding.key: {} for finding in self.findings}
+        self._has_posix = any(self.asker.stored[face.list].is_posix for face in self.faces.values())
+        self.naming = ObjectNamer(self.snapshot)
+        self._users: Dict[Tuple[int, Kind], Dict[str, Tuple[int, ...]]] = {}
+        self._cells: Dict[Tuple[bytes, Level], Cells] = {}
+        self._levels: Dict[Tuple[int, int, int, bool], bytes] = {}
+        self.lists: Set[int] = set()
+        self.rows = self._walk()
+
+    def _walk(self) -> RowBuilder:
+        rows = RowBuilder()
+        kinds: Dict[_Object, _Kind] = {}
+        for one in self.objects():
+            tree, path, values = one[0], one[1], one[2:]
+            kind = kinds.get(values)
+            if kind is None:
+                kind = kinds[values] = self._kind(ObjectTraits(*values))
+            kind.objects += 1
+            if kind.unnamed:
+                kind.name((tree, path))
+            row, begins = rows.add(tree, path, kind.is_folder, kind.cells)
+            if row is not None:
+                if kind.owners:
+                    row.owners.update(kind.owners)
+                if begins and len(row.names) < NAMED:
+                    row.names.append((tree, path))
+        self.folders = sum(kind.objects for kind in kinds.values() if kind.is_folder)
+        self.files = sum(kind.objects for kind in kinds.values() if not kind.is_folder)
+        for kind in kinds.values():
+            for places in kind.places:
+                places.folders += kind.objects if kind.is_folder else 0
+                places.files += 0 if kind.is_folder else kind.objects
+        return rows
+
+    def name(self, tree: int, path: bytes) -> str:
+        """Returns the whole path of an object as the page shows it, with the host if there are several."""
+        name = self.naming.name(self.snapshot.trees[tree], path)
+        return ("" if name.host is None else f"{quoted_host(name.host)}:") + name_of(name.path)
+
+    def objects(self) -> Iterator[_Object]:
+        """Yields each object that the report is about, in the order of trees and paths."""
+        found: Iterator[_Object] = self.snapshot.objects(0o7000)
+        if self.is_reach or self.policy:
+            reach = (one[3] for one in reached(self.asker)) if self.is_reach else itertools.repeat(None)
+            found = ((*one, above) for one, above in zip(found, reach))
+        if self.glob is not None:
+            paths = Paths(self.snapshot, self.glob)
+            found = (one for one in found if paths.has(*one[:2]))
+        if self.policy:
+            applied = self.policy.applied
+            found = ((*one, applied(*one[:3])) for one in found)
+        return found
+
+    def _kind(self, one: ObjectTraits) -> _Kind:
+        self.lists.add(self.faces[one.face].list)
+        cells, owners = self._cells_of(one)
+        places = [self.found[finding.key].setdefault(words, Places(words)) for finding, words in self.words(one)]
+        return _Kind(one.is_folder, cells, owners, places, places)
+
+    def words(self, one: ObjectTraits) -> Iterator[Tuple[Finding, str]]:
+        """Yields what was found about objects."""
+        yield from self._broken(one)
+        face = self.faces[one.face]
+        stranger_is_stopped = one.above is not None and one.above.of(self._stranger) is DENIED
+        for finding in self.findings:
+            words = finding.faces.get(one.face, "")
+            if finding.key == "bits":
+                words = special_bits_words(self.asker.accounts[face.tree], face, one.bits)
+            elif finding.key in ("everyone", "readable") and stranger_is_stopped:
+                words = ""
+            elif finding.key == "everyone" and words:
+                words = everyone_words(words, one.is_folder, one.bits)
+            if words and (one.is_folder or not finding.directories_only):
+                yield finding, words
+
+    def _broken(self, one: ObjectTraits) -> Iterator[Tuple[Finding, str]]:
+        """Yields which rules of the policy objects break, and of which that is not known."""
+        found: Dict[Verdict, List[str]] = {Verdict.BROKEN: [], Verdict.UNKNOWN: []}
+        for rule, exemption in one.rules:
+            assert self.policy
+            breaches = self.policy.breaches(rule, one.face, one.is_folder) if exemption is None else ()
+            if breaches:
+                words = "; ".join(map(words_of, breaches))
+                found[verdict_of(breaches)].append(f"{quoted(self.policy.rules[rule].name)}: {words}")
+        return ((finding, "; ".join(words)) for finding, words in zip(self.findings, found.values()) if words)
+
+    def _cells_of(self, one: ObjectTraits) -> Tuple[Cells, Tuple[int, ...]]:
+        """Returns how objects answer, and which of the people own them."""
+        face, is_folder = self.faces[one.face], one.is_folder
+        asked = self.asker.ready(face.list)
+        if isinstance(asked, RefusedList):
+            return self._same(bytes([Level.REFUSED]) * len(self.people), Level.REFUSED), ()
+        owners, others = self._owners(face, asked), self._others(face, asked, is_folder)
+        if not owners:
+            return self._same(_past(others, one.above), Level(others[self._owner])), ()
+        levels = _past(self._levels_of(face, asked, is_folder), one.above)
+        owned = {levels[place] for place in owners}
+        if len(owned) > 1:  # one user was named twice, with other groups
+            return self._same(levels, Level.UNKNOWN), ()
+        return self._same(_past(others, one.above), Level(owned.pop())), owners
+
+    def _others(self, face: Face, asked: AskableList, is_folder: bool) -> bytes:
+        """Returns the levels of the people on objects that they do not own, and of an owner in no group."""
+        key = face.tree, face.gid, face.list, is_folder
+        if key not in self._levels:
+            self._levels[key] = self._levels_of(replace(face, uid=self._nobody), asked, is_folder)
+        return self._levels[key]
+
+    def _levels_of(self, face: Face, asked: AskableList, is_folder: bool) -> bytes:
+        """Returns the levels of the people: unknown where they depend on the members of special names, and for a person
+        whose id is not known."""
+        if asked.specials:
+            return self._levels_whomever(face, asked, is_folder)
+        masks = self.asker.masks(face, asked)
+        levels = {mask: Level.UNKNOWN if mask is None else level_of(mask, asked.kind, is_folder)
+                  for mask in set(masks)}
+        return bytes(map(levels.__getitem__, masks))
+
+    def _levels_whomever(self, face: Face, asked: AskableList, is_folder: bool) -> bytes:
+        """Returns the same for a list with special names, by the three questions that make a level."""
+        wanted = (Want("", mask, 0, 0, any_of) for mask, any_of in questions_of(asked.kind, is_folder))
+        found = [answers for answers in (self.asker.answers(face, want) for want in wanted)
+                 if isinstance(answers, Answers)]
+        levels = []
+        for place in range(len(self.asker.people)):
+            known = [answers.of(place) for answers in found]
+            levels.append(Level.UNKNOWN if UNKNOWN in known else level_by(*(one is GRANTED for one in known)))
+        return bytes(levels)
+
+    def _owners(self, face: Face, asked: AskableList) -> Tuple[int, ...]:
+        """Returns which of the people are the owner of a face."""
+        key = face.tree, asked.kind
+        if key not in self._users:
+            users: Dict[str, Tuple[int, ...]] = {}
+            for place, person in enumerate(self.people):
+                for user in {one.user for one in self.asker.identities(person, face, asked.kind)}:
+                    users[user] = (*users.get(user, ()), place)
+            self._users[key] = users
+        return self._users[key].get(self.asker.owner_and_group(face, asked.kind)[0], ())
+
+    def _same(self, levels: bytes, owner: Level) -> Cells:
+        levels = levels[:len(self.people)]
+        return self._cells.setdefault((levels, owner), Cells(len(self._cells), levels, owner))
+
+    def id_of(self, person: Person) -> str:
+        """Returns the ids of a person on the scanned systems, or the names if the person was named by an id. Returns
+        nothing if no list is a POSIX list, because other lists have names."""
+        if not self._has_posix:
+            return ""
+        found = []
+        for tree, accounts in self.asker.accounts.items():
+            number = self.asker.id(person, person.name, False, tree)
+            if number is not None:
+                is_id = str(number) == person.name
+                found.append(accounts.names.get((False, number), "") if is_id else str(number))
+        return " or ".join(dict.fromkeys(filter(None, found)))
+
+    def status(self) -> int:
+        """Returns 2 if a list is refused, a rule cannot be judged, something could not be read or the report is about
+        no object, 1 if something else was found, and otherwise 0."""
+        if self.found.get("unjudged"):
+            return REFUSED
+        if self.found["refused"] or status_of(YES, self.snapshot) != YES or not self.folders + self.files:
+            return REFUSED
+        return NO if any(self.found.values()) else YES
+
+
+def _policy_findings() -> List[Finding]:
+    """Returns what can be found with a policy, and was not found yet."""
+    return [Finding("policy", "broken rules", "A rule of the policy is broken by {}.",
+                    "The list grants more than the rule allows, or less than it wants."),
+            Finding("unjudged", "rules that cannot be judged", "A rule of the policy cannot be judged for {}.",
+                    "The list is refused, or something is not known that the rule depends on.")]
+
+
+def _past(levels: bytes, above: Optional[Answers]) -> bytes:
+    """Returns the levels of people on an object, given who gets past the folders above it."""
+    if above is None or not above.denied | above.unknown:
+        return levels
+    stopped = {GRANTED: None, DENIED: Level.NONE, UNKNOWN: Level.UNKNOWN}
+    found = []
+    for place, level in enumerate(levels):
+        other = stopped[above.of(place)]
+        found.append(level if other is None or level == Level.NONE else other)
+    return bytes(found)
+
+
+def _id_of_nobody(asker: Asker) -> int:
+    """Returns an id that none of the people has, and that is not the name of one in an NFSv4 list."""
+    taken = {asker.full_name(person.name) for person in asker.people}
+    taken |= {str(asker.id(person, person.name, False, tree)) for tree in asker.accounts for person in asker.people}
+    known = {number for accounts in asker.accounts.values() for _, number in accounts.names}
+    return next(number for number in range(HIGHEST_ID, 0, -1) if number not in known and
+                taken.isdisjoint((str(number), asker.full_name(str(number)))))
+
+
+def _refuse_to_replace(output: str, given: Iterable[Optional[str]]) -> None:
+    """Raises UsageError if the page would replace a file that the command reads."""
+    for place in filter(None, given):
+        with contextlib.suppress(OSError):
+            if os.path.samefile(place, output):
+                raise UsageError(f"-o names {quoted(place)}, which the page would replace")
+
+
+def report(args: argparse.Namespace) -> int:
+    """Writes the page, or with --csv or --json the findings, one line per object."""
+    if args.output:
+        _refuse_to_replace(args.output, (args.snapshot, args.policy, args.people, args.passwd, args.group))
+    snapshot = opened(args, args.snapshot)
+    rules = read_policy(args.policy) if args.policy else []
+    asker = asker_of(args, snapshot, people_of(args, snapshot))
+    policy = Policy(asker, rules) if rules else None
+    made = Report(asker, args.path, args.reach, policy)
+    is_unread = args.reach and tell_above(asker)
+    # with --path, rules may be about other objects
+    has_empty = policy is not None and args.path is None and tell_slips(args.policy, asker, policy)
+    if not made.folders + made.files:
+        tell(f"{quoted(args.snapshot)}: no object is selected; {beginnings(snapshot)}")
+    with replaced(args.output) if args.output else contextlib.nullcontext(sys.stdout) as file:
+        if args.form is Form.TEXT:
+            file.writelines(page(made))
+        else:
+            _put_findings(args, made, file)
+    return REFUSED if has_empty or is_unread else made.status()
+
+
+def _put_findings(args: argparse.Namespace, made: Report, file: TextIO) -> None:
+    out = Output(args.form, made.naming.columns("finding", "path", "what"), lambda row: "", file)
+    known: Dict[_Object, List[Tuple[Finding, str]]] = {}
+    for one in made.objects():
+        tree, path, values = one[0], one[1], one[2:]
+        if values not in known:
+            known[values] = list(made.words(ObjectTraits(*values)))
+        for finding, words in known[values]:
+            name = made.naming.name(made.snapshot.trees[tree], path)
+            out.put({"finding": finding.key, **name.row(), "what": words})

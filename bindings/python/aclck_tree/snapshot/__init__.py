@@ -1,0 +1,1 @@
+"""What a snapshot holds, and how it is written and read."""

@@ -1,0 +1,5 @@
+pub mod ListChmod
+pub mod ChmodAces
+pub mod ChmodGrants
+pub mod ChmodChildren
+pub mod ResolvedLists

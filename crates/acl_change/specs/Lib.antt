@@ -1,0 +1,2 @@
+pub mod ListChmod
+pub mod Resolved

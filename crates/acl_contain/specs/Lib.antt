@@ -1,0 +1,4 @@
+pub mod Holders
+pub mod Implied
+pub mod Needed
+pub mod internal

@@ -1,0 +1,17 @@
+//! Whether a list grants at most what another does, who has a right, and which rights are needed.
+#![tactic(auto)]
+
+mod equal_grants;
+mod exceeding;
+mod holder_lines;
+mod implying;
+pub mod laws;
+mod needed_rights;
+#[cfg(test)]
+mod tests;
+
+pub use equal_grants::{same, same_views};
+pub use exceeding::{excess, excess_of_views};
+pub use holder_lines::holders;
+pub use implying::{implies, implies_of_view};
+pub use needed_rights::{needed, needed_of_view};

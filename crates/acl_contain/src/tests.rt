@@ -1,0 +1,12 @@
+//! Tests by tables of worked lists. The expected values are worked by hand: what a list grants by the first match (RFC
+//! 8881, section 6.2.1), and the rest by docs/reference/lists.md.
+
+mod ample;
+mod equal_lists;
+mod examples;
+mod excesses;
+mod expected;
+mod harness;
+mod holder_words;
+mod implications;
+mod needed_rights;

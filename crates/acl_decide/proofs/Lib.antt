@@ -1,0 +1,8 @@
+pub mod DecidingSearches
+pub mod Noted
+pub mod Unknowns
+pub mod UnknownMasks
+pub mod Assignments
+pub mod Requests
+pub mod RightsOf
+pub mod Memberships

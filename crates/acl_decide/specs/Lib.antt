@@ -1,0 +1,4 @@
+pub mod Decisions
+pub mod Unknown
+pub mod Memberships
+pub mod internal

@@ -1,0 +1,15 @@
+//! Which ACE decides each right, also where nobody knows whom a special identifier matches.
+#![tactic(auto)]
+
+mod deciding;
+mod deciding_all;
+pub mod laws;
+mod requesting;
+#[cfg(test)]
+mod tests;
+mod unknown;
+
+pub use deciding::{Decision, deciding_ace};
+pub use deciding_all::{Decisions, deciding_aces};
+pub use requesting::{RequestAnswer, request_answer};
+pub use unknown::{DecidedWithUnknown, decided_with_unknown};

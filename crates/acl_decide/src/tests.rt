@@ -1,0 +1,5 @@
+//! Tests of this crate, by subject. The head of each file says where its expected values are from.
+
+mod deciding;
+mod examples;
+mod unknown;

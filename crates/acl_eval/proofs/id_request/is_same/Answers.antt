@@ -1,6 +1,0 @@
-use Rattle.std.proofs.Common.{sym}
-use Rattle.acl_eval.proofs.IdGroups.{same_digits}
-use Rattle.acl_eval.proofs.id_request.is_same.Goals as goal
-
-pub returns : goal.returns
-returns c = sym (same_digits c.args.first c.args.second c.ranges.first.fits c.ranges.second.fits)

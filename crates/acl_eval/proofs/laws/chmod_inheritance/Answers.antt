@@ -1,5 +1,0 @@
-use Rattle.acl_eval.proofs.ChmodChildren.{inherited_as_before}
-use Rattle.acl_eval.proofs.laws.chmod_inheritance.Goals as goal
-
-pub returns : goal.returns
-returns c = inherited_as_before

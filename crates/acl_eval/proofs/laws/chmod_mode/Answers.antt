@@ -1,5 +1,0 @@
-use Rattle.acl_eval.proofs.ChmodGrants.{mode_after}
-use Rattle.acl_eval.proofs.laws.chmod_mode.Goals as goal
-
-pub returns : goal.returns
-returns c = mode_after

@@ -1,5 +1,0 @@
-use Rattle.acl_eval.proofs.LossSearches.{sound_is_exact}
-use Rattle.acl_eval.proofs.laws.exact_if_nothing_is_lost.Goals as goal
-
-pub returns : goal.returns
-returns c = sound_is_exact

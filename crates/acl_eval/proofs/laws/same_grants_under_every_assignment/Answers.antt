@@ -1,5 +1,0 @@
-use Rattle.acl_eval.proofs.Memberships.{same_under}
-use Rattle.acl_eval.proofs.laws.same_grants_under_every_assignment.Goals as goal
-
-pub returns : goal.returns
-returns c = same_under

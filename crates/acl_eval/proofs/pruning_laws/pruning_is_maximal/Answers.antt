@@ -1,5 +1,0 @@
-use Rattle.acl_eval.proofs.PruningMaximal.{end_is_maximal}
-use Rattle.acl_eval.proofs.pruning_laws.pruning_is_maximal.Goals as goal
-
-pub returns : goal.returns
-returns c = end_is_maximal

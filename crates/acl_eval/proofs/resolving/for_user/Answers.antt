@@ -1,6 +1,0 @@
-use Rattle.acl_nfs4.specs.Ace.{ace}
-use Rattle.acl_eval.proofs.ResolvedLists.{is_for_user}
-use Rattle.acl_eval.proofs.resolving.for_user.Goals as goal
-
-pub returns : goal.returns
-returns c = is_for_user c.args.name.now (ace c.args.item) c.difference.result.bits c.difference.ensures.meaning

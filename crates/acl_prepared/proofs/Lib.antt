@@ -1,0 +1,6 @@
+pub mod Keys
+pub mod PreparedBytes
+pub mod PreparedLists
+pub mod IdGroups
+pub mod IdBytes
+pub mod IdParts

@@ -1,0 +1,17 @@
+//! A list as bytes that are asked many times, by names or by ids.
+#![tactic(auto)]
+
+mod id_ace;
+mod id_request;
+mod keyed;
+mod prepared_ace;
+mod prepared_ids;
+mod preparing;
+#[cfg(test)]
+mod speed;
+#[cfg(test)]
+mod tests;
+
+pub use id_request::{IdObject, IdRequester};
+pub use prepared_ids::{PreparedIds, prepare_ids};
+pub use preparing::{Prepared, prepare};

@@ -1,0 +1,13 @@
+//! The tables of this crate in ample memory, where a check may not answer that memory ran out, as it may in the file of
+//! its subject. That file has the expected values and says where they are from. Its module `ample` has the other tests
+//! that need ample memory.
+
+use super::ids;
+use acl_nfs4::PushFault;
+
+#[test]
+fn every_row_holds_with_enough_memory(rt: HostRuntime) -> Result<(), PushFault> {
+    let alloc = rt.alloc();
+    ids::check_ids(&rt, alloc)?;
+    ids::check_unknown(&rt, alloc)
+}

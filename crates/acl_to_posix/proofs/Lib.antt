@@ -1,0 +1,16 @@
+pub mod Passes
+pub mod TagRequesters
+pub mod EntrySituations
+pub mod SituationIds
+pub mod PossibleTags
+pub mod SoundRules
+pub mod ListNames
+pub mod Matchings
+pub mod RealMatchings
+pub mod PosixOfLists
+pub mod losses
+pub mod prunings
+pub mod owners
+pub mod shapes
+pub mod columns
+pub mod no_greatest

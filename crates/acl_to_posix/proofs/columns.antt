@@ -1,0 +1,2 @@
+pub mod TagColumns
+pub mod TagMatchings

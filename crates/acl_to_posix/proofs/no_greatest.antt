@@ -1,0 +1,5 @@
+pub mod FreeIds
+pub mod ExampleAcls
+pub mod UserCase
+pub mod PermissionsCase
+pub mod GroupsCase

@@ -1,0 +1,5 @@
+pub mod OwnerKeys
+pub mod OwnerLists
+pub mod OwnerShapes
+pub mod OwnerColumns
+pub mod OwnerEnds

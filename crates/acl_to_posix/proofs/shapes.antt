@@ -1,0 +1,6 @@
+pub mod EntryCounts
+pub mod AlwaysDecides
+pub mod ShapeRights
+pub mod ShapeChecks
+pub mod ShapeBuilding
+pub mod AclShapes

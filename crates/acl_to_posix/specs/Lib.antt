@@ -1,0 +1,9 @@
+pub mod ToPosix
+pub mod NoGreatest
+pub mod Pruning
+pub mod PruningLaws
+pub mod ListNames
+pub mod PosixOfList
+pub mod PosixForOwner
+pub mod LostGrants
+pub mod internal

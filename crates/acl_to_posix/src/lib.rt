@@ -1,0 +1,23 @@
+//! The POSIX ACL of an NFSv4 list: the users and groups that it has entries for, and what the list grants and the
+//! ACL does not.
+#![tactic(auto)]
+
+mod judged_entry;
+mod known_owner;
+pub mod laws;
+mod list_names;
+mod losing;
+mod posix_for_owner;
+mod posix_of_list;
+mod posix_shape;
+mod pruning;
+pub mod pruning_laws;
+mod tag_column;
+#[cfg(test)]
+mod tests;
+
+pub use list_names::{NamedIds, named_ids};
+pub use losing::{LostGrant, lost_grant};
+pub use posix_for_owner::to_posix_for;
+pub use posix_of_list::{ToPosix, to_posix};
+pub use posix_shape::{PosixShape, ShapeFault, posix_of_shape};

@@ -1,0 +1,9 @@
+//! Tests of this crate, by subject. The head of each file says where its expected values are from.
+
+mod ample;
+mod examples;
+mod harness;
+mod losses;
+mod owners;
+mod pruning;
+mod shapes;
