@@ -1,4 +1,5 @@
 pub mod ListChmod
+pub mod ChmodAccepted
 pub mod ChmodAces
 pub mod ChmodGrants
 pub mod ChmodChildren

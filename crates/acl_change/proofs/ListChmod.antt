@@ -1,28 +1,27 @@
 -- The list after a change of the mode, as the code makes it ACE by ACE.
-use Rattle.std.proofs.Common.{◌≡◌, ℕ, List, [], ◌∷◌, ◌++◌, refl, sym, ap, subst, ◌∙◌, append_assoc}
-use Rattle.std.specs.Prelude.{bit_and, not, true, false, Result, Ok, Err, IfErr}
+use Rattle.std.proofs.Common.{◌≡◌, ℕ, Bool, List, [], ◌∷◌, ◌++◌, refl, sym, ap, subst, ◌∙◌, append_assoc}
+use Rattle.std.specs.Prelude.{bit_and, not, true, false, ◌&&◌, Option}
 use Rattle.std.specs.List.{flat_map}
-use Rattle.std.specs.Result.{IsErrAnd}
 use Rattle.std.proofs.lemmas.Bool.{ne_eqb}
-use Rattle.std.proofs.lemmas.List.{append-nil}
 use Rattle.std.proofs.lemmas.List.Concat.{flat_map-cons}
-use Rattle.acl_perm.proofs.Sets.{same_set}
+use Rattle.acl_perm.proofs.Sets.{has_bit-and, same_set}
 use Rattle.acl_perm.specs.Bits.{IsDifference, has_bit, inherit_only}
 use Rattle.acl_perm.specs.Mode.{group_part, others_part}
 use Rattle.acl_perm.specs.Profile.{full}
 use Rattle.acl_perm.specs.declared.kind.Kind.TheVariants.{Deny}
 use Rattle.acl_nfs4.specs.Ace.{Ace}
+use Rattle.acl_nfs4.specs.declared.ace.AceRef.{AceRef}
 use Rattle.acl_nfs4.specs.Spelling.{IsAccepted}
 use Rattle.acl_nfs4.specs.Who.{principal_of}
-use Rattle.acl_nfs4.proofs.Exports.{front_accepted}
+use Rattle.acl_nfs4.specs.Within.{IsWithin}
+use Rattle.acl_nfs4.proofs.Exports.{bit_within, front_accepted}
 use Rattle.acl_eval.proofs.Parts.{first_fits}
 use Rattle.acl_eval.proofs.Scans.{has_bit-without}
 use Rattle.acl_eval.specs.Bridge.{image}
-use Rattle.acl_change.specs.ListChmod.{AddsAces, after_chmod, chmod_list, denied_rights, for_new_objects, for_this_object, lost_rights, other_aces, owner_aces, unless_empty}
+use Rattle.acl_change.specs.ListChmod.{after_chmod, chmod_list, denied_rights, for_new_objects, for_this_object, lost_rights, other_aces, owner_aces, unless_empty}
+use Rattle.acl_change.specs.internal.UpToThree.{aces_in}
 use Rattle.acl_eval.specs.Scan.{without}
 use Rattle.acl_eval.specs.Unnamed.{is_unnamed}
-use Rattle.acl_change.specs.declared.mode_change.ChmodFault.{ChmodFault}
-use Rattle.acl_change.specs.declared.mode_change.ChmodFault.TheVariants.{Limits, Memory}
 
 -- a difference of two sets is the first without the bits of the second
 pub difference_without : (m n d : ℕ) → IsDifference m n d → d ≡ without m n
@@ -33,49 +32,16 @@ pub denied_of_name : (mode : ℕ) (a : Ace) (rights : ℕ) → is_unnamed (princ
     → rights ≡ bit_and a.mask (image (without (others_part mode) (group_part mode))) → rights ≡ denied_rights mode a
 denied_of_name mode a rights e is = rw e is
 
--- a fault of the first part is a fault of the whole
-pub adds_first : (f : ChmodFault) (old mid new xs ys : List Ace) → AddsAces (Err f) old mid xs
-    → AddsAces (Err f) old new (xs ++ ys)
-adds_first Memory old mid new xs ys past = tt
-adds_first Limits old mid new xs ys past = λ ok. past (first_fits old xs ys ok)
-
--- after the first part, the answer for the second part is that for the whole
-pub adds_then : (r : Result (Unit {0}) ChmodFault) (old mid new xs ys : List Ace) → mid ≡ old ++ xs
-    → AddsAces r mid new ys → AddsAces r old new (xs ++ ys)
-adds_then (Ok u) old mid new xs ys first then =
-    then ∙ ap (λ (l : List Ace). l ++ ys) first ∙ append_assoc old xs ys
-adds_then (Err Memory) old mid new xs ys first then = tt
-adds_then (Err Limits) old mid new xs ys first then = λ ok.
-    then (subst (IsAccepted full) (sym (ap (λ (l : List Ace). l ++ ys) first ∙ append_assoc old xs ys)) ok)
-
--- a fault that `?` returns from the first part is a fault of the whole
-pub exit_first : (e : ChmodFault) (old mid new xs ys : List Ace) (r : Result (Unit {0}) ChmodFault)
-    → IsErrAnd r (λ y. y ≡ e) → AddsAces (Err e) old mid xs → AddsAces r old new (xs ++ ys)
-exit_first e old mid new xs ys (Ok u) is past = absurd is
-exit_first e old mid new xs ys (Err f) is past =
-    adds_first f old mid new xs ys (subst (λ (x : ChmodFault). AddsAces (Err x) old mid xs) (sym is) past)
-
--- the answer for an ACE is that for an equal one
-pub adds_same : (r : Result (Unit {0}) ChmodFault) (old new : List Ace) {a b : Ace} → a ≡ b
-    → AddsAces r old new (unless_empty a) → AddsAces r old new (unless_empty b)
-adds_same r old new same = subst (λ (x : Ace). AddsAces r old new (unless_empty x)) same
-
--- a fault that `?` returns for an ACE is a fault of the whole, which begins with an equal ACE
-pub exit_ace : (e : ChmodFault) (old mid new ys : List Ace) {a b : Ace} (r : Result (Unit {0}) ChmodFault)
-    → IsErrAnd r (λ y. y ≡ e) → a ≡ b → AddsAces (Err e) old mid (unless_empty a)
-    → AddsAces r old new (unless_empty b ++ ys)
-exit_ace e old mid new ys {b = b} r is same past =
-    exit_first e old mid new (unless_empty b) ys r is (adds_same (Err e) old mid same past)
-
--- a fault that `?` returns is Limits only if the whole list, which begins with this part, is not accepted
-pub exit_limits : {T : Type 0} (e : ChmodFault) (old mid xs ys whole : List Ace) (r : Result T ChmodFault)
-    → IsErrAnd r (λ y. y ≡ e) → AddsAces (Err e) old mid xs → whole ≡ old ++ (xs ++ ys)
-    → IfErr r (λ f. f ≡ Limits → IsAccepted full whole → ⊥)
-exit_limits e old mid xs ys whole (Ok u) is past begins = tt
-exit_limits e old mid xs ys whole (Err f) is past begins = λ limits ok.
-    let fails : AddsAces (Err Limits) old mid xs =
-    subst (λ (x : ChmodFault). AddsAces (Err x) old mid xs) (sym is ∙ limits) past in
-    fails (first_fits old xs ys (subst (IsAccepted full) begins ok))
+-- a part of a set is within what the set is within
+pub without_within : (set n c : ℕ) → IsWithin set n → IsWithin set (without n c)
+without_within set n c is = same_set _ _ (λ k.
+    has_bit-and (without n c) set k ∙ ap (λ (b : Bool). b && has_bit set k) (has_bit-without n c k)
+    ∙ kept (has_bit n k) (has_bit c k) (has_bit set k) (bit_within set n k is) ∙ sym (has_bit-without n c k))
+  where
+    kept : (f c s : Bool) → (f && s) ≡ f → ((f && not c) && s) ≡ (f && not c)
+    kept false c s e = refl
+    kept true true s e = refl
+    kept true false s e = e
 
 -- ---- one ACE
 
@@ -86,61 +52,72 @@ pub changed_is : (mode : ℕ) (a : Ace) → not (has_bit a.flags inherit_only) �
     ++ unless_empty (for_this_object a a.kind (without a.mask (lost_rights mode a))))
 changed_is mode a part some = rw (part, ne_eqb (lost_rights mode a) 0 some) refl
 
+-- the three ACEs that the list has in its place
+pub three_parts : (first second third : Option AceRef) {x y z : List Ace} → aces_in first ≡ x → aces_in second ≡ y
+    → aces_in third ≡ z → aces_in first ++ (aces_in second ++ aces_in third) ≡ x ++ (y ++ z)
+three_parts first second third p q r = rw (p, q, r) refl
+
+-- if a list is accepted with three more parts, it is accepted with the first two of them
+pub second_fits : (old mid a b c : List Ace) → mid ≡ old ++ a → IsAccepted full (old ++ (a ++ (b ++ c)))
+    → IsAccepted full (mid ++ b)
+second_fits old mid a b c step ok = first_fits mid b c
+    (subst (IsAccepted full) (sym (ap (λ (l : List Ace). l ++ (b ++ c)) step ∙ append_assoc old a (b ++ c))) ok)
+
 -- ---- one ACE after the other
 
--- the list so far, and what it is to have for the ACEs that are left, are the whole list
-pub record IsOnTheWay (mode : ℕ) (so_far left old list : List Ace) : Type 0 where
-  pub is : so_far ++ flat_map (after_chmod mode) left ≡ old ++ flat_map (after_chmod mode) list
+-- the list so far, what it is to have for the ACEs that are left, and the ACEs of the group and of others are the whole
+-- list
+pub record IsOnTheWay (mode : ℕ) (so_far left list : List Ace) : Type 0 where
+  pub is : so_far ++ (flat_map (after_chmod mode) left ++ other_aces mode) ≡ chmod_list mode list
 
--- the whole list begins with the list so far and what it is to have for the next ACE
-next_ace : {mode : ℕ} {so_far left old list : List Ace} (a : Ace) (rest : List Ace) → left ≡ a ∷ rest
-    → IsOnTheWay mode so_far left old list
-    → (so_far ++ after_chmod mode a) ++ flat_map (after_chmod mode) rest ≡ old ++ flat_map (after_chmod mode) list
-next_ace {mode = mode} {so_far = so_far} a rest next way =
-    append_assoc so_far (after_chmod mode a) (flat_map (after_chmod mode) rest)
-    ∙ ap (λ (l : List Ace). so_far ++ l) (sym (flat_map-cons (after_chmod mode) a rest))
-    ∙ ap (λ (l : List Ace). so_far ++ flat_map (after_chmod mode) l) (sym next) ∙ way.is
-
--- one more ACE
-pub way_on : {mode : ℕ} {so_far new left old list : List Ace} (a : Ace) (rest : List Ace) → left ≡ a ∷ rest
-    → new ≡ so_far ++ after_chmod mode a → IsOnTheWay mode so_far left old list → IsOnTheWay mode new rest old list
-way_on {mode = mode} a rest next step way = record {
-  is = ap (λ (l : List Ace). l ++ flat_map (after_chmod mode) rest) step ∙ next_ace a rest next way;
+-- after the ACEs of the owner
+pub way_begins : (mode : ℕ) {none first aces left list : List Ace} → none ≡ [] → first ≡ none ++ aces
+    → aces ≡ owner_aces mode → left ≡ list → IsOnTheWay mode first left list
+way_begins mode {aces = aces} {left = left} empty step owner same = record {
+  is = ap (λ (l : List Ace). l ++ (flat_map (after_chmod mode) left ++ other_aces mode))
+      (step ∙ ap (λ (l : List Ace). l ++ aces) empty ∙ owner)
+      ∙ ap (λ (l : List Ace). owner_aces mode ++ (flat_map (after_chmod mode) l ++ other_aces mode)) same;
 }
 
--- a fault at one ACE is a fault of the whole
-pub way_fails : (e : ChmodFault) (mode : ℕ) (so_far mid new left old list : List Ace) (a : Ace) (rest : List Ace)
-    (r : Result (Unit {0}) ChmodFault) → IsErrAnd r (λ y. y ≡ e) → left ≡ a ∷ rest
-    → AddsAces (Err e) so_far mid (after_chmod mode a) → IsOnTheWay mode so_far left old list
-    → AddsAces r old new (flat_map (after_chmod mode) list)
-way_fails e mode so_far mid new left old list a rest (Ok u) is next past way = absurd is
-way_fails e mode so_far mid new left old list a rest (Err Memory) is next past way = tt
-way_fails e mode so_far mid new left old list a rest (Err Limits) is next past way = λ ok.
-    let fails : AddsAces (Err Limits) so_far mid (after_chmod mode a) =
-    subst (λ (x : ChmodFault). AddsAces (Err x) so_far mid (after_chmod mode a)) (sym is) past in
-    fails (front_accepted full (so_far ++ after_chmod mode a) (flat_map (after_chmod mode) rest)
+-- if the whole list is accepted, so is the part of the owner
+pub owner_fits : (mode : ℕ) (list : List Ace) {none aces : List Ace} → none ≡ [] → aces ≡ owner_aces mode
+    → IsAccepted full (chmod_list mode list) → IsAccepted full (none ++ aces)
+owner_fits mode list {aces = aces} empty owner ok =
+    subst (IsAccepted full) (sym (ap (λ (l : List Ace). l ++ aces) empty ∙ owner))
+    (front_accepted full (owner_aces mode) (flat_map (after_chmod mode) list ++ other_aces mode) ok)
+
+-- the whole list begins with the list so far and what it is to have for the next ACE
+next_ace : {mode : ℕ} {so_far left list : List Ace} (a : Ace) (rest : List Ace) → left ≡ a ∷ rest
+    → IsOnTheWay mode so_far left list
+    → (so_far ++ after_chmod mode a) ++ (flat_map (after_chmod mode) rest ++ other_aces mode) ≡ chmod_list mode list
+next_ace {mode = mode} {so_far = so_far} a rest next way =
+    append_assoc so_far (after_chmod mode a) (flat_map (after_chmod mode) rest ++ other_aces mode)
+    ∙ ap (λ (l : List Ace). so_far ++ l)
+    (sym (append_assoc (after_chmod mode a) (flat_map (after_chmod mode) rest) (other_aces mode)))
+    ∙ ap (λ (l : List Ace). so_far ++ (l ++ other_aces mode)) (sym (flat_map-cons (after_chmod mode) a rest))
+    ∙ ap (λ (l : List Ace). so_far ++ (flat_map (after_chmod mode) l ++ other_aces mode)) (sym next) ∙ way.is
+
+-- one more ACE
+pub way_on : {mode : ℕ} {so_far new aces left list : List Ace} (a : Ace) (rest : List Ace) → left ≡ a ∷ rest
+    → aces ≡ after_chmod mode a → new ≡ so_far ++ aces → IsOnTheWay mode so_far left list
+    → IsOnTheWay mode new rest list
+way_on {mode = mode} {so_far = so_far} a rest next same step way = record {
+  is = ap (λ (l : List Ace). l ++ (flat_map (after_chmod mode) rest ++ other_aces mode))
+      (step ∙ ap (λ (l : List Ace). so_far ++ l) same) ∙ next_ace a rest next way;
+}
+
+-- if the whole list is accepted, so is the list with what it is to have for the next ACE
+pub way_fits : {mode : ℕ} {so_far aces left list : List Ace} (a : Ace) (rest : List Ace) → left ≡ a ∷ rest
+    → aces ≡ after_chmod mode a → IsOnTheWay mode so_far left list → IsAccepted full (chmod_list mode list)
+    → IsAccepted full (so_far ++ aces)
+way_fits {mode = mode} {so_far = so_far} a rest next same way ok =
+    subst (λ (l : List Ace). IsAccepted full (so_far ++ l)) (sym same)
+    (front_accepted full (so_far ++ after_chmod mode a) (flat_map (after_chmod mode) rest ++ other_aces mode)
     (subst (IsAccepted full) (sym (next_ace a rest next way)) ok))
 
--- after the last ACE
-pub way_ends : {mode : ℕ} {so_far left old list : List Ace} → left ≡ [] → IsOnTheWay mode so_far left old list
-    → so_far ≡ old ++ flat_map (after_chmod mode) list
-way_ends {mode = mode} {so_far = so_far} none way =
-    sym (append-nil so_far) ∙ ap (λ (l : List Ace). so_far ++ flat_map (after_chmod mode) l) (sym none) ∙ way.is
-
--- ---- the whole list
-
--- the parts one after the other
-pub chmod_parts : (mode : ℕ) (list : List Ace) {a b c d : List Ace} → a ≡ [] → b ≡ a ++ owner_aces mode
-    → c ≡ b ++ flat_map (after_chmod mode) list → d ≡ c ++ other_aces mode → d ≡ chmod_list mode list
-chmod_parts mode list ae be ce de = de
-    ∙ ap (λ (l : List Ace). l ++ other_aces mode) (ce
-    ∙ ap (λ (l : List Ace). l ++ flat_map (after_chmod mode) list) (be
-    ∙ ap (λ (l : List Ace). l ++ owner_aces mode) ae))
-    ∙ append_assoc (owner_aces mode) (flat_map (after_chmod mode) list) (other_aces mode)
-
--- the list begins with the ACEs of the owner and those of the old list
-pub chmod_begins : (mode : ℕ) (list : List Ace) {a b : List Ace} → a ≡ [] → b ≡ a ++ owner_aces mode
-    → chmod_list mode list ≡ b ++ (flat_map (after_chmod mode) list ++ other_aces mode)
-chmod_begins mode list {a = a} ae be =
-    ap (λ (l : List Ace). l ++ (flat_map (after_chmod mode) list ++ other_aces mode))
-    (sym (be ∙ ap (λ (l : List Ace). l ++ owner_aces mode) ae))
+-- after the last ACE, the list so far and the ACEs of the group and of others are the whole list
+pub way_ends : {mode : ℕ} {so_far aces left list : List Ace} → left ≡ [] → aces ≡ other_aces mode
+    → IsOnTheWay mode so_far left list → so_far ++ aces ≡ chmod_list mode list
+way_ends {mode = mode} {so_far = so_far} none same way =
+    ap (λ (l : List Ace). so_far ++ l) same
+    ∙ ap (λ (l : List Ace). so_far ++ (flat_map (after_chmod mode) l ++ other_aces mode)) (sym none) ∙ way.is

@@ -21,7 +21,7 @@ use Rattle.acl_nfs4.specs.Who.{is_special, owner_name, group_name, everyone_name
 use Rattle.acl_nfs4.specs.Within.{IsWithin}
 use Rattle.acl_nfs4.proofs.Exports.{account_is_who, front_accepted, weight-cons}
 use Rattle.acl_eval.proofs.Children.{bit_within, union_within}
-use Rattle.acl_change.proofs.ListChmod.{difference_without}
+use Rattle.acl_change.proofs.ListChmod.{difference_without, without_within}
 use Rattle.acl_eval.proofs.Scans.{has_bit-without}
 use Rattle.acl_eval.specs.Column.{column, first_kind, takes_part}
 use Rattle.acl_eval.specs.Grant.{Grant, GrantsAtMost, grants_bit, is_allow, SameGrants}
@@ -47,17 +47,6 @@ account_named a e =
     by false false true p q r h = let no : not (is_special a.who) ≡ false = rw (p, q, r) refl in absurd cc
 
 -- ---- one ACE
-
--- a part of flags within a set is within the set
-without_within : (set n c : ℕ) → IsWithin set n → IsWithin set (without n c)
-without_within set n c is = same_set _ _ (λ k.
-    has_bit-and (without n c) set k ∙ ap (λ (b : Bool). b && has_bit set k) (has_bit-without n c k)
-    ∙ kept (has_bit n k) (has_bit c k) (has_bit set k) (bit_within set n k is) ∙ sym (has_bit-without n c k))
-  where
-    kept : (f c s : Bool) → (f && s) ≡ f → ((f && not c) && s) ≡ (f && not c)
-    kept false c s e = refl
-    kept true true s e = refl
-    kept true false s e = e
 
 -- the new ACE has the mask of the ACE
 mask_stays : (o g : List ℕ) (a : Ace) → (resolved_ace o g a).mask ≡ a.mask

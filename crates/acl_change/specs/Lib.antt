@@ -1,2 +1,3 @@
 pub mod ListChmod
 pub mod Resolved
+pub mod internal

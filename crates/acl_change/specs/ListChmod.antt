@@ -1,16 +1,14 @@
 -- The list after a change of the mode (RFC 8881, section 6.4.1.1, "Setting the mode and not ACL"). The section requires
 -- that the list then has the new mode, by section 6.3.2, and recommends that no name is granted a right of read, write
 -- or execute that the bits of the group lack. How a list is changed for this is this library's own.
-use Rattle.std.specs.Prelude.{◌≡◌, ℕ, ◌-◌, ◌==◌, ◌||◌, Bool, false, not, if◌then◌else◌, List, [], ◌∷◌, ◌++◌, bit_and, bit_or, filter, Option, None, Some, Result, Ok, Err, ⊤}
+use Rattle.std.specs.Prelude.{◌≡◌, ℕ, ◌-◌, ◌==◌, ◌||◌, Bool, false, not, if◌then◌else◌, List, [], ◌∷◌, ◌++◌, bit_and, bit_or, filter, Option, None, Some}
 use Rattle.std.specs.List.{flat_map}
 use Rattle.acl_perm.specs.Bits.{all_permissions, has_bit}
 use Rattle.acl_perm.specs.Mode.{group_part, others_part, owner_part}
 use Rattle.acl_perm.specs.Principal.{Principal, owner, group}
-use Rattle.acl_perm.specs.Profile.{full}
 use Rattle.acl_perm.specs.declared.kind.Kind.{Kind}
 use Rattle.acl_perm.specs.declared.kind.Kind.TheVariants.{Allow, Deny}
 use Rattle.acl_nfs4.specs.Ace.{Ace}
-use Rattle.acl_nfs4.specs.Spelling.{IsAccepted}
 use Rattle.acl_nfs4.specs.Who.{everyone_name, group_name, owner_name, principal_of}
 use Rattle.acl_eval.specs.Bridge.{image}
 use Rattle.acl_eval.specs.Column.{column, first_kind, takes_part}
@@ -18,8 +16,6 @@ use Rattle.acl_eval.specs.Grant.{is_allow}
 use Rattle.acl_eval.specs.Inheritance.{directory_inherit, file_inherit, inherit_only_alone, with_flags}
 use Rattle.acl_eval.specs.Scan.{without}
 use Rattle.acl_eval.specs.Unnamed.{is_unnamed}
-use Rattle.acl_change.specs.declared.mode_change.ChmodFault.{ChmodFault}
-use Rattle.acl_change.specs.declared.mode_change.ChmodFault.TheVariants.{Limits, Memory}
 
 -- ---- the rights
 
@@ -118,11 +114,3 @@ abbrev pub is_granted_after : (Principal → Bool) → ℕ → List Ace → ℕ 
 is_granted_after test mode list bit = if test owner then has_bit (image (owner_part mode)) bit
     else by_name_first (first_kind test (column (named_aces list) bit)) (has_bit (image (group_part mode)) bit)
     (if test group then has_bit (image (group_part mode)) bit else has_bit (image (others_part mode)) bit)
-
--- ---- faults
-
--- the answer of a call that adds ACEs to a list: the longer list, or Limits only if the longer list is not accepted
-abbrev pub AddsAces : Result (Unit {0}) ChmodFault → List Ace → List Ace → List Ace → Type 0
-AddsAces (Ok _) old new added = new ≡ old ++ added
-AddsAces (Err Limits) old new added = IsAccepted full (old ++ added) → ⊥
-AddsAces (Err Memory) old new added = ⊤

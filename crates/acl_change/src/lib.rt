@@ -6,6 +6,7 @@ mod mode_change;
 mod resolving;
 #[cfg(test)]
 mod tests;
+mod up_to_three;
 
 pub use mode_change::{ChmodFault, chmod};
 pub use resolving::{ResolveFault, resolved};

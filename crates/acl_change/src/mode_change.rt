@@ -1,22 +1,24 @@
 //! The list after a change of the mode.
-ghost use Rattle.std.specs.Prelude.{◌≡◌, ◌∷◌, ◌||◌, [], IfErr, IfOk, OnOk};
-ghost use Rattle.std.specs.List.{flat_map};
+ghost use Rattle.std.specs.Prelude.{◌≡◌, ◌≤◌, ◌↔◌, ◌||◌, IfErr, IfOk, IsTrue, OnOk};
 ghost use Rattle.acl_perm.specs.Profile.{full};
 ghost use Rattle.acl_perm.specs.Bits.{has_bit};
 ghost use Rattle.acl_perm.specs.Principal.{principal};
 ghost use Rattle.acl_nfs4.specs.Ace.{ace};
+ghost use Rattle.acl_nfs4.specs.Limits.{most_aces, most_weight};
 ghost use Rattle.acl_nfs4.specs.Spelling.{IsAccepted};
 ghost use Rattle.acl_eval.specs.Inheritance.{directory_inherit, file_inherit};
-ghost use Rattle.acl_change.specs.ListChmod.{AddsAces, after_chmod, chmod_list, class_ace, denied_rights, for_new_objects, for_this_object, lost_rights, other_aces, owner_aces, unless_empty};
+ghost use Rattle.acl_change.specs.ListChmod.{after_chmod, chmod_list, class_ace, denied_rights, for_new_objects, for_this_object, lost_rights, other_aces, owner_aces, unless_empty};
+ghost use Rattle.acl_change.specs.internal.UpToThree.{aces_in, aces_of};
 ghost use Rattle.acl_eval.specs.ListMode.{mode_of_list};
 ghost use Rattle.acl_eval.specs.Unnamed.{is_unnamed};
-ghost use Rattle.acl_change.specs.declared.mode_change.ChmodFault.TheVariants.{Limits};
+ghost use Rattle.acl_change.specs.declared.mode_change.ChmodFault.TheVariants.{Limits, Memory};
 
+use crate::up_to_three::UpToThree;
 use acl_eval::internal::{WRITE_RIGHTS, image, rest_of};
 use acl_nfs4::internal::{EVERYONE_NAME, GROUP_NAME, OWNER_NAME};
-use acl_nfs4::{AceRef, Acl, AclView, Flags, Kind, Mask, PushFault};
+use acl_nfs4::{AceRef, Acl, AclView, Flags, Kind, MOST_ACES, MOST_WEIGHT, Mask};
 use acl_perm::{Mode, Perm, Principal};
-use std::alloc::Global;
+use std::alloc::{AllocError, Global};
 use thiserror::Error;
 
 /// Why there is no list for a new mode.
@@ -30,6 +32,16 @@ pub enum ChmodFault {
     Memory,
 }
 
+impl From<AllocError> for ChmodFault {
+    ghost use Rattle.acl_change.specs.declared.mode_change.ChmodFault.TheVariants.{Memory};
+
+    ghost from_gives = { λ _ fault. fault ≡ Memory };
+
+    fn from(_: AllocError) -> ChmodFault {
+        ChmodFault::Memory
+    }
+}
+
 /// Returns the list of an object after its mode is set to `mode` (RFC 8881, section 6.4.1.1). The new list has this
 /// mode, as `mode_of` reads it.
 ///
@@ -38,8 +50,9 @@ pub enum ChmodFault {
 /// - Everybody else gets what the bits of the group or of others say.
 ///
 /// All other rights are granted as before, new objects inherit what they inherited before, and ACEs with INHERIT_ONLY
-/// stay as they are. Fails with `Limits` only if the new list would be above a limit, and with `Memory` if memory runs
-/// out. Time is linear in the bytes of the list.
+/// stay as they are. Fails with `Limits` if and only if the new list would be above a limit, which is checked before
+/// memory is requested, and with `Memory` only if it would not and memory runs out. Time is linear in the bytes of the
+/// list.
 ///
 /// ```rust
 /// let list = parse_text(alloc, b"ALLOW - READ_DATA bob\nALLOW - READ_DATA EVERYONE@")?;
@@ -51,76 +64,114 @@ pub fn chmod(alloc: Global, list: &AclView<'_>, mode: Mode) -> Result<Acl, Chmod
     ensures list { IfOk result (λ new. new ≡ chmod_list mode.bits list.now) }
     ensures accepted { OnOk result (IsAccepted full (chmod_list mode.bits list.now)) }
     ensures mode { IfOk result (λ new. mode_of_list new ≡ mode.bits) }
-    // Limits is returned only if the list is not accepted.
+    // A fault is Limits if the list is not accepted, and Memory if it is.
     ensures limits { IfErr result (λ fault. fault ≡ Limits
         → IsAccepted full (chmod_list mode.bits list.now) → ⊥) }
+    ensures memory { IfErr result (λ fault. fault ≡ Memory
+        → IsAccepted full (chmod_list mode.bits list.now)) }
+{
+    if !is_accepted(list, mode) {
+        return Err(ChmodFault::Limits);
+    }
+    Ok(with_mode(alloc, list, mode)?)
+}
+
+// Returns whether the new list is accepted. Only the limits can refuse it, because each who in it is from the list or a
+// special identifier.
+fn is_accepted(list: &AclView<'_>, mode: Mode) -> bool
+    ensures { IsTrue result ↔ IsAccepted full (chmod_list mode.bits list.now) }
+{
+    let owner = owner_aces(mode).size();
+    let others = other_aces(mode).size();
+    let mut count = owner.count + others.count;
+    let mut weight = owner.weight + others.weight;
+    for ace in list.aces() {
+        let size = after_chmod(&ace, mode).size();
+        count += size.count;
+        weight += size.weight;
+        if !is_within(count, weight) {
+            return false;
+        }
+    }
+    true
+}
+
+// Returns whether a list may have so many ACEs and so many mask bits.
+fn is_within(count: u32, weight: u32) -> bool
+    ensures { IsTrue result ↔ ((count ≤ most_aces) × (weight ≤ most_weight)) }
+{
+    count <= MOST_ACES && weight <= MOST_WEIGHT
+}
+
+// Returns the new list, which must be accepted. Fails only if memory runs out.
+fn with_mode(alloc: Global, list: &AclView<'_>, mode: Mode) -> Result<Acl, AllocError>
+    requires { IsAccepted full (chmod_list mode.bits list.now) }
+    ensures { IfOk result (λ new. new ≡ chmod_list mode.bits list.now) }
 {
     let mut changed = Acl::new(alloc);
-    push_owner(&mut changed, mode)?;
-    push_list(&mut changed, list, mode)?;
-    push_others(&mut changed, mode)?;
+    owner_aces(mode).push_to(&mut changed)?;
+    for ace in list.aces() {
+        after_chmod(&ace, mode).push_to(&mut changed)?;
+    }
+    other_aces(mode).push_to(&mut changed)?;
     Ok(changed)
 }
 
-// Adds what the mode allows and denies the owner.
-fn push_owner(list: &mut Acl, mode: Mode) -> Result<(), ChmodFault>
-    ensures { AddsAces result list.old list.new (owner_aces mode.bits) }
+// Returns what the mode allows and denies the owner.
+fn owner_aces(mode: Mode) -> UpToThree<'static>
+    ensures { aces_of result ≡ owner_aces mode.bits }
 {
     let perm = mode.owner();
-    push_class(list, Kind::Allow, OWNER_NAME, perm)?;
-    push_class(list, Kind::Deny, OWNER_NAME, rest_of(perm))
+    UpToThree {
+        first: class_ace(Kind::Allow, OWNER_NAME, perm),
+        second: class_ace(Kind::Deny, OWNER_NAME, rest_of(perm)),
+        third: None,
+    }
 }
 
-// Adds what the mode allows and denies the group, and what it allows others.
-fn push_others(list: &mut Acl, mode: Mode) -> Result<(), ChmodFault>
-    ensures { AddsAces result list.old list.new (other_aces mode.bits) }
+// Returns what the mode allows and denies the group, and what it allows others.
+fn other_aces(mode: Mode) -> UpToThree<'static>
+    ensures { aces_of result ≡ other_aces mode.bits }
 {
     let perm = mode.group();
-    push_class(list, Kind::Allow, GROUP_NAME, perm)?;
-    push_class(list, Kind::Deny, GROUP_NAME, rest_of(perm))?;
-    push_class(list, Kind::Allow, EVERYONE_NAME, mode.others())
-}
-
-// Adds an ACE of a special identifier with the rights of these permissions, or nothing without permissions.
-fn push_class(list: &mut Acl, kind: Kind, who: &str, perm: Perm) -> Result<(), ChmodFault>
-    ensures { AddsAces result list.old list.new (class_ace kind who.now perm.bits) }
-{
-    push_unless_empty(
-        list,
-        AceRef {
-            kind,
-            flags: Flags::NONE,
-            mask: image(perm),
-            who: who.as_bytes(),
-        },
-    )
-}
-
-// Adds what the new list has in place of each ACE of the old one.
-fn push_list(list: &mut Acl, old: &AclView<'_>, mode: Mode) -> Result<(), ChmodFault>
-    ensures { AddsAces result list.old list.new (flat_map (after_chmod mode.bits) old.now) }
-{
-    for ace in old.aces() {
-        push_changed(list, &ace, mode)?;
+    UpToThree {
+        first: class_ace(Kind::Allow, GROUP_NAME, perm),
+        second: class_ace(Kind::Deny, GROUP_NAME, rest_of(perm)),
+        third: class_ace(Kind::Allow, EVERYONE_NAME, mode.others()),
     }
-    Ok(())
 }
 
-// Adds what the new list has in place of an ACE.
-fn push_changed(list: &mut Acl, item: &AceRef<'_>, mode: Mode) -> Result<(), ChmodFault>
-    ensures { AddsAces result list.old list.new (after_chmod mode.bits (ace item.now)) }
+// Returns an ACE of a special identifier with the rights of these permissions, or none without permissions.
+fn class_ace(kind: Kind, who: &'static str, perm: Perm) -> Option<AceRef<'static>>
+    ensures { aces_in result ≡ class_ace kind who.now perm.bits }
+{
+    unless_empty(AceRef {
+        kind,
+        flags: Flags::NONE,
+        mask: image(perm),
+        who: who.as_bytes(),
+    })
+}
+
+// Returns what the new list has in place of an ACE.
+fn after_chmod<'a>(item: &AceRef<'a>, mode: Mode) -> UpToThree<'a>
+    ensures { aces_of result ≡ after_chmod mode.bits (ace item.now) }
 {
     let lost = lost_rights(item, mode);
     if !item.takes_part() || lost.bits == 0 {
-        return push_within(list, *item);
+        return UpToThree {
+            first: Some(*item),
+            second: None,
+            third: None,
+        };
     }
-    push_for_new_objects(list, item)?;
     let denied = denied_rights(item, mode);
-    push_unless_empty(list, for_this_object(item, Kind::Deny, denied))?;
-    push_unless_empty(
-        list,
-        for_this_object(item, item.kind, item.mask.difference(lost)),
-    )
+    let kept = item.mask.difference(lost);
+    UpToThree {
+        first: for_new_objects(item),
+        second: unless_empty(for_this_object(item, Kind::Deny, denied)),
+        third: unless_empty(for_this_object(item, item.kind, kept)),
+    }
 }
 
 // The rights that the bits of a mode are about.
@@ -180,20 +231,17 @@ fn for_this_object<'a>(item: &AceRef<'a>, kind: Kind, mask: Mask) -> AceRef<'a>
     }
 }
 
-// Adds the ACE as it is, for new objects alone, if new objects inherit it.
-fn push_for_new_objects(list: &mut Acl, item: &AceRef<'_>) -> Result<(), ChmodFault>
-    ensures { AddsAces result list.old list.new (for_new_objects (ace item.now)) }
+// Returns the ACE as it is, for new objects alone, if new objects inherit it.
+fn for_new_objects<'a>(item: &AceRef<'a>) -> Option<AceRef<'a>>
+    ensures { aces_in result ≡ for_new_objects (ace item.now) }
 {
     if !is_inheritable(item.flags) {
-        return Ok(());
+        return None;
     }
-    push_within(
-        list,
-        AceRef {
-            flags: item.flags | Flags::INHERIT_ONLY,
-            ..*item
-        },
-    )
+    Some(AceRef {
+        flags: item.flags | Flags::INHERIT_ONLY,
+        ..*item
+    })
 }
 
 #[tactic(auto, using(acl_eval::proofs::Bits::single_bits))]
@@ -203,24 +251,12 @@ fn is_inheritable(flags: Flags) -> bool
     flags.contains(Flags::FILE_INHERIT) || flags.contains(Flags::DIRECTORY_INHERIT)
 }
 
-// Adds an ACE, or nothing if its mask is empty.
-fn push_unless_empty(list: &mut Acl, item: AceRef<'_>) -> Result<(), ChmodFault>
-    ensures { AddsAces result list.old list.new (unless_empty (ace item.entry)) }
+// Returns an ACE, or none if its mask is empty.
+fn unless_empty(item: AceRef<'_>) -> Option<AceRef<'_>>
+    ensures { aces_in result ≡ unless_empty (ace item.entry) }
 {
     if item.mask.bits == 0 {
-        return Ok(());
+        return None;
     }
-    push_within(list, item)
-}
-
-// Adds an ACE. The only condition that can refuse it is a limit, because its who is from a list or a special
-// identifier.
-fn push_within(list: &mut Acl, item: AceRef<'_>) -> Result<(), ChmodFault>
-    ensures { AddsAces result list.old list.new (ace item.entry ∷ []) }
-{
-    match list.push(item) {
-        Ok(()) => Ok(()),
-        Err(PushFault::Memory) => Err(ChmodFault::Memory),
-        Err(_) => Err(ChmodFault::Limits),
-    }
+    Some(item)
 }

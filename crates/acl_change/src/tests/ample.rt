@@ -9,5 +9,6 @@ use acl_nfs4::PushFault;
 fn every_row_holds_with_enough_memory(rt: HostRuntime) -> Result<(), PushFault> {
     let alloc = rt.alloc();
     mode_changes::check_mode_changes(&rt, alloc)?;
-    mode_changes::check_second_change(&rt, alloc)
+    mode_changes::check_second_change(&rt, alloc)?;
+    mode_changes::check_limits(&rt, alloc)
 }
