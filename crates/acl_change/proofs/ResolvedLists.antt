@@ -7,7 +7,7 @@ use Rattle.std.specs.Str.{bytes_eq}
 use Rattle.std.proofs.lemmas.Bool.{and_parts, not-false}
 use Rattle.std.proofs.lemmas.List.{length-map}
 use Rattle.acl_perm.proofs.Bools.{and_true_right, or_true_right, or_false_right}
-use Rattle.acl_perm.proofs.Sets.{has_bit-and, has_bit-or, same_set}
+use Rattle.acl_perm.proofs.Sets.{has_bit-or}
 use Rattle.acl_perm.specs.Bits.{has_bit, identifier_group, identifier_group_alone, IsDifference}
 use Rattle.acl_perm.specs.Principal.{Principal, owner, user, group, group_named, everyone}
 use Rattle.acl_perm.specs.Profile.{full}
@@ -18,15 +18,13 @@ use Rattle.acl_nfs4.specs.Ace.{Ace}
 use Rattle.acl_nfs4.specs.Renamed.{is_account}
 use Rattle.acl_nfs4.specs.Spelling.{IsAccepted, IsAce, weight}
 use Rattle.acl_nfs4.specs.Who.{is_special, owner_name, group_name, everyone_name, principal_of, who_fault}
-use Rattle.acl_nfs4.specs.Within.{IsWithin}
 use Rattle.acl_nfs4.proofs.Exports.{account_is_who, front_accepted, weight-cons}
-use Rattle.acl_eval.proofs.Children.{bit_within, union_within}
+use Rattle.acl_eval.proofs.Children.{union_within}
 use Rattle.acl_change.proofs.ListChmod.{difference_without, without_within}
 use Rattle.acl_eval.proofs.Scans.{has_bit-without}
 use Rattle.acl_eval.specs.Column.{column, first_kind, takes_part}
 use Rattle.acl_eval.specs.Grant.{Grant, GrantsAtMost, grants_bit, is_allow, SameGrants}
 use Rattle.acl_change.specs.Resolved.{GrantsAtMostFor, SameGrantsFor, first_nameless, for_group, for_user, lacks_name, resolved_ace, resolved_by, resolved_list}
-use Rattle.acl_eval.specs.Scan.{without}
 use Rattle.acl_eval.specs.Situation.{named_situation}
 
 -- ---- names

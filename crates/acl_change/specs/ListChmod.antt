@@ -1,7 +1,7 @@
 -- The list after a change of the mode (RFC 8881, section 6.4.1.1, "Setting the mode and not ACL"). The section requires
 -- that the list then has the new mode, by section 6.3.2, and recommends that no name is granted a right of read, write
 -- or execute that the bits of the group lack. How a list is changed for this is this library's own.
-use Rattle.std.specs.Prelude.{◌≡◌, ℕ, ◌-◌, ◌==◌, ◌||◌, Bool, false, not, if◌then◌else◌, List, [], ◌∷◌, ◌++◌, bit_and, bit_or, filter, Option, None, Some}
+use Rattle.std.specs.Prelude.{ℕ, ◌-◌, ◌==◌, ◌||◌, Bool, false, not, if◌then◌else◌, List, [], ◌∷◌, ◌++◌, bit_and, bit_or, filter, Option, None, Some}
 use Rattle.std.specs.List.{flat_map}
 use Rattle.acl_perm.specs.Bits.{all_permissions, has_bit}
 use Rattle.acl_perm.specs.Mode.{group_part, others_part, owner_part}
