@@ -10,7 +10,7 @@ use std::alloc::AllocError;
 
 /// Up to three ACEs, one after the other.
 #[derive(Clone, Copy)]
-pub struct UpToThree<'a> {
+pub(crate) struct UpToThree<'a> {
     pub first: Option<AceRef<'a>>,
     pub second: Option<AceRef<'a>>,
     pub third: Option<AceRef<'a>>,
@@ -18,14 +18,14 @@ pub struct UpToThree<'a> {
 
 /// How many ACEs there are, and how many mask bits are set in all of them together.
 #[derive(Clone, Copy)]
-pub struct Size {
+pub(crate) struct Size {
     pub count: u32,
     pub weight: u32,
 }
 
 impl<'a> UpToThree<'a> {
     /// Returns the size of the ACEs.
-    pub fn size(self) -> Size
+    pub(crate) fn size(self) -> Size
         ensures count { result.count ≡ length (aces_of self.entry) }
         ensures weight { result.weight ≡ spelled.weight (aces_of self.entry) }
         ensures few { result.count ≤ 3 }
@@ -38,7 +38,7 @@ impl<'a> UpToThree<'a> {
     }
 
     /// Adds the ACEs at the end of a list that stays accepted with them. Fails only if memory runs out.
-    pub fn push_to(self, list: &mut Acl) -> Result<(), AllocError>
+    pub(crate) fn push_to(self, list: &mut Acl) -> Result<(), AllocError>
         requires { IsAccepted full (list.old ++ aces_of self) }
         ensures { OnOk result (list.new ≡ list.old ++ aces_of self.entry) }
     {
