@@ -19,7 +19,7 @@ use Rattle.acl_eval.proofs.Parts.{first_fits}
 use Rattle.acl_eval.proofs.Scans.{has_bit-without}
 use Rattle.acl_eval.specs.Bridge.{image}
 use Rattle.acl_change.specs.ListChmod.{after_chmod, chmod_list, denied_rights, for_new_objects, for_this_object, lost_rights, other_aces, owner_aces, unless_empty}
-use Rattle.acl_change.specs.internal.UpToThree.{aces_in}
+use Rattle.acl_change.specs.internal.UpToThree.{up_to_one}
 use Rattle.acl_eval.specs.Scan.{without}
 use Rattle.acl_eval.specs.Unnamed.{is_unnamed}
 
@@ -53,8 +53,8 @@ pub changed_is : (mode : ℕ) (a : Ace) → not (has_bit a.flags inherit_only) �
 changed_is mode a part some = rw (part, ne_eqb (lost_rights mode a) 0 some) refl
 
 -- the three ACEs that the list has in its place
-pub three_parts : (first second third : Option AceRef) {x y z : List Ace} → aces_in first ≡ x → aces_in second ≡ y
-    → aces_in third ≡ z → aces_in first ++ (aces_in second ++ aces_in third) ≡ x ++ (y ++ z)
+pub three_parts : (first second third : Option AceRef) {x y z : List Ace} → up_to_one first ≡ x → up_to_one second ≡ y
+    → up_to_one third ≡ z → up_to_one first ++ (up_to_one second ++ up_to_one third) ≡ x ++ (y ++ z)
 three_parts first second third p q r = rw (p, q, r) refl
 
 -- if a list is accepted with three more parts, it is accepted with the first two of them

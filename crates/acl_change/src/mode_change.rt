@@ -8,7 +8,7 @@ ghost use Rattle.acl_nfs4.specs.Limits.{most_aces, most_weight};
 ghost use Rattle.acl_nfs4.specs.Spelling.{IsAccepted};
 ghost use Rattle.acl_eval.specs.Inheritance.{directory_inherit, file_inherit};
 ghost use Rattle.acl_change.specs.ListChmod.{after_chmod, chmod_list, class_ace, denied_rights, for_new_objects, for_this_object, lost_rights, other_aces, owner_aces, unless_empty};
-ghost use Rattle.acl_change.specs.internal.UpToThree.{aces_in, aces_of};
+ghost use Rattle.acl_change.specs.internal.UpToThree.{up_to_one, up_to_three};
 ghost use Rattle.acl_eval.specs.ListMode.{mode_of_list};
 ghost use Rattle.acl_eval.specs.Unnamed.{is_unnamed};
 ghost use Rattle.acl_change.specs.declared.mode_change.ChmodFault.TheVariants.{Limits, Memory};
@@ -119,7 +119,7 @@ fn with_mode(alloc: Global, list: &AclView<'_>, mode: Mode) -> Result<Acl, Alloc
 
 // Returns what the mode allows and denies the owner.
 fn owner_aces(mode: Mode) -> UpToThree<'static>
-    ensures { aces_of result ≡ owner_aces mode.bits }
+    ensures { up_to_three result ≡ owner_aces mode.bits }
 {
     let perm = mode.owner();
     UpToThree {
@@ -131,7 +131,7 @@ fn owner_aces(mode: Mode) -> UpToThree<'static>
 
 // Returns what the mode allows and denies the group, and what it allows others.
 fn other_aces(mode: Mode) -> UpToThree<'static>
-    ensures { aces_of result ≡ other_aces mode.bits }
+    ensures { up_to_three result ≡ other_aces mode.bits }
 {
     let perm = mode.group();
     UpToThree {
@@ -143,7 +143,7 @@ fn other_aces(mode: Mode) -> UpToThree<'static>
 
 // Returns an ACE of a special identifier with the rights of these permissions, or none without permissions.
 fn class_ace(kind: Kind, who: &'static str, perm: Perm) -> Option<AceRef<'static>>
-    ensures { aces_in result ≡ class_ace kind who.now perm.bits }
+    ensures { up_to_one result ≡ class_ace kind who.now perm.bits }
 {
     unless_empty(AceRef {
         kind,
@@ -155,7 +155,7 @@ fn class_ace(kind: Kind, who: &'static str, perm: Perm) -> Option<AceRef<'static
 
 // Returns what the new list has in place of an ACE.
 fn after_chmod<'a>(item: &AceRef<'a>, mode: Mode) -> UpToThree<'a>
-    ensures { aces_of result ≡ after_chmod mode.bits (ace item.now) }
+    ensures { up_to_three result ≡ after_chmod mode.bits (ace item.now) }
 {
     let lost = lost_rights(item, mode);
     if !item.takes_part() || lost.bits == 0 {
@@ -233,7 +233,7 @@ fn for_this_object<'a>(item: &AceRef<'a>, kind: Kind, mask: Mask) -> AceRef<'a>
 
 // Returns the ACE as it is, for new objects alone, if new objects inherit it.
 fn for_new_objects<'a>(item: &AceRef<'a>) -> Option<AceRef<'a>>
-    ensures { aces_in result ≡ for_new_objects (ace item.now) }
+    ensures { up_to_one result ≡ for_new_objects (ace item.now) }
 {
     if !is_inheritable(item.flags) {
         return None;
@@ -253,7 +253,7 @@ fn is_inheritable(flags: Flags) -> bool
 
 // Returns an ACE, or none if its mask is empty.
 fn unless_empty(item: AceRef<'_>) -> Option<AceRef<'_>>
-    ensures { aces_in result ≡ unless_empty (ace item.entry) }
+    ensures { up_to_one result ≡ unless_empty (ace item.entry) }
 {
     if item.mask.bits == 0 {
         return None;

@@ -3,7 +3,8 @@ ghost use Rattle.std.specs.Prelude.{◌≡◌, ◌*◌, ◌≤◌, ◌++◌, OnO
 ghost use Rattle.acl_perm.specs.Profile.{full};
 ghost use Rattle.acl_nfs4.specs.Spelling.{IsAccepted};
 ghost use Rattle.acl_nfs4.specs.Spelling as spelled;
-ghost use Rattle.acl_change.specs.internal.UpToThree.{aces_in, aces_of, word_bits};
+ghost use Rattle.acl_eval.specs.internal.BridgeBody.{word_bits};
+ghost use Rattle.acl_change.specs.internal.UpToThree.{up_to_one, up_to_three};
 
 use acl_nfs4::{AceRef, Acl};
 use std::alloc::AllocError;
@@ -26,8 +27,8 @@ pub(crate) struct Size {
 impl<'a> UpToThree<'a> {
     /// Returns the size of the ACEs.
     pub(crate) fn size(self) -> Size
-        ensures count { result.count ≡ length (aces_of self.entry) }
-        ensures weight { result.weight ≡ spelled.weight (aces_of self.entry) }
+        ensures count { result.count ≡ length (up_to_three self.entry) }
+        ensures weight { result.weight ≡ spelled.weight (up_to_three self.entry) }
         ensures few { result.count ≤ 3 }
         ensures light { result.weight ≤ 3 * word_bits }
     {
@@ -39,8 +40,8 @@ impl<'a> UpToThree<'a> {
 
     /// Adds the ACEs at the end of a list that stays accepted with them. Fails only if memory runs out.
     pub(crate) fn push_to(self, list: &mut Acl) -> Result<(), AllocError>
-        requires { IsAccepted full (list.old ++ aces_of self) }
-        ensures { OnOk result (list.new ≡ list.old ++ aces_of self.entry) }
+        requires { IsAccepted full (list.old ++ up_to_three self) }
+        ensures { OnOk result (list.new ≡ list.old ++ up_to_three self.entry) }
     {
         push(list, self.first)?;
         push(list, self.second)?;
@@ -49,7 +50,7 @@ impl<'a> UpToThree<'a> {
 }
 
 fn count_of(item: Option<AceRef<'_>>) -> u32
-    ensures count { result ≡ length (aces_in item.entry) }
+    ensures count { result ≡ length (up_to_one item.entry) }
     ensures few { result ≤ 1 }
 {
     match item {
@@ -59,7 +60,7 @@ fn count_of(item: Option<AceRef<'_>>) -> u32
 }
 
 fn weight_of(item: Option<AceRef<'_>>) -> u32
-    ensures weight { result ≡ spelled.weight (aces_in item.entry) }
+    ensures weight { result ≡ spelled.weight (up_to_one item.entry) }
     ensures light { result ≤ word_bits }
 {
     match item {
@@ -70,8 +71,8 @@ fn weight_of(item: Option<AceRef<'_>>) -> u32
 
 // Adds the ACE, if there is one, at the end of a list that stays accepted with it.
 fn push(list: &mut Acl, item: Option<AceRef<'_>>) -> Result<(), AllocError>
-    requires { IsAccepted full (list.old ++ aces_in item) }
-    ensures { OnOk result (list.new ≡ list.old ++ aces_in item.entry) }
+    requires { IsAccepted full (list.old ++ up_to_one item) }
+    ensures { OnOk result (list.new ≡ list.old ++ up_to_one item.entry) }
 {
     match item {
         Some(ace) => list.push_accepted(ace),

@@ -94,8 +94,8 @@ fn a_second_change_to_the_same_mode_adds_nothing(rt: HostRuntime) {
     assert!(rt; passes(check_second_change(&rt, rt.alloc())));
 }
 
-// How many ACEs of sixteen rights a list has, and whether it keeps the limit of 65,536 mask bits with the three ACEs that
-// the mode 0777 adds. They have four rights each.
+// How many ACEs of sixteen rights a list has, and whether it keeps the limit of 65,536 mask bits with the three ACEs
+// that the mode 0777 adds. They have four rights each.
 const SIZES: [(u32, bool); 2] = [(4_095, true), (4_096, false)];
 
 fn list_of(alloc: Global, count: u32) -> Result<Acl, PushFault> {
