@@ -5,6 +5,7 @@ pub mod SituationIds
 pub mod PossibleTags
 pub mod SoundRules
 pub mod ListNames
+pub mod NameCounts
 pub mod Matchings
 pub mod RealMatchings
 pub mod PosixOfLists

@@ -1,6 +1,7 @@
 -- The ids that a list names, ACE by ACE, and up to a bound.
-use Rattle.std.proofs.Common.{◌≡◌, ◌≤◌, ◌<◌, ◌-◌, ℕ, Bool, true, false, List, [], ◌∷◌, ◌++◌, Option, None, Some, refl, sym, ap, subst, ◌∙◌, arith, length}
+use Rattle.std.proofs.Common.{◌≡◌, ◌≤◌, ◌<◌, ◌+◌, ◌-◌, ℕ, Bool, true, false, List, [], ◌∷◌, ◌++◌, Option, None, Some, refl, sym, ap, subst, ◌∙◌, arith, length}
 use Rattle.std.specs.Prelude.{◌==◌, ◌||◌, if◌then◌else◌}
+use Rattle.std.specs.FinMap as set
 use Rattle.std.specs.List.{list_any}
 use Rattle.std.proofs.lemmas.Bool.{eqb-true, or_parts}
 use Rattle.std.proofs.lemmas.List.{length-append, length-map, map-append}
@@ -12,12 +13,14 @@ use Rattle.acl_posix.specs.Names.{Table}
 use Rattle.acl_posix.specs.declared.id.Id.{Id}
 use Rattle.acl_nfs4.specs.Ace.{Ace}
 use Rattle.acl_ids.specs.Ids.{HaveIds}
-use Rattle.acl_to_posix.specs.ListNames.{AreNamesOf, AreOnce, counted_group, is_number_of, names_group, names_user}
-use Rattle.acl_to_posix.specs.LostGrants.{IsLossFault}
+use Rattle.acl_to_posix.specs.ListNames.{AreMoreNames, AreNamesOf, AreOnce, counted_group, counted_user, is_number_of, names_group, names_user}
+use Rattle.acl_to_posix.specs.LostGrants.{AreAtMost, IsLossFault}
 use Rattle.acl_to_posix.specs.PosixOfList.{IsToPosixFault}
+use Rattle.acl_to_posix.specs.ToPosix.{EntryShape, size_of}
 use Rattle.acl_to_posix.specs.declared.posix_shape.ShapeFault.{ShapeFault}
 use Rattle.acl_to_posix.specs.declared.posix_shape.ShapeFault.TheVariants as faults
-use Rattle.acl_to_posix.specs.internal.ListNamesBody.{AreJust, AreMore, AreNamesAbove, IsIdsAbove}
+use Rattle.acl_to_posix.specs.internal.ListNamesBody.{AreJust, AreMore, AreNamesAbove, IsIdsAbove, IsNamesFault}
+use Rattle.acl_to_posix.specs.internal.LossBody.{IsCountFault}
 use Rattle.acl_to_posix.proofs.no_greatest.FreeIds.{eqb_comm}
 
 -- one more ACE
@@ -70,7 +73,7 @@ with_number xs None = xs
 with_number xs (Some n) = if is_member n xs then xs else xs ++ n ∷ []
 
 -- numbers with those of more ACEs
-abbrev with_numbers : (Ace → Option ℕ) → List ℕ → List Ace → List ℕ
+abbrev pub with_numbers : (Ace → Option ℕ) → List ℕ → List Ace → List ℕ
 with_numbers of xs [] = xs
 with_numbers of xs (a ∷ list) = with_numbers of (with_number xs (of a)) list
 
@@ -106,7 +109,7 @@ grows_with xs (Some n) = by (is_member n xs)
     by false = let more = length-append xs (n ∷ []) in omega (arith, more)
 
 -- the same for the ACEs of a list
-grow : (of : Ace → Option ℕ) (xs : List ℕ) (list : List Ace) → length xs ≤ length (with_numbers of xs list)
+pub grow : (of : Ace → Option ℕ) (xs : List ℕ) (list : List Ace) → length xs ≤ length (with_numbers of xs list)
 grow of xs [] = omega arith
 grow of xs (a ∷ list) =
     let first = grows_with xs (of a) in
@@ -114,7 +117,7 @@ grow of xs (a ∷ list) =
     omega (arith, first, rest)
 
 -- numbers with those of a list are those that are among them or that an ACE names, each once
-all_just : (of : Ace → Option ℕ) (xs : List ℕ) (list : List Ace) → AreOnce xs
+pub all_just : (of : Ace → Option ℕ) (xs : List ℕ) (list : List Ace) → AreOnce xs
     → AreJust (λ id. is_member id xs || list_any (λ a. is_number_of (of a) id) list) (with_numbers of xs list)
 all_just of xs [] once = record { members = λ id. sym (or_false_right (is_member id xs)); once = once }
 all_just of xs (a ∷ list) once =
@@ -147,17 +150,32 @@ pub names_are : (table : Table) (list : List Ace) (users groups : List ℕ) → 
 names_are table list users groups u g =
     record { users = u.members; groups = g.members; users_once = u.once; groups_once = g.once }
 
--- the users alone are more than the bound, or memory ran out
-pub users_above : (table : Table) (list : List Ace) (most : ℕ) (f : ShapeFault)
-    → IsIdsAbove most (names_user table list) f → AreNamesAbove table list most f
-users_above table list most (faults.NoId place) h = absurd h
-users_above table list most faults.Memory h = tt
-users_above table list most faults.TooManyNames h =
+-- with more users than the bound, the names are more
+pub more_users : (table : Table) (list : List Ace) (most : ℕ) → AreMore most (names_user table list)
+    → AreMoreNames most table list
+more_users table list most h =
     let groups = with_numbers (counted_group table) [] list in record {
       named = record { users = h.all; groups = groups };
       names = names_are table list h.all groups h.just (all_just (counted_group table) [] list tt);
       more = omega (arith, h.more);
     }
+
+-- with more groups than the users leave of the bound, the names are more
+pub more_groups : (table : Table) (list : List Ace) (most left : ℕ) (users : List ℕ)
+    → AreJust (names_user table list) users → length users ≤ most → left ≡ most - length users
+    → AreMore left (names_group table list) → AreMoreNames most table list
+more_groups table list most left users u few is h = record {
+  named = record { users = users; groups = h.all };
+  names = names_are table list users h.all u h.just;
+  more = omega (arith, few, is, h.more);
+}
+
+-- the users alone are more than the bound, or memory ran out
+pub users_above : (table : Table) (list : List Ace) (most : ℕ) (f : ShapeFault)
+    → IsIdsAbove most (names_user table list) f → AreNamesAbove table list most f
+users_above table list most (faults.NoId place) h = absurd h
+users_above table list most faults.Memory h = tt
+users_above table list most faults.TooManyNames h = more_users table list most h
 
 -- with some users the groups are more than the rest of the bound, or memory ran out
 pub groups_above : (table : Table) (list : List Ace) (most left : ℕ) (users : List Id) (f : ShapeFault)
@@ -166,23 +184,46 @@ pub groups_above : (table : Table) (list : List Ace) (most left : ℕ) (users : 
 groups_above table list most left users (faults.NoId place) u few is h = absurd h
 groups_above table list most left users faults.Memory u few is h = tt
 groups_above table list most left users faults.TooManyNames u few is h =
-    let same = length-map users (λ (id : Id). id.value) in record {
-      named = record { users = ids users; groups = h.all };
-      names = names_are table list (ids users) h.all u h.just;
-      more = omega (arith, same, few, is, h.more);
-    }
+    let same = length-map users (λ (id : Id). id.value) in
+    more_groups table list most left (ids users) u (omega (arith, same, few)) (omega (arith, same, is)) h
 
--- names above the bound are why a list has no ACL
-pub names_fault : (table : Table) (list : List Ace) (most : ℕ) (f : ShapeFault) → HaveIds table list
-    → AreNamesAbove table list most f → IsToPosixFault table list most f
-names_fault table list most (faults.NoId place) known h = absurd h
-names_fault table list most faults.TooManyNames known h = (known, h)
-names_fault table list most faults.Memory known h = known
+-- why the names are not returned is why a list has no ACL
+pub names_fault : (table : Table) (list : List Ace) (most bound : ℕ) (f : ShapeFault) → bound ≡ most
+    → HaveIds table list → IsNamesFault table list bound f → IsToPosixFault table list most f
+names_fault table list most bound (faults.NoId place) is known h = absurd h
+names_fault table list most bound faults.TooManyNames is known h =
+    (known, record { named = h.named; names = h.names; more = omega (arith, is, h.more) })
+names_fault table list most bound faults.Memory is known h =
+    (known, record { named = h.named; names = h.names; few = omega (arith, is, h.few) })
 
--- names above the bound are why no loss is sought
+-- why the names and the entries are not within the bound is why no loss is sought
 pub loss_fault : (table : Table) (list : List Ace) (entries : Entries) (most : ℕ) (f : ShapeFault) → HaveIds table list
-    → AreNamesAbove table list most f → IsLossFault table list entries most f
+    → IsCountFault table list entries most f → IsLossFault table list entries most f
 loss_fault table list entries most (faults.NoId place) known h = absurd h
-loss_fault table list entries most faults.Memory known h = known
-loss_fault table list entries most faults.TooManyNames known h =
-    (known, record { named = h.named; names = h.names; more = omega (arith, h.more) })
+loss_fault table list entries most faults.TooManyNames known h = (known, h)
+loss_fault table list entries most faults.Memory known h = (known, h)
+
+-- the names of a list
+pub all_names : (table : Table) (list : List Ace) → AreNamesOf table list (record {
+  users = with_numbers (counted_user table) [] list;
+  groups = with_numbers (counted_group table) [] list;
+})
+all_names table list = names_are table list _ _ (all_just (counted_user table) [] list tt)
+    (all_just (counted_group table) [] list tt)
+
+-- the names are as many as the entries leave of the bound
+pub few_beside : (table : Table) (list : List Ace) (entries : Entries) (most left : ℕ) (named : EntryShape)
+    → left + length (set.entries entries) ≡ most → AreNamesOf table list named → size_of named ≤ left
+    → AreAtMost most table list entries
+few_beside table list entries most left named is names few =
+    record { named = named; names = names; few = omega (arith, is, few) }
+
+-- why the names are not returned, where the entries leave so much of the bound
+pub count_fault : (table : Table) (list : List Ace) (entries : Entries) (most left : ℕ) (f : ShapeFault)
+    → left + length (set.entries entries) ≡ most → IsNamesFault table list left f
+    → IsCountFault table list entries most f
+count_fault table list entries most left (faults.NoId place) is h = absurd h
+count_fault table list entries most left faults.TooManyNames is h =
+    let more = h.more in record { named = h.named; names = h.names; more = omega (arith, is, more) }
+count_fault table list entries most left faults.Memory is h =
+    few_beside table list entries most left h.named is h.names h.few

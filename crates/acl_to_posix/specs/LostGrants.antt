@@ -65,8 +65,8 @@ pub record AreMoreThan (most : ℕ) (table : Table) (list : List Ace) (entries :
   pub more : most < size_of named + length (set.entries entries)
 
 -- what a refusal says, in the order in which it is judged: the first ACE without an id, also one that takes no part;
--- more names and entries than the bound; or memory ran out
+-- more names and entries than the bound; or memory ran out, where they are at most the bound
 abbrev pub IsLossFault : Table → List Ace → Entries → ℕ → ShapeFault → Type 0
 IsLossFault table list entries most (faults.NoId place) = first_unknown table list ≡ Some place
 IsLossFault table list entries most faults.TooManyNames = HaveIds table list × AreMoreThan most table list entries
-IsLossFault table list entries most faults.Memory = HaveIds table list
+IsLossFault table list entries most faults.Memory = HaveIds table list × AreAtMost most table list entries

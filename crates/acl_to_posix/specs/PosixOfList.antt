@@ -1,6 +1,6 @@
 -- The POSIX ACL of an NFSv4 list (this library's own): that of the users and groups that are left of those that the
 -- list names, after as many were taken out as can go without loss.
-use Rattle.std.specs.Prelude.{◌≡◌, ◌<◌, ◌≤◌, ℕ, true, List, Some, length}
+use Rattle.std.specs.Prelude.{◌≡◌, ◌≤◌, ℕ, true, List, Some, length}
 use Rattle.std.specs.FinMap as set
 use Rattle.acl_posix.specs.Entries.{Entries}
 use Rattle.acl_posix.specs.Excess.{GrantsNothingMore, GrantsNothingMoreOf}
@@ -11,11 +11,11 @@ use Rattle.acl_nfs4.specs.Ace.{Ace}
 use Rattle.acl_nfs4.specs.Limits.{most_aces}
 use Rattle.acl_eval.specs.BridgeLaws.{IsSingle}
 use Rattle.acl_ids.specs.Ids.{HaveIds, first_unknown, with_ids}
-use Rattle.acl_to_posix.specs.ListNames.{AreMoreNames, AreNamesOf, names_group, names_user}
+use Rattle.acl_to_posix.specs.ListNames.{AreFewNames, AreMoreNames, AreNamesOf, names_group, names_user}
 use Rattle.acl_to_posix.specs.LostGrants.{IsExact}
 use Rattle.acl_to_posix.specs.Pruning.{PrunesTo}
 use Rattle.acl_to_posix.specs.PruningLaws.{GrantSamePermissions, HasFewIds}
-use Rattle.acl_to_posix.specs.ToPosix.{EntryShape, HasShape, IsBest, IsGreatest, IsSound, size_of}
+use Rattle.acl_to_posix.specs.ToPosix.{EntryShape, HasShape, IsBest, IsGreatest, IsSound}
 use Rattle.acl_to_posix.specs.declared.posix_shape.ShapeFault.{ShapeFault}
 use Rattle.acl_to_posix.specs.declared.posix_shape.ShapeFault.TheVariants as faults
 
@@ -58,8 +58,8 @@ GrantsDecidePosix = (table other : Table) (list second : List Ace) (entries one_
     → IsPosixOf table list entries → IsPosixOf other second one_more → entries ≡ one_more
 
 -- what a refusal says, in the order in which it is judged: the first ACE without an id, also one that takes no part; a
--- list that names more users and groups than the bound; or memory ran out
+-- list that names more users and groups than the bound; or memory ran out, where they are at most the bound
 abbrev pub IsToPosixFault : Table → List Ace → ℕ → ShapeFault → Type 0
 IsToPosixFault table list most (faults.NoId place) = first_unknown table list ≡ Some place
 IsToPosixFault table list most faults.TooManyNames = HaveIds table list × AreMoreNames most table list
-IsToPosixFault table list most faults.Memory = HaveIds table list
+IsToPosixFault table list most faults.Memory = HaveIds table list × AreFewNames most table list

@@ -1,11 +1,11 @@
 //! The users and the groups that play a part in what a list grants of read, write and execute, by their ids.
-ghost use Rattle.std.specs.Prelude.{◌≡◌, ◌≤◌, ◌||◌, ℕ, IfErr, IfOk, OnOk, length, option_map};
+ghost use Rattle.std.specs.Prelude.{◌≡◌, ◌≤◌, ◌||◌, ℕ, IfErr, IfOk, IfSome, IsFalse, IsTrue, None, OnOk, false, length, option_map};
 ghost use Rattle.acl_nfs4.specs.Ace.{ace};
 ghost use Rattle.acl_posix.specs.Check.{ids, is_member};
-ghost use Rattle.acl_to_posix.specs.ListNames.{AreNamesOf, AreOnce, counted_group, counted_user, is_ace_counted, is_number_of, named_shape, names_group, names_user};
+ghost use Rattle.acl_to_posix.specs.ListNames.{AreFewNames, AreMoreNames, AreNamesOf, AreOnce, counted_group, counted_user, is_ace_counted, is_number_of, named_shape};
 ghost use Rattle.acl_ids.specs.Ids.{IsIdsFault};
 ghost use Rattle.acl_to_posix.specs.ToPosix.{entry_shape_of, size_of};
-ghost use Rattle.acl_to_posix.specs.internal.ListNamesBody.{AreJust, AreNamesAbove, IsIdsAbove};
+ghost use Rattle.acl_to_posix.specs.internal.ListNamesBody.{AreCounted, AreJust, AreMore, AreNamesAbove, IsIdsAbove, IsLeastFrom, IsNamesFault, counted_id, lesser, names_id};
 
 use crate::posix_shape::{PosixShape, ShapeFault, is_among};
 use acl_eval::internal::image;
@@ -62,7 +62,35 @@ pub fn named_ids(alloc: Global, list: &AclView<'_>, names: &Names) -> Result<Nam
     }
 }
 
-// Does so for a bound that can be above every list.
+// Whether an id is that of a user or that of a group.
+#[derive(Clone, Copy)]
+enum IdKind {
+    User,
+    Group,
+}
+
+/// Returns the users and the groups that a list names in ACEs that count. Fails with `TooManyNames` if they are more
+/// than `most`, and otherwise with `Memory` if memory runs out. It stops at the first name above the bound. If memory
+/// runs out, it reads the list once more for each name up to the bound.
+pub(crate) fn bounded_names(
+    alloc: Global,
+    list: &AclView<'_>,
+    names: &Names,
+    most: usize,
+) -> Result<NamedIds, ShapeFault>
+    ensures named { IfOk result (λ named. AreNamesOf names.now list.now (named_shape named)) }
+    ensures few { IfOk result (λ named. size_of (named_shape named) ≤ most) }
+    ensures fault { IfErr result (IsNamesFault names.now list.now most) }
+{
+    match names_within(alloc, list, names, most) {
+        Err(ShapeFault::Memory) if are_more_names(list, names, most) => {
+            Err(ShapeFault::TooManyNames)
+        }
+        answer => answer,
+    }
+}
+
+// Does so, but may also fail with `Memory` if they are more than `most`.
 fn names_within(
     alloc: Global,
     list: &AclView<'_>,
@@ -73,68 +101,91 @@ fn names_within(
     ensures few { IfOk result (λ named. size_of (named_shape named) ≤ most) }
     ensures fault { IfErr result (AreNamesAbove names.now list.now most) }
 {
-    let users = users_within(alloc, list, names, most)?;
-    let groups = groups_within(alloc, list, names, most - users.len())?;
+    let users = ids_within(alloc, list, names, IdKind::User, most)?;
+    let groups = ids_within(alloc, list, names, IdKind::Group, most - users.len())?;
     Ok(NamedIds { users, groups })
 }
 
-/// Returns the users and the groups that a list names in ACEs that count. Fails with `TooManyNames` at the first name
-/// with which they are more than `most`, and with `Memory` if memory runs out before.
-pub(crate) fn bounded_names(
+// Returns the ids of this kind that the list names in ACEs that count, if they are at most this many.
+fn ids_within(
     alloc: Global,
     list: &AclView<'_>,
     names: &Names,
-    most: u16,
-) -> Result<NamedIds, ShapeFault>
-    ensures named { IfOk result (λ named. AreNamesOf names.now list.now (named_shape named)) }
-    ensures few { IfOk result (λ named. size_of (named_shape named) ≤ most) }
-    ensures fault { IfErr result (AreNamesAbove names.now list.now most) }
-{
-    names_within(alloc, list, names, usize::from(most))
-}
-
-// Returns the users that the list names in ACEs that count, if they are at most this many.
-fn users_within(
-    alloc: Global,
-    list: &AclView<'_>,
-    names: &Names,
+    kind: IdKind,
     most: usize,
 ) -> Result<Vec<Id>, ShapeFault>
     ensures named { IfOk result
-        (λ users. AreJust (names_user names.now list.now) (ids users.items)) }
-    ensures few { IfOk result (λ users. length users.items ≤ most) }
-    ensures fault { IfErr result (IsIdsAbove most (names_user names.now list.now)) }
+        (λ found. AreJust (names_id kind names.now list.now) (ids found.items)) }
+    ensures few { IfOk result (λ found. length found.items ≤ most) }
+    ensures fault { IfErr result (IsIdsAbove most (names_id kind names.now list.now)) }
 {
-    let mut users = Vec::new(alloc);
+    let mut found = Vec::new(alloc);
     for ace in list.aces() {
-        add(&mut users, counted_user(names, &ace))?;
-        if users.len() > most {
+        add(&mut found, counted_id(kind, names, &ace))?;
+        if found.len() > most {
             return Err(ShapeFault::TooManyNames);
         }
     }
-    Ok(users)
+    Ok(found)
 }
 
-// Returns the groups that the list names in ACEs that count, if they are at most this many.
-fn groups_within(
-    alloc: Global,
-    list: &AclView<'_>,
-    names: &Names,
-    most: usize,
-) -> Result<Vec<Id>, ShapeFault>
-    ensures named { IfOk result
-        (λ groups. AreJust (names_group names.now list.now) (ids groups.items)) }
-    ensures few { IfOk result (λ groups. length groups.items ≤ most) }
-    ensures fault { IfErr result (IsIdsAbove most (names_group names.now list.now)) }
+// Returns whether the list names more users and groups than this in ACEs that count. It takes no memory.
+fn are_more_names(list: &AclView<'_>, names: &Names, most: usize) -> bool
+    ensures more { IsTrue result → AreMoreNames most names.now list.now }
+    ensures few { IsFalse result → AreFewNames most names.now list.now }
 {
-    let mut groups = Vec::new(alloc);
-    for ace in list.aces() {
-        add(&mut groups, counted_group(names, &ace))?;
-        if groups.len() > most {
-            return Err(ShapeFault::TooManyNames);
+    let Some(users) = count_of(list, names, IdKind::User, most) else {
+        return true;
+    };
+    count_of(list, names, IdKind::Group, most - users).is_none()
+}
+
+// Returns the number of ids of this kind that the list names in ACEs that count, if they are at most this many. It
+// finds one after the other, from the least on.
+fn count_of(list: &AclView<'_>, names: &Names, kind: IdKind, most: usize) -> Option<usize>
+    ensures counted { IfSome result (AreCounted (names_id kind names.now list.now)) }
+    ensures few { IfSome result (λ count. count ≤ most) }
+    ensures more { result ≡ None → AreMore most (names_id kind names.now list.now) }
+{
+    let mut count = 0;
+    let mut from = 0;
+    while let Some(id) = least_from(list, names, kind, from) {
+        if count == most {
+            return None;
         }
+        count += 1;
+        from = id.value + 1;
     }
-    Ok(groups)
+    Some(count)
+}
+
+// Returns the least id of this kind, from a number on, that the list names in ACEs that count.
+fn least_from(list: &AclView<'_>, names: &Names, kind: IdKind, from: u32) -> Option<Id>
+    ensures { IsLeastFrom from (names_id kind names.now list.now)
+        (option_map (λ id. id.value) result) }
+{
+    let mut least = None;
+    for ace in list.aces() {
+        least = lesser(from, least, counted_id(kind, names, &ace));
+    }
+    least
+}
+
+// Returns the lesser of two ids, of which the second counts from a number on.
+fn lesser(from: u32, least: Option<Id>, id: Option<Id>) -> Option<Id>
+    ensures { option_map (λ id. id.value) result
+        ≡ lesser from (option_map (λ id. id.value) least) (option_map (λ id. id.value) id) }
+{
+    let Some(id) = id else {
+        return least;
+    };
+    if id.value < from {
+        return least;
+    }
+    match least {
+        Some(one) if one.value < id.value => Some(one),
+        _ => Some(id),
+    }
 }
 
 // Adds an id, if there is one and it is not there.
@@ -151,6 +202,16 @@ fn add(among: &mut Vec<Id>, id: Option<Id>) -> Result<(), AllocError>
     }
     among.push(id)?;
     Ok(())
+}
+
+// Returns the id of the user, or of the group, whom an ACE names that counts.
+fn counted_id(kind: IdKind, names: &Names, item: &AceRef<'_>) -> Option<Id>
+    ensures { option_map (λ id. id.value) result ≡ counted_id kind names.now (ace item.now) }
+{
+    match kind {
+        IdKind::User => counted_user(names, item),
+        IdKind::Group => counted_group(names, item),
+    }
 }
 
 // Returns the id of the user whom an ACE names that counts.

@@ -1,12 +1,11 @@
 //! Who loses read, write or execute when a POSIX ACL takes the place of an NFSv4 list.
-ghost use Rattle.std.specs.Prelude.{◌≡◌, ◌≤◌, ◌↔◌, ◌+◌, ◌==◌, List, IfErr, IfOk, IfSome, IsTrue, None, false, length};
+ghost use Rattle.std.specs.Prelude.{◌≡◌, ◌==◌, List, IfErr, IfOk, IfSome, None, OnOk, false};
 ghost use Rattle.std.specs.FinMap as set;
 ghost use Rattle.acl_posix.specs.Tag.{tag_of};
 ghost use Rattle.acl_nfs4.specs.Ace.{Ace};
 ghost use Rattle.acl_ids.specs.Ids.{with_ids};
 ghost use Rattle.acl_to_posix.specs.LostGrants.{AreAtMost, IsLossFault, IsLossOf, KeepsSingles};
-ghost use Rattle.acl_to_posix.specs.internal.ListNamesBody.{AreNamesAbove};
-ghost use Rattle.acl_to_posix.specs.internal.LossBody.{AreKept, AreKeptWith, AreKeptWithOne, AreSmall, IsBounded, IsFoundOr, allowed_tags, are_together, are_two_users, is_first, is_lost, is_passed, is_second, is_user_but, search_of};
+ghost use Rattle.acl_to_posix.specs.internal.LossBody.{AreKept, AreKeptWith, AreKeptWithOne, AreSmall, IsCountFault, IsFoundOr, allowed_tags, are_together, are_two_users, is_first, is_lost, is_passed, is_second, is_user_but, search_of};
 ghost use Rattle.acl_to_posix.specs.internal.ShapeBody.{AreColumns};
 
 use crate::list_names::bounded_names;
@@ -16,7 +15,7 @@ use acl_eval::internal::{EXECUTE, READ, WRITE};
 use acl_ids::first_unknown;
 use acl_nfs4::AclView;
 use acl_perm::Perm;
-use acl_posix::{Entry, Id, Names, PosixAcl, Tag};
+use acl_posix::{Id, Names, PosixAcl, Tag};
 use std::alloc::{AllocError, Global};
 
 mod chosen;
@@ -70,10 +69,11 @@ impl<'a> Wanted<'a> {
 /// is in at most three groups. An id that neither names stands for a user or a group that nothing is about. The id of a
 /// name is that of the table, and otherwise the number whose decimal digits the name is.
 ///
-/// Fails with `NoId` for the first ACE whose user or group has no id, also if the ACE takes no part; with
-/// `TooManyNames` if the users and groups that the list names and the entries of the ACL are together more than `most`;
+/// Fails with `NoId` for the first ACE whose user or group has no id, also if the ACE takes no part, then with
+/// `TooManyNames` if the users and groups that the list names and the entries of the ACL are together more than `most`,
 /// and with `Memory` if memory runs out. The time is at most proportional to the cube of this number, besides the
-/// look-ups of names and the time to read the list.
+/// look-ups of names and the time to read the list. If memory runs out while the names are collected, the list is read
+/// once more for each name up to the bound.
 ///
 /// ```rust
 /// let list = parse_text(alloc, b"ALLOW GROUP WRITE_DATA 5\nALLOW GROUP APPEND_DATA 7")?;
@@ -81,7 +81,7 @@ impl<'a> Wanted<'a> {
 /// let lost = lost_grant(alloc, &list.view(), &acl, &Names::new(alloc), 256)?;
 /// assert!(rt; lost.is_some_and(|lost| lost.perm == Perm::WRITE && lost.groups.len() == 2));
 /// ```
-#[tactic(auto, using(crate::proofs::losses::LossOfLists::more_than, crate::proofs::losses::LossOfLists::at_most, crate::proofs::losses::LossOfLists::few_entries))]
+#[tactic(auto, using(crate::proofs::losses::LossOfLists::few_entries))]
 pub fn lost_grant(
     alloc: Global,
     list: &AclView<'_>,
@@ -102,37 +102,28 @@ pub fn lost_grant(
     if let Some(place) = first_unknown(list, names) {
         return Err(ShapeFault::NoId(place));
     }
-    if !are_few(alloc, list, acl, names, most)? {
-        return Err(ShapeFault::TooManyNames);
-    }
+    check_bound(alloc, list, acl, names, most)?;
     let columns = columns_of(alloc, list, names)?;
     Ok(first_lost(alloc, &columns, acl)?)
 }
 
-// Returns whether the users and groups that the list names and the entries of the ACL are together at most this many,
-// or fails if the users and groups alone are more, or if memory runs out.
-fn are_few(
+// Fails with `TooManyNames` if the users and groups that the list names and the entries of the ACL are together more
+// than this many, and otherwise with `Memory` if memory runs out.
+fn check_bound(
     alloc: Global,
     list: &AclView<'_>,
     acl: &PosixAcl,
     names: &Names,
     most: u16,
-) -> Result<bool, ShapeFault>
-    ensures bounded { IfOk result (IsBounded most names.now list.now acl.now) }
-    ensures fault { IfErr result (AreNamesAbove names.now list.now most) }
+) -> Result<(), ShapeFault>
+    ensures few { OnOk result (AreAtMost most names.now list.now acl.now) }
+    ensures fault { IfErr result (IsCountFault names.now list.now acl.now most) }
 {
-    let named = bounded_names(alloc, list, names, most)?;
-    Ok(is_sum_within(&named.users, &named.groups, acl.entries(), most))
-}
-
-// Returns whether the users, the groups and the entries are together at most this many.
-fn is_sum_within(users: &[Id], groups: &[Id], entries: &[Entry], most: u16) -> bool
-    ensures { IsTrue result ↔ (length users.now + length groups.now + length entries.now ≤ most) }
-{
-    let most = usize::from(most);
-    users.len() <= most
-        && groups.len() <= most - users.len()
-        && entries.len() <= most - users.len() - groups.len()
+    let Some(left) = usize::from(most).checked_sub(acl.entries().len()) else {
+        return Err(ShapeFault::TooManyNames);
+    };
+    bounded_names(alloc, list, names, left)?;
+    Ok(())
 }
 
 /// Returns a loss, if there is one, for the list of which these are the columns. Fails only if memory runs out.

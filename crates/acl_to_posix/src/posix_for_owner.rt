@@ -68,7 +68,7 @@ pub fn to_posix_for(
     if let Some(place) = first_unknown(list, names) {
         return Err(ShapeFault::NoId(place));
     }
-    let named = bounded_names(alloc, list, names, most)?;
+    let named = bounded_names(alloc, list, names, usize::from(most))?;
     Ok(acl_of_others(alloc, list, names, owner, group, named)?)
 }
 

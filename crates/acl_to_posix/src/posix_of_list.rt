@@ -91,7 +91,7 @@ pub fn to_posix(
     if let Some(place) = first_unknown(list, names) {
         return Err(ShapeFault::NoId(place));
     }
-    let named = bounded_names(alloc, list, names, most)?;
+    let named = bounded_names(alloc, list, names, usize::from(most))?;
     Ok(made_of_names(alloc, list, names, &named)?)
 }
 

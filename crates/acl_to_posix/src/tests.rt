@@ -1,6 +1,7 @@
 //! Tests of this crate, by subject. The head of each file says where its expected values are from.
 
 mod ample;
+mod bounds;
 mod examples;
 mod harness;
 mod losses;

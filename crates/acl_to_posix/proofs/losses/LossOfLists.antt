@@ -1,10 +1,11 @@
 -- What the searches of all permissions say of a list and an ACL, and the bound of what they look at.
-use Rattle.std.proofs.Common.{◌≡◌, ◌≤◌, ◌+◌, ℕ, Bool, true, false, List, Option, None, Some, refl, sym, ap, subst, ◌∙◌, arith, inl, inr, length}
-use Rattle.std.proofs.lemmas.Bool.{cases_lt, true≢false}
+use Rattle.std.proofs.Common.{◌≡◌, ◌≤◌, ◌+◌, ◌-◌, ℕ, Bool, true, false, List, Option, None, Some, refl, sym, ap, subst, ◌∙◌, arith, inl, inr, length}
+use Rattle.std.proofs.lemmas.Bool.{cases_lt}
 use Rattle.std.specs.Prelude.{◌⊎◌, Err, IfOk, IfSome, Ok, Result}
 use Rattle.std.specs.FinMap as fin
 use Rattle.acl_posix.specs.Check.{Object, Requester, grants, is_member}
-use Rattle.acl_posix.specs.Entries.{Entries}
+use Rattle.acl_posix.specs.Entries.{Entries, pair_of, pairs}
+use Rattle.acl_posix.specs.declared.entry.Entry.{Entry}
 use Rattle.acl_posix.specs.Names.{Table}
 use Rattle.acl_posix.specs.Tag.{Tag, qualifier}
 use Rattle.acl_posix.specs.Valid.{IsValid}
@@ -13,8 +14,7 @@ use Rattle.acl_eval.specs.Bridge.{image}
 use Rattle.acl_eval.specs.BridgeLaws.{IsAsked, by_name}
 use Rattle.acl_eval.specs.Grant.{Grant, grants_bit}
 use Rattle.acl_to_posix.specs.LostGrants.{AreAtMost, AreMoreThan, IsLossOf, KeepsSingles, lost_object, lost_requester}
-use Rattle.acl_to_posix.specs.ToPosix.{size_of}
-use Rattle.acl_to_posix.specs.internal.LossBody.{AreKept, AreSmall, AreUnused, IsBounded, IsFoundOr, IsKeptWith, LossSearch, chosen_object, chosen_requester, is_lost, search_of, used_numbers}
+use Rattle.acl_to_posix.specs.internal.LossBody.{AreKept, AreSmall, AreUnused, IsFoundOr, IsKeptWith, LossSearch, chosen_object, chosen_requester, is_lost, search_of, used_numbers}
 use Rattle.acl_to_posix.specs.internal.ShapeBody.{AreColumns, IsColumnOf, has_tag, keys_of}
 use Rattle.acl_to_posix.specs.declared.losing.LostGrant.{LostGrant}
 use Rattle.acl_to_posix.specs.declared.losing.unused.Unused.{Unused}
@@ -23,6 +23,8 @@ use Rattle.std.specs.declared.alloc.AllocError.{AllocError}
 use Rattle.acl_to_posix.specs.declared.tag_column.Columns.{Columns}
 use Rattle.acl_to_posix.specs.declared.tag_column.TagKey.{TagKey}
 use Rattle.acl_eval.proofs.Singles.{single_cases}
+use Rattle.std.proofs.lemmas.List.{length-map}
+use Rattle.acl_to_posix.proofs.ListNames.{all_names}
 use Rattle.acl_to_posix.proofs.losses.LossSearches.{IsRefused, IsSearchOf, append_granted, execute_granted, found, found_execute, kept, read_granted, tags_used, write_granted}
 
 -- ---- the answers
@@ -139,30 +141,35 @@ answer_kept list E columns unused read write execute rf rs wf ws xf xs isr isw i
 
 -- ---- the bound
 
--- if the names and the entries are not at most as many as the bound, they are more
-pub more_than : (most : ℕ) (table : Table) (list : List Ace) (E : Entries) (few : Bool)
-    → IsBounded most table list E few → few ≡ false → AreMoreThan most table list E
-more_than most table list E few b e = record {
-  named = b.named;
-  names = b.names;
-  more = elim (cases_lt most (size_of b.named + length (fin.entries E))) [
-    | inl more ↦ more
-    | inr less ↦ absurd (true≢false (sym (b.bounded.1 less) ∙ e))
-  ];
-}
+-- the entries of the code are as many as those of the ACL
+same_entries : (es : List Entry) (E : Entries) → pairs es ≡ fin.entries E → length (fin.entries E) ≡ length es
+same_entries es E same = ap (λ xs. length xs) (sym same) ∙ length-map es pair_of
 
--- otherwise they are at most as many
-pub at_most : (most : ℕ) (table : Table) (list : List Ace) (E : Entries) (few : Bool)
-    → IsBounded most table list E few → few ≡ true → AreAtMost most table list E
-at_most most table list E few b e = record { named = b.named; names = b.names; few = b.bounded.0 e }
+-- with more entries than the bound, names and entries are more
+pub more_entries : (table : Table) (list : List Ace) (E : Entries) (es : List Entry) (most : ℕ)
+    → pairs es ≡ fin.entries E → (length es ≤ most → ⊥) → AreMoreThan most table list E
+more_entries table list E es most same above =
+    let count = same_entries es E same in record {
+      named = _;
+      names = all_names table list;
+      more = elim (cases_lt most (length es)) [
+        | inl more ↦ omega (arith, more, count)
+        | inr less ↦ absurd (above less)
+      ];
+    }
+
+-- what the entries leave of the bound
+pub entries_left : (E : Entries) (es : List Entry) (most left : ℕ) → pairs es ≡ fin.entries E → length es ≤ most
+    → left ≡ most - length es → left + length (fin.entries E) ≡ most
+entries_left E es most left same few is = let count = same_entries es E same in omega (arith, few, is, count)
 
 -- the columns of a list and an ACL within the bound are small
-pub few_entries : (most : ℕ) (table : Table) (list given : List Ace) (E : Entries) (few : Bool) (columns : Columns)
-    → IsBounded most table list E few → few ≡ true → most ≤ 65535 → AreColumns given columns → AreSmall columns E
-few_entries most table list given E few columns b e small are = record {
+pub few_entries : (most : ℕ) (table : Table) (list given : List Ace) (E : Entries) (columns : Columns)
+    → AreAtMost most table list E → most ≤ 65535 → AreColumns given columns → AreSmall columns E
+few_entries most table list given E columns within small are = record {
   read = are.read.few;
   write = are.write.few;
   append = are.append.few;
   execute = are.execute.few;
-  listed = let le = b.bounded.0 e in omega (arith, le, small);
+  listed = let le = within.few in omega (arith, le, small);
 }

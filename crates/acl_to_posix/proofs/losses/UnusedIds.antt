@@ -3,14 +3,11 @@ use Rattle.std.proofs.Common.{◌≡◌, ◌≤◌, ◌<◌, ◌+◌, ℕ, Bool,
 use Rattle.std.proofs.lemmas.Bool.{eq-eqb, true≢false}
 use Rattle.std.proofs.lemmas.List.{append_assoc, at_drop_more, length-map, map-append}
 use Rattle.std.proofs.lemmas.Bool.{cases_lt}
-use Rattle.std.specs.Prelude.{◌↔◌, ◌==◌, ◌||◌, IsTrue, map}
-use Rattle.std.specs.FinMap as fin
+use Rattle.std.specs.Prelude.{◌==◌, ◌||◌, map}
 use Rattle.std.specs.List.{AllByRecursion}
 use Rattle.acl_perm.proofs.Bools.{or_true_right}
 use Rattle.acl_posix.specs.Check.{ids, is_member}
 use Rattle.acl_posix.specs.Tag.{Tag, qualifier}
-use Rattle.acl_posix.specs.Entries.{Entries, pair_of, pairs}
-use Rattle.acl_posix.specs.declared.entry.Entry.{Entry}
 use Rattle.acl_posix.specs.declared.id.Id.{Id}
 use Rattle.acl_to_posix.specs.internal.LossBody.{entry_numbers}
 use Rattle.acl_to_posix.proofs.no_greatest.FreeIds.{free_below}
@@ -65,20 +62,3 @@ pub below_ids : (used : List Id) (k : ℕ) → ((n : ℕ) → n < k → is_membe
 below_ids used k all =
     let long = length-map used (λ (id : Id). id.value) in
     let le = below_length (ids used) k all in omega (arith, le, long)
-
--- ---- the bound
-
--- the test of a bound for the lists of the code is the test for their ids and entries
-pub bounded : (users groups us gs : List Id) (es : List Entry) (E : Entries) (most : ℕ) (few : Bool)
-    → pairs es ≡ fin.entries E → us ≡ users → gs ≡ groups
-    → (IsTrue few ↔ (length us + length gs + length es ≤ most))
-    → (IsTrue few ↔ (length (ids users) + length (ids groups) + length (fin.entries E) ≤ most))
-bounded users groups us gs es E most few same u g h =
-    let one = length-map users (λ (id : Id). id.value) in
-    let two = length-map groups (λ (id : Id). id.value) in
-    let three : length (fin.entries E) ≡ length es = ap (λ xs. length xs) (sym same) ∙ length-map es pair_of in
-    let four : length us ≡ length users = ap (λ (xs : List Id). length xs) u in
-    let five : length gs ≡ length groups = ap (λ (xs : List Id). length xs) g in (
-      λ few_enough. let le = h.0 few_enough in omega (arith, le, one, two, three, four, five),
-      λ le. h.1 (omega (arith, le, one, two, three, four, five)),
-    )

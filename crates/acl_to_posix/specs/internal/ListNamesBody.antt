@@ -1,11 +1,25 @@
--- How the ids that a list names are collected up to a bound. This library's own.
-use Rattle.std.specs.Prelude.{◌≡◌, ◌<◌, ⊤, ℕ, Bool, List, length}
+-- How the ids that a list names are collected, or counted, up to a bound. This library's own.
+use Rattle.std.specs.Prelude.{◌≡◌, ◌≤◌, ◌<◌, ⊤, ℕ, nat_lt, Bool, false, true, if◌then◌else◌, List, Option, None, Some, length}
+use Rattle.std.specs.List.{list_any}
 use Rattle.acl_posix.specs.Check.{is_member}
 use Rattle.acl_posix.specs.Names.{Table}
 use Rattle.acl_nfs4.specs.Ace.{Ace}
-use Rattle.acl_to_posix.specs.ListNames.{AreMoreNames, AreOnce}
+use Rattle.acl_to_posix.specs.ListNames.{AreFewNames, AreMoreNames, AreOnce, counted_group, counted_user, is_number_of}
+use Rattle.acl_to_posix.specs.declared.list_names.IdKind.{IdKind}
+use Rattle.acl_to_posix.specs.declared.list_names.IdKind.TheVariants as kinds
 use Rattle.acl_to_posix.specs.declared.posix_shape.ShapeFault.{ShapeFault}
 use Rattle.acl_to_posix.specs.declared.posix_shape.ShapeFault.TheVariants as faults
+
+-- ---- ids of one kind
+
+-- the id of the user, or of the group, whom an ACE names that counts
+abbrev pub counted_id : IdKind → Table → Ace → Option ℕ
+counted_id kinds.User table a = counted_user table a
+counted_id kinds.Group table a = counted_group table a
+
+-- an ACE that counts names the user, or the group, of this id
+abbrev pub names_id : IdKind → Table → List Ace → ℕ → Bool
+names_id kind table list id = list_any (λ a. is_number_of (counted_id kind table a) id) list
 
 -- the numbers are those that pass a test, and each is there once
 pub record AreJust (test : ℕ → Bool) (numbers : List ℕ) : Type 0 where
@@ -24,8 +38,50 @@ IsIdsAbove most test (faults.NoId place) = ⊥
 IsIdsAbove most test faults.TooManyNames = AreMore most test
 IsIdsAbove most test faults.Memory = ⊤
 
+-- ---- ids that are counted without memory
+
+-- the lesser of two numbers, of which the second counts from a bound on
+abbrev pub lesser : ℕ → Option ℕ → Option ℕ → Option ℕ
+lesser from least None = least
+lesser from None (Some id) = if nat_lt id from then None else Some id
+lesser from (Some least) (Some id) =
+    if nat_lt id from then Some least else (if nat_lt least id then Some least else Some id)
+
+-- the least number from a bound on that passes a test
+pub record IsLeast (from : ℕ) (test : ℕ → Bool) (least : ℕ) : Type 0 where
+  pub within : from ≤ least
+  pub passes : test least ≡ true
+  pub lower : (id : ℕ) → from ≤ id → id < least → test id ≡ false
+
+-- the same, or no number from the bound on passes the test
+abbrev pub IsLeastFrom : ℕ → (ℕ → Bool) → Option ℕ → Type 0
+IsLeastFrom from test None = (id : ℕ) → from ≤ id → test id ≡ false
+IsLeastFrom from test (Some least) = IsLeast from test least
+
+-- so many numbers pass a test
+pub record AreCounted (test : ℕ → Bool) (count : ℕ) : Type 0 where
+  pub all : List ℕ
+  pub just : AreJust test all
+  pub many : length all ≡ count
+
+-- so many numbers below a bound pass a test
+pub record AreBelow (test : ℕ → Bool) (bound count : ℕ) : Type 0 where
+  pub all : List ℕ
+  pub once : AreOnce all
+  pub below : (id : ℕ) → id < bound → is_member id all ≡ test id
+  pub above : (id : ℕ) → bound ≤ id → is_member id all ≡ false
+  pub many : length all ≡ count
+
+-- ---- users and groups
+
 -- why the names of a list are not returned: they are more than the bound, or memory ran out
 abbrev pub AreNamesAbove : Table → List Ace → ℕ → ShapeFault → Type 0
 AreNamesAbove table list most (faults.NoId place) = ⊥
 AreNamesAbove table list most faults.TooManyNames = AreMoreNames most table list
 AreNamesAbove table list most faults.Memory = ⊤
+
+-- the same, where the names are counted if memory runs out: then they are at most the bound
+abbrev pub IsNamesFault : Table → List Ace → ℕ → ShapeFault → Type 0
+IsNamesFault table list most (faults.NoId place) = ⊥
+IsNamesFault table list most faults.TooManyNames = AreMoreNames most table list
+IsNamesFault table list most faults.Memory = AreFewNames most table list

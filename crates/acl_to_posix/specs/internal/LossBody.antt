@@ -1,5 +1,5 @@
 -- How a lost grant is searched: three tags are chosen, and only their principals match. This library's own.
-use Rattle.std.specs.Prelude.{◌≡◌, ◌≤◌, ◌<◌, ◌↔◌, ◌⊎◌, ℕ, ◌+◌, ◌==◌, ◌&&◌, ◌||◌, not, Bool, false, true, IsTrue, List, [], ◌∷◌, ◌++◌, filter, length, map, Option, None, Some, if◌then◌else◌, is_some, nat_lt}
+use Rattle.std.specs.Prelude.{◌≡◌, ◌≤◌, ◌<◌, ◌⊎◌, ℕ, ◌+◌, ◌==◌, ◌&&◌, ◌||◌, not, Bool, false, true, List, [], ◌∷◌, ◌++◌, filter, length, map, Option, None, Some, if◌then◌else◌, is_some, nat_lt}
 use Rattle.std.specs.List.{AllByRecursion, position_or_len}
 use Rattle.std.specs.FinMap as set
 use Rattle.acl_posix.specs.Check.{Object, Requester, contains, entry_contains, grants, is_member}
@@ -7,14 +7,14 @@ use Rattle.acl_posix.specs.Entries.{Entries}
 use Rattle.acl_posix.specs.Names.{Table}
 use Rattle.acl_posix.specs.Tag.{Tag, user_obj, user, group_obj, group, mask, other, qualifier, tag_of}
 use Rattle.acl_nfs4.specs.Ace.{Ace}
-use Rattle.acl_to_posix.specs.ListNames.{AreNamesOf}
-use Rattle.acl_to_posix.specs.LostGrants.{lost_object, lost_requester}
-use Rattle.acl_to_posix.specs.ToPosix.{EntryShape, size_of}
+use Rattle.acl_to_posix.specs.LostGrants.{AreAtMost, AreMoreThan, lost_object, lost_requester}
 use Rattle.acl_to_posix.specs.internal.ShapeBody.{TagColumn, column_decided_by, has_tag, is_certain, keys_of, most_keys, most_names, tag_meets}
 use Rattle.acl_to_posix.specs.declared.losing.tags.JudgedTag.{JudgedTag}
 use Rattle.acl_to_posix.specs.declared.losing.LostGrant.{LostGrant}
 use Rattle.acl_to_posix.specs.declared.losing.unused.Unused.{Unused}
 use Rattle.acl_to_posix.specs.declared.losing.Wanted.{Wanted}
+use Rattle.acl_to_posix.specs.declared.posix_shape.ShapeFault.{ShapeFault}
+use Rattle.acl_to_posix.specs.declared.posix_shape.ShapeFault.TheVariants as faults
 use Rattle.acl_to_posix.specs.declared.tag_column.Columns.{Columns}
 -- the tag is that of the owner
 pub use Rattle.acl_posix.specs.internal.GroupAnswers.{is_owner_tag}
@@ -273,8 +273,9 @@ pub record AreUnused (used : List ℕ) (unused : Unused) : Type 0 where
 
 -- ---- the bound
 
--- the answer says whether the names of the list and the entries of the ACL are at most as many as the bound
-pub record IsBounded (most : ℕ) (table : Table) (list : List Ace) (entries : Entries) (few : Bool) : Type 0 where
-  pub named : EntryShape
-  pub names : AreNamesOf table list named
-  pub bounded : IsTrue few ↔ (size_of named + length (set.entries entries) ≤ most)
+-- why the names of a list and the entries of an ACL are not within a bound: they are more, or memory ran out and they
+-- are not more
+abbrev pub IsCountFault : Table → List Ace → Entries → ℕ → ShapeFault → Type 0
+IsCountFault table list entries most (faults.NoId place) = ⊥
+IsCountFault table list entries most faults.TooManyNames = AreMoreThan most table list entries
+IsCountFault table list entries most faults.Memory = AreAtMost most table list entries

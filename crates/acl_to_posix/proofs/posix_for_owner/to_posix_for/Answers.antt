@@ -1,4 +1,4 @@
-use Rattle.std.proofs.Common.{refl}
+use Rattle.std.proofs.Common.{arith, refl}
 use Rattle.acl_nfs4.proofs.Exits.{exit_is}
 use Rattle.acl_ids.specs.Ids.{with_ids}
 use Rattle.acl_to_posix.specs.ListNames.{named_shape}
@@ -23,11 +23,11 @@ pub returns-clause-few : goal.returns-clause-few
 returns-clause-few c = record {
   named = named_shape c.in_ok-named.named;
   names = c.in_ok-named.ensures.named;
-  few = c.in_ok-named.ensures.few;
+  few = omega (arith, c.from.ensures, c.in_ok-named.ensures.few);
 }
 
 pub returns-in_err-named-clause-fault : goal.returns-in_err-named-clause-fault
 returns-in_err-named-clause-fault c =
     rw (exit_is c.from_residual.result c.from_residual.ensures.1)
-    (names_fault c.args.names.now c.args.list.now c.args.most _ (c.in_default.ensures.known refl)
-    c.in_err-named.ensures.fault)
+    (names_fault c.args.names.now c.args.list.now c.args.most c.from.result _ c.from.ensures
+    (c.in_default.ensures.known refl) c.in_err-named.ensures.fault)
