@@ -37,12 +37,14 @@ class Counted(unittest.TextTestResult):
 
 
 def run():
-    """Runs the tests of a script, or those that its words name, and exits with 1 if one fails. The last line is
-    `N passed, M failed`. Signals that a shell or nohup(1) had ignored have their usual effect."""
+    """Runs the tests of a script, or those that its words name, and exits with 1 if one fails. With the word `-f` the
+    first test that fails is the last one. The last line is `N passed, M failed`. Signals that a shell or nohup(1) had
+    ignored have their usual effect."""
     signal.signal(signal.SIGINT, signal.default_int_handler)
     for number in (signal.SIGTERM, signal.SIGHUP):
         signal.signal(number, signal.SIG_DFL)
-    runner = unittest.TextTestRunner(resultclass=Counted, verbosity=0, stream=sys.stdout)
+    ends_early = "-f" in sys.argv[1:]
+    runner = unittest.TextTestRunner(resultclass=Counted, verbosity=0, stream=sys.stdout, failfast=ends_early)
     result = unittest.main(exit=False, testRunner=runner).result
     failed = len(result.failures) + len(result.errors) + len(result.unexpectedSuccesses)
     print(f"{result.passed} passed, {failed} failed")
