@@ -94,7 +94,6 @@ BEGIN
     -- Objects of the first superuser have no row in pg_shdepend.
     other := (SELECT min(pg_describe_object(d.classid, d.objid, 0))
               FROM pg_depend d JOIN pg_shdepend s ON s.classid = d.classid AND s.objid = d.objid AND s.deptype = 'o'
-                   AND s.refclassid = 'pg_authid'::regclass
                    AND s.dbid = (SELECT oid FROM pg_database WHERE datname = current_database())
               WHERE d.refclassid = 'pg_namespace'::regclass AND d.refobjid = one AND s.refobjid <> own
               AND NOT (SELECT rolsuper FROM pg_roles WHERE oid = s.refobjid));
