@@ -324,6 +324,8 @@ def posix_rows():
     yield "acl_posix_of_mode", (0o1000,), Refused(BAD)
     yield "acl_posix_excess", (POSIX, POSIX), None
     yield "acl_posix_excess", (POSIX, PLAIN), {"want": 4}
+    more = posix(ENTRIES[0], ENTRIES[2], (8, 7, 30), (16, 7, ANYBODY), ENTRIES[5])
+    yield "acl_posix_excess", (more, PLAIN), {"groups": [30]}  # whoever is in no other group gets nothing more
 
 
 def attributes_of_texts():
