@@ -18,7 +18,7 @@ from aclck_tree.people.people import HIGHEST_ID
 from aclck_tree.scan import headers
 from aclck_tree.scan.archives import Member, members
 from aclck_tree.scan.compressed import opened_archive
-from aclck_tree.scan.listed import LONGEST_PATH, names_in
+from aclck_tree.scan.paths import PLAIN, left_of, not_made, slashes, split
 from aclck_tree.scan.progress import Progress
 from aclck_tree.scan.reader import ScanOptions
 from aclck_tree.scan.records import SHOWN
@@ -29,6 +29,9 @@ from aclck_tree.snapshot.writer import Writer
 
 AT_ONCE = 1000
 """How many objects are written at once."""
+
+MOST_HARD_LINKS = 30_000
+"""How many hard links an archive may have until one of them can be one too many: file systems have such bounds."""
 
 _CACHE = 1 << 16  # kilobytes
 _KEPT = 64  # lists, of which each can have as many bytes as the headers of a member
@@ -49,13 +52,12 @@ _PUT = (f"INSERT INTO members ({_ROW}) VALUES (?, ?, ?, ?, ?, ?, ?, ?, ?, ?, ?, 
         "ELSE excluded.fault END, "
         "was_other = was_other OR excluded.was_other, was_directory = was_directory OR excluded.was_directory, "
         "slashes = slashes | excluded.slashes")
-_PLAIN, _WITH_SLASH = 1, 2
 
 
 class _Row(NamedTuple):
     """What is known of a path, whether it begins with a slash or not: programs restore both at one place. `was_other`
     says that a member of this path was no directory, and `was_directory` that one was. `slashes` says which members of
-    it there were: `_PLAIN` ones, ones `_WITH_SLASH` in front, or both."""
+    it there were: `PLAIN` ones, ones `WITH_SLASH` in front, or both."""
 
     key: bytes
     kind: str
@@ -68,7 +70,12 @@ class _Row(NamedTuple):
     fault: str = ""
     was_other: bool = True
     was_directory: bool = False
-    slashes: int = _PLAIN
+    slashes: int = PLAIN
+
+
+def _fault_at(key: bytes, member: Member, fault: str) -> _Row:
+    """Returns the row of a path with a fault. It may be anything but a directory, unless the member is one."""
+    return _Row(key, _FAULT, fault=fault, was_other=bool(key) and member.kind != "d")
 
 
 class ArchiveNames(accounts.System):
@@ -111,18 +118,6 @@ class ArchiveNames(accounts.System):
                 yield is_group, number, name
 
 
-def split(path: bytes) -> List[bytes]:
-    """Returns the names of the path of a member. Whether it begins with a slash makes no difference. Raises ValueError,
-    with the reason, if a part is `..`, or if it cannot be a path."""
-    if len(path) > LONGEST_PATH:
-        raise ValueError(f"it has more than {LONGEST_PATH:,} bytes")
-    return names_in(path.lstrip(b"/"))
-
-
-def _slashes(path: bytes) -> int:
-    return _WITH_SLASH if path.startswith(b"/") else _PLAIN
-
-
 def _restored_at_the_end(row: _Row) -> Tuple[int, int]:
     """Returns what programs restore of a directory after what is in it. bsdtar leaves out what the directory happens to
     have before that. So if two members do not agree, the earlier one can count."""
@@ -134,6 +129,7 @@ class _Gathered:
 
     def __init__(self) -> None:
         self._headers: Dict[bytes, int] = {}
+        self._hard_links = 0
         self._db = sqlite3.connect("", isolation_level=None)
         for line in ("PRAGMA journal_mode = OFF", "PRAGMA synchronous = OFF", f"PRAGMA cache_size = -{_CACHE}", "BEGIN",
                      "CREATE TABLE members (key BLOB PRIMARY KEY, kind TEXT, mode INTEGER, uid INTEGER, gid INTEGER, "
@@ -151,15 +147,27 @@ class _Gathered:
     def add(self, member: Member) -> None:
         """Adds a member. It replaces an earlier one of the same path, unless that one has a fault: what programs make
         of it may still be there."""
+        self._hard_links += member.kind == "h"
         try:
-            key = b"\0".join(split(member.path))
+            names = split(member.path)
         except ValueError as error:
             more = ".." if len(member.path) > SHOWN else ""
             self._db.execute("INSERT OR IGNORE INTO faults VALUES (CAST(? AS TEXT))", (
                 f"{quoted_path(member.path[:SHOWN])}{more}: {error}".encode("utf-8", "surrogateescape"),))
-            return
-        row = self._linked(key, member.target) if member.kind == "h" else self._row(key, member)
-        self._db.execute(_PUT, row._replace(slashes=_slashes(member.path)))
+            row = _fault_at(left_of(member.path), member, "a member whose path is none may be restored there")
+        else:
+            row = self._made(names, member)
+        self._db.execute(_PUT, row._replace(slashes=slashes(member.path)))
+
+    def _made(self, names: Sequence[bytes], member: Member) -> _Row:
+        """Returns what a member is, whose path has these names."""
+        key = b"\0".join(names)
+        fault = not_made(member, names)
+        if member.kind == "h" and self._hard_links > MOST_HARD_LINKS and self.row(key):
+            fault = f"it is a hard link behind {MOST_HARD_LINKS:,} others, and programs may leave what was there"
+        if fault:
+            return _fault_at(key, member, fault)
+        return self._linked(key, member.target) if member.kind == "h" else self._row(key, member)
 
     def _row(self, key: bytes, member: Member) -> _Row:
         fault = ""
@@ -354,7 +362,7 @@ class ArchiveScan:
                            "which is no directory")
                 continue
             other = row.key if row.was_other else None
-            if is_below and row.slashes == _slashes(self._typed):
+            if is_below and row.slashes == slashes(self._typed):
                 yield path, row
             elif is_below:
                 self._fail(path, "it begins with a slash and --root does not, or the other way round")
