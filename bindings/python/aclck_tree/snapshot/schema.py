@@ -3,6 +3,7 @@ judged before it is used."""
 
 from __future__ import annotations
 
+import re
 from typing import Any, Callable, Dict, Iterator, NamedTuple
 
 from aclck_tree.output.errors import TreeError
@@ -112,6 +113,9 @@ SCHEMA = {**{name: f"CREATE TABLE {name} ({', '.join(f'{one} {is_a.declaration}'
              for name, columns in {**TABLES, **PORTION_TABLES, **ABOVE_TABLES}.items()},
           "objects_by_path": "CREATE INDEX objects_by_path ON objects (tree, path)"}
 
+_BLANKS = re.compile(r"[ \t\n\f\r]+")
+"""What SQLite takes for a blank. It takes others for letters of a name, so that `PRIMARY` and `KEY` would be one word."""
+
 RunQuery = Callable[[str], Iterator[Any]]
 """Runs a query and yields its rows."""
 
@@ -141,7 +145,7 @@ def judge(place: str, rows: RunQuery, size: int) -> Contents:
         raise TreeError(f"{place}: text in it is not UTF-8")
     has_portions, has_above = version >= PORTIONS, version >= ABOVE
     for name, sql in rows("SELECT name, sql FROM sqlite_master"):  # also views, triggers, and virtual tables
-        if " ".join(str(sql).split()) != SCHEMA.get(name):
+        if _BLANKS.sub(" ", str(sql)) != SCHEMA.get(name):
             raise TreeError(f"{place}: no snapshot: its tables are not those of a snapshot")
         if name in PORTION_TABLES and not has_portions:
             raise TreeError(f"{place}: no snapshot: a snapshot of whole trees has no table {name}")
@@ -171,11 +175,14 @@ def _judge_values(place: str, rows: RunQuery, size: int, tables: Dict[str, Dict[
         conditions += [f"({_ROWS[name]})"] if name in _ROWS else []
         # Only rows whose conditions are true count as good: one that is NULL is as bad as one that is false.
         good = f"COUNT(CASE WHEN {' AND '.join(conditions)} THEN 1 END)"
-        query = f"SELECT COUNT(*), {' + '.join(lengths) or 'TOTAL(0)'}, {good} FROM {name} NOT INDEXED"
-        counts[name], length, judged = next(rows(query))
+        keys = [one for one, column in columns.items() if "PRIMARY KEY" in column.declaration]
+        # A file can be built so that a key is there twice. The sign makes SQLite count.
+        keyed = f"COUNT(DISTINCT +{keys[0]})" if keys else "COUNT(*)"
+        query = f"SELECT COUNT(*), {' + '.join(lengths) or 'TOTAL(0)'}, {good}, {keyed} FROM {name} NOT INDEXED"
+        counts[name], length, judged, different = next(rows(query))
         total += LEAST_ROW * counts[name] + length
         if total > size:
             raise TreeError(f"{place}: damaged: the table {name} has more rows than the file has room for")
-        if judged != counts[name]:
+        if judged != counts[name] or different != counts[name]:
             raise TreeError(f"{place}: damaged: the table {name} has a value that no scan writes")
     return counts["objects"]
