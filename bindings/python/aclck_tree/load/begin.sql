@@ -16,18 +16,18 @@ DO $$ DECLARE
 BEGIN
     IF can_be_superuser AND NOT {as_superuser} THEN
         RAISE EXCEPTION 'aclck-tree: the role % is a superuser, or can become one: load as another role, or give '
-            '--as-superuser', session_user::regrole;
+            '--as-superuser', quote_ident(session_user);
     END IF;
     -- The owner of a database can set the role of each session in it, and the session can go back to its own.
     IF can_be_superuser AND NOT EXISTS (SELECT FROM pg_roles WHERE rolname = current_user AND rolsuper) THEN
         RAISE EXCEPTION 'aclck-tree: the session has the role %, which is no superuser, but can become one',
-            current_user::regrole;
+            quote_ident(current_user);
     END IF;
     -- In a role that others have too, the session would call what these others may change.
     IF current_user <> session_user AND NOT EXISTS (
         SELECT FROM pg_roles WHERE rolname = current_user AND rolsuper) THEN
-        RAISE EXCEPTION 'aclck-tree: the session has the role %, and not %', current_user::regrole,
-            session_user::regrole;
+        RAISE EXCEPTION 'aclck-tree: the session has the role %, and not %', quote_ident(current_user),
+            quote_ident(session_user);
     END IF;
 END $$;
 DO $$ DECLARE
@@ -35,6 +35,8 @@ DO $$ DECLARE
     member oid[] := ARRAY(SELECT objid FROM pg_depend d JOIN pg_extension e ON e.oid = d.refobjid
                           WHERE d.refclassid = 'pg_extension'::regclass AND d.classid = 'pg_proc'::regclass
                           AND d.deptype = 'e' AND e.extname = 'aclck');
+    owner oid := (SELECT nspowner FROM pg_namespace n JOIN pg_roles r ON r.oid = nspowner
+                  WHERE n.oid = one AND NOT rolsuper);
     other text;
 BEGIN
     IF getdatabaseencoding() <> 'UTF8' THEN
@@ -47,7 +49,9 @@ BEGIN
         RAISE EXCEPTION 'aclck-tree: anybody may make functions in the schema % of the extension aclck',
             one::regnamespace;
     END IF;
-    other := (SELECT min(quote_ident(rolname)) FROM pg_roles WHERE has_schema_privilege(oid, one, 'CREATE')
+    -- An owner who took the privilege away can take it back at any time.
+    other := (SELECT min(quote_ident(rolname)) FROM pg_roles
+              WHERE (has_schema_privilege(oid, one, 'CREATE') OR pg_has_role(oid, owner, 'MEMBER'))
               AND NOT rolsuper AND NOT pg_has_role(oid, current_user, 'MEMBER') AND rolname <> 'pg_database_owner');
     IF other IS NOT NULL THEN
         RAISE EXCEPTION 'aclck-tree: the role % may make functions in the schema % of the extension aclck',
@@ -64,7 +68,7 @@ BEGIN
         RAISE EXCEPTION 'aclck-tree: the function % has a name of the extension aclck, and is not its function', other;
     END IF;
 END $$;
-SELECT quote_ident(nspname) AS aclck FROM pg_extension e JOIN pg_namespace n ON n.oid = e.extnamespace
+SELECT nspname AS aclck FROM pg_extension e JOIN pg_namespace n ON n.oid = e.extnamespace
 WHERE extname = 'aclck' \gset
 SELECT pg_advisory_xact_lock(hashtext('aclck_tree')) WHERE NOT EXISTS (
     SELECT FROM pg_class c JOIN pg_namespace n ON n.oid = relnamespace WHERE nspname = 'aclck_tree');
@@ -76,7 +80,7 @@ CREATE SCHEMA aclck_tree;
 -- role may be empty. What is in it must be the role's too, or a superuser's.
 DO $$ DECLARE
     one oid := 'aclck_tree'::regnamespace;
-    own oid := current_user::regrole;
+    own oid := (SELECT oid FROM pg_roles WHERE rolname = current_user);  -- a cast to regrole takes A for a
     other text;
 BEGIN
     other := (SELECT nspowner::regrole FROM pg_namespace WHERE oid = one AND nspowner <> own);

@@ -30,8 +30,8 @@ SELECT tree, NULL, 'the scan was ended early' FROM trees WHERE NOT is_whole;
 -- What the list of a face grants a person of a request. `granted` is NULL if that is not known, and `reason` says why.
 CREATE VIEW answers WITH (security_invoker) AS
 SELECT f.tree, f.face, f.objects, f.first, p.person, p.name, q.rights,
-       coalesce(:aclck.acl_grants(l.nfs4, f.owner, f.owning_group, p."user", p.groups, q.mask),
-                :aclck.acl_posix_grants(l.posix, f.uid, f.gid, p.uid, p.gids, q.perms)) AS granted,
+       coalesce(:"aclck".acl_grants(l.nfs4, f.owner, f.owning_group, p."user", p.groups, q.mask),
+                :"aclck".acl_posix_grants(l.posix, f.uid, f.gid, p.uid, p.gids, q.perms)) AS granted,
        CASE WHEN l.fault IS NOT NULL THEN l.fault
             WHEN l.kind = 'nfs4' AND num_nulls(f.owner, f.owning_group, p."user", p.groups) > 0
             THEN 'a name is not text'
@@ -69,8 +69,8 @@ LEFT JOIN (SELECT tree, array_agg(shown(name) ORDER BY name) AS names FROM peopl
 
 -- Whether two POSIX ACLs grant everybody the same, also where several permissions are asked for at once.
 CREATE FUNCTION is_same_posix(first bytea, second bytea) RETURNS bool LANGUAGE sql IMMUTABLE PARALLEL SAFE COST 1000
-RETURN first = second OR (:aclck.acl_posix_excess(first, second) IS NULL
-                          AND :aclck.acl_posix_excess(second, first) IS NULL);
+RETURN first = second OR (:"aclck".acl_posix_excess(first, second) IS NULL
+                          AND :"aclck".acl_posix_excess(second, first) IS NULL);
 
 -- The first POSIX ACL that grants the same as a list. It is a function so that the planner does not count its costs for
 -- each list.
@@ -109,7 +109,7 @@ FROM gaps g JOIN trees t USING (tree);
 
 -- Whether a list in its normal form says something about OWNER@ or GROUP@.
 CREATE FUNCTION mentions(meaning bytea, name text) RETURNS bool LANGUAGE sql IMMUTABLE STRICT PARALLEL SAFE
-RETURN EXISTS (SELECT FROM :aclck.acl_entries(meaning) WHERE who = name);
+RETURN EXISTS (SELECT FROM :"aclck".acl_entries(meaning) WHERE who = name);
 
 -- What changed on an object, from the face of one tree to that of another: 'bits', 'bytes', 'inherits', 'meaning', or
 -- 'unknown' if a list is refused. Owners and groups are names for NFSv4 lists, and ids for POSIX ACLs. It is a function
@@ -128,7 +128,7 @@ RETURN (SELECT CASE
          THEN f.owning_group IS DISTINCT FROM g.owning_group OR g.owning_group IS NULL
          ELSE f.gid IS DISTINCT FROM g.gid END THEN 'meaning'
     WHEN change_of.kind = 'd' AND CASE WHEN l.kind = 'nfs4'
-         THEN :aclck.acl_normal_inherit(l.nfs4) <> :aclck.acl_normal_inherit(m.nfs4)
+         THEN :"aclck".acl_normal_inherit(l.nfs4) <> :"aclck".acl_normal_inherit(m.nfs4)
          ELSE l.dflt IS DISTINCT FROM m.dflt END THEN 'inherits'
     ELSE 'bytes' END
     FROM faces f JOIN lists l ON l.list = f.list, faces g JOIN lists m ON m.list = g.list
@@ -179,27 +179,29 @@ LANGUAGE sql IMMUTABLE PARALLEL SAFE COST 2000
 BEGIN ATOMIC
     WITH given AS MATERIALIZED (
         SELECT bound = 'at_most' AS is_most,
-               CASE WHEN list.kind = 'nfs4' THEN bound_nfs4 ELSE :aclck.acl_posix_bridge(bound_posix) END AS limiting),
+               CASE WHEN list.kind = 'nfs4' THEN bound_nfs4
+                    ELSE :"aclck".acl_posix_bridge(bound_posix) END AS limiting),
     sides AS MATERIALIZED (
         SELECT is_most, limiting,
-               :aclck.acl_resolved(coalesce(list.nfs4, :aclck.acl_posix_bridge(list.posix)), owner, owning_group)
+               :"aclck".acl_resolved(coalesce(list.nfs4, :"aclck".acl_posix_bridge(list.posix)), owner, owning_group)
                AS mine,
-               :aclck.acl_resolved(limiting, owner, owning_group) AS other FROM given),
+               :"aclck".acl_resolved(limiting, owner, owning_group) AS other FROM given),
     compared AS MATERIALIZED (
         SELECT is_most, CASE WHEN list.fault IS NOT NULL THEN list.fault
                              WHEN limiting IS NULL THEN 'the rule has no bound for lists of this kind'
                              WHEN num_nulls(mine, other) > 0 THEN 'no list can have the name of the owner or the group'
                         END AS fault,
-               CASE WHEN is_most THEN :aclck.acl_excess(mine, other) ELSE :aclck.acl_excess(other, mine) END AS found
+               CASE WHEN is_most THEN :"aclck".acl_excess(mine, other)
+                    ELSE :"aclck".acl_excess(other, mine) END AS found
         FROM sides),
     judged AS MATERIALIZED (
         SELECT found, CASE WHEN fault IS NOT NULL OR (found)."right" IS NOT NULL THEN fault
-                           WHEN (CASE WHEN is_most THEN :aclck.acl_posix_excess(list.posix, bound_posix)
-                                      ELSE :aclck.acl_posix_excess(bound_posix, list.posix) END) IS NOT NULL
+                           WHEN (CASE WHEN is_most THEN :"aclck".acl_posix_excess(list.posix, bound_posix)
+                                      ELSE :"aclck".acl_posix_excess(bound_posix, list.posix) END) IS NOT NULL
                            THEN 'it depends on the owner, or on several permissions at once' END AS fault
         FROM compared)
     SELECT CASE WHEN fault IS NOT NULL THEN 'unknown' WHEN (found)."right" IS NOT NULL THEN 'broken' ELSE 'kept' END,
-           (found)."user", (found).groups, :aclck.acl_rights_text((found)."right"), fault
+           (found)."user", (found).groups, :"aclck".acl_rights_text((found)."right"), fault
     FROM judged;
 END;
 
