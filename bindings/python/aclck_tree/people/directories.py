@@ -35,6 +35,10 @@ MEMBERSHIPS = 1_000_000
 """How many memberships the users of a file may have, all in all. One more is allowed for each letter of the file: one
 line can put all users of a group into another one, so that a small file would have more than there is memory for."""
 
+STEPS = 10
+"""How many steps from a group to one that it is in may be made for each membership that is allowed: groups that are all
+in each other take as many steps for each user as the file has letters."""
+
 _COLUMNS = ("kind", "name", "id", "groups")
 """The columns of CSV. `kind` is `user` or `group`; `groups` has names with `;` between them."""
 
@@ -80,10 +84,15 @@ class _Accounts:
                 for one, groups in self._users()]
 
     def _users(self) -> Iterator[Tuple[_Account, List[str]]]:
-        """Yields the users, each with all its groups. Raises TreeError if they have more memberships than are read."""
-        left = self.most
+        """Yields the users, each with all its groups. Raises TreeError if they have more memberships than are read, or
+        if it takes too many steps to find them."""
+        left, steps = self.most, STEPS * self.most
         for one in self.users.values():
             groups = self._all(one.groups)
+            steps -= sum(len(self.groups[group].groups) for group in groups if group in self.groups)
+            if steps < 0:
+                raise TreeError(f"{quoted(self.place)}: its groups are in each other in more ways than are followed in "
+                                "a file of its size")
             left -= len(groups)
             if left < 0:
                 raise TreeError(f"{quoted(self.place)}: its users are in more than {self.most:,} groups, all in all, "

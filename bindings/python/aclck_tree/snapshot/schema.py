@@ -114,7 +114,7 @@ SCHEMA = {**{name: f"CREATE TABLE {name} ({', '.join(f'{one} {is_a.declaration}'
           "objects_by_path": "CREATE INDEX objects_by_path ON objects (tree, path)"}
 
 _BLANKS = re.compile(r"[ \t\n\f\r]+")
-"""What SQLite takes for a blank. It takes others for letters of a name, so that `PRIMARY` and `KEY` would be one word."""
+"""What SQLite takes for a blank. It takes others for letters of a name: `PRIMARY` and `KEY` would be one word."""
 
 RunQuery = Callable[[str], Iterator[Any]]
 """Runs a query and yields its rows."""
