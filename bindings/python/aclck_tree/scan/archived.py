@@ -8,7 +8,7 @@ import functools
 import hashlib
 import os
 import sqlite3
-from typing import Dict, Iterator, List, NamedTuple, Optional, Sequence, Set, Tuple
+from typing import Dict, Iterator, List, NamedTuple, Optional, Sequence, Tuple
 
 from aclck_tree import VERSION
 from aclck_tree.output.errors import Damaged, TreeError
@@ -16,6 +16,7 @@ from aclck_tree.output.text import quoted_path
 from aclck_tree.people import accounts
 from aclck_tree.people.people import HIGHEST_ID
 from aclck_tree.scan import headers
+from aclck_tree.scan.archive_names import ArchiveNames
 from aclck_tree.scan.archives import Member, members
 from aclck_tree.scan.compressed import opened_archive
 from aclck_tree.scan.paths import PLAIN, left_of, not_made, slashes, split
@@ -76,46 +77,6 @@ class _Row(NamedTuple):
 def _fault_at(key: bytes, member: Member, fault: str) -> _Row:
     """Returns the row of a path with a fault. It may be anything but a directory, unless the member is one."""
     return _Row(key, _FAULT, fault=fault, was_other=bool(key) and member.kind != "d")
-
-
-class ArchiveNames(accounts.System):
-    """The names and ids that an archive has, and those of this system that say nothing else."""
-
-    def __init__(self) -> None:
-        super().__init__()
-        self._own_names: Dict[Tuple[bool, int], bytes] = {}
-        self._own_numbers: Dict[Tuple[bool, bytes], int] = {}
-        self._doubtful: Set[Tuple[bool, object]] = set()  # names with two ids, and ids with two names
-
-    def add(self, is_group: bool, number: int, name: bytes) -> None:
-        """Adds an account of the archive."""
-        if accounts.is_name(name):
-            if self._own_names.setdefault((is_group, number), name) != name:
-                self._doubtful.add((is_group, number))
-            if self._own_numbers.setdefault((is_group, name), number) != number:
-                self._doubtful.add((is_group, name))
-
-    def fits(self, is_group: bool, number: int, name: bytes) -> bool:
-        """Whether the archive has no other name for an id, and no other id for a name."""
-        return (self._own_names.get((is_group, number), name) == name
-                and self._own_numbers.get((is_group, name), number) == number
-                and self._doubtful.isdisjoint(((is_group, number), (is_group, name))))
-
-    def name_of(self, is_group: bool, number: int) -> Optional[bytes]:
-        own = self._own_names.get((is_group, number))
-        found = super().name_of(is_group, number) if own is None else own
-        return found if found is not None and self.fits(is_group, number, found) else None
-
-    def number_of(self, is_group: bool, name: bytes) -> Optional[int]:
-        own = self._own_numbers.get((is_group, name))
-        found = super().number_of(is_group, name) if own is None else own
-        return found if found is not None and self.fits(is_group, found, name) else None
-
-    def rows(self) -> Iterator[Tuple[bool, int, bytes]]:
-        """Yields the accounts of the archive."""
-        for (is_group, name), number in self._own_numbers.items():
-            if self.fits(is_group, number, name):
-                yield is_group, number, name
 
 
 def _restored_at_the_end(row: _Row) -> Tuple[int, int]:
@@ -196,13 +157,15 @@ class _Gathered:
         return ""
 
     def _linked(self, key: bytes, target: bytes) -> _Row:
-        """Returns what a hard link is: what its target was when the link was made."""
+        """Returns what a hard link is: what its target was when the link was made. A target whose path leads through
+        something else than a directory is elsewhere."""
         try:
-            names = b"\0".join(split(target))
+            names = split(target)
         except ValueError:
-            names = key
-        found = self.row(names) if names != key else None
-        if found and found.kind not in ("d", _FAULT):
+            names = []
+        above = (self.row(b"\0".join(names[:count])) for count in range(1, len(names)))
+        found = self.row(b"\0".join(names)) if b"\0".join(names) != key else None
+        if found and found.kind not in ("d", _FAULT) and not any(row and row.was_other for row in above):
             return found._replace(key=key, was_other=True, was_directory=False)
         return _Row(key, _FAULT, fault=f"it is a hard link to {quoted_path(target[:SHOWN])}, and no file is there")
 
@@ -350,8 +313,10 @@ class ArchiveScan:
 
     def _below_directories(self) -> Iterator[Tuple[bytes, _Row]]:
         """Yields what is known of each path of the tree. A path that leads through anything else than a directory is a
-        failure, also outside of the root: in the file system it would be another one, which may be below the root."""
+        failure, also outside of the root: in the file system it would be another one, which may be below the root. What
+        it leads through is a failure too, unless it is a link: bsdtar makes it a directory."""
         other: Optional[bytes] = None
+        last: Optional[Tuple[bytes, _Row]] = None  # it is not known yet whether something is below it
         for row in self._gathered.rows():
             whole = row.key.replace(b"\0", b"/")
             is_below = not self._root or row.key == self._root or row.key.startswith(self._root + b"\0")
@@ -360,12 +325,20 @@ class ArchiveScan:
                 through = other.replace(b"\0", b"/")
                 self._fail(path, f"the path {quoted_path(whole[:SHOWN])} leads through {quoted_path(through[:SHOWN])}, "
                            "which is no directory")
+                if last and last[1].kind not in ("l", _LATE):
+                    fault = last[1].fault or "it is no directory, and there are paths below it"
+                    last = last[0], last[1]._replace(fault=fault)
                 continue
+            if last:
+                yield last
+            last = None
             other = row.key if row.was_other else None
             if is_below and row.slashes == slashes(self._typed):
-                yield path, row
+                last = path, row
             elif is_below:
                 self._fail(path, "it begins with a slash and --root does not, or the other way round")
+        if last:
+            yield last
 
     def _found(self, path: bytes, row: _Row) -> Optional[Found]:
         """Returns the object of a path, or None if it is a link or cannot be read."""
