@@ -69,18 +69,22 @@ def refuse_what_is_no_file(path: str) -> None:
 
 
 def opened_file(path: str) -> BinaryIO:
-    """Opens a file or a pipe to read it. A FIFO that nobody writes is empty, because nobody knows whether somebody will
-    write it. Raises TreeError if there is something else, such as a device that never ends, or nothing."""
+    """Opens a file to read it, or a pipe without a name, such as that of `<(..)`. Raises TreeError if there is something
+    else, such as a device that never ends or a FIFO that somebody holds open and never writes, or nothing."""
     try:
         handle = os.open(path, os.O_RDONLY | os.O_NONBLOCK | os.O_NOCTTY)
     except (OSError, ValueError) as error:
         raise TreeError(f"{quoted(path)}: {getattr(error, 'strerror', None) or error}") from None
-    mode = os.fstat(handle).st_mode
-    if not stat.S_ISREG(mode) and not stat.S_ISFIFO(mode):
+    if not stat.S_ISREG(os.fstat(handle).st_mode) and not is_pipe_without_name(handle):
         os.close(handle)
-        raise TreeError(f"{quoted(path)}: neither a file nor a pipe")
+        raise TreeError(f"{quoted(path)}: neither a file nor a pipe without a name")
     os.set_blocking(handle, True)
     return open(handle, "rb")
+
+
+def is_pipe_without_name(handle: int) -> bool:
+    """Whether a handle is that of a pipe which is no FIFO: nobody else can hold it open."""
+    return stat.S_ISFIFO(os.fstat(handle).st_mode) and os.readlink(f"/proc/self/fd/{handle}").startswith("pipe:")
 
 
 def _lock(handle: int) -> bool:

@@ -9,13 +9,13 @@ import hashlib
 import os
 import secrets
 import sqlite3
-import stat
 import sys
 import threading
 from typing import Iterator, List, NamedTuple, Optional
 
 from aclck_tree.output.errors import DeviceError, TreeError
-from aclck_tree.output.text import quoted, quoted_path
+from aclck_tree.output.files import opened_file
+from aclck_tree.output.text import quoted_path
 from aclck_tree.scan.handles import Directory
 from aclck_tree.scan.progress import Progress
 from aclck_tree.scan.reader import Batch, ScanOptions, Task
@@ -89,24 +89,14 @@ def names_in(path: bytes) -> List[bytes]:
 
 @contextlib.contextmanager
 def opened_list(place: str) -> Iterator[int]:
-    """Opens a list, or standard input for `-`. Raises TreeError if it is neither a file nor a pipe."""
+    """Opens a list, or standard input for `-`. Raises TreeError as `opened_file` does."""
     if place == "-":
         if sys.stdin is None:  # the number may be that of another file
             raise TreeError("standard input is closed")
         yield sys.stdin.fileno()
         return
-    try:
-        handle = os.open(place, os.O_RDONLY | os.O_NONBLOCK | os.O_NOCTTY)  # a FIFO that nobody writes is empty
-    except (OSError, ValueError) as error:
-        raise TreeError(f"{quoted(place)}: {getattr(error, 'strerror', None) or error}") from None
-    try:
-        mode = os.fstat(handle).st_mode
-        if not stat.S_ISREG(mode) and not stat.S_ISFIFO(mode):
-            raise TreeError(f"{quoted(place)}: a list is a file or a pipe")
-        os.set_blocking(handle, True)
-        yield handle
-    finally:
-        os.close(handle)
+    with opened_file(place) as file:
+        yield file.fileno()
 
 
 class _Known:
