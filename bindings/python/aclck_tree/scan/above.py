@@ -50,7 +50,7 @@ def _identity(handle: int) -> Tuple[int, int]:
 
 def _read(reader: Reader, handle: int, path: bytes) -> Above:
     """Reads one directory. Each new name in it changes it, as in /tmp, so it may never be at rest. Then nobody waits:
-    what is read twice in a row counts."""
+    what is read twice in a row counts, if the owner, the group and the mode were the same before and after each."""
     before: Optional[Above] = None
     try:
         for _ in range(_MOST_READINGS):
@@ -58,9 +58,11 @@ def _read(reader: Reader, handle: int, path: bytes) -> Above:
             stored, other = reader.read_list(handle, status, path)
             found = (Above(path, message=f"{UNREAD}: {other}") if other else
                      Above(path, status.st_uid, status.st_gid, stored))
-            if found == before or is_same(status, os.fstat(handle)) and is_at_rest(status.st_ctime_ns, now):
+            after = os.fstat(handle)
+            is_kept = (status.st_mode, status.st_uid, status.st_gid) == (after.st_mode, after.st_uid, after.st_gid)
+            if is_kept and found == before or is_same(status, after) and is_at_rest(status.st_ctime_ns, now):
                 return found
-            before = found
+            before = found if is_kept else None
     except OSError as error:
         return Above(path, message=words_of(error))
     return Above(path, message=CHANGING)
