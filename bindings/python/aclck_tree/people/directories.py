@@ -186,6 +186,11 @@ class _Entry:
         """Returns all values of some attributes."""
         return [value.decode("utf-8", "surrogateescape") for one in attributes for value in self.values.get(one, ())]
 
+    def is_user(self) -> bool:
+        """Whether an object class says that it is a user. Whoever may add the class of a group to an entry of such a
+        user could hide the user otherwise."""
+        return not {one.lower() for one in self.all("objectclass")}.isdisjoint(_USERS)
+
     def is_group(self) -> Optional[bool]:
         """Whether it is a group, or None if it is no account. An entry without an object class that has members is a
         group, and one that has the name of a user is a user."""
@@ -282,6 +287,8 @@ def people_of_ldif(place: str) -> List[Person]:
         is_group = entry.is_group()
         if is_group is None:
             continue
+        if is_group and entry.is_user():
+            refuse(place, entry.line, f"{quoted(entry.name)} is a user and a group")
         name = entry.first("samaccountname", *(("cn",) if is_group else ("uid", "cn")))
         number = _id_in(place, entry.line, entry.first("gidnumber" if is_group else "uidnumber"))
         if _folded(entry.name) in of_names:
