@@ -11,6 +11,7 @@ from typing import Iterator, List, Optional, Set
 
 from aclck_tree import VERSION
 from aclck_tree.output.errors import TreeError
+from aclck_tree.output.text import quoted_path
 from aclck_tree.people import accounts
 from aclck_tree.scan.above import read_above
 from aclck_tree.scan.handles import Directory
@@ -32,6 +33,16 @@ LONG = f"something below is left out: its paths have more than {PATH:,} bytes fo
 
 _AT_ONCE = 100
 """How many directories are looked at again in one task."""
+
+
+def _is_another(place: bytes, root: Directory) -> bool:
+    """Whether an object that can be read at a place is not the root that was opened, such as behind a link that was
+    exchanged in the meantime: the snapshot would say that the tree is there."""
+    try:
+        status = os.stat(place)
+    except OSError:
+        return False
+    return (status.st_dev, status.st_ino) != root.identity
 
 
 def utc_now() -> str:
@@ -59,6 +70,9 @@ class Scan:
         self._others = others.Others()
         self.errors = 0
         typed, self._place = os.path.normpath(root), os.path.realpath(root)
+        if _is_another(self._place, self._reader.root):
+            self._reader.close()
+            raise TreeError(f"{quoted_path(root)}: it leads to another place now")
         self.tree = writer.add_tree(Tree(0, options.host, typed, self._place, utc_now(), None, False, VERSION, 0))
         if self._is_portion():
             writer.add_portion(self.tree, options.portion())
