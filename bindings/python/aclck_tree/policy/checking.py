@@ -42,12 +42,13 @@ class Policy:
         self._meant = [meant for meant, _ in patterns]
         self._matcher = Matcher(snapshot, [path for _, path in patterns])
         self._applied: Dict[Tuple[int, ...], Tuple[Applied, ...]] = {}
+        self._each: Dict[Applied, Applied] = {}  # one of each, because objects share them
         self._known: Dict[Tuple[int, int, bool], Tuple[Breach, ...]] = {}
 
-    def applied(self, tree: int, path: bytes, is_directory: bool) -> Tuple[Applied, ...]:
+    def applied(self, tree: int, path: bytes) -> Tuple[Applied, ...]:
         """Returns the rules that apply to an object, each with the first exception that matches it. Objects come in the
         order of trees and paths."""
-        matched = self._matcher.matched(tree, path, is_directory)
+        matched = self._matcher.matched(tree, path)
         found = self._applied.get(matched)
         if found is None:
             rules: Dict[int, Optional[int]] = {}
@@ -57,7 +58,8 @@ class Policy:
                     rules[rule] = None
                 else:
                     exempt.setdefault(rule, place)
-            found = self._applied[matched] = tuple(Applied(rule, exempt.get(rule)) for rule in rules)
+            each = (Applied(rule, exempt.get(rule)) for rule in rules)
+            found = self._applied[matched] = tuple(self._each.setdefault(one, one) for one in each)
         return found
 
     def breaches(self, rule: int, face: int, is_directory: bool) -> Tuple[Breach, ...]:
@@ -153,7 +155,7 @@ class _Check:
     def keys(self) -> Iterator[Tuple[_Key, int, bytes]]:
         """Yields the key of each object, its tree and its path."""
         for tree, path, is_directory, _, face in self.asker.snapshot.objects():
-            yield (face, is_directory, self.policy.applied(tree, path, is_directory)), tree, path
+            yield (face, is_directory, self.policy.applied(tree, path)), tree, path
 
     def count(self) -> Dict[_Key, Counted]:
         """Counts the objects about which the same is found, those of one owner next to each other."""

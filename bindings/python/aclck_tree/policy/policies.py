@@ -27,7 +27,7 @@ from aclck import (
 from aclck_tree.output.errors import TreeError
 from aclck_tree.output.files import opened_file
 from aclck_tree.output.text import quoted
-from aclck_tree.snapshot.globs import PathPattern, path_pattern
+from aclck_tree.snapshot.globs import PathPattern, judge, path_pattern
 
 if sys.version_info >= (3, 11):
     from tomllib import loads
@@ -187,6 +187,10 @@ def read_policy(path: str) -> List[Rule]:
     top.end()
     if not rules:
         top.refuse("it has no rule, which begins with [[rule]]")
+    try:
+        judge([one.path for rule in rules for one in (rule, *rule.exemptions)])
+    except ValueError as error:
+        top.refuse(str(error))
     return rules
 
 

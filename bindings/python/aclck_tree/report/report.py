@@ -144,7 +144,7 @@ class Report:
             found = (one for one in found if paths.has(*one[:2]))
         if self.policy:
             applied = self.policy.applied
-            found = ((*one, applied(*one[:3])) for one in found)
+            found = ((*one, applied(*one[:2])) for one in found)
         return found
 
     def _kind(self, one: ObjectTraits) -> _Kind:

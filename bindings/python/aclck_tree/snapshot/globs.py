@@ -8,21 +8,26 @@ path from `/`, and any other with the path as it was typed for the scan, without
 
 from __future__ import annotations
 
-import fnmatch
 import os
-import re
-from typing import Dict, FrozenSet, Iterable, List, NamedTuple, Sequence, Tuple
+from typing import Dict, List, NamedTuple, Sequence, Tuple
 
-from aclck_tree.snapshot.names import NameMatcher
+from aclck_tree.snapshot.names import Kept, NameMatcher, bits_of, is_set, judge_name, places_of, room_for, tokens_of
 from aclck_tree.snapshot.snapshot import Snapshot
 
 ANY_PARTS = "**"
+ANY_NAME = "*"
 
 MOST_LETTERS = 1000
 """How many characters a part of a pattern may have. The names of files have 255 bytes."""
 
-MOST_PARTS = 1000
-"""How many parts a pattern may have."""
+MOST_PARTS, MOST_OF_ALL = 1000, 100_000
+"""How many parts a pattern may have, and how many all patterns have that are matched together."""
+
+MOST_WILD, MOST_SETS = 50_000, 100
+"""How many characters their different parts with wildcards may have, and how many different brackets."""
+
+_DEPTH = 1000
+"""For how many of the directories above an object it is kept what they match."""
 
 
 class PathPattern(NamedTuple):
@@ -47,143 +52,120 @@ def path_pattern(text: str) -> PathPattern:
             raise ValueError("** is not a whole part of the path")
         if len(part) > MOST_LETTERS:
             raise ValueError(f"a part of the path has more than {MOST_LETTERS:,} characters")
-        _judge(part)
+        if _is_glob(part):
+            judge_name(part)
     # two of these parts mean the same as one
     kept = tuple(part for before, part in zip(("", *parts), parts) if not before == part == ANY_PARTS)
     return PathPattern(kept, is_absolute)
 
 
 def _is_glob(part: str) -> bool:
-    return not set(part).isdisjoint("*?[")
+    return part not in (ANY_PARTS, ANY_NAME) and not set(part).isdisjoint("*?[")
 
 
-def _judge(part: str) -> None:
-    """Raises ValueError if a part has brackets with characters in the wrong order."""
-    try:
-        re.compile(fnmatch.translate(part))
-    except re.error as error:
-        raise ValueError(f"{part!r} is no pattern: {error}") from None
-
-
-_Position = Tuple[int, int]  # the number of a pattern, and how many of its parts are matched
-
-
-class _State:
-    """What is matched of all patterns at one path: `matched` are the numbers of those that match the whole path,
-    `always` is what is matched after one more name, whatever the name is, and `after` keeps what is matched then by
-    what else the name matches."""
-
-    def __init__(self, patterns: Sequence[PathPattern], positions: FrozenSet[_Position],
-                 known: Dict[Tuple[str, ...], NameMatcher]) -> None:
-        """`known` keeps what matches the same parts at another path."""
-        self.positions = positions
-        self._known = known
-        self.matched = tuple(sorted({number for number, at in positions if at == len(patterns[number].parts)}))
-        self.always: List[_Position] = []
-        self.after: Dict[Tuple[_Position, ...], _State] = {}
-        self._literals: Dict[bytes, List[_Position]] = {}
-        self._begins: Dict[int, Dict[bytes, List[_Position]]] = {}
-        self._ends: Dict[int, Dict[bytes, List[_Position]]] = {}
-        self._globs: Dict[str, List[_Position]] = {}
-        for number, at in positions:
-            if at < len(patterns[number].parts):
-                self._add(patterns[number].parts[at], number, at)
-        self._parts = tuple(sorted(self._globs))
-
-    def _add(self, part: str, number: int, at: int) -> None:
-        if part == ANY_PARTS:
-            self.always.append((number, at))
-        elif part == "*":
-            self.always.append((number, at + 1))
-        elif part[-1] == "*" and not _is_glob(part[:-1]):
-            self._put(self._begins, part[:-1], (number, at + 1))
-        elif part[0] == "*" and not _is_glob(part[1:]):
-            self._put(self._ends, part[1:], (number, at + 1))
-        elif _is_glob(part):
-            self._globs.setdefault(part, []).append((number, at + 1))
-        else:
-            self._literals.setdefault(os.fsencode(part), []).append((number, at + 1))
-
-    def _put(self, known: Dict[int, Dict[bytes, List[_Position]]], text: str, position: _Position) -> None:
-        data = os.fsencode(text)
-        known.setdefault(len(data), {}).setdefault(data, []).append(position)
-
-    def named(self, name: bytes) -> Sequence[_Position]:
-        """Returns what else is matched after one name."""
-        found = self._literals.get(name, _NOTHING)
-        for size, begins in self._begins.items():
-            found = found + begins.get(name[:size], _NOTHING)
-        for size, ends in self._ends.items():
-            found = found + ends.get(name[-size:], _NOTHING)
-        if self._parts:
-            if self._parts not in self._known:
-                self._known[self._parts] = NameMatcher(self._parts)
-            for place in self._known[self._parts].matched(os.fsdecode(name)):
-                found = found + self._globs[self._parts[place]]
-        return found
-
-
-_NOTHING: List[_Position] = []
+def judge(patterns: Sequence[PathPattern]) -> None:
+    """Raises ValueError, with the reason, if some patterns are too long to be matched together."""
+    if sum(len(one.parts) for one in patterns) > MOST_OF_ALL:
+        raise ValueError(f"the paths have more than {MOST_OF_ALL:,} parts")
+    wild = {part for one in patterns for part in one.parts if _is_glob(part)}
+    if sum(map(len, wild)) > MOST_WILD:
+        raise ValueError(f"the parts of paths with wildcards have more than {MOST_WILD:,} characters")
+    if len({token for part in wild for token in tokens_of(part) if is_set(token)}) > MOST_SETS:
+        raise ValueError(f"the paths have more than {MOST_SETS} different brackets")
 
 
 class Matcher:
-    """Says which of many patterns match the objects of a snapshot. What is matched at a directory is kept for what is
-    in it, so an object costs what its last name costs (names.py), mostly whatever the number of patterns."""
+    """Says which of many patterns match the objects of a snapshot. The parts of all patterns follow one another, and
+    each has a bit in a number: the bit is set if the parts in front of it match a path. A name moves the bits of the
+    parts that it matches, as letters do in names.py. So an object costs a few operations on such numbers, and what its
+    name costs if there are parts with wildcards. The numbers of the directories above it are kept."""
 
     def __init__(self, snapshot: Snapshot, patterns: Sequence[PathPattern]) -> None:
-        self._patterns = patterns
-        self._states: Dict[FrozenSet[_Position], _State] = {}
-        self._names: Dict[Tuple[str, ...], NameMatcher] = {}
-        self._roots: Dict[int, _State] = {}
-        for number, tree in snapshot.trees.items():
-            positions: List[_Position] = []
-            for place, is_absolute in ((tree.root, False), (tree.place, True)):
-                begin = [(one, 0) for one, pattern in enumerate(patterns) if pattern.is_absolute == is_absolute]
-                positions += self._walked(self._state(begin), os.path.normpath(place)).positions
-            self._roots[number] = self._state(positions)
+        self._trees = snapshot.trees
+        begins: Dict[bool, List[int]] = {False: [], True: []}
+        self._numbers: Dict[int, int] = {}  # the place behind the last part of each pattern
+        parts: Dict[str, List[int]] = {}
+        size = 0
+        for number, pattern in enumerate(patterns):
+            begins[pattern.is_absolute].append(size)
+            for part in pattern.parts:
+                parts.setdefault(part, []).append(size)
+                size += 1
+            self._numbers[size] = number
+            size += 1
+        self._loops, self._each = (bits_of(parts.pop(part, [])) for part in (ANY_PARTS, ANY_NAME))
+        self._ends = bits_of(list(self._numbers))
+        self._begins = [self._closed(bits_of(begins[is_absolute])) for is_absolute in (False, True)]
+        wild = [part for part in parts if _is_glob(part)]
+        self._wild = [parts.pop(part) for part in wild]
+        self._wilds = bits_of([place for places in self._wild for place in places])
+        self._names = NameMatcher(wild)
+        self._literals = {os.fsencode(part): places for part, places in parts.items()}
+        self._named = Kept(self._bits_of_name, room_for(size))
+        self._of_wild = Kept(self._bits_of_wild, room_for(size))
+        self._of_ends = Kept(self._bits_of_ends, room_for(size))
+        self._found = Kept(self._numbers_of, room_for(size))
         self._tree = 0
-        self._below: Dict[bytes, _State] = {}
+        self._above = b""
+        self._way: List[Tuple[bytes, int]] = []  # the names of the directories above the last object, and their bits
+        self._root = self._bits = 0
 
-    def _state(self, positions: Iterable[_Position]) -> _State:
-        """Returns the state of some positions, and of those behind each `**`, which may stand for nothing."""
-        closed = set(positions)
-        for number, at in tuple(closed):
-            parts = self._patterns[number].parts
-            if at < len(parts) and parts[at] == ANY_PARTS:
-                closed.add((number, at + 1))
-        key = frozenset(closed)
-        if key not in self._states:
-            self._states[key] = _State(self._patterns, key, self._names)
-        return self._states[key]
+    def _bits_of_name(self, name: bytes) -> int:
+        return bits_of(self._literals[name])
 
-    def _step(self, state: _State, name: bytes) -> _State:
-        found = tuple(state.named(name))
-        if found not in state.after:
-            state.after[found] = self._state([*state.always, *found])
-        return state.after[found]
+    def _bits_of_wild(self, number: int) -> int:
+        return bits_of(self._wild[number])
 
-    def _walked(self, state: _State, path: bytes) -> _State:
-        for name in path.split(b"/"):
+    def _bits_of_ends(self, ends: int) -> int:
+        found = 0
+        for number in self._names.numbers(ends):
+            found |= self._of_wild[number]
+        return found
+
+    def _numbers_of(self, ends: int) -> Tuple[int, ...]:
+        return tuple(self._numbers[place] for place in places_of(ends))
+
+    def _closed(self, bits: int) -> int:
+        """Returns some bits with those behind each `**`, which may stand for nothing."""
+        return bits | (bits & self._loops) << 1
+
+    def _step(self, bits: int, name: bytes) -> int:
+        moved = bits & self._each
+        if name in self._literals:
+            moved |= bits & self._named[name]
+        if bits & self._wilds:
+            moved |= bits & self._of_ends[self._names.ends(os.fsdecode(name))]
+        return self._closed(moved << 1 | bits & self._loops)
+
+    def _walked(self, bits: int, path: bytes) -> int:
+        for name in os.path.normpath(path).split(b"/"):
             if name not in (b"", b"."):
-                state = self._step(state, name)
-        return state
+                bits = self._step(bits, name)
+        return bits
 
-    @property
-    def steps(self) -> int:
-        """How many steps the patterns for parts of paths took so far."""
-        return sum(one.steps for one in self._names.values())
-
-    def matched(self, tree: int, path: bytes, is_directory: bool) -> Tuple[int, ...]:
-        """Returns the numbers of the patterns that match an object, in rising order. It is quick if the objects of a
-        tree come one after another, and a directory before what is in it."""
+    def _enter(self, tree: int, above: bytes) -> None:
+        """Finds the bits of a directory."""
         if tree != self._tree:
-            self._tree, self._below = tree, {b"": self._roots[tree]}
+            typed, absolute = self._begins
+            self._root = self._walked(typed, self._trees[tree].root) | self._walked(absolute, self._trees[tree].place)
+            self._way.clear()
+        names = above.split(b"/") if above else []
+        same = 0
+        while same < len(names) and same < len(self._way) and names[same] == self._way[same][0]:
+            same += 1
+        del self._way[same:]
+        bits = self._way[-1][1] if self._way else self._root
+        for name in names[same:]:
+            bits = self._step(bits, name)
+            if len(self._way) < _DEPTH:
+                self._way.append((name, bits))
+        self._tree, self._above, self._bits = tree, above, bits
+
+    def matched(self, tree: int, path: bytes) -> Tuple[int, ...]:
+        """Returns the numbers of the patterns that match an object, in rising order. It is quick if the objects of a
+        directory come one after another."""
         above, _, name = path.rpartition(b"/")
-        state = self._below.get(above)
-        if state is None:  # the snapshot lacks the directory
-            state = self._below[above] = self._walked(self._roots[tree], above)
-        if path:
-            state = self._step(state, name)
-            if is_directory:
-                self._below[path] = state
-        return state.matched
+        if tree != self._tree or above != self._above:
+            self._enter(tree, above)
+        bits = self._step(self._bits, name) if path else self._root
+        return self._found[bits & self._ends]

@@ -10,7 +10,7 @@ from typing import AnyStr, Dict, Iterable, Iterator, List, NamedTuple, Optional,
 
 from aclck_tree.output.errors import TreeError, UsageError
 from aclck_tree.output.text import ObjectName, ObjectNamer, quoted, quoted_path, quoted_place
-from aclck_tree.snapshot.globs import Matcher, PathPattern, path_pattern
+from aclck_tree.snapshot.globs import Matcher, PathPattern, judge, path_pattern
 from aclck_tree.snapshot.snapshot import Snapshot, Tree
 
 _SHOWN = 5
@@ -61,13 +61,15 @@ class Paths:
     def __init__(self, snapshot: Snapshot, glob: str) -> None:
         here = glob if os.path.isabs(glob) else os.path.join(globs.escape(os.getcwd()), glob)
         try:
-            self._matcher = Matcher(snapshot, [_typed_pattern(one) for one in (glob, here)])
+            patterns = [_typed_pattern(one) for one in (glob, here)]
+            judge(patterns)
         except ValueError as error:
             raise UsageError(f"--path {quoted(glob)}: {error}") from None
+        self._matcher = Matcher(snapshot, patterns)
 
     def has(self, tree: int, path: bytes) -> bool:
         """Whether the pattern matches an object, which is given by its path below the root of a tree."""
-        return bool(self._matcher.matched(tree, path, False))
+        return bool(self._matcher.matched(tree, path))
 
 
 def _typed_pattern(text: str) -> PathPattern:
