@@ -188,7 +188,7 @@ def read_policy(path: str) -> List[Rule]:
     if not rules:
         top.refuse("it has no rule, which begins with [[rule]]")
     try:
-        judge([one.path for rule in rules for one in (rule, *rule.exemptions)])
+        judge([path for rule in rules for path in (rule.path, *(one.path for one in rule.exemptions))])
     except ValueError as error:
         top.refuse(str(error))
     return rules
