@@ -48,7 +48,7 @@ lesser from (Some least) (Some id) =
     if nat_lt id from then Some least else (if nat_lt least id then Some least else Some id)
 
 -- the least number from a bound on that passes a test
-pub record IsLeast (from : ℕ) (test : ℕ → Bool) (least : ℕ) : Type 0 where
+pub record IsLeastId (from : ℕ) (test : ℕ → Bool) (least : ℕ) : Type 0 where
   pub within : from ≤ least
   pub passes : test least ≡ true
   pub lower : (id : ℕ) → from ≤ id → id < least → test id ≡ false
@@ -56,7 +56,7 @@ pub record IsLeast (from : ℕ) (test : ℕ → Bool) (least : ℕ) : Type 0 whe
 -- the same, or no number from the bound on passes the test
 abbrev pub IsLeastFrom : ℕ → (ℕ → Bool) → Option ℕ → Type 0
 IsLeastFrom from test None = (id : ℕ) → from ≤ id → test id ≡ false
-IsLeastFrom from test (Some least) = IsLeast from test least
+IsLeastFrom from test (Some least) = IsLeastId from test least
 
 -- so many numbers pass a test
 pub record AreCounted (test : ℕ → Bool) (count : ℕ) : Type 0 where
