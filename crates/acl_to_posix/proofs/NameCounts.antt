@@ -8,7 +8,7 @@ use Rattle.acl_posix.specs.Check.{is_member}
 use Rattle.acl_posix.specs.Names.{Table}
 use Rattle.acl_nfs4.specs.Ace.{Ace}
 use Rattle.acl_to_posix.specs.ListNames.{AreFewNames, AreMoreNames, is_number_of, names_group, names_user}
-use Rattle.acl_to_posix.specs.internal.ListNamesBody.{AreBelow, AreCounted, AreMore, IsLeastFrom, lesser}
+use Rattle.acl_to_posix.specs.internal.ListNamesBody.{AreBelow, AreCounted, AreMore, IsLeastFrom, lesser_id}
 use Rattle.acl_to_posix.proofs.ListNames.{all_just, grow, more_groups, names_are, with_numbers}
 
 -- ---- the least number
@@ -34,7 +34,7 @@ second_holds false b h = h
 
 -- with one more number
 least_with : (from : ℕ) (test : ℕ → Bool) (least id : Option ℕ) → IsLeastFrom from test least
-    → IsLeastFrom from (λ n. test n || is_number_of id n) (lesser from least id)
+    → IsLeastFrom from (λ n. test n || is_number_of id n) (lesser_id from least id)
 least_with from test None None h = λ n le. neither (test n) false (h n le) refl
 least_with from test (Some least) None h = record {
   within = h.within;
@@ -80,7 +80,7 @@ least_with from test (Some least) (Some id) h = by (nat_lt id from) (nat_lt leas
 -- the least of a number and the numbers of ACEs
 abbrev pub least_among : (Ace → Option ℕ) → ℕ → Option ℕ → List Ace → Option ℕ
 least_among of from least [] = least
-least_among of from least (a ∷ list) = least_among of from (lesser from least (of a)) list
+least_among of from least (a ∷ list) = least_among of from (lesser_id from least (of a)) list
 
 -- what it is the least of
 least_of_rest : (of : Ace → Option ℕ) (from : ℕ) (so_far test : ℕ → Bool) (least : Option ℕ) (list : List Ace)
@@ -89,7 +89,7 @@ least_of_rest : (of : Ace → Option ℕ) (from : ℕ) (so_far test : ℕ → Bo
 least_of_rest of from so_far test least [] whole h =
     least_of_equal from so_far test least (λ id. sym (or_false_right (so_far id)) ∙ whole id) h
 least_of_rest of from so_far test least (a ∷ list) whole h =
-    least_of_rest of from (λ id. so_far id || is_number_of (of a) id) test (lesser from least (of a)) list
+    least_of_rest of from (λ id. so_far id || is_number_of (of a) id) test (lesser_id from least (of a)) list
     (λ id. or_regroup (so_far id) (is_number_of (of a) id) (list_any (λ x. is_number_of (of x) id) list) ∙ whole id)
     (least_with from so_far least (of a) h)
 
@@ -102,10 +102,10 @@ least_is of from list =
 
 -- one more ACE
 pub least_more : (of : Ace → Option ℕ) (from : ℕ) (least next found : Option ℕ) (a : Ace) (list rest : List Ace)
-    (whole : Option ℕ) → list ≡ a ∷ rest → found ≡ of a → next ≡ lesser from least found
+    (whole : Option ℕ) → list ≡ a ∷ rest → found ≡ of a → next ≡ lesser_id from least found
     → least_among of from least list ≡ whole → least_among of from next rest ≡ whole
 least_more of from least next found a list rest whole split is lesser_is before =
-    ap (λ (o : Option ℕ). least_among of from o rest) (lesser_is ∙ ap (λ (o : Option ℕ). lesser from least o) is)
+    ap (λ (o : Option ℕ). least_among of from o rest) (lesser_is ∙ ap (λ (o : Option ℕ). lesser_id from least o) is)
     ∙ (ap (λ (l : List Ace). least_among of from least l) (sym split) ∙ before)
 
 -- what the least so far is, after the last ACE

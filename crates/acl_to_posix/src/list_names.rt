@@ -5,7 +5,7 @@ ghost use Rattle.acl_posix.specs.Check.{ids, is_member};
 ghost use Rattle.acl_to_posix.specs.ListNames.{AreFewNames, AreMoreNames, AreNamesOf, AreOnce, counted_group, counted_user, is_ace_counted, is_number_of, named_shape};
 ghost use Rattle.acl_ids.specs.Ids.{IsIdsFault};
 ghost use Rattle.acl_to_posix.specs.ToPosix.{entry_shape_of, size_of};
-ghost use Rattle.acl_to_posix.specs.internal.ListNamesBody.{AreCounted, AreJust, AreMore, AreNamesAbove, IsIdsAbove, IsLeastFrom, IsNamesFault, counted_id, lesser, names_id};
+ghost use Rattle.acl_to_posix.specs.internal.ListNamesBody.{AreCounted, AreJust, AreMore, AreNamesAbove, IsIdsAbove, IsLeastFrom, IsNamesFault, counted_id, lesser_id, names_id};
 
 use crate::posix_shape::{PosixShape, ShapeFault, is_among};
 use acl_eval::internal::image;
@@ -166,15 +166,15 @@ fn least_from(list: &AclView<'_>, names: &Names, kind: IdKind, from: u32) -> Opt
 {
     let mut least = None;
     for ace in list.aces() {
-        least = lesser(from, least, counted_id(kind, names, &ace));
+        least = lesser_id(from, least, counted_id(kind, names, &ace));
     }
     least
 }
 
 // Returns the lesser of two ids, of which the second counts from a number on.
-fn lesser(from: u32, least: Option<Id>, id: Option<Id>) -> Option<Id>
+fn lesser_id(from: u32, least: Option<Id>, id: Option<Id>) -> Option<Id>
     ensures { option_map (λ id. id.value) result
-        ≡ lesser from (option_map (λ id. id.value) least) (option_map (λ id. id.value) id) }
+        ≡ lesser_id from (option_map (λ id. id.value) least) (option_map (λ id. id.value) id) }
 {
     let Some(id) = id else {
         return least;

@@ -41,10 +41,10 @@ IsIdsAbove most test faults.Memory = ⊤
 -- ---- ids that are counted without memory
 
 -- the lesser of two numbers, of which the second counts from a bound on
-abbrev pub lesser : ℕ → Option ℕ → Option ℕ → Option ℕ
-lesser from least None = least
-lesser from None (Some id) = if nat_lt id from then None else Some id
-lesser from (Some least) (Some id) =
+abbrev pub lesser_id : ℕ → Option ℕ → Option ℕ → Option ℕ
+lesser_id from least None = least
+lesser_id from None (Some id) = if nat_lt id from then None else Some id
+lesser_id from (Some least) (Some id) =
     if nat_lt id from then Some least else (if nat_lt least id then Some least else Some id)
 
 -- the least number from a bound on that passes a test

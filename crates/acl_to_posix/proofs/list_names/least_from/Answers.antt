@@ -8,7 +8,7 @@ loop-ace-preserved c = let (next, finite, before) = c.loop-ace.invariant in (
   tt,
   tt,
   least_more (counted_id c.args.kind c.args.names.now) c.args.from _ _ _ (ace c.in-Some.ace) c.loop-ace.ace-iterator
-      c.next.new.self _ c.in-Some.ensures.steps.0 c.counted_id.ensures c.lesser-least.ensures before,
+      c.next.new.self _ c.in-Some.ensures.steps.0 c.counted_id.ensures c.lesser_id-least.ensures before,
 )
 
 pub returns : goal.returns
