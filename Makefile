@@ -40,7 +40,8 @@ run:
 
 ## quick CRATE=NAME   formats a crate, proves it and its tests, and tries its must-fail edits
 quick:
-	cd crates/$(CRATE) && rt fmt && rt test && ../../tests/edits $(CRATE)
+	for tests in crates/$(CRATE) $(wildcard crates/$(CRATE)_tests); do (cd $$tests && rt fmt && rt test) || exit 1; done
+	tests/edits $(CRATE)
 
 ## test               installs what tests use, where it can, runs every proof and test, and counts what passed
 test:

@@ -21,7 +21,8 @@ def words_of(text):
 
 
 def crates():
-    return [line.partition(":")[0].split()[0] for line in lines_of(TOP / "crates.txt") if not line.startswith("#")]
+    names = [line.partition(":")[0].split()[0] for line in lines_of(TOP / "crates.txt") if not line.startswith("#")]
+    return [name for name in names if not name.endswith("_tests")]
 
 
 def sources_of(crate):

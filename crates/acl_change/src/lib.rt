@@ -4,8 +4,6 @@
 pub mod laws;
 mod mode_change;
 mod resolving;
-#[cfg(test)]
-mod tests;
 mod up_to_three;
 
 pub use mode_change::{ChmodFault, chmod};

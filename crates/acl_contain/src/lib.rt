@@ -7,8 +7,6 @@ mod holder_lines;
 mod implying;
 pub mod laws;
 mod needed_rights;
-#[cfg(test)]
-mod tests;
 
 pub use equal_grants::{same, same_views};
 pub use exceeding::{excess, excess_of_views};

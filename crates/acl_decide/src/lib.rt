@@ -5,8 +5,6 @@ mod deciding;
 mod deciding_all;
 pub mod laws;
 mod requesting;
-#[cfg(test)]
-mod tests;
 mod unknown;
 
 pub use deciding::{Decision, deciding_ace};

@@ -3,10 +3,6 @@
 #![tactic(auto)]
 
 mod bridging;
-#[cfg(test)]
-mod decide;
-#[cfg(test)]
-mod example;
 mod grant;
 mod granting;
 mod groups;
@@ -17,11 +13,7 @@ mod mode;
 mod permissions;
 mod situation;
 mod sorted_requester;
-#[cfg(test)]
-mod speed;
 mod standing;
-#[cfg(test)]
-mod tests;
 
 pub use bridging::{BridgeFault, bridge};
 pub use grant::{grants, grants_for_many_groups};

@@ -26,8 +26,6 @@ mod posix_text;
 pub mod posix_text_laws;
 mod reading;
 mod style;
-#[cfg(test)]
-mod tests;
 mod text_form;
 mod tools;
 mod who_field;

@@ -2,7 +2,5 @@
 #![tactic(auto)]
 
 mod id_names;
-#[cfg(test)]
-mod tests;
 
 pub use id_names::{IdsFault, first_unknown, group_id, principal_id, user_id};

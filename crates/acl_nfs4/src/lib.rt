@@ -9,10 +9,6 @@ mod limits;
 mod list;
 mod names;
 mod plain_ascii;
-#[cfg(test)]
-mod speed;
-#[cfg(test)]
-mod tests;
 mod text;
 mod who;
 mod xdr;

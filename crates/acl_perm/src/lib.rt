@@ -23,8 +23,6 @@ mod profile;
 mod right;
 mod right_names;
 mod rights;
-#[cfg(test)]
-mod tests;
 mod whole;
 
 pub use counted::Counted;

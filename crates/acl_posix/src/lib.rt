@@ -60,8 +60,3 @@ pub use tag::Tag;
 pub use text_fault::{Cause, Part, TextFault};
 pub use view::EntriesView;
 pub use view_fault::ViewFault;
-
-#[cfg(test)]
-mod speed;
-#[cfg(test)]
-mod tests;

@@ -7,10 +7,6 @@ mod keyed;
 mod prepared_ace;
 mod prepared_ids;
 mod preparing;
-#[cfg(test)]
-mod speed;
-#[cfg(test)]
-mod tests;
 
 pub use id_request::{IdObject, IdRequester};
 pub use prepared_ids::{PreparedIds, prepare_ids};

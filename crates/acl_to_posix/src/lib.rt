@@ -13,8 +13,6 @@ mod posix_shape;
 mod pruning;
 pub mod pruning_laws;
 mod tag_column;
-#[cfg(test)]
-mod tests;
 
 pub use list_names::{NamedIds, named_ids};
 pub use losing::{LostGrant, lost_grant};

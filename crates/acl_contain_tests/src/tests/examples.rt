@@ -1,0 +1,64 @@
+//! The examples of the doc comments. The lines of each example are in one of these tests, in their order. The expected
+//! values are worked by hand: what a list grants from RFC 8881, section 6.2.1, and the words of its holders from
+//! docs/reference/lists.md.
+
+use acl_contain::*;
+use acl_nfs4::parse_text;
+use acl_perm::{Mask, Right};
+use std::test::Fail;
+
+mod ample {
+    use super::*;
+
+    #[test]
+    fn a_deny_of_a_user_whom_no_ace_allows_changes_nothing(rt: HostRuntime) -> Result<(), Fail> {
+        let alloc = rt.alloc();
+        let first = parse_text(alloc, b"DENY - WRITE_DATA bob\nALLOW - READ_DATA OWNER@\n")?;
+        let second = parse_text(alloc, b"ALLOW - READ_DATA OWNER@\n")?;
+        assert!(rt; same(alloc, &first, &second)?);
+        Ok(())
+    }
+
+    #[test]
+    fn a_list_without_the_deny_of_bob_grants_him_more(rt: HostRuntime) -> Result<(), Fail> {
+        let alloc = rt.alloc();
+        let policy = parse_text(
+            alloc,
+            b"DENY - WRITE_DATA bob\nALLOW - READ_DATA|WRITE_DATA EVERYONE@\n",
+        )?;
+        let list = parse_text(alloc, b"ALLOW - READ_DATA|WRITE_DATA EVERYONE@\n")?;
+        let more = excess(alloc, &list, &policy)?.ok_or("the list grants no more")?;
+        assert!(rt; more.user.as_slice() == b"bob".as_slice() && more.bit == Mask::WRITE_DATA);
+        assert!(rt; excess(alloc, &policy, &list)?.is_none());
+        Ok(())
+    }
+
+    #[test]
+    fn bob_may_write_and_may_not_read(rt: HostRuntime) -> Result<(), Fail> {
+        let alloc = rt.alloc();
+        let list = parse_text(
+            alloc,
+            b"ALLOW - WRITE_DATA bob\nALLOW - READ_DATA|WRITE_DATA OWNER@\n",
+        )?;
+        let write = Right::new(1).ok_or("1 is the number of WRITE_DATA")?;
+        let missing = implies(alloc, &list, write, Mask::READ_DATA)?.ok_or(
+            "whoever may write may read",
+        )?;
+        assert!(rt; missing.user.as_slice() == b"bob".as_slice() && missing.bit == Mask::READ_DATA);
+        Ok(())
+    }
+
+    #[test]
+    fn everybody_but_temps_may_read_and_amy_in_any_case(rt: HostRuntime) -> Result<(), Fail> {
+        let alloc = rt.alloc();
+        let list = parse_text(
+            alloc,
+            b"ALLOW - READ_DATA amy\nDENY GROUP READ_DATA temps\nALLOW - READ_DATA EVERYONE@\n",
+        )?;
+        let text = holders(alloc, &list, Mask::READ_DATA)?;
+        assert!(rt;
+            text.as_slice() == b"everybody\nbut not group temps\nbut user amy\n".as_slice()
+        );
+        Ok(())
+    }
+}

@@ -1,0 +1,163 @@
+//! POSIX ACLs of lists. The lists and the ACLs of the rows are from `formal/to_posix.jsonl`, where another program made
+//! them by enumeration of the situations of their names.
+
+use super::harness::{kept, passes};
+use super::shapes::acl_of;
+use acl_nfs4::{PushFault, parse_text};
+use acl_posix::Names;
+use acl_to_posix::{ShapeFault, ToPosix, to_posix};
+use std::alloc::Global;
+use std::process::Abort;
+
+// A DENY of a user that nothing needs: the NFS server of Linux keeps an empty entry for the user.
+const NEEDLESS: &[u8] = b"ALLOW - READ_DATA OWNER@
+ALLOW - READ_DATA GROUP@
+DENY - READ_DATA 1001
+";
+
+// All four names go: the entries of the users have nothing that others lack.
+const ALL_GO: &[u8] = b"DENY GROUP READ_DATA|WRITE_DATA|APPEND_DATA|EXECUTE 2002
+ALLOW - READ_DATA|WRITE_DATA|APPEND_DATA|EXECUTE 1002
+DENY - WRITE_DATA|APPEND_DATA 1002
+ALLOW GROUP APPEND_DATA 2001
+ALLOW - READ_DATA|EXECUTE 1001
+ALLOW - WRITE_DATA|APPEND_DATA 1001
+";
+
+// Three names go: everyone has what they have.
+const EVERYONE_HAS_ALL: &[u8] = b"ALLOW - EXECUTE EVERYONE@
+ALLOW GROUP READ_DATA 2002
+ALLOW - WRITE_DATA|APPEND_DATA|EXECUTE 1002
+ALLOW - READ_DATA|WRITE_DATA|APPEND_DATA|EXECUTE OWNER@
+ALLOW - READ_DATA|WRITE_DATA|APPEND_DATA|EXECUTE EVERYONE@
+ALLOW GROUP WRITE_DATA 2001
+";
+
+// A group stays that has more than others, and the two users and the other group go.
+const A_GROUP_STAYS: &[u8] = b"ALLOW GROUP WRITE_DATA|APPEND_DATA|EXECUTE 2001
+ALLOW - WRITE_DATA 1001
+DENY - WRITE_DATA|APPEND_DATA GROUP@
+DENY GROUP READ_DATA 2002
+ALLOW - READ_DATA 1002
+";
+
+// The group 2002 stays, since others would lose write without it: its members are denied WRITE_DATA.
+const OTHERS_WOULD_LOSE: &[u8] = b"DENY GROUP WRITE_DATA 2002
+DENY GROUP WRITE_DATA 2002
+ALLOW - READ_DATA|WRITE_DATA|APPEND_DATA EVERYONE@
+ALLOW - WRITE_DATA|APPEND_DATA|EXECUTE 1001
+ALLOW GROUP READ_DATA 2001
+";
+
+// A user with an empty entry stays, since the group 2002 would lose write without it.
+const A_GROUP_WOULD_LOSE: &[u8] = b"ALLOW GROUP WRITE_DATA 2001
+DENY - WRITE_DATA|APPEND_DATA OWNER@
+DENY - APPEND_DATA 1001
+ALLOW GROUP WRITE_DATA|APPEND_DATA|EXECUTE 2002
+DENY - READ_DATA GROUP@
+";
+
+// A list, its ACL, and whether the two agree in every situation of their names.
+static ROWS: [(&[u8], &[u8], bool); 6] = [
+    (NEEDLESS, b"u::r--,g::r--,o::---", true),
+    (ALL_GO, b"u::---,g::---,o::---", false),
+    (EVERYONE_HAS_ALL, b"u::rwx,g::rwx,o::rwx", true),
+    (
+        A_GROUP_STAYS,
+        b"u::---,g::---,g:2001:-wx,m::-wx,o::---",
+        false,
+    ),
+    (
+        OTHERS_WOULD_LOSE,
+        b"u::r--,u:1001:r-x,g::r--,g:2002:r--,m::r-x,o::rw-",
+        false,
+    ),
+    (
+        A_GROUP_WOULD_LOSE,
+        b"u::---,u:1001:---,g::---,g:2002:-wx,m::-wx,o::---",
+        false,
+    ),
+];
+
+fn converted(alloc: Global, list: &[u8], most: u16) -> Result<ToPosix, ShapeFault> {
+    let names = Names::new(alloc);
+    match parse_text(alloc, list) {
+        Ok(list) => to_posix(alloc, &list.view(), &names, most),
+        Err(_) => Err(ShapeFault::Memory),
+    }
+}
+
+fn is_made(alloc: Global, list: &[u8], text: &[u8], exact: bool) -> Result<bool, PushFault> {
+    let wanted = acl_of(alloc, text)?;
+    let made = kept(converted(alloc, list, 4))?;
+    Ok(made.acl == wanted && made.exact() == exact)
+}
+
+/// Checks that each list has the ACL of its row.
+pub fn check_conversions(rt: &impl Abort, alloc: Global) -> Result<(), PushFault> {
+    for (list, text, exact) in ROWS {
+        assert!(rt; is_made(alloc, list, text, exact)?);
+    }
+    Ok(())
+}
+
+#[test]
+fn each_list_has_the_posix_acl_of_its_row(rt: HostRuntime) {
+    assert!(rt; passes(check_conversions(&rt, rt.alloc())));
+}
+
+#[test]
+fn an_unknown_name_and_too_many_names_are_refused(rt: HostRuntime) {
+    let alloc = rt.alloc();
+    let unnamed = converted(alloc, b"ALLOW - READ_DATA 7\nDENY GROUP READ_DATA staff", 0);
+    assert!(rt; matches!(&unnamed, Err(ShapeFault::NoId(1) | ShapeFault::Memory)));
+    let large = converted(alloc, ALL_GO, 3);
+    assert!(rt; matches!(&large, Err(ShapeFault::TooManyNames | ShapeFault::Memory)));
+}
+
+mod ample {
+    use super::*;
+    use acl_posix::Id;
+    use acl_to_posix::to_posix_for;
+    use std::test::Fail;
+
+    // A user and a group of one id are two names. ACEs without a right of a permission, for new objects, or of a name
+    // that another ACE has, count no name.
+    const THREE_NAMES: &[u8] = b"ALLOW - READ_DATA 7
+ALLOW - READ_DATA EVERYONE@
+DENY GROUP READ_DATA 7
+ALLOW - EXECUTE 7
+DENY - DELETE 5
+ALLOW INHERITONLY READ_DATA 1
+ALLOW GROUP WRITE_DATA 9
+DENY GROUP EXECUTE 9
+";
+
+    // A list, and how many users and groups it names.
+    const COUNTS: [(&[u8], u16); 4] = [(b"", 0), (NEEDLESS, 1), (THREE_NAMES, 3), (ALL_GO, 4)];
+
+    fn is_made_for(alloc: Global, list: &[u8], most: u16) -> Result<bool, Fail> {
+        let (list, names) = (parse_text(alloc, list)?, Names::new(alloc));
+        let id = Id::new(7).ok_or("7 is an id")?;
+        match to_posix_for(alloc, &list.view(), &names, id, id, most) {
+            Ok(_) => Ok(true),
+            Err(ShapeFault::TooManyNames) => Ok(false),
+            Err(_) => Err("another fault".into()),
+        }
+    }
+
+    #[test]
+    fn a_list_has_an_acl_if_its_names_are_within_the_bound(rt: HostRuntime) -> Result<(), Fail> {
+        let alloc = rt.alloc();
+        for (list, count) in COUNTS {
+            assert!(rt; converted(alloc, list, count).is_ok());
+            assert!(rt; is_made_for(alloc, list, count)?);
+            if count > 0 {
+                let refused = converted(alloc, list, count.saturating_sub(1));
+                assert!(rt; matches!(&refused, Err(ShapeFault::TooManyNames)));
+                assert!(rt; !is_made_for(alloc, list, count.saturating_sub(1))?);
+            }
+        }
+        Ok(())
+    }
+}
