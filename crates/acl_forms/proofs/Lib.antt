@@ -42,5 +42,3 @@ pub mod PosixAgain
 pub mod StarEntries
 pub mod PosixTextsAgain
 pub mod FormsAgain
-pub mod IdTables
-pub mod IdLists

@@ -21,6 +21,5 @@ pub mod NfsWritten
 pub mod PosixNames
 pub mod PosixWritten
 pub mod Forms
-pub mod Ids
 pub mod PartTexts
 pub mod PartForms

@@ -22,7 +22,5 @@ pub mod PosixReading
 pub mod PosixWriting
 -- the names of ids in the maps of the code
 pub mod NamesOfIds
--- the rows of a table of names and ids
-pub mod IdEntries
 -- how a text of entries is written
 pub mod TextWriting

@@ -3,7 +3,6 @@ ghost use Rattle.std.specs.Prelude.{◌≡◌, ◌⊎◌, ℕ, IfErr, List};
 ghost use Rattle.acl_nfs4.specs.Ace.{Ace};
 ghost use Rattle.acl_forms.specs.FormWrites.{WritesIfHeld};
 ghost use Rattle.acl_forms.specs.Forms.{IsFormFaultAt, SpellsForm, form_bytes, form_fault, is_text};
-ghost use Rattle.acl_forms.specs.Ids.{has_ids};
 ghost use Rattle.acl_forms.specs.ReadFaults.{no_memory_left};
 ghost use Rattle.acl_forms.specs.Words.{IfForm, ReadsForm, RefusesForm};
 ghost use Rattle.acl_forms.specs.declared.fault.ReadFault.{ReadFault};
@@ -48,13 +47,6 @@ impl Form {
         ensures { result ≡ is_text self }
     {
         matches!(self, Form::NfsTools(_) | Form::NfsText(_, _))
-    }
-
-    /// Returns whether users and groups of a value in the form are ids.
-    pub(crate) fn has_ids(self) -> bool
-        ensures { result ≡ has_ids self }
-    {
-        matches!(self, Form::NfsText(WhoField::Id, _) | Form::NfsAcl41Ids)
     }
 }
 

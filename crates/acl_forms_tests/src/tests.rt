@@ -6,7 +6,6 @@ mod acl41_ids;
 mod attributes;
 mod examples;
 mod form;
-mod ids;
 mod nfs_text;
 mod part;
 mod posix_text;

@@ -221,24 +221,6 @@ mod ample {
     }
 
     #[test]
-    fn ids_give_names_for_the_ids_of_a_value(rt: HostRuntime) -> Result<(), Fail> {
-        let alloc = rt.alloc();
-        let mut ids = Ids::new(alloc);
-        let id = Id { value: 1001 };
-        ids.add(IdName {
-            name: b"bob",
-            id,
-            is_group: false,
-        })?;
-        let bytes = b"\0\0\0\0\0\0\0\x01\0\0\0\0\0\0\0\0\0\0\0\0\0\0\0\x01\0\0\x03\xe9";
-        let (_, list) = ids.read(alloc, Form::NfsAcl41Ids, bytes)?;
-        for ace in list.aces() {
-            assert!(rt; ace.principal() == Principal::User(b"bob"));
-        }
-        Ok(())
-    }
-
-    #[test]
     fn write_nfs_text_writes_a_style(rt: HostRuntime) -> Result<(), Fail> {
         let alloc = rt.alloc();
         let text = b"owner@:r-w:f:allow,user:1001:::deny";

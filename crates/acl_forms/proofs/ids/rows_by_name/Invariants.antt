@@ -1,8 +1,0 @@
-use Rattle.std.proofs.Common.{◌≡◌, map, take}
-use Rattle.acl_forms.specs.Ids.{ids_for_names}
-use Rattle.acl_forms.specs.internal.IdEntries.{name_row, table_of}
-use Rattle.acl_forms.proofs.ids.rows_by_name.Given as goal
-
--- the rows so far
-abbrev pub invariant-loop-entry : goal.invariant-loop-entry
-invariant-loop-entry l = map name_row l.all.items ≡ ids_for_names (table_of (take l.entry-index l.entries))
