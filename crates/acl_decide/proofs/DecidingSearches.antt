@@ -1,14 +1,13 @@
 -- The search for the ACE that decides: what it finds is the ACE of the contract.
-use Rattle.std.proofs.Common.{◌≡◌, ℕ, ◌+◌, Bool, true, false, List, [], ◌∷◌, refl, sym, ap, ◌∙◌}
+use Rattle.std.proofs.Common.{◌≡◌, ℕ, ◌+◌, Bool, true, false, List, [], ◌∷◌, refl, sym, ◌∙◌}
 use Rattle.std.specs.Prelude.{option_map}
 use Rattle.std.specs.List.{find, position_from}
 use Rattle.std.proofs.lemmas.Iterator.Adapters.{position_from-zero}
 use Rattle.acl_perm.specs.Situation.{Situation}
 use Rattle.acl_nfs4.specs.Ace.{Ace}
 use Rattle.acl_eval.specs.Deciding.{decides, deciding_kind, deciding_place}
-use Rattle.acl_decide.specs.internal.DecidingBody.{decision_from, found_in}
+use Rattle.acl_decide.specs.internal.DecidingBody.{decision_from}
 use Rattle.acl_decide.specs.declared.deciding.Decision.{Decision}
-use Rattle.acl_decide.specs.declared.deciding_all.DecidedSoFar.{DecidedSoFar}
 
 -- the search that begins at a place gives the place of the first ACE that passes the test
 place_from : (i : ℕ) (test : Ace → Bool) (list : List Ace)
@@ -47,13 +46,3 @@ pub kind_is : (list : List Ace) (s : Situation) (bit : ℕ)
 kind_is list s bit = kind_from 0 (decides s bit) list
 
 pub ruleset decisions = (place_is, kind_is)
-
--- what decides a bit is the same before an ACE is read and after it
-pub found_more : (s : Situation) (old new : DecidedSoFar) (place count more : ℕ) (a : Ace) (list rest : List Ace)
-    (bit : ℕ) → list ≡ a ∷ rest → place ≡ count → more ≡ count + 1
-    → found_in s new (place + 1) rest bit ≡ found_in s old place (a ∷ rest) bit
-    → found_in s new more rest bit ≡ found_in s old count list bit
-found_more s old new place count more a list rest bit next at step found =
-    ap (λ (n : ℕ). found_in s new n rest bit) (step ∙ ap (λ (n : ℕ). n + 1) (sym at)) ∙ found
-    ∙ ap (λ (n : ℕ). found_in s old n (a ∷ rest) bit) at
-    ∙ ap (λ (xs : List Ace). found_in s old count xs bit) (sym next)

@@ -1,5 +1,4 @@
 pub mod DecidingSearches
-pub mod Noted
 pub mod Unknowns
 pub mod UnknownMasks
 pub mod Assignments

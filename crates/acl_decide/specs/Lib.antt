@@ -1,4 +1,3 @@
-pub mod Decisions
 pub mod Unknown
 pub mod Memberships
 pub mod internal

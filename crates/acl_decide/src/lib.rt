@@ -2,12 +2,10 @@
 #![tactic(auto)]
 
 mod deciding;
-mod deciding_all;
 pub mod laws;
 mod requesting;
 mod unknown;
 
 pub use deciding::{Decision, deciding_ace};
-pub use deciding_all::{Decisions, deciding_aces};
 pub use requesting::{RequestAnswer, request_answer};
 pub use unknown::{DecidedWithUnknown, decided_with_unknown};

@@ -55,19 +55,12 @@ static DECISIONS: [(&str, &[u8], &[&[u8]], usize, Option<(usize, Kind)>); 11] = 
     (LONG_NAMES, b"y-long-name@a", &[], 0, Some((1, Kind::Allow))),
 ];
 
-// Returns the answers of `deciding_ace` and of `deciding_aces` for one right.
-fn decisions_of(
-    list: &Acl,
-    user: &[u8],
-    groups: &[&[u8]],
-    bit: usize,
-) -> Option<[Option<Decision>; 2]> {
+// Returns the answer of `deciding_ace`, or `None` if a name is empty or the bit is that of no right.
+fn decision_of(list: &Acl, user: &[u8], groups: &[&[u8]], bit: usize) -> Option<Option<Decision>> {
     let object = Object::new(b"bob", b"staff")?;
     let requester = Requester::new(user, groups)?;
     let right = Right::new(bit)?;
-    let alone = deciding_ace(list.aces(), &object, &requester, right);
-    let among_all = deciding_aces(list.aces(), &object, &requester).of(right);
-    Some([alone, among_all])
+    Some(deciding_ace(list.aces(), &object, &requester, right))
 }
 
 mod ample {
@@ -80,8 +73,8 @@ mod ample {
         for (text, user, groups, bit, decider) in DECISIONS {
             let list = parse_text(rt.alloc(), text.as_bytes())?;
             let decision = decider.map(|(place, kind)| Decision { place, kind });
-            let answers = decisions_of(&list, user, groups, bit);
-            assert!(rt; answers == Some([decision, decision]), "{text}, bit {bit}");
+            let answer = decision_of(&list, user, groups, bit);
+            assert!(rt; answer == Some(decision), "{text}, bit {bit}");
         }
         Ok(())
     }
