@@ -11,7 +11,6 @@ pub mod RealMatchings
 pub mod PosixOfLists
 pub mod losses
 pub mod prunings
-pub mod owners
 pub mod shapes
 pub mod columns
 pub mod no_greatest

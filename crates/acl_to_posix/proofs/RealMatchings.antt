@@ -155,7 +155,7 @@ abbrev pub column_of : List Ace → Column
 column_of list = map (λ a. (principal_of a, a.kind)) list
 
 -- a list grants the same bits under matchings that agree on its ids
-pub agree_bit : (ns : List ℕ) (m n : Matching) (list : List Ace) (bit : ℕ) → Agree ns m n
+agree_bit : (ns : List ℕ) (m n : Matching) (list : List Ace) (bit : ℕ) → Agree ns m n
     → ((id : ℕ) → is_member id (list_ids list) ≡ true → is_member id ns ≡ true)
     → tags_grant list m bit ≡ tags_grant list n bit
 agree_bit ns m n [] bit a w = refl
@@ -200,7 +200,7 @@ filter_member p (x ∷ xs) n = by (filter_member p xs n) (p x) (x == n) refl ref
     by rest false false e same = rw same rest
 
 -- the groups that match, after the owning group if it matches
-abbrev pub groups_with : Bool → ℕ → List ℕ → List ℕ
+abbrev groups_with : Bool → ℕ → List ℕ → List ℕ
 groups_with true own groups = own ∷ groups
 groups_with false own groups = groups
 
@@ -216,19 +216,19 @@ filter_ids m (x ∷ xs) ok = by (filter_ids m xs ok) (m (tag.group x)) refl
     by rest false e = rest
 
 -- groups that are ids still are with the owning group, if it is an id
-pub with_ids_too : (b : Bool) (own : ℕ) (groups : List ℕ) → IsId own → AllByRecursion IsId groups
+with_ids_too : (b : Bool) (own : ℕ) (groups : List ℕ) → IsId own → AllByRecursion IsId groups
     → AllByRecursion IsId (groups_with b own groups)
 with_ids_too true own groups is rest = (is, rest)
 with_ids_too false own groups is rest = rest
 
 -- the owning group is among them if it matches
-pub own_with : (b : Bool) (own : ℕ) (groups : List ℕ) → is_member own groups ≡ false
+own_with : (b : Bool) (own : ℕ) (groups : List ℕ) → is_member own groups ≡ false
     → is_member own (groups_with b own groups) ≡ b
 own_with true own groups lacks = ap (λ (c : Bool). c || is_member own groups) (eq-eqb own own refl)
 own_with false own groups lacks = lacks
 
 -- any other group is among them if it was
-pub other_with : (b : Bool) (own id : ℕ) (groups : List ℕ) → (own == id) ≡ false
+other_with : (b : Bool) (own id : ℕ) (groups : List ℕ) → (own == id) ≡ false
     → is_member id (groups_with b own groups) ≡ is_member id groups
 other_with true own id groups differ = ap (λ (c : Bool). c || is_member id groups) differ
 other_with false own id groups differ = refl

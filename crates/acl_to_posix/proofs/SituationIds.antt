@@ -34,7 +34,7 @@ entry_id shape mask h there = tt
 entry_id shape other h there = tt
 
 -- so does the tag of a key
-pub IsTag-key : (t : Tag) (keys : List TagKey) → has_tag t (keys_of keys) ≡ true → IsTag t
+IsTag-key : (t : Tag) (keys : List TagKey) → has_tag t (keys_of keys) ≡ true → IsTag t
 IsTag-key t [] h = absurd cc
 IsTag-key t (k ∷ keys) h = by (IsTag-key t keys) (eq_by_cmp tag_cmp t (tag_of k.whom)) refl h
   where

@@ -4,6 +4,5 @@ pub mod Pruning
 pub mod PruningLaws
 pub mod ListNames
 pub mod PosixOfList
-pub mod PosixForOwner
 pub mod LostGrants
 pub mod internal

@@ -4,8 +4,6 @@
 pub mod ShapeBody
 -- how users and groups are taken out of the shape of a POSIX ACL
 pub mod PruningBody
--- how the keys of a list are read for a known owner and owning group
-pub mod OwnerBody
 -- how the ids that a list names are collected up to a bound
 pub mod ListNamesBody
 -- how a lost grant is searched

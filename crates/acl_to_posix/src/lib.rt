@@ -3,11 +3,9 @@
 #![tactic(auto)]
 
 mod judged_entry;
-mod known_owner;
 pub mod laws;
 mod list_names;
 mod losing;
-mod posix_for_owner;
 mod posix_of_list;
 mod posix_shape;
 mod pruning;
@@ -16,6 +14,5 @@ mod tag_column;
 
 pub use list_names::{NamedIds, named_ids};
 pub use losing::{LostGrant, lost_grant};
-pub use posix_for_owner::to_posix_for;
 pub use posix_of_list::{ToPosix, to_posix};
 pub use posix_shape::{PosixShape, ShapeFault, posix_of_shape};

@@ -5,6 +5,5 @@ mod bounds;
 mod examples;
 mod harness;
 mod losses;
-mod owners;
 mod pruning;
 mod shapes;

@@ -154,7 +154,7 @@ tagged_first test a aces bit rest = by (has_bit a.mask.bits bit) refl
     by false e = rw e refl
 
 -- what is decided by keys, if one more is behind them
-pub keys_more : (test : Tag → Bool) (keys : List TagKey) (key : TagKey) (rest : Bool)
+keys_more : (test : Tag → Bool) (keys : List TagKey) (key : TagKey) (rest : Bool)
     → column_decided_by test (keys_of (keys ++ key ∷ [])) rest
     ≡ column_decided_by test (keys_of keys) (if test (tag_of key.whom) then is_allow key.kind else rest)
 keys_more test [] key rest = refl
@@ -176,7 +176,7 @@ settled test t ((u, k) ∷ keys) x y has passes =
         (others (sym (ap (λ (b : Bool). b || has_tag t keys) e) ∙ has))
 
 -- an ACE with a tag that is there decides nothing more
-pub kept : (test : Tag → Bool) (t : Tag) (keys : TagColumn) (allow rest : Bool) → has_tag t keys ≡ true
+kept : (test : Tag → Bool) (t : Tag) (keys : TagColumn) (allow rest : Bool) → has_tag t keys ≡ true
     → column_decided_by test keys rest ≡ column_decided_by test keys (if test t then allow else rest)
 kept test t keys allow rest has = by (test t) refl
   where
@@ -233,7 +233,7 @@ key_kept test keys aces i bit a whole lt at there before =
     by false e = rw e refl
 
 -- a key with another tag adds no tag
-pub apart : (key : TagKey) (t : Tag) (keys : List TagKey) → has_tag t (keys_of keys) ≡ false
+apart : (key : TagKey) (t : Tag) (keys : List TagKey) → has_tag t (keys_of keys) ≡ false
     → eq_by_cmp tag_cmp (tag_of key.whom) t ≡ false → has_tag t (keys_of (keys ++ key ∷ [])) ≡ false
 apart key t [] h e = rw (eq_by_cmp-comm (tag_of key.whom) t e) refl
 apart key t (k ∷ keys) h e = both (λ g. apart key t keys g e) (eq_by_cmp tag_cmp t (tag_of k.whom)) h

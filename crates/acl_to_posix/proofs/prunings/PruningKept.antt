@@ -106,7 +106,7 @@ looks_from s object requester other l =
 -- ---- one step
 
 -- a shape without a name has few ids, too
-pub HasFewIds-taken_out : (name : Tag) (shape : EntryShape) → HasFewIds shape → HasFewIds (taken_out name shape)
+HasFewIds-taken_out : (name : Tag) (shape : EntryShape) → HasFewIds shape → HasFewIds (taken_out name shape)
 HasFewIds-taken_out name shape f =
     let p = out_part name shape in
     let less = out_size name shape in

@@ -34,7 +34,7 @@ last_within list one two t short f p names above =
     }) (pruned_singles list one two short (small_at_end list one two p.steps (is_small one f)) p)
 
 -- the ACL of a pruning is maximal, for a list that may have four ACEs more than most_aces
-pub longer_is_maximal : (list : List Ace) (one two : EntryShape) (best : Entries) → length list ≤ most_listed
+longer_is_maximal : (list : List Ace) (one two : EntryShape) (best : Entries) → length list ≤ most_listed
     → HasFewIds one → PrunesTo list one two → IsBest list two best → (acl : Entries) → IsAcl acl → IsAmong one acl
     → IsSound list acl → ((want : ℕ) → IsSingle want → GrantsNothingMoreOf best acl want) → GrantsNothingMore acl best
 longer_is_maximal list one two best short f p is acl valid among sound less =

@@ -46,7 +46,7 @@ pub is_small : (shape : EntryShape) → HasFewIds shape → IsSmall shape
 is_small shape f = record { users = f.users; groups = f.groups; few = omega (arith, f.few) }
 
 -- a small shape without a name is small
-pub out_small : (name : Tag) (shape : EntryShape) → IsSmall shape → IsSmall (taken_out name shape)
+out_small : (name : Tag) (shape : EntryShape) → IsSmall shape → IsSmall (taken_out name shape)
 out_small name shape f =
     let p = out_part name shape in
     let less = out_size name shape in
@@ -88,7 +88,7 @@ ids_of_second list s t = record {
         (is_member-append_right id s.groups (t.users ++ t.groups) h))
 
 -- all ids together are fewer than there are ids
-pub ids_few : (list : List Ace) (s t : EntryShape) → length list ≤ most_listed → IsSmall s → IsSmall t
+ids_few : (list : List Ace) (s t : EntryShape) → length list ≤ most_listed → IsSmall s → IsSmall t
     → length (all_ids list s t) < greatest_id - 1
 ids_few list s t short f g =
     let a = length-append (list_ids list) (s.users ++ (s.groups ++ (t.users ++ t.groups))) in

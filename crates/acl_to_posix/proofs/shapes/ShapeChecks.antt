@@ -277,7 +277,7 @@ best_sound list shape E best object requester asked want few allowed =
     (best.each at.entry at.there want few).0 (held E at.entry want at.holds) object requester asked at.looks
 
 -- what MASK leaves of an entry contains what the entry contains, if MASK takes nothing away
-pub mask_keeps : (o : Option ℕ) (p want : ℕ) → bit_and p (unwrap_or o p) ≡ p → contains 7 want ≡ true
+mask_keeps : (o : Option ℕ) (p want : ℕ) → bit_and p (unwrap_or o p) ≡ p → contains 7 want ≡ true
     → contains p want ≡ true → contains (unwrap_or o 7) want ≡ true
 mask_keeps None p want kept whole h = whole
 mask_keeps (Some m) p want kept whole h = (subset_test m want).1 (λ k hk.

@@ -36,19 +36,6 @@ fn a_denial_that_nothing_needs_is_left_out(rt: HostRuntime) -> Result<(), Fail> 
 }
 
 #[test]
-fn another_user_takes_nothing_away_from_a_known_owner(rt: HostRuntime) -> Result<(), Fail> {
-    let alloc = rt.alloc();
-    let list = parse_text(
-        alloc,
-        b"DENY - WRITE_DATA 1000\nALLOW - READ_DATA|WRITE_DATA|APPEND_DATA OWNER@",
-    )?;
-    let (alice, staff) = (Id::new(1001).ok_or("no id")?, Id::new(2001).ok_or("no id")?);
-    let acl = to_posix_for(alloc, &list.view(), &Names::new(alloc), alice, staff, 256)?;
-    assert!(rt; acl.get(Tag::UserObj) == Some(Perm::READ.union(Perm::WRITE)));
-    Ok(())
-}
-
-#[test]
 fn a_user_and_a_group_are_named(rt: HostRuntime) -> Result<(), Fail> {
     let alloc = rt.alloc();
     let list = parse_text(alloc, b"DENY - WRITE_DATA 1000\nALLOW GROUP READ_DATA 50")?;

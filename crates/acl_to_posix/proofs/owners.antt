@@ -1,5 +1,0 @@
-pub mod OwnerKeys
-pub mod OwnerLists
-pub mod OwnerShapes
-pub mod OwnerColumns
-pub mod OwnerEnds
