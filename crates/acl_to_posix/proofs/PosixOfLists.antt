@@ -6,10 +6,11 @@ use Rattle.acl_posix.specs.Names.{Table}
 use Rattle.acl_nfs4.specs.Ace.{Ace}
 use Rattle.acl_nfs4.specs.Limits.{most_aces}
 use Rattle.acl_ids.specs.Ids.{HaveIds, with_id, with_ids}
-use Rattle.acl_to_posix.specs.ListNames.{AreNamesOf, named_shape}
+use Rattle.acl_to_posix.specs.ListNames.{AreNamesOf}
 use Rattle.acl_to_posix.specs.PosixOfList.{GrantsDecidePosix, IsExactIfAny, IsMaximal}
 use Rattle.acl_to_posix.specs.Pruning.{PrunesTo}
 use Rattle.acl_to_posix.specs.ToPosix.{EntryShape, IsBest, size_of}
+use Rattle.acl_to_posix.specs.internal.ListNamesBody.{named_shape}
 use Rattle.acl_to_posix.specs.declared.list_names.NamedIds.{NamedIds}
 use Rattle.acl_to_posix.proofs.prunings.PruningExact.{end_agrees}
 use Rattle.acl_to_posix.proofs.prunings.PruningGrants.{grants_give_one}

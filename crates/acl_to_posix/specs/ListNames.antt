@@ -4,7 +4,7 @@ use Rattle.std.specs.Prelude.{◌≡◌, ◌≤◌, ◌<◌, ⊤, ℕ, ◌==◌,
 use Rattle.std.specs.List.{list_any}
 use Rattle.acl_perm.specs.Bits.{all_permissions}
 use Rattle.acl_perm.specs.Principal.{Principal, owner, user, group, group_named, everyone}
-use Rattle.acl_posix.specs.Check.{ids, is_member}
+use Rattle.acl_posix.specs.Check.{is_member}
 use Rattle.acl_posix.specs.Names.{Table}
 use Rattle.acl_nfs4.specs.Ace.{Ace}
 use Rattle.acl_nfs4.specs.Who.{principal_of}
@@ -12,7 +12,6 @@ use Rattle.acl_eval.specs.Bridge.{image}
 use Rattle.acl_eval.specs.Column.{takes_part}
 use Rattle.acl_ids.specs.Ids.{id_of_name}
 use Rattle.acl_to_posix.specs.ToPosix.{EntryShape, size_of}
-use Rattle.acl_to_posix.specs.declared.list_names.NamedIds.{NamedIds}
 
 -- the ACE takes part, and has a right of read, write or execute
 abbrev pub is_ace_counted : Ace → Bool
@@ -59,10 +58,6 @@ names_group table list id = list_any (λ a. is_number_of (counted_group table a)
 abbrev pub AreOnce : List ℕ → Type 0
 AreOnce [] = ⊤
 AreOnce (n ∷ numbers) = (is_member n numbers ≡ false) × AreOnce numbers
-
--- the ids that the code holds
-abbrev pub named_shape : NamedIds → EntryShape
-named_shape named = record { users = ids named.users.items; groups = ids named.groups.items }
 
 -- the shape has the users and the groups that the list names in ACEs that count, and no others, and each once
 pub record AreNamesOf (table : Table) (list : List Ace) (shape : EntryShape) : Type 0 where

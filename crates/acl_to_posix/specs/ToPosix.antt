@@ -1,25 +1,20 @@
 -- Which POSIX ACLs grant no more than an NFSv4 list (this library's own: neither RFC 8881 nor acl(5) says how to make
 -- one). The access check of acl(5), "ACCESS CHECK ALGORITHM", asks by ids, so the list is one whose names are the
 -- digits of ids.
-use Rattle.std.specs.Prelude.{◌≡◌, ◌≤◌, ◌<◌, ◌↔◌, ◌⊎◌, ℕ, ◌+◌, ◌==◌, ◌&&◌, ◌||◌, not, Bool, false, true, IsTrue, List, length, None, Some}
+use Rattle.std.specs.Prelude.{◌≡◌, ◌<◌, ◌↔◌, ◌⊎◌, ℕ, ◌+◌, ◌==◌, ◌&&◌, ◌||◌, not, Bool, false, true, IsTrue, List, length, None, Some}
 use Rattle.std.specs.List.{list_any}
 use Rattle.std.specs.FinMap as set
 use Rattle.acl_perm.specs.Bits.{IsPerm}
-use Rattle.acl_posix.specs.Check.{Object, Requester, entry_contains, grants, ids, is_member}
+use Rattle.acl_posix.specs.Check.{Object, Requester, entry_contains, grants, is_member}
 use Rattle.acl_posix.specs.Entries.{Entries}
 use Rattle.acl_posix.specs.Excess.{GrantsNothingMore}
 use Rattle.acl_posix.specs.Mask.{effective_of, with_mask}
-use Rattle.acl_posix.specs.Names.{Table}
 use Rattle.acl_posix.specs.Tag.{Tag, user_obj, user, group_obj, group, mask, other}
 use Rattle.acl_posix.specs.Texts.{IsAcl}
 use Rattle.acl_nfs4.specs.Ace.{Ace}
 use Rattle.acl_eval.specs.Bridge.{image}
 use Rattle.acl_eval.specs.BridgeLaws.{IsAsked, by_name}
 use Rattle.acl_eval.specs.Grant.{Grant}
-use Rattle.acl_ids.specs.Ids.{HaveIds, first_unknown}
-use Rattle.acl_to_posix.specs.declared.posix_shape.PosixShape.{PosixShape}
-use Rattle.acl_to_posix.specs.declared.posix_shape.ShapeFault.{ShapeFault}
-use Rattle.acl_to_posix.specs.declared.posix_shape.ShapeFault.TheVariants as faults
 
 -- ---- sound
 
@@ -36,10 +31,6 @@ IsSound list entries = (object : Object) (requester : Requester) → IsAsked obj
 pub record EntryShape : Type 0 where
   pub users : List ℕ
   pub groups : List ℕ
-
--- the ids that a shape of the code has
-abbrev pub entry_shape_of : PosixShape → EntryShape
-entry_shape_of s = record { users = ids s.users.now; groups = ids s.groups.now }
 
 -- how many entries a shape asks for, counted with repetitions
 abbrev pub size_of : EntryShape → ℕ
@@ -103,12 +94,3 @@ pub record IsBest (list : List Ace) (shape : EntryShape) (entries : Entries) : T
 abbrev pub IsGreatest : List Ace → EntryShape → Entries → Type 0
 IsGreatest list shape entries = (one : Entries) → IsAcl one → HasShape shape one → IsSound list one
     → GrantsNothingMore one entries
-
--- ---- faults
-
--- what a refusal says, in the order in which it is judged: the first ACE without an id, also one that takes no part; a
--- shape of more users and groups than the bound; or memory ran out
-abbrev pub IsShapeFault : Table → List Ace → EntryShape → ℕ → ShapeFault → Type 0
-IsShapeFault table list shape most (faults.NoId place) = first_unknown table list ≡ Some place
-IsShapeFault table list shape most faults.TooManyNames = HaveIds table list × (most < size_of shape)
-IsShapeFault table list shape most faults.Memory = HaveIds table list × (size_of shape ≤ most)

@@ -5,9 +5,9 @@ ghost use Rattle.acl_perm.specs.Bits.{has_bit};
 ghost use Rattle.acl_posix.specs.Tag.{is_named, tag_of};
 ghost use Rattle.acl_eval.specs.Permissions.{execute, read, write};
 ghost use Rattle.acl_to_posix.specs.Pruning.{is_shared};
-ghost use Rattle.acl_to_posix.specs.ToPosix.{entry_shape_of, is_in_shape, size_of};
+ghost use Rattle.acl_to_posix.specs.ToPosix.{is_in_shape, size_of};
 ghost use Rattle.acl_to_posix.specs.internal.PruningBody.{AreDecidedAt, AreDenied, IsJudged, are_before, decided_if, decided_place, denied_place, is_asked_more, is_denial, keeps_without, stands_without};
-ghost use Rattle.acl_to_posix.specs.internal.ShapeBody.{is_certain, most_names};
+ghost use Rattle.acl_to_posix.specs.internal.ShapeBody.{is_certain, most_names, entry_shape_of};
 
 use crate::posix_shape::{PosixShape, entry_perm, is_certain};
 use crate::tag_column::{Columns, TagKey, is_same};

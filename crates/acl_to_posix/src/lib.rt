@@ -12,7 +12,6 @@ mod pruning;
 pub mod pruning_laws;
 mod tag_column;
 
-pub use list_names::{NamedIds, named_ids};
 pub use losing::{LostGrant, lost_grant};
 pub use posix_of_list::{ToPosix, to_posix};
-pub use posix_shape::{PosixShape, ShapeFault, posix_of_shape};
+pub use posix_shape::ShapeFault;

@@ -2,22 +2,22 @@
 ghost use Rattle.std.specs.Prelude.{◌≡◌, ◌≤◌, ◌||◌, ℕ, IfErr, IfOk, IfSome, IsFalse, IsTrue, None, OnOk, false, length, option_map};
 ghost use Rattle.acl_nfs4.specs.Ace.{ace};
 ghost use Rattle.acl_posix.specs.Check.{ids, is_member};
-ghost use Rattle.acl_to_posix.specs.ListNames.{AreFewNames, AreMoreNames, AreNamesOf, AreOnce, counted_group, counted_user, is_ace_counted, is_number_of, named_shape};
-ghost use Rattle.acl_ids.specs.Ids.{IsIdsFault};
-ghost use Rattle.acl_to_posix.specs.ToPosix.{entry_shape_of, size_of};
-ghost use Rattle.acl_to_posix.specs.internal.ListNamesBody.{AreCounted, AreJust, AreMore, AreNamesAbove, IsIdsAbove, IsLeastFrom, IsNamesFault, counted_id, lesser_id, names_id};
+ghost use Rattle.acl_to_posix.specs.ListNames.{AreFewNames, AreMoreNames, AreNamesOf, AreOnce, counted_group, counted_user, is_ace_counted, is_number_of};
+ghost use Rattle.acl_to_posix.specs.ToPosix.{size_of};
+ghost use Rattle.acl_to_posix.specs.internal.ListNamesBody.{AreCounted, AreJust, AreMore, AreNamesAbove, IsIdsAbove, IsLeastFrom, IsNamesFault, counted_id, lesser_id, names_id, named_shape};
+ghost use Rattle.acl_to_posix.specs.internal.ShapeBody.{entry_shape_of};
 
 use crate::posix_shape::{PosixShape, ShapeFault, is_among};
 use acl_eval::internal::image;
-use acl_ids::{IdsFault, first_unknown, group_id, user_id};
+use acl_ids::{group_id, user_id};
 use acl_nfs4::{AceRef, AclView};
 use acl_perm::{Perm, Principal};
 use acl_posix::{Id, Names};
 use std::alloc::{AllocError, Global};
 
 /// The ids of users and of groups, each once.
-#[derive(Debug, Drop)]
-pub struct NamedIds {
+#[derive(Drop)]
+pub(crate) struct NamedIds {
     /// The ids of the users.
     pub users: Vec<Id>,
     /// The ids of the groups.
@@ -26,39 +26,13 @@ pub struct NamedIds {
 
 impl NamedIds {
     /// Returns the shape with an entry for each of them.
-    pub fn shape(&self) -> PosixShape<'_>
+    pub(crate) fn shape(&self) -> PosixShape<'_>
         ensures { entry_shape_of result ≡ named_shape self.now }
     {
         PosixShape {
             users: &self.users,
             groups: &self.groups,
         }
-    }
-}
-
-/// Returns the users and the groups that a list names in ACEs that take part and have READ_DATA, WRITE_DATA,
-/// APPEND_DATA or EXECUTE, in the order in which they are first named. With these as the shape, `posix_of_shape`
-/// returns an ACL that treats each of them by itself. The id of a name is that of the table, and otherwise the number
-/// whose decimal digits the name is. Fails with `UnknownName` for the first ACE with another name, also if the ACE does
-/// not count, and with `Memory` if memory runs out. Time is proportional to the number of ACEs, times the number of
-/// users and groups, besides the look-ups of names.
-///
-/// ```rust
-/// let list = parse_text(alloc, b"DENY - WRITE_DATA 1000\nALLOW GROUP READ_DATA 50")?;
-/// let named = named_ids(alloc, &list.view(), &Names::new(alloc))?;
-/// assert!(rt; named.users.len() == 1 && named.groups.len() == 1);
-/// ```
-pub fn named_ids(alloc: Global, list: &AclView<'_>, names: &Names) -> Result<NamedIds, IdsFault>
-    ensures named { IfOk result (λ named. AreNamesOf names.now list.now (named_shape named)) }
-    ensures fault { IfErr result (IsIdsFault names.now list.now) }
-{
-    if let Some(place) = first_unknown(list, names) {
-        return Err(IdsFault::UnknownName { place });
-    }
-    match names_within(alloc, list, names, usize::MAX) {
-        Ok(named) => Ok(named),
-        // No list names more: memory ran out.
-        Err(_) => Err(IdsFault::Memory),
     }
 }
 
@@ -69,7 +43,8 @@ enum IdKind {
     Group,
 }
 
-/// Returns the users and the groups that a list names in ACEs that count. Fails with `TooManyNames` if they are more
+/// Returns the users and the groups that a list names in ACEs that count, which take part and have READ_DATA,
+/// WRITE_DATA, APPEND_DATA or EXECUTE, in the order in which they are first named. Fails with `TooManyNames` if they are more
 /// than `most`, and otherwise with `Memory` if memory runs out. It stops at the first name above the bound. If memory
 /// runs out, it reads the list once more for each name up to the bound.
 pub(crate) fn bounded_names(

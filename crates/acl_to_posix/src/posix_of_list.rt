@@ -1,11 +1,12 @@
 //! The POSIX ACL of an NFSv4 list.
 ghost use Rattle.std.specs.Prelude.{◌≡◌, ◌≤◌, ◌↔◌, IfErr, IfOk, IfSome, IsTrue, None};
 ghost use Rattle.acl_ids.specs.Ids.{HaveIds, with_ids};
-ghost use Rattle.acl_to_posix.specs.ListNames.{AreFewNames, AreNamesOf, named_shape};
+ghost use Rattle.acl_to_posix.specs.ListNames.{AreFewNames, AreNamesOf};
 ghost use Rattle.acl_to_posix.specs.LostGrants.{IsExact, IsLossOf, KeepsSingles};
 ghost use Rattle.acl_to_posix.specs.PosixOfList.{IsExactIfAny, IsGreatestOfShape, IsMaximal, IsPosixOf, IsToPosixFault};
 ghost use Rattle.acl_to_posix.specs.ToPosix.{IsSound, size_of};
 ghost use Rattle.acl_to_posix.specs.internal.ShapeBody.{most_names};
+ghost use Rattle.acl_to_posix.specs.internal.ListNamesBody.{named_shape};
 ghost use Rattle.acl_to_posix.specs.declared.posix_shape.ShapeFault.TheVariants.{Memory};
 
 use crate::list_names::{NamedIds, bounded_names};
@@ -41,9 +42,11 @@ impl ToPosix {
 /// with INHERIT_ONLY do not count. The id of a name is that of the table, and otherwise the number whose decimal digits
 /// the name is.
 ///
-/// The rule starts with the users and the groups that the list names (`named_ids`), and takes out those whose entries
-/// can go without loss (`laws::entries_decide_loss`), until none can. The ACL is that of the users and the groups that
-/// are left (`posix_of_shape`). No rule grants most for every list (`laws::no_greatest`).
+/// The rule starts with the users and the groups that the list names in ACEs with one of these rights, and takes out
+/// those whose entries can go without loss (`laws::entries_decide_loss`), until none can. The ACL has entries for the
+/// users and the groups that are left: an entry has a permission if and only if the list grants its rights in every
+/// situation in which the access check of acl(5) looks at the entry, whoever owns the file. There is a MASK if and only
+/// if a user or a group is left, and it takes nothing away. No rule grants most for every list (`laws::no_greatest`).
 ///
 /// `lost` is a permission that the list grants and the ACL does not, with an object and a requester for which this is
 /// so, as `lost_grant` finds it. Without one the ACL is exact: it grants read, write and execute, each alone, exactly

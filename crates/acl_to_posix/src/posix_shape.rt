@@ -1,32 +1,29 @@
 //! The POSIX ACL that has entries for given users and groups, and grants as much of an NFSv4 list as such an ACL can.
-ghost use Rattle.std.specs.Prelude.{◌≡◌, ◌≤◌, ◌<◌, ◌↔◌, List, IfErr, IfOk, IsTrue, OnOk};
+ghost use Rattle.std.specs.Prelude.{◌≡◌, ◌≤◌, ◌<◌, ◌↔◌, List, IfOk, IsTrue, OnOk};
 ghost use Rattle.std.specs.FinMap as set;
 ghost use Rattle.acl_posix.specs.Check.{ids, is_member};
 ghost use Rattle.acl_posix.specs.Tag.{tag_of};
 ghost use Rattle.acl_posix.specs.Texts.{IsAcl};
 ghost use Rattle.acl_perm.specs.Bits.{has_bit};
 ghost use Rattle.acl_nfs4.specs.Ace.{Ace};
-ghost use Rattle.acl_ids.specs.Ids.{HaveIds, with_ids};
 ghost use Rattle.acl_eval.specs.Permissions.{execute, read, write};
-ghost use Rattle.acl_to_posix.specs.ToPosix.{IsBest, IsGreatest, IsShapeFault, IsSound, is_in_shape, entry_shape_of, size_of};
-ghost use Rattle.acl_to_posix.specs.internal.ShapeBody.{AreColumns, HasPassAnswers, HasJust, HasThree, IsEntryPut, answer, is_certain, may_match, keys_of, may_be_user, most_names, empty_shape, users_of};
+ghost use Rattle.acl_to_posix.specs.ToPosix.{IsBest, is_in_shape, size_of};
+ghost use Rattle.acl_to_posix.specs.internal.ShapeBody.{AreColumns, HasPassAnswers, HasJust, HasThree, IsEntryPut, answer, is_certain, may_match, keys_of, may_be_user, most_names, empty_shape, users_of, entry_shape_of};
 ghost use Rattle.acl_to_posix.specs.declared.posix_shape.ShapeFault.TheVariants.{Memory};
 
-use crate::tag_column::{Columns, TagKey, columns_of, is_same};
-use acl_ids::first_unknown;
-use acl_nfs4::AclView;
+use crate::tag_column::{Columns, TagKey, is_same};
 use acl_perm::{Kind, Mode, Perm};
-use acl_posix::{Id, Names, PosixAcl, Tag, laws};
+use acl_posix::{Id, PosixAcl, Tag, laws};
 use std::alloc::{AllocError, Global};
 use thiserror::Error;
 
-/// Why there is no POSIX ACL of a shape for a list.
+/// Why a list has no POSIX ACL, or why no loss is sought.
 #[derive(Clone, Copy, Debug, PartialEq, Eq, Error)]
 pub enum ShapeFault {
     /// The ACE at this place, from 0, names a user or a group that has no id.
     #[error("NoId at ACE {0}")]
     NoId(usize),
-    /// The shape has more users and groups than the given bound.
+    /// There are more users and groups than the given bound.
     #[error("TooManyNames")]
     TooManyNames,
     /// Memory ran out.
@@ -47,79 +44,18 @@ impl From<AllocError> for ShapeFault {
 
 /// The users and the groups that have an entry in a POSIX ACL, besides USER_OBJ, GROUP_OBJ and OTHER. Neither their
 /// order nor a repeated id counts.
-#[derive(Clone, Copy, Debug)]
-pub struct PosixShape<'a> {
+#[derive(Clone, Copy)]
+pub(crate) struct PosixShape<'a> {
     /// The users with a USER entry.
     pub users: &'a [Id],
     /// The groups with a GROUP entry.
     pub groups: &'a [Id],
 }
 
-/// Returns the POSIX ACL with USER and GROUP entries for these users and groups that grants as much of the list as such
-/// an ACL can, and never more than the list: read only if the list grants READ_DATA, write only if it grants WRITE_DATA
-/// and APPEND_DATA, and execute only if it grants EXECUTE. An entry has a permission if and only if the list grants its
-/// rights in every situation in which the access check of acl(5) looks at the entry, whoever owns the file. There is a
-/// MASK if and only if the shape has a user or a group, and it takes nothing away. The id of a name is that of the
-/// table, and otherwise the number whose decimal digits the name is.
-///
-/// Which users and groups have entries is the caller's choice: no choice grants most for every list
-/// (`laws::no_greatest`). `named_ids` returns those that the list names.
-///
-/// Fails with `NoId` for the first ACE whose user or group has no id, also if the ACE takes no part, then with
-/// `TooManyNames` if the shape has more than `most` users and groups, and with `Memory` if memory runs out. The time is
-/// at most proportional to the number of ACEs plus the square of the number of entries, times the number of users and
-/// groups that the list names, besides the look-ups of names.
-///
-/// ```rust
-/// let list = parse_text(alloc, b"DENY - WRITE_DATA 1000\nALLOW - READ_DATA|WRITE_DATA|APPEND_DATA EVERYONE@")?;
-/// let bob = Id::new(1000).ok_or("no id")?;
-/// let (users, groups) = (&[bob], &[]);
-/// let shape = PosixShape { users, groups };
-/// let acl = posix_of_shape(alloc, &list.view(), &shape, &Names::new(alloc), 256)?;
-/// assert!(rt; acl.get(Tag::User(bob)) == Some(Perm::READ));
-/// ```
-pub fn posix_of_shape(
-    alloc: Global,
-    list: &AclView<'_>,
-    shape: &PosixShape<'_>,
-    names: &Names,
-    most: u16,
-) -> Result<PosixAcl, ShapeFault>
-    // Whatever the ACL grants, the list grants.
-    ensures sound { IfOk result (IsSound (with_ids names.now list.now)) }
-    // No sound ACL with entries for the same users and groups grants more.
-    ensures greatest { IfOk result
-        (IsGreatest (with_ids names.now list.now) (entry_shape_of shape.now)) }
-    // What each entry has.
-    ensures entries { IfOk result
-        (IsBest (with_ids names.now list.now) (entry_shape_of shape.now)) }
-    ensures fault { IfErr result (IsShapeFault names.now list.now (entry_shape_of shape.now) most) }
-{
-    if let Some(place) = first_unknown(list, names) {
-        return Err(ShapeFault::NoId(place));
-    }
-    if !is_within(shape, most) {
-        return Err(ShapeFault::TooManyNames);
-    }
-    Ok(best_of_shape(alloc, list, shape, names)?)
-}
-
-// Returns the ACL of a shape for a list in which each name has an id. Fails only if memory runs out.
-fn best_of_shape(
-    alloc: Global,
-    list: &AclView<'_>,
-    shape: &PosixShape<'_>,
-    names: &Names,
-) -> Result<PosixAcl, AllocError>
-    requires known { HaveIds names.now list.now }
-    requires few { size_of (entry_shape_of shape.now) ≤ most_names }
-    ensures { IfOk result (IsBest (with_ids names.now list.now) (entry_shape_of shape.now)) }
-{
-    let columns = columns_of(alloc, list, names)?;
-    best_of_columns(alloc, &columns, shape)
-}
-
-/// Returns the ACL of a shape for the list of which these are the columns. Fails only if memory runs out.
+/// Returns the ACL of a shape for the list of which these are the columns. An entry has a permission if and only if the
+/// list grants its rights in every situation in which the access check of acl(5) looks at the entry, whoever owns the
+/// file. There is a MASK if and only if the shape has a user or a group, and it takes nothing away. Fails only if memory
+/// runs out. The time is at most proportional to the square of the number of entries, times the number of keys.
 pub(crate) fn best_of_columns(
     alloc: Global,
     columns: &Columns,

@@ -4,11 +4,11 @@ ghost use Rattle.std.specs.List.{find, list_all};
 ghost use Rattle.std.specs.Option.{option_copied};
 ghost use Rattle.acl_nfs4.specs.Ace.{Ace};
 ghost use Rattle.acl_posix.specs.Check.{ids};
-ghost use Rattle.acl_to_posix.specs.ListNames.{named_shape};
+ghost use Rattle.acl_to_posix.specs.internal.ListNamesBody.{named_shape};
 ghost use Rattle.acl_to_posix.specs.Pruning.{PrunesTo};
-ghost use Rattle.acl_to_posix.specs.ToPosix.{entry_shape_of, size_of};
+ghost use Rattle.acl_to_posix.specs.ToPosix.{size_of};
 ghost use Rattle.acl_to_posix.specs.internal.PruningBody.{AreAllJudged, AreJudged, AreJudgedFor, AreUsersJudged, can_go, groups_left, shape_left, stands_without, users_left};
-ghost use Rattle.acl_to_posix.specs.internal.ShapeBody.{AreColumns, empty_shape, most_names};
+ghost use Rattle.acl_to_posix.specs.internal.ShapeBody.{AreColumns, empty_shape, most_names, entry_shape_of};
 ghost use Rattle.acl_to_posix.specs.declared.tag_column.Columns.{Columns as Keys};
 
 use crate::judged_entry::{JudgedEntry, is_named, judged, stands_without};

@@ -18,7 +18,7 @@ pub fn pruning_is_maximal()
 /// alone, if any POSIX ACL does.
 pub fn pruning_is_exact()
     ensures agrees { EndAgrees }
-    // The users and groups that `named_ids` returns are all names of the list.
+    // The users and groups that the list names by the table are all names of the list.
     ensures names { NamesByTableAreAll }
 {}
 

@@ -5,5 +5,5 @@ mod bounds;
 mod examples;
 mod harness;
 mod losses;
+mod names;
 mod pruning;
-mod shapes;

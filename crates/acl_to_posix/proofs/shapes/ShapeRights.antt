@@ -11,12 +11,12 @@ use Rattle.acl_posix.specs.Id.{IsId}
 use Rattle.acl_posix.specs.Tag.{Tag}
 use Rattle.acl_posix.specs.declared.id.Id.{Id}
 use Rattle.acl_nfs4.specs.Ace.{Ace}
-use Rattle.acl_to_posix.specs.ToPosix.{EntryShape, is_in_shape, entry_shape_of, size_of}
+use Rattle.acl_to_posix.specs.ToPosix.{EntryShape, is_in_shape, size_of}
 use Rattle.acl_to_posix.specs.declared.posix_shape.PosixShape.{PosixShape}
-use Rattle.acl_to_posix.specs.internal.ShapeBody.{AreColumns, HasJust, answer, most_names}
+use Rattle.acl_to_posix.specs.internal.ShapeBody.{AreColumns, HasJust, answer, most_names, entry_shape_of}
 use Rattle.acl_to_posix.specs.declared.tag_column.Columns.{Columns}
 use Rattle.acl_to_posix.specs.declared.tag_column.TagKey.{TagKey}
-use Rattle.acl_to_posix.specs.ListNames.{named_shape}
+use Rattle.acl_to_posix.specs.internal.ListNamesBody.{named_shape}
 use Rattle.acl_to_posix.specs.PruningLaws.{HasFewIds}
 use Rattle.acl_to_posix.specs.declared.list_names.NamedIds.{NamedIds}
 use Rattle.acl_to_posix.proofs.SituationIds.{HasIds}

@@ -1,14 +1,20 @@
 -- How the ids that a list names are collected, or counted, up to a bound. This library's own.
 use Rattle.std.specs.Prelude.{◌≡◌, ◌≤◌, ◌<◌, ⊤, ℕ, nat_lt, Bool, false, true, if◌then◌else◌, List, Option, None, Some, length}
 use Rattle.std.specs.List.{list_any}
-use Rattle.acl_posix.specs.Check.{is_member}
+use Rattle.acl_posix.specs.Check.{ids, is_member}
 use Rattle.acl_posix.specs.Names.{Table}
 use Rattle.acl_nfs4.specs.Ace.{Ace}
 use Rattle.acl_to_posix.specs.ListNames.{AreFewNames, AreMoreNames, AreOnce, counted_group, counted_user, is_number_of}
+use Rattle.acl_to_posix.specs.ToPosix.{EntryShape}
 use Rattle.acl_to_posix.specs.declared.list_names.IdKind.{IdKind}
 use Rattle.acl_to_posix.specs.declared.list_names.IdKind.TheVariants as kinds
+use Rattle.acl_to_posix.specs.declared.list_names.NamedIds.{NamedIds}
 use Rattle.acl_to_posix.specs.declared.posix_shape.ShapeFault.{ShapeFault}
 use Rattle.acl_to_posix.specs.declared.posix_shape.ShapeFault.TheVariants as faults
+
+-- the ids that the code holds
+abbrev pub named_shape : NamedIds → EntryShape
+named_shape named = record { users = ids named.users.items; groups = ids named.groups.items }
 
 -- ---- ids of one kind
 

@@ -8,7 +8,7 @@ use Rattle.acl_perm.specs.Bits.{IsPerm, has_bit}
 use Rattle.acl_perm.specs.Kind.{is_allow}
 use Rattle.acl_perm.specs.Principal.{Principal, owner, user, group, group_named, everyone}
 use Rattle.acl_perm.specs.declared.kind.Kind.{Kind}
-use Rattle.acl_posix.specs.Check.{Object, Requester, contains, is_member}
+use Rattle.acl_posix.specs.Check.{Object, Requester, contains, ids, is_member}
 use Rattle.acl_posix.specs.Entries.{Entries}
 use Rattle.acl_posix.specs.Names.{Table}
 use Rattle.acl_posix.specs.Tag as tag
@@ -20,9 +20,16 @@ use Rattle.acl_eval.specs.Grant.{grants_bit}
 use Rattle.acl_ids.specs.Ids.{id_of_name}
 use Rattle.acl_eval.specs.Permissions.{append_data, execute, execute_right, read, read_data, write, write_data}
 use Rattle.acl_to_posix.specs.ToPosix.{AlwaysHas, EntryShape, is_in_shape}
+use Rattle.acl_to_posix.specs.declared.posix_shape.PosixShape.{PosixShape}
 use Rattle.acl_to_posix.specs.declared.tag_column.Columns.{Columns}
 use Rattle.acl_to_posix.specs.declared.tag_column.TagKey.{TagKey}
 use Rattle.acl_to_posix.specs.declared.tag_column.TaggedAce.{TaggedAce}
+
+-- ---- the users and the groups that have entries
+
+-- the ids that a shape of the code has
+abbrev pub entry_shape_of : PosixShape → EntryShape
+entry_shape_of s = record { users = ids s.users.now; groups = ids s.groups.now }
 
 -- ---- tags of principals
 

@@ -1,7 +1,7 @@
 use Rattle.std.proofs.Common.{◌≡◌, ◌+◌, arith, length}
 use Rattle.std.specs.FinMap as set
 use Rattle.acl_nfs4.proofs.Exits.{exit_is}
-use Rattle.acl_to_posix.specs.ListNames.{named_shape}
+use Rattle.acl_to_posix.specs.internal.ListNamesBody.{named_shape}
 use Rattle.acl_to_posix.proofs.ListNames.{count_fault, few_beside}
 use Rattle.acl_to_posix.proofs.losses.LossOfLists.{entries_left, more_entries}
 use Rattle.acl_to_posix.proofs.losing.check_bound.Goals as goal

@@ -1,6 +1,6 @@
 use Rattle.std.proofs.Common.{subst}
 use Rattle.acl_ids.specs.Ids.{with_ids}
-use Rattle.acl_to_posix.specs.ListNames.{named_shape}
+use Rattle.acl_to_posix.specs.internal.ListNamesBody.{named_shape}
 use Rattle.acl_to_posix.specs.Pruning.{PrunesTo}
 use Rattle.acl_to_posix.specs.ToPosix.{EntryShape, IsBest}
 use Rattle.acl_to_posix.proofs.shapes.EntryCounts.{small_of}

@@ -1,7 +1,7 @@
 use Rattle.std.proofs.Common.{arith, refl}
 use Rattle.acl_nfs4.proofs.Exits.{exit_is}
 use Rattle.acl_ids.specs.Ids.{with_ids}
-use Rattle.acl_to_posix.specs.ListNames.{named_shape}
+use Rattle.acl_to_posix.specs.internal.ListNamesBody.{named_shape}
 use Rattle.acl_to_posix.proofs.ListNames.{names_fault}
 use Rattle.acl_to_posix.proofs.losses.LossSearches.{exact_of}
 use Rattle.acl_to_posix.proofs.shapes.ShapeChecks.{best_greatest_of_shape, best_sound}

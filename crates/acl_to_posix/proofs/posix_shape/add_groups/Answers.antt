@@ -1,4 +1,4 @@
-use Rattle.acl_to_posix.specs.ToPosix.{entry_shape_of}
+use Rattle.acl_to_posix.specs.internal.ShapeBody.{entry_shape_of}
 use Rattle.acl_to_posix.proofs.shapes.ShapeBuilding.{group_put, groups_done, member_at}
 use Rattle.acl_to_posix.proofs.posix_shape.add_groups.Goals as goal
 

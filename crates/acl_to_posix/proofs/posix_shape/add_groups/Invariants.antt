@@ -1,7 +1,6 @@
 use Rattle.std.proofs.Common.{List, take}
 use Rattle.acl_nfs4.specs.Ace.{Ace}
-use Rattle.acl_to_posix.specs.ToPosix.{entry_shape_of}
-use Rattle.acl_to_posix.specs.internal.ShapeBody.{AreColumns, IsEntryPut, users_of}
+use Rattle.acl_to_posix.specs.internal.ShapeBody.{AreColumns, IsEntryPut, users_of, entry_shape_of}
 use Rattle.acl_to_posix.proofs.posix_shape.add_groups.Given as goal
 
 -- the groups so far have their entries

@@ -1,4 +1,4 @@
-use Rattle.acl_to_posix.specs.ToPosix.{entry_shape_of}
+use Rattle.acl_to_posix.specs.internal.ShapeBody.{entry_shape_of}
 use Rattle.acl_to_posix.proofs.shapes.ShapeBuilding.{member_at, user_put, users_done}
 use Rattle.acl_to_posix.proofs.posix_shape.add_users.Goals as goal
 

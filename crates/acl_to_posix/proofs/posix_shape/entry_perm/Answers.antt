@@ -1,6 +1,6 @@
 use Rattle.std.proofs.Common.{◌∙◌, refl}
 use Rattle.acl_posix.specs.Tag.{tag_of}
-use Rattle.acl_to_posix.specs.ToPosix.{entry_shape_of}
+use Rattle.acl_to_posix.specs.internal.ShapeBody.{entry_shape_of}
 use Rattle.acl_to_posix.proofs.shapes.ShapeRights.{answered, just, shape_ids}
 use Rattle.acl_to_posix.proofs.posix_shape.entry_perm.Goals as goal
 

@@ -1,7 +1,6 @@
 use Rattle.std.proofs.Common.{◌≡◌, drop}
 use Rattle.acl_posix.specs.Tag.{tag_of}
-use Rattle.acl_to_posix.specs.ToPosix.{entry_shape_of}
-use Rattle.acl_to_posix.specs.internal.ShapeBody.{always, is_certain, may_match, keys_of}
+use Rattle.acl_to_posix.specs.internal.ShapeBody.{always, is_certain, may_match, keys_of, entry_shape_of}
 use Rattle.acl_to_posix.proofs.posix_shape.is_always_allowed.Given as goal
 
 -- the keys that are left answer as all keys do

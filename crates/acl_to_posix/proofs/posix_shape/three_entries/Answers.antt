@@ -1,4 +1,4 @@
-use Rattle.acl_to_posix.specs.ToPosix.{entry_shape_of}
+use Rattle.acl_to_posix.specs.internal.ShapeBody.{entry_shape_of}
 use Rattle.acl_to_posix.proofs.shapes.ShapeBuilding.{three}
 use Rattle.acl_to_posix.proofs.posix_shape.three_entries.Goals as goal
 

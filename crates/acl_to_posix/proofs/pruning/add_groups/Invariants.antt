@@ -1,7 +1,6 @@
 use Rattle.std.proofs.Common.{take}
-use Rattle.acl_to_posix.specs.ToPosix.{entry_shape_of}
 use Rattle.acl_to_posix.specs.internal.PruningBody.{AreJudgedFor}
-use Rattle.acl_to_posix.specs.internal.ShapeBody.{users_of}
+use Rattle.acl_to_posix.specs.internal.ShapeBody.{users_of, entry_shape_of}
 use Rattle.acl_to_posix.proofs.pruning.add_groups.Given as goal
 
 -- the groups so far have their entries, as all users have

@@ -1,6 +1,6 @@
 use Rattle.std.proofs.Common.{ap}
 use Rattle.acl_posix.specs.Tag.{tag_of}
-use Rattle.acl_to_posix.specs.ToPosix.{entry_shape_of}
+use Rattle.acl_to_posix.specs.internal.ShapeBody.{entry_shape_of}
 use Rattle.acl_to_posix.proofs.prunings.PruneSteps.{user_behind}
 use Rattle.acl_to_posix.proofs.shapes.ShapeBuilding.{member_at}
 use Rattle.acl_to_posix.proofs.pruning.add_users.Goals as goal

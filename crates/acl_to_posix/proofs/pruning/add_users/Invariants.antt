@@ -1,7 +1,6 @@
 use Rattle.std.proofs.Common.{[], take}
-use Rattle.acl_to_posix.specs.ToPosix.{entry_shape_of}
 use Rattle.acl_to_posix.specs.internal.PruningBody.{AreJudgedFor}
-use Rattle.acl_to_posix.specs.internal.ShapeBody.{empty_shape}
+use Rattle.acl_to_posix.specs.internal.ShapeBody.{empty_shape, entry_shape_of}
 use Rattle.acl_to_posix.proofs.pruning.add_users.Given as goal
 
 -- the users so far have their entries

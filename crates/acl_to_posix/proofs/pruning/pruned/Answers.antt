@@ -1,10 +1,10 @@
 use Rattle.std.proofs.Common.{◌≤◌, ap, subst, sym, arith, ◌∙◌}
 use Rattle.std.proofs.lemmas.Result.{IfOk-weaker}
-use Rattle.acl_to_posix.specs.ListNames.{named_shape}
+use Rattle.acl_to_posix.specs.internal.ListNamesBody.{named_shape}
 use Rattle.acl_to_posix.specs.Pruning.{PrunesTo}
-use Rattle.acl_to_posix.specs.ToPosix.{EntryShape, entry_shape_of, size_of}
+use Rattle.acl_to_posix.specs.ToPosix.{EntryShape, size_of}
 use Rattle.acl_to_posix.specs.internal.PruningBody.{shape_left}
-use Rattle.acl_to_posix.specs.internal.ShapeBody.{most_names}
+use Rattle.acl_to_posix.specs.internal.ShapeBody.{most_names, entry_shape_of}
 use Rattle.acl_to_posix.proofs.prunings.PruneSteps.{whole_judged}
 use Rattle.acl_to_posix.proofs.pruning.pruned.Goals as goal
 
