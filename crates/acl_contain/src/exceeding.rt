@@ -44,11 +44,8 @@ pub fn excess(alloc: Global, first: &Acl, second: &Acl) -> Result<Option<Differe
     excess_of_views(alloc, &first.view(), &second.view())
 }
 
-/// Returns the excess of the list of a view over that of another, as [`excess`] does for two owned lists: the first
-/// small situation in which the first list grants a right and the second denies it, or `None` if the second list grants
-/// whatever the first grants. It copies neither list. Unlike `excess`, it does not look first whether the lists are
-/// equal, so that it may run out of memory for equal lists too.
-pub fn excess_of_views(
+// Does so for the lists of two views. It copies neither list, and does not look first whether they are equal.
+fn excess_of_views(
     alloc: Global,
     first: &AclView<'_>,
     second: &AclView<'_>,

@@ -43,9 +43,8 @@ pub fn implies(
     implies_of_view(alloc, &list.view(), right, others)
 }
 
-/// Returns for the list of a view what [`implies`] returns for an owned list: the first small situation in which the
-/// list grants a right and denies one of some others, or `None` if there is none. It copies no who.
-pub fn implies_of_view(
+// Does so for the list of a view. It copies no who.
+fn implies_of_view(
     alloc: Global,
     list: &AclView<'_>,
     right: Right,

@@ -8,8 +8,8 @@ mod implying;
 pub mod laws;
 mod needed_rights;
 
-pub use equal_grants::{same, same_views};
-pub use exceeding::{excess, excess_of_views};
+pub use equal_grants::same_views;
+pub use exceeding::excess;
 pub use holder_lines::holders;
-pub use implying::{implies, implies_of_view};
-pub use needed_rights::{needed, needed_of_view};
+pub use implying::implies;
+pub use needed_rights::needed_of_view;

@@ -62,9 +62,8 @@ pub fn table(alloc: Global, list: &Acl, right: Mask) -> Result<Vec<Row>, AllocEr
     table_of_view(alloc, &list.view(), right)
 }
 
-/// Returns the rows of a right of the list of a view, as [`table`] does of an owned list. It does not copy the list.
-/// Fails if memory runs out.
-pub fn table_of_view(alloc: Global, list: &AclView<'_>, right: Mask) -> Result<Vec<Row>, AllocError>
+// Does so for the list of a view, and does not copy the list.
+fn table_of_view(alloc: Global, list: &AclView<'_>, right: Mask) -> Result<Vec<Row>, AllocError>
     ensures rows { IfOk result (λ rows. (b : ℕ) → IsLowest b right.bits
         → IsTable b list.now rows.items) }
     ensures none { right.bits ≡ 0 → IsOkAnd result (λ rows. rows.items ≡ []) }
@@ -91,7 +90,7 @@ fn owned_rows(alloc: Global, rows: &[BorrowedRow<'_>]) -> Result<Vec<Row>, Alloc
     Ok(table)
 }
 
-/// Returns the rows of a right of the list of a view, as [`table_of_view`] does, but copies no who: each is borrowed
+/// Returns the rows of a right of the list of a view, as [`table`] does of a list, but copies no who: each is borrowed
 /// from the bytes of the list. The only error is that memory runs out.
 ///
 /// ```rust

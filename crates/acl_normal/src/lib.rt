@@ -21,7 +21,7 @@ mod short_form;
 mod tests;
 mod whom;
 
-pub use bit_table::{BorrowedRow, Row, borrowed_rows, table, table_of_view};
+pub use bit_table::{BorrowedRow, Row, borrowed_rows, table};
 pub use comparison::{Difference, RequesterNames, compare, compare_views};
 pub use five_forms::{FiveForms, normalize_inherit};
 pub use merged::MergedRows;

@@ -15,7 +15,7 @@ mod ample {
         let alloc = rt.alloc();
         let first = parse_text(alloc, b"DENY - WRITE_DATA bob\nALLOW - READ_DATA OWNER@\n")?;
         let second = parse_text(alloc, b"ALLOW - READ_DATA OWNER@\n")?;
-        assert!(rt; same(alloc, &first, &second)?);
+        assert!(rt; same_views(alloc, &first.view(), &second.view())?);
         Ok(())
     }
 
