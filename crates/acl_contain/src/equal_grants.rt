@@ -9,8 +9,8 @@ use std::alloc::{AllocError, Global};
 
 /// Returns whether the lists of two views grant the same in every situation, as [`acl_normal::compare_views`] does, but
 /// names no situation in which they do not. So it takes less time for two short lists that differ. It copies neither
-/// list. It does not look first whether the lists are equal, so that it may run out of memory for equal lists too. Fails
-/// if memory runs out.
+/// list, and does not look first whether the lists are equal, so that it may run out of memory for equal lists too.
+/// Fails if memory runs out.
 ///
 /// ```rust
 /// let first = parse_text(alloc, b"DENY - WRITE_DATA bob\nALLOW - READ_DATA OWNER@\n")?;

@@ -44,9 +44,9 @@ enum IdKind {
 }
 
 /// Returns the users and the groups that a list names in ACEs that count, which take part and have READ_DATA,
-/// WRITE_DATA, APPEND_DATA or EXECUTE, in the order in which they are first named. Fails with `TooManyNames` if they are more
-/// than `most`, and otherwise with `Memory` if memory runs out. It stops at the first name above the bound. If memory
-/// runs out, it reads the list once more for each name up to the bound.
+/// WRITE_DATA, APPEND_DATA or EXECUTE, in the order in which they are first named. Fails with `TooManyNames` if they are
+/// more than `most`, and otherwise with `Memory` if memory runs out. It stops at the first name above the bound. If
+/// memory runs out, it reads the list once more for each name up to the bound.
 pub(crate) fn bounded_names(
     alloc: Global,
     list: &AclView<'_>,

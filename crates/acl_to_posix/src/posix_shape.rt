@@ -54,8 +54,8 @@ pub(crate) struct PosixShape<'a> {
 
 /// Returns the ACL of a shape for the list of which these are the columns. An entry has a permission if and only if the
 /// list grants its rights in every situation in which the access check of acl(5) looks at the entry, whoever owns the
-/// file. There is a MASK if and only if the shape has a user or a group, and it takes nothing away. Fails only if memory
-/// runs out. The time is at most proportional to the square of the number of entries, times the number of keys.
+/// file. There is a MASK if and only if the shape has a user or a group, and it takes nothing away. Fails only if
+/// memory runs out. The time is at most proportional to the square of the number of entries, times the number of keys.
 pub(crate) fn best_of_columns(
     alloc: Global,
     columns: &Columns,
