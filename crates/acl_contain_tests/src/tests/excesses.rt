@@ -5,7 +5,7 @@ use super::expected::{Expected, is_expected};
 use super::harness::{
     ALLOW, AceRow, DENY, EVERYONE, EXECUTE, GROUP, READ_DATA, WRITE_DATA, built, kept, passes,
 };
-use acl_contain::{excess, excess_of_views};
+use acl_contain::excess;
 use acl_nfs4::{Acl, PushFault};
 use std::alloc::{AllocError, Global};
 use std::process::Abort;
@@ -76,9 +76,8 @@ fn is_found(
     second: &Acl,
     expected: Option<Expected>,
 ) -> Result<bool, AllocError> {
-    let of_lists = excess(alloc, first, second)?;
-    let of_views = excess_of_views(alloc, &first.view(), &second.view())?;
-    Ok(is_expected(&of_lists, expected) && is_expected(&of_views, expected))
+    let found = excess(alloc, first, second)?;
+    Ok(is_expected(&found, expected))
 }
 
 /// The first small situation of each pair is found.

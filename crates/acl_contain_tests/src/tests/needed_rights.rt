@@ -5,7 +5,7 @@ use super::harness::{
     ALLOW, AMY, AceRow, DENY, EVERYONE, EXECUTE, FOR_FILES, GROUP, INHERIT_ONLY, NO_STAFF,
     NO_WRITE, OWNER, READ_DATA, STAFF, WRITE_DATA, ace_of, built, kept, passes,
 };
-use acl_contain::{needed, needed_of_view};
+use acl_contain::needed_of_view;
 use acl_eval::{Object, Requester, grants};
 use acl_nfs4::{Acl, PushFault};
 use acl_perm::Mask;
@@ -73,9 +73,8 @@ fn are_masks(masks: &[Mask], wanted: &[u32]) -> bool {
 }
 
 fn needs(alloc: Global, list: &Acl, wanted: &[u32]) -> Result<bool, AllocError> {
-    let of_list = needed(alloc, list)?;
-    let of_view = needed_of_view(alloc, &list.view())?;
-    Ok(are_masks(&of_list, wanted) && are_masks(&of_view, wanted))
+    let masks = needed_of_view(alloc, &list.view())?;
+    Ok(are_masks(&masks, wanted))
 }
 
 /// Each worked list needs the rights that stand beside it.
@@ -166,7 +165,7 @@ fn cut_to(alloc: Global, rows: &[AceRow], masks: &[u32]) -> Result<Acl, PushFaul
 
 fn needed_masks(alloc: Global, list: &Acl) -> Result<Vec<u32>, AllocError> {
     let mut masks = Vec::new(alloc);
-    let found = needed(alloc, list)?;
+    let found = needed_of_view(alloc, &list.view())?;
     for mask in &found {
         masks.push(mask.bits())?;
     }

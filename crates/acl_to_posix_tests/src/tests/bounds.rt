@@ -1,17 +1,10 @@
 //! Lists that name more users and groups than the bound. They are refused for their names, also if memory runs out while
 //! the names are collected. The bytes are worked by hand from RFC 7531 (`nfsace4`), and so are the numbers of names.
 
-<<<<<<< HEAD:crates/acl_to_posix_tests/src/tests/bounds.rt
-use acl_nfs4::AclView;
-use acl_perm::Mode;
-use acl_posix::{Id, Names, PosixAcl};
-use acl_to_posix::{ShapeFault, lost_grant, to_posix, to_posix_for};
-=======
-use crate::{ShapeFault, lost_grant, to_posix};
 use acl_nfs4::AclView;
 use acl_perm::Mode;
 use acl_posix::{Names, PosixAcl};
->>>>>>> b054cfd8 (acl_to_posix: no list for a known owner; formal/PosixOwner.v keeps its theorems):crates/acl_to_posix/src/tests/bounds.rt
+use acl_to_posix::{ShapeFault, lost_grant, to_posix};
 use std::test::Fail;
 
 // Two users and two groups: 7 and the greatest id are users, and 5 and 7 are groups. An ACE names 7 again, and the last

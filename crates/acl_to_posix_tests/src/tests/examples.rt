@@ -4,24 +4,9 @@
 
 use acl_nfs4::parse_text;
 use acl_perm::{Mode, Perm};
-use acl_posix::{Id, Names, PosixAcl, Tag};
+use acl_posix::{Names, PosixAcl, Tag};
 use acl_to_posix::*;
 use std::test::Fail;
-
-#[test]
-fn a_denied_user_may_only_read(rt: HostRuntime) -> Result<(), Fail> {
-    let alloc = rt.alloc();
-    let list = parse_text(
-        alloc,
-        b"DENY - WRITE_DATA 1000\nALLOW - READ_DATA|WRITE_DATA|APPEND_DATA EVERYONE@",
-    )?;
-    let bob = Id::new(1000).ok_or("no id")?;
-    let (users, groups) = (&[bob], &[]);
-    let shape = PosixShape { users, groups };
-    let acl = posix_of_shape(alloc, &list.view(), &shape, &Names::new(alloc), 256)?;
-    assert!(rt; acl.get(Tag::User(bob)) == Some(Perm::READ));
-    Ok(())
-}
 
 #[test]
 fn a_denial_that_nothing_needs_is_left_out(rt: HostRuntime) -> Result<(), Fail> {
@@ -32,15 +17,6 @@ fn a_denial_that_nothing_needs_is_left_out(rt: HostRuntime) -> Result<(), Fail> 
     )?;
     let made = to_posix(alloc, &list.view(), &Names::new(alloc), 256)?;
     assert!(rt; made.exact() && made.acl.get(Tag::GroupObj) == Some(Perm::READ));
-    Ok(())
-}
-
-#[test]
-fn a_user_and_a_group_are_named(rt: HostRuntime) -> Result<(), Fail> {
-    let alloc = rt.alloc();
-    let list = parse_text(alloc, b"DENY - WRITE_DATA 1000\nALLOW GROUP READ_DATA 50")?;
-    let named = named_ids(alloc, &list.view(), &Names::new(alloc))?;
-    assert!(rt; named.users.len() == 1 && named.groups.len() == 1);
     Ok(())
 }
 

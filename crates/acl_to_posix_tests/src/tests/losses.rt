@@ -2,10 +2,10 @@
 //! program tried every situation of the names of a list. The last rows are worked by hand from RFC 8881, section 6.2.1,
 //! and acl(5), "ACCESS CHECK ALGORITHM".
 
-use super::harness::{kept, passes};
+use super::harness::{acl_of, kept, passes};
 use acl_nfs4::{PushFault, parse_text};
 use acl_perm::Perm;
-use acl_posix::{Id, Names, PosixAcl, PosixFile, parse};
+use acl_posix::{Id, Names};
 use acl_to_posix::{LostGrant, ShapeFault, lost_grant};
 use std::alloc::Global;
 use std::process::Abort;
@@ -111,11 +111,6 @@ static ROWS: [(&[u8], &[u8], u8, &[u32]); 16] = [
         &[],
     ),
 ];
-
-fn acl_of(alloc: Global, text: &[u8]) -> Result<PosixAcl, PushFault> {
-    let PosixFile { access, .. } = kept(parse(alloc, text, &Names::new(alloc)))?;
-    Ok(access)
-}
 
 fn lost(alloc: Global, list: &[u8], text: &[u8]) -> Result<Option<LostGrant>, PushFault> {
     let acl = acl_of(alloc, text)?;

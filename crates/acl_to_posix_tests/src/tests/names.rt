@@ -1,9 +1,9 @@
 //! The users and the groups that a list names. The ids of the list are worked by hand.
 
 use super::harness::{kept, passes};
-use crate::list_names::bounded_names;
 use acl_nfs4::{PushFault, parse_text};
 use acl_posix::{Id, Names};
+use acl_to_posix::list_names::bounded_names;
 use std::alloc::Global;
 use std::process::Abort;
 

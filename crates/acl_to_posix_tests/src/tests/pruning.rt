@@ -1,8 +1,7 @@
 //! POSIX ACLs of lists. The lists and the ACLs of the rows are from `formal/to_posix.jsonl`, where another program made
 //! them by enumeration of the situations of their names.
 
-use super::harness::{kept, passes};
-use super::shapes::acl_of;
+use super::harness::{acl_of, kept, passes};
 use acl_nfs4::{PushFault, parse_text};
 use acl_posix::Names;
 use acl_to_posix::{ShapeFault, ToPosix, to_posix};
@@ -57,8 +56,40 @@ ALLOW GROUP WRITE_DATA|APPEND_DATA|EXECUTE 2002
 DENY - READ_DATA GROUP@
 ";
 
+// A DENY of a group falls on the owner and on all other groups, and not on others.
+const A_GROUP_IS_DENIED: &[u8] = b"DENY GROUP WRITE_DATA|APPEND_DATA 2002
+ALLOW - READ_DATA|WRITE_DATA|APPEND_DATA|EXECUTE EVERYONE@
+";
+
+// A DENY of a user without an entry falls on the owner, on GROUP_OBJ and on each GROUP, but only where no ALLOW of the
+// entry is before it.
+const THE_OWNER_MAY_BE_A_USER: &[u8] = b"ALLOW GROUP READ_DATA|WRITE_DATA|APPEND_DATA 2001
+DENY - WRITE_DATA 1001
+ALLOW - READ_DATA|EXECUTE GROUP@
+ALLOW - READ_DATA|WRITE_DATA|APPEND_DATA OWNER@
+";
+
+// WRITE_DATA alone is not write.
+const NOT_APPENDED: &[u8] = b"ALLOW - EXECUTE OWNER@
+ALLOW - READ_DATA|WRITE_DATA|EXECUTE EVERYONE@
+ALLOW - READ_DATA|WRITE_DATA|APPEND_DATA|EXECUTE 1001
+";
+
+const USERS_AND_A_GROUP: &[u8] = b"DENY - WRITE_DATA 1001
+ALLOW - READ_DATA|WRITE_DATA|APPEND_DATA|EXECUTE 1002
+ALLOW - WRITE_DATA|APPEND_DATA GROUP@
+ALLOW GROUP READ_DATA|APPEND_DATA 2001
+DENY - WRITE_DATA 1002
+";
+
+const NO_NAMES: &[u8] = b"DENY - WRITE_DATA 1002
+ALLOW - READ_DATA|EXECUTE OWNER@
+ALLOW - READ_DATA|EXECUTE GROUP@
+DENY - READ_DATA|WRITE_DATA|APPEND_DATA EVERYONE@
+";
+
 // A list, its ACL, and whether the two agree in every situation of their names.
-static ROWS: [(&[u8], &[u8], bool); 6] = [
+static ROWS: [(&[u8], &[u8], bool); 11] = [
     (NEEDLESS, b"u::r--,g::r--,o::---", true),
     (ALL_GO, b"u::---,g::---,o::---", false),
     (EVERYONE_HAS_ALL, b"u::rwx,g::rwx,o::rwx", true),
@@ -77,6 +108,27 @@ static ROWS: [(&[u8], &[u8], bool); 6] = [
         b"u::---,u:1001:---,g::---,g:2002:-wx,m::-wx,o::---",
         false,
     ),
+    (
+        A_GROUP_IS_DENIED,
+        b"u::r-x,g::r-x,g:2002:r-x,m::r-x,o::rwx",
+        false,
+    ),
+    (
+        THE_OWNER_MAY_BE_A_USER,
+        b"u::r--,g::r-x,g:2001:rw-,m::rwx,o::---",
+        false,
+    ),
+    (
+        NOT_APPENDED,
+        b"u::r-x,u:1001:rwx,g::r-x,m::rwx,o::r-x",
+        false,
+    ),
+    (
+        USERS_AND_A_GROUP,
+        b"u::---,u:1001:---,u:1002:rwx,g::-w-,g:2001:r--,m::rwx,o::---",
+        false,
+    ),
+    (NO_NAMES, b"u::r-x,g::r-x,o::---", true),
 ];
 
 fn converted(alloc: Global, list: &[u8], most: u16) -> Result<ToPosix, ShapeFault> {
@@ -117,8 +169,6 @@ fn an_unknown_name_and_too_many_names_are_refused(rt: HostRuntime) {
 
 mod ample {
     use super::*;
-    use acl_posix::Id;
-    use acl_to_posix::to_posix_for;
     use std::test::Fail;
 
     // A user and a group of one id are two names. ACEs without a right of a permission, for new objects, or of a name
@@ -136,26 +186,14 @@ DENY GROUP EXECUTE 9
     // A list, and how many users and groups it names.
     const COUNTS: [(&[u8], u16); 4] = [(b"", 0), (NEEDLESS, 1), (THREE_NAMES, 3), (ALL_GO, 4)];
 
-    fn is_made_for(alloc: Global, list: &[u8], most: u16) -> Result<bool, Fail> {
-        let (list, names) = (parse_text(alloc, list)?, Names::new(alloc));
-        let id = Id::new(7).ok_or("7 is an id")?;
-        match to_posix_for(alloc, &list.view(), &names, id, id, most) {
-            Ok(_) => Ok(true),
-            Err(ShapeFault::TooManyNames) => Ok(false),
-            Err(_) => Err("another fault".into()),
-        }
-    }
-
     #[test]
     fn a_list_has_an_acl_if_its_names_are_within_the_bound(rt: HostRuntime) -> Result<(), Fail> {
         let alloc = rt.alloc();
         for (list, count) in COUNTS {
             assert!(rt; converted(alloc, list, count).is_ok());
-            assert!(rt; is_made_for(alloc, list, count)?);
             if count > 0 {
                 let refused = converted(alloc, list, count.saturating_sub(1));
                 assert!(rt; matches!(&refused, Err(ShapeFault::TooManyNames)));
-                assert!(rt; !is_made_for(alloc, list, count.saturating_sub(1))?);
             }
         }
         Ok(())
