@@ -127,14 +127,14 @@ weight-three xs ys zs = omega (arith, weight-append xs (ys ++ zs), weight-append
 
 -- the numbers of ACEs and of mask bits so far, and those of what the list is to have for the ACEs that are left, are
 -- those of the whole list
-pub record IsCounted (mode aces bits : ℕ) (left list : List Ace) : Type 0 where
+pub record AreSizesSoFar (mode aces bits : ℕ) (left list : List Ace) : Type 0 where
   pub all_aces : aces + length (flat_map (after_chmod mode) left) ≡ length (chmod_list mode list)
   pub all_bits : bits + weight (flat_map (after_chmod mode) left) ≡ weight (chmod_list mode list)
 
 -- after the ACEs of the owner, of the group and of others
 pub counted_first : (mode : ℕ) {first last left list : List Ace} {n o p q : ℕ} → first ≡ owner_aces mode
     → last ≡ other_aces mode → left ≡ list → n ≡ length first → o ≡ length last → p ≡ weight first → q ≡ weight last
-    → IsCounted mode (n + o) (p + q) left list
+    → AreSizesSoFar mode (n + o) (p + q) left list
 counted_first mode {list = list} owner others same nl ol pw qw =
     let changed : List Ace = flat_map (after_chmod mode) list in
     record {
@@ -156,8 +156,8 @@ counted_first mode {list = list} owner others same nl ol pw qw =
 
 -- after one more ACE
 pub counted_on : {mode aces bits n m : ℕ} {new left list : List Ace} (a : Ace) (rest : List Ace) → left ≡ a ∷ rest
-    → new ≡ after_chmod mode a → n ≡ length new → m ≡ weight new → IsCounted mode aces bits left list
-    → IsCounted mode (aces + n) (bits + m) rest list
+    → new ≡ after_chmod mode a → n ≡ length new → m ≡ weight new → AreSizesSoFar mode aces bits left list
+    → AreSizesSoFar mode (aces + n) (bits + m) rest list
 counted_on {mode = mode} a rest next same nl mw so_far =
     let begins = ap (flat_map (after_chmod mode)) next ∙ flat_map-cons (after_chmod mode) a rest in
     record {
@@ -176,7 +176,7 @@ counted_on {mode = mode} a rest next same nl mw so_far =
     }
 
 -- if a number so far is above its limit, the list is not accepted
-pub too_large : {mode aces bits : ℕ} {left list : List Ace} → IsCounted mode aces bits left list
+pub too_large : {mode aces bits : ℕ} {left list : List Ace} → AreSizesSoFar mode aces bits left list
     → ((aces ≤ most_aces) × (bits ≤ most_weight) → ⊥) → IsTrue false ↔ IsAccepted full (chmod_list mode list)
 too_large so_far above = (
   λ f. absurd (true≢false (sym f)),
@@ -185,7 +185,7 @@ too_large so_far above = (
 
 -- if the numbers of all ACEs and of their mask bits are within the limits, the list is accepted
 pub all_within : {mode aces bits : ℕ} {left list : List Ace} → mode ≤ all_mode_bits → IsAccepted full list → left ≡ []
-    → IsCounted mode aces bits left list → aces ≤ most_aces → bits ≤ most_weight
+    → AreSizesSoFar mode aces bits left list → aces ≤ most_aces → bits ≤ most_weight
     → IsTrue true ↔ IsAccepted full (chmod_list mode list)
 all_within {mode = mode} {list = list} le old none whole few light = (
   λ _. accepted_within mode list le old.each

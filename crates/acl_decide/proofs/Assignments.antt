@@ -12,7 +12,7 @@ use Rattle.acl_nfs4.specs.Ace.{ace}
 use Rattle.acl_nfs4.specs.declared.ace.AceRef.{AceRef}
 use Rattle.acl_decide.specs.Unknown.{AlwaysAnswers, Assignment, MayAnswer, MayNotGrant, NeverGrants, answer_under}
 use Rattle.acl_decide.specs.internal.UnknownBody.{may_answer, noting}
-use Rattle.acl_decide.specs.declared.unknown.Possible.{Possible}
+use Rattle.acl_decide.specs.declared.rights_with_unknown.Possible.{Possible}
 use Rattle.std.proofs.lemmas.List.{at_drop_more, drop_all}
 unfoldable use Rattle.acl_decide.specs.internal.UnknownBody.{can_answer}
 use Rattle.acl_decide.proofs.Unknowns.{can_complete, can_sound}

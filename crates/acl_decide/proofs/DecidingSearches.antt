@@ -7,7 +7,7 @@ use Rattle.acl_perm.specs.Situation.{Situation}
 use Rattle.acl_nfs4.specs.Ace.{Ace}
 use Rattle.acl_eval.specs.Deciding.{decides, deciding_kind, deciding_place}
 use Rattle.acl_decide.specs.internal.DecidingBody.{decision_from}
-use Rattle.acl_decide.specs.declared.deciding.Decision.{Decision}
+use Rattle.acl_decide.specs.declared.one_decider.Decision.{Decision}
 
 -- the search that begins at a place gives the place of the first ACE that passes the test
 place_from : (i : ℕ) (test : Ace → Bool) (list : List Ace)

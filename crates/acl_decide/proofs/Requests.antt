@@ -21,8 +21,8 @@ use Rattle.acl_nfs4.specs.declared.ace.AceRef.{AceRef}
 use Rattle.acl_eval.specs.Column.{takes_part}
 use Rattle.acl_decide.specs.Unknown.{AlwaysAnswers, Assignment, GrantsUnder, MayAnswer, MayNotGrant, NeverGrants, answer_under, matches_under}
 use Rattle.acl_decide.specs.internal.RequestBody.{AllowsFrom, ArePassed, HasPassed, IsOneMore, LeavesOut, MayBeGranted, Says, SaysAce, all_but, applies_but, is_open_name, is_out, open_names}
-use Rattle.acl_decide.specs.declared.requesting.Step.{Step}
-use Rattle.acl_decide.specs.declared.requesting.Step.TheVariants.{Granted, Denied, Against}
+use Rattle.acl_decide.specs.declared.request_with_unknown.Step.{Step}
+use Rattle.acl_decide.specs.declared.request_with_unknown.Step.TheVariants.{Granted, Denied, Against}
 use Rattle.acl_decide.proofs.Unknowns.{answer_here, answer_passes, answer_skips, match_known, match_unknown}
 use Rattle.acl_decide.proofs.Assignments.{rest_is, deny_allow, none_allow}
 

@@ -13,7 +13,7 @@ use Rattle.acl_nfs4.specs.Who.{is_unknown_special, principal_of}
 use Rattle.acl_eval.specs.Column.{takes_part}
 use Rattle.acl_eval.specs.Scan.{applies}
 use Rattle.acl_decide.specs.internal.UnknownBody.{HaveNoted, had, is_answer, is_possible, may_answer, noted_rights, noting}
-use Rattle.acl_decide.specs.declared.unknown.Possible.{Possible}
+use Rattle.acl_decide.specs.declared.rights_with_unknown.Possible.{Possible}
 use Rattle.std.proofs.lemmas.Map.Text.{btree_map_updates_str}
 use Rattle.std.specs.BTreeMap.{BTreeMap, UpdatesBy, get_by}
 use Rattle.std.specs.Borrow.{Bor}

@@ -9,8 +9,8 @@ use Rattle.acl_perm.specs.declared.kind.Kind.TheVariants.{Allow}
 use Rattle.acl_nfs4.specs.Ace.{Ace}
 use Rattle.acl_nfs4.specs.Who.{is_unknown_special, principal_of}
 use Rattle.acl_eval.specs.Column.{takes_part}
-use Rattle.acl_decide.specs.declared.requesting.RequestAnswer.{RequestAnswer}
-use Rattle.acl_decide.specs.declared.requesting.RequestAnswer.TheVariants.{Always, Never, Depends}
+use Rattle.acl_decide.specs.declared.request_with_unknown.RequestAnswer.{RequestAnswer}
+use Rattle.acl_decide.specs.declared.request_with_unknown.RequestAnswer.TheVariants.{Always, Never, Depends}
 
 -- for each name, whether it matches the requester; one assignment holds for all ACEs and all rights
 abbrev pub Assignment : Type 0

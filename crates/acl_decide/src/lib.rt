@@ -1,11 +1,11 @@
 //! Which ACE decides each right, also where nobody knows whom a special identifier matches.
 #![tactic(auto)]
 
-mod deciding;
 pub mod laws;
-mod requesting;
-mod unknown;
+mod one_decider;
+mod request_with_unknown;
+mod rights_with_unknown;
 
-pub use deciding::{Decision, deciding_ace};
-pub use requesting::{RequestAnswer, request_answer};
-pub use unknown::{DecidedWithUnknown, decided_with_unknown};
+pub use one_decider::{Decision, deciding_ace};
+pub use request_with_unknown::{RequestAnswer, request_answer};
+pub use rights_with_unknown::{DecidedWithUnknown, decided_with_unknown};

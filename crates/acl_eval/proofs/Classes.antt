@@ -7,7 +7,7 @@ use Rattle.acl_perm.specs.Mode.{mode_of_parts}
 use Rattle.acl_nfs4.specs.Ace.{Ace}
 use Rattle.acl_eval.specs.ListMode.{is_granted_by, perm_of}
 use Rattle.acl_eval.specs.internal.Settled.{SettleAs, decides_for, settled_in}
-use Rattle.acl_eval.specs.declared.granting.GrantedSoFar.{GrantedSoFar}
+use Rattle.acl_eval.specs.declared.each_right.GrantedSoFar.{GrantedSoFar}
 use Rattle.acl_eval.specs.declared.mode.FileClass.{FileClass}
 use Rattle.acl_eval.specs.declared.mode.FileClass.TheVariants.{Owner, Group, Others}
 

@@ -10,7 +10,7 @@ use Rattle.acl_perm.specs.declared.kind.Kind.TheVariants.{Deny, Allow}
 use Rattle.acl_nfs4.specs.Ace.{Ace}
 use Rattle.acl_eval.specs.Deciding.{AreDecidedBy, decides, deciding_kind}
 use Rattle.acl_eval.specs.Grant.{Grant, grants_bit}
-use Rattle.acl_eval.specs.internal.GrantingBody.{is_undecided}
+use Rattle.acl_eval.specs.internal.EachRightBody.{is_undecided}
 use Rattle.acl_eval.proofs.Columns.{bit_at_first}
 
 -- ---- what is granted by it

@@ -7,7 +7,7 @@ pub mod GroupOrder
 -- what the code keeps about a requester and an object, as a situation
 pub mod Asked
 -- what is known about the rights of a mask before the rest of a list is read
-pub mod GrantingBody
+pub mod EachRightBody
 -- what is known about a class of the mode before the rest of a list is read
 pub mod Settled
 -- the list of a POSIX ACL while it is made, and the weight of its entries

@@ -8,7 +8,7 @@ ghost use Rattle.acl_eval.specs.ListMode.{mode_of_list, perm_of};
 ghost use Rattle.acl_eval.specs.Permissions.{append_data, execute_right, read_data, write_data};
 ghost use Rattle.acl_eval.specs.internal.Settled.{decides_for, settled_in};
 
-use crate::granting::GrantedSoFar;
+use crate::each_right::GrantedSoFar;
 use crate::permissions::{EXECUTE, READ, WRITE, WRITE_RIGHTS};
 use acl_nfs4::{AceRef, Aces};
 use acl_perm::{Mask, Mode, Perm, Principal};

@@ -25,8 +25,8 @@ use Rattle.acl_posix.specs.internal.GroupAnswers.{is_owner_tag}
 use Rattle.acl_forms.specs.PosixNames.{HasNamesOfIds, NamesOfIds, if_shown, is_shown, shown_name, tag_name}
 use Rattle.acl_forms.specs.PosixWritten.{id_field, named_reason, posix_fault_from, three_fields}
 use Rattle.acl_forms.specs.declared.posix_text.style.TarStyle.TheVariants.{Gnu, Star}
-use Rattle.acl_forms.proofs.PosixAgain.{AreTexts}
-use Rattle.acl_forms.proofs.PosixEntriesAgain.{HasName, IsShownName, by_qualifier, held_qualifier, star_entry}
+use Rattle.acl_forms.proofs.PosixReadBack.{AreTexts}
+use Rattle.acl_forms.proofs.PosixEntriesReadBack.{HasName, IsShownName, by_qualifier, held_qualifier, star_entry}
 use Rattle.acl_forms.proofs.FormLemmas.{no_fault}
 
 -- ---- the texts of entries

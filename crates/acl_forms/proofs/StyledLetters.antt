@@ -17,7 +17,7 @@ use Rattle.acl_forms.specs.declared.object.ObjectKind.{ObjectKind}
 use Rattle.acl_forms.specs.declared.style.LetterStyle.{LetterStyle}
 use Rattle.acl_forms.specs.declared.style.LetterStyle.TheVariants.{Compact, Full}
 use Rattle.acl_forms.specs.internal.LetterReading.{letters_from}
-use Rattle.acl_forms.proofs.LettersAgain.{all_of, joined, left_out, letters_pass, letters_read, AreBits, ReadAgain}
+use Rattle.acl_forms.proofs.LettersReadBack.{all_of, joined, left_out, letters_pass, letters_read, AreBits, AreReadBack}
 
 -- a hyphen stands for no bit in a table
 abbrev pub IsNoLetter : List Letter → ObjectKind → ReadReason → Type 0
@@ -25,7 +25,7 @@ IsNoLetter table object wrong = (at : ℕ) → letter_bits table object wrong at
 
 -- the letters of a set with hyphens stand for the part of the set that is in the rows
 columns_read : (table rows : List Letter) (places : List ℕ) (object : ObjectKind) (wrong : ReadReason)
-    (at acc set : ℕ) → ReadAgain table object wrong set rows → AreBits rows places → IsNoLetter table object wrong
+    (at acc set : ℕ) → AreReadBack table object wrong set rows → AreBits rows places → IsNoLetter table object wrong
     → letters_from table object wrong at acc (map (letter_or_hyphen set) rows)
     ≡ Ok (bit_or acc (bit_and set (all_of rows)))
 unfolding letters_from
@@ -53,7 +53,7 @@ columns_read table (row ∷ rows) (k ∷ places) object wrong at acc set again b
 
 -- the letters of a set in each style stand for the part of the set that is in the rows
 pub styled_read : (letters : LetterStyle) (table rows : List Letter) (places : List ℕ) (object : ObjectKind)
-    (wrong : ReadReason) (at acc set : ℕ) → ReadAgain table object wrong set rows → AreBits rows places
+    (wrong : ReadReason) (at acc set : ℕ) → AreReadBack table object wrong set rows → AreBits rows places
     → IsNoLetter table object wrong
     → letters_from table object wrong at acc (styled_letters letters rows set)
     ≡ Ok (bit_or acc (bit_and set (all_of rows)))

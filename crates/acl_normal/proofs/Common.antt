@@ -39,7 +39,7 @@ pub use Rattle.acl_normal.specs.internal.comparison.FirstPlaces.{AgreesAt, AreFi
 pub use Rattle.acl_normal.specs.internal.rows.Heads.{BeginsWith}
 pub use Rattle.acl_normal.specs.internal.Needed.{default_at}
 pub use Rattle.acl_normal.specs.internal.Passes.{KeepsProfiles, conflicts_before}
-pub use Rattle.acl_normal.specs.internal.comparison.PlaceTables.{is_of_camp}
+pub use Rattle.acl_normal.specs.internal.comparison.PlaceTables.{is_selected}
 pub use Rattle.acl_normal.specs.internal.Plain.{default, has_opposite, is_needed, needed_keys, reduced, unshadowed, without_principal}
 pub use Rattle.acl_normal.specs.internal.comparison.Directions.{differ}
 pub use Rattle.acl_normal.specs.internal.emit.Queues.{AreNoted, AreQueues, IsQueueAt}

@@ -37,13 +37,13 @@ pub mod TableFacts
 -- the ACEs that have a right, and principals that none of them names
 pub mod ColumnLemmas
 -- the first principals at which two lists differ, right by right
-pub mod FoundLemmas
+pub mod FirstPrincipalsLemmas
 -- the first small set, by least numbers
 pub mod Assembly
 -- what a difference has to have, so that an object, a requester and a right can be made of it
 pub mod Asked
 -- the rights on which two lists may differ, by a walk over both
-pub mod ApartLemmas
+pub mod DifferingRightsLemmas
 -- what a list grants to principals by their numbers
 pub mod MembersFacts
 -- lists that name the same as another, place by place

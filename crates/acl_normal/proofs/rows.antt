@@ -55,4 +55,4 @@ pub mod Publics
 -- a right that is taken out, with the slot, the set and what is left as the code has them
 pub mod EmitRight
 -- rows of principals by counting
-pub mod CountedRows
+pub mod ShortListRows

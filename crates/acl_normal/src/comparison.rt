@@ -2,27 +2,27 @@
 ghost use Rattle.std.specs.Prelude.{◌<◌, ◌≤◌, All, length};
 ghost use Rattle.acl_normal.specs.OneRight.{IsOneRight};
 
-mod apart;
 pub(crate) mod columns;
-pub(crate) mod compared;
-pub(crate) mod comparing;
+mod difference_at_set;
+mod differing_rights;
 pub(crate) mod direction;
 pub(crate) mod evaluation;
-pub(crate) mod found;
+pub(crate) mod first_difference;
+pub(crate) mod first_principals;
 mod inversions;
+pub(crate) mod list_pair;
 pub(crate) mod members;
-pub(crate) mod mentioned;
-mod outcome;
+pub(crate) mod mentioned_principals;
 mod placing;
-mod question;
+mod request_of_difference;
 mod requester_names;
 mod same_places;
 mod search;
-mod situation;
+mod situation_names;
 pub(crate) mod small_set;
 
 use acl_perm::Mask;
-pub use comparing::{compare, compare_views};
+pub use first_difference::{compare, compare_views};
 pub use requester_names::RequesterNames;
 
 /// A requester and an object for which one of two lists grants a right that the other denies. The groups are in the

@@ -1,25 +1,25 @@
 //! Normal forms: one list of ACEs for each set of grants; tables of one right; and the comparison of two lists.
 #![tactic(auto)]
 
+mod ace_principal;
 mod bit_table;
-mod bits;
-mod class;
 mod comparison;
 mod emit;
 mod five_forms;
 pub mod internal;
 pub mod laws;
+mod mask_rights;
 mod merged;
 mod normal_form;
 #[cfg(test)]
 pub mod plain;
+mod principal_class;
 mod reduce;
 mod row_lines;
 mod rows;
 mod short_form;
 #[cfg(test)]
 mod tests;
-mod whom;
 
 pub use bit_table::{BorrowedRow, Row, borrowed_rows, table};
 pub use comparison::{Difference, RequesterNames, compare, compare_views};

@@ -7,8 +7,8 @@ ghost use Rattle.acl_normal.specs.Left.{HasFree, KeepsFirsts};
 ghost use Rattle.acl_normal.specs.Places.{waits};
 ghost use Rattle.acl_normal.specs.internal.Places.{IsBlockedPast, IsClearTo, NoneWaitsTo, SomeWaitsPast};
 
-use crate::bits::{alone, next_right};
-use crate::class::Class;
+use crate::mask_rights::{alone, next_right};
+use crate::principal_class::Class;
 use crate::reduce::reduced_list;
 use crate::rows::remaining::Remaining;
 use crate::rows::waiting::{slot, waiting_sets};

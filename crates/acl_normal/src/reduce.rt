@@ -5,12 +5,12 @@ ghost use Rattle.acl_normal.specs.internal.Limits.{list_limit};
 ghost use Rattle.acl_normal.specs.internal.rows.Remaining.{HasNumbers, reduced_aces};
 
 pub(crate) mod collected;
-pub(crate) mod first;
 pub(crate) mod needless;
+pub(crate) mod shadowed_rights;
 
 use crate::reduce::collected::collect;
-use crate::reduce::first::first_masks;
 use crate::reduce::needless::drop_needless;
+use crate::reduce::shadowed_rights::first_masks;
 use crate::rows::numbers::row_numbers;
 use crate::rows::remaining::{Reduced, Remaining};
 use acl_nfs4::{AceRef, AclView};

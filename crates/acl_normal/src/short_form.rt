@@ -4,14 +4,14 @@ ghost use Rattle.acl_normal.specs.Common.{aces_in, aces_with, all_rights, AreRow
 ghost use Rattle.acl_normal.specs.internal.Counts.{rights_together};
 ghost use Rattle.acl_normal.specs.internal.Limits.{list_limit};
 
+use crate::ace_principal::key;
 use crate::emit::emission::Emitted;
 use crate::emit::rising::rises;
 use crate::emit::short::drain_short;
 use crate::normal_form::{ace_of, written};
 use crate::reduce::collected::collect;
 use crate::reduce::reduced_masks;
-use crate::rows::counted::counted_rows;
-use crate::whom::key;
+use crate::rows::short_list::rows_of_short_list;
 use acl_nfs4::{AceRef, Acl, AclView};
 use acl_perm::Mask;
 use std::alloc::{AllocError, Global};
@@ -65,7 +65,7 @@ fn needed_rights(alloc: Global, aces: &[AceRef<'_>]) -> Result<NeededRights, All
     ensures reduced { IfOk result (λ needed. IsReducedOf (aces_in aces.now)
         (aces_with aces.now needed.masks.items)) }
 {
-    let rows = counted_rows(alloc, aces)?;
+    let rows = rows_of_short_list(alloc, aces)?;
     let masks = reduced_masks(alloc, aces, &rows)?;
     Ok(NeededRights { masks, rows })
 }

@@ -13,9 +13,9 @@ use Rattle.acl_nfs4.specs.Who.{principal_of}
 use Rattle.acl_eval.specs.Column.{takes_part}
 use Rattle.acl_eval.specs.Deciding.{decides}
 use Rattle.acl_eval.specs.Grant.{grants_bit, is_allow}
-use Rattle.acl_eval.specs.internal.GrantingBody.{granted_in, is_undecided, left_in}
+use Rattle.acl_eval.specs.internal.EachRightBody.{granted_in, is_undecided, left_in}
 use Rattle.acl_prepared.specs.internal.PreparedBody.{AreParts, DecidesAs}
-use Rattle.acl_eval.specs.declared.granting.GrantedSoFar.{GrantedSoFar}
+use Rattle.acl_eval.specs.declared.each_right.GrantedSoFar.{GrantedSoFar}
 use Rattle.acl_eval.proofs.Columns.{bit_at_first}
 
 -- ---- ACEs that take no part

@@ -13,7 +13,7 @@ use Rattle.acl_nfs4.specs.Ace.{Ace}
 use Rattle.acl_nfs4.specs.Spelling.{IsAccepted}
 use Rattle.acl_nfs4.specs.Who.{principal_of}
 use Rattle.acl_eval.specs.Column.{takes_part}
-use Rattle.acl_prepared.specs.declared.preparing.Prepared.{Prepared}
+use Rattle.acl_prepared.specs.declared.prepared_names.Prepared.{Prepared}
 
 -- the bytes that each prepared list begins with; the last of them is the number of this form
 abbrev pub prepared_start : List ℕ

@@ -3,11 +3,11 @@
 
 mod id_ace;
 mod id_request;
-mod keyed;
+mod key_matching;
 mod prepared_ace;
 mod prepared_ids;
-mod preparing;
+mod prepared_names;
 
 pub use id_request::{IdObject, IdRequester};
 pub use prepared_ids::{PreparedIds, prepare_ids};
-pub use preparing::{Prepared, prepare};
+pub use prepared_names::{Prepared, prepare};

@@ -7,7 +7,7 @@ ghost use Rattle.acl_posix.specs.Names.{Table};
 ghost use Rattle.acl_eval.specs.Deciding.{AreDecidedBy};
 ghost use Rattle.acl_ids.specs.Ids.{HaveIds, IsIdsFault, with_ids};
 ghost use Rattle.acl_prepared.specs.PreparedIds.{AreIdsReadFrom, IsPreparedIds, id_ace, id_situation};
-ghost use Rattle.acl_eval.specs.internal.GrantingBody.{granted_in, left_in};
+ghost use Rattle.acl_eval.specs.internal.EachRightBody.{granted_in, left_in};
 ghost use Rattle.acl_prepared.specs.internal.IdsBody.{AreIdParts, IsIdPart, IsIdReadAs};
 ghost use Rattle.acl_prepared.specs.internal.PreparedBody.{DecidesAs};
 

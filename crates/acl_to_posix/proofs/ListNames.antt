@@ -13,7 +13,7 @@ use Rattle.acl_posix.specs.Names.{Table}
 use Rattle.acl_posix.specs.declared.id.Id.{Id}
 use Rattle.acl_nfs4.specs.Ace.{Ace}
 use Rattle.acl_ids.specs.Ids.{HaveIds}
-use Rattle.acl_to_posix.specs.ListNames.{AreMoreNames, AreNamesOf, AreOnce, counted_group, counted_user, is_number_of, names_group, names_user}
+use Rattle.acl_to_posix.specs.ListNames.{AreMoreNames, AreNamesOf, AreOnce, relevant_group, relevant_user, is_number_of, names_group, names_user}
 use Rattle.acl_to_posix.specs.LostGrants.{AreAtMost, IsLossFault}
 use Rattle.acl_to_posix.specs.PosixOfList.{IsToPosixFault}
 use Rattle.acl_to_posix.specs.ToPosix.{EntryShape, size_of}
@@ -154,9 +154,9 @@ names_are table list users groups u g =
 pub more_users : (table : Table) (list : List Ace) (most : ℕ) → AreMore most (names_user table list)
     → AreMoreNames most table list
 more_users table list most h =
-    let groups = with_numbers (counted_group table) [] list in record {
+    let groups = with_numbers (relevant_group table) [] list in record {
       named = record { users = h.all; groups = groups };
-      names = names_are table list h.all groups h.just (all_just (counted_group table) [] list tt);
+      names = names_are table list h.all groups h.just (all_just (relevant_group table) [] list tt);
       more = omega (arith, h.more);
     }
 
@@ -205,11 +205,11 @@ loss_fault table list entries most faults.Memory known h = (known, h)
 
 -- the names of a list
 pub all_names : (table : Table) (list : List Ace) → AreNamesOf table list (record {
-  users = with_numbers (counted_user table) [] list;
-  groups = with_numbers (counted_group table) [] list;
+  users = with_numbers (relevant_user table) [] list;
+  groups = with_numbers (relevant_group table) [] list;
 })
-all_names table list = names_are table list _ _ (all_just (counted_user table) [] list tt)
-    (all_just (counted_group table) [] list tt)
+all_names table list = names_are table list _ _ (all_just (relevant_user table) [] list tt)
+    (all_just (relevant_group table) [] list tt)
 
 -- the names are as many as the entries leave of the bound
 pub few_beside : (table : Table) (list : List Ace) (entries : Entries) (most left : ℕ) (named : EntryShape)

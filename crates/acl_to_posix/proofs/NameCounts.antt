@@ -8,7 +8,7 @@ use Rattle.acl_posix.specs.Check.{is_member}
 use Rattle.acl_posix.specs.Names.{Table}
 use Rattle.acl_nfs4.specs.Ace.{Ace}
 use Rattle.acl_to_posix.specs.ListNames.{AreFewNames, AreMoreNames, is_number_of, names_group, names_user}
-use Rattle.acl_to_posix.specs.internal.ListNamesBody.{AreBelow, AreCounted, AreMore, IsLeastFrom, lesser_id}
+use Rattle.acl_to_posix.specs.internal.ListNamesBody.{AreBelow, IsCountOfIds, AreMore, IsLeastFrom, lesser_id}
 use Rattle.acl_to_posix.proofs.ListNames.{all_just, grow, more_groups, names_are, with_numbers}
 
 -- ---- the least number
@@ -158,7 +158,7 @@ one_more_below test bound count least b h = record {
 
 -- if there is none from the bound on, these are all
 pub all_below : (test : ℕ → Bool) (bound count : ℕ) → AreBelow test bound count → IsLeastFrom bound test None
-    → AreCounted test count
+    → IsCountOfIds test count
 all_below test bound count b h = record {
   all = b.all;
   just = record {
@@ -197,7 +197,7 @@ more_below most of list bound count b above =
 
 -- where the users are counted and the groups are not, the names are more than the bound
 pub more_if_not_counted : (table : Table) (list : List Ace) (most users left : ℕ)
-    → AreCounted (names_user table list) users → users ≤ most → left ≡ most - users → (groups : Option ℕ)
+    → IsCountOfIds (names_user table list) users → users ≤ most → left ≡ most - users → (groups : Option ℕ)
     → (groups ≡ None → AreMore left (names_group table list)) → (none : Bool) → is_some groups ≡ not none
     → none ≡ true → AreMoreNames most table list
 more_if_not_counted table list most users left u within is None g none some e =
@@ -208,8 +208,8 @@ more_if_not_counted table list most users left u within is (Some groups) g none 
 
 -- where both are counted, the names are at most the bound
 pub few_if_counted : (table : Table) (list : List Ace) (most users left : ℕ)
-    → AreCounted (names_user table list) users → users ≤ most → left ≡ most - users → (groups : Option ℕ)
-    → IfSome groups (AreCounted (names_group table list)) → IfSome groups (λ count. count ≤ left) → (none : Bool)
+    → IsCountOfIds (names_user table list) users → users ≤ most → left ≡ most - users → (groups : Option ℕ)
+    → IfSome groups (IsCountOfIds (names_group table list)) → IfSome groups (λ count. count ≤ left) → (none : Bool)
     → is_some groups ≡ not none → none ≡ false → AreFewNames most table list
 few_if_counted table list most users left u within is None g rest none some e =
     absurd (true≢false (sym (some ∙ ap not e)))

@@ -14,8 +14,8 @@ use Rattle.acl_ids.specs.Ids.{id_of_name}
 use Rattle.acl_to_posix.specs.ToPosix.{EntryShape, size_of}
 
 -- the ACE takes part, and has a right of read, write or execute
-abbrev pub is_ace_counted : Ace → Bool
-is_ace_counted a = takes_part a && not (bit_and a.mask (image all_permissions) == 0)
+abbrev pub is_ace_relevant : Ace → Bool
+is_ace_relevant a = takes_part a && not (bit_and a.mask (image all_permissions) == 0)
 
 -- the id of a user
 abbrev pub user_id_in : Table → Principal → Option ℕ
@@ -33,26 +33,26 @@ group_id_in table group = None
 group_id_in table (group_named name) = id_of_name table.groups name
 group_id_in table everyone = None
 
--- the id of the user whom an ACE names that counts
-abbrev pub counted_user : Table → Ace → Option ℕ
-counted_user table a = if is_ace_counted a then user_id_in table (principal_of a) else None
+-- the id of the user whom a relevant ACE names
+abbrev pub relevant_user : Table → Ace → Option ℕ
+relevant_user table a = if is_ace_relevant a then user_id_in table (principal_of a) else None
 
--- the id of the group that an ACE names that counts
-abbrev pub counted_group : Table → Ace → Option ℕ
-counted_group table a = if is_ace_counted a then group_id_in table (principal_of a) else None
+-- the id of the group that a relevant ACE names
+abbrev pub relevant_group : Table → Ace → Option ℕ
+relevant_group table a = if is_ace_relevant a then group_id_in table (principal_of a) else None
 
 -- there is a number, and it is this one
 abbrev pub is_number_of : Option ℕ → ℕ → Bool
 is_number_of None id = false
 is_number_of (Some n) id = n == id
 
--- an ACE that counts names the user of this id
+-- a relevant ACE names the user of this id
 abbrev pub names_user : Table → List Ace → ℕ → Bool
-names_user table list id = list_any (λ a. is_number_of (counted_user table a) id) list
+names_user table list id = list_any (λ a. is_number_of (relevant_user table a) id) list
 
--- an ACE that counts names the group of this id
+-- a relevant ACE names the group of this id
 abbrev pub names_group : Table → List Ace → ℕ → Bool
-names_group table list id = list_any (λ a. is_number_of (counted_group table a) id) list
+names_group table list id = list_any (λ a. is_number_of (relevant_group table a) id) list
 
 -- no number is there twice
 abbrev pub AreOnce : List ℕ → Type 0

@@ -20,7 +20,7 @@ use Rattle.acl_eval.specs.Bridge.{bridge_list, image}
 use Rattle.acl_eval.specs.BridgeLaws.{IsAsked, IsSingle, by_name}
 use Rattle.acl_eval.specs.Grant.{Grant}
 use Rattle.acl_ids.specs.Ids.{HaveIds, with_ids}
-use Rattle.acl_to_posix.specs.ListNames.{AreNamesOf, is_ace_counted}
+use Rattle.acl_to_posix.specs.ListNames.{AreNamesOf, is_ace_relevant}
 use Rattle.acl_to_posix.specs.Pruning.{LosesNothing, Prunes, PrunesTo}
 use Rattle.acl_to_posix.specs.ToPosix.{AlwaysHas, EntryShape, IsBest, IsSound, is_in_shape, size_of}
 
@@ -73,9 +73,9 @@ IsNameIn shape group = ⊤
 IsNameIn shape (group_named name) = (id : ℕ) → IsId id → name ≡ decimal id → is_member id shape.groups ≡ true
 IsNameIn shape everyone = ⊤
 
--- the shape has each user and each group that an ACE names that counts
+-- the shape has each user and each group that a relevant ACE names
 abbrev pub HasNamesOf : EntryShape → List Ace → Type 0
-HasNamesOf shape list = AllByRecursion (λ a. is_ace_counted a ≡ true → IsNameIn shape (principal_of a)) list
+HasNamesOf shape list = AllByRecursion (λ a. is_ace_relevant a ≡ true → IsNameIn shape (principal_of a)) list
 
 -- if any ACL agrees with the list, with entries for any users and groups, the ACL of the last shape does, if the
 -- pruning began with all names of the list

@@ -2,9 +2,9 @@
 ghost use Rattle.std.specs.Prelude.{◌≡◌, ◌≤◌, ◌||◌, ℕ, IfErr, IfOk, IfSome, IsFalse, IsTrue, None, OnOk, false, length, option_map};
 ghost use Rattle.acl_nfs4.specs.Ace.{ace};
 ghost use Rattle.acl_posix.specs.Check.{ids, is_member};
-ghost use Rattle.acl_to_posix.specs.ListNames.{AreFewNames, AreMoreNames, AreNamesOf, AreOnce, counted_group, counted_user, is_ace_counted, is_number_of};
+ghost use Rattle.acl_to_posix.specs.ListNames.{AreFewNames, AreMoreNames, AreNamesOf, AreOnce, relevant_group, relevant_user, is_ace_relevant, is_number_of};
 ghost use Rattle.acl_to_posix.specs.ToPosix.{size_of};
-ghost use Rattle.acl_to_posix.specs.internal.ListNamesBody.{AreCounted, AreJust, AreMore, AreNamesAbove, IsIdsAbove, IsLeastFrom, IsNamesFault, counted_id, lesser_id, names_id, named_shape};
+ghost use Rattle.acl_to_posix.specs.internal.ListNamesBody.{IsCountOfIds, AreJust, AreMore, AreNamesAbove, IsIdsAbove, IsLeastFrom, IsNamesFault, relevant_id, lesser_id, names_id, named_shape};
 ghost use Rattle.acl_to_posix.specs.internal.ShapeBody.{entry_shape_of};
 
 use crate::posix_shape::{PosixShape, ShapeFault, is_among};
@@ -96,7 +96,7 @@ fn ids_within(
 {
     let mut found = Vec::new(alloc);
     for ace in list.aces() {
-        add(&mut found, counted_id(kind, names, &ace))?;
+        add(&mut found, relevant_id(kind, names, &ace))?;
         if found.len() > most {
             return Err(ShapeFault::TooManyNames);
         }
@@ -118,7 +118,7 @@ fn are_more_names(list: &AclView<'_>, names: &Names, most: usize) -> bool
 // Returns the number of ids of this kind that the list names in ACEs that count, if they are at most this many. It
 // finds one after the other, from the least on.
 fn count_of(list: &AclView<'_>, names: &Names, kind: IdKind, most: usize) -> Option<usize>
-    ensures counted { IfSome result (AreCounted (names_id kind names.now list.now)) }
+    ensures counted { IfSome result (IsCountOfIds (names_id kind names.now list.now)) }
     ensures few { IfSome result (λ count. count ≤ most) }
     ensures more { result ≡ None → AreMore most (names_id kind names.now list.now) }
 {
@@ -141,7 +141,7 @@ fn least_from(list: &AclView<'_>, names: &Names, kind: IdKind, from: u32) -> Opt
 {
     let mut least = None;
     for ace in list.aces() {
-        least = lesser_id(from, least, counted_id(kind, names, &ace));
+        least = lesser_id(from, least, relevant_id(kind, names, &ace));
     }
     least
 }
@@ -179,39 +179,39 @@ fn add(among: &mut Vec<Id>, id: Option<Id>) -> Result<(), AllocError>
     Ok(())
 }
 
-// Returns the id of the user, or of the group, whom an ACE names that counts.
-fn counted_id(kind: IdKind, names: &Names, item: &AceRef<'_>) -> Option<Id>
-    ensures { option_map (λ id. id.value) result ≡ counted_id kind names.now (ace item.now) }
+// Returns the id of the user, or of the group, whom a relevant ACE names.
+fn relevant_id(kind: IdKind, names: &Names, item: &AceRef<'_>) -> Option<Id>
+    ensures { option_map (λ id. id.value) result ≡ relevant_id kind names.now (ace item.now) }
 {
     match kind {
-        IdKind::User => counted_user(names, item),
-        IdKind::Group => counted_group(names, item),
+        IdKind::User => relevant_user(names, item),
+        IdKind::Group => relevant_group(names, item),
     }
 }
 
-// Returns the id of the user whom an ACE names that counts.
-fn counted_user(names: &Names, item: &AceRef<'_>) -> Option<Id>
-    ensures { option_map (λ id. id.value) result ≡ counted_user names.now (ace item.now) }
+// Returns the id of the user whom a relevant ACE names.
+fn relevant_user(names: &Names, item: &AceRef<'_>) -> Option<Id>
+    ensures { option_map (λ id. id.value) result ≡ relevant_user names.now (ace item.now) }
 {
     match item.principal() {
-        Principal::User(name) if is_ace_counted(item) => user_id(names, name),
+        Principal::User(name) if is_ace_relevant(item) => user_id(names, name),
         _ => None,
     }
 }
 
-// Returns the id of the group that an ACE names that counts.
-fn counted_group(names: &Names, item: &AceRef<'_>) -> Option<Id>
-    ensures { option_map (λ id. id.value) result ≡ counted_group names.now (ace item.now) }
+// Returns the id of the group that a relevant ACE names.
+fn relevant_group(names: &Names, item: &AceRef<'_>) -> Option<Id>
+    ensures { option_map (λ id. id.value) result ≡ relevant_group names.now (ace item.now) }
 {
     match item.principal() {
-        Principal::GroupNamed(name) if is_ace_counted(item) => group_id(names, name),
+        Principal::GroupNamed(name) if is_ace_relevant(item) => group_id(names, name),
         _ => None,
     }
 }
 
 // Returns whether the ACE takes part, and has a right of read, write or execute.
-fn is_ace_counted(item: &AceRef<'_>) -> bool
-    ensures { result ≡ is_ace_counted (ace item.now) }
+fn is_ace_relevant(item: &AceRef<'_>) -> bool
+    ensures { result ≡ is_ace_relevant (ace item.now) }
 {
     item.takes_part() && item.mask.intersection(image(Perm::ALL)).bits() != 0
 }

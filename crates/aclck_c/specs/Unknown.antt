@@ -10,8 +10,8 @@ use Rattle.acl_nfs4.specs.AccessPart.{IsPartOf, Part}
 use Rattle.acl_nfs4.specs.PartFault.{IsFaultOfPart}
 use Rattle.acl_nfs4.specs.declared.xdr.fault.Reason.{Reason}
 use Rattle.acl_decide.specs.Unknown.{AlwaysAnswers, IsRequestAnswer, MayAnswer, MayNotGrant, NeverGrants}
-use Rattle.acl_decide.specs.declared.requesting.RequestAnswer.{RequestAnswer}
-use Rattle.acl_decide.specs.declared.requesting.RequestAnswer.TheVariants.{Always, Depends, Never}
+use Rattle.acl_decide.specs.declared.request_with_unknown.RequestAnswer.{RequestAnswer}
+use Rattle.acl_decide.specs.declared.request_with_unknown.RequestAnswer.TheVariants.{Always, Depends, Never}
 use Rattle.aclck_c.specs.Refusal.{in_list}
 use Rattle.aclck_c.specs.declared.nfs4.unknown.RawPossible.{RawPossible}
 use Rattle.aclck_c.specs.declared.refusal.Refusal.{Refusal}

@@ -1,7 +1,7 @@
 -- The search for the ACE that decides, as the code does it: this library's own.
 use Rattle.std.specs.Prelude.{ℕ, ◌+◌, Bool, List, [], ◌∷◌, Option, Some, None, if◌then◌else◌}
 use Rattle.acl_nfs4.specs.Ace.{Ace}
-use Rattle.acl_decide.specs.declared.deciding.Decision.{Decision}
+use Rattle.acl_decide.specs.declared.one_decider.Decision.{Decision}
 
 -- the first ACE that passes the test, if the list begins at this place
 abbrev pub decision_from : ℕ → (Ace → Bool) → List Ace → Option Decision

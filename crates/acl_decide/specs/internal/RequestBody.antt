@@ -14,8 +14,8 @@ use Rattle.acl_nfs4.specs.Who.{is_unknown_special}
 use Rattle.acl_nfs4.specs.declared.ace.AceRef.{AceRef}
 use Rattle.acl_eval.specs.Column.{takes_part}
 use Rattle.acl_decide.specs.Unknown.{Assignment, GrantsUnder, answer_under, matches_under}
-use Rattle.acl_decide.specs.declared.requesting.Step.{Step}
-use Rattle.acl_decide.specs.declared.requesting.Step.TheVariants.{Granted, Denied, Against}
+use Rattle.acl_decide.specs.declared.request_with_unknown.Step.{Step}
+use Rattle.acl_decide.specs.declared.request_with_unknown.Step.TheVariants.{Granted, Denied, Against}
 
 -- a set has the name
 abbrev pub is_out : BTreeSet (Bor (List ℕ)) → List ℕ → Bool

@@ -16,7 +16,7 @@ use Rattle.acl_nfs4.specs.Ace.{Ace}
 use Rattle.acl_nfs4.specs.Who.{is_unknown_special, principal_of}
 use Rattle.acl_eval.specs.Column.{takes_part}
 use Rattle.acl_decide.specs.Unknown.{Assignment}
-use Rattle.acl_decide.specs.declared.unknown.Possible.{Possible}
+use Rattle.acl_decide.specs.declared.rights_with_unknown.Possible.{Possible}
 
 -- both answers are the same
 abbrev pub is_answer : Option Kind → Option Kind → Bool

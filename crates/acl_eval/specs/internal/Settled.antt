@@ -4,8 +4,8 @@ use Rattle.acl_perm.specs.Bits.{all_rights, has_bit}
 use Rattle.acl_perm.specs.Principal.{Principal}
 use Rattle.acl_nfs4.specs.Ace.{Ace}
 use Rattle.acl_eval.specs.ListMode.{is_for_group, is_for_others, is_for_owner, is_granted_by}
-use Rattle.acl_eval.specs.internal.GrantingBody.{decided_by}
-use Rattle.acl_eval.specs.declared.granting.GrantedSoFar.{GrantedSoFar}
+use Rattle.acl_eval.specs.internal.EachRightBody.{decided_by}
+use Rattle.acl_eval.specs.declared.each_right.GrantedSoFar.{GrantedSoFar}
 use Rattle.acl_eval.specs.declared.mode.FileClass.{FileClass}
 use Rattle.acl_eval.specs.declared.mode.FileClass.TheVariants.{Owner, Group, Others}
 

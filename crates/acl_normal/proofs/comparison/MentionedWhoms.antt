@@ -7,8 +7,8 @@ use Rattle.acl_normal.proofs.comparison.Numbers.{whom_is}
 use Rattle.acl_normal.proofs.comparison.Ordered.{rising_same, below_one}
 use Rattle.acl_normal.proofs.unique.Names.{principal_eq_itself}
 use Rattle.acl_normal.specs.internal.comparison.MentionedRows.{AreByRow, AreMentionedRows, AreMentionedNumbers, HasNumber, at_row, held, whom_of}
-use Rattle.acl_normal.specs.internal.comparison.Compared.{IsCompared, lists_in}
-use Rattle.acl_normal.specs.declared.comparison.compared.Compared.TheInside.{Inside}
+use Rattle.acl_normal.specs.internal.comparison.ListPair.{IsListPair, lists_in}
+use Rattle.acl_normal.specs.declared.comparison.list_pair.ListPair.TheInside.{Inside}
 use Rattle.acl_perm.specs.declared.principal.Principal.{Principal as PrincipalRef}
 use Rattle.acl_normal.proofs.comparison.MentionedRows.{ace_at, ace_here, row_fits, row_there}
 use Rattle.acl_normal.proofs.comparison.MentionedNumbers.{all_held, held_at, rising_held}
@@ -166,8 +166,8 @@ whoms_cover ps list other ws h = omega (
 )
 
 -- the code holds as many principals as the lists mention
-pub all_there : (c : Inside) → IsCompared c → length c.mentioned.now ≡ length (all_mentioned (lists_in c))
+pub all_there : (c : Inside) → IsListPair c → length c.mentioned.now ≡ length (all_mentioned (lists_in c))
 all_there c h = sym (length-map c.mentioned.now principal) ∙ ap length h.mentioned
 
 -- whom the ACEs of either list name
-pub ruleset compared_parts = (whoms_first, whoms_second)
+pub ruleset list_pair_parts = (whoms_first, whoms_second)

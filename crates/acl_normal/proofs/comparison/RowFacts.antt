@@ -9,7 +9,7 @@ use Rattle.acl_normal.specs.internal.comparison.FirstPlaces.{AlikeAlone, IsFirst
 use Rattle.acl_normal.specs.internal.comparison.SetSearch.{AlikeAt}
 use Rattle.acl_normal.specs.internal.comparison.TwoLists.{AlikeToOne, AlikeToPairs, HaveSameColumn, principal_at}
 use Rattle.acl_normal.specs.declared.comparison.direction.Direction.{Direction}
-use Rattle.acl_normal.specs.declared.class.Class.{Class}
+use Rattle.acl_normal.specs.declared.principal_class.Class.{Class}
 use Rattle.acl_normal.specs.declared.comparison.placing.First.{First}
 
 -- the first ACE of a principal from place 0 on is its first ACE in the list

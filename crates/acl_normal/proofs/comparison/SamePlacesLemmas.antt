@@ -8,7 +8,7 @@ use Rattle.acl_normal.proofs.comparison.MentionedPrincipals.{all_in, among_first
 use Rattle.acl_normal.proofs.comparison.MentionedRows.{mentioned_there}
 use Rattle.acl_normal.proofs.comparison.Ordered.{below_one, rising_same}
 use Rattle.acl_normal.specs.internal.comparison.MentionedRows.{AreMentioned, AreMentionsOf}
-use Rattle.acl_normal.specs.declared.comparison.mentioned.Mentions.{Mentions}
+use Rattle.acl_normal.specs.declared.comparison.mentioned_principals.Mentions.{Mentions}
 use Rattle.acl_normal.specs.internal.comparison.SamePlaces.{HasSameWho, HaveOneWho, with_copies}
 use Rattle.acl_perm.specs.Bits.{inherit_only}
 

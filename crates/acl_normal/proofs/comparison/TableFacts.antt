@@ -1,35 +1,35 @@
 -- Tables that show which placings invert another.
-use Rattle.acl_normal.proofs.Common.{Ace, AllByRecursion, AllZip, Allow, Bool, Deny, IsPlacing, List, Principal, Placing, SameAlone, [], and_parts, ap, arith, cases_eq, cases_lt, cond, differ, eq-eqb, false, false≢true, first_place, get_or-replicate, get_or-set_other, get_or-set_same, get_or_default, get_or_read, inl, inr, inverts, inverts_any, is_of_camp, is_users, le-ltb, length, length-replicate, length-set, max, nat_lt, ne_eqb, no_placing, not, or_cases, refl, replicate, slice_index_or, slice_set, subst, sym, take, take_more, true, ℕ, ◌&&◌, ◌++◌, ◌+◌, ◌-◌, ◌<◌, ◌==◌, ◌||◌, ◌∙◌, ◌∷◌, ◌≡◌, ◌≤◌, ◌⊎◌}
+use Rattle.acl_normal.proofs.Common.{Ace, AllByRecursion, AllZip, Allow, Bool, Deny, IsPlacing, List, Principal, Placing, SameAlone, [], and_parts, ap, arith, cases_eq, cases_lt, cond, differ, eq-eqb, false, false≢true, first_place, get_or-replicate, get_or-set_other, get_or-set_same, get_or_default, get_or_read, inl, inr, inverts, inverts_any, is_selected, is_users, le-ltb, length, length-replicate, length-set, max, nat_lt, ne_eqb, no_placing, not, or_cases, refl, replicate, slice_index_or, slice_set, subst, sym, take, take_more, true, ℕ, ◌&&◌, ◌++◌, ◌+◌, ◌-◌, ◌<◌, ◌==◌, ◌||◌, ◌∙◌, ◌∷◌, ◌≡◌, ◌≤◌, ◌⊎◌}
 use borrow.Author.Count.{below_more}
 use Rattle.std.proofs.lemmas.Bool.Decides.{nat_tests}
 use Rattle.std.proofs.lemmas.List.{get_or-take, length-take-le}
 use Rattle.acl_normal.proofs.Each.{all_at}
 use Rattle.acl_normal.specs.internal.comparison.Directions.{differ_in}
 use Rattle.acl_normal.specs.internal.comparison.FirstPlaces.{IsFirstBelow, earlier_allows}
-use Rattle.acl_normal.specs.internal.comparison.PlaceTables.{IsFirstOf, IsPlaceTable, IsScattered, IsPlacingWithin, Raises, camp_of, has_kind, is_counted, is_inverting, is_wanted, most_at, most_before, other_place, place_of, wants}
-use Rattle.acl_normal.specs.declared.class.Class.{Class}
-use Rattle.acl_normal.specs.declared.class.Class.TheVariants.{Others, Users}
+use Rattle.acl_normal.specs.internal.comparison.PlaceTables.{IsFirstOf, IsPlaceTable, IsScattered, IsPlacingWithin, Raises, selection_of, has_kind, is_opposing, is_inverting, is_wanted, most_at, most_before, other_place, place_of, wants}
+use Rattle.acl_normal.specs.declared.principal_class.Class.{Class}
+use Rattle.acl_normal.specs.declared.principal_class.Class.TheVariants.{Others, Users}
 use Rattle.acl_normal.specs.declared.comparison.direction.Direction.{Direction}
 use Rattle.acl_normal.specs.declared.comparison.direction.Direction.TheVariants.{Either, Over}
-use Rattle.acl_normal.specs.declared.comparison.inversions.Camp.{Camp}
+use Rattle.acl_normal.specs.declared.comparison.inversions.Selection.{Selection}
 use Rattle.acl_normal.specs.declared.comparison.inversions.Side.{Side}
 use Rattle.acl_normal.specs.declared.comparison.inversions.Side.TheVariants.{Here, There}
 use Rattle.acl_perm.specs.Kind.{is_allow}
 
 -- the greatest of two parts is the greater of theirs
-pub most_at-append : (q : Camp) (w : Side) (k : ℕ) (xs ys : List Placing)
+pub most_at-append : (q : Selection) (w : Side) (k : ℕ) (xs ys : List Placing)
     → most_at q w k (xs ++ ys) ≡ max (most_at q w k xs) (most_at q w k ys)
 most_at-append q w k [] ys = omega arith
 most_at-append q w k (r ∷ xs) ys = let ih = most_at-append q w k xs ys in omega arith
 
 -- no placing is just before place 0
-pub at_zero : (q : Camp) (w : Side) (rows : List Placing) → most_at q w 0 rows ≡ 0
+pub at_zero : (q : Selection) (w : Side) (rows : List Placing) → most_at q w 0 rows ≡ 0
 at_zero q w [] = refl
 at_zero q w (r ∷ rows) =
     grind (arith, at_zero q w rows, ne_eqb (place_of w r + 1) 0 (λ e. absurd (omega arith)))
 
 -- no placing is before place 0
-pub before_zero : (q : Camp) (w : Side) (rows : List Placing) → most_before q w 0 rows ≡ 0
+pub before_zero : (q : Selection) (w : Side) (rows : List Placing) → most_before q w 0 rows ≡ 0
 before_zero q w [] = refl
 before_zero q w (r ∷ rows) = grind (arith, before_zero q w rows, le-ltb (place_of w r) 0 (omega arith))
 
@@ -39,19 +39,19 @@ one_more : (t : Bool) (k j v : ℕ)
 one_more t k j v = grind (arith, nat_tests)
 
 -- the greatest before the next place is the greater of the greatest at that place and that before it
-pub before_more : (q : Camp) (w : Side) (k : ℕ) (rows : List Placing)
+pub before_more : (q : Selection) (w : Side) (k : ℕ) (rows : List Placing)
     → most_before q w (k + 1) rows ≡ max (most_at q w (k + 1) rows) (most_before q w k rows)
 before_more q w k [] = refl
 before_more q w k (r ∷ rows) =
-    let head = one_more (is_counted q r) k (place_of w r) (other_place w r + 1) in
+    let head = one_more (is_opposing q r) k (place_of w r) (other_place w r + 1) in
     let ih = before_more q w k rows in
     omega arith
 
 -- some placing counts, is before k in its list, and isn't before v in the other list
-abbrev pub any_over : Camp → Side → ℕ → ℕ → List Placing → Bool
+abbrev pub any_over : Selection → Side → ℕ → ℕ → List Placing → Bool
 any_over q w k v [] = false
 any_over q w k v (r ∷ rows) =
-    (is_counted q r && (nat_lt (place_of w r) k && not (nat_lt (other_place w r) v))) || any_over q w k v rows
+    (is_opposing q r && (nat_lt (place_of w r) k && not (nat_lt (other_place w r) v))) || any_over q w k v rows
 
 -- the greatest is over a number if and only if the first placing is, or that of the others is
 over_head : (t l : Bool) (v x m : ℕ)
@@ -59,12 +59,12 @@ over_head : (t l : Bool) (v x m : ℕ)
 over_head t l v x m = grind (arith, nat_tests)
 
 -- the greatest is over a number if and only if that of some placing is
-pub over_is : (q : Camp) (w : Side) (k v : ℕ) (rows : List Placing)
+pub over_is : (q : Selection) (w : Side) (k v : ℕ) (rows : List Placing)
     → nat_lt v (most_before q w k rows) ≡ any_over q w k v rows
 over_is q w k v [] = le-ltb v 0 (omega arith)
 over_is q w k v (r ∷ rows) =
-    over_head (is_counted q r) (nat_lt (place_of w r) k) v (other_place w r) (most_before q w k rows)
-    ∙ ap (λ t. (is_counted q r && (nat_lt (place_of w r) k && not (nat_lt (other_place w r) v))) || t)
+    over_head (is_opposing q r) (nat_lt (place_of w r) k) v (other_place w r) (most_before q w k rows)
+    ∙ ap (λ t. (is_opposing q r && (nat_lt (place_of w r) k && not (nat_lt (other_place w r) v))) || t)
     (over_is q w k v rows)
 
 -- if two principals are each answered alike, one is of a kind in both lists, and the orders of both are known, then
@@ -87,8 +87,8 @@ by_side v w x y p q = grind arith
 same_class : (k l : Class) → not (differ (is_users k) (is_users l)) ≡ true → is_users k ≡ is_users l
 same_class k l h = grind arith
 
--- a placing of a camp inverts another if and only if one is over its place, on a side that the camp wants
-inverts_is : (q : Camp) (r : Placing) (rows : List Placing) → is_of_camp q r ≡ true → SameAlone q.direction r
+-- a placing of a selection inverts another if and only if one is over its place, on a side that the selection wants
+inverts_is : (q : Selection) (r : Placing) (rows : List Placing) → is_selected q r ≡ true → SameAlone q.direction r
     → AllByRecursion (SameAlone q.direction) rows
     → inverts_any q.direction r rows ≡ ((wants q Here && any_over q Here r.here.place r.there.place rows)
     || (wants q There && any_over q There r.there.place r.here.place rows))
@@ -98,8 +98,8 @@ inverts_is q r [] h u all = neither (wants q Here) (wants q There)
     neither v w = grind arith
 inverts_is q r (s ∷ rows) h u all =
     let parts = and_parts (has_kind (is_allow q.kind) r) (not (differ (is_users q.class) (is_users r.class))) h in
-    let one : inverts q.direction r s ≡ ((wants q Here && (is_counted q s && (nat_lt s.here.place r.here.place
-    && not (nat_lt s.there.place r.there.place)))) || (wants q There && (is_counted q s
+    let one : inverts q.direction r s ≡ ((wants q Here && (is_opposing q s && (nat_lt s.here.place r.here.place
+    && not (nat_lt s.there.place r.there.place)))) || (wants q There && (is_opposing q s
     && (nat_lt s.there.place r.there.place && not (nat_lt s.here.place r.here.place))))) =
     ap (λ t. not (t && is_users s.class)
     && differ_in q.direction (earlier_allows r.here s.here) (earlier_allows r.there s.there))
@@ -108,14 +108,14 @@ inverts_is q r (s ∷ rows) h u all =
     (nat_lt s.here.place r.here.place) (nat_lt s.there.place r.there.place) (is_allow r.here.kind)
     (is_allow r.there.kind) (is_allow s.here.kind) (is_allow s.there.kind) u all.0 parts.0 in
     ap (λ t. t || inverts_any q.direction r rows) one
-    ∙ ap (λ t. ((wants q Here && (is_counted q s && (nat_lt s.here.place r.here.place
-    && not (nat_lt s.there.place r.there.place)))) || (wants q There && (is_counted q s
+    ∙ ap (λ t. ((wants q Here && (is_opposing q s && (nat_lt s.here.place r.here.place
+    && not (nat_lt s.there.place r.there.place)))) || (wants q There && (is_opposing q s
     && (nat_lt s.there.place r.there.place && not (nat_lt s.here.place r.here.place))))) || t)
     (inverts_is q r rows h u all.1)
     ∙ by_side (wants q Here) (wants q There) _ _ (any_over q Here r.here.place r.there.place rows)
     (any_over q There r.there.place r.here.place rows)
 
--- a placing that is of no camp inverts none
+-- a placing that is of no selection inverts none
 outside : (way : Direction) (r : Placing) (rows : List Placing) → SameAlone way r → has_kind true r ≡ false
     → has_kind false r ≡ false → AllByRecursion (SameAlone way) rows → inverts_any way r rows ≡ false
 outside way r [] u h i all = refl
@@ -130,8 +130,8 @@ outside way r (s ∷ rows) u h i all =
     none Over c l m rh rt sh st u v h i = grind arith
 
 -- a placing that counts raises the value after its place
-pub raises_set : (q : Camp) (w : Side) (r : Placing) (old new : List ℕ) (j v : ℕ) → j < length old
-    → is_counted q r ≡ true
+pub raises_set : (q : Selection) (w : Side) (r : Placing) (old new : List ℕ) (j v : ℕ) → j < length old
+    → is_opposing q r ≡ true
     → j ≡ place_of w r + 1 → v ≡ other_place w r + 1 → new ≡ slice_set old j (max (slice_index_or old j 0) v)
     → Raises q w r old new
 raises_set q w r old new j v lt c jk vk is =
@@ -143,7 +143,7 @@ raises_set q w r old new j v lt c jk vk is =
   where
     at : (k : ℕ) → (k ≡ j) ⊎ (k ≡ j → ⊥)
         → slice_index_or (slice_set old j (max (slice_index_or old j 0) v)) k 0
-        ≡ max (slice_index_or old k 0) (cond (is_counted q r && (place_of w r + 1 == k)) (other_place w r + 1) 0)
+        ≡ max (slice_index_or old k 0) (cond (is_opposing q r && (place_of w r + 1 == k)) (other_place w r + 1) 0)
     at k (inl e) = ap (λ i. slice_index_or (slice_set old j (max (slice_index_or old j 0) v)) i 0) e
         ∙ get_or-set_same old j (max (slice_index_or old j 0) v) 0 lt
         ∙ rw (c, eq-eqb (place_of w r + 1) k (sym jk ∙ sym e))
@@ -152,11 +152,12 @@ raises_set q w r old new j v lt c jk vk is =
         ∙ rw (c, ne_eqb (place_of w r + 1) k (λ e. n (sym e ∙ sym jk))) (omega arith)
 
 -- a placing that does not count raises nothing
-pub raises_none : (q : Camp) (w : Side) (r : Placing) (old : List ℕ) → is_counted q r ≡ false → Raises q w r old old
+pub raises_none : (q : Selection) (w : Side) (r : Placing) (old : List ℕ) → is_opposing q r ≡ false
+    → Raises q w r old old
 raises_none q w r old c = record { count = refl; each = λ k lk. rw c (omega arith) }
 
 -- before the first placing the table is zero everywhere
-pub scatter_start : (q : Camp) (w : Side) (size n : ℕ) (table : List ℕ) → table ≡ replicate n 0 → n ≡ size + 2
+pub scatter_start : (q : Selection) (w : Side) (size n : ℕ) (table : List ℕ) → table ≡ replicate n 0 → n ≡ size + 2
     → IsScattered q w size [] table
 scatter_start q w size n table is e =
     record {
@@ -166,7 +167,7 @@ scatter_start q w size n table is e =
     }
 
 -- a table that is raised by the next placing is scattered of the placings up to it
-pub scatter_more : {q : Camp} {w : Side} {size i : ℕ} (rows : List Placing) (d : Placing) {old new : List ℕ}
+pub scatter_more : {q : Selection} {w : Side} {size i : ℕ} (rows : List Placing) (d : Placing) {old new : List ℕ}
     → i < length rows
     → Raises q w (slice_index_or rows i d) old new → IsScattered q w size (take i rows) old
     → IsScattered q w size (take (i + 1) rows) new
@@ -179,21 +180,21 @@ scatter_more {q} {w} {size} {i} rows d {old} lt up h = record {
   where
     whole : (k : ℕ) → slice_index_or old k 0 ≡ most_at q w k (take i rows)
         → max (slice_index_or old k 0)
-        (cond (is_counted q (slice_index_or rows i d) && (place_of w (slice_index_or rows i d) + 1 == k))
+        (cond (is_opposing q (slice_index_or rows i d) && (place_of w (slice_index_or rows i d) + 1 == k))
         (other_place w (slice_index_or rows i d) + 1) 0)
         ≡ max (most_at q w k (take i rows))
-        (max (cond (is_counted q (slice_index_or rows i d) && (place_of w (slice_index_or rows i d) + 1 == k))
+        (max (cond (is_opposing q (slice_index_or rows i d) && (place_of w (slice_index_or rows i d) + 1 == k))
         (other_place w (slice_index_or rows i d) + 1) 0) 0)
     whole k e = omega arith
 
 -- the places below k are finished
-pub record IsSummed (q : Camp) (w : Side) (size k : ℕ) (rows : List Placing) (table : List ℕ) : Type 0 where
+pub record IsSummed (q : Selection) (w : Side) (size k : ℕ) (rows : List Placing) (table : List ℕ) : Type 0 where
   pub count : length table ≡ size + 2
   pub done : (j : ℕ) → j < k → slice_index_or table j 0 ≡ most_before q w j rows
   pub left : (j : ℕ) → k ≤ j → j < size + 2 → slice_index_or table j 0 ≡ most_at q w j rows
 
 -- a scattered table is finished below place 1, since no placing is before place 0
-pub summed_start : {q : Camp} {w : Side} {size : ℕ} {rows : List Placing} {table : List ℕ}
+pub summed_start : {q : Selection} {w : Side} {size : ℕ} {rows : List Placing} {table : List ℕ}
     → IsScattered q w size rows table
     → IsSummed q w size 1 rows table
 summed_start {q} {w} {size} {rows} {table} h = record {
@@ -205,7 +206,7 @@ summed_start {q} {w} {size} {rows} {table} h = record {
 }
 
 -- with the greater of its own and the value before it at place k, a table is finished below k + 1
-pub summed_more : {q : Camp} {w : Side} {size k x y : ℕ} {rows : List Placing} {old new : List ℕ} → 0 < k
+pub summed_more : {q : Selection} {w : Side} {size k x y : ℕ} {rows : List Placing} {old new : List ℕ} → 0 < k
     → k < size + 2
     → x ≡ slice_index_or old k x → y ≡ slice_index_or old (k - 1) y → new ≡ slice_set old k (max x y)
     → IsSummed q w size k rows old → IsSummed q w size (k + 1) rows new
@@ -236,7 +237,7 @@ summed_more {q} {w} {size} {k} {x} {y} {rows} {old} pos lt xi yi is h = record {
     at j l (inr n) = get_or-set_other old k j (max x y) 0 n ∙ h.done j (omega arith)
 
 -- after the last place the table is finished
-pub summed_done : (q : Camp) (w : Side) (size k : ℕ) (rows : List Placing) (table : List ℕ) → wants q w ≡ true
+pub summed_done : (q : Selection) (w : Side) (size k : ℕ) (rows : List Placing) (table : List ℕ) → wants q w ≡ true
     → size + 2 ≤ k → IsSummed q w size k rows table → IsPlaceTable q w size rows table
 summed_done q w size k rows table wanted le h = record {
   count = h.count;
@@ -244,7 +245,7 @@ summed_done q w size k rows table wanted le h = record {
 }
 
 -- the table of a side that is not wanted is zero everywhere
-pub unwanted : (q : Camp) (w : Side) (size n : ℕ) (rows : List Placing) (table : List ℕ) → wants q w ≡ false
+pub unwanted : (q : Selection) (w : Side) (size n : ℕ) (rows : List Placing) (table : List ℕ) → wants q w ≡ false
     → table ≡ replicate n 0 → n ≡ size + 2 → IsPlaceTable q w size rows table
 unwanted q w size n rows table off is e = record {
   count = ap length is ∙ length-replicate n 0 ∙ e;
@@ -257,13 +258,14 @@ counted_below : (t : Bool) (v x : ℕ) → nat_lt v (cond t x 0) ≡ (t && nat_l
 counted_below true v x = refl
 counted_below false v x = le-ltb v 0 (omega arith)
 
--- a placing of a camp inverts another if and only if one of the camp's two tables is over its place
-by_camp : (q : Camp) (size : ℕ) (rows : List Placing) (r : Placing) (forward back : List ℕ) → is_of_camp q r ≡ true
+-- a placing of a selection inverts another if and only if one of the selection's two tables is over its place
+by_selection : (q : Selection) (size : ℕ) (rows : List Placing) (r : Placing) (forward back : List ℕ)
+    → is_selected q r ≡ true
     → SameAlone q.direction r → AllByRecursion (SameAlone q.direction) rows → IsPlacingWithin size r
     → IsPlaceTable q Here size rows forward → IsPlaceTable q There size rows back
     → inverts_any q.direction r rows ≡ (nat_lt r.there.place (slice_index_or forward r.here.place 0)
     || nat_lt r.here.place (slice_index_or back r.there.place 0))
-by_camp q size rows r forward back k u all p f b =
+by_selection q size rows r forward back k u all p f b =
     let here_in = p.here in
     let there_in = p.there in
     inverts_is q r rows k u all
@@ -277,23 +279,23 @@ by_camp q size rows r forward back k u all p f b =
     ) refl
 
 -- a placing that the tables report inverts another
-found_true : (q : Camp) (size : ℕ) (rows : List Placing) (r : Placing) (forward back : List ℕ) (t : Bool)
+found_true : (q : Selection) (size : ℕ) (rows : List Placing) (r : Placing) (forward back : List ℕ) (t : Bool)
     → t ≡ is_inverting q r forward back → t ≡ true → SameAlone q.direction r
     → AllByRecursion (SameAlone q.direction) rows → IsPlacingWithin size r → IsPlaceTable q Here size rows forward
     → IsPlaceTable q There size rows back → inverts_any q.direction r rows ≡ true
 found_true q size rows r forward back t h e u all p f b =
-    let parts = and_parts (is_of_camp q r)
+    let parts = and_parts (is_selected q r)
     (nat_lt r.there.place (slice_index_or forward r.here.place 0) || nat_lt r.here.place
     (slice_index_or back r.there.place 0)) (sym h ∙ e) in
-    by_camp q size rows r forward back parts.0 u all p f b ∙ parts.1
+    by_selection q size rows r forward back parts.0 u all p f b ∙ parts.1
 
--- a placing of the camp that the tables do not report inverts none
-found_false : (q : Camp) (size : ℕ) (rows : List Placing) (r : Placing) (forward back : List ℕ) (t : Bool)
+-- a placing of the selection that the tables do not report inverts none
+found_false : (q : Selection) (size : ℕ) (rows : List Placing) (r : Placing) (forward back : List ℕ) (t : Bool)
     → t ≡ is_inverting q r forward back → t ≡ false → SameAlone q.direction r
     → AllByRecursion (SameAlone q.direction) rows → IsPlacingWithin size r → IsPlaceTable q Here size rows forward
-    → IsPlaceTable q There size rows back → is_of_camp q r ≡ true → inverts_any q.direction r rows ≡ false
+    → IsPlaceTable q There size rows back → is_selected q r ≡ true → inverts_any q.direction r rows ≡ false
 found_false q size rows r forward back t h e u all p f b k =
-    by_camp q size rows r forward back k u all p f b
+    by_selection q size rows r forward back k u all p f b
     ∙ sym (ap (λ v. v && (nat_lt r.there.place (slice_index_or forward r.here.place 0) || nat_lt r.here.place
     (slice_index_or back r.there.place 0))) k)
     ∙ sym h ∙ e
@@ -365,15 +367,15 @@ none_below test rows near limit k is within past before = record {
 -- how the search for the first that passes a test continues and ends
 pub ruleset first_below = (found_below, passed_below, none_below)
 
--- the first placing of a camp that the tables report is the first of the camp that inverts another
-pub first_of_camp : {q : Camp} {size limit k : ℕ} {rows : List Placing} {forward back fs bs : List ℕ} {t : Bool}
+-- the first placing of a selection that the tables report is the first of the selection that inverts another
+pub first_selected : {q : Selection} {size limit k : ℕ} {rows : List Placing} {forward back fs bs : List ℕ} {t : Bool}
     → k < limit → limit ≤ length rows
-    → ((j : ℕ) → j < k → is_of_camp q (slice_index_or rows j no_placing) ≡ true
+    → ((j : ℕ) → j < k → is_selected q (slice_index_or rows j no_placing) ≡ true
     → inverts_any q.direction (slice_index_or rows j no_placing) rows ≡ false)
     → AllByRecursion (SameAlone q.direction) rows → AllByRecursion (IsPlacingWithin size) rows
     → IsPlaceTable q Here size rows forward → IsPlaceTable q There size rows back → fs ≡ forward → bs ≡ back
     → t ≡ is_inverting q (slice_index_or rows k no_placing) fs bs → t ≡ true → IsFirstOf q rows limit k
-first_of_camp {q} {size} {limit} {k} {rows} {forward} {back} {fs} {bs} {t} lt le before alone places f b fe be h e =
+first_selected {q} {size} {limit} {k} {rows} {forward} {back} {fs} {bs} {t} lt le before alone places f b fe be h e =
     record {
       within = omega arith;
       before = before;
@@ -384,14 +386,14 @@ first_of_camp {q} {size} {limit} {k} {rows} {forward} {back} {fs} {bs} {t} lt le
           (subst (λ v. IsPlaceTable q There size rows v) (sym be) b);
     }
 
--- a placing of the camp that the code's tables do not report inverts none
-pub not_of_camp : {q : Camp} {size k : ℕ} {rows : List Placing} {forward back fs bs : List ℕ} {t : Bool}
+-- a placing of the selection that the code's tables do not report inverts none
+pub not_selected : {q : Selection} {size k : ℕ} {rows : List Placing} {forward back fs bs : List ℕ} {t : Bool}
     → k < length rows → AllByRecursion (SameAlone q.direction) rows → AllByRecursion (IsPlacingWithin size) rows
     → IsPlaceTable q Here size rows forward → IsPlaceTable q There size rows back → fs ≡ forward → bs ≡ back
     → t ≡ is_inverting q (slice_index_or rows k no_placing) fs bs → t ≡ false
-    → is_of_camp q (slice_index_or rows k no_placing) ≡ true
+    → is_selected q (slice_index_or rows k no_placing) ≡ true
     → inverts_any q.direction (slice_index_or rows k no_placing) rows ≡ false
-not_of_camp {q} {size} {k} {rows} {forward} {back} {fs} {bs} {t} lt alone places f b fe be h e =
+not_selected {q} {size} {k} {rows} {forward} {back} {fs} {bs} {t} lt alone places f b fe be h e =
     found_false q size rows (slice_index_or rows k no_placing) fs bs t h e
     (all_at (SameAlone q.direction) rows k no_placing lt alone) alone
     (all_at (IsPlacingWithin size) rows k no_placing lt places)
@@ -404,13 +406,13 @@ record IsFirstAmong (way : Direction) (test : Placing → Bool) (rows : List Pla
       → inverts_any way (slice_index_or rows k no_placing) rows ≡ false
   pub at : first < limit → inverts_any way (slice_index_or rows first no_placing) rows ≡ true
 
--- the first of a camp, below the first of some, is the first of these and the camp
-with_camp : {way : Direction} {test : Placing → Bool} {rows : List Placing} {limit most first : ℕ} (q : Camp)
+-- the first of a selection, below the first of some, is the first of these and the selection
+with_selection : {way : Direction} {test : Placing → Bool} {rows : List Placing} {limit most first : ℕ} (q : Selection)
     → q.direction ≡ way → IsFirstAmong way test rows limit most → IsFirstOf q rows most first
-    → IsFirstAmong way (λ r. is_of_camp q r || test r) rows limit first
-with_camp {way} {test} {rows} {limit} {most} {first} q own some next = record {
+    → IsFirstAmong way (λ r. is_selected q r || test r) rows limit first
+with_selection {way} {test} {rows} {limit} {most} {first} q own some next = record {
   within = omega (arith, some.within, next.within);
-  before = λ k l h. elim (or_cases (is_of_camp q (slice_index_or rows k no_placing)) _ h) [
+  before = λ k l h. elim (or_cases (is_selected q (slice_index_or rows k no_placing)) _ h) [
     | inl e ↦ subst (λ v. inverts_any v (slice_index_or rows k no_placing) rows ≡ false) own (next.before k l e)
     | inr e ↦ some.before k (omega (arith, l, next.within)) e
   ];
@@ -421,34 +423,35 @@ with_camp {way} {test} {rows} {limit} {most} {first} q own some next = record {
   ];
 }
 
--- the first of the four camps, one after the other, is the first of all
+-- the first of the four selections, one after the other, is the first of all
 pub first_of_four : (way : Direction) (rows : List Placing) (limit a b c d : ℕ) → limit ≤ length rows
-    → AllByRecursion (SameAlone way) rows → IsFirstOf (camp_of way Allow Users) rows limit a
-    → IsFirstOf (camp_of way Allow Others) rows a b → IsFirstOf (camp_of way Deny Users) rows b c
-    → IsFirstOf (camp_of way Deny Others) rows c d → IsFirstBelow (λ r. inverts_any way r rows) rows limit d
+    → AllByRecursion (SameAlone way) rows → IsFirstOf (selection_of way Allow Users) rows limit a
+    → IsFirstOf (selection_of way Allow Others) rows a b → IsFirstOf (selection_of way Deny Users) rows b c
+    → IsFirstOf (selection_of way Deny Others) rows c d → IsFirstBelow (λ r. inverts_any way r rows) rows limit d
 first_of_four way rows limit a b c d le alone ha hb hc hd = record {
   within = all.within;
-  before = λ k l. go k l (in_camp (slice_index_or rows k no_placing)) refl;
+  before = λ k l. go k l (in_selection (slice_index_or rows k no_placing)) refl;
   at = all.at;
 }
   where
-    in_camp : Placing → Bool
-    in_camp r = is_of_camp (camp_of way Deny Others) r || (is_of_camp (camp_of way Deny Users) r
-        || (is_of_camp (camp_of way Allow Others) r || (is_of_camp (camp_of way Allow Users) r || false)))
+    in_selection : Placing → Bool
+    in_selection r = is_selected (selection_of way Deny Others) r || (is_selected (selection_of way Deny Users) r
+        || (is_selected (selection_of way Allow Others) r || (is_selected (selection_of way Allow Users) r || false)))
 
     start : IsFirstAmong way (λ r. false) rows limit limit
     start = record { within = omega arith; before = λ k l h. absurd (false≢true h); at = λ l. absurd (omega arith) }
 
-    all : IsFirstAmong way in_camp rows limit d
-    all = with_camp (camp_of way Deny Others) refl (with_camp (camp_of way Deny Users) refl
-        (with_camp (camp_of way Allow Others) refl (with_camp (camp_of way Allow Users) refl start ha) hb) hc) hd
+    all : IsFirstAmong way in_selection rows limit d
+    all = with_selection (selection_of way Deny Others) refl (with_selection (selection_of way Deny Users) refl
+        (with_selection (selection_of way Allow Others) refl
+        (with_selection (selection_of way Allow Users) refl start ha) hb) hc) hd
 
     no_kind : (rh rt u : Bool) → ((not rt && not (differ false u)) || ((not rt && not (differ true u))
         || ((rh && not (differ false u)) || ((rh && not (differ true u)) || false)))) ≡ false
         → (rh ≡ false) × (not rt ≡ false)
     no_kind rh rt u h = (grind arith, grind arith)
 
-    go : (k : ℕ) → k < d → (t : Bool) → in_camp (slice_index_or rows k no_placing) ≡ t
+    go : (k : ℕ) → k < d → (t : Bool) → in_selection (slice_index_or rows k no_placing) ≡ t
         → inverts_any way (slice_index_or rows k no_placing) rows ≡ false
     go k l true e = all.before k l e
     go k l false e =

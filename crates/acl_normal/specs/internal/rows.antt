@@ -13,4 +13,4 @@ pub mod Rows
 -- lists of the places that wait
 pub mod Waiting
 -- rows of principals by counting
-pub mod Counted
+pub mod LowerCounts

@@ -7,7 +7,7 @@ ghost use Rattle.acl_normal.specs.internal.comparison.Columns.{AddRights, all_re
 ghost use Rattle.acl_normal.specs.internal.Limits.{slice_limit};
 
 use super::placing::{First, Placing, Whom, firsts};
-use crate::class::Class;
+use crate::principal_class::Class;
 use acl_nfs4::AceRef;
 use acl_perm::internal::Bit;
 use acl_perm::{Mask, Principal};

@@ -2,12 +2,12 @@
 ghost use Rattle.std.specs.Prelude.{◌&&◌, ◌+◌, ◌<◌, ◌≡◌, ◌≤◌};
 ghost use Rattle.acl_normal.specs.Common.{AllByRecursion, IfOk, is_users, length, not, true, vec_len};
 ghost use Rattle.acl_normal.specs.internal.comparison.FirstPlaces.{IsFirstBelow, SameAlone, earlier_allows, inverts, inverts_any, is_unlike};
-ghost use Rattle.acl_normal.specs.internal.comparison.PlaceTables.{IsPlacingWithin, IsFirstOf, IsPlaceTable, Raises, has_kind, is_inverting, is_of_camp, other_place, place_of, wants};
+ghost use Rattle.acl_normal.specs.internal.comparison.PlaceTables.{IsPlacingWithin, IsFirstOf, IsPlaceTable, Raises, has_kind, is_inverting, is_selected, other_place, place_of, wants};
 ghost use Rattle.acl_normal.specs.internal.Limits.{slice_limit};
 
 use super::direction::Direction;
 use super::placing::{First, Placing};
-use crate::class::Class;
+use crate::principal_class::Class;
 use acl_perm::Kind;
 use std::alloc::{AllocError, Global};
 
@@ -28,8 +28,8 @@ pub(crate) fn first_unlike(direction: Direction, placings: &[Placing], limit: us
 }
 
 /// Returns the number of the first principal, below a limit, that comes before another in one list and not in the
-/// other, so that the lists differ in the direction for both together; or the limit. There is one search for each camp,
-/// because the tables of a camp have only principals of the other kind.
+/// other, so that the lists differ in the direction for both together; or the limit. There is one search for each
+/// selection, because the tables of a selection have only principals of the other kind.
 pub(crate) fn first_inverting(
     alloc: Global,
     direction: Direction,
@@ -44,61 +44,64 @@ pub(crate) fn first_inverting(
     ensures { IfOk result (IsFirstBelow (λ r. inverts_any direction r placings.now) placings.now
         limit) }
 {
-    let mut camp = Camp {
+    let mut selection = Selection {
         direction,
         kind: Kind::Allow,
         class: Class::Users,
     };
-    let allowed_users = first_of(alloc, placings, size, limit, camp)?;
-    camp.class = Class::Others;
-    let allowed = first_of(alloc, placings, size, allowed_users, camp)?;
-    camp.kind = Kind::Deny;
-    camp.class = Class::Users;
-    let users = first_of(alloc, placings, size, allowed, camp)?;
-    camp.class = Class::Others;
-    first_of(alloc, placings, size, users, camp)
+    let allowed_users = first_of(alloc, placings, size, limit, selection)?;
+    selection.class = Class::Others;
+    let allowed = first_of(alloc, placings, size, allowed_users, selection)?;
+    selection.kind = Kind::Deny;
+    selection.class = Class::Users;
+    let users = first_of(alloc, placings, size, allowed, selection)?;
+    selection.class = Class::Others;
+    first_of(alloc, placings, size, users, selection)
 }
 
-// The number of the first principal of a camp, below a limit, that inverts another principal, or the limit.
+// The number of the first principal of a selection, below a limit, that inverts another principal, or the limit.
 fn first_of(
     alloc: Global,
     placings: &[Placing],
     size: usize,
     limit: usize,
-    camp: Camp,
+    selection: Selection,
 ) -> Result<usize, AllocError>
     requires limit { limit ≤ length placings.now }
     requires places { AllByRecursion (IsPlacingWithin size) placings.now }
     requires size { size < slice_limit }
-    requires alone { AllByRecursion (SameAlone camp.direction) placings.now }
-    ensures { IfOk result (λ v. IsFirstOf camp placings.now limit v) }
+    requires alone { AllByRecursion (SameAlone selection.direction) placings.now }
+    ensures { IfOk result (λ v. IsFirstOf selection placings.now limit v) }
 {
-    if !placings.iter().any(|placing| is_of_camp(*placing, camp)) {
+    if !placings
+        .iter()
+        .any(|placing| is_selected(*placing, selection))
+    {
         return Ok(limit);
     }
-    let forward = table(alloc, placings, size, camp, Side::Here)?;
-    let back = table(alloc, placings, size, camp, Side::There)?;
+    let forward = table(alloc, placings, size, selection, Side::Here)?;
+    let back = table(alloc, placings, size, selection, Side::There)?;
     let (near, _) = placings.split_at(limit);
     for (k, placing) in near.iter().enumerate() {
-        if is_inverting(*placing, camp, &forward, &back) {
+        if is_inverting(*placing, selection, &forward, &back) {
             return Ok(k);
         }
     }
     Ok(limit)
 }
 
-/// A camp of principals: those of a class for whom the first ACE of both lists is of a kind. The principals that both
-/// lists treat differently are in no camp: they make no difference with another one in the direction.
+/// A selection of principals: those of a class for whom the first ACE of both lists is of a kind. The principals that
+/// both lists treat differently are in no selection: they make no difference with another one in the direction.
 #[derive(Clone, Copy)]
-pub(crate) struct Camp {
+pub(crate) struct Selection {
     pub direction: Direction,
     pub kind: Kind,
     pub class: Class,
 }
 
-impl Camp {
-    // Returns whether the counted principals that come before one of the camp in the list of the side, and not in the
-    // other list, make a difference in the direction.
+impl Selection {
+    // Returns whether the opposing principals that come before one of the selection in the list of the side, and not in
+    // the other list, make a difference in the direction.
     fn wants(self, side: Side) -> bool
         ensures { result ≡ wants self side }
     {
@@ -111,26 +114,26 @@ impl Camp {
     }
 }
 
-// By place in one list, one more than the greatest place in the other list of the counted principals before the place;
-// or zeros if the camp does not want the side. First, only the principals just before each place count.
+// By place in one list, one more than the greatest place in the other list of the opposing principals before the place;
+// or zeros if the selection does not want the side. First, only the principals just before each place count.
 #[tactic(auto)]
 fn table(
     alloc: Global,
     placings: &[Placing],
     size: usize,
-    camp: Camp,
+    selection: Selection,
     side: Side,
 ) -> Result<Vec<usize>, AllocError>
     requires places { AllByRecursion (IsPlacingWithin size) placings.now }
     requires size { size < slice_limit }
-    ensures { IfOk result (λ v. IsPlaceTable camp side size placings.now v.items) }
+    ensures { IfOk result (λ v. IsPlaceTable selection side size placings.now v.items) }
 {
     let mut table = vec![in alloc; 0usize; size + 2]?;
-    if !camp.wants(side) {
+    if !selection.wants(side) {
         return Ok(table);
     }
     for placing in placings {
-        raise(&mut table, *placing, camp, side);
+        raise(&mut table, *placing, selection, side);
     }
     for k in 1..size + 2 {
         let most = table[k].max(table[k - 1]);
@@ -146,15 +149,17 @@ pub(crate) enum Side {
     There,
 }
 
-// Notes a counted principal: raises the number after its place in one list to one more than its place in the other.
+// Notes an opposing principal: raises the number after its place in one list to one more than its place in the other.
 #[tactic(auto, using(crate::proofs::comparison::TableFacts::raising))]
-fn raise(table: &mut Vec<usize>, placing: Placing, camp: Camp, side: Side)
+fn raise(table: &mut Vec<usize>, placing: Placing, selection: Selection, side: Side)
     requires within { place_of side placing + 1 < vec_len table.old }
     requires small { other_place side placing < slice_limit }
-    ensures { Raises camp side placing table.old.items table.new.items }
+    ensures { Raises selection side placing table.old.items table.new.items }
 {
-    // It counts if it has the other kind than the camp and may overlap with the principals of the camp.
-    if may_overlap(camp.class, placing.class) && has_kind(!camp.kind.is_allow(), placing) {
+    // It counts if it has the other kind than the selection and may overlap with the principals of the selection.
+    if may_overlap(selection.class, placing.class)
+        && has_kind(!selection.kind.is_allow(), placing)
+    {
         let (own, other) = match side {
             Side::Here => (placing.here.place, placing.there.place),
             Side::There => (placing.there.place, placing.here.place),
@@ -176,21 +181,22 @@ fn has_kind(allowed: bool, placing: Placing) -> bool
     }
 }
 
-// Returns whether a principal is of a camp and inverts another principal by the tables of that camp.
-fn is_inverting(placing: Placing, camp: Camp, forward: &[usize], back: &[usize]) -> bool
+// Returns whether a principal is of a selection and inverts another principal by the tables of that selection.
+fn is_inverting(placing: Placing, selection: Selection, forward: &[usize], back: &[usize]) -> bool
     requires here { placing.here.place < length forward.now }
     requires there { placing.there.place < length back.now }
-    ensures { result ≡ is_inverting camp placing forward.now back.now }
+    ensures { result ≡ is_inverting selection placing forward.now back.now }
 {
-    is_of_camp(placing, camp)
+    is_selected(placing, selection)
         && (placing.there.place < forward[placing.here.place]
             || placing.here.place < back[placing.there.place])
 }
 
-fn is_of_camp(placing: Placing, camp: Camp) -> bool
-    ensures { result ≡ is_of_camp camp placing }
+fn is_selected(placing: Placing, selection: Selection) -> bool
+    ensures { result ≡ is_selected selection placing }
 {
-    has_kind(camp.kind.is_allow(), placing) && placing.class.is_users() == camp.class.is_users()
+    has_kind(selection.kind.is_allow(), placing)
+        && placing.class.is_users() == selection.class.is_users()
 }
 
 /// Returns the number of the first of the others, below a limit, that the principal inverts, or the limit.

@@ -5,7 +5,7 @@ ghost use Rattle.acl_perm.specs.Kind.{is_allow};
 ghost use Rattle.acl_normal.specs.internal.comparison.FirstPlaces.{AreFirstFrom, IsWhomWithin, is_unlike, no_ace, put, same_whom, stops_at};
 
 use super::direction::Direction;
-use crate::class::Class;
+use crate::principal_class::Class;
 use acl_nfs4::AceRef;
 use acl_perm::internal::Bit;
 use acl_perm::{Kind, Principal};

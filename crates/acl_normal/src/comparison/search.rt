@@ -4,17 +4,17 @@
 ghost use Rattle.std.specs.Prelude.{◌≡◌};
 ghost use Rattle.acl_normal.specs.Common.{[], all_mentioned, all_rights, AreAlikeTo, AreNumbered, FindSet, has_bit, IfOk, IfSome, members_or_none, true};
 ghost use Rattle.acl_normal.specs.internal.comparison.Columns.{AreRightsByNumber};
-ghost use Rattle.acl_normal.specs.internal.comparison.Found.{IsFoundOnAll, IsFoundOn, IsNothing};
+ghost use Rattle.acl_normal.specs.internal.comparison.FirstPrincipals.{IsFoundOnAll, IsFoundOn, IsNothing};
 
-use super::compared::Compared;
-use super::found::Found;
+use super::first_principals::FirstPrincipals;
 use super::inversions::{first_inverted, first_inverting, first_unlike};
+use super::list_pair::ListPair;
 use super::members::Members;
 use acl_perm::Mask;
 use acl_perm::internal::Bit;
 use std::alloc::{AllocError, Global};
 
-impl Compared<'_, '_> {
+impl ListPair<'_, '_> {
     /// Returns the first small set at which the lists differ in the direction. The lesser member of the first such pair
     /// is the least principal that is in any such pair, and the other member is the least later principal that makes a
     /// pair with it.
@@ -37,7 +37,7 @@ impl Compared<'_, '_> {
     }
 
     // The first principals at which the lists differ on any right.
-    fn found(&self, alloc: Global) -> Result<Found, AllocError>
+    fn found(&self, alloc: Global) -> Result<FirstPrincipals, AllocError>
         requires { AreAlikeTo self.now [] }
         ensures { IfOk result (IsFoundOnAll self.now) }
     {
@@ -55,11 +55,11 @@ impl Compared<'_, '_> {
         Ok(found)
     }
 
-    fn nothing(&self) -> Found
+    fn nothing(&self) -> FirstPrincipals
         ensures { IsNothing self.now result }
     {
         let count = self.count();
-        Found {
+        FirstPrincipals {
             single: count,
             member: count,
             partner: count,
@@ -67,7 +67,12 @@ impl Compared<'_, '_> {
     }
 
     // The first principals at which the lists differ on a right. `rights` has the rights of each principal.
-    fn found_on(&self, alloc: Global, right: Bit, rights: &[Mask]) -> Result<Found, AllocError>
+    fn found_on(
+        &self,
+        alloc: Global,
+        right: Bit,
+        rights: &[Mask],
+    ) -> Result<FirstPrincipals, AllocError>
         requires strangers { AreAlikeTo self.now [] }
         requires right { has_bit all_rights right.bit ≡ true }
         requires rights { AreRightsByNumber self.now rights.now }
@@ -79,7 +84,7 @@ impl Compared<'_, '_> {
         let count = self.count();
         let single = first_unlike(self.direction, &placings, end);
         if single < end {
-            return Ok(Found {
+            return Ok(FirstPrincipals {
                 single: columns.number(single, count),
                 member: count,
                 partner: count,
@@ -91,7 +96,7 @@ impl Compared<'_, '_> {
         }
         let (_, others) = placings.as_slice().split_at(member + 1);
         let partner = first_inverted(self.direction, placings[member], others, others.len());
-        Ok(Found {
+        Ok(FirstPrincipals {
             single: count,
             member: columns.number(member, count),
             partner: columns.number(member + 1 + partner, count),

@@ -7,10 +7,10 @@ ghost use Rattle.acl_normal.specs.internal.emit.Queues.{BeginsWaiting, IsQueueAt
 ghost use Rattle.acl_normal.specs.internal.emit.Ready.{ChangesMarks, Enters, FitsKeys, Frees, HoldsFree, marks};
 ghost use Rattle.acl_normal.specs.internal.Limits.{key_limit, list_limit};
 
-use crate::bits::next_right;
-use crate::class::Class;
 use crate::emit::queues::Queues;
 use crate::emit::ready::Ready;
+use crate::mask_rights::next_right;
+use crate::principal_class::Class;
 use crate::rows::remaining::Remaining;
 use acl_perm::internal::Bit;
 use acl_perm::{Key, Kind, Mask};

@@ -4,11 +4,11 @@ ghost use Rattle.acl_normal.specs.Common.{AreQueues, has_bit, IfOk, is_users, le
 ghost use Rattle.acl_normal.specs.internal.emit.Queues.{AreNoted, IsQueueAt, MovesOn, PutsPlace, head_in, place_in};
 ghost use Rattle.acl_normal.specs.internal.Places.{IsBlockedPast, IsClearTo, NoneWaitsTo, SomeWaitsPast};
 
-use crate::bits::next_right;
-use crate::class::Class;
+use crate::ace_principal::whom;
+use crate::mask_rights::next_right;
+use crate::principal_class::Class;
 use crate::rows::remaining::Remaining;
 use crate::rows::waiting::{SLOTS, slot};
-use crate::whom::whom;
 use acl_perm::Kind;
 use acl_perm::internal::Bit;
 use std::alloc::{AllocError, Global};

@@ -4,7 +4,7 @@ ghost use Rattle.acl_normal.specs.Common.{bit_or, IfNone, IfOk, IfSome, length, 
 ghost use Rattle.acl_normal.specs.internal.emit.Ready.{IsLeastReady};
 ghost use Rattle.acl_normal.specs.internal.Limits.{slice_limit};
 
-use crate::bits::with;
+use crate::mask_rights::with;
 use acl_perm::internal::Bit;
 use std::alloc::{AllocError, Global};
 use std::cmp::Reverse;

@@ -8,7 +8,7 @@ ghost use Rattle.acl_normal.specs.internal.emit.Short.{IsFirstLeft};
 
 use super::emission::better;
 use super::normal_form::{aces_of, list_of};
-use crate::bits::alone;
+use crate::mask_rights::alone;
 use crate::merged::MergedRows;
 use acl_nfs4::{AceRef, Acl};
 use acl_perm::internal::Bit;

@@ -10,10 +10,10 @@ ghost use Rattle.acl_normal.specs.internal.comparison.SetSearch.{FindsSet};
 ghost use Rattle.acl_normal.specs.internal.comparison.TwoLists.{IsSearched};
 
 use crate::comparison::Difference;
-use crate::comparison::compared::Compared;
 use crate::comparison::direction::Direction;
 use crate::comparison::evaluation::granted;
-use crate::comparison::mentioned::mentioned;
+use crate::comparison::list_pair::ListPair;
+use crate::comparison::mentioned_principals::mentioned;
 use crate::comparison::small_set::SmallSet;
 use crate::reduce::collected::collect;
 use acl_nfs4::{AceRef, Acl};
@@ -66,7 +66,7 @@ fn searched<'a>(
         second: &second,
     };
     let found = first_set(lists, &mentions.principals);
-    Compared::of(direction, &first, &second, &mentions).difference(alloc, found)
+    ListPair::of(direction, &first, &second, &mentions).difference(alloc, found)
 }
 
 // The first small set at which the lists differ.

@@ -7,9 +7,9 @@ ghost use Rattle.acl_normal.specs.Places.{same_class};
 ghost use Rattle.acl_normal.specs.internal.Reduced.{HasNeededColumns};
 ghost use Rattle.acl_perm.specs.declared.kind.Kind.TheVariants.{Allow};
 
-use crate::bits::of_everyone;
-use crate::class::Class;
-use crate::whom::key;
+use crate::ace_principal::key;
+use crate::mask_rights::of_everyone;
+use crate::principal_class::Class;
 use acl_nfs4::AceRef;
 use acl_perm::{Key, Kind, Mask};
 

@@ -6,7 +6,7 @@ ghost use Rattle.acl_nfs4.specs.internal.Progress.{IsBytes};
 ghost use Rattle.acl_normal.specs.internal.rows.Heads.{AllBegin, HasHead, IsHeadOf, count_to, given_name, head_bytes, head_from, is_whole, more_bytes};
 ghost use Rattle.acl_normal.specs.internal.Shown.{aces_in};
 
-use crate::whom::whom;
+use crate::ace_principal::whom;
 use acl_nfs4::AceRef;
 use acl_perm::Principal;
 use std::cmp::Ordering;

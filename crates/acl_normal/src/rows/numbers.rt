@@ -9,7 +9,7 @@ ghost use Rattle.acl_normal.specs.internal.rows.RowNumbers.{AreHeaded, AreSorted
 ghost use Rattle.acl_normal.specs.internal.rows.Rows.{IsByPrincipal};
 
 use super::heads::{HeadedPrincipal, common_start, head, is_whole};
-use crate::whom::whom;
+use crate::ace_principal::whom;
 use acl_nfs4::AceRef;
 use acl_perm::Principal;
 use std::alloc::{AllocError, Global};

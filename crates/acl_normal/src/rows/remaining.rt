@@ -6,8 +6,8 @@ ghost use Rattle.acl_normal.specs.internal.rows.Remaining.{HasNumbers, IsRemaind
 ghost use Rattle.acl_normal.specs.internal.rows.Rows.{IsFirstOfRow, IsNumberOf};
 ghost use Rattle.acl_normal.specs.internal.Limits.{list_limit};
 
+use crate::ace_principal::whom;
 use crate::rows::numbers::{RowNumbers, find_row};
-use crate::whom::whom;
 use acl_nfs4::AceRef;
 use acl_perm::internal::Bit;
 use acl_perm::{Key, Kind, Mask, Principal};

@@ -4,8 +4,8 @@ ghost use Rattle.acl_normal.specs.Common.{[], aces_with, bit_count, IfOk, is_use
 ghost use Rattle.acl_normal.specs.internal.Tidy.{IsQuiet};
 ghost use Rattle.acl_normal.specs.internal.rows.Waiting.{HoldWaiting, PutsBelow};
 
-use crate::bits::next_right;
-use crate::class::Class;
+use crate::mask_rights::next_right;
+use crate::principal_class::Class;
 use acl_nfs4::AceRef;
 use acl_perm::internal::Bit;
 use acl_perm::{Kind, Mask};

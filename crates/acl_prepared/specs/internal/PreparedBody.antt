@@ -12,8 +12,8 @@ use Rattle.acl_nfs4.specs.Who.{principal_of}
 use Rattle.acl_eval.specs.Column.{takes_part}
 use Rattle.acl_eval.specs.Grant.{grants_bit}
 use Rattle.acl_prepared.specs.Prepared.{name_key}
-use Rattle.acl_eval.specs.internal.GrantingBody.{is_undecided}
-use Rattle.acl_eval.specs.declared.granting.GrantedSoFar.{GrantedSoFar}
+use Rattle.acl_eval.specs.internal.EachRightBody.{is_undecided}
+use Rattle.acl_eval.specs.declared.each_right.GrantedSoFar.{GrantedSoFar}
 use Rattle.acl_prepared.specs.declared.prepared_ace.PreparedAce.{PreparedAce}
 
 -- how many numbers a sort can be: two kinds of each of the five principals

@@ -117,14 +117,14 @@ answers_of list columns shape t perm cs ids small there few all = record {
 -- ---- a name that can go
 
 -- an entry of the rest that stands without a name keeps what it has
-record IsStanding (name entry : JudgedEntry) : Type 0 where
+record StaysWithout (name entry : JudgedEntry) : Type 0 where
   part : contains entry.perm.bits name.perm.bits ≡ true
   before : is_asked_more (tag_of entry.tag) (tag_of name.tag) ≡ true → are_before entry.decided name.denied ≡ true
 
--- so stands a shared entry that passes the test and is not that of the name
-standing : (name entry : JudgedEntry) → stands_without name entry ≡ true → is_shared (tag_of entry.tag) ≡ true
-    → eq_by_cmp tag_cmp (tag_of entry.tag) (tag_of name.tag) ≡ false → IsStanding name entry
-standing name entry h s d =
+-- so stays a shared entry that passes the test and is not that of the name
+stays_without : (name entry : JudgedEntry) → stands_without name entry ≡ true → is_shared (tag_of entry.tag) ≡ true
+    → eq_by_cmp tag_cmp (tag_of entry.tag) (tag_of name.tag) ≡ false → StaysWithout name entry
+stays_without name entry h s d =
     let keeps : keeps_without name entry ≡ true = sym (ap (λ (b : Bool). not b
     || (eq_by_cmp tag_cmp (tag_of entry.tag) (tag_of name.tag) || keeps_without name entry)) s
     ∙ ap (λ (b : Bool). b || keeps_without name entry) d) ∙ h in
@@ -143,7 +143,7 @@ judged_out columns shape name entry n jn kept stands j =
       there = still_there shape (tag_of name.tag) (tag_of entry.tag) n j.there differ;
       answers = elim (cases_Bool (is_shared (tag_of entry.tag))) [
         | inl s ↦ same_permissions columns shape (tag_of name.tag) (tag_of entry.tag) entry.perm.bits entry.decided
-            name.denied n s j.answers j.decided jn.denied (standing name entry stands s differ).before
+            name.denied n s j.answers j.decided jn.denied (stays_without name entry stands s differ).before
         | inr s ↦ own_permissions columns shape (tag_of name.tag) (tag_of entry.tag) entry.perm.bits s j.answers
       ];
       decided = j.decided;
@@ -175,7 +175,7 @@ entries_stand list columns left name cs js jn n stand t shared there want few ha
     let own = judged_just list columns shape (tag_of name.tag) name.perm.bits cs ids js.1 jn.there jn.answers in
     subst (λ (x : Tag). AlwaysHas list out x want) is ((now want few).0 (elim has [
       | inl first ↦ (before want few).1 (subst (λ (x : Tag). AlwaysHas list shape x want) (sym is) first)
-      | inr second ↦ contains_part e.perm.bits name.perm.bits want (standing name e stands s differ).part
+      | inr second ↦ contains_part e.perm.bits name.perm.bits want (stays_without name e stands s differ).part
           ((own want few).1 second)
     ]))
 

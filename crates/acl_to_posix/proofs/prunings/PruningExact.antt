@@ -26,7 +26,7 @@ use Rattle.acl_nfs4.specs.Who.{principal_of}
 use Rattle.acl_eval.specs.Bridge.{image}
 use Rattle.acl_eval.specs.BridgeLaws.{IsSingle}
 use Rattle.acl_eval.specs.Column.{column, takes_part}
-use Rattle.acl_to_posix.specs.ListNames.{is_ace_counted}
+use Rattle.acl_to_posix.specs.ListNames.{is_ace_relevant}
 use Rattle.acl_to_posix.specs.Pruning.{PrunesTo}
 use Rattle.acl_to_posix.specs.PruningLaws.{IsExactFor, HasFewIds, HasNamesOf, IsNameIn}
 use Rattle.acl_to_posix.specs.ToPosix.{EntryShape, HasShape, IsBest}
@@ -106,7 +106,7 @@ some_right want bit small h = elim (image_right want bit small h) [
 
 -- an ACE that takes part and has such a right counts
 counts : (a : Ace) (want bit : ℕ) → IsPerm want → has_bit (image want) bit ≡ true
-    → (has_bit a.mask bit && takes_part a) ≡ true → is_ace_counted a ≡ true
+    → (has_bit a.mask bit && takes_part a) ≡ true → is_ace_relevant a ≡ true
 counts a want bit small right has =
     let two = and_true (has_bit a.mask bit) (takes_part a) has in
     elim (cases_Bool (bit_and a.mask (image all_permissions) == 0)) [

@@ -10,7 +10,7 @@ use Rattle.acl_posix.specs.Names.{Table}
 use Rattle.acl_nfs4.specs.Ace.{Ace}
 use Rattle.acl_nfs4.specs.Who.{principal_of}
 use Rattle.acl_ids.specs.Ids.{HasId, HaveIds, IsSomeId, by_id, digits_or, id_of_name, with_ids}
-use Rattle.acl_to_posix.specs.ListNames.{AreNamesOf, counted_group, counted_user, group_id_in, is_ace_counted, is_number_of, names_group, names_user, user_id_in}
+use Rattle.acl_to_posix.specs.ListNames.{AreNamesOf, relevant_group, relevant_user, group_id_in, is_ace_relevant, is_number_of, names_group, names_user, user_id_in}
 use Rattle.acl_to_posix.specs.PruningLaws.{HasNamesOf, IsNameIn}
 use Rattle.acl_to_posix.specs.ToPosix.{EntryShape}
 use Rattle.acl_ids.proofs.IdNames.{with_id_names}
@@ -20,21 +20,21 @@ record AreNamed (table : Table) (list : List Ace) (shape : EntryShape) : Type 0 
   users : (id : ℕ) → names_user table list id ≡ true → is_member id shape.users ≡ true
   groups : (id : ℕ) → names_group table list id ≡ true → is_member id shape.groups ≡ true
 
--- an ACE that counts and names a user
-counted_is : (table : Table) (a : Ace) (id : ℕ) → is_ace_counted a ≡ true
-    → user_id_in table (principal_of a) ≡ Some id → is_number_of (counted_user table a) id ≡ true
+-- a relevant ACE that names a user
+counted_is : (table : Table) (a : Ace) (id : ℕ) → is_ace_relevant a ≡ true
+    → user_id_in table (principal_of a) ≡ Some id → is_number_of (relevant_user table a) id ≡ true
 counted_is table a id counts is = rw (counts, is) (eq-eqb id id refl)
 
 -- or a group
-counted_group_is : (table : Table) (a : Ace) (id : ℕ) → is_ace_counted a ≡ true
-    → group_id_in table (principal_of a) ≡ Some id → is_number_of (counted_group table a) id ≡ true
+counted_group_is : (table : Table) (a : Ace) (id : ℕ) → is_ace_relevant a ≡ true
+    → group_id_in table (principal_of a) ≡ Some id → is_number_of (relevant_group table a) id ≡ true
 counted_group_is table a id counts is = rw (counts, is) (eq-eqb id id refl)
 
 -- the name of its id is in the shape
 name_in : (table : Table) (shape : EntryShape) (a : Ace) (p : Principal) → principal_of a ≡ p → HasId table p
-    → is_ace_counted a ≡ true
-    → ((id : ℕ) → is_number_of (counted_user table a) id ≡ true → is_member id shape.users ≡ true)
-    → ((id : ℕ) → is_number_of (counted_group table a) id ≡ true → is_member id shape.groups ≡ true)
+    → is_ace_relevant a ≡ true
+    → ((id : ℕ) → is_number_of (relevant_user table a) id ≡ true → is_member id shape.users ≡ true)
+    → ((id : ℕ) → is_number_of (relevant_group table a) id ≡ true → is_member id shape.groups ≡ true)
     → IsNameIn shape (by_id table p)
 name_in table shape a owner is known counts users groups = tt
 name_in table shape a (user name) is known counts users groups = by (id_of_name table.users name) refl known
@@ -67,10 +67,10 @@ names_in table (a ∷ list) shape known n = (
       (λ id h. n.users id (ap (λ (b : Bool). b || names_user table list id) h))
       (λ id h. n.groups id (ap (λ (b : Bool). b || names_group table list id) h))),
   names_in table list shape known.1 (record {
-    users = λ id h. n.users id (ap (λ (b : Bool). is_number_of (counted_user table a) id || b) h
-        ∙ or_true_right (is_number_of (counted_user table a) id));
-    groups = λ id h. n.groups id (ap (λ (b : Bool). is_number_of (counted_group table a) id || b) h
-        ∙ or_true_right (is_number_of (counted_group table a) id));
+    users = λ id h. n.users id (ap (λ (b : Bool). is_number_of (relevant_user table a) id || b) h
+        ∙ or_true_right (is_number_of (relevant_user table a) id));
+    groups = λ id h. n.groups id (ap (λ (b : Bool). is_number_of (relevant_group table a) id || b) h
+        ∙ or_true_right (is_number_of (relevant_group table a) id));
   }),
 )
 

@@ -4,7 +4,7 @@ use Rattle.std.specs.List.{list_any}
 use Rattle.acl_posix.specs.Check.{ids, is_member}
 use Rattle.acl_posix.specs.Names.{Table}
 use Rattle.acl_nfs4.specs.Ace.{Ace}
-use Rattle.acl_to_posix.specs.ListNames.{AreFewNames, AreMoreNames, AreOnce, counted_group, counted_user, is_number_of}
+use Rattle.acl_to_posix.specs.ListNames.{AreFewNames, AreMoreNames, AreOnce, relevant_group, relevant_user, is_number_of}
 use Rattle.acl_to_posix.specs.ToPosix.{EntryShape}
 use Rattle.acl_to_posix.specs.declared.list_names.IdKind.{IdKind}
 use Rattle.acl_to_posix.specs.declared.list_names.IdKind.TheVariants as kinds
@@ -18,14 +18,14 @@ named_shape named = record { users = ids named.users.items; groups = ids named.g
 
 -- ---- ids of one kind
 
--- the id of the user, or of the group, whom an ACE names that counts
-abbrev pub counted_id : IdKind → Table → Ace → Option ℕ
-counted_id kinds.User table a = counted_user table a
-counted_id kinds.Group table a = counted_group table a
+-- the id of the user, or of the group, whom a relevant ACE names
+abbrev pub relevant_id : IdKind → Table → Ace → Option ℕ
+relevant_id kinds.User table a = relevant_user table a
+relevant_id kinds.Group table a = relevant_group table a
 
--- an ACE that counts names the user, or the group, of this id
+-- a relevant ACE names the user, or the group, of this id
 abbrev pub names_id : IdKind → Table → List Ace → ℕ → Bool
-names_id kind table list id = list_any (λ a. is_number_of (counted_id kind table a) id) list
+names_id kind table list id = list_any (λ a. is_number_of (relevant_id kind table a) id) list
 
 -- the numbers are those that pass a test, and each is there once
 pub record AreJust (test : ℕ → Bool) (numbers : List ℕ) : Type 0 where
@@ -65,7 +65,7 @@ IsLeastFrom from test None = (id : ℕ) → from ≤ id → test id ≡ false
 IsLeastFrom from test (Some least) = IsLeastId from test least
 
 -- so many numbers pass a test
-pub record AreCounted (test : ℕ → Bool) (count : ℕ) : Type 0 where
+pub record IsCountOfIds (test : ℕ → Bool) (count : ℕ) : Type 0 where
   pub all : List ℕ
   pub just : AreJust test all
   pub many : length all ≡ count

@@ -6,7 +6,7 @@ use Rattle.acl_perm.specs.Situation.{Situation}
 use Rattle.acl_nfs4.specs.Ace.{Ace}
 use Rattle.acl_nfs4.specs.Spelling.{Xdr}
 use Rattle.acl_eval.specs.Deciding.{deciding_kind, deciding_place}
-use Rattle.acl_decide.specs.declared.deciding.Decision.{Decision}
+use Rattle.acl_decide.specs.declared.one_decider.Decision.{Decision}
 use Rattle.aclck_c.specs.Requests.{no_decision}
 use Rattle.aclck_c.specs.declared.nfs4.deciding.RawDecision.{RawDecision}
 

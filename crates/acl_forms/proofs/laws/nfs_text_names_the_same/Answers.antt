@@ -1,4 +1,4 @@
-use Rattle.acl_forms.proofs.NfsAgain.{nfs_same_principal, nfs_written_same}
+use Rattle.acl_forms.proofs.NfsReadBack.{nfs_same_principal, nfs_written_same}
 use Rattle.acl_forms.proofs.laws.nfs_text_names_the_same.Goals as goal
 
 pub returns-clause-same : goal.returns-clause-same

@@ -1,4 +1,4 @@
-use Rattle.acl_forms.proofs.ToolsAgain.{same_principal, written_same}
+use Rattle.acl_forms.proofs.ToolsReadBack.{same_principal, written_same}
 use Rattle.acl_forms.proofs.laws.tools_text_names_the_same.Goals as goal
 
 pub returns-clause-same : goal.returns-clause-same

@@ -1,4 +1,4 @@
-use Rattle.acl_forms.proofs.ToolsAgain.{written_reads_back}
+use Rattle.acl_forms.proofs.ToolsReadBack.{written_reads_back}
 use Rattle.acl_forms.proofs.laws.tools_text_reads_back.Goals as goal
 
 pub returns : goal.returns

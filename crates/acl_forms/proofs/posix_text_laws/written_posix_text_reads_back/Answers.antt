@@ -1,4 +1,4 @@
-use Rattle.acl_forms.proofs.PosixTextsAgain.{gnu_default, gnu_file, star_default, star_file}
+use Rattle.acl_forms.proofs.PosixTextsReadBack.{gnu_default, gnu_file, star_default, star_file}
 use Rattle.acl_forms.proofs.posix_text_laws.written_posix_text_reads_back.Goals as goal
 
 pub returns-clause-star : goal.returns-clause-star

@@ -11,7 +11,7 @@ use Rattle.acl_normal.specs.internal.comparison.SetSearch.{AlikeAt, GrantAlikeTo
 use Rattle.acl_normal.specs.declared.comparison.direction.Direction.{Direction}
 use Rattle.acl_normal.specs.Keys.{principal_eq}
 use Rattle.acl_normal.specs.SmallSituations.{is_among}
-use Rattle.acl_normal.specs.declared.class.Class.TheVariants.{Users}
+use Rattle.acl_normal.specs.declared.principal_class.Class.TheVariants.{Users}
 use Rattle.acl_normal.specs.declared.comparison.placing.First.{First}
 use Rattle.acl_normal.specs.declared.comparison.placing.Placing.{Placing}
 use Rattle.acl_normal.specs.declared.comparison.placing.Whom.{Whom}

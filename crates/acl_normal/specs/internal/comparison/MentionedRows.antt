@@ -8,7 +8,7 @@ use Rattle.acl_nfs4.specs.Who.{principal_of}
 use Rattle.acl_normal.specs.Keys.{principal_eq}
 use Rattle.acl_normal.specs.SmallSets.{is_mentioning, mentioned, mentioned_in}
 use Rattle.acl_normal.specs.SmallSituations.{is_among}
-use Rattle.acl_normal.specs.declared.comparison.mentioned.Mentions.{Mentions}
+use Rattle.acl_normal.specs.declared.comparison.mentioned_principals.Mentions.{Mentions}
 use Rattle.acl_normal.specs.declared.comparison.placing.Whom.{Whom}
 use Rattle.acl_normal.specs.declared.comparison.placing.Whom.TheVariants.{Everyone, Nobody, One}
 use Rattle.acl_normal.specs.internal.comparison.FirstPlaces.{AreWhoms, no_ace}

@@ -4,7 +4,7 @@ use Rattle.acl_eval.specs.Column.{column}
 use Rattle.acl_nfs4.specs.Ace.{Ace}
 use Rattle.acl_normal.specs.internal.comparison.FirstPlaces.{names_any, same_whom}
 use Rattle.acl_normal.specs.Keys.{kind_eq}
-use Rattle.acl_normal.specs.declared.comparison.apart.Statement.{Statement}
+use Rattle.acl_normal.specs.declared.comparison.differing_rights.Statement.{Statement}
 use Rattle.acl_normal.specs.declared.comparison.placing.Whom.{Whom}
 use Rattle.acl_perm.specs.Bits.{has_bit}
 

@@ -4,7 +4,7 @@ use Rattle.std.proofs.lemmas.Bool.{false≢true}
 use Rattle.acl_perm.specs.Bits.{has_bit}
 use Rattle.acl_eval.specs.Grant.{grants_bit}
 use Rattle.acl_prepared.specs.PreparedIds.{id_ace, id_situation}
-use Rattle.acl_eval.specs.internal.GrantingBody.{is_undecided}
+use Rattle.acl_eval.specs.internal.EachRightBody.{is_undecided}
 use Rattle.acl_prepared.specs.internal.IdsBody.{IsIdPart, IsIdReadAs}
 use Rattle.acl_prepared.proofs.PreparedLists.{all_read, one_more, some_first}
 use Rattle.acl_prepared.proofs.prepared_ids.decided_to.Goals as goal

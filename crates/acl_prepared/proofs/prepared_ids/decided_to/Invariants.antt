@@ -4,7 +4,7 @@ use Rattle.acl_perm.specs.Bits.{has_bit}
 use Rattle.acl_nfs4.specs.Ace.{Ace}
 use Rattle.acl_eval.specs.Grant.{grants_bit}
 use Rattle.acl_prepared.specs.PreparedIds.{id_ace, id_situation}
-use Rattle.acl_eval.specs.internal.GrantingBody.{granted_in, is_undecided, left_in}
+use Rattle.acl_eval.specs.internal.EachRightBody.{granted_in, is_undecided, left_in}
 use Rattle.acl_prepared.specs.internal.IdsBody.{AreIdParts}
 use Rattle.acl_prepared.proofs.prepared_ids.decided_to.Given as goal
 

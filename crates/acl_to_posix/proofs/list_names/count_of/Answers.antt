@@ -1,5 +1,5 @@
 use Rattle.std.proofs.Common.{◌+◌, arith, rules}
-use Rattle.acl_to_posix.specs.internal.ListNamesBody.{counted_id, names_id}
+use Rattle.acl_to_posix.specs.internal.ListNamesBody.{relevant_id, names_id}
 use Rattle.acl_to_posix.proofs.NameCounts.{all_below, more_below, none_below, one_more_below}
 use Rattle.acl_to_posix.proofs.list_names.count_of.Goals as goal
 
@@ -15,7 +15,7 @@ loop-id-preserved c = (
 
 pub returns-then-count-most-clause-more : goal.returns-then-count-most-clause-more
 returns-then-count-most-clause-more c = λ _.
-    more_below c.args.most (counted_id c.args.kind c.args.names.now) c.args.list.now (c.in-Some.id.value + 1)
+    more_below c.args.most (relevant_id c.args.kind c.args.names.now) c.args.list.now (c.in-Some.id.value + 1)
     (c.loop-id.count + 1)
     (one_more_below (names_id c.args.kind c.args.names.now c.args.list.now) c.loop-id.from c.loop-id.count
     c.in-Some.id.value c.loop-id.invariant.0 c.in-Some.ensures) (omega (arith, c.if-count-most.true))

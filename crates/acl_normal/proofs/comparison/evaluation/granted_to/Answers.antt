@@ -1,6 +1,6 @@
 use Rattle.acl_normal.proofs.Common.{refl}
 use Rattle.acl_normal.proofs.comparison.evaluation.granted_to.Goals as goal
-use Rattle.acl_normal.proofs.comparison.ApartLemmas.{is_whom_at}
+use Rattle.acl_normal.proofs.comparison.DifferingRightsLemmas.{is_whom_at}
 use Rattle.acl_normal.proofs.comparison.MembersFacts.{matched_bits}
 use Rattle.acl_normal.proofs.comparison.SetEvaluation.{loop_more}
 

@@ -17,7 +17,7 @@ loop-placing-preserved c = scatter_more _ _ c.loop-placing-test.true c.raise.ens
 
 pub loop-k-init : goal.loop-k-init
 loop-k-init c = summed_start
-    (subst (λ rows. IsScattered c.args.camp c.args.side c.args.size rows c.loop-placing.table.items)
+    (subst (λ rows. IsScattered c.args.selection c.args.side c.args.size rows c.loop-placing.table.items)
     (take_all _ c.args.placings.now c.loop-placing-test.false) c.loop-placing.invariant)
 
 pub loop-k-preserved : goal.loop-k-preserved

@@ -1,0 +1,627 @@
+-- The first principals at which two lists differ, right by right.
+use Rattle.acl_normal.proofs.Common.{[], ace, aces_in, AgreesAt, all_mentioned, all_rights, AllByRecursion, ap, ArePlacings, arith, cases_eq, cases_lt, drop, eq-eqb, everyone, false, FindSet, get_or-map, get_or_read, has_bit, inl, inr, inverts, inverts_any, is_granted_to, IsPlacing, length, le-ltb, length-map, List, lt-ltb, may_overlap, ne_eqb, no_placing, None, Placing, Principal, principals, refl, SameAlone, slice_index_or, Some, subst, sym, true, TwoLists, ℕ, ◌+◌, ◌-◌, ◌<◌, ◌∙◌, ◌∷◌, ◌≡◌, ◌≤◌, ◌⊎◌}
+use Rattle.std.proofs.lemmas.Bool.{cases_order}
+use Rattle.std.proofs.lemmas.List.{get_or-drop, length-drop}
+use Rattle.acl_normal.proofs.Each.{all_at, all_from}
+use Rattle.acl_normal.proofs.comparison.Assembly.{none_answer, pair_answer, pair_swapped, partner_within, single_answer}
+use Rattle.acl_normal.proofs.comparison.ColumnLemmas.{granted_kept, unnamed_alone, unnamed_pair}
+use Rattle.acl_normal.proofs.comparison.Directions.{differ_moved}
+use Rattle.acl_normal.proofs.comparison.PairGrants.{agrees_from_rows, inverted_differ, not_agrees_from_rows, not_inverted}
+use Rattle.acl_normal.proofs.comparison.RowFacts.{Least, alone_from_row, least_done, least_skip, least_start, least_step, not_alone_from_row, row_at, rows_length, same_alike, same_one, same_pairs}
+use Rattle.acl_normal.proofs.comparison.TableFacts.{rows_within}
+use Rattle.acl_normal.specs.internal.comparison.PlaceTables.{IsPlacingWithin}
+use Rattle.acl_normal.specs.internal.comparison.Columns.{AreColumnsOf, IsLeftOut, IsNumberOr}
+use Rattle.acl_normal.specs.internal.comparison.FirstPlaces.{AlikeAlone, IsFirstBelow, IsLeast, OnAll, is_unlike}
+use Rattle.acl_normal.specs.internal.comparison.FirstPrincipals.{AlikeToLater, AreLeast, IsFoundOnAll, IsFoundOn, IsNothing, mentioned_count, earlier_of, is_found_before}
+use Rattle.acl_normal.specs.internal.comparison.SetSearch.{AlikeAt}
+use Rattle.acl_normal.specs.internal.comparison.TwoLists.{AlikeToOne, AlikeToPairs, AreAlikeTo, HaveSameColumn, IsFirstPartner, later_than, principal_at}
+use Rattle.acl_normal.specs.declared.comparison.columns.Columns.{Columns}
+use Rattle.acl_normal.specs.declared.comparison.direction.Direction.{Direction}
+use Rattle.acl_normal.specs.declared.comparison.first_principals.FirstPrincipals.{FirstPrincipals}
+
+-- the least number for which something does not hold, if it holds for all numbers that are left out
+pub least_number : (numbers : List ℕ) (n place least : ℕ) (P : ℕ → Type 0)
+    → ((j : ℕ) → j < length numbers → slice_index_or numbers j 0 < n)
+    → ((i j : ℕ) → i < j → j < length numbers → slice_index_or numbers i 0 < slice_index_or numbers j 0)
+    → ((k : ℕ) → k < n → ((j : ℕ) × (j < length numbers) × (slice_index_or numbers j 0 ≡ k)) ⊎ P k)
+    → ((j : ℕ) → j < place → j < length numbers → P (slice_index_or numbers j 0))
+    → (place < length numbers → P (slice_index_or numbers place 0) → ⊥) → IsNumberOr numbers place n least
+    → IsLeast P n least
+least_number numbers n place least P below rising others before at is = go (cases_lt place (length numbers))
+  where
+    earlier : (j : ℕ) → place < length numbers → j < length numbers
+        → slice_index_or numbers j 0 < slice_index_or numbers place 0 → j < place
+    earlier j lp lj less = elim (cases_order j place) [
+      | inl same ↦ absurd (omega (arith, less, ap (λ v. slice_index_or numbers v 0) same))
+      | inr (inl l) ↦ l
+      | inr (inr more) ↦ absurd (omega (arith, less, rising place j more lj))
+    ]
+
+    go : (place < length numbers) ⊎ (length numbers ≤ place) → IsLeast P n least
+    go (inl lt) =
+        let value : least ≡ slice_index_or numbers place 0 = is.inside lt in
+        let within = below place lt in
+        record {
+          within = omega (arith, value, within);
+          before = λ k lk. elim (others k (omega (arith, lk, value, within))) [
+            | inl (j, lj, e) ↦
+                subst P e (before j (earlier j lt lj (omega (arith, e, lk, value))) lj)
+            | inr holds ↦ holds
+          ];
+          at = λ _ holds. at lt (subst P value holds);
+        }
+    go (inr past) =
+        let value : least ≡ n = is.past past in
+        record {
+          within = omega (arith, value);
+          before = λ k lk. elim (others k (omega (arith, lk, value))) [
+            | inl (j, lj, e) ↦ subst P e (before j (omega (arith, lj, past)) lj)
+            | inr holds ↦ holds
+          ];
+          at = λ l. absurd (omega (arith, l, value));
+        }
+
+module _ (both : TwoLists) (bit : ℕ) (c : Columns) (rows : List Placing) (columns : AreColumnsOf both bit c)
+    (placed : ArePlacings (principals c.principals.items) (aces_in c.first.aces.items) (aces_in c.second.aces.items) bit
+    rows) where
+  -- the principals of the columns, and the number of one among all
+  abbrev pub ps : List Principal
+  ps = principals c.principals.items
+
+  abbrev pub number_at : ℕ → ℕ
+  number_at j = slice_index_or c.numbers.items j 0
+
+  -- there are as many principals, numbers and placings
+  pub counts : (length ps ≡ length c.numbers.items) × (length rows ≡ length c.numbers.items)
+  counts =
+      let first : length ps ≡ length c.numbers.items =
+      ap length columns.whole ∙ length-map c.numbers.items (principal_at both) in
+      (first, rows_length ps placed ∙ first)
+
+  -- the principal at a place of the columns is the mentioned one of its number
+  numbered : (j : ℕ) → j < length c.numbers.items → slice_index_or ps j everyone ≡ principal_at both (number_at j)
+  numbered j l = ap (λ v. slice_index_or v j everyone) columns.whole
+      ∙ get_or-map (principal_at both) c.numbers.items j 0 everyone l
+
+  -- the columns grant what the lists grant
+  here_granted : (set : List Principal)
+      → is_granted_to (aces_in c.first.aces.items) set bit ≡ is_granted_to both.first set bit
+  here_granted set = ap (λ v. is_granted_to v set bit) columns.first ∙ granted_kept bit both.first set
+
+  there_granted : (set : List Principal)
+      → is_granted_to (aces_in c.second.aces.items) set bit ≡ is_granted_to both.second set bit
+  there_granted set = ap (λ v. is_granted_to v set bit) columns.second ∙ granted_kept bit both.second set
+
+  -- the lists do not differ where the columns do not, and the other way round
+  to_lists : (set : List Principal)
+      → AlikeAt both.direction (aces_in c.first.aces.items) (aces_in c.second.aces.items) set bit
+      → AlikeAt both.direction both.first both.second set bit
+  to_lists set = differ_moved both.direction (sym (here_granted set)) (sym (there_granted set))
+
+  to_columns : (set : List Principal) → AlikeAt both.direction both.first both.second set bit
+      → AlikeAt both.direction (aces_in c.first.aces.items) (aces_in c.second.aces.items) set bit
+  to_columns set = differ_moved both.direction (here_granted set) (there_granted set)
+
+  -- the lists do not differ for one that is left out alone
+  out_alone : (k : ℕ) → AlikeAt both.direction both.first both.second [] bit → IsLeftOut both bit k
+      → AlikeToOne both bit k
+  out_alone k nobody out = differ_moved both.direction (unnamed_alone both.first bit (principal_at both k) out.first)
+      (unnamed_alone both.second bit (principal_at both k) out.second) nobody
+
+  -- nor for another one with it, if they do not differ for that one alone
+  out_second : (k m : ℕ) → AlikeToOne both bit k → IsLeftOut both bit m
+      → AlikeAt both.direction both.first both.second (principal_at both k ∷ principal_at both m ∷ []) bit
+  out_second k m alone out =
+      differ_moved both.direction
+      (unnamed_pair both.first bit (principal_at both k) (principal_at both m) out.first)
+      (unnamed_pair both.second bit (principal_at both k) (principal_at both m) out.second) alone
+
+  out_first : (k m : ℕ) → AlikeToOne both bit m → IsLeftOut both bit k
+      → AlikeAt both.direction both.first both.second (principal_at both k ∷ principal_at both m ∷ []) bit
+  out_first k m alone out =
+      differ_moved both.direction (pair_swapped both.first (principal_at both k) (principal_at both m) bit)
+      (pair_swapped both.second (principal_at both k) (principal_at both m) bit) (out_second m k alone out)
+
+  -- the lists do not differ for the principal of a number alone if the columns do not
+  one_to_lists : (j : ℕ) → j < length c.numbers.items
+      → AlikeAlone both.direction (aces_in c.first.aces.items) (aces_in c.second.aces.items) ps bit j
+      → AlikeToOne both bit (number_at j)
+  one_to_lists j l h = to_lists (principal_at both (number_at j) ∷ [])
+      (subst (λ p. AlikeAt both.direction (aces_in c.first.aces.items) (aces_in c.second.aces.items) (p ∷ []) bit)
+      (numbered j l) h)
+
+  one_to_columns : (j : ℕ) → j < length c.numbers.items → AlikeToOne both bit (number_at j)
+      → AlikeAlone both.direction (aces_in c.first.aces.items) (aces_in c.second.aces.items) ps bit j
+  one_to_columns j l h =
+      subst (λ p. AlikeAt both.direction (aces_in c.first.aces.items) (aces_in c.second.aces.items) (p ∷ []) bit)
+      (sym (numbered j l)) (to_columns (principal_at both (number_at j) ∷ []) h)
+
+  -- the number of the first placing that is unlike is that of the first single principal
+  pub single_found : {own : Direction} {place least end : ℕ} {shown : List Placing} → own ≡ both.direction
+      → shown ≡ rows → end ≡ length rows
+      → AlikeAt both.direction both.first both.second [] bit
+      → IsFirstBelow (is_unlike own) shown end place
+      → IsNumberOr c.numbers.items place (mentioned_count both) least
+      → IsLeast (AlikeToOne both bit) (mentioned_count both) least
+  single_found {own} {place} {least} {end} {shown} same is all nobody found number =
+      let first : IsFirstBelow (is_unlike both.direction) rows end place =
+      subst (λ v. IsFirstBelow (is_unlike both.direction) v end place) is
+      (subst (λ v. IsFirstBelow (is_unlike v) shown end place) same found) in
+      least_number c.numbers.items (mentioned_count both) place least (AlikeToOne both bit) columns.below columns.rising
+      (λ k l. elim (columns.others k l) [
+        | inl there ↦ inl there
+        | inr out ↦ inr (out_alone k nobody out)
+      ])
+      (λ j lj inside. one_to_lists j inside
+      (alone_from_row both.direction ps (aces_in c.first.aces.items) (aces_in c.second.aces.items) bit j rows
+      (omega (arith, inside, counts.0)) placed (first.before j lj)))
+      (λ inside alike. not_alone_from_row both.direction ps (aces_in c.first.aces.items) (aces_in c.second.aces.items)
+      bit place rows (omega (arith, inside, counts.0)) placed (first.at (omega (arith, inside, all, counts.1)))
+      (one_to_columns place inside alike))
+      number
+
+  -- if no placing is unlike, each is alike
+  pub all_same : (own : Direction) {place end : ℕ} {shown : List Placing} → end ≡ length shown → end ≤ place
+      → IsFirstBelow (is_unlike own) shown end place → AllByRecursion (SameAlone own) shown
+  all_same own {place} {end} {shown} all past found =
+      all_from (SameAlone own) shown no_placing (λ j lj. found.before j (omega (arith, lj, all, past)))
+
+  -- if two may overlap, the columns do not differ for both together
+  abbrev pub ColumnsAlike : Principal → Principal → Type 0
+  ColumnsAlike p q = may_overlap p q ≡ true
+      → AlikeAt both.direction (aces_in c.first.aces.items) (aces_in c.second.aces.items) (p ∷ q ∷ []) bit
+
+  -- nor do the lists
+  abbrev pub ListsAlike : Principal → Principal → Type 0
+  ListsAlike p q = may_overlap p q ≡ true → AlikeAt both.direction both.first both.second (p ∷ q ∷ []) bit
+
+  pair_to_lists : (i j : ℕ) → i < length c.numbers.items → j < length c.numbers.items
+      → ColumnsAlike (slice_index_or ps i everyone) (slice_index_or ps j everyone)
+      → ListsAlike (principal_at both (number_at i)) (principal_at both (number_at j))
+  pair_to_lists i j li lj h =
+      let moved : ColumnsAlike (principal_at both (number_at i)) (principal_at both (number_at j)) =
+      subst (λ p. ColumnsAlike p (principal_at both (number_at j))) (numbered i li)
+      (subst (λ q. ColumnsAlike (slice_index_or ps i everyone) q) (numbered j lj) h) in
+      λ o. to_lists (principal_at both (number_at i) ∷ principal_at both (number_at j) ∷ []) (moved o)
+
+  pair_to_columns : (i j : ℕ) → i < length c.numbers.items → j < length c.numbers.items
+      → ListsAlike (principal_at both (number_at i)) (principal_at both (number_at j))
+      → ColumnsAlike (slice_index_or ps i everyone) (slice_index_or ps j everyone)
+  pair_to_columns i j li lj h =
+      subst (λ p. ColumnsAlike p (slice_index_or ps j everyone)) (sym (numbered i li))
+      (subst (λ q. ColumnsAlike (principal_at both (number_at i)) q) (sym (numbered j lj))
+      (λ o. to_columns (principal_at both (number_at i) ∷ principal_at both (number_at j) ∷ []) (h o)))
+
+  -- the placing of the principal at a place of the columns
+  placing_at : (j : ℕ) → j < length c.numbers.items
+      → IsPlacing (aces_in c.first.aces.items) (aces_in c.second.aces.items) bit (slice_index_or ps j everyone)
+      (slice_index_or rows j no_placing)
+  placing_at j l = row_at ps (aces_in c.first.aces.items) (aces_in c.second.aces.items) bit j rows
+      (omega (arith, l, counts.0)) placed.each
+
+  module _ (alone : (k : ℕ) → k < mentioned_count both → AlikeToOne both bit k) where
+    -- a principal of the columns that agrees with all of them agrees with all mentioned ones
+    agrees_in_lists : (j : ℕ) → j < length c.numbers.items
+        → AgreesAt both.direction (aces_in c.first.aces.items) (aces_in c.second.aces.items) ps bit
+        (slice_index_or ps j everyone) → AlikeToPairs both bit (number_at j)
+    agrees_in_lists j lj h = all_from (ListsAlike (principal_at both (number_at j))) (all_mentioned both) everyone
+        (λ m lm. elim (columns.others m lm) [
+          | inl (i, li, e) ↦ subst (λ v. ListsAlike (principal_at both (number_at j)) (principal_at both v)) e
+              (pair_to_lists j i lj li (all_at (ColumnsAlike (slice_index_or ps j everyone)) ps i everyone
+              (omega (arith, li, counts.0)) h))
+          | inr out ↦ λ o. out_second (number_at j) m (alone (number_at j) (columns.below j lj)) out
+        ])
+
+    agrees_in_columns : (j : ℕ) → j < length c.numbers.items → AlikeToPairs both bit (number_at j)
+        → AgreesAt both.direction (aces_in c.first.aces.items) (aces_in c.second.aces.items) ps bit
+        (slice_index_or ps j everyone)
+    agrees_in_columns j lj h = all_from (ColumnsAlike (slice_index_or ps j everyone)) ps everyone
+        (λ i li.
+        let inside : i < length c.numbers.items = omega (arith, li, counts.0) in
+        pair_to_columns j i lj inside
+        (all_at (ListsAlike (principal_at both (number_at j))) (all_mentioned both) (number_at i) everyone
+        (columns.below i inside) h))
+
+    -- one that is left out agrees with all
+    out_agrees : (k : ℕ) → IsLeftOut both bit k → AlikeToPairs both bit k
+    out_agrees k out = all_from (ListsAlike (principal_at both k)) (all_mentioned both) everyone
+        (λ m lm o. out_first k m (alone m lm) out)
+
+    -- the number of the first placing that inverts another is that of the first member
+    pub member_found : {own : Direction} {place least end : ℕ} {shown : List Placing} → own ≡ both.direction
+        → shown ≡ rows → end ≡ length rows → AllByRecursion (SameAlone own) shown
+        → IsFirstBelow (λ r. inverts_any own r shown) shown end place
+        → IsNumberOr c.numbers.items place (mentioned_count both) least
+        → IsLeast (AlikeToPairs both bit) (mentioned_count both) least
+    member_found {own} {place} {least} {end} {shown} way is all same found number =
+        let alike : AllByRecursion (SameAlone both.direction) rows =
+        subst (λ v. AllByRecursion (SameAlone both.direction) v) is
+        (subst (λ v. AllByRecursion (SameAlone v) shown) way same) in
+        let first : IsFirstBelow (λ r. inverts_any both.direction r rows) rows end place =
+        subst (λ v. IsFirstBelow (λ r. inverts_any both.direction r v) v end place) is
+        (subst (λ v. IsFirstBelow (λ r. inverts_any v r shown) shown end place) way found) in
+        least_number c.numbers.items (mentioned_count both) place least (AlikeToPairs both bit) columns.below
+        columns.rising
+        (λ k l. elim (columns.others k l) [
+          | inl there ↦ inl there
+          | inr out ↦ inr (out_agrees k out)
+        ])
+        (λ j lj inside. agrees_in_lists j inside
+        (agrees_from_rows both.direction (aces_in c.first.aces.items) (aces_in c.second.aces.items) bit
+        (slice_index_or ps j everyone) (slice_index_or rows j no_placing) ps rows (placing_at j inside)
+        (all_at (SameAlone both.direction) rows j no_placing (omega (arith, inside, counts.1)) alike) placed.each
+        (first.before j lj)))
+        (λ inside agrees. not_agrees_from_rows both.direction (aces_in c.first.aces.items)
+        (aces_in c.second.aces.items) bit
+        (slice_index_or ps place everyone) (slice_index_or rows place no_placing) ps rows (placing_at place inside)
+        placed.each (first.at (omega (arith, inside, all, counts.1))) (agrees_in_columns place inside agrees))
+        number
+
+    -- the number of the first later placing that the placing of a member inverts is that of its first partner
+    pub partner_found : {own : Direction} {at place least end : ℕ} {row : Placing} {shown others : List Placing}
+        → own ≡ both.direction → shown ≡ rows → at < length c.numbers.items → row ≡ slice_index_or rows at no_placing
+        → others ≡ drop (at + 1) rows → end ≡ length others → AllByRecursion (SameAlone own) shown
+        → IsFirstBelow (inverts own row) others end place
+        → IsNumberOr c.numbers.items (at + 1 + place) (mentioned_count both) least
+        → IsLeast (AlikeToLater both (number_at at) bit) (mentioned_count both) least
+    partner_found {own} {at} {place} {least} {end} {row} {shown} {others} way is lt own_row rest all same found number =
+        least_number c.numbers.items (mentioned_count both) (at + 1 + place) least
+        (AlikeToLater both (number_at at) bit) columns.below columns.rising
+        (λ k l. elim (columns.others k l) [
+          | inl there ↦ inl there
+          | inr out ↦ inr (λ later o. out_second (number_at at) k (alone (number_at at) (columns.below at lt)) out)
+        ])
+        (λ j lj inside. earlier j lj inside (cases_order j at))
+        (λ inside agrees. differs (at + 1 + place) inside (omega arith)
+        (subst (λ v. inverts both.direction row v ≡ true) (other_at place (at + 1 + place) refl)
+        (first.at (omega (arith, inside, all, long)))) agrees)
+        number
+      where
+        alike : SameAlone both.direction row
+        alike = subst (SameAlone both.direction) (sym own_row)
+            (all_at (SameAlone both.direction) rows at no_placing (omega (arith, lt, counts.1))
+            (subst (λ v. AllByRecursion (SameAlone both.direction) v) is
+            (subst (λ v. AllByRecursion (SameAlone v) shown) way same)))
+
+        first : IsFirstBelow (inverts both.direction row) others end place
+        first = subst (λ v. IsFirstBelow (inverts v row) others end place) way found
+
+        long : length others + (at + 1) ≡ length c.numbers.items
+        long = omega (arith, ap length rest, length-drop (at + 1) rows, counts.1, lt)
+
+        other_at : (i j : ℕ) → j ≡ at + 1 + i → slice_index_or others i no_placing ≡ slice_index_or rows j no_placing
+        other_at i j e = ap (λ v. slice_index_or v i no_placing) rest ∙ get_or-drop (at + 1) rows i no_placing
+            ∙ ap (λ v. slice_index_or rows v no_placing) (sym e)
+
+        own_placing : IsPlacing (aces_in c.first.aces.items) (aces_in c.second.aces.items) bit
+            (slice_index_or ps at everyone) row
+        own_placing = subst (λ v. IsPlacing (aces_in c.first.aces.items) (aces_in c.second.aces.items) bit
+            (slice_index_or ps at everyone) v) (sym own_row) (placing_at at lt)
+
+        earlier : (j : ℕ) → j < at + 1 + place → j < length c.numbers.items → (j ≡ at) ⊎ ((j < at) ⊎ (at < j))
+            → AlikeToLater both (number_at at) bit (number_at j)
+        earlier j lj inside (inl e) later = absurd (omega (arith, later, ap number_at e))
+        earlier j lj inside (inr (inl less)) later = absurd (omega (arith, later, columns.rising j at less lt))
+        earlier j lj inside (inr (inr more)) later =
+            let i : ℕ = j - (at + 1) in
+            let there : j ≡ at + 1 + i = omega (arith, more) in
+            pair_to_lists at j lt inside
+            (not_inverted both.direction (aces_in c.first.aces.items) (aces_in c.second.aces.items) bit
+            (slice_index_or ps at everyone) (slice_index_or ps j everyone) row (slice_index_or rows j no_placing)
+            own_placing (placing_at j inside) alike
+            (subst (λ v. inverts both.direction row v ≡ false) (other_at i j there)
+            (first.before i (omega (arith, there, lj)))))
+
+        differs : (j : ℕ) → j < length c.numbers.items → at < j
+            → inverts both.direction row (slice_index_or rows j no_placing) ≡ true
+            → AlikeToLater both (number_at at) bit (number_at j) → ⊥
+        differs j inside more inverted agrees =
+            let d = inverted_differ both.direction (aces_in c.first.aces.items) (aces_in c.second.aces.items) bit
+            (slice_index_or ps at everyone) (slice_index_or ps j everyone) row (slice_index_or rows j no_placing)
+            own_placing (placing_at j inside) inverted in
+            d.1 (pair_to_columns at j lt inside (agrees (columns.rising at j more inside)) d.0)
+
+  -- the places of the placings are within the columns
+  pub within_columns : {size : ℕ} {shown : List Placing} → shown ≡ rows → length c.first.aces.items ≤ size
+      → length c.second.aces.items ≤ size → AllByRecursion (IsPlacingWithin size) shown
+  within_columns {size} {shown} is first second = subst (AllByRecursion (IsPlacingWithin size)) (sym is)
+      (rows_within ps (aces_in c.first.aces.items) (aces_in c.second.aces.items) bit size rows
+      (omega (arith, first, length-map c.first.aces.items ace))
+      (omega (arith, second, length-map c.second.aces.items ace)) placed.each)
+
+  -- after the last place there is the number of all principals
+  past_end : {place number : ℕ} → length c.numbers.items ≤ place → number ≡ mentioned_count both
+      → IsNumberOr c.numbers.items place (mentioned_count both) number
+  past_end past is = record { inside = λ l. absurd (omega (arith, l, past)); past = λ _. is }
+
+  module _ (nobody : AlikeAt both.direction both.first both.second [] bit) {own : Direction} {shown : List Placing}
+      {single end : ℕ} (way : own ≡ both.direction) (is : shown ≡ rows) (all : end ≡ length rows)
+      (unlike : IsFirstBelow (is_unlike own) shown end single) where
+    -- if a placing is unlike, its principal is found
+    pub found_single : {least member partner : ℕ} → single < end
+        → IsNumberOr c.numbers.items single (mentioned_count both) least
+        → IsFoundOn both bit (record { single = least; member = member; partner = partner })
+    found_single {least} lt number =
+        let inside : single < length c.numbers.items = omega (arith, lt, all, counts.1) in
+        let value = number.inside inside in
+        let below = columns.below single inside in
+        record {
+          single = single_found way is all nobody unlike number;
+          member = λ e. absurd (omega (arith, e, value, below));
+          partner = λ e l. absurd (omega (arith, e, value, below));
+        }
+
+    module _ (past : end ≤ single) where
+      -- else the lists do not differ for anyone alone
+      pub none_unlike : AllByRecursion (SameAlone own) shown
+      none_unlike = all_same own (all ∙ sym (ap length is)) past unlike
+
+      none_single : {s : ℕ} → s ≡ mentioned_count both → IsLeast (AlikeToOne both bit) (mentioned_count both) s
+      none_single {s} e = single_found way is all nobody unlike (past_end (omega (arith, past, all, counts.1)) e)
+
+      alone : (k : ℕ) → k < mentioned_count both → AlikeToOne both bit k
+      alone k l = (none_single refl).before k l
+
+      -- and if no placing inverts another, nothing is found
+      pub found_nothing : {member : ℕ} {f : FirstPrincipals} → end ≤ member
+          → IsFirstBelow (λ r. inverts_any own r shown) shown end member → IsNothing both f → IsFoundOn both bit f
+      found_nothing {member} {f} after inverting h = record {
+        single = none_single h.single;
+        member = λ _. member_found alone way is all none_unlike inverting
+            (past_end (omega (arith, after, all, counts.1)) h.member);
+        partner = λ e l. absurd (omega (arith, l, h.member));
+      }
+
+      -- else a pair is found
+      pub found_pair : {member partner end_of_others s m p : ℕ} {row : Placing} {others : List Placing}
+          → member < end → IsFirstBelow (λ r. inverts_any own r shown) shown end member
+          → row ≡ slice_index_or rows member row → others ≡ drop (member + 1) shown → end_of_others ≡ length others
+          → IsFirstBelow (inverts own row) others end_of_others partner
+          → s ≡ mentioned_count both → IsNumberOr c.numbers.items member (mentioned_count both) m
+          → IsNumberOr c.numbers.items (member + 1 + partner) (mentioned_count both) p
+          → IsFoundOn both bit (record { single = s; member = m; partner = p })
+      found_pair {member} {partner} {end_of_others} {s} {m} {p} {row} {others} lt inverting read rest long inverted e
+          one two =
+          let inside : member < length c.numbers.items = omega (arith, lt, all, counts.1) in
+          let own_row : row ≡ slice_index_or rows member no_placing =
+          get_or_read rows member row (omega (arith, lt, all)) read no_placing in
+          record {
+            single = none_single e;
+            member = λ _. member_found alone way is all none_unlike inverting one;
+            partner = λ _ _. subst (λ v. IsLeast (AlikeToLater both v bit) (mentioned_count both) p)
+                (sym (one.inside inside))
+                (partner_found alone way is inside own_row (rest ∙ ap (drop (member + 1)) is) long none_unlike inverted
+                two);
+          }
+
+-- ---- right by right
+
+-- what is found on the rights so far
+abbrev pub IsFoundBelow : TwoLists → ℕ → FirstPrincipals → Type 0
+IsFoundBelow both bit = AreLeast both (λ Q. Least Q (mentioned_count both) bit)
+
+-- before the first right nothing is found
+pub nothing_found : {both : TwoLists} {f : FirstPrincipals} → IsNothing both f → IsFoundBelow both 0 f
+nothing_found {both} {f} h = record {
+  single = least_start (AlikeToOne both) (mentioned_count both) f.single h.single;
+  member = λ _. least_start (AlikeToPairs both) (mentioned_count both) f.member h.member;
+  partner = λ _ _. least_start (AlikeToLater both f.member) (mentioned_count both) f.partner h.partner;
+}
+
+-- a right on which both lists have the same column changes nothing
+pub found_skip : {both : TwoLists} {bit : ℕ} {f : FirstPrincipals} → HaveSameColumn both bit → IsFoundBelow both bit f
+    → IsFoundBelow both (bit + 1) f
+found_skip {both} {bit} {f} same h = record {
+  single = least_skip (same_one both bit same) h.single;
+  member = λ e. least_skip (same_pairs both bit same) (h.member e);
+  partner = λ e l. least_skip
+      (λ k later o. same_alike both bit (principal_at both f.member ∷ principal_at both k ∷ []) same) (h.partner e l);
+}
+
+-- the least number of one more right is the least, if it is not greater
+least_new : {Q : ℕ → ℕ → Type 0} {n bit old next : ℕ} → next ≤ old → has_bit all_rights bit ≡ true
+    → IsLeast (Q bit) n next → Least Q n bit old → Least Q n (bit + 1) next
+least_new {Q} {n} {bit} {old} {next} le has i h =
+    least_step Q n bit old next le (λ k l. i.before k l)
+    (λ l all. i.at (omega (arith, l, h.within)) (all bit has)) h
+
+-- the least number so far stays, if it is not greater
+least_old : {Q : ℕ → ℕ → Type 0} {n bit old next : ℕ} → old ≤ next → IsLeast (Q bit) n next → Least Q n bit old
+    → Least Q n (bit + 1) old
+least_old {Q} {n} {bit} {old} {next} le i h =
+    least_step Q n bit old old (omega arith) (λ k l. i.before k (omega (arith, l, le))) (λ l. absurd (omega (arith, l)))
+    h
+
+-- a principal that agrees with all agrees with each later one
+agrees_later : (both : TwoLists) (at bit k : ℕ) → k < mentioned_count both → AlikeToPairs both bit at
+    → AlikeToLater both at bit k
+agrees_later both at bit k lt h later o =
+    all_at (λ q. may_overlap (principal_at both at) q ≡ true
+    → AlikeAt both.direction both.first both.second (principal_at both at ∷ q ∷ []) bit) (all_mentioned both) k everyone
+    lt h o
+
+-- the earlier of what is found on the rights so far and on one more is what is found on all of them
+pub found_more : {both : TwoLists} {bit : ℕ} {f g new : FirstPrincipals} → has_bit all_rights bit ≡ true
+    → new ≡ earlier_of f g
+    → IsFoundBelow both bit f → IsFoundOn both bit g → IsFoundBelow both (bit + 1) new
+found_more {both} {bit} {f} {g} {new} has is h i =
+    by_single (cases_order g.single f.single)
+  where
+    n : ℕ
+    n = mentioned_count both
+
+    is_g : is_found_before g f ≡ true → IsFoundBelow both (bit + 1) g → IsFoundBelow both (bit + 1) new
+    is_g e found = subst (IsFoundBelow both (bit + 1)) (sym (is ∙ rw e refl)) found
+
+    is_f : is_found_before g f ≡ false → IsFoundBelow both (bit + 1) f → IsFoundBelow both (bit + 1) new
+    is_f e found = subst (IsFoundBelow both (bit + 1)) (sym (is ∙ rw e refl)) found
+
+    by_partner : g.single ≡ f.single → g.member ≡ f.member → (g.partner < f.partner) ⊎ (f.partner ≤ g.partner)
+        → IsFoundBelow both (bit + 1) new
+    by_partner s m (inl less) =
+        is_g (rw (
+          le-ltb g.single f.single (omega (arith, s)),
+          eq-eqb g.single f.single s,
+          le-ltb g.member f.member (omega (arith, m)),
+          eq-eqb g.member f.member m,
+          lt-ltb g.partner f.partner less,
+        ) refl) (record {
+          single = least_new (omega (arith, s)) has i.single h.single;
+          member = λ e. least_new (omega (arith, m)) has (i.member e) (h.member (sym s ∙ e));
+          partner = λ e l. least_new (omega (arith, less)) has (i.partner e l)
+              (subst (λ v. Least (AlikeToLater both v) n bit f.partner) (sym m)
+              (h.partner (sym s ∙ e) (omega (arith, l, m))));
+        })
+    by_partner s m (inr more) =
+        is_f (rw (
+          le-ltb g.single f.single (omega (arith, s)),
+          eq-eqb g.single f.single s,
+          le-ltb g.member f.member (omega (arith, m)),
+          eq-eqb g.member f.member m,
+          le-ltb g.partner f.partner more,
+        ) refl) (record {
+          single = least_old (omega (arith, s)) i.single h.single;
+          member = λ e. least_old (omega (arith, m)) (i.member (s ∙ e)) (h.member e);
+          partner = λ e l. least_old more
+              (subst (λ v. IsLeast (AlikeToLater both v bit) n g.partner) m
+              (i.partner (s ∙ e) (omega (arith, l, m)))) (h.partner e l);
+        })
+
+    by_member : g.single ≡ f.single → (g.member ≡ f.member) ⊎ ((g.member < f.member) ⊎ (f.member < g.member))
+        → IsFoundBelow both (bit + 1) new
+    by_member s (inl m) = by_partner s m (cases_lt g.partner f.partner)
+    by_member s (inr (inl less)) =
+        is_g (rw (
+          le-ltb g.single f.single (omega (arith, s)),
+          eq-eqb g.single f.single s,
+          lt-ltb g.member f.member less,
+        ) refl) (record {
+          single = least_new (omega (arith, s)) has i.single h.single;
+          member = λ e. least_new (omega (arith, less)) has (i.member e) (h.member (sym s ∙ e));
+          partner = λ e l.
+              let own = i.partner e l in
+              let old = h.member (sym s ∙ e) in
+              record {
+                within = own.within;
+                before = λ k lk b lb has_b. elim (cases_eq b bit) [
+                  | inl same ↦ subst (λ v. AlikeToLater both g.member v k) (sym same) (own.before k lk)
+                  | inr other ↦ agrees_later both g.member b k (omega (arith, lk, own.within))
+                      (old.before g.member less b (omega (arith, lb, other)) has_b)
+                ];
+                at = λ lp all. own.at lp (all bit has);
+              };
+        })
+    by_member s (inr (inr more)) =
+        is_f (rw (
+          le-ltb g.single f.single (omega (arith, s)),
+          eq-eqb g.single f.single s,
+          le-ltb g.member f.member (omega (arith, more)),
+          ne_eqb g.member f.member (λ e. omega (arith, e, more)),
+        ) refl)
+        (record {
+          single = least_old (omega (arith, s)) i.single h.single;
+          member = λ e. least_old (omega (arith, more)) (i.member (s ∙ e)) (h.member e);
+          partner = λ e l.
+              let old = h.partner e l in
+              least_step (AlikeToLater both f.member) n bit f.partner f.partner (omega arith)
+              (λ k lk. agrees_later both f.member bit k (omega (arith, lk, old.within))
+              ((i.member (s ∙ e)).before f.member more)) (λ lp. absurd (omega (arith, lp))) old;
+        })
+
+    by_single : (g.single ≡ f.single) ⊎ ((g.single < f.single) ⊎ (f.single < g.single))
+        → IsFoundBelow both (bit + 1) new
+    by_single (inl s) = by_member s (cases_order g.member f.member)
+    by_single (inr (inl less)) =
+        let within = h.single.within in
+        is_g (rw (lt-ltb g.single f.single less) refl) (record {
+          single = least_new (omega (arith, less)) has i.single h.single;
+          member = λ e. absurd (omega (arith, e, less, within));
+          partner = λ e l. absurd (omega (arith, e, less, within));
+        })
+    by_single (inr (inr more)) =
+        let within = i.single.within in
+        is_f (rw (
+          le-ltb g.single f.single (omega (arith, more)),
+          ne_eqb g.single f.single (λ e. omega (arith, e, more)),
+        ) refl) (record {
+          single = least_old (omega (arith, more)) i.single h.single;
+          member = λ e. absurd (omega (arith, e, more, within));
+          partner = λ e l. absurd (omega (arith, e, more, within));
+        })
+
+-- after the last right it is what is found on all rights
+pub found_done : {both : TwoLists} {bit : ℕ} {f : FirstPrincipals} → 21 ≤ bit → IsFoundBelow both bit f
+    → IsFoundOnAll both f
+found_done {both} {bit} {f} le h = record {
+  single = least_done le h.single;
+  member = λ e. least_done le (h.member e);
+  partner = λ e l. least_done le (h.partner e l);
+}
+
+-- ---- the first small set
+
+-- the first partner, counted from the principal after the member
+later_partner : (both : TwoLists) (at partner : ℕ) → at < mentioned_count both
+    → IsLeast (OnAll (AlikeToLater both at)) (mentioned_count both) partner
+    → (at + 1 ≤ partner) × IsFirstPartner both at (partner - (at + 1))
+later_partner both at partner lt h = (
+  after,
+  record {
+    within = omega (arith, after, h.within, long);
+    before = λ k lk b has o.
+        let q : slice_index_or (later_than both at) k everyone ≡ principal_at both (at + 1 + k) = later_is k in
+        subst (λ v. AlikeAt both.direction both.first both.second (principal_at both at ∷ v ∷ []) b) (sym q)
+        (h.before (at + 1 + k) (omega (arith, lk, after)) b has (omega arith)
+        (subst (λ v. may_overlap (principal_at both at) v ≡ true) q o));
+    at = λ lw all. h.at (omega (arith, lw, long, after)) (λ b has later o.
+        let q : slice_index_or (later_than both at) (partner - (at + 1)) everyone ≡ principal_at both partner =
+        later_is (partner - (at + 1)) ∙ ap (principal_at both) (omega (arith, after)) in
+        subst (λ v. AlikeAt both.direction both.first both.second (principal_at both at ∷ v ∷ []) b) q
+        (all b has (subst (λ v. may_overlap (principal_at both at) v ≡ true) (sym q) o)));
+  },
+)
+  where
+    after : at + 1 ≤ partner
+    after = elim (cases_lt partner (at + 1)) [
+      | inl less ↦ absurd (h.at (omega (arith, less, lt)) (λ b has later. absurd (omega (arith, later, less))))
+      | inr more ↦ more
+    ]
+
+    long : length (later_than both at) + (at + 1) ≡ mentioned_count both
+    long = omega (arith, length-drop (at + 1) (all_mentioned both), lt)
+
+    later_is : (k : ℕ) → slice_index_or (later_than both at) k everyone ≡ principal_at both (at + 1 + k)
+    later_is k = get_or-drop (at + 1) (all_mentioned both) k everyone
+
+-- a single principal that is found is the first small set
+pub found_one : (both : TwoLists) {f : FirstPrincipals} → AreAlikeTo both []
+    → IsFoundOnAll both f → f.single < mentioned_count both
+    → FindSet both (Some (principal_at both f.single ∷ []))
+found_one both {f} empty found lt =
+    single_answer both (principal_at both f.single) f.single empty found.single lt refl
+
+-- if nothing is found, there is no such set
+pub found_nobody : (both : TwoLists) {f : FirstPrincipals} → AreAlikeTo both []
+    → IsFoundOnAll both f → mentioned_count both ≤ f.single
+    → f.member ≡ mentioned_count both → FindSet both None
+found_nobody both {f} empty found le is =
+    let within = found.single.within in
+    none_answer both f.single f.member empty found.single le (found.member (omega (arith, le, within))) is
+
+-- a pair that is found is the first small set, and both numbers are those of principals
+pub found_two : (both : TwoLists) {f : FirstPrincipals} → AreAlikeTo both []
+    → IsFoundOnAll both f → mentioned_count both ≤ f.single
+    → (f.member ≡ mentioned_count both → ⊥)
+    → FindSet both (Some (principal_at both f.member ∷ principal_at both f.partner ∷ []))
+    × ((f.member < mentioned_count both) × (f.partner < mentioned_count both))
+found_two both {f} empty found le some =
+    let bound = found.single.within in
+    let none : f.single ≡ mentioned_count both = omega (arith, le, bound) in
+    let member = found.member none in
+    let inside = member.within in
+    let lt : f.member < mentioned_count both = omega (arith, inside, some) in
+    let partner = later_partner both f.member f.partner lt (found.partner none lt) in
+    let after = partner.0 in (
+      pair_answer both empty found.single le member lt partner.1 (omega (arith, after)) refl refl,
+      (lt, omega (arith, after, partner_within both found.single le member lt partner.1)),
+    )
