@@ -97,7 +97,6 @@ fn lacks_name(whom: Principal<'_>, object: &Object<'_>) -> bool
     }
 }
 
-// Returns the list with the names of the object.
 fn with_names<'a>(alloc: Global, aces: Aces<'a>, object: &Object<'a>) -> Result<Acl, AllocError>
     requires { IsAccepted full
         (resolved_list (owner_of object.now) (owning_group_of object.now) aces) }
@@ -123,7 +122,6 @@ fn with_name<'a>(item: AceRef<'a>, object: &Object<'a>) -> AceRef<'a>
     }
 }
 
-// Returns the ACE of the user with this name.
 fn for_user<'a>(item: AceRef<'a>, name: &'a [u8]) -> AceRef<'a>
     ensures { ace result ≡ for_user name.entry.now (ace item.entry) }
 {
@@ -134,7 +132,6 @@ fn for_user<'a>(item: AceRef<'a>, name: &'a [u8]) -> AceRef<'a>
     }
 }
 
-// Returns the ACE of the group with this name.
 fn for_group<'a>(item: AceRef<'a>, name: &'a [u8]) -> AceRef<'a>
     ensures { ace result ≡ for_group name.entry.now (ace item.entry) }
 {

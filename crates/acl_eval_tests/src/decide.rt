@@ -77,7 +77,7 @@ pub fn may(aces: Aces<'_>, object: &Object<'_>, requester: &Requester<'_>, right
 
 #[cfg(test)]
 mod tests {
-    use acl_eval::*;
+    use super::*;
     use std::test::Fail;
 
     // DENY WRITE_DATA bob, ALLOW WRITE_DATA EVERYONE@.

@@ -1,4 +1,4 @@
--- The flags of a whole list.
+-- The flags of a whole list (RFC 8881, section 6.2.2, and those of OpenZFS).
 use Rattle.std.specs.Prelude.{◌≡◌, ℕ, bit_and}
 
 -- ACL4_AUTO_INHERIT, ACL4_PROTECTED and ACL4_DEFAULTED (RFC 8881, section 6.2.2), and ACL_IS_TRIVIAL and ACL_IS_DIR of

@@ -94,7 +94,6 @@ pub fn write_acl41<K: Sink>(
     }
 }
 
-// Returns the word of the flags.
 pub(crate) fn flags_word(flags: AclFlags) -> [u8; 4]
     ensures { result ≡ word flags.bits }
 {

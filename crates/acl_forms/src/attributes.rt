@@ -52,7 +52,6 @@ pub fn read_attribute(alloc: Global, bytes: &[u8]) -> Result<PosixAcl, ReadFault
     read_acl(alloc, bytes)
 }
 
-// Returns the ACL of the bytes.
 fn read_acl(alloc: Global, bytes: &[u8]) -> Result<PosixAcl, ReadFault>
     ensures found { IfOk result (λ acl. SpellsAttribute acl bytes.now) }
     ensures fault { IfErr result (λ fault. (fault ≡ no_memory_left)
@@ -125,7 +124,6 @@ fn earlier(fall: Option<usize>, place: usize, reason: ReadReason) -> ReadFault
     }
 }
 
-// Returns a fault of the entry at a place.
 fn at_entry(place: usize, reason: ReadReason) -> ReadFault
     requires { entry_offset place < count_limit }
     ensures { result ≡ read_fault_at (entry_offset place) reason }
@@ -201,7 +199,6 @@ fn entry_of(raw: RawEntry, at: u64) -> Result<Entry, ReadFault>
     }
 }
 
-// Returns the entry of numbers of which the tag and the permissions are right.
 fn identified(raw: RawEntry) -> Result<Entry, ReadReason>
     requires some { 0 < raw.tag }
     requires known { raw.tag ≤ last_tag_number }

@@ -30,7 +30,6 @@ pub(crate) fn read_text<F: TextForm>(
     Ok(list)
 }
 
-// Returns the list of the lines of a text.
 fn read_lines<F: TextForm>(alloc: Global, text: &[u8], form: F) -> Result<F::List, ReadFault>
     ensures { MatchResult result
         (λ list. IsHeld (read_items (F.rules form) [] (items_in (F.rules form) text.now))

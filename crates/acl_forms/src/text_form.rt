@@ -22,11 +22,9 @@ pub(crate) trait TextForm: Copy {
     // The rules of the form.
     ghost rules: { Self → TextRules Item };
 
-    /// Returns the list without entries.
     fn new_list(self, alloc: Global) -> Self::List
         ensures { Holds result [] };
 
-    /// Returns how many entries a list has.
     fn len_of(self, list: &Self::List) -> usize
         ensures { (all : List Item) → Holds list.now all → result ≡ length all };
 

@@ -129,7 +129,6 @@ pub(crate) fn long_form(alloc: Global, list: &AclView<'_>) -> Result<Acl, AllocE
     written(alloc, &form)
 }
 
-/// Returns the list of the emitted ACEs.
 pub(crate) fn written(alloc: Global, form: &[Emitted<'_>]) -> Result<Acl, AllocError>
     requires { IsAccepted full (emitted_aces form.now) }
     ensures { IfOk result (λ list. list ≡ emitted_aces form.now) }

@@ -26,7 +26,6 @@ impl Class {
         }
     }
 
-    /// Returns the class of users, or the other class.
     pub(crate) fn of_users(users: bool) -> Class
         ensures { is_users result ≡ users }
     {

@@ -57,7 +57,6 @@ pub fn have_one_form(
     Ok(are_equal(&form, &other_form))
 }
 
-// The rights that are needed, and the rows.
 fn needed_rights(alloc: Global, aces: &[AceRef<'_>]) -> Result<NeededRights, AllocError>
     requires { IsAccepted full (aces_in aces.now) }
     ensures masks { IfOk result (λ needed. vec_len needed.masks ≡ length aces.now) }

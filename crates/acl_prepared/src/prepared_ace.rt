@@ -52,7 +52,6 @@ pub(crate) fn push_prepared(bytes: &mut Vec<u8>, item: &AceRef<'_>) -> Result<()
     bytes.extend_from_slice(whom.name())
 }
 
-// Returns the number of an ACE.
 fn number_of(whom: Principal<'_>, kind: Kind, mask: Mask) -> u64
     requires { length (principal_name (principal whom)) ≤ longest_who }
     ensures { result ≡ ace_number (principal whom.entry) kind mask.bits }

@@ -199,7 +199,6 @@ fn relevant_user(names: &Names, item: &AceRef<'_>) -> Option<Id>
     }
 }
 
-// Returns the id of the group that a relevant ACE names.
 fn relevant_group(names: &Names, item: &AceRef<'_>) -> Option<Id>
     ensures { option_map (λ id. id.value) result ≡ relevant_group names.now (ace item.now) }
 {

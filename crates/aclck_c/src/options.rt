@@ -165,7 +165,6 @@ pub(crate) fn are_allowed(allowed: u32, options: u32) -> bool
     options & allowed == options
 }
 
-/// Returns whether `options` have this one.
 pub(crate) fn has_option(option: u32, options: u32) -> bool
     ensures { result ≡ has_option option options }
 {

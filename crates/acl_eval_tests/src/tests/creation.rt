@@ -76,58 +76,40 @@ fn a_child_inherits_by_its_kind(rt: HostRuntime) {
     assert!(rt; passes(check_creations(&rt, rt.alloc())));
 }
 
-// Returns whether the new object gets an ACE of the directory that has these flags.
-fn is_taken(kind: ChildKind, parent: Flags) -> bool {
-    let for_files = parent.contains(Flags::FILE_INHERIT);
-    match kind {
-        File => for_files,
-        Directory => {
-            parent.contains(Flags::DIRECTORY_INHERIT)
-                || for_files && !parent.contains(Flags::NO_PROPAGATE_INHERIT)
-        }
-    }
-}
+// The flags of the ACE that a new file, and that a new directory, gets of one ACE, if it gets one. The index has the bits
+// of FILE_INHERIT, DIRECTORY_INHERIT and NO_PROPAGATE_INHERIT, 1, 2 and 4. The flags that are not about inheritance, 0x70,
+// are added as they were; INHERIT_ONLY and INHERITED of the parent change nothing.
+static FILE_GETS: [Option<u8>; 8] = [None, Some(0), None, Some(0), None, Some(0), None, Some(0)];
 
-// Returns whether the new object passes the ACE on.
-fn is_passed_on(kind: ChildKind, parent: Flags) -> bool {
-    kind == Directory && !parent.contains(Flags::NO_PROPAGATE_INHERIT)
-}
-
-// The flags that are not about inheritance.
-const LASTING: [Flags; 3] = [
-    Flags::SUCCESSFUL_ACCESS,
-    Flags::FAILED_ACCESS,
-    Flags::IDENTIFIER_GROUP,
+static DIRECTORY_GETS: [Option<u8>; 8] = [
+    None,
+    Some(0x09),
+    Some(0x02),
+    Some(0x03),
+    None,
+    None,
+    Some(0),
+    Some(0),
 ];
 
-// Returns whether these are the flags of the ACE in the new object: those of inheritance if the object passes the ACE
-// on, with INHERIT_ONLY if and only if the ACE is for files alone; those that are not about inheritance as they were;
-// and never INHERITED.
-fn are_flags(kind: ChildKind, parent: Flags, new: Flags) -> bool {
-    let on = is_passed_on(kind, parent);
-    let for_directories = parent.contains(Flags::DIRECTORY_INHERIT);
-    new.contains(Flags::FILE_INHERIT) == (on && parent.contains(Flags::FILE_INHERIT))
-        && new.contains(Flags::DIRECTORY_INHERIT) == (on && for_directories)
-        && new.contains(Flags::INHERIT_ONLY) == (on && !for_directories)
-        && !new.contains(Flags::NO_PROPAGATE_INHERIT)
-        && !new.contains(Flags::INHERITED)
-        && LASTING
-            .iter()
-            .all(|flag| new.contains(*flag) == parent.contains(*flag))
+fn flags_by_the_tables(kind: ChildKind, parent: u8) -> Option<u8> {
+    let index = usize::from(parent & 7);
+    let row = match kind {
+        File => FILE_GETS[index],
+        Directory => DIRECTORY_GETS[index],
+    };
+    Some(row? | parent & 0x70)
 }
 
-// Returns whether the new object has what the rules say for an ACE with these flags.
-fn is_by_the_rules(list: &Acl, kind: ChildKind, parent: Flags) -> bool {
-    match list.aces().next() {
-        Some(ace) => is_taken(kind, parent) && are_flags(kind, parent, ace.flags),
-        None => !is_taken(kind, parent),
-    }
-}
-
-fn creates_by_the_rules(alloc: Global, kind: ChildKind, bits: u8) -> Result<bool, PushFault> {
+fn creates_by_the_tables(alloc: Global, kind: ChildKind, bits: u8) -> Result<bool, PushFault> {
     let parent = built(alloc, &[with_flags(ALICE, u32::from(bits))])?;
     let list = child_of(alloc, &parent, kind)?;
-    Ok(list.len() < 2 && is_by_the_rules(&list, kind, Flags { bits }))
+    let wanted = flags_by_the_tables(kind, bits);
+    let is_as_wanted = match list.aces().next() {
+        Some(ace) => wanted == Some(ace.flags.bits()),
+        None => wanted.is_none(),
+    };
+    Ok(list.len() < 2 && is_as_wanted)
 }
 
 // Returns whether the new object has each of this many ACEs.
@@ -167,11 +149,11 @@ mod ample {
     }
 
     #[test]
-    fn every_set_of_flags_is_inherited_by_the_rules(rt: HostRuntime) {
+    fn every_set_of_flags_is_inherited_by_the_tables(rt: HostRuntime) {
         for flags in 0..=255u8 {
             for kind in [File, Directory] {
                 assert!(rt;
-                    creates_by_the_rules(rt.alloc(), kind, flags) == Ok(true),
+                    creates_by_the_tables(rt.alloc(), kind, flags) == Ok(true),
                     "{flags}"
                 );
             }

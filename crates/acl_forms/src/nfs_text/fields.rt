@@ -40,7 +40,6 @@ pub(crate) struct EntryParts<'a> {
 }
 
 impl NfsTag {
-    // Returns the tag that a word is.
     fn of(word: &[u8]) -> Option<NfsTag>
         ensures { result ≡ nfs_tag_of word.now }
     {
@@ -82,7 +81,6 @@ impl NfsTag {
     }
 }
 
-/// Returns whether a field is this word.
 pub(crate) fn is_word(field: &[u8], word: &[u8]) -> bool
     ensures { result ≡ bytes_eq field.now word.now }
 {

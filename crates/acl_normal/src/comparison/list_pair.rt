@@ -93,7 +93,6 @@ impl<'a, 'b> ListPair<'a, 'b> {
         self.mentioned.len()
     }
 
-    /// Returns the mentioned principal with this number.
     pub(crate) fn principal(&self, number: usize) -> Principal<'a>
         requires { number < length (all_mentioned self.now) }
         ensures { principal result ≡ principal_at self.now number }

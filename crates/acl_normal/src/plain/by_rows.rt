@@ -75,7 +75,6 @@ fn own_right(rows: &MergedRows<'_>, item: &AceRef<'_>, right: Bit) -> Mask
     Mask::NONE
 }
 
-// Whether the key of the ACE is free on the right.
 fn has_free(rows: &MergedRows<'_>, item: &AceRef<'_>, right: Bit) -> bool
     requires { HasRowColumns rows.now }
     ensures { result ≡ is_free (column rows.now right.bit) (ace_key (ace item.now)) }

@@ -34,31 +34,50 @@ fn the_eight_flags_are_those_of_the_standard(rt: HostRuntime) {
     }
 }
 
-// The rights of RFC 8881, section 6.2.1.3.1, are READ_DATA, 0x1, to WRITE_RETENTION_HOLD, 0x400, and DELETE, 0x10000,
-// to SYNCHRONIZE, 0x100000. Of these the narrow profile lacks WRITE_RETENTION, 0x200, and WRITE_RETENTION_HOLD.
-fn is_right(bit: u32) -> bool {
-    bit <= 10 || 16 <= bit && bit <= 20
-}
+// The bits of the rights of RFC 8881, section 6.2.1.3.1, READ_DATA to WRITE_RETENTION_HOLD and DELETE to SYNCHRONIZE, and
+// whether the narrow profile has each: it lacks WRITE_RETENTION, 0x200, and WRITE_RETENTION_HOLD, 0x400.
+static RIGHT_BITS: [(u32, bool); 16] = [
+    (0x1, true),
+    (0x2, true),
+    (0x4, true),
+    (0x8, true),
+    (0x10, true),
+    (0x20, true),
+    (0x40, true),
+    (0x80, true),
+    (0x100, true),
+    (0x200, false),
+    (0x400, false),
+    (0x10000, true),
+    (0x20000, true),
+    (0x40000, true),
+    (0x80000, true),
+    (0x100000, true),
+];
 
-fn is_narrow_right(bit: u32) -> bool {
-    bit <= 8 || 16 <= bit && bit <= 20
-}
-
-fn is_judged(bit: u32) -> bool {
-    match Mask::new(1 << bit % 32) {
+fn is_right(number: u32, is_narrow: bool) -> bool {
+    match Mask::new(number) {
         Some(right) => {
-            is_right(bit)
-                && Profile::FULL.masks.contains(right)
-                && Profile::NARROW.masks.contains(right) == is_narrow_right(bit)
+            Profile::FULL.masks.contains(right)
+                && Profile::NARROW.masks.contains(right) == is_narrow
         }
-        None => !is_right(bit),
+        None => false,
     }
 }
 
 #[test]
 fn the_sixteen_rights_are_those_of_the_standard(rt: HostRuntime) {
-    for bit in 0..32u32 {
-        assert!(rt; is_judged(bit), "{bit}");
+    for (number, is_narrow) in RIGHT_BITS {
+        assert!(rt; is_right(number, is_narrow), "{number}");
+    }
+}
+
+#[test]
+fn no_other_bit_is_a_right(rt: HostRuntime) {
+    for bit in [
+        11, 12, 13, 14, 15, 21, 22, 23, 24, 25, 26, 27, 28, 29, 30, 31u32,
+    ] {
+        assert!(rt; Mask::new(1 << bit % 32).is_none(), "{bit}");
     }
 }
 

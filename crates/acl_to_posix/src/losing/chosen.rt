@@ -72,7 +72,6 @@ fn user_or(tag: Tag, rest: Id) -> Id
     }
 }
 
-// Returns whether the tag is that of `OWNER@`.
 fn is_owner(tag: Tag) -> bool
     ensures { result ≡ is_owner_tag (tag_of tag) }
 {

@@ -143,7 +143,6 @@ fn posix_of(
     })
 }
 
-// Returns what is lost, by numbers.
 fn loss_of(lost: &Option<LostGrant>) -> RawPosixLoss
     requires few { IfSome lost.now (λ found. length found.groups.items ≤ 3) }
     ensures { result ≡ loss_numbers lost.now }
@@ -154,7 +153,6 @@ fn loss_of(lost: &Option<LostGrant>) -> RawPosixLoss
     }
 }
 
-// Returns a loss by its numbers.
 fn numbers_of(lost: &LostGrant) -> RawPosixLoss
     requires few { length lost.now.groups.items ≤ 3 }
     ensures { result ≡ raw_posix_loss lost.now }

@@ -91,7 +91,6 @@ pub(crate) fn asked(question: &RawPosixQuestion<'_>) -> Option<PosixRequest>
     })
 }
 
-/// Returns whether all numbers are ids.
 pub(crate) fn are_ids(numbers: &[u32]) -> bool
     ensures { IsTrue result ↔ All IsId numbers.now }
 {

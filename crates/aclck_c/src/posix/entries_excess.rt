@@ -113,7 +113,6 @@ fn second_view(entries: &[RawEntry]) -> Result<EntriesView<'_>, Failure>
     }
 }
 
-// Returns a difference by its numbers.
 fn numbers_of(found: &PosixDifference) -> RawPosixDifference
     ensures { result ≡ raw_posix_difference found.now }
 {
