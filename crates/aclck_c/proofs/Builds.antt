@@ -1,11 +1,11 @@
 -- A list from an array of ACEs, ACE by ACE.
-use Rattle.std.proofs.Common.{◌≡◌, ◌≤◌, ◌<◌, ◌+◌, ◌++◌, ◌∷◌, [], ◌∙◌, ℕ, Bool, List, None, Some, true, false, ap, append_assoc, arith, drop, eqb, get_or, length, map, refl, subst, sym, take}
+use Rattle.std.proofs.Common.{◌≡◌, ◌≤◌, ◌<◌, ◌+◌, ◌++◌, ◌∷◌, [], ◌∙◌, ℕ, Bool, List, None, Some, true, false, ap, append_assoc, arith, drop, get_or, length, map, refl, subst, sym, take}
 use Rattle.std.specs.Prelude.{All, if◌then◌else◌, nat_lt, not, bit_and, IfErr, Result, Ok, Err}
 use Rattle.std.specs.Result.{IsErrAnd}
-use Rattle.std.proofs.lemmas.Bool.{eq-eqb, eqb-true}
+use Rattle.std.proofs.lemmas.Bool.{eqb-true}
 use Rattle.std.proofs.lemmas.List.{map-append, take-append-drop, take_more, length-map}
 use Rattle.std.proofs.lemmas.List.Elements.{All-map, All-weaker, recursion_from_All}
-use Rattle.std.proofs.lemmas.Nat.{and_comm, and_le_r}
+use Rattle.std.proofs.lemmas.Nat.{and_le_r}
 use Rattle.acl_perm.specs.Bits.{IsMask, all_rights}
 use Rattle.acl_perm.specs.Profile.{Profile, full, profile_of}
 use Rattle.acl_perm.specs.declared.profile.Profile.{Profile as CodeProfile}
@@ -13,7 +13,7 @@ use Rattle.acl_nfs4.specs.Ace.{Ace}
 use Rattle.acl_nfs4.specs.Spelling.{Fits, IsAccepted}
 use Rattle.acl_nfs4.specs.Within.{IsWithin, is_within}
 use Rattle.acl_nfs4.specs.declared.xdr.fault.Reason.TheVariants as reason
-use Rattle.acl_nfs4.proofs.Exports.{accepted_where_it_fits, code_profile, within_part}
+use Rattle.acl_nfs4.proofs.Exports.{accepted_where_it_fits, code_profile, contains_again, contains_is, within_part}
 use Rattle.aclck_c.specs.Build.{AreAces, ace_given, next_fault, number_fault}
 use Rattle.aclck_c.specs.Refusal.{in_list}
 use Rattle.aclck_c.specs.declared.failure.Failure.{Failure}
@@ -31,14 +31,6 @@ flags_within set n le is =
 -- a mask within a profile is a mask
 pub mask_within : (set n : ℕ) → IsMask set → IsWithin set n → IsMask n
 mask_within set n mask is = within_part all_rights set n mask is
-
--- if the test of `contains` passes, the bits are in the set
-pub contains_is : (set n : ℕ) → eqb (bit_and set n) n ≡ true → IsWithin set n
-contains_is set n e = and_comm n set ∙ eqb-true _ _ e
-
--- if the bits are in the set, the test of `contains` passes
-pub contains_again : (set n : ℕ) → IsWithin set n → eqb (bit_and set n) n ≡ true
-contains_again set n is = eq-eqb _ _ (and_comm set n ∙ is)
 
 -- what the tests of flags and of a mask need
 pub ruleset tests = (flags_within, mask_within, contains_is, contains_again)

@@ -83,8 +83,8 @@ fn list_in(alloc: Global, value: &[u8], form: Form) -> Result<FoundList, Failure
 
 /// Writes the value of flags and of a list in a form. `form` is a number of `enum aclck_form`. Returns 0 if the value
 /// is at the front of `out`; 2 if the bytes of the list are refused, or the form cannot hold the list, with the reason
-/// and the place of a byte or of an ACE in `fault`; 3 if no form has the number, or the flags are above 7; 4 if memory
-/// ran out; 5 if `out` is too short. At 0 and 5 `needed` is the number of bytes.
+/// and the place of a byte or of an ACE in `fault`; 3 if no form has the number, or `flags` has another bit than those
+/// of `enum aclck_acl_flag`; 4 if memory ran out; 5 if `out` is too short. At 0 and 5 `needed` is the number of bytes.
 #[unsafe(no_mangle)]
 pub extern "C" fn aclck_write_form(
     alloc: Global,

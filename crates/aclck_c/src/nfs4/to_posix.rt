@@ -131,7 +131,8 @@ fn posix_of(
     names: &[RawName<'_>],
     most: u16,
 ) -> Result<MadePosix, Failure>
-    ensures ok { IfOk result (λ made. BecomesPosix acl.now names.now most made.loss made.entries.items) }
+    ensures ok { IfOk result (λ made.
+        BecomesPosix acl.now names.now most made.loss made.entries.items) }
     ensures err { IfErr result (IsPosixFailure acl.now names.now most) }
 {
     let table = table_of(alloc, names)?;
