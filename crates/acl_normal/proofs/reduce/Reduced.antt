@@ -1,10 +1,10 @@
 -- The plain reduction of a column decides alike, and is settled.
-use Rattle.acl_normal.proofs.Common.{[], Allow, and_parts, ap, arith, Bool, Column, default, Deny, everyone, false, first_kind, has_opposite, inl, inr, is_either, is_needed, IsOnce, Kind, kind_eq, may_overlap, needed_keys, None, not, Option, or_cases, or_from, or_left, Principal, principal_eq, reduced, refl, Some, subst, sym, true, unshadowed, unwrap_or, verdict, ◌&&◌, ◌∙◌, ◌∷◌, ◌≡◌, ◌⊎◌, same_Some}
+use Rattle.acl_normal.proofs.Common.{[], Allow, and_parts, ap, arith, Bool, Column, default, Deny, everyone, false, first_kind, has_opposite, inl, inr, is_either, is_needed, IsOnce, Kind, kind_eq, may_overlap, needed_keys, None, not, Option, other_kind, or_cases, or_from, or_left, Principal, principal_eq, reduced, refl, Some, subst, sym, true, unshadowed, unwrap_or, verdict, ◌&&◌, ◌∙◌, ◌∷◌, ◌≡◌, ◌⊎◌, same_Some}
 use Rattle.acl_normal.proofs.unique.Names.{principal_eq_same, either_first, either_within, kind_eq_same, kind_eq_itself}
 use Rattle.acl_normal.proofs.unique.FirstKind.{IsClique, none_within}
 use Rattle.acl_normal.proofs.unique.Irreducible.{IsClean}
 use Rattle.acl_normal.proofs.unique.Free.{once_from_clean}
-use Rattle.acl_normal.proofs.unique.Settled.{opposite, everyone_for, IsWitness, IsSettled}
+use Rattle.acl_normal.proofs.unique.Settled.{everyone_for, IsWitness, IsSettled}
 use Rattle.acl_normal.proofs.reduce.Unshadowed.{same_unshadowed, unshadowed_clean}
 
 -- a test that passes no key passes no needed key
@@ -69,8 +69,8 @@ everyone_last ((x, j) ∷ c) p k clean e h = grind (arith, everyone_last c p k c
 pub record IsOther (d : Kind) (p : Principal) (c : Column) (q : Principal) : Type 0 where
   pub not_everyone : principal_eq q everyone ≡ false
   pub overlap : may_overlap p q ≡ true
-  pub source : first_kind (is_either q q) c ≡ Some (opposite d)
-  pub kind : first_kind (is_either q q) (needed_keys d c) ≡ Some (opposite d)
+  pub source : first_kind (is_either q q) c ≡ Some (other_kind d)
+  pub kind : first_kind (is_either q q) (needed_keys d c) ≡ Some (other_kind d)
 
 -- which needed key of two principals comes first is the same after a key of a third
 kept_behind : (d : Kind) (p q x : Principal) (j : Kind) (c : Column) (i : Kind) → principal_eq x p ≡ false
@@ -86,7 +86,7 @@ other_behind d p c q x j f h = record {
   overlap = h.overlap;
   source = rw skip
       h.source;
-  kind = kept_behind d q q x j c (opposite d) f f h.kind;
+  kind = kept_behind d q q x j c (other_kind d) f f h.kind;
 }
   where
     skip : is_either q q x ≡ false
@@ -102,7 +102,7 @@ not_default : (d j : Kind) → j ≡ d → not (kind_eq j d) ≡ true → ⊥
 not_default d j same f = grind (arith, kind_eq_itself j)
 
 -- a kind that is not the default is its opposite
-opposite_kind : (d j : Kind) → not (kind_eq j d) ≡ true → j ≡ opposite d
+opposite_kind : (d j : Kind) → not (kind_eq j d) ≡ true → j ≡ other_kind d
 opposite_kind d j f = grind arith
 
 -- if a clean column has an opposite key, a needed key of another principal is one
@@ -126,7 +126,7 @@ find_other d p ((x, j) ∷ c) clean h has =
         absurd (cc)
     go false e (inl f) ih =
         let parts = and_parts (may_overlap p x) (not (kind_eq j d)) f in
-        let kind : j ≡ opposite d = opposite_kind d j parts.1 in
+        let kind : j ≡ other_kind d = opposite_kind d j parts.1 in
         let at : is_either x x x ≡ true = either_first x x in
         let stays : is_needed d x j c ≡ true = rw e (or_left (not (kind_eq j d)) (has_opposite d x c) parts.1) in (
           x,
@@ -141,7 +141,7 @@ find_other d p ((x, j) ∷ c) clean h has =
     go false e (inr f) ih = behind (ih (sym (default_rest x j c e) ∙ h) f)
       where
         behind : (q : Principal) × IsOther d p c q → (q : Principal) × IsOther d p ((x, j) ∷ c) q
-        behind (q, o) = (q, other_behind d p c q x j (lacked_apart x q c (opposite d) clean.0 o.source) o)
+        behind (q, o) = (q, other_behind d p c q x j (lacked_apart x q c (other_kind d) clean.0 o.source) o)
 
 -- a needed key of a principal is needed without the key of another in front
 kept_before : (d : Kind) (p x : Principal) (j : Kind) (c : Column) → principal_eq x p ≡ false
@@ -189,7 +189,7 @@ front_witness d p x j c clean h ne e f has = here (find_other d p c clean.2 dc o
     here : (q : Principal) × IsOther d p c q → HasWitness d p ((x, j) ∷ c)
     here (q, o) = (
       q,
-      other_behind d p c q x j (lacked_apart x q c (opposite d) clean.0 o.source) o,
+      other_behind d p c q x j (lacked_apart x q c (other_kind d) clean.0 o.source) o,
       rw f
           (rw (or_left (principal_eq x p) (principal_eq x q) e) (ap Some kind)),
     )
@@ -203,7 +203,7 @@ find_witness d p ((x, j) ∷ c) clean h ne has =
   where
     later : principal_eq x p ≡ false → HasWitness d p c → HasWitness d p ((x, j) ∷ c)
     later e (q, o, a) =
-        let other : principal_eq x q ≡ false = lacked_apart x q c (opposite d) clean.0 o.source in
+        let other : principal_eq x q ≡ false = lacked_apart x q c (other_kind d) clean.0 o.source in
         (q, other_behind d p c q x j other o, kept_behind d p q x j c d e other a)
 
     rest_default : first_kind (is_either p p) (needed_keys d c) ≡ Some d → (t : Bool) → principal_eq x everyone ≡ t

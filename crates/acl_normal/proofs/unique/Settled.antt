@@ -1,16 +1,11 @@
 -- Settled columns, and that they are irreducible.
-use Rattle.acl_normal.proofs.Common.{[], Allow, ap, arith, Bool, Column, Deny, everyone, false, false_from_ne_true, first_kind, HasName, HaveNames, inl, inr, is_either, is_either_or_everyone, IsIrreducible, IsOnce, Kind, may_overlap, None, Option, Principal, principal_eq, refl, Some, subst, sym, true, unwrap_or, verdict, without_principal, ◌++◌, ◌||◌, ◌∙◌, ◌∷◌, ◌≡◌, ◌⊎◌, same_Some}
+use Rattle.acl_normal.proofs.Common.{[], Allow, ap, arith, Bool, Column, Deny, everyone, false, false_from_ne_true, first_kind, HasName, HaveNames, inl, inr, is_either, is_either_or_everyone, IsIrreducible, IsOnce, Kind, may_overlap, None, Option, other_kind, Principal, principal_eq, refl, Some, subst, sym, true, unwrap_or, verdict, without_principal, ◌++◌, ◌||◌, ◌∙◌, ◌∷◌, ◌≡◌, ◌⊎◌, same_Some}
 use Rattle.acl_normal.proofs.unique.Names.{principal_eq_same, overlaps_itself}
 use Rattle.acl_normal.proofs.unique.FirstKind.{first_kind_same, only_at}
 use Rattle.acl_normal.proofs.unique.Shorter.{without_key, without_other}
 use Rattle.acl_normal.proofs.unique.Irreducible.{first_kind_without}
 use Rattle.acl_normal.proofs.unique.SameOrder.{once_has, has_once}
 use Rattle.acl_normal.proofs.unique.Realised.{pairs_from_situations}
-
--- the other kind
-abbrev pub opposite : Kind → Kind
-opposite Deny = Allow
-opposite Allow = Deny
 
 -- everyone is allowed by name where the default is to allow
 abbrev pub everyone_for : Kind → Option Kind
@@ -21,7 +16,7 @@ everyone_for Allow = Some Allow
 pub record IsWitness (c : Column) (d : Kind) (p q : Principal) : Type 0 where
   pub not_everyone : principal_eq q everyone ≡ false
   pub overlap : may_overlap p q ≡ true
-  pub kind : first_kind (is_either q q) c ≡ Some (opposite d)
+  pub kind : first_kind (is_either q q) c ≡ Some (other_kind d)
   pub after : first_kind (is_either p q) c ≡ Some d
 
 -- the test of irreducibility, in terms of what comes first of two that overlap
@@ -49,7 +44,7 @@ default_decides p q c Allow h i = ap (λ o. unwrap_or o Deny) (first_kind_same (
 
 -- a key of the other kind decides with everyone, since everyone comes after a denial
 other_decides : (c : Column) (d : Kind) (q : Principal) → IsSettled c d
-    → first_kind (is_either q q) c ≡ Some (opposite d) → verdict (is_either_or_everyone q q) c ≡ opposite d
+    → first_kind (is_either q q) c ≡ Some (other_kind d) → verdict (is_either_or_everyone q q) c ≡ other_kind d
 other_decides c Allow q s h = ap (λ o. unwrap_or o Deny)
     (first_kind_same (is_either_or_everyone q q) (is_either q everyone) c (λ z. grind arith) ∙ s.deny_first q h)
 other_decides c Deny q s h = ap (λ o. unwrap_or o Deny) (first_kind_without (is_either_or_everyone q q)
@@ -84,12 +79,12 @@ everyone_allows c Allow k i h v = let allowed = default_decides everyone everyon
 settled_default : (c : Column) (d : Kind) → IsSettled c d → verdict (is_either everyone everyone) c ≡ d
 settled_default c d h = grind (arith, h.everyone_is)
 
--- a kind is equal to another or opposite to it
-pub two_kinds : (j k : Kind) → (j ≡ k) ⊎ (j ≡ opposite k)
+-- a kind is equal to another or the other of it
+pub two_kinds : (j k : Kind) → (j ≡ k) ⊎ (j ≡ other_kind k)
 two_kinds j k = grind arith
 
--- no kind is its own opposite
-kinds_clash : {P : Type 0} (k : Kind) → opposite k ≡ k → P
+-- no kind is its own other kind
+kinds_clash : {P : Type 0} (k : Kind) → other_kind k ≡ k → P
 kinds_clash k h = absurd (grind arith)
 
 -- a settled column without repetition is irreducible
@@ -109,14 +104,14 @@ settled_irreducible c d once names s l (p, k) r is same = go (principal_eq p eve
 
     by_witness : principal_eq p everyone ≡ false → k ≡ d → (q : Principal) × IsWitness c d p q → ⊥
     by_witness e f (q, w) =
-        let has = has_once c q (opposite d) w.kind in
-        let q_named = only_at HasName c has.before has.after q (opposite d) has.is names in
+        let has = has_once c q (other_kind d) w.kind in
+        let q_named = only_at HasName c has.before has.after q (other_kind d) has.is names in
         let apart : principal_eq p q ≡ false = false_from_ne_true _ (λ t. kinds_clash d (same_Some _ _ (sym w.kind
         ∙ ap (λ v. first_kind (is_either v v) c) (sym (principal_eq_same p q t)) ∙ at_p ∙ ap Some f))) in
         kinds_clash d (sym (other_decides c d q s w.kind) ∙ sym (without_first p q c e apart)
         ∙ sym (agree q q_named w.overlap) ∙ default_decides p q c d w.after s.everyone_is)
 
-    go : (b : Bool) → principal_eq p everyone ≡ b → (k ≡ d) ⊎ (k ≡ opposite d) → ⊥
+    go : (b : Bool) → principal_eq p everyone ≡ b → (k ≡ d) ⊎ (k ≡ other_kind d) → ⊥
     go true e f =
         let is_all = principal_eq_same p everyone e in
         everyone_allows c d k s.everyone_is (subst (λ v. first_kind (is_either v v) c ≡ Some k) is_all at_p)
