@@ -1,10 +1,9 @@
 -- The list after a change of the mode is accepted if and only if it is within the limits. They are counted ACE by ACE.
 use Rattle.std.proofs.Common.{◌≡◌, ℕ, ◌+◌, ◌-◌, ◌<◌, ◌≤◌, Bool, true, false, eqb, List, [], ◌∷◌, ◌++◌, length, refl, sym, ap, subst, ◌∙◌, arith, length-append}
-use Rattle.std.specs.Prelude.{◌↔◌, ◌||◌, IsTrue, not, count_ones}
+use Rattle.std.specs.Prelude.{◌↔◌, ◌||◌, IsTrue, not}
 use Rattle.std.specs.List.{AllByRecursion, flat_map}
 use Rattle.std.proofs.lemmas.Bool.{true≢false}
 use Rattle.std.proofs.lemmas.List.Concat.{flat_map-cons}
-use Rattle.std.proofs.lemmas.List.Sums.{sum_by-append}
 use Rattle.std.proofs.lemmas.Nat.{and_assoc}
 use Rattle.acl_perm.proofs.Sets.{IsMask-and}
 use Rattle.acl_perm.specs.Bits.{IsMask, all_flags, all_mode_bits, all_rights, has_bit}
@@ -19,6 +18,7 @@ use Rattle.acl_nfs4.specs.Who.{IsWho, everyone_name, group_name, owner_name}
 use Rattle.acl_nfs4.proofs.Exports.{is_who-everyone, is_who-group, is_who-owner, union_within}
 use Rattle.acl_eval.specs.Column.{takes_part}
 use Rattle.acl_eval.specs.Scan.{without}
+use Rattle.acl_eval.proofs.BridgeWeight.{weight-append}
 use Rattle.acl_eval.proofs.Images.{image_mask}
 use Rattle.acl_change.specs.ListChmod.{after_chmod, chmod_list, class_ace, denied_rights, for_new_objects, for_this_object, lost_rights, not_passed_on, other_aces, owner_aces, unless_empty}
 use Rattle.acl_change.proofs.ChmodAces.{group_lt, others_lt}
@@ -116,10 +116,6 @@ accepted_within mode list le each few light = record {
 -- the length of three lists together
 length-three : (xs ys zs : List Ace) → length (xs ++ (ys ++ zs)) ≡ length xs + (length ys + length zs)
 length-three xs ys zs = omega (arith, length-append xs (ys ++ zs), length-append ys zs)
-
--- the weight of two lists together
-weight-append : (xs ys : List Ace) → weight (xs ++ ys) ≡ weight xs + weight ys
-weight-append xs ys = sum_by-append (λ (a : Ace). count_ones a.mask) xs ys
 
 -- the weight of three lists together
 weight-three : (xs ys zs : List Ace) → weight (xs ++ (ys ++ zs)) ≡ weight xs + (weight ys + weight zs)

@@ -39,7 +39,7 @@ weight_ace k l p =
     ] refl
 
 -- the weight of two lists together is the sum of their weights
-weight-append : (xs ys : List Ace) → weight (xs ++ ys) ≡ weight xs + weight ys
+pub weight-append : (xs ys : List Ace) → weight (xs ++ ys) ≡ weight xs + weight ys
 weight-append xs ys = sum_by-append (λ (a : Ace). count_ones a.mask) xs ys
 
 -- what an entry allows and what it denies have four mask bits together
