@@ -5,7 +5,7 @@ pub use Rattle.acl_nfs4.proofs.feed.Held.{short_rest}
 pub use Rattle.acl_nfs4.proofs.feed.Judging.{judges}
 pub use Rattle.acl_nfs4.proofs.feed.Pieces.{breaks_whole, fault_stays}
 pub use Rattle.acl_nfs4.proofs.list.Push.{each_push}
-pub use Rattle.acl_nfs4.proofs.list.Renamings.{account_is_who, none_is, renamed_accepted, same_is, same_self}
+pub use Rattle.acl_nfs4.proofs.list.Renamings.{account_is_who}
 pub use Rattle.acl_nfs4.proofs.list.Whos.{is_who-decimal, is_who-everyone, is_who-group, is_who-owner}
 pub use Rattle.acl_nfs4.proofs.list.Within.{accepted_where_it_fits, bit_within, code_profile, contains_again, contains_is, each_of, fits_of, union_within, within_le, within_part}
 pub use Rattle.acl_nfs4.proofs.names.SetFields.{or_assoc}

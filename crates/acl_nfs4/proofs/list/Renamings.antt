@@ -25,13 +25,13 @@ abbrev Names : Type 0
 Names = Bool → List ℕ → Option (List ℕ)
 
 -- two sorts that the test finds the same are the same
-pub same_is : (a b : Bool) → same_sort a b ≡ true → a ≡ b
+same_is : (a b : Bool) → same_sort a b ≡ true → a ≡ b
 same_is true b e = sym e
 same_is false true e = absurd cc
 same_is false false e = refl
 
 -- a sort is the same as itself
-pub same_self : (a : Bool) → same_sort a a ≡ true
+same_self : (a : Bool) → same_sort a a ≡ true
 same_self true = refl
 same_self false = refl
 
@@ -59,7 +59,7 @@ push_none (x ∷ before) r g q e none = by (is_row_of g q x) refl (push_none bef
         ∙ rest (sym (ap (λ (t : Bool). cond t (Some x.to) (new_name before g q)) is) ∙ none)
 
 -- nothing is there if the test says so
-pub none_is : (o : Option (List ℕ)) → is_none o ≡ true → o ≡ None
+none_is : (o : Option (List ℕ)) → is_none o ≡ true → o ≡ None
 none_is None e = refl
 none_is (Some x) e = absurd cc
 
@@ -378,7 +378,7 @@ weight_stays names (a ∷ list) = weight-cons (ace_by names a) (map (ace_by name
     ∙ ap (λ (n : ℕ). count_ones a.mask + n) (weight_stays names list) ∙ sym (weight-cons a list)
 
 -- the list with its names exchanged by a good table is accepted
-pub renamed_accepted : (table : List NameRow) (list : List Ace) → bad_row table ≡ None → IsAccepted full list
+renamed_accepted : (table : List NameRow) (list : List Ace) → bad_row table ≡ None → IsAccepted full list
     → IsAccepted full (map (ace_by (new_name table)) list)
 renamed_accepted table list good ok = record {
   count = omega (arith, ok.count, length-map list (ace_by (new_name table)));

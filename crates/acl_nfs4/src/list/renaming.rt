@@ -139,7 +139,6 @@ impl<'a> NameMap<'a> {
     }
 }
 
-// Returns the names of the table.
 fn names_of<'a>(alloc: Global, table: &[Renaming<'a>]) -> Result<NameMap<'a>, RenameFault>
     ensures named { IfOk result (λ names. (is_group : Bool) (name : List ℕ)
         → name_for names is_group name ≡ new_name (rows table.now) is_group name) }
@@ -192,7 +191,6 @@ fn is_another<'a>(names: &NameMap<'a>, is_group: bool, new: &'a [u8], old: &'a [
     }
 }
 
-// Returns the list with the names exchanged.
 fn exchanged<'a>(alloc: Global, names: &NameMap<'a>, aces: Aces<'a>) -> Result<Acl, AllocError>
     requires { IsAccepted full (map (ace_by (name_for names.now)) aces) }
     ensures { IfOk result (λ list. list ≡ map (ace_by (name_for names.now)) aces.entry) }
