@@ -14,11 +14,10 @@ ghost use Rattle.acl_forms.specs.internal.Cursor.{cursor_place};
 ghost use Rattle.acl_forms.specs.internal.IdAces.{ReadAs, ace_by_id, flags_and_list, whom_name};
 
 use crate::acl_flags::AclFlags;
-use crate::cursor::Cursor;
 use crate::fault::{ReadFault, ReadReason};
 use crate::words::{acl_flags, offset_of, placed, placed_listed, start, word};
 use acl_nfs4::internal::{
-    EVERYONE_NAME, GROUP_NAME, OWNER_NAME, count_of, flags_of, kind_of, mask_of,
+    Cursor, EVERYONE_NAME, GROUP_NAME, OWNER_NAME, count_of, flags_of, kind_of, mask_of,
 };
 use acl_nfs4::{AceRef, Acl, Flags, Kind, Mask, Profile, Reason};
 use acl_posix::Id;

@@ -9,7 +9,6 @@ mod acl_flags;
 pub mod attribute_laws;
 mod attributes;
 mod attributes_writer;
-mod cursor;
 mod fault;
 mod form;
 pub mod form_laws;

@@ -6,9 +6,9 @@ ghost use Rattle.acl_forms.specs.Words.{acl_flags_of, start, word_at};
 ghost use Rattle.acl_forms.specs.internal.Cursor.{PlacedWord, cursor_place};
 
 use crate::acl_flags::AclFlags;
-use crate::cursor::Cursor;
 use crate::fault::{ReadFault, ReadReason};
 use acl_nfs4::Reason;
+use acl_nfs4::internal::Cursor;
 use byteorder::{BigEndian, ByteOrder};
 use std::alloc::AllocError;
 

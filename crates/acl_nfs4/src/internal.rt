@@ -7,6 +7,7 @@ pub use crate::who::{
     is_unknown_special,
 };
 pub use crate::xdr::access_part::{any_who_of, type_of};
+pub use crate::xdr::cursor::Cursor;
 pub use crate::xdr::judges::{
     count_of, flags_of, kind_of, mask_of, pad_len, padding_of, who_len_of,
 };

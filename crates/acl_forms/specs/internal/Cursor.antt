@@ -1,9 +1,9 @@
 -- A cursor of this library's readers without the place of its bytes in memory. No public clause cites it.
 use Rattle.std.specs.Prelude.{◌≡◌, ℕ, ◌-◌, length, Result, Ok, Err}
+use Rattle.acl_nfs4.specs.declared.xdr.cursor.Cursor.{Cursor}
 use Rattle.acl_forms.specs.Words.{WordPlace}
 use Rattle.acl_forms.specs.declared.fault.ReadFault.{ReadFault}
 use Rattle.acl_forms.specs.declared.fault.ReadReason.{ReadReason}
-use Rattle.acl_forms.specs.declared.cursor.Cursor.{Cursor}
 
 -- the place of a cursor
 abbrev pub cursor_place : Cursor → WordPlace

@@ -14,12 +14,11 @@ ghost use Rattle.acl_forms.specs.internal.Cursor.{cursor_place};
 
 use crate::acl_flags::AclFlags;
 use crate::acl41_ids::{account_of, count, flags, mask, special, special_whom};
-use crate::cursor::Cursor;
 use crate::fault::{ReadFault, ReadReason};
 use crate::part::Part;
 use crate::part::any_ace::{AnyAceRef, AnyWho, DENY, add, who_of};
 use crate::words::{acl_flags, offset_of, placed, placed_listed, start, word};
-use acl_nfs4::internal::{pad_len, padding_of, type_of, who_len_of};
+use acl_nfs4::internal::{Cursor, pad_len, padding_of, type_of, who_len_of};
 use acl_nfs4::{Acl, Reason};
 use std::alloc::Global;
 
