@@ -1,7 +1,7 @@
 -- What a text of ACEs of any type spells, and what is kept of it.
 use Rattle.std.proofs.Common.{◌≡◌, ◌∙◌, ◌+◌, ◌≤◌, ◌++◌, ℕ, false, List, [], ◌∷◌, Result, Ok, Err, length, refl, ap, sym, subst, arith, inl, inr, length-append}
 use Rattle.std.specs.Prelude.{◌⊎◌, IfErr, IfOk, count_ones}
-use Rattle.std.specs.List.{AllByRecursion, cons_option, flat_map}
+use Rattle.std.specs.List.{cons_option, flat_map}
 use Rattle.std.proofs.lemmas.List.Concat.{flat_map-cons}
 use Rattle.std.proofs.lemmas.List.Sums.{sum_by_push}
 use Rattle.acl_perm.specs.Ascii.{line_feed}
@@ -15,7 +15,7 @@ use Rattle.acl_nfs4.specs.Spelling.{IsAccepted, weight}
 use Rattle.acl_nfs4.specs.Who.{is_unknown_special}
 use Rattle.acl_nfs4.proofs.Exports.{ok_is, weight-push}
 use Rattle.acl_forms.specs.Forms.{IsTextWithoutFlags}
-use Rattle.acl_forms.specs.Part.{IsReadAsPart, PlacedAce, RefusesPart, SpellsPart, any_weight, is_unknown_deny, kept, kept_unless, left_out, noted_if, reason_of}
+use Rattle.acl_forms.specs.Part.{HasNoUnknownDeny, IsReadAsPart, PlacedAce, RefusesPart, SpellsPart, any_weight, is_unknown_deny, kept, kept_unless, left_out, noted_if, reason_of}
 unfoldable use Rattle.acl_forms.specs.Part.{left_out_from}
 use Rattle.acl_forms.specs.PartTexts.{EntryReader, any_type_rules, placed_ace}
 use Rattle.acl_forms.specs.ReadFaults.{no_memory_left}
@@ -242,13 +242,9 @@ abbrev pub RefusesUnknown : EntryReader → Type 0
 RefusesUnknown read = (count bits : ℕ) (entry : Span) (a : AnyAce) → read count bits entry ≡ Ok a
     → is_unknown_deny a.type_number a.who ≡ false
 
--- no ACE of these is such a DENY
-abbrev pub AreKnown : List PlacedAce → Type 0
-AreKnown whole = AllByRecursion (λ p. is_unknown_deny p.ace.type_number p.ace.who ≡ false) whole
-
--- so it is with one more
-known_more : (whole : List PlacedAce) (p : PlacedAce) → AreKnown whole
-    → is_unknown_deny p.ace.type_number p.ace.who ≡ false → AreKnown (whole ++ p ∷ [])
+-- no ACE of these is such a DENY, also with one more
+known_more : (whole : List PlacedAce) (p : PlacedAce) → HasNoUnknownDeny whole
+    → is_unknown_deny p.ace.type_number p.ace.who ≡ false → HasNoUnknownDeny (whole ++ p ∷ [])
 known_more [] p each one = (one, tt)
 known_more (q ∷ whole) p each one = (each.0, known_more whole p each.1 one)
 
@@ -260,9 +256,9 @@ placed_is at (Err f) p e = absurd cc
 
 -- items add no such DENY
 each_known : (rules : TextRules Ace) (read : EntryReader) → RefusesUnknown read → (whole : List PlacedAce)
-    (items : List (Result Span ReadFault)) (all : List PlacedAce) → AreKnown whole
-    → AddEach (any_type_rules rules read) whole items all → AreKnown all
-each_known rules read refuses whole [] all each e = subst AreKnown (sym e) each
+    (items : List (Result Span ReadFault)) (all : List PlacedAce) → HasNoUnknownDeny whole
+    → AddEach (any_type_rules rules read) whole items all → HasNoUnknownDeny all
+each_known rules read refuses whole [] all each e = subst HasNoUnknownDeny (sym e) each
 each_known rules read refuses whole (Err f ∷ items) all each e = absurd (let wrong = e.1 in cc)
 each_known rules read refuses whole (Ok entry ∷ items) all each (p, is, others) =
     each_known rules read refuses (whole ++ p ∷ []) items all
@@ -271,6 +267,6 @@ each_known rules read refuses whole (Ok entry ∷ items) all each (p, is, others
 
 -- a text spells no such DENY
 pub text_known : (rules : TextRules Ace) (read : EntryReader) → RefusesUnknown read → (whole : List PlacedAce)
-    (text : List ℕ) → SpellsByRules (any_type_rules rules read) whole text → AreKnown whole
+    (text : List ℕ) → SpellsByRules (any_type_rules rules read) whole text → HasNoUnknownDeny whole
 text_known rules read refuses whole text h =
     each_known rules read refuses [] (items_in (any_type_rules rules read) text) whole tt h.each

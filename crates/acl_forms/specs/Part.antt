@@ -2,8 +2,8 @@
 -- deny nothing, and nobody knows whom a special identifier other than `OWNER@`, `GROUP@` and `EVERYONE@` names (section
 -- 6.2.1.5). An ALLOW of such a name is left out, so that no more is granted; without a DENY of it more may be granted,
 -- so that is refused: this library's own.
-use Rattle.std.specs.Prelude.{◌≡◌, ◌==◌, ◌&&◌, ◌+◌, ◌++◌, ℕ, Bool, not, count_ones, if◌then◌else◌, List, [], ◌∷◌, Option, Some, None, Result, MatchResult, ◌⊎◌, sum_by}
-use Rattle.std.specs.List.{filter_map}
+use Rattle.std.specs.Prelude.{◌≡◌, ◌==◌, ◌&&◌, ◌+◌, ◌++◌, ℕ, Bool, not, count_ones, if◌then◌else◌, List, [], ◌∷◌, Option, Some, None, Result, MatchResult, ◌⊎◌, false, sum_by}
+use Rattle.std.specs.List.{AllByRecursion, filter_map}
 use Rattle.acl_nfs4.specs.AccessPart.{AnyAce, is_for_access, kept_ace}
 use Rattle.acl_nfs4.specs.Ace.{Ace}
 use Rattle.acl_nfs4.specs.Who.{is_unknown_special}
@@ -22,6 +22,10 @@ pub record PlacedAce : Type 0 where
 -- an ACE of this type about this who cannot be left out: it is a DENY, and nobody knows whom it names
 abbrev pub is_unknown_deny : ℕ → List ℕ → Bool
 is_unknown_deny type_number who = is_unknown_special who && type_number == 1
+
+-- no ACE of these is such a DENY
+abbrev pub HasNoUnknownDeny : List PlacedAce → Type 0
+HasNoUnknownDeny list = AllByRecursion (λ p. is_unknown_deny p.ace.type_number p.ace.who ≡ false) list
 
 -- why an ACE is left out, if it is
 abbrev pub reason_of : AnyAce → Option LeftOutReason

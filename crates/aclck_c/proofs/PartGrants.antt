@@ -9,11 +9,11 @@ use Rattle.acl_nfs4.specs.AccessPart.{AnyAce, access_part, is_for_access, kept_a
 use Rattle.acl_nfs4.specs.Ace.{Ace}
 use Rattle.acl_nfs4.specs.Who.{is_unknown_special}
 use Rattle.acl_decide.specs.Unknown.{Assignment, answer_under, decides_under}
-use Rattle.acl_forms.specs.Part.{PlacedAce, is_unknown_deny, kept, reason_of}
+use Rattle.acl_forms.specs.Part.{HasNoUnknownDeny, PlacedAce, is_unknown_deny, kept, reason_of}
 use Rattle.acl_forms.specs.declared.part.left_out.LeftOutReason.TheVariants.{AuditOrAlarm, SpecialWho}
 use Rattle.acl_forms.specs.PartWords.{IsPartAce, SpelledAce, SpellsWhole}
 unfoldable use Rattle.acl_forms.specs.PartWords.{placed_from}
-use Rattle.aclck_c.specs.Laws.{HasNoUnknownDeny, PartGrantsNoMore}
+use Rattle.aclck_c.specs.Laws.{PartGrantsNoMore}
 
 -- what access reads of a whole list
 abbrev access : List PlacedAce → List Ace

@@ -1,6 +1,5 @@
 -- What the exports promise about each other (this library's own, over RFC 8881, section 6.2.1).
-use Rattle.std.specs.Prelude.{◌≡◌, ◌↔◌, ℕ, List, false, map, take}
-use Rattle.std.specs.List.{AllByRecursion}
+use Rattle.std.specs.Prelude.{◌≡◌, ◌↔◌, ℕ, List, map, take}
 use Rattle.acl_perm.specs.Situation.{Situation}
 use Rattle.acl_nfs4.specs.AccessPart.{access_part}
 use Rattle.acl_nfs4.specs.Ace.{Ace}
@@ -8,7 +7,7 @@ use Rattle.acl_nfs4.specs.Spelling.{Xdr}
 use Rattle.acl_eval.specs.Grant.{SameGrants}
 use Rattle.acl_eval.specs.GroupSearch.{AreRisingNames}
 use Rattle.acl_decide.specs.Unknown.{Assignment, GrantsUnder}
-use Rattle.acl_forms.specs.Part.{PlacedAce, is_unknown_deny, kept}
+use Rattle.acl_forms.specs.Part.{HasNoUnknownDeny, PlacedAce, kept}
 use Rattle.acl_forms.specs.PartTexts.{nfs_any_rules, tools_any_rules}
 use Rattle.acl_forms.specs.PartWords.{SpellsById, SpellsByName, SpellsWhole}
 use Rattle.acl_forms.specs.Texts.{SpellsByRules}
@@ -44,11 +43,7 @@ RisingGroupsDecideAlike =
     → AreDecidedIn (asked_prepared object question who) mask list found
     ↔ AreDecidedIn (asked object who) mask list found
 
--- no DENY names a special identifier that nobody knows
-abbrev pub HasNoUnknownDeny : List PlacedAce → Type 0
-HasNoUnknownDeny whole = AllByRecursion (λ p. is_unknown_deny p.ace.type_number p.ace.who ≡ false) whole
-
--- no value of a form of which a part is read spells such a DENY
+-- no value of a form of which a part is read spells a DENY of a special identifier that nobody knows
 pub record FormsHaveNoUnknownDeny : Type 0 where
   pub in_tools : (object : ObjectKind) (whole : List PlacedAce) (text : List ℕ)
       → SpellsByRules (tools_any_rules object) whole text → HasNoUnknownDeny whole
