@@ -3,6 +3,7 @@
 use Rattle.std.specs.Prelude.{ℕ, bit_and, bit_or, if◌then◌else◌, List, map, filter_map, Option, None, Some, option_map}
 use Rattle.acl_perm.specs.Bits.{has_bit}
 use Rattle.acl_nfs4.specs.Ace.{Ace}
+use Rattle.acl_nfs4.specs.FlagNames.{inherited_alone}
 use Rattle.acl_eval.specs.declared.inherit.ChildKind.{ChildKind}
 use Rattle.acl_eval.specs.declared.inherit.ChildKind.TheVariants.{File, Directory}
 
@@ -71,10 +72,6 @@ children kind list = filter_map (child_ace kind) list
 -- an ACE with more flags
 abbrev pub flagged : ℕ → Ace → Ace
 flagged more a = with_flags a (bit_or a.flags more)
-
--- the flag INHERITED alone
-abbrev pub inherited_alone : ℕ
-inherited_alone = 0x80
 
 -- the list of the child, with INHERITED set on each ACE (RFC 8881, section 6.4.3.2, for automatic inheritance)
 abbrev pub inherited_children : ChildKind → List Ace → List Ace

@@ -19,6 +19,7 @@ use Rattle.acl_perm.specs.declared.kind.Kind.{Kind}
 use Rattle.acl_perm.specs.declared.kind.Kind.TheVariants.{Deny, Allow}
 use Rattle.acl_perm.specs.internal.Steps.{◌>>=◌}
 use Rattle.acl_nfs4.specs.Ace.{Ace}
+use Rattle.acl_nfs4.specs.FlagNames.{inherited_alone}
 use Rattle.acl_nfs4.specs.Limits.{most_aces, most_weight}
 use Rattle.acl_nfs4.specs.Push.{push_refusal}
 use Rattle.acl_nfs4.specs.Spelling.{IsAce, weight}
@@ -29,7 +30,7 @@ use Rattle.acl_nfs4.proofs.Exports.{and_or, plain_who, union_within}
 use Rattle.acl_forms.specs.Letters.{flag_letters, right_letters, set_of_letters, single_letters}
 use Rattle.acl_forms.specs.ToolsRules.{is_break}
 use Rattle.acl_forms.specs.ToolsText.{tools_ace, Fields, entry_fields_of, fields_read, four, kind_read, tools_entry, unless_refused, with_group_flag}
-use Rattle.acl_forms.specs.ToolsWritten.{as_written, delete_child, flags_written, inheritance_flags, inherited_flag, is_no_file_ace, is_separator, kind_letter, letters_of, longest_tools_who, meets, retention_rights, tools_ace_fault, tools_entry_text}
+use Rattle.acl_forms.specs.ToolsWritten.{as_written, delete_child, flags_written, inheritance_flags, is_no_file_ace, is_separator, kind_letter, letters_of, longest_tools_who, meets, retention_rights, tools_ace_fault, tools_entry_text}
 use Rattle.acl_forms.specs.declared.fault.FormReason.TheVariants.{Inherited, NotDirectory, Retention, Separator, TooLong}
 use Rattle.acl_forms.specs.declared.fault.ReadFault.{ReadFault}
 use Rattle.acl_forms.specs.declared.fault.ReadReason.TheVariants as reasons
@@ -75,7 +76,7 @@ suits File a e = by (meets a.flags inheritance_flags) (meets a.mask delete_child
 -- an ACE without a fault is held
 pub held : (object : ObjectKind) (a : Ace) → tools_ace_fault object a ≡ None → IsHeld object a
 held object a e =
-    let no = none_true (meets a.flags inherited_flag) (meets a.mask retention_rights) (list_any is_separator a.who)
+    let no = none_true (meets a.flags inherited_alone) (meets a.mask retention_rights) (list_any is_separator a.who)
     (is_no_file_ace object a)
     (nat_lt longest_tools_who (length a.who)) e in
     let suit = suits object a no.2 in

@@ -7,6 +7,7 @@ use Rattle.acl_perm.specs.Ascii.{colon, comma, hash, line_feed}
 use Rattle.acl_perm.specs.declared.kind.Kind.{Kind}
 use Rattle.acl_perm.specs.declared.kind.Kind.TheVariants.{Deny, Allow}
 use Rattle.acl_nfs4.specs.Ace.{Ace}
+use Rattle.acl_nfs4.specs.FlagNames.{inherited_alone}
 use Rattle.acl_forms.specs.Letters.{flag_letters, single_letters}
 use Rattle.acl_forms.specs.ToolsText.{with_group_flag}
 use Rattle.acl_forms.specs.declared.fault.FormFault.{FormFault}
@@ -65,10 +66,6 @@ is_separator b = b == comma || b == colon || b == hash
 abbrev pub meets : ℕ → ℕ → Bool
 meets set other = not (bit_and set other == 0)
 
--- the flag INHERITED
-abbrev pub inherited_flag : ℕ
-inherited_flag = 0x80
-
 -- the flags of inheritance: FILE_INHERIT, DIRECTORY_INHERIT, NO_PROPAGATE_INHERIT and INHERIT_ONLY
 abbrev pub inheritance_flags : ℕ
 inheritance_flags = 0x0f
@@ -100,7 +97,7 @@ longest_tools_text = 65535
 
 -- the first reason for which the form cannot hold an ACE
 abbrev pub tools_ace_fault : ObjectKind → Ace → Option FormReason
-tools_ace_fault object a = if meets a.flags inherited_flag then Some Inherited
+tools_ace_fault object a = if meets a.flags inherited_alone then Some Inherited
     else (if meets a.mask retention_rights then Some Retention
     else (if list_any is_separator a.who then Some Separator
     else (if is_no_file_ace object a then Some NotDirectory

@@ -16,6 +16,10 @@ flag_names =
     one_name 0x40 (codes "GROUP") ∷
     one_name 0x80 (codes "INHERITED") ∷ []
 
+-- the flag INHERITED alone
+abbrev pub inherited_alone : ℕ
+inherited_alone = 0x80
+
 -- a field that names a set of flags: `-`, or names of flags with `|` between them, at least one
 abbrev pub SpellsFlags : List ℕ → ℕ → Type 0
 SpellsFlags field flags = SpellsSet flag_names field flags
