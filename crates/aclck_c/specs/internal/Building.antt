@@ -1,9 +1,7 @@
 -- An ACE of an array, as the code judges it (this library's own; only the code needs it).
-use Rattle.std.specs.Prelude.{◌≡◌, ◌++◌, ◌∷◌, [], ⊤, ℕ, Err, List, None, Ok, Result, Some, length}
+use Rattle.std.specs.Prelude.{◌≡◌, ◌++◌, ◌∷◌, [], ⊤, Err, List, None, Ok, Result, Some, length}
 use Rattle.acl_perm.specs.Profile.{Profile}
-use Rattle.acl_perm.specs.declared.kind.Kind.{Kind}
 use Rattle.acl_nfs4.specs.Ace.{Ace, ace}
-use Rattle.acl_nfs4.specs.Fields.{kind_of}
 use Rattle.acl_nfs4.specs.Spelling.{IsAccepted}
 use Rattle.acl_perm.specs.Profile.{full}
 use Rattle.acl_nfs4.specs.declared.ace.AceRef.{AceRef}
@@ -14,10 +12,6 @@ use Rattle.aclck_c.specs.Refusal.{in_list}
 use Rattle.aclck_c.specs.declared.failure.Failure.{Failure}
 use Rattle.aclck_c.specs.declared.failure.Failure.TheVariants as failure
 use Rattle.aclck_c.specs.declared.nfs4.ace.RawAce.{RawAce}
-
--- the kind of a number, or why it is refused
-abbrev pub GivesKind : ℕ → Result Kind Reason → Type 0
-GivesKind number result = kind_of number ≡ result
 
 -- the ACE of the numbers, of which none is refused; or why one is
 abbrev pub GivesJudgedAce : Profile → RawAce → Result AceRef Reason → Type 0

@@ -1,10 +1,11 @@
 //! An ACE by its numbers and its who, as C sees it.
 ghost use Rattle.std.specs.Prelude.{◌≡◌, ◌↔◌};
 ghost use Rattle.acl_nfs4.specs.Within.{IsWithin};
-ghost use Rattle.aclck_c.specs.internal.Building.{GivesJudgedAce, GivesKind};
+ghost use Rattle.aclck_c.specs.internal.Building.{GivesJudgedAce};
 ghost use Rattle.aclck_c.specs.Common.{IfSome, IsSome, profile_of};
 
-use acl_nfs4::{AceRef, Flags, Kind, Mask, Reason};
+use acl_nfs4::internal::kind_of;
+use acl_nfs4::{AceRef, Flags, Mask, Reason};
 use acl_perm::Profile;
 
 /// `struct aclck_ace`: the numbers of the kind, of the flags and of the mask of an ACE (RFC 8881, section 6.2.1), and
@@ -36,17 +37,6 @@ impl<'a> RawAce<'a> {
             mask,
             who: self.who,
         })
-    }
-}
-
-fn kind_of(number: u32) -> Result<Kind, Reason>
-    ensures { GivesKind number result }
-{
-    match number {
-        0 => Ok(Kind::Allow),
-        1 => Ok(Kind::Deny),
-        2 | 3 => Err(Reason::AuditOrAlarm),
-        _ => Err(Reason::AceType),
     }
 }
 
