@@ -6,11 +6,12 @@ use Rattle.acl_nfs4.specs.Ace.{Ace}
 use Rattle.acl_nfs4.specs.Fault.{IsWholeFault}
 use Rattle.acl_nfs4.specs.Spelling.{IsAccepted, Xdr, spelling, word}
 use Rattle.acl_nfs4.specs.internal.Progress.{IsBytes}
+use Rattle.acl_nfs4.specs.internal.Reading.{Place}
 use Rattle.acl_nfs4.specs.declared.xdr.fault.Reason.{Reason}
 use Rattle.acl_forms.specs.Acl41.{IsAcl41, IsAcl41Fault, acl41_bytes}
 use Rattle.acl_forms.specs.Acl41.IsAcl41Fault.{of_flags, of_list}
 use Rattle.acl_forms.specs.AclFlags.{IsAclFlags}
-use Rattle.acl_forms.specs.Words.{WordPlace, acl_flags_of, start, word_at}
+use Rattle.acl_forms.specs.Words.{acl_flags_of, start, word_at}
 use Rattle.acl_forms.specs.declared.fault.ReadFault.{ReadFault}
 use Rattle.acl_forms.specs.declared.fault.ReadReason.TheVariants as reason
 use Rattle.acl_forms.proofs.WordLemmas.{flags_again, flags_found, place_at}
@@ -25,7 +26,7 @@ pub bytes_short : (list : List Ace) → IsAccepted full list → length (spellin
 bytes_short list ok = spelling_short full list ok
 
 -- if flags were read, and the bytes after them spell a list, all of the bytes spell both
-pub found : (bytes : List ℕ) (flags : ℕ) (after : WordPlace) (list : List Ace) → IsBytes bytes
+pub found : (bytes : List ℕ) (flags : ℕ) (after : Place) (list : List Ace) → IsBytes bytes
     → word_at acl_flags_of (start bytes) ≡ Ok (flags, after) → Xdr full list after.rest → IsAcl41 flags list bytes
 found bytes flags after list fits e x =
     let f = flags_found bytes flags after fits e in
@@ -36,7 +37,7 @@ found bytes flags after list fits e x =
     }
 
 -- the flags and the place after them, if bytes begin with flags
-same_place : (bytes : List ℕ) (flags : ℕ) (after : WordPlace) (set : ℕ) (text : List ℕ)
+same_place : (bytes : List ℕ) (flags : ℕ) (after : Place) (set : ℕ) (text : List ℕ)
     → word_at acl_flags_of (start bytes) ≡ Ok (flags, after) → IsAclFlags set → bytes ≡ word set ++ text
     → (flags ≡ set) × (after.rest ≡ text)
 same_place bytes flags after set text e is parts =
@@ -44,7 +45,7 @@ same_place bytes flags after set text e is parts =
     (ap (λ z. z.0) h, ap (λ z. z.1.rest) h)
 
 -- if bytes spell flags and a list, these flags are read, and the bytes after them spell the list
-pub only : (bytes : List ℕ) (flags : ℕ) (after : WordPlace) (set : ℕ) (list : List Ace)
+pub only : (bytes : List ℕ) (flags : ℕ) (after : Place) (set : ℕ) (list : List Ace)
     → word_at acl_flags_of (start bytes) ≡ Ok (flags, after) → IsAcl41 set list bytes
     → (flags ≡ set) × Xdr full list after.rest
 only bytes flags after set list e is =
@@ -63,7 +64,7 @@ one_value flags set list other bytes h k =
     (same.0, lists.0)
 
 -- if flags were read, the fault of the bytes is that of the list after them
-pub after_flags : (bytes : List ℕ) (flags : ℕ) (after : WordPlace) (wrong : ReadFault)
+pub after_flags : (bytes : List ℕ) (flags : ℕ) (after : Place) (wrong : ReadFault)
     → word_at acl_flags_of (start bytes) ≡ Ok (flags, after) → IsAcl41Fault bytes wrong
     → (offset : ℕ) × (r : Reason) × IsWholeFault full after.rest offset r
     × (wrong ≡ record { offset = 4 + offset; reason = reason.List r })
@@ -80,7 +81,7 @@ at_flags bytes fault _ e (of_list set offset text r is parts whole) =
     let again = flags_again bytes set text is parts in absurd cc
 
 -- the fault of a list after flags is the fault of all of the bytes
-pub list_fault : (bytes : List ℕ) (flags : ℕ) (after : WordPlace) (offset : ℕ) (r : Reason) → IsBytes bytes
+pub list_fault : (bytes : List ℕ) (flags : ℕ) (after : Place) (offset : ℕ) (r : Reason) → IsBytes bytes
     → word_at acl_flags_of (start bytes) ≡ Ok (flags, after) → IsWholeFault full after.rest offset r
     → IsAcl41Fault bytes (record { offset = 4 + offset; reason = reason.List r })
 list_fault bytes flags after offset r fits e whole =

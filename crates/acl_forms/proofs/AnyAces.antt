@@ -11,12 +11,12 @@ use Rattle.acl_nfs4.specs.Ace.{Ace}
 use Rattle.acl_nfs4.specs.Limits.{most_aces, most_weight}
 use Rattle.acl_nfs4.specs.Spelling.{IsAccepted, weight}
 use Rattle.acl_nfs4.specs.Who.{is_unknown_special}
+use Rattle.acl_nfs4.specs.internal.Reading.{Place}
 use Rattle.acl_nfs4.proofs.Exports.{weight-push}
 use Rattle.acl_forms.specs.Part.{PlacedAce, any_weight, kept, kept_unless, left_out, noted_if, reason_of}
 unfoldable use Rattle.acl_forms.specs.Part.{left_out_from}
 unfoldable use Rattle.acl_forms.specs.PartWords.{aces_from}
 use Rattle.acl_forms.specs.PartWords.{AceReader}
-use Rattle.acl_forms.specs.Words.{WordPlace}
 use Rattle.acl_forms.specs.declared.fault.ReadFault.{ReadFault}
 use Rattle.acl_forms.specs.declared.part.any_ace.AnyAceRef.{AnyAceRef}
 use Rattle.acl_forms.specs.declared.part.left_out.LeftOut.{LeftOut}
@@ -118,7 +118,7 @@ kept_most list a = by (reason_of a)
 -- ---- how the reader goes on
 
 -- the ACEs that are read so far, of which these are kept and left out
-pub record Sofar (read : AceReader) (count place bits : ℕ) (list : List Ace) (out : List LeftOut) (first at : WordPlace)
+pub record Sofar (read : AceReader) (count place bits : ℕ) (list : List Ace) (out : List LeftOut) (first at : Place)
     : Type 0 where
   pub whole : List PlacedAce
   pub reads : aces_from read (count - place) whole at ≡ aces_from read count [] first
@@ -128,7 +128,7 @@ pub record Sofar (read : AceReader) (count place bits : ℕ) (list : List Ace) (
   pub long : length whole ≡ place
 
 -- before the first ACE
-pub sofar_none : (read : AceReader) (count : ℕ) (at : WordPlace) → Sofar read count 0 0 [] [] at at
+pub sofar_none : (read : AceReader) (count : ℕ) (at : Place) → Sofar read count 0 0 [] [] at at
 unfolding left_out_from
 sofar_none read count at = record {
   whole = [];
@@ -140,7 +140,7 @@ sofar_none read count at = record {
 }
 
 -- an ACE that is read is added to the list
-aces_more : (read : AceReader) (left : ℕ) (list : List PlacedAce) (at : WordPlace) (x : AnyAce × WordPlace) → 0 < left
+aces_more : (read : AceReader) (left : ℕ) (list : List PlacedAce) (at : Place) (x : AnyAce × Place) → 0 < left
     → read (any_weight list) at ≡ Ok x
     → aces_from read left list at ≡ aces_from read (left - 1) (list ++ record { ace = x.0; offset = at.at } ∷ []) x.1
 unfolding aces_from
@@ -148,15 +148,15 @@ aces_more read zero list at x lt e = absurd (omega (arith, lt))
 aces_more read (suc n) list at x lt e = let less : suc n - 1 ≡ n = omega arith in rw (e, less) refl
 
 -- an ACE that is refused is the fault of the list
-aces_stop : (read : AceReader) (left : ℕ) (list : List PlacedAce) (at : WordPlace) (fault : ReadFault) → 0 < left
+aces_stop : (read : AceReader) (left : ℕ) (list : List PlacedAce) (at : Place) (fault : ReadFault) → 0 < left
     → read (any_weight list) at ≡ Err fault → aces_from read left list at ≡ Err fault
 unfolding aces_from
 aces_stop read zero list at fault lt e = absurd (omega (arith, lt))
 aces_stop read (suc n) list at fault lt e = rw e refl
 
 -- after one more ACE
-pub sofar_more : (read : AceReader) (count place bits : ℕ) (list : List Ace) (out : List LeftOut) (first at : WordPlace)
-    (x : AnyAce × WordPlace) → Sofar read count place bits list out first at → place < count → read bits at ≡ Ok x
+pub sofar_more : (read : AceReader) (count place bits : ℕ) (list : List Ace) (out : List LeftOut) (first at : Place)
+    (x : AnyAce × Place) → Sofar read count place bits list out first at → place < count → read bits at ≡ Ok x
     → Sofar read count (place + 1) (bits + count_ones x.0.mask)
     (list ++ cons_option (kept_unless (reason_of x.0) x.0) []) (out ++ noted_if place at.at (reason_of x.0)) first x.1
 sofar_more read count place bits list out first at x s lt e =
@@ -178,7 +178,7 @@ sofar_more read count place bits list out first at x s lt e =
     }
 
 -- at an ACE that is refused
-pub sofar_stop : (read : AceReader) (count place bits : ℕ) (list : List Ace) (out : List LeftOut) (first at : WordPlace)
+pub sofar_stop : (read : AceReader) (count place bits : ℕ) (list : List Ace) (out : List LeftOut) (first at : Place)
     (fault : ReadFault) → Sofar read count place bits list out first at → place < count → read bits at ≡ Err fault
     → aces_from read count [] first ≡ Err fault
 sofar_stop read count place bits list out first at fault s lt e =
@@ -186,7 +186,7 @@ sofar_stop read count place bits list out first at fault s lt e =
     (subst (λ (n : ℕ). read n at ≡ Err fault) s.weight e)
 
 -- after the last ACE
-pub sofar_all : (read : AceReader) (count place bits : ℕ) (list : List Ace) (out : List LeftOut) (first at : WordPlace)
+pub sofar_all : (read : AceReader) (count place bits : ℕ) (list : List Ace) (out : List LeftOut) (first at : Place)
     (s : Sofar read count place bits list out first at) → count ≤ place
     → aces_from read count [] first ≡ Ok (s.whole, at)
 unfolding aces_from

@@ -14,10 +14,11 @@ use Rattle.acl_nfs4.specs.Limits.{most_weight}
 use Rattle.acl_nfs4.specs.Spelling.{IsAce, word}
 use Rattle.acl_nfs4.specs.Within.{IsWithin}
 use Rattle.acl_nfs4.specs.internal.Progress.{IsBytes}
+use Rattle.acl_nfs4.specs.internal.Reading.{Place}
 use Rattle.acl_nfs4.specs.declared.xdr.fault.Reason.{Reason}
 use Rattle.acl_forms.specs.Acl41Ids.{id_ace_bytes, id_piece, listed, special_of, id_who_of, whom_words}
 unfoldable use Rattle.acl_forms.specs.Acl41Ids.{id_ace_at}
-use Rattle.acl_forms.specs.Words.{WordPlace, word_at}
+use Rattle.acl_forms.specs.Words.{word_at}
 use Rattle.acl_forms.proofs.WhoLemmas.{reads_who, says_who}
 use Rattle.acl_forms.proofs.WordLemmas.{Takes, Takes-then, place_at, word_again, word_takes}
 
@@ -62,7 +63,7 @@ special_accepted n le = rw (le-leb n 1 le) refl
 -- ---- an ACE
 
 -- an ACE was read and taken, and a list of this weight can accept it
-pub record TakesIdAce (weight : ℕ) (p : WordPlace) (a : Ace) (q : WordPlace) : Type 0 where
+pub record TakesIdAce (weight : ℕ) (p : Place) (a : Ace) (q : Place) : Type 0 where
   pub takes : Takes p (id_piece a) q
   pub is : IsAce full a
   pub light : weight + count_ones a.mask ≤ most_weight
@@ -77,7 +78,7 @@ IsSome-Some : {A : Type 0} (o : Option A) (x : A) → o ≡ Some x → IsSome o
 IsSome-Some o x e = rw e refl
 
 -- if each word of an ACE was read, the ACE was read
-takes_words : (weight : ℕ) (p : WordPlace) (k : Kind × WordPlace) (f s m : ℕ × WordPlace) (w : List ℕ × WordPlace)
+takes_words : (weight : ℕ) (p : Place) (k : Kind × Place) (f s m : ℕ × Place) (w : List ℕ × Place)
     → IsBytes p.rest → word_at (λ n. listed (kind_of n)) p ≡ Ok k → word_at (λ n. listed (flags_of full n)) k.1 ≡ Ok f
     → word_at special_of f.1 ≡ Ok s → word_at (λ n. listed (mask_of full weight n)) s.1 ≡ Ok m
     → word_at (id_who_of s.0) m.1 ≡ Ok w
@@ -108,7 +109,7 @@ takes_words weight p k f s m w fits ke fe se me we =
     }
 
 -- reading an ACE takes its bytes
-pub ace_takes : (weight : ℕ) (p : WordPlace) (x : Ace × WordPlace) → IsBytes p.rest → id_ace_at weight p ≡ Ok x
+pub ace_takes : (weight : ℕ) (p : Place) (x : Ace × Place) → IsBytes p.rest → id_ace_at weight p ≡ Ok x
     → TakesIdAce weight p x.0 x.1
 unfolding id_ace_at
 ace_takes weight p x fits e =
@@ -117,7 +118,7 @@ ace_takes weight p x fits e =
     bind_then (word_at special_of f.1) _ x fr (λ s se sr.
     bind_then (word_at (λ n. listed (mask_of full weight n)) s.1) _ x sr (λ m me mr.
     bind_then (word_at (id_who_of s.0) m.1) _ x mr (λ w we wr.
-    subst (λ (y : Ace × WordPlace). TakesIdAce weight p y.0 y.1) (ok_is _ x wr)
+    subst (λ (y : Ace × Place). TakesIdAce weight p y.0 y.1) (ok_is _ x wr)
     (takes_words weight p k f s m w fits ke fe se me we))))))
 
 -- the five words of an ACE before other bytes

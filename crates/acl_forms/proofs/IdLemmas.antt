@@ -14,13 +14,14 @@ use Rattle.acl_nfs4.specs.Limits.{most_aces, most_weight}
 use Rattle.acl_nfs4.specs.Spelling.{IsAccepted, IsAce, weight, word}
 use Rattle.acl_nfs4.specs.Who.{IsWho}
 use Rattle.acl_nfs4.specs.internal.Progress.{IsBytes}
+use Rattle.acl_nfs4.specs.internal.Reading.{Place}
 use Rattle.acl_nfs4.specs.declared.xdr.fault.Reason.TheVariants.{TrailingBytes}
 use Rattle.acl_forms.specs.AclFlags.{IsAclFlags}
 use Rattle.acl_forms.specs.Acl41Ids.{EachHasId, IsAcl41Ids, IsAcl41IdsFault, acl41_ids_bytes, nothing_after, id_piece, listed}
 use Rattle.acl_forms.specs.Acl41Ids.{id_ace_at}
 unfoldable use Rattle.acl_forms.specs.Acl41Ids.{acl41_ids_in, id_aces_from}
 use Rattle.acl_forms.specs.ReadFaults.{read_fault_at}
-use Rattle.acl_forms.specs.Words.{WordPlace, ReadsForm, RefusesForm, acl_flags_of, start, word_at}
+use Rattle.acl_forms.specs.Words.{ReadsForm, RefusesForm, acl_flags_of, start, word_at}
 use Rattle.acl_forms.specs.declared.acl_flags.AclFlags.{AclFlags}
 use Rattle.acl_forms.specs.declared.fault.ReadFault.{ReadFault}
 use Rattle.acl_forms.specs.declared.fault.ReadReason.TheVariants as reason
@@ -48,7 +49,7 @@ each_last [] a each = each.0
 each_last (b ∷ list) a each = each_last list a each.1
 
 -- ACEs were read and taken after a list
-record TakesIds (n : ℕ) (list : List Ace) (p : WordPlace) (out : List Ace) (q : WordPlace) : Type 0 where
+record TakesIds (n : ℕ) (list : List Ace) (p : Place) (out : List Ace) (q : Place) : Type 0 where
   pub more : List Ace
   pub takes : Takes p (flat_map id_piece more) q
   pub long : length more ≡ n
@@ -57,11 +58,11 @@ record TakesIds (n : ℕ) (list : List Ace) (p : WordPlace) (out : List Ace) (q 
   pub accepted : IsAccepted full out
 
 -- reading ACEs takes their bytes
-ids_take : (n : ℕ) (list : List Ace) (p : WordPlace) (x : List Ace × WordPlace) → IsBytes p.rest → IsAccepted full list
+ids_take : (n : ℕ) (list : List Ace) (p : Place) (x : List Ace × Place) → IsBytes p.rest → IsAccepted full list
     → length list + n ≤ most_aces → id_aces_from n list p ≡ Ok x → TakesIds n list p x.0 x.1
 unfolding id_aces_from
 ids_take zero list p x fits ok few e =
-    subst (λ (y : List Ace × WordPlace). TakesIds zero list p y.0 y.1) (ok_is (list, p) x e) (record {
+    subst (λ (y : List Ace × Place). TakesIds zero list p y.0 y.1) (ok_is (list, p) x e) (record {
       more = [];
       takes = record { parts = refl; counted = omega arith; bytes = fits };
       long = refl;
@@ -118,21 +119,21 @@ ids_again (a ∷ more) list at rest ok ids =
 -- ---- how the reader goes on
 
 -- an ACE that is read is added to the list
-pub ids_more : (left : ℕ) (list : List Ace) (at : WordPlace) (x : Ace × WordPlace) → 0 < left
+pub ids_more : (left : ℕ) (list : List Ace) (at : Place) (x : Ace × Place) → 0 < left
     → id_ace_at (weight list) at ≡ Ok x → id_aces_from left list at ≡ id_aces_from (left - 1) (list ++ x.0 ∷ []) x.1
 unfolding id_aces_from
 ids_more zero list at x lt e = absurd (omega (arith, lt))
 ids_more (suc n) list at x lt e = let less : suc n - 1 ≡ n = omega arith in rw (e, less) refl
 
 -- an ACE that is refused is the fault of the list
-pub ids_stop : (left : ℕ) (list : List Ace) (at : WordPlace) (f : ReadFault) → 0 < left
+pub ids_stop : (left : ℕ) (list : List Ace) (at : Place) (f : ReadFault) → 0 < left
     → id_ace_at (weight list) at ≡ Err f → id_aces_from left list at ≡ Err f
 unfolding id_aces_from
 ids_stop zero list at f lt e = absurd (omega (arith, lt))
 ids_stop (suc n) list at f lt e = rw e refl
 
 -- no more ACE is read
-pub ids_done : (left : ℕ) (list : List Ace) (at : WordPlace) → left ≡ 0 → id_aces_from left list at ≡ Ok (list, at)
+pub ids_done : (left : ℕ) (list : List Ace) (at : Place) → left ≡ 0 → id_aces_from left list at ≡ Ok (list, at)
 unfolding id_aces_from
 ids_done left list at e = rw e refl
 
@@ -154,7 +155,7 @@ good_ace a small = record {
 -- ---- the whole value
 
 -- if the end was reached, no byte is left
-pub ended : {A : Type 0} (flags : ℕ) (x : A × WordPlace) (y : ℕ × A) → nothing_after flags x ≡ Ok y
+pub ended : {A : Type 0} (flags : ℕ) (x : A × Place) (y : ℕ × A) → nothing_after flags x ≡ Ok y
     → ((flags, x.0) ≡ y) × (x.1.rest ≡ [])
 ended {A = A} flags x y e = by (eqb (length x.1.rest) 0) refl e
   where

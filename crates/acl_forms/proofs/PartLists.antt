@@ -14,12 +14,13 @@ use Rattle.acl_nfs4.specs.Limits.{most_weight}
 use Rattle.acl_nfs4.specs.Spelling.{word}
 use Rattle.acl_nfs4.specs.declared.xdr.fault.Reason.TheVariants.{Truncated}
 use Rattle.acl_nfs4.specs.internal.Progress.{IsBytes}
+use Rattle.acl_nfs4.specs.internal.Reading.{Place}
 use Rattle.acl_forms.specs.Acl41Ids.{listed, nothing_after}
 use Rattle.acl_forms.specs.Part.{PlacedAce, IsReadAsPart, SpellsPart, any_weight, is_unknown_deny}
 use Rattle.acl_forms.specs.PartWords.{AceReader, IsPartAce, SpelledAce, SpellsWhole, bytes_at, judged_bytes}
 unfoldable use Rattle.acl_forms.specs.PartWords.{aces_from, placed_from, whole_in}
 use Rattle.acl_forms.specs.ReadFaults.{read_fault_at}
-use Rattle.acl_forms.specs.Words.{WordPlace, acl_flags_of, start, word_at}
+use Rattle.acl_forms.specs.Words.{acl_flags_of, start, word_at}
 use Rattle.acl_forms.specs.declared.fault.ReadFault.{ReadFault}
 use Rattle.acl_forms.specs.declared.fault.ReadReason.{ReadReason}
 use Rattle.acl_forms.specs.declared.fault.ReadReason.TheVariants as reason
@@ -34,21 +35,21 @@ use Rattle.acl_forms.proofs.WordLemmas.{Takes, Takes-then, flags_again, flags_fo
 -- ---- any bytes
 
 -- bytes that were read spell their value, and reading took them
-pub record TakesBytes {A : Type 0} (n : ℕ) (means : List ℕ → Result A ReadReason) (p : WordPlace) (x : A × WordPlace)
+pub record TakesBytes {A : Type 0} (n : ℕ) (means : List ℕ → Result A ReadReason) (p : Place) (x : A × Place)
     : Type 0 where
   pub accepted : means (take n p.rest) ≡ Ok x.0
   pub long : length (take n p.rest) ≡ n
   pub takes : Takes p (take n p.rest) x.1
 
 -- whole bytes that give a value were accepted, and reading continues after them
-judged_ok : {A : Type 0} (n : ℕ) (p : WordPlace) (r : Result A ReadReason) (x : A × WordPlace)
+judged_ok : {A : Type 0} (n : ℕ) (p : Place) (r : Result A ReadReason) (x : A × Place)
     → judged_bytes n p r ≡ Ok x → (r ≡ Ok x.0) × (place_at (p.at + n) (drop n p.rest) ≡ x.1)
 judged_ok n p (Ok y) x e =
     let h : (y, place_at (p.at + n) (drop n p.rest)) ≡ x = ok_is _ _ e in (ap (λ z. Ok z.0) h, ap (λ z. z.1) h)
 judged_ok n p (Err d) x e = absurd cc
 
 -- bytes that gave a value were taken
-pub bytes_take : {A : Type 0} (n : ℕ) (means : List ℕ → Result A ReadReason) (p : WordPlace) (x : A × WordPlace)
+pub bytes_take : {A : Type 0} (n : ℕ) (means : List ℕ → Result A ReadReason) (p : Place) (x : A × Place)
     → IsBytes p.rest → bytes_at n means p ≡ Ok x → TakesBytes n means p x
 bytes_take n means p x fits e =
     let g = guard_ok (ltb (length p.rest) n) (read_fault_at p.at (reason.List Truncated))
@@ -65,7 +66,7 @@ bytes_take n means p x fits e =
     record {
       accepted = j.0;
       long = len;
-      takes = subst (λ (q : WordPlace). Takes p (take n p.rest) q) j.1 made;
+      takes = subst (λ (q : Place). Takes p (take n p.rest) q) j.1 made;
     }
 
 -- bytes that were written are read again
@@ -79,7 +80,7 @@ bytes_again n means at text rest x len e =
 -- ---- a list of ACEs, by a reader of ACEs
 
 -- an ACE was read and taken, and it may be in a list
-pub record TakesAce (Spells : AnyAce → List ℕ → Type 0) (bits : ℕ) (p : WordPlace) (a : AnyAce) (q : WordPlace)
+pub record TakesAce (Spells : AnyAce → List ℕ → Type 0) (bits : ℕ) (p : Place) (a : AnyAce) (q : Place)
     : Type 0 where
   pub bytes : List ℕ
   pub takes : Takes p bytes q
@@ -89,7 +90,7 @@ pub record TakesAce (Spells : AnyAce → List ℕ → Type 0) (bits : ℕ) (p : 
 
 -- a reader reads what is spelled, and nothing else
 pub record IsReader (Spells : AnyAce → List ℕ → Type 0) (read : AceReader) : Type 0 where
-  pub take_ace : (bits : ℕ) (p : WordPlace) (x : AnyAce × WordPlace) → IsBytes p.rest → read bits p ≡ Ok x
+  pub take_ace : (bits : ℕ) (p : Place) (x : AnyAce × Place) → IsBytes p.rest → read bits p ≡ Ok x
       → TakesAce Spells bits p x.0 x.1
   pub again : (bits at : ℕ) (a : AnyAce) (bytes rest : List ℕ) → Spells a bytes
       → is_unknown_deny a.type_number a.who ≡ false → bits + count_ones a.mask ≤ most_weight
@@ -104,8 +105,8 @@ abbrev bits_of : SpelledAce → ℕ
 bits_of s = count_ones s.ace.mask
 
 -- ACEs were read and taken after a list
-record TakesAces (Spells : AnyAce → List ℕ → Type 0) (n : ℕ) (list : List PlacedAce) (p : WordPlace)
-    (out : List PlacedAce) (q : WordPlace) : Type 0 where
+record TakesAces (Spells : AnyAce → List ℕ → Type 0) (n : ℕ) (list : List PlacedAce) (p : Place)
+    (out : List PlacedAce) (q : Place) : Type 0 where
   pub more : List SpelledAce
   pub takes : Takes p (flat_map bytes_of more) q
   pub long : length more ≡ n
@@ -116,11 +117,11 @@ record TakesAces (Spells : AnyAce → List ℕ → Type 0) (n : ℕ) (list : Lis
 -- what a reader makes of bytes
 module _ {Spells : AnyAce → List ℕ → Type 0} {read : AceReader} (reader : IsReader Spells read) where
   -- reading ACEs takes their bytes
-  aces_take : (n : ℕ) (list : List PlacedAce) (p : WordPlace) (x : List PlacedAce × WordPlace) → IsBytes p.rest
+  aces_take : (n : ℕ) (list : List PlacedAce) (p : Place) (x : List PlacedAce × Place) → IsBytes p.rest
       → any_weight list ≤ most_weight → aces_from read n list p ≡ Ok x → TakesAces Spells n list p x.0 x.1
   unfolding aces_from placed_from
   aces_take zero list p x fits light e =
-      subst (λ (y : List PlacedAce × WordPlace). TakesAces Spells zero list p y.0 y.1) (ok_is (list, p) x e) (record {
+      subst (λ (y : List PlacedAce × Place). TakesAces Spells zero list p y.0 y.1) (ok_is (list, p) x e) (record {
         more = [];
         takes = record { parts = refl; counted = omega arith; bytes = fits };
         long = refl;

@@ -19,13 +19,13 @@ use Rattle.acl_nfs4.specs.Spelling.{pad_len, word}
 use Rattle.acl_nfs4.specs.Who.{is_no_who_len, is_plain}
 use Rattle.acl_nfs4.specs.declared.xdr.fault.Reason.{Reason}
 use Rattle.acl_nfs4.specs.internal.Progress.{IsBytes}
-use Rattle.acl_nfs4.specs.internal.Reading.{text_fault}
+use Rattle.acl_nfs4.specs.internal.Reading.{Place, text_fault}
 use Rattle.acl_forms.specs.Acl41Ids.{id_who, listed, special_of}
 use Rattle.acl_forms.specs.Part.{is_unknown_deny}
 use Rattle.acl_forms.specs.PartWords.{Names, SpellsById, SpellsByName, bytes_at, special_name, unless_unknown, who_by_name, who_by_number}
 use Rattle.acl_forms.specs.PartWords.Names.{by_id, by_special}
 unfoldable use Rattle.acl_forms.specs.PartWords.{ace_by_name, ace_by_number}
-use Rattle.acl_forms.specs.Words.{WordPlace, word_at}
+use Rattle.acl_forms.specs.Words.{word_at}
 use Rattle.acl_forms.specs.declared.fault.ReadReason.TheVariants as reason
 use Rattle.acl_forms.proofs.AnyNames.{known_who}
 use Rattle.acl_forms.proofs.IdAces.{flags_accepted, flags_are, listed_again, listed_ok, mask_again, mask_is, special_accepted, special_is, five_regrouped}
@@ -108,7 +108,7 @@ padding_again : (n : ℕ) → listed (padding_of (replicate n 0)) ≡ Ok tt
 padding_again n = rw (zeros_again n) refl
 
 -- if each field of an ACE was read, the ACE was read
-takes_fields : (bits : ℕ) (p : WordPlace) (t f m l : ℕ × WordPlace) (w : List ℕ × WordPlace) (z : Unit {0} × WordPlace)
+takes_fields : (bits : ℕ) (p : Place) (t f m l : ℕ × Place) (w : List ℕ × Place) (z : Unit {0} × Place)
     → IsBytes p.rest → word_at (λ n. listed (type_of n)) p ≡ Ok t → word_at (λ n. listed (flags_of full n)) t.1 ≡ Ok f
     → word_at (λ n. listed (mask_of full bits n)) f.1 ≡ Ok m → word_at (λ n. listed (who_len_of n)) m.1 ≡ Ok l
     → bytes_at l.0 (who_by_name t.0) l.1 ≡ Ok w → bytes_at (pad_len l.0) (λ b. listed (padding_of b)) w.1 ≡ Ok z
@@ -157,7 +157,7 @@ takes_fields bits p t f m l w z fits te fe me le we ze =
 pub reader_by_name : IsReader SpellsByName ace_by_name
 unfolding ace_by_name
 reader_by_name = record { take_ace = takes; again = again } where
-  takes : (bits : ℕ) (p : WordPlace) (x : AnyAce × WordPlace) → IsBytes p.rest → ace_by_name bits p ≡ Ok x
+  takes : (bits : ℕ) (p : Place) (x : AnyAce × Place) → IsBytes p.rest → ace_by_name bits p ≡ Ok x
       → TakesAce SpellsByName bits p x.0 x.1
   takes bits p x fits e =
       bind_then (word_at (λ n. listed (type_of n)) p) _ x e (λ t te tr.
@@ -166,7 +166,7 @@ reader_by_name = record { take_ace = takes; again = again } where
       bind_then (word_at (λ n. listed (who_len_of n)) m.1) _ x mr (λ l le lr.
       bind_then (bytes_at l.0 (who_by_name t.0) l.1) _ x lr (λ w we wr.
       bind_then (bytes_at (pad_len l.0) (λ b. listed (padding_of b)) w.1) _ x wr (λ z ze zr.
-      subst (λ (y : AnyAce × WordPlace). TakesAce SpellsByName bits p y.0 y.1) (ok_is _ x zr)
+      subst (λ (y : AnyAce × Place). TakesAce SpellsByName bits p y.0 y.1) (ok_is _ x zr)
       (takes_fields bits p t f m l w z fits te fe me le we ze)))))))
 
   named_again : (bits at : ℕ) (a : AnyAce) (rest : List ℕ) → IsAnyAce full a
@@ -263,7 +263,7 @@ words_of a special n =
     word a.type_number ++ (word a.flags ++ (word special ++ (word a.mask ++ word n)))
 
 -- if each word of an ACE was read, the ACE was read
-takes_words : (bits : ℕ) (p : WordPlace) (t f s m : ℕ × WordPlace) (w : List ℕ × WordPlace) → IsBytes p.rest
+takes_words : (bits : ℕ) (p : Place) (t f s m : ℕ × Place) (w : List ℕ × Place) → IsBytes p.rest
     → word_at (λ n. listed (type_of n)) p ≡ Ok t → word_at (λ n. listed (flags_of full n)) t.1 ≡ Ok f
     → word_at special_of f.1 ≡ Ok s → word_at (λ n. listed (mask_of full bits n)) s.1 ≡ Ok m
     → word_at (who_by_number t.0 s.0) m.1 ≡ Ok w
@@ -304,7 +304,7 @@ takes_words bits p t f s m w fits te fe se me we =
 pub reader_by_number : IsReader SpellsById ace_by_number
 unfolding ace_by_number
 reader_by_number = record { take_ace = takes; again = again } where
-  takes : (bits : ℕ) (p : WordPlace) (x : AnyAce × WordPlace) → IsBytes p.rest → ace_by_number bits p ≡ Ok x
+  takes : (bits : ℕ) (p : Place) (x : AnyAce × Place) → IsBytes p.rest → ace_by_number bits p ≡ Ok x
       → TakesAce SpellsById bits p x.0 x.1
   takes bits p x fits e =
       bind_then (word_at (λ n. listed (type_of n)) p) _ x e (λ t te tr.
@@ -312,7 +312,7 @@ reader_by_number = record { take_ace = takes; again = again } where
       bind_then (word_at special_of f.1) _ x fr (λ s se sr.
       bind_then (word_at (λ n. listed (mask_of full bits n)) s.1) _ x sr (λ m me mr.
       bind_then (word_at (who_by_number t.0 s.0) m.1) _ x mr (λ w we wr.
-      subst (λ (y : AnyAce × WordPlace). TakesAce SpellsById bits p y.0 y.1) (ok_is _ x wr)
+      subst (λ (y : AnyAce × Place). TakesAce SpellsById bits p y.0 y.1) (ok_is _ x wr)
       (takes_words bits p t f s m w fits te fe se me we))))))
 
   again : (bits at : ℕ) (a : AnyAce) (bytes rest : List ℕ) → SpellsById a bytes

@@ -8,10 +8,11 @@ use Rattle.acl_nfs4.proofs.Exports.{IsBytes-drop, IsBytes-take, guard_ok, ok_is}
 use Rattle.acl_nfs4.specs.Fields.{number}
 use Rattle.acl_nfs4.specs.Spelling.{word}
 use Rattle.acl_nfs4.specs.internal.Progress.{IsBytes}
+use Rattle.acl_nfs4.specs.internal.Reading.{Place}
 use Rattle.acl_nfs4.specs.declared.xdr.fault.Reason.TheVariants.{Truncated}
 use Rattle.acl_forms.specs.AclFlags.{IsAclFlags, all_acl_flags}
 use Rattle.acl_forms.specs.ReadFaults.{read_fault_at}
-use Rattle.acl_forms.specs.Words.{WordPlace, acl_flags_of, judged_word, start, word_at}
+use Rattle.acl_forms.specs.Words.{acl_flags_of, judged_word, start, word_at}
 use Rattle.acl_forms.specs.declared.fault.ReadReason.{ReadReason}
 use Rattle.acl_forms.specs.declared.fault.ReadReason.TheVariants as reason
 
@@ -20,17 +21,17 @@ use Rattle.acl_forms.specs.declared.fault.ReadReason.TheVariants as reason
 -- ---- words
 
 -- a place, by the number of bytes before it and the bytes after it
-abbrev pub place_at : ℕ → List ℕ → WordPlace
+abbrev pub place_at : ℕ → List ℕ → Place
 place_at n rest = record { at = n; rest = rest }
 
 -- what reading took from the front
-pub record Takes (p : WordPlace) (text : List ℕ) (q : WordPlace) : Type 0 where
+pub record Takes (p : Place) (text : List ℕ) (q : Place) : Type 0 where
   pub parts : p.rest ≡ text ++ q.rest
   pub counted : q.at ≡ p.at + length text
   pub bytes : IsBytes q.rest
 
 -- what two steps took
-pub Takes-then : {p : WordPlace} {x : List ℕ} {q : WordPlace} {y : List ℕ} {r : WordPlace} → Takes p x q → Takes q y r
+pub Takes-then : {p : Place} {x : List ℕ} {q : Place} {y : List ℕ} {r : Place} → Takes p x q → Takes q y r
     → Takes p (x ++ y) r
 Takes-then {x = x} {y = y} {r = r} s t = record {
   parts = s.parts ∙ ap (λ (z : List ℕ). x ++ z) t.parts ∙ sym (append_assoc x y r.rest);
@@ -39,21 +40,21 @@ Takes-then {x = x} {y = y} {r = r} s t = record {
 }
 
 -- a whole word that gives a value was accepted, and reading continues after it
-judged_ok : {A : Type 0} (p : WordPlace) (r : Result A ReadReason) (x : A × WordPlace) → judged_word p r ≡ Ok x
+judged_ok : {A : Type 0} (p : Place) (r : Result A ReadReason) (x : A × Place) → judged_word p r ≡ Ok x
     → (r ≡ Ok x.0) × (place_at (p.at + 4) (drop 4 p.rest) ≡ x.1)
 judged_ok p (Ok y) x e =
     let h : (y, place_at (p.at + 4) (drop 4 p.rest)) ≡ x = ok_is _ _ e in (ap (λ z. Ok z.0) h, ap (λ z. z.1) h)
 judged_ok p (Err d) x e = absurd cc
 
 -- a word that was read is taken, and its number is accepted
-pub record Taken {A : Type 0} (means : ℕ → Result A ReadReason) (p : WordPlace) (x : A × WordPlace) : Type 0 where
+pub record Taken {A : Type 0} (means : ℕ → Result A ReadReason) (p : Place) (x : A × Place) : Type 0 where
   pub number : ℕ
   pub accepted : means number ≡ Ok x.0
   pub takes : Takes p (word number) x.1
   pub fits : number < 2 ^ 32
 
 -- a word that gave a value was taken
-pub word_takes : {A : Type 0} (means : ℕ → Result A ReadReason) (p : WordPlace) (x : A × WordPlace) → IsBytes p.rest
+pub word_takes : {A : Type 0} (means : ℕ → Result A ReadReason) (p : Place) (x : A × Place) → IsBytes p.rest
     → word_at means p ≡ Ok x → Taken means p x
 word_takes means p x fits e =
     let g = guard_ok (ltb (length p.rest) 4) (read_fault_at p.at (reason.List Truncated))
@@ -69,7 +70,7 @@ word_takes means p x fits e =
       counted = omega (arith, len);
       bytes = IsBytes-drop 4 p.rest fits;
     } in
-    let whole : Takes p (take 4 p.rest) x.1 = subst (λ (q : WordPlace). Takes p (take 4 p.rest) q) j.1 made in
+    let whole : Takes p (take 4 p.rest) x.1 = subst (λ (q : Place). Takes p (take 4 p.rest) q) j.1 made in
     record {
       number = number (take 4 p.rest);
       accepted = j.0;
@@ -100,7 +101,7 @@ flags_lt : (n : ℕ) → IsAclFlags n → n < 2 ^ 32
 flags_lt n is = let le : n ≤ all_acl_flags = rw (← is) (and_le_r n all_acl_flags) in omega arith
 
 -- flags that were read are flags, and the bytes are their word and the rest
-pub flags_found : (bytes : List ℕ) (flags : ℕ) (after : WordPlace) → IsBytes bytes
+pub flags_found : (bytes : List ℕ) (flags : ℕ) (after : Place) → IsBytes bytes
     → word_at acl_flags_of (start bytes) ≡ Ok (flags, after)
     → IsAclFlags flags × (bytes ≡ word flags ++ after.rest) × IsBytes after.rest
 flags_found bytes flags after fits e =

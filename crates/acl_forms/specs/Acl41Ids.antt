@@ -16,11 +16,12 @@ use Rattle.acl_nfs4.specs.Ace.{Ace}
 use Rattle.acl_nfs4.specs.Fields.{count_of, flags_of, kind_of, mask_of}
 use Rattle.acl_nfs4.specs.Spelling.{IsAccepted, weight, word}
 use Rattle.acl_nfs4.specs.Who.{everyone_name, group_name, owner_name}
+use Rattle.acl_nfs4.specs.internal.Reading.{Place}
 use Rattle.acl_nfs4.specs.declared.xdr.fault.Reason.{Reason}
 use Rattle.acl_nfs4.specs.declared.xdr.fault.Reason.TheVariants.{SpecialWho, TrailingBytes}
 use Rattle.acl_forms.specs.AclFlags.{IsAclFlags}
 use Rattle.acl_forms.specs.ReadFaults.{read_fault_at}
-use Rattle.acl_forms.specs.Words.{WordPlace, acl_flags_of, start, word_at}
+use Rattle.acl_forms.specs.Words.{acl_flags_of, start, word_at}
 use Rattle.acl_forms.specs.declared.fault.FormFault.{FormFault}
 use Rattle.acl_forms.specs.declared.fault.FormReason.TheVariants.{NoId}
 use Rattle.acl_forms.specs.declared.fault.ReadFault.{ReadFault}
@@ -91,7 +92,7 @@ unfoldable pub id_who_of : ℕ → ℕ → Result (List ℕ) ReadReason
 id_who_of special n = if special == 1 then special_who n else id_who n
 
 -- the ACE at a place, after ACEs of this weight, and the place after it
-unfoldable pub id_ace_at : ℕ → WordPlace → Result (Ace × WordPlace) ReadFault
+unfoldable pub id_ace_at : ℕ → Place → Result (Ace × Place) ReadFault
 id_ace_at weight at = do
   kind ← word_at (λ n. listed (kind_of n)) at
   flags ← word_at (λ n. listed (flags_of full n)) kind.1
@@ -101,14 +102,14 @@ id_ace_at weight at = do
   Ok (record { kind = kind.0; flags = flags.0; mask = mask.0; who = who.0 }, who.1)
 
 -- the list with this many more ACEs from a place on, and the place after them
-unfoldable pub id_aces_from : ℕ → List Ace → WordPlace → Result (List Ace × WordPlace) ReadFault
+unfoldable pub id_aces_from : ℕ → List Ace → Place → Result (List Ace × Place) ReadFault
 id_aces_from zero list at = Ok (list, at)
 id_aces_from (suc n) list at = do
   first ← id_ace_at (weight list) at
   id_aces_from n (list ++ first.0 ∷ []) first.1
 
 -- the flags and the list, if no byte is left
-abbrev pub nothing_after : {A : Type 0} → ℕ → A × WordPlace → Result (ℕ × A) ReadFault
+abbrev pub nothing_after : {A : Type 0} → ℕ → A × Place → Result (ℕ × A) ReadFault
 nothing_after flags (list, at) = if length at.rest == 0 then Ok (flags, list)
     else Err (read_fault_at at.at (reason.List TrailingBytes))
 

@@ -15,12 +15,13 @@ use Rattle.acl_nfs4.specs.PartFault.{any_who_of, type_of}
 use Rattle.acl_nfs4.specs.Spelling.{pad_len, word}
 use Rattle.acl_nfs4.specs.Who.{everyone_name, group_name, owner_name}
 use Rattle.acl_nfs4.specs.Within.{IsWithin}
+use Rattle.acl_nfs4.specs.internal.Reading.{Place}
 use Rattle.acl_nfs4.specs.declared.xdr.fault.Reason.TheVariants.{SpecialWho, Truncated}
 use Rattle.acl_forms.specs.AclFlags.{IsAclFlags}
 use Rattle.acl_forms.specs.Acl41Ids.{id_who, listed, nothing_after, special_of}
 use Rattle.acl_forms.specs.Part.{PlacedAce, any_weight, is_unknown_deny}
 use Rattle.acl_forms.specs.ReadFaults.{read_fault_at}
-use Rattle.acl_forms.specs.Words.{WordPlace, acl_flags_of, head_size, start, word_at}
+use Rattle.acl_forms.specs.Words.{acl_flags_of, head_size, start, word_at}
 use Rattle.acl_forms.specs.declared.fault.ReadFault.{ReadFault}
 use Rattle.acl_forms.specs.declared.fault.ReadReason.{ReadReason}
 use Rattle.acl_forms.specs.declared.fault.ReadReason.TheVariants as reason
@@ -88,12 +89,12 @@ SpellsWhole Spells set list bytes =
 -- ---- the first fault of bytes
 
 -- what this many bytes mean and the place after them, or why they are refused
-abbrev pub judged_bytes : {A : Type 0} → ℕ → WordPlace → Result A ReadReason → Result (A × WordPlace) ReadFault
+abbrev pub judged_bytes : {A : Type 0} → ℕ → Place → Result A ReadReason → Result (A × Place) ReadFault
 judged_bytes n p (Ok x) = Ok (x, record { at = p.at + n; rest = drop n p.rest })
 judged_bytes n p (Err r) = Err (read_fault_at p.at r)
 
 -- this many bytes at a place: cut short, or what they mean
-abbrev pub bytes_at : {A : Type 0} → ℕ → (List ℕ → Result A ReadReason) → WordPlace → Result (A × WordPlace) ReadFault
+abbrev pub bytes_at : {A : Type 0} → ℕ → (List ℕ → Result A ReadReason) → Place → Result (A × Place) ReadFault
 bytes_at n means p = if nat_lt (length p.rest) n then Err (read_fault_at p.at (reason.List Truncated))
     else judged_bytes n p (means (take n p.rest))
 
@@ -113,7 +114,7 @@ who_by_number type_number special n =
 
 -- a call that reads an ACE at a place, after ACEs of this weight, and the place after it
 abbrev pub AceReader : Type 0
-AceReader = ℕ → WordPlace → Result (AnyAce × WordPlace) ReadFault
+AceReader = ℕ → Place → Result (AnyAce × Place) ReadFault
 
 -- the ACE at a place in nfsacl41
 unfoldable pub ace_by_name : AceReader
@@ -137,7 +138,7 @@ ace_by_number weight at = do
   Ok (record { type_number = number.0; flags = flags.0; mask = mask.0; who = who.0 }, who.1)
 
 -- the list with this many more ACEs from a place on, and the place after them
-unfoldable pub aces_from : AceReader → ℕ → List PlacedAce → WordPlace → Result (List PlacedAce × WordPlace) ReadFault
+unfoldable pub aces_from : AceReader → ℕ → List PlacedAce → Place → Result (List PlacedAce × Place) ReadFault
 aces_from read zero list at = Ok (list, at)
 aces_from read (suc n) list at = do
   first ← read (any_weight list) at

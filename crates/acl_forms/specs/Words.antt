@@ -5,6 +5,7 @@ use Rattle.acl_nfs4.specs.Ace.{Ace}
 use Rattle.acl_nfs4.specs.Fields.{number}
 use Rattle.acl_nfs4.specs.Spelling.{word_size}
 use Rattle.acl_nfs4.specs.Within.{is_within}
+use Rattle.acl_nfs4.specs.internal.Reading.{Place}
 use Rattle.acl_nfs4.specs.declared.xdr.fault.Reason.TheVariants.{Truncated}
 use Rattle.acl_forms.specs.AclFlags.{all_acl_flags}
 use Rattle.acl_forms.specs.ReadFaults.{no_memory_left, read_fault_at}
@@ -13,13 +14,8 @@ use Rattle.acl_forms.specs.declared.fault.ReadFault.{ReadFault}
 use Rattle.acl_forms.specs.declared.fault.ReadReason.{ReadReason}
 use Rattle.acl_forms.specs.declared.fault.ReadReason.TheVariants as reason
 
--- how many bytes were read, and those that are left
-pub record WordPlace : Type 0 where
-  pub at : ℕ
-  pub rest : List ℕ
-
 -- the place before the first byte
-abbrev pub start : List ℕ → WordPlace
+abbrev pub start : List ℕ → Place
 start bytes = record { at = 0; rest = bytes }
 
 -- the bytes before the ACEs: the word of the flags, and the word of the list's length
@@ -27,12 +23,12 @@ abbrev pub head_size : ℕ
 head_size = word_size + word_size
 
 -- what a whole word means and the place after it, or why the word is refused
-abbrev pub judged_word : {A : Type 0} → WordPlace → Result A ReadReason → Result (A × WordPlace) ReadFault
+abbrev pub judged_word : {A : Type 0} → Place → Result A ReadReason → Result (A × Place) ReadFault
 judged_word p (Ok x) = Ok (x, record { at = p.at + word_size; rest = drop word_size p.rest })
 judged_word p (Err r) = Err (read_fault_at p.at r)
 
 -- the word at a place: cut short, or what its number means
-abbrev pub word_at : {A : Type 0} → (ℕ → Result A ReadReason) → WordPlace → Result (A × WordPlace) ReadFault
+abbrev pub word_at : {A : Type 0} → (ℕ → Result A ReadReason) → Place → Result (A × Place) ReadFault
 word_at means p = if nat_lt (length p.rest) word_size then Err (read_fault_at p.at (reason.List Truncated))
     else judged_word p (means (number (take word_size p.rest)))
 

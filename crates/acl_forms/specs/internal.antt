@@ -1,7 +1,7 @@
 -- What only the code and its proofs need (this library's own): no clause of a public call cites it.
 
--- the place of a reader
-pub mod Cursor
+-- the value of a word at its place
+pub mod PlacedWords
 -- an ACE whose who is a special identifier or an id
 pub mod IdAces
 -- ACEs of any type while they are read

@@ -6,11 +6,11 @@ ghost use Rattle.acl_nfs4.specs.Fields.{count_of, flags_of, kind_of, mask_of};
 ghost use Rattle.acl_nfs4.specs.Limits.{most_aces, most_weight};
 ghost use Rattle.acl_nfs4.specs.Spelling.{IsAccepted, weight};
 ghost use Rattle.acl_nfs4.specs.internal.Reading.{Gives};
+ghost use Rattle.acl_nfs4.specs.internal.Cursor.{place};
 ghost use Rattle.acl_forms.specs.Acl41Ids.{IsAcl41Ids, IsAcl41IdsFault, acl41_ids_in, id_ace_at, id_aces_from, id_who, id_who_of, listed, special_of, special_who};
 ghost use Rattle.acl_forms.specs.ReadFaults.{no_memory_left};
 ghost use Rattle.acl_forms.specs.Words.{IfForm, ReadsForm, RefusesForm, word_at};
 ghost use Rattle.acl_forms.specs.declared.fault.ReadFault.{ReadFault};
-ghost use Rattle.acl_forms.specs.internal.Cursor.{cursor_place};
 ghost use Rattle.acl_forms.specs.internal.IdAces.{ReadAs, ace_by_id, flags_and_list, whom_name};
 
 use crate::acl_flags::AclFlags;
@@ -90,8 +90,8 @@ fn read_whole(alloc: Global, bytes: &[u8]) -> Result<(AclFlags, Acl), ReadFault>
 // Reads the list of this many ACEs.
 fn list_of(alloc: Global, cursor: &mut Cursor<'_>, count: u32) -> Result<Acl, ReadFault>
     requires { count ≤ most_aces }
-    ensures { ReadAs (λ x. (x, cursor_place cursor.new)) result
-        (id_aces_from count [] (cursor_place cursor.old)) }
+    ensures { ReadAs (λ x. (x, place cursor.new)) result
+        (id_aces_from count [] (place cursor.old)) }
 {
     let mut list = Acl::new(alloc);
     for _ in 0..count {
@@ -143,8 +143,8 @@ pub(crate) fn name_of(whom: Whom, digits: &mut Buffer) -> &[u8]
 #[tactic(auto, unfolding(crate::specs::Acl41Ids::id_ace_at))]
 fn next_ace(cursor: &mut Cursor<'_>, weight: u32) -> Result<IdAce, ReadFault>
     requires { weight ≤ most_weight }
-    ensures exact { Gives (λ x. (ace_by_id x, cursor_place cursor.new)) result
-        (id_ace_at weight (cursor_place cursor.old)) }
+    ensures exact { Gives (λ x. (ace_by_id x, place cursor.new)) result
+        (id_ace_at weight (place cursor.old)) }
     ensures light { IfOk result (λ x. weight + count_ones x.mask.bits ≤ most_weight) }
 {
     let kind = kind(cursor)?;
@@ -162,8 +162,8 @@ fn next_ace(cursor: &mut Cursor<'_>, weight: u32) -> Result<IdAce, ReadFault>
 
 // Reads the number of ACEs.
 pub(crate) fn count(cursor: &mut Cursor<'_>) -> Result<u32, ReadFault>
-    ensures exact { Gives (λ x. (x, cursor_place cursor.new)) result
-        (word_at (λ n. listed (count_of n)) (cursor_place cursor.old)) }
+    ensures exact { Gives (λ x. (x, place cursor.new)) result
+        (word_at (λ n. listed (count_of n)) (place cursor.old)) }
     ensures small { IfOk result (λ x. x ≤ most_aces) }
 {
     let offset = offset_of(cursor);
@@ -171,24 +171,24 @@ pub(crate) fn count(cursor: &mut Cursor<'_>) -> Result<u32, ReadFault>
 }
 
 fn kind(cursor: &mut Cursor<'_>) -> Result<Kind, ReadFault>
-    ensures { Gives (λ x. (x, cursor_place cursor.new)) result
-        (word_at (λ n. listed (kind_of n)) (cursor_place cursor.old)) }
+    ensures { Gives (λ x. (x, place cursor.new)) result
+        (word_at (λ n. listed (kind_of n)) (place cursor.old)) }
 {
     let offset = offset_of(cursor);
     placed_listed(offset, kind_of(word(cursor)?))
 }
 
 pub(crate) fn flags(cursor: &mut Cursor<'_>) -> Result<Flags, ReadFault>
-    ensures { Gives (λ x. (x.bits, cursor_place cursor.new)) result
-        (word_at (λ n. listed (flags_of full n)) (cursor_place cursor.old)) }
+    ensures { Gives (λ x. (x.bits, place cursor.new)) result
+        (word_at (λ n. listed (flags_of full n)) (place cursor.old)) }
 {
     let offset = offset_of(cursor);
     placed_listed(offset, flags_of(word(cursor)?, Profile::FULL))
 }
 
 pub(crate) fn special(cursor: &mut Cursor<'_>) -> Result<u32, ReadFault>
-    ensures { Gives (λ x. (x, cursor_place cursor.new)) result
-        (word_at special_of (cursor_place cursor.old)) }
+    ensures { Gives (λ x. (x, place cursor.new)) result
+        (word_at special_of (place cursor.old)) }
 {
     let offset = offset_of(cursor);
     placed(offset, special_of(word(cursor)?))
@@ -205,8 +205,8 @@ fn special_of(number: u32) -> Result<u32, ReadReason>
 
 pub(crate) fn mask(cursor: &mut Cursor<'_>, weight: u32) -> Result<Mask, ReadFault>
     requires { weight ≤ most_weight }
-    ensures exact { Gives (λ x. (x.bits, cursor_place cursor.new)) result
-        (word_at (λ n. listed (mask_of full weight n)) (cursor_place cursor.old)) }
+    ensures exact { Gives (λ x. (x.bits, place cursor.new)) result
+        (word_at (λ n. listed (mask_of full weight n)) (place cursor.old)) }
     ensures light { IfOk result (λ x. weight + count_ones x.bits ≤ most_weight) }
 {
     let offset = offset_of(cursor);
@@ -214,8 +214,8 @@ pub(crate) fn mask(cursor: &mut Cursor<'_>, weight: u32) -> Result<Mask, ReadFau
 }
 
 fn whom_word(cursor: &mut Cursor<'_>, special: u32) -> Result<Whom, ReadFault>
-    ensures { Gives (λ x. (whom_name x, cursor_place cursor.new)) result
-        (word_at (id_who_of special) (cursor_place cursor.old)) }
+    ensures { Gives (λ x. (whom_name x, place cursor.new)) result
+        (word_at (id_who_of special) (place cursor.old)) }
 {
     let offset = offset_of(cursor);
     placed(offset, whom_of(special, word(cursor)?))

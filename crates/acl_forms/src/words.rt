@@ -1,9 +1,10 @@
 //! Reads words one after the other, and reports the offset of a word that is refused.
 ghost use Rattle.std.specs.Prelude.{◌≡◌, Ok};
 ghost use Rattle.acl_nfs4.specs.internal.Reading.{Gives};
+ghost use Rattle.acl_nfs4.specs.internal.Cursor.{place};
 ghost use Rattle.acl_forms.specs.Acl41Ids.{listed};
 ghost use Rattle.acl_forms.specs.Words.{acl_flags_of, start, word_at};
-ghost use Rattle.acl_forms.specs.internal.Cursor.{PlacedWord, cursor_place};
+ghost use Rattle.acl_forms.specs.internal.PlacedWords.{PlacedWord};
 
 use crate::acl_flags::AclFlags;
 use crate::fault::{ReadFault, ReadReason};
@@ -27,7 +28,7 @@ impl From<AllocError> for ReadFault {
 
 /// Returns the cursor before the first byte.
 pub(crate) fn start(bytes: &[u8]) -> Cursor<'_>
-    ensures { cursor_place result ≡ start bytes.now }
+    ensures { place result ≡ start bytes.now }
 {
     Cursor {
         len: bytes.len(),
@@ -37,8 +38,8 @@ pub(crate) fn start(bytes: &[u8]) -> Cursor<'_>
 
 /// Reads the flags of the list.
 pub(crate) fn acl_flags(cursor: &mut Cursor<'_>) -> Result<AclFlags, ReadFault>
-    ensures { Gives (λ x. (x.bits, cursor_place cursor.new)) result
-        (word_at acl_flags_of (cursor_place cursor.old)) }
+    ensures { Gives (λ x. (x.bits, place cursor.new)) result
+        (word_at acl_flags_of (place cursor.old)) }
 {
     let offset = offset_of(cursor);
     placed(offset, acl_flags_of(word(cursor)?))
@@ -78,8 +79,8 @@ pub(crate) fn placed_listed<T>(offset: u64, judged: Result<T, Reason>) -> Result
 /// Reads the next word, or fails with Truncated at the place where it should begin.
 #[inline(always)]
 pub(crate) fn word(cursor: &mut Cursor<'_>) -> Result<u32, ReadFault>
-    ensures { Gives (λ x. (x, cursor_place cursor.new)) result
-        (word_at (λ n. Ok n) (cursor_place cursor.old)) }
+    ensures { Gives (λ x. (x, place cursor.new)) result
+        (word_at (λ n. Ok n) (place cursor.old)) }
 {
     if cursor.rest.len() < 4 {
         return Err(ReadFault {
@@ -95,7 +96,7 @@ pub(crate) fn word(cursor: &mut Cursor<'_>) -> Result<u32, ReadFault>
 /// Returns how many bytes were read. No cursor keeps this number, because only a fault needs it.
 #[inline(always)]
 pub(crate) fn offset_of(cursor: &Cursor<'_>) -> u64
-    ensures { result ≡ (cursor_place cursor.now).at }
+    ensures { result ≡ (place cursor.now).at }
 {
     (cursor.len - cursor.rest.len()) as u64
 }

@@ -3,10 +3,10 @@ use Rattle.std.specs.Prelude.{◌≡◌, ◌⊎◌, ◌+◌, ◌<◌, ◌≤◌,
 use Rattle.acl_nfs4.specs.AccessPart.{AnyAce, IsAnyWho}
 use Rattle.acl_nfs4.specs.Limits.{most_aces, most_weight}
 use Rattle.acl_nfs4.specs.Who.{is_unknown_special}
+use Rattle.acl_nfs4.specs.internal.Reading.{Place}
 use Rattle.acl_forms.specs.Part.{IsPartWith, PlacedAce, kept, left_out}
 use Rattle.acl_forms.specs.PartWords.{AceReader, ace_by_name, ace_by_number, special_name}
 use Rattle.acl_forms.specs.ReadFaults.{no_memory_left}
-use Rattle.acl_forms.specs.Words.{WordPlace}
 use Rattle.acl_forms.specs.declared.fault.ReadFault.{ReadFault}
 use Rattle.acl_forms.specs.declared.part.Part.{Part}
 use Rattle.acl_forms.specs.declared.part.any_ace.AnyAceRef.{AnyAceRef}
@@ -52,7 +52,7 @@ reader_of ByName = ace_by_name
 reader_of ByNumber = ace_by_number
 
 -- the result of reading ACEs is the part of those that are read, and ends at this place, unless memory runs out
-abbrev pub GivesAnyPart : ℕ → WordPlace → Result Part ReadFault → Result (List PlacedAce × WordPlace) ReadFault → Type 0
+abbrev pub GivesAnyPart : ℕ → Place → Result Part ReadFault → Result (List PlacedAce × Place) ReadFault → Type 0
 GivesAnyPart flags at (Ok part) read =
     (list : List PlacedAce) × (read ≡ Ok (list, at)) × IsPartWith part flags (kept list) (left_out list)
 GivesAnyPart flags at (Err fault) read = (fault ≡ no_memory_left) ⊎ (read ≡ Err fault)

@@ -6,11 +6,11 @@ ghost use Rattle.acl_nfs4.specs.PartFault.{type_of};
 ghost use Rattle.acl_nfs4.specs.Spelling.{pad_len};
 ghost use Rattle.acl_nfs4.specs.Who.{is_no_who_len};
 ghost use Rattle.acl_nfs4.specs.internal.Reading.{Gives};
+ghost use Rattle.acl_nfs4.specs.internal.Cursor.{place};
 ghost use Rattle.acl_forms.specs.Acl41Ids.{listed};
 ghost use Rattle.acl_forms.specs.PartWords.{ace_by_name, ace_by_number, aces_from, bytes_at, who_by_name, who_by_number, whole_in};
 ghost use Rattle.acl_forms.specs.Words.{word_at};
 ghost use Rattle.acl_forms.specs.internal.AnyAces.{GivesAnyPart, HasAnyName, IsPartReadAs, any_ace_of, any_name, reader_of};
-ghost use Rattle.acl_forms.specs.internal.Cursor.{cursor_place};
 
 use crate::acl_flags::AclFlags;
 use crate::acl41_ids::{account_of, count, flags, mask, special, special_whom};
@@ -58,8 +58,8 @@ fn part_of(
     layout: Layout,
 ) -> Result<Part, ReadFault>
     requires { count ≤ most_aces }
-    ensures { GivesAnyPart flags.bits (cursor_place cursor.new) result
-        (aces_from (reader_of layout) count [] (cursor_place cursor.old)) }
+    ensures { GivesAnyPart flags.bits (place cursor.new) result
+        (aces_from (reader_of layout) count [] (place cursor.old)) }
 {
     let mut list = Acl::new(alloc);
     let mut left_out = Vec::new(alloc);
@@ -86,8 +86,8 @@ fn next_ace<'a>(
     layout: Layout,
 ) -> Result<AnyAceRef<'a>, ReadFault>
     requires { weight ≤ most_weight }
-    ensures exact { Gives (λ x. (any_ace_of x, cursor_place cursor.new)) result
-        (reader_of layout weight (cursor_place cursor.old)) }
+    ensures exact { Gives (λ x. (any_ace_of x, place cursor.new)) result
+        (reader_of layout weight (place cursor.old)) }
     ensures light { IfOk result (λ x. weight + count_ones x.mask.bits ≤ most_weight) }
     ensures named { IfOk result (λ x. HasAnyName x.who) }
 {
@@ -100,8 +100,8 @@ fn next_ace<'a>(
 #[tactic(auto, unfolding(crate::specs::PartWords::ace_by_name))]
 fn ace_by_name<'a>(cursor: &mut Cursor<'a>, weight: u32) -> Result<AnyAceRef<'a>, ReadFault>
     requires { weight ≤ most_weight }
-    ensures exact { Gives (λ x. (any_ace_of x, cursor_place cursor.new)) result
-        (ace_by_name weight (cursor_place cursor.old)) }
+    ensures exact { Gives (λ x. (any_ace_of x, place cursor.new)) result
+        (ace_by_name weight (place cursor.old)) }
     ensures light { IfOk result (λ x. weight + count_ones x.mask.bits ≤ most_weight) }
     ensures named { IfOk result (λ x. HasAnyName x.who) }
 {
@@ -122,8 +122,8 @@ fn ace_by_name<'a>(cursor: &mut Cursor<'a>, weight: u32) -> Result<AnyAceRef<'a>
 #[tactic(auto, unfolding(crate::specs::PartWords::ace_by_number))]
 fn ace_by_number<'a>(cursor: &mut Cursor<'a>, weight: u32) -> Result<AnyAceRef<'a>, ReadFault>
     requires { weight ≤ most_weight }
-    ensures exact { Gives (λ x. (any_ace_of x, cursor_place cursor.new)) result
-        (ace_by_number weight (cursor_place cursor.old)) }
+    ensures exact { Gives (λ x. (any_ace_of x, place cursor.new)) result
+        (ace_by_number weight (place cursor.old)) }
     ensures light { IfOk result (λ x. weight + count_ones x.mask.bits ≤ most_weight) }
     ensures named { IfOk result (λ x. HasAnyName x.who) }
 {
@@ -143,16 +143,16 @@ fn ace_by_number<'a>(cursor: &mut Cursor<'a>, weight: u32) -> Result<AnyAceRef<'
 // ---- the fields of an ACE
 
 fn type_number(cursor: &mut Cursor<'_>) -> Result<u32, ReadFault>
-    ensures { Gives (λ x. (x, cursor_place cursor.new)) result
-        (word_at (λ n. listed (type_of n)) (cursor_place cursor.old)) }
+    ensures { Gives (λ x. (x, place cursor.new)) result
+        (word_at (λ n. listed (type_of n)) (place cursor.old)) }
 {
     let offset = offset_of(cursor);
     placed_listed(offset, type_of(word(cursor)?))
 }
 
 fn who_len(cursor: &mut Cursor<'_>) -> Result<usize, ReadFault>
-    ensures exact { Gives (λ x. (x, cursor_place cursor.new)) result
-        (word_at (λ n. listed (who_len_of n)) (cursor_place cursor.old)) }
+    ensures exact { Gives (λ x. (x, place cursor.new)) result
+        (word_at (λ n. listed (who_len_of n)) (place cursor.old)) }
     ensures some { IfOk result (λ x. is_no_who_len x ≡ false) }
 {
     let offset = offset_of(cursor);
@@ -162,8 +162,8 @@ fn who_len(cursor: &mut Cursor<'_>) -> Result<usize, ReadFault>
 // Reads the name of an ACE of this type.
 fn name<'a>(cursor: &mut Cursor<'a>, len: usize, type_number: u32) -> Result<AnyWho<'a>, ReadFault>
     requires { is_no_who_len len ≡ false }
-    ensures exact { Gives (λ x. (any_name x, cursor_place cursor.new)) result
-        (bytes_at len (who_by_name type_number) (cursor_place cursor.old)) }
+    ensures exact { Gives (λ x. (any_name x, place cursor.new)) result
+        (bytes_at len (who_by_name type_number) (place cursor.old)) }
     ensures named { IfOk result HasAnyName }
 {
     let offset = offset_of(cursor);
@@ -171,8 +171,8 @@ fn name<'a>(cursor: &mut Cursor<'a>, len: usize, type_number: u32) -> Result<Any
 }
 
 fn padding(cursor: &mut Cursor<'_>, len: usize) -> Result<(), ReadFault>
-    ensures { Gives (λ x. (x, cursor_place cursor.new)) result
-        (bytes_at (pad_len len) (λ b. listed (padding_of b)) (cursor_place cursor.old)) }
+    ensures { Gives (λ x. (x, place cursor.new)) result
+        (bytes_at (pad_len len) (λ b. listed (padding_of b)) (place cursor.old)) }
 {
     let offset = offset_of(cursor);
     placed_listed(offset, padding_of(bytes(cursor, pad_len(len))?))
@@ -180,8 +180,8 @@ fn padding(cursor: &mut Cursor<'_>, len: usize) -> Result<(), ReadFault>
 
 // Reads this many bytes, or fails with Truncated at the place where they should begin.
 fn bytes<'a>(cursor: &mut Cursor<'a>, len: usize) -> Result<&'a [u8], ReadFault>
-    ensures { Gives (λ x. (x.now, cursor_place cursor.new)) result
-        (bytes_at len (λ b. Ok b) (cursor_place cursor.old)) }
+    ensures { Gives (λ x. (x.now, place cursor.new)) result
+        (bytes_at len (λ b. Ok b) (place cursor.old)) }
 {
     if cursor.rest.len() < len {
         return Err(ReadFault {
@@ -200,8 +200,8 @@ fn number<'a>(
     type_number: u32,
     special: u32,
 ) -> Result<AnyWho<'a>, ReadFault>
-    ensures exact { Gives (λ x. (any_name x, cursor_place cursor.new)) result
-        (word_at (who_by_number type_number special) (cursor_place cursor.old)) }
+    ensures exact { Gives (λ x. (any_name x, place cursor.new)) result
+        (word_at (who_by_number type_number special) (place cursor.old)) }
     ensures named { IfOk result HasAnyName }
 {
     let offset = offset_of(cursor);

@@ -1,5 +1,5 @@
 use Rattle.std.proofs.Common.{[], ◌∷◌, ◌<◌, ◌≡◌, ◌∙◌, ◌+◌, ◌-◌, arith, inr, length-append, sym}
-use Rattle.acl_forms.specs.internal.Cursor.{cursor_place}
+use Rattle.acl_nfs4.specs.internal.Cursor.{place}
 use Rattle.acl_forms.specs.internal.IdAces.{ace_by_id}
 use Rattle.acl_nfs4.proofs.Exits.{exit_is}
 use Rattle.acl_forms.proofs.IdLemmas.{ids_done, ids_more, ids_stop}
@@ -11,7 +11,7 @@ returns-in_err-ace c =
     let read = rw c.weight.ensures.value at c.in_err-ace.ensures.exact in
     rw (exit_is c.from_residual.result c.from_residual.ensures.1)
     (inr (sym c.loop.invariant.reads
-    ∙ ids_stop (c.args.count - c.loop.counter) c.loop.list (cursor_place c.loop.cursor) c.in_err-ace.field-0.0 some
+    ∙ ids_stop (c.args.count - c.loop.counter) c.loop.list (place c.loop.cursor) c.in_err-ace.field-0.0 some
     read))
 
 pub loop-preserved : goal.loop-preserved
@@ -20,8 +20,8 @@ loop-preserved c =
     let some : 0 < left = (let h = c.loop-test.true in omega arith) in
     let less : c.args.count - (c.loop.counter + 1) ≡ left - 1 = omega arith in
     let read = rw c.weight.ensures.value at c.in_ok-ace.ensures.exact in
-    let more = ids_more left c.loop.list (cursor_place c.loop.cursor)
-    (ace_by_id c.in_ok-ace.ace, cursor_place c.next_ace.new.cursor) some read in
+    let more = ids_more left c.loop.list (place c.loop.cursor)
+    (ace_by_id c.in_ok-ace.ace, place c.next_ace.new.cursor) some read in
     rw (c.in_ok-push.ensures.added, less) (record {
       reads = sym more ∙ c.loop.invariant.reads;
       accepted = c.in_ok-push.ensures.good;
@@ -36,5 +36,5 @@ loop-preserved c =
 pub returns : goal.returns
 returns c =
     sym c.loop.invariant.reads
-    ∙ ids_done (c.args.count - c.loop.counter) c.loop.list (cursor_place c.loop.cursor)
+    ∙ ids_done (c.args.count - c.loop.counter) c.loop.list (place c.loop.cursor)
     (let h = c.loop-test.false in let e = c.loop.auto.counter-end in omega arith)
