@@ -33,7 +33,6 @@ impl PosixAcl {
     }
 }
 
-/// Returns the bytes of the version.
 pub fn version_bytes() -> [u8; 4]
     ensures { result ≡ little_bytes version_size attribute_version }
 {
@@ -53,7 +52,6 @@ fn put_entries(bytes: &mut Vec<u8>, entries: &[Entry]) -> Result<(), AllocError>
     Ok(())
 }
 
-/// Returns the bytes of an entry.
 #[tactic(auto, unfolding(crate::specs::Attribute::entry_bytes))]
 pub fn entry_bytes(entry: Entry) -> [u8; 8]
     ensures { result ≡ entry_bytes (pair_of entry) }

@@ -184,7 +184,6 @@ fn first_stop(raws: &[RawEntry]) -> Option<usize>
     None
 }
 
-/// Returns the entry at a place.
 fn entry_in(raws: &[RawEntry], place: usize) -> Entry
     requires entries { AreEntries raws.now }
     requires in_range { place < length raws.now }
