@@ -3,5 +3,8 @@ pub mod Push
 pub mod Weights
 pub mod Ordered
 pub mod FromAces
-pub mod Renamings
+pub mod RenamingTable
+pub mod NameMaps
+pub mod MergedNames
+pub mod RenamedLists
 pub mod Whos

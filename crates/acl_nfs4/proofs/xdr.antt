@@ -14,5 +14,8 @@ pub mod PulledList
 pub mod Parts
 pub mod AnyLists
 pub mod AcesAt
+pub mod SuffixedNames
+pub mod FirstPassing
+pub mod UnknownNames
 pub mod StandIns
 pub mod Places

@@ -47,7 +47,7 @@ pub fn is_account(name: &[u8]) -> bool
 }
 
 /// Returns whether an unknown special identifier followed by this suffix is the name of a user or a group.
-#[tactic(auto, using(crate::proofs::xdr::StandIns::account_after))]
+#[tactic(auto, using(crate::proofs::xdr::SuffixedNames::account_after))]
 pub(crate) fn is_account_after(name: &[u8], suffix: &[u8]) -> bool
     requires any { IsAnyWho name.now }
     requires unknown { is_unknown_special name.now ≡ true }

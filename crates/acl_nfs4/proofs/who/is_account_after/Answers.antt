@@ -1,5 +1,5 @@
 use Rattle.acl_nfs4.proofs.Common.{◌∙◌}
-use Rattle.acl_nfs4.proofs.xdr.StandIns.{account_with_room}
+use Rattle.acl_nfs4.proofs.xdr.SuffixedNames.{account_with_room}
 use Rattle.acl_nfs4.proofs.who.is_account_after.Goals as goal
 
 pub returns-then-suffix-name : goal.returns-then-suffix-name

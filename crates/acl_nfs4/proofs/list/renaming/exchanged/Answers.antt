@@ -1,7 +1,7 @@
 use Rattle.acl_nfs4.proofs.Common.{[], Ace, ace, full, IsAccepted, List, map, subst, sym, ℕ, ◌++◌, ◌∷◌}
 use Rattle.acl_nfs4.specs.Renamed.{ace_by}
 use Rattle.acl_nfs4.specs.internal.NameMap.{name_for}
-use Rattle.acl_nfs4.proofs.list.Renamings.{exchange_fits, exchange_more}
+use Rattle.acl_nfs4.proofs.list.RenamedLists.{exchange_fits, exchange_more}
 use Rattle.acl_nfs4.proofs.list.renaming.exchanged.Goals as goal
 
 pub push_accepted-requires : goal.push_accepted-requires

@@ -1,7 +1,8 @@
 use Rattle.acl_nfs4.proofs.Common.{ace}
 use Rattle.acl_nfs4.specs.Renamed.{is_of_group, who_by}
 use Rattle.acl_nfs4.specs.internal.NameMap.{name_for}
-use Rattle.acl_nfs4.proofs.list.Renamings.{judging_more, judging_stops, put_as, tested}
+use Rattle.acl_nfs4.proofs.list.NameMaps.{put_as, tested}
+use Rattle.acl_nfs4.proofs.list.MergedNames.{judging_more, judging_stops}
 use Rattle.acl_nfs4.proofs.list.renaming.judge_merges.Goals as goal
 
 pub returns-then-is_another-clause-fault : goal.returns-then-is_another-clause-fault

@@ -1,5 +1,5 @@
 use Rattle.acl_nfs4.specs.internal.NameMap.{name_for}
-use Rattle.acl_nfs4.proofs.list.Renamings.{IsJudging}
+use Rattle.acl_nfs4.proofs.list.MergedNames.{IsJudging}
 use Rattle.acl_nfs4.proofs.list.renaming.judge_merges.Given as goal
 
 -- no name before the place becomes one with an earlier one, and the old names of the new ones are noted

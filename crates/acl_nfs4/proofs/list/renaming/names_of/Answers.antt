@@ -1,6 +1,6 @@
 use Rattle.acl_nfs4.proofs.Common.{sym, ◌∙◌}
 use Rattle.acl_nfs4.specs.internal.NameMap.{name_for}
-use Rattle.acl_nfs4.proofs.list.Renamings.{reading_more}
+use Rattle.acl_nfs4.proofs.list.RenamingTable.{reading_more}
 use Rattle.acl_nfs4.proofs.list.renaming.names_of.Goals as goal
 
 pub loop-place-preserved : goal.loop-place-preserved

@@ -1,6 +1,6 @@
 use Rattle.acl_nfs4.proofs.Common.{arith, sym, ◌∙◌}
 use Rattle.acl_nfs4.specs.UnknownGroups.{is_misnamed}
-use Rattle.acl_nfs4.proofs.xdr.StandIns.{place_is, place_none}
+use Rattle.acl_nfs4.proofs.xdr.FirstPassing.{place_is, place_none}
 use Rattle.acl_nfs4.proofs.xdr.unknown_groups.first_misnamed.Goals as goal
 
 pub returns-then-is_misnamed : goal.returns-then-is_misnamed

@@ -1,6 +1,6 @@
 use Rattle.acl_nfs4.proofs.Common.{arith, ace, map, sym, ◌∙◌}
 use Rattle.acl_nfs4.specs.UnknownGroups.{has_taken_name}
-use Rattle.acl_nfs4.proofs.xdr.StandIns.{place_is, place_none}
+use Rattle.acl_nfs4.proofs.xdr.FirstPassing.{place_is, place_none}
 use Rattle.acl_nfs4.proofs.xdr.unknown_groups.first_taken.Goals as goal
 
 pub returns-then-has_taken_name : goal.returns-then-has_taken_name

@@ -1,6 +1,6 @@
 use Rattle.acl_nfs4.proofs.Common.{eq-eqb, eqb-true, None, Some, sym, ℕ, ◌∙◌}
 use Rattle.std.proofs.lemmas.Slice.Eq.{strip_suffix_is}
-use Rattle.acl_nfs4.proofs.xdr.StandIns.{stands_in, stands_not}
+use Rattle.acl_nfs4.proofs.xdr.UnknownNames.{stands_in, stands_not}
 use Rattle.acl_nfs4.proofs.xdr.unknown_groups.has_stand_in.Goals as goal
 
 pub returns-in-Some : goal.returns-in-Some

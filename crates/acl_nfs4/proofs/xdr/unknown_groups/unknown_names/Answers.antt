@@ -1,7 +1,7 @@
 use Rattle.acl_nfs4.proofs.Common.{Bor, List, subst, sym, take, ℕ, ◌+◌, ◌∙◌}
 use Rattle.std.specs.BTreeSet.{BTreeSet}
 use Rattle.acl_nfs4.specs.internal.PartReading.{HasUnknownNames}
-use Rattle.acl_nfs4.proofs.xdr.StandIns.{names_more, names_stay}
+use Rattle.acl_nfs4.proofs.xdr.UnknownNames.{names_more, names_stay}
 use Rattle.acl_nfs4.proofs.xdr.unknown_groups.unknown_names.Goals as goal
 use Rattle.acl_nfs4.proofs.xdr.unknown_groups.unknown_names.Goals.{else-is_unknown, then-is_unknown+in_ok-insert}
 

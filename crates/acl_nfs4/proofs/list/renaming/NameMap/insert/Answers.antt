@@ -1,4 +1,4 @@
-use Rattle.acl_nfs4.proofs.list.Renamings.{put_group, put_user}
+use Rattle.acl_nfs4.proofs.list.NameMaps.{put_group, put_user}
 use Rattle.acl_nfs4.proofs.list.renaming.NameMap.insert.Goals as goal
 
 pub returns-in_ok-insert : goal.returns-in_ok-insert

@@ -1,7 +1,9 @@
 use Rattle.acl_nfs4.proofs.Exits.{exit_is}
 use Rattle.acl_nfs4.specs.Renamed.{rows}
 use Rattle.acl_nfs4.specs.internal.NameMap.{name_for}
-use Rattle.acl_nfs4.proofs.list.Renamings.{exchange_accepted, exchange_is, may_all, merge_fault, no_refused_merge, same_names}
+use Rattle.acl_nfs4.proofs.list.NameMaps.{same_names}
+use Rattle.acl_nfs4.proofs.list.MergedNames.{may_all, merge_fault, no_refused_merge}
+use Rattle.acl_nfs4.proofs.list.RenamedLists.{exchange_accepted, exchange_is}
 use Rattle.acl_nfs4.proofs.xdr.view.AclView.renamed.Goals as goal
 use Rattle.acl_nfs4.proofs.xdr.view.AclView.renamed.Goals.{then-not-may_merge+in_ok-judge_merges, else-not-may_merge}
 
