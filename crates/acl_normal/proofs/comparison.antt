@@ -32,12 +32,34 @@ pub mod Directions
 pub mod PairGrants
 -- the least number of a principal at which two lists do not grant the same, bit by bit
 pub mod RowFacts
+-- the greatest places of the placings that count, and whether one is over a number
+pub mod GreatestPlaces
+-- tables of the greatest places, as the code makes them
+pub mod PlaceTableLemmas
 -- tables that show which placings invert another
-pub mod TableFacts
--- the ACEs that have a right, and principals that none of them names
+pub mod Inverting
+-- the search for the first placing that passes a test, and for the first that inverts another
+pub mod FirstInverting
+-- the places of placings are within the lists
+pub mod PlacesWithin
+-- the ACEs of a list that have a right, and principals that none of these ACEs names
+pub mod UnnamedPrincipals
+-- the rights of the ACEs that name each principal, by its number
+pub mod RightsByNumber
+-- the numbers of the principals that have a right
+pub mod NumbersWithRight
+-- whom the ACEs with a right name, by new numbers
+pub mod RenumberedWhoms
+-- the columns of a right, as the code makes them
 pub mod ColumnLemmas
+-- the least number for which something does not hold, of rising numbers
+pub mod LeastNumber
+-- the first principals at which two lists differ on one right
+pub mod FoundOnRight
 -- the first principals at which two lists differ, right by right
-pub mod FirstPrincipalsLemmas
+pub mod FoundSoFar
+-- the first small set, of the first principals at which two lists differ on all rights
+pub mod FoundOnAll
 -- the first small set, by least numbers
 pub mod Assembly
 -- what a difference has to have, so that an object, a requester and a right can be made of it

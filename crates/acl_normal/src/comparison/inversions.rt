@@ -13,7 +13,7 @@ use std::alloc::{AllocError, Global};
 
 /// Returns the number of the first principal, below a limit, for whom alone the lists differ in the direction, or the
 /// limit.
-#[tactic(auto, using(crate::proofs::comparison::TableFacts::first_below))]
+#[tactic(auto, using(crate::proofs::comparison::FirstInverting::first_below))]
 pub(crate) fn first_unlike(direction: Direction, placings: &[Placing], limit: usize) -> usize
     requires { limit ≤ length placings.now }
     ensures { IsFirstBelow (is_unlike direction) placings.now limit result }
@@ -150,7 +150,7 @@ pub(crate) enum Side {
 }
 
 // Notes an opposing principal: raises the number after its place in one list to one more than its place in the other.
-#[tactic(auto, using(crate::proofs::comparison::TableFacts::raising))]
+#[tactic(auto, using(crate::proofs::comparison::PlaceTableLemmas::raising))]
 fn raise(table: &mut Vec<usize>, placing: Placing, selection: Selection, side: Side)
     requires within { place_of side placing + 1 < vec_len table.old }
     requires small { other_place side placing < slice_limit }
@@ -200,7 +200,7 @@ fn is_selected(placing: Placing, selection: Selection) -> bool
 }
 
 /// Returns the number of the first of the others, below a limit, that the principal inverts, or the limit.
-#[tactic(auto, using(crate::proofs::comparison::TableFacts::first_below))]
+#[tactic(auto, using(crate::proofs::comparison::FirstInverting::first_below))]
 pub(crate) fn first_inverted(
     direction: Direction,
     placing: Placing,

@@ -1,5 +1,5 @@
 use Rattle.acl_normal.proofs.Common.{arith, Nobody, refl, slice_index_or, slice_set, subst, sym, vec_len}
-use Rattle.acl_normal.proofs.comparison.ColumnLemmas.{add_at, adds_none, adds_one, whom_in}
+use Rattle.acl_normal.proofs.comparison.RightsByNumber.{add_at, adds_none, adds_one, whom_in}
 use Rattle.acl_normal.proofs.comparison.columns.add_rights.Goals as goal
 use Rattle.acl_normal.proofs.comparison.columns.add_rights.Goals.{in-One, in_default}
 use Rattle.acl_normal.specs.internal.comparison.Columns.{AddsTo}

@@ -1,5 +1,5 @@
 use Rattle.acl_normal.proofs.Common.{refl, sym, ◌∙◌}
-use Rattle.acl_normal.proofs.comparison.ColumnLemmas.{numbers_more, numbers_skip}
+use Rattle.acl_normal.proofs.comparison.NumbersWithRight.{numbers_more, numbers_skip}
 use Rattle.acl_normal.proofs.comparison.columns.numbers_with.Goals as goal
 use Rattle.acl_normal.proofs.comparison.columns.numbers_with.Goals.{then-is_in+in_ok-push, else-is_in}
 

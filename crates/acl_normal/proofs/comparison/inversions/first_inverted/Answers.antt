@@ -1,4 +1,4 @@
-use Rattle.acl_normal.proofs.comparison.TableFacts.{passed_below}
+use Rattle.acl_normal.proofs.comparison.FirstInverting.{passed_below}
 use Rattle.acl_normal.proofs.comparison.inversions.first_inverted.Goals as goal
 use Rattle.acl_normal.specs.internal.comparison.FirstPlaces.{inverts}
 

@@ -1,5 +1,5 @@
 use Rattle.acl_normal.proofs.Common.{IfOk-weaker, inverts_any}
-use Rattle.acl_normal.proofs.comparison.TableFacts.{first_of_four}
+use Rattle.acl_normal.proofs.comparison.FirstInverting.{first_of_four}
 use Rattle.acl_normal.proofs.comparison.inversions.first_inverting.Goals as goal
 use Rattle.acl_normal.specs.internal.comparison.FirstPlaces.{IsFirstBelow}
 use Rattle.acl_normal.specs.internal.comparison.PlaceTables.{IsFirstOf, selection_of}

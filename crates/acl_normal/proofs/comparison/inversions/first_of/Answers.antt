@@ -4,7 +4,7 @@ use Rattle.std.proofs.lemmas.Bool.{false≢true}
 use Rattle.std.proofs.lemmas.Iterator.{YieldsList-from_slice, cases_from_any}
 use Rattle.acl_normal.proofs.Common.{is_selected, no_placing}
 use Rattle.acl_normal.proofs.comparison.inversions.first_of.Goals as goal
-use Rattle.acl_normal.proofs.comparison.TableFacts.{first_selected, near_end, near_is, not_selected}
+use Rattle.acl_normal.proofs.comparison.FirstInverting.{first_selected, near_end, near_is, not_selected}
 use Rattle.acl_normal.specs.internal.comparison.PlaceTables.{is_inverting}
 
 pub returns-then-not-any : goal.returns-then-not-any

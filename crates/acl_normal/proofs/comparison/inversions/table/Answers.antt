@@ -1,7 +1,7 @@
 use Rattle.std.proofs.Common.{arith, ap, slice_set, subst}
 use Rattle.acl_normal.proofs.Common.{refl, sym, take_all}
 use Rattle.acl_normal.proofs.comparison.inversions.table.Goals as goal
-use Rattle.acl_normal.proofs.comparison.TableFacts.{scatter_more, scatter_start, summed_done, summed_more, summed_start, unwanted}
+use Rattle.acl_normal.proofs.comparison.PlaceTableLemmas.{scatter_more, scatter_start, summed_done, summed_more, summed_start, unwanted}
 use Rattle.acl_normal.specs.internal.comparison.PlaceTables.{IsScattered}
 
 pub returns-then-not-wants : goal.returns-then-not-wants

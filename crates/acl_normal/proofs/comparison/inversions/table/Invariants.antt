@@ -1,6 +1,6 @@
 use Rattle.std.specs.Prelude.{take}
 use Rattle.acl_normal.proofs.comparison.inversions.table.Given as goal
-use Rattle.acl_normal.proofs.comparison.TableFacts.{IsSummed}
+use Rattle.acl_normal.proofs.comparison.PlaceTableLemmas.{IsSummed}
 use Rattle.acl_normal.specs.internal.comparison.PlaceTables.{IsScattered}
 
 abbrev pub invariant-loop-placing : goal.invariant-loop-placing

@@ -1,5 +1,7 @@
 use Rattle.acl_normal.proofs.Common.{aces_in, all_mentioned, ap, AreWhoms, length, map, principals, subst, sym, ◌∙◌, ◌≡◌}
-use Rattle.acl_normal.proofs.comparison.ColumnLemmas.{columns_made, numbers_below, whoms_within}
+use Rattle.acl_normal.proofs.comparison.RightsByNumber.{whoms_within}
+use Rattle.acl_normal.proofs.comparison.NumbersWithRight.{numbers_below}
+use Rattle.acl_normal.proofs.comparison.ColumnLemmas.{columns_made}
 use Rattle.acl_normal.proofs.comparison.FirstPlaceLemmas.{whoms_length}
 use Rattle.acl_normal.proofs.comparison.list_pair.ListPair.columns.Goals as goal
 use Rattle.acl_normal.specs.internal.comparison.Columns.{AreColumnsOf, AreRightsByNumber, all_renumbered}

@@ -1,5 +1,5 @@
 use Rattle.acl_normal.proofs.Common.{arith, sym, ◌∙◌}
-use Rattle.acl_normal.proofs.comparison.FirstPrincipalsLemmas.{found_nobody, found_one, found_two}
+use Rattle.acl_normal.proofs.comparison.FoundOnAll.{found_nobody, found_one, found_two}
 use Rattle.acl_normal.proofs.comparison.list_pair.ListPair.first_set.Goals as goal
 
 pub returns-then-found-count-clause-found : goal.returns-then-found-count-clause-found

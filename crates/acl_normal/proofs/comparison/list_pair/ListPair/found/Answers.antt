@@ -1,4 +1,4 @@
-use Rattle.acl_normal.proofs.comparison.FirstPrincipalsLemmas.{found_done, found_more, found_skip, nothing_found}
+use Rattle.acl_normal.proofs.comparison.FoundSoFar.{found_done, found_more, found_skip, nothing_found}
 use Rattle.acl_normal.proofs.comparison.list_pair.ListPair.found.Goals as goal
 use Rattle.acl_normal.proofs.comparison.list_pair.ListPair.found.Goals.{then-is_in+in_ok-next+else-is_before, then-is_in+in_ok-next+then-is_before, else-is_in}
 use Rattle.acl_normal.proofs.Common.{bits_from_mask, refl, subst, sym, ◌∙◌, ◌≡◌}

@@ -1,4 +1,4 @@
-use Rattle.acl_normal.proofs.comparison.FirstPrincipalsLemmas.{IsFoundBelow}
+use Rattle.acl_normal.proofs.comparison.FoundSoFar.{IsFoundBelow}
 use Rattle.acl_normal.proofs.comparison.list_pair.ListPair.found.Given as goal
 
 abbrev pub invariant-loop-bit : goal.invariant-loop-bit

@@ -1,5 +1,5 @@
 use Rattle.acl_normal.proofs.Common.{ap, arith, drop, length, refl, subst, sym, TwoLists, ◌+◌, ◌∙◌}
-use Rattle.acl_normal.proofs.comparison.FirstPrincipalsLemmas.{found_nothing, found_pair, found_single, none_unlike, within_columns}
+use Rattle.acl_normal.proofs.comparison.FoundOnRight.{found_nothing, found_pair, found_single, none_unlike, within_columns}
 use Rattle.acl_normal.proofs.comparison.list_pair.ListPair.found_on.Goals as goal
 use Rattle.acl_normal.specs.internal.comparison.Columns.{IsNumberOr}
 use Rattle.acl_normal.specs.internal.comparison.FirstPlaces.{IsFirstBelow, is_unlike}

@@ -1,5 +1,5 @@
 use Rattle.acl_normal.proofs.Common.{ace, aces_in, ap, AreWhoms, arith, length, length-map, principal, principals, subst, sym}
-use Rattle.acl_normal.proofs.comparison.ColumnLemmas.{rights_by_number, whoms_within}
+use Rattle.acl_normal.proofs.comparison.RightsByNumber.{rights_by_number, whoms_within}
 use Rattle.acl_normal.proofs.comparison.FirstPlaceLemmas.{whoms_length}
 use Rattle.acl_normal.proofs.comparison.list_pair.ListPair.rights_by_number.Goals as goal
 use Rattle.acl_normal.specs.internal.comparison.Columns.{AddRights, AreRightsByNumber}
