@@ -156,6 +156,14 @@ strangers_out f s g want is has = has (alone (group g)) (alone_matching (group g
   λ id h. out_differs (group g) (group id) s refl h,
 )
 
+-- the same for the group of an entry of the shape, by any name of the group and of OTHER
+granted_alone : (f : Granting) (s : EntryShape) (g k want : ℕ) (e : Tag) → HasIds s → is_in_shape s (group g) ≡ true
+    → (k == g) ≡ true → e ≡ other → HasAlways f (taken_out (group g) s) e want → f want (alone (group k))
+granted_alone f s g k want e ids there same is without =
+    subst (λ (n : ℕ). f want (alone (group n))) (sym (eqb-true k g same))
+    (strangers_out f s g want (ids.groups g there)
+    (subst (λ (t : Tag). HasAlways f (taken_out (group g) s) t want) is without))
+
 -- what OTHER has in a shape, it grants to somebody with other groups of the shape, if strangers in each are granted it
 other_kept : (f : Granting) (want : ℕ) (m : Matching) (b final : EntryShape) → OneGroupDenies f → IsMatching m
     → IsPerm want → Looks final m other → IsRest b.users m → HasAlways f b other want
@@ -220,9 +228,7 @@ both_match f s (user u) (group g) e want m denies ids ok small differ nx ny ix i
     kept_at f want m (taken_out (user u) s) (taken_out (user u) (taken_out (group g) s)) e denies ok small shared
     (wider (user u) (group g) s e stays) l (looks_rest (taken_out (user u) (taken_out (group g) s)) m e shared l)
     without_x (λ is k mk there. elim (cases_Bool (k == g)) [
-      | inl same ↦ subst (λ (n : ℕ). f want (alone (group n))) (sym (eqb-true k g same))
-          (strangers_out f s g want (ids.groups g iy)
-          (subst (λ (t : Tag). HasAlways f (taken_out (group g) s) t want) is without_y))
+      | inl same ↦ granted_alone f s g k want e ids iy same is without_y
       | inr apart ↦ absurd (true≢false (sym mk
           ∙ (subst (λ (t : Tag). Looks (taken_out (user u) (taken_out (group g) s)) m t) is l).2 k
           (but_keeps k g s.groups there apart)))
@@ -234,9 +240,7 @@ both_match f s (group g) (user u) e want m denies ids ok small differ nx ny ix i
     (out_part (group g) (taken_out (user u) s)) stays) l
     (looks_rest (taken_out (group g) (taken_out (user u) s)) m e shared l)
     without_y (λ is k mk there. elim (cases_Bool (k == g)) [
-      | inl same ↦ subst (λ (n : ℕ). f want (alone (group n))) (sym (eqb-true k g same))
-          (strangers_out f s g want (ids.groups g ix)
-          (subst (λ (t : Tag). HasAlways f (taken_out (group g) s) t want) is without_x))
+      | inl same ↦ granted_alone f s g k want e ids ix same is without_x
       | inr apart ↦ absurd (true≢false (sym mk
           ∙ (subst (λ (t : Tag). Looks (taken_out (group g) (taken_out (user u) s)) m t) is l).2 k
           (but_keeps k g s.groups there apart)))
@@ -249,13 +253,9 @@ both_match f s (group g) (group h) e want m denies ids ok small differ nx ny ix 
     (out_part (group g) (taken_out (group h) s)) stays)) l
     (looks_rest (taken_out (group g) (taken_out (group h) s)) m e shared l)
     has (λ is k mk there. elim (cases_Bool (k == g)) [
-      | inl same ↦ subst (λ (n : ℕ). f want (alone (group n))) (sym (eqb-true k g same))
-          (strangers_out f s g want (ids.groups g ix)
-          (subst (λ (t : Tag). HasAlways f (taken_out (group g) s) t want) is without_x))
+      | inl same ↦ granted_alone f s g k want e ids ix same is without_x
       | inr apart ↦ elim (cases_Bool (k == h)) [
-        | inl same ↦ subst (λ (n : ℕ). f want (alone (group n))) (sym (eqb-true k h same))
-            (strangers_out f s h want (ids.groups h iy)
-            (subst (λ (t : Tag). HasAlways f (taken_out (group h) s) t want) is without_y))
+        | inl same ↦ granted_alone f s h k want e ids iy same is without_y
         | inr far ↦ absurd (true≢false (sym mk
             ∙ (subst (λ (t : Tag). Looks (taken_out (group g) (taken_out (group h) s)) m t) is l).2 k
             (but_keeps k g (shape_without h s.groups) (but_keeps k h s.groups there far) apart)))
