@@ -5,5 +5,4 @@ mod bounds;
 mod examples;
 mod harness;
 mod losses;
-mod names;
 mod pruning;
