@@ -1,7 +1,7 @@
 /* aclck.h: access control lists of NFSv4 and POSIX, checked, converted and compared, for C99 and C++.
  *
- * Every call is proved to keep its contract. docs/proofs/contracts.md says what is proved, and man/libaclck.3 explains
- * the calls. These rules hold for all calls:
+ * Each function of the library is proved to keep its contract, which docs/proofs/contracts.md describes. The inline
+ * functions of this header are only tested. man/libaclck.3 explains the calls. These rules hold for all calls:
  *
  * - A call returns ACLCK_DONE, which is 0, if its answer is written, and another number of `enum aclck_status` if it
  *   failed. So `if (aclck_...(...))` means "it failed". No status is an answer: answers are written through pointers.
@@ -31,8 +31,8 @@
 #include <stddef.h>
 #include <stdint.h>
 
-/* What compilers are told, where they can be: a status must be looked at, no pointer is NULL, and which argument,
-   counted from 1, is read or written through its pointer. */
+/* Attributes for compilers that have them: a status must be looked at, no pointer is NULL, and which argument, counted
+   from 1, is read or written through its pointer. */
 #ifdef __has_attribute
 #if __has_attribute(warn_unused_result)
 #define ACLCK_MUST_USE __attribute__((warn_unused_result))
@@ -490,7 +490,7 @@ typedef struct aclck_posix_difference {
 } aclck_posix_difference;
 
 /* What an NFSv4 list grants and its POSIX ACL denies. `exact` is 1 if there is nothing: the ACL grants read, write and
-   execute, each alone, exactly where the list does. Otherwise it is 0, and a user who is in `ngroups` groups, at most
+   execute, each alone, if and only if the list does. Otherwise it is 0, and a user who is in `ngroups` groups, at most
    three, is granted `want` on an object of this owner and group by the list, and denied it by the ACL. What is not used
    is 0. */
 typedef struct aclck_posix_loss {
