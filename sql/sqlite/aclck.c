@@ -13,7 +13,7 @@ enum { HELD = 4 };
 
 struct function;
 
-/* A call of a function of SQL: its arguments, the memory that it holds, and whether an error is told. */
+/* A call of a function of SQL: its arguments, the memory that it holds, and whether an error is reported. */
 struct call {
     sqlite3_context *context;
     sqlite3_value **values;
@@ -36,7 +36,7 @@ struct function {
 
 /* ---- errors */
 
-/* Tells an error, if none is told yet. */
+/* Reports an error, if none is reported yet. */
 static void fail(struct call *call, const char *first, const char *second) {
     char *text;
     if (call->failed)
@@ -63,7 +63,7 @@ static void refused(struct call *call, const aclck_fault *fault, enum source sou
     fail(call, what, reason.text);
 }
 
-/* Returns whether a call of the library is done. If it is not, tells the error. */
+/* Returns whether a call of the library is done. If it is not, reports the error. */
 static int is_done(struct call *call, enum aclck_status status, const aclck_fault *fault, enum source source) {
     if (status == ACLCK_REFUSED)
         refused(call, fault, source);

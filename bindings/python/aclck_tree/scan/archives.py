@@ -142,7 +142,7 @@ class _Reader:
 
 
 class _Front:
-    """What stands in front of the header of a member."""
+    """What is in front of the header of a member."""
 
     def __init__(self) -> None:
         self.kinds = b""  # of the headers
