@@ -7,7 +7,7 @@ import functools
 import itertools
 import os
 from collections import Counter
-from typing import Dict, Iterable, Iterator, NamedTuple, Optional, Tuple, Union
+from typing import Dict, Iterable, Iterator, List, NamedTuple, Optional, Tuple, Union
 
 from aclck import mask_text
 
@@ -22,7 +22,7 @@ from aclck_tree.output.errors import NO, REFUSED, YES
 from aclck_tree.output.text import Form, ObjectName, ObjectNamer, Output, Row, name_in, plural, quoted, table, tell
 from aclck_tree.people.people import Person
 from aclck_tree.snapshot.selecting import Counted, Paths, beginnings, count_by, counted, find, selected
-from aclck_tree.snapshot.snapshot import Tree
+from aclck_tree.snapshot.snapshot import Face, Tree
 
 
 def left_out(asker: Asker, faces: Iterable[int]) -> str:
@@ -280,34 +280,51 @@ def why(args: argparse.Namespace) -> int:
     if wanted:
         found = [*(one for one in found if _is_asked(one.right, wanted)), *why_request(asker, face, person, wanted)]
     out.note(f"{name.words()}: owner {quoted(owner)}, group {quoted(group)}")
-    if args.form == "text":
-        lines = [(one.right, one.answer.value, _place(one), one.text) for one in found]
-        for line in table(lines, right=[2]):
-            out.note(line)
-    for one in found if args.form != "text" else []:
-        out.put(_why_row(one, name.host, None))
-    if not asker.options.linux and asker.is_other_on_linux(face.list):
-        linux = Asker(snapshot, [person], AskOptions(asker.options.domain, True))
-        others = why_of(linux, face, person)
-        if not isinstance(others, RefusedList) and args.form == "text" and any(
-                one.right == other.right and one.answer is not other.answer for one in found for other in others):
-            out.note("Linux answers otherwise, because the mask is empty (--linux)")
+    _write_reasons(args, out, found, name.host)
+    _note_linux(args, out, asker, face, person, found)
     stop, is_root = stopped(asker, tree, path, person)
     tell_above(asker, [tree.tree])
     if is_root and args.form == "text":
         out.note(f"{quoted(person.name)} is counted as root: {AS_ROOT}")
     if stop:
-        at, one = stop
-        verb = "stops" if one.answer is DENIED else "may stop"
-        if args.form == "text":
-            place = "" if one.place is None else f" {one.place}"
-            out.note(f"{name._replace(path=at).words()} {verb} {quoted(person.name)}: {one.right} {one.answer.value}"
-                     f"{place}: {one.text}")
-        else:
-            out.put(_why_row(one, name.host, at))
+        _write_stop(args, out, name, person, stop)
     answers = {one.answer for one in found} | ({stop[1].answer} if stop else set())
     is_known = answers.isdisjoint((UNKNOWN, Answer.REFUSED))
     return status_of(REFUSED if not is_known else NO if DENIED in answers else YES, snapshot)
+
+
+def _write_reasons(args: argparse.Namespace, out: Output, found: List[Why], host: Optional[str]) -> None:
+    """Writes what decides about each right, as a table or as rows."""
+    if args.form == "text":
+        lines = [(one.right, one.answer.value, _place(one), one.text) for one in found]
+        for line in table(lines, right=[2]):
+            out.note(line)
+    for one in found if args.form != "text" else []:
+        out.put(_why_row(one, host, None))
+
+
+def _note_linux(args: argparse.Namespace, out: Output, asker: Asker, face: Face, person: Person,
+                found: List[Why]) -> None:
+    """Notes that Linux answers otherwise than acl(5), if it does and was not asked."""
+    if not asker.options.linux and asker.is_other_on_linux(face.list):
+        linux = Asker(asker.snapshot, [person], AskOptions(asker.options.domain, True))
+        others = why_of(linux, face, person)
+        if not isinstance(others, RefusedList) and args.form == "text" and any(
+                one.right == other.right and one.answer is not other.answer for one in found for other in others):
+            out.note("Linux answers otherwise, because the mask is empty (--linux)")
+
+
+def _write_stop(args: argparse.Namespace, out: Output, name: ObjectName, person: Person,
+                stop: Tuple[bytes, Why]) -> None:
+    """Writes which directory above the object stops the person."""
+    at, one = stop
+    verb = "stops" if one.answer is DENIED else "may stop"
+    if args.form == "text":
+        place = "" if one.place is None else f" {one.place}"
+        out.note(f"{name._replace(path=at).words()} {verb} {quoted(person.name)}: {one.right} {one.answer.value}"
+                 f"{place}: {one.text}")
+    else:
+        out.put(_why_row(one, name.host, at))
 
 
 def _place(one: Why) -> str:
