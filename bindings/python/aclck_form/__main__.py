@@ -16,7 +16,7 @@ from aclck_tree import VERSION
 from aclck_tree.output.errors import DEVICE, REFUSED, YES, DeviceError, TreeError, UsageError
 from aclck_tree.output.text import quoted, quoted_line
 
-from .accounts import System, Table, exchanged, ids_of_names, names_of_ids
+from .accounts import SystemIds, Table, exchanged, ids_of_names, names_of_ids
 from .values import (BYTES, NFS, OF_DEFAULT, POSIX, TOOLS, WITH_FLAGS, WITH_IDS, WITH_NAMES, WITH_PARTS, read_nfs,
                      read_part, read_posix, style_of, written_nfs, written_posix)
 
@@ -154,7 +154,7 @@ def _renames(args: argparse.Namespace) -> bool:
 
 def _converted(args: argparse.Namespace, data: bytes) -> bytes:
     """Returns the value in the form TO. Raises Refused and TreeError."""
-    accounts = None if not args.exchanges else System() if args.system else Table(_names(args.names))
+    accounts = None if not args.exchanges else SystemIds() if args.system else Table(_names(args.names))
     left_out: List[LeftOut] = []
     if args.source in POSIX:
         posix = _read_posix(args, _short(data), accounts)
@@ -172,7 +172,7 @@ def _converted(args: argparse.Namespace, data: bytes) -> bytes:
     return written_nfs(args.target, acl, kept, args.kind)
 
 
-def _read_posix(args: argparse.Namespace, data: bytes, accounts: Optional[System]) -> PosixAcl:
+def _read_posix(args: argparse.Namespace, data: bytes, accounts: Optional[SystemIds]) -> PosixAcl:
     """Returns the POSIX list of a value, and reports the entries for which TO has no place."""
     style = style_of(args.source)
     names = ids_of_names(data, accounts, style) if accounts and args.source in WITH_NAMES else ()
@@ -184,7 +184,7 @@ def _read_posix(args: argparse.Namespace, data: bytes, accounts: Optional[System
     return posix
 
 
-def _written_posix(args: argparse.Namespace, posix: PosixAcl, accounts: Optional[System]) -> bytes:
+def _written_posix(args: argparse.Namespace, posix: PosixAcl, accounts: Optional[SystemIds]) -> bytes:
     """Returns the value of a POSIX list. In the text of an archive, ids have the names of the accounts."""
     entries = [entry for entry in posix if entry.default == (args.target in OF_DEFAULT)]
     return written_posix(args.target, posix, names_of_ids(entries, accounts) if accounts else ())

@@ -24,7 +24,7 @@ _LARGEST = 4294967294
 Name = Union[str, bytes]
 
 
-class System:
+class SystemIds:
     """The accounts of this system."""
 
     def number_of(self, is_group: bool, name: bytes) -> Optional[int]:
@@ -41,7 +41,7 @@ class System:
         return None
 
 
-class Table(System):
+class Table(SystemIds):
     """The names and the ids of a file: a line `u:NAME=ID` for a user, and `g:NAME=ID` for a group."""
 
     def __init__(self, data: bytes) -> None:
@@ -65,7 +65,7 @@ class Table(System):
         return self._names.get((is_group, number))
 
 
-def exchanged(acl: NfsAcl, accounts: System, to_ids: bool, suffix: bytes) -> NfsAcl:
+def exchanged(acl: NfsAcl, accounts: SystemIds, to_ids: bool, suffix: bytes) -> NfsAcl:
     """Returns the list with ids in place of the names that end with the suffix, or with such names in place of ids.
     What the accounts do not have stays, and so does a name of digits alone, which is an id.
 
@@ -87,17 +87,17 @@ def exchanged(acl: NfsAcl, accounts: System, to_ids: bool, suffix: bytes) -> Nfs
     return acl.renamed(*tables)
 
 
-class _Spelled(System):
+class _Spelled(SystemIds):
     """Accounts by their names as a text has them."""
 
-    def __init__(self, accounts: System, style: TarStyle) -> None:
+    def __init__(self, accounts: SystemIds, style: TarStyle) -> None:
         self._accounts, self._style = accounts, style
 
     def number_of(self, is_group: bool, name: bytes) -> Optional[int]:
         return self._accounts.number_of(is_group, os.fsencode(unspelled(os.fsdecode(name), self._style)))
 
 
-def ids_of_names(text: bytes, accounts: System, style: TarStyle) -> Iterator[NamedId]:
+def ids_of_names(text: bytes, accounts: SystemIds, style: TarStyle) -> Iterator[NamedId]:
     """Yields the names that a text of a POSIX list has and the accounts know. Raises TreeError if a name and an id are
     not each other's only one."""
     for word, number, is_group in accounts_in(text, _Spelled(accounts, style)):
@@ -107,7 +107,7 @@ def ids_of_names(text: bytes, accounts: System, style: TarStyle) -> Iterator[Nam
         yield name, number, is_group
 
 
-def names_of_ids(entries: Iterable[Entry], accounts: System) -> Iterator[NamedId]:
+def names_of_ids(entries: Iterable[Entry], accounts: SystemIds) -> Iterator[NamedId]:
     """Yields the names that the accounts have for the ids of entries, but for those of digits alone. Raises TreeError
     if a name and an id are not each other's only one."""
     for is_group, number in sorted({(entry.tag == "group", entry.id) for entry in entries if entry.id is not None}):

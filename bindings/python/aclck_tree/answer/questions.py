@@ -34,7 +34,7 @@ def left_out(asker: Asker, faces: Iterable[int]) -> str:
     return f"; {plural(sum(numbers), 'AUDIT or ALARM ACE')} left out of {plural(len(numbers), 'list')}"
 
 
-Found = Union[RefusedList, Answers]
+Outcome = Union[RefusedList, Answers]
 
 
 class Basis(NamedTuple):
@@ -44,7 +44,7 @@ class Basis(NamedTuple):
     above: Optional[Answers]
 
 
-class Question:
+class ObjectsQuestion:
     """What `who` and `may` ask about the objects of a snapshot that a pattern selects."""
 
     def __init__(self, asker: Asker, want: Want, glob: Optional[str], is_reach: bool) -> None:
@@ -53,7 +53,7 @@ class Question:
         self.glob = glob
         self.is_reach = is_reach
         self.naming = ObjectNamer(asker.snapshot)
-        self._own: Dict[int, Found] = {}
+        self._own: Dict[int, Outcome] = {}
 
     def _objects(self) -> Iterator[Tuple[int, bytes, int, Optional[Answers]]]:
         """Returns the tree, the path below its root and the face of each object, and with --reach who gets past the
@@ -77,13 +77,13 @@ class Question:
         keys = (((face, above), tree, path) for tree, path, face, above in self._objects())
         return {Basis(*key): one for key, one in count_by(snapshot, keys).items()}
 
-    def own(self, face: int) -> Found:
+    def own(self, face: int) -> Outcome:
         """Returns whom the list of a face grants what is asked."""
         if face not in self._own:
             self._own[face] = self.asker.answers(self.asker.faces[face], self.want)
         return self._own[face]
 
-    def found(self, basis: Basis) -> Found:
+    def found(self, basis: Basis) -> Outcome:
         """Returns whom what is asked is granted: by the list, and with --reach by the directories above too."""
         own = self.own(basis.face)
         if isinstance(own, RefusedList) or basis.above is None:
@@ -126,7 +126,7 @@ class Question:
         if not is_asked and not any(map(self.asker.is_other_on_linux, held)):
             return ""
         plain = Asker(self.asker.snapshot, self.asker.people, AskOptions(options.domain, not options.linux))
-        other = Question(plain, self.want, self.glob, self.is_reach)
+        other = ObjectsQuestion(plain, self.want, self.glob, self.is_reach)
         pairs = {(basis, basis): count for basis, count in counts.items()}
         if self.is_reach:
             pairs = Counter((mine, its) for (_, mine), (_, its) in zip(self.objects(), other.objects()))
@@ -151,7 +151,7 @@ def who(args: argparse.Namespace) -> int:
     """Writes which of the people may do what is asked, for each object or for each class of objects."""
     snapshot = opened(args, args.snapshot)
     people = people_of(args, snapshot)
-    question = Question(asker_of(args, snapshot, people), want_of(args.may, args.any), args.path, args.reach)
+    question = ObjectsQuestion(asker_of(args, snapshot, people), want_of(args.may, args.any), args.path, args.reach)
     counts, tally = question.counts(), Tally()
     for basis, one in counts.items():
         found = question.found(basis)
@@ -176,7 +176,7 @@ def who(args: argparse.Namespace) -> int:
     return status_of(tally.status(snapshot), snapshot)
 
 
-def _who_row(question: Question, basis: Basis) -> Row:
+def _who_row(question: ObjectsQuestion, basis: Basis) -> Row:
     found, people = question.found(basis), question.asker.people
     if isinstance(found, RefusedList):
         return {"granted": [], "unknown": [], "special": "", "refused": found.reason}
@@ -199,7 +199,7 @@ def _name(name: str) -> str:
     return f"'{name}'" if name in ("nobody", "refused") else quoted(name)
 
 
-def _who_classes(out: Output, question: Question, counts: Dict[Basis, Counted]) -> None:
+def _who_classes(out: Output, question: ObjectsQuestion, counts: Dict[Basis, Counted]) -> None:
     """Writes a line for each class of objects with the same answers. The names are made for one line at a time."""
     classes: Dict[Tuple[Union[Answers, str], str], Tuple[Counted, Basis]] = {}
     for basis, one in counts.items():
@@ -221,7 +221,7 @@ def may(args: argparse.Namespace) -> int:
     """Writes on which objects one user is granted what is asked."""
     snapshot = opened(args, args.snapshot)
     asker = asker_of(args, snapshot, [person_of(args, snapshot)])
-    question = Question(asker, want_of(args.may, args.any), args.path, args.reach)
+    question = ObjectsQuestion(asker, want_of(args.may, args.any), args.path, args.reach)
     answers: Dict[Basis, Tuple[Answer, str]] = {}
     counts: Dict[Basis, int] = {}
     without_ids = 0
@@ -246,7 +246,7 @@ def may(args: argparse.Namespace) -> int:
     return status_of(tally.status(snapshot), snapshot)
 
 
-def _may_answer(question: Question, basis: Basis) -> Tuple[Answer, str]:
+def _may_answer(question: ObjectsQuestion, basis: Basis) -> Tuple[Answer, str]:
     """Returns the answer for the one user, and why it is none."""
     found = question.found(basis)
     if isinstance(found, RefusedList):

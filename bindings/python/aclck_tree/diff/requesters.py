@@ -37,7 +37,7 @@ class Whom(NamedTuple):
         return [quoted(self.name)] if self.name and self.words in ("", "user") else [] if self.name else [self.words]
 
 
-class Requester(NamedTuple):
+class ComparedRequester(NamedTuple):
     """Who is asked about, with the identity on each side."""
 
     whom: Whom
@@ -54,7 +54,7 @@ class Requester(NamedTuple):
 Effect = Tuple[int, int, int]
 """The rights gained, the rights lost, and those of which it is not known."""
 
-Affected = Tuple[Requester, Effect]
+Affected = Tuple[ComparedRequester, Effect]
 """A requester for whom something differs."""
 
 _NO_EFFECT: Effect = (0, 0, 0)
@@ -83,7 +83,8 @@ def _in_each(found: Sequence[Optional[Granted]]) -> Optional[Granted]:
     return Granted(sure, maybe)
 
 
-def _effect(question: Comparison, row: Requester, one: Granted, other: Granted, alike: Optional[ListPair]) -> Effect:
+def _effect(question: Comparison, row: ComparedRequester, one: Granted, other: Granted,
+            alike: Optional[ListPair]) -> Effect:
     """Returns what differs for a row. A right is known only if it is granted in all cases of a side or in none. Of
     rights that depend on special names on both sides, it is asked whether they do so alike."""
     gained, lost = other.sure & ~one.maybe, one.sure & ~other.maybe
@@ -98,7 +99,7 @@ def _effect(question: Comparison, row: Requester, one: Granted, other: Granted, 
 class PairedRequesters:
     """Requesters who are asked about many objects: two crowds, or one if both sides name all of them alike."""
 
-    def __init__(self, rows: Sequence[Requester]) -> None:
+    def __init__(self, rows: Sequence[ComparedRequester]) -> None:
         self._rows = rows
         old, new = [row.old for row in rows], [row.new for row in rows]
         self.have_moved = old != new
@@ -149,7 +150,7 @@ def paired_people(old: Side, new: Side, question: Comparison) -> PairedRequester
             if _known(question.old, before[name]) != _known(question.new, after[name]):
                 sides[0] = Missing.OTHER_ID
         note = "is new" if name not in before else "is gone" if name not in after else ""
-        rows.append(Requester(Whom("", name), sides[0], sides[1], note))
+        rows.append(ComparedRequester(Whom("", name), sides[0], sides[1], note))
     return PairedRequesters(rows)
 
 
@@ -163,7 +164,7 @@ def _known(place: Optional[Place], person: Person) -> object:
         place.side.asker.ids(person, name, is_group, place.face.tree) or (name,)))
 
 
-def mentioned(question: Comparison) -> List[Requester]:
+def mentioned(question: Comparison) -> List[ComparedRequester]:
     """Returns a row for the owner, the group, and each user and group that a list mentions, with those first about whom
     the lists differ, and one for anybody else at the end. Lists of two kinds have no names in common.
 
@@ -187,24 +188,24 @@ def mentioned(question: Comparison) -> List[Requester]:
                 for is_group, who in dict.fromkeys((ace.is_group, ace.who) for ace in form
                                                    if (ace in unlike) == are_unlike and ace.who not in others):
                     rows.append(_row(question, place, "member of" if is_group else "user", is_group, who))
-    rows.append(Requester(Whom("anybody else"), *question.each(False, lambda place: place.stranger())))
-    found: Dict[Tuple[IdentityOrMissing, IdentityOrMissing], Requester] = {}
+    rows.append(ComparedRequester(Whom("anybody else"), *question.each(False, lambda place: place.stranger())))
+    found: Dict[Tuple[IdentityOrMissing, IdentityOrMissing], ComparedRequester] = {}
     for row in rows:
         found.setdefault((row.old, row.new), row)
     return list(found.values())
 
 
-def _owners(question: Comparison, is_group: bool) -> Iterator[Requester]:
+def _owners(question: Comparison, is_group: bool) -> Iterator[ComparedRequester]:
     """Yields a row for the owner or for a member of the group, or two if these changed."""
     if question.on or len(question.places()) == 1 or is_same_owner(question, is_group):
-        yield Requester(Whom("a member of its group" if is_group else "its owner"),
-                        *question.each(is_group, lambda place: place.owner(is_group)))
+        yield ComparedRequester(Whom("a member of its group" if is_group else "its owner"),
+                                *question.each(is_group, lambda place: place.owner(is_group)))
     elif len({place.kind for place in question.places()}) == 1:
         for place in question.places():
             yield _row(question, place, "member of group" if is_group else "owner", is_group, place.owner(is_group))
 
 
-def _row(question: Comparison, place: Place, words: str, is_group: bool, who: str) -> Requester:
+def _row(question: Comparison, place: Place, words: str, is_group: bool, who: str) -> ComparedRequester:
     """Makes the row for a who of the list of one side."""
     sides = question.each(is_group, lambda other: who_at(place, other, is_group, who))
-    return Requester(Whom(words, place.name(is_group, who)), *sides)
+    return ComparedRequester(Whom(words, place.name(is_group, who)), *sides)

@@ -18,7 +18,7 @@ from aclck_tree.output.text import quoted
 EXCHANGED = "the new file was exchanged for another one before it took its place"
 
 
-class Part:
+class NewFile:
     """A new, empty file next to the place that it will take. Nobody can guess its name, and only its owner may read
     it. While it is open it is locked, so that other runs can see that it is in use."""
 
@@ -115,7 +115,7 @@ def replaced(path: str) -> Iterator[TextIO]:
     Raises TreeError if something else than a file is there, and DeviceError if the file cannot be written.
     """
     try:
-        part = Part(path)
+        part = NewFile(path)
         try:
             with open(part.handle, "w", encoding="utf-8", errors="surrogateescape", closefd=False) as file:
                 yield file

@@ -11,7 +11,7 @@ from aclck import ALL, ALLOW, APPEND_DATA, EXECUTE, READ_DATA, WRITE_DATA, Ace, 
 from aclck_tree.answer.ask import Asker
 from aclck_tree.answer.lists import Kind
 from aclck_tree.output.text import quoted
-from aclck_tree.policy.policies import Bound, PosixText, Principal, Rule, Words
+from aclck_tree.policy.policies import Bound, PosixBound, Principal, Rule, Words
 
 _OF_POSIX = READ_DATA | WRITE_DATA | APPEND_DATA | EXECUTE
 
@@ -128,7 +128,7 @@ class Limits:
         made = NfsAcl.from_aces(ace._replace(mask=ace.mask & _OF_POSIX) for ace in renamed)
         return Limit(made, lacking=0 if is_most else lacking)
 
-    def _of_posix(self, bound: PosixText, tree: int) -> Union[Limit, Unjudged]:
+    def _of_posix(self, bound: PosixBound, tree: int) -> Union[Limit, Unjudged]:
         found: List[Dict[str, int]] = []
         missing: List[str] = []
         for is_group, names in ((False, bound.users), (True, bound.groups)):

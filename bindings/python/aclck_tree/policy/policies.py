@@ -69,7 +69,7 @@ class Words:
 
 
 @dataclass(frozen=True)
-class PosixText:
+class PosixBound:
     """The text of a POSIX list, and the names of users and groups in it."""
 
     text: str
@@ -77,7 +77,7 @@ class PosixText:
     groups: FrozenSet[str]
 
 
-Bound = Union[Words, NfsAcl, PosixText]
+Bound = Union[Words, NfsAcl, PosixBound]
 """What objects may grant at most, or must grant at least."""
 
 
@@ -283,7 +283,7 @@ def _list(text: Any) -> Bound:
     acl = PosixAcl.from_text(lines, *(dict(zip(names, range(len(names)))) for names in (users, groups)))
     if any(entry.default for entry in acl):
         raise ValueError("a rule has no default entries: children = true is about what is created")
-    return PosixText(lines, users, groups)
+    return PosixBound(lines, users, groups)
 
 
 def _names(text: str, word: str) -> Iterator[str]:

@@ -160,7 +160,7 @@ def _meanings(rows: Sequence[_Row]) -> Dict[object, object]:
     return found
 
 
-class _Accounts:
+class _PortionAccounts:
     """The accounts that the scans of portions knew. Each scan first has the users and the groups that its host lists,
     and then, in the order of their ids, those that the host does not list and that the portion has."""
 
@@ -240,9 +240,9 @@ def _seen(source: Source) -> Set[Tuple[bool, int]]:
     return {*((False, number) for number in users), *((True, number) for number in groups)}
 
 
-def _joined_accounts(sources: Sequence[Source]) -> _Accounts:
+def _joined_accounts(sources: Sequence[Source]) -> _PortionAccounts:
     """Returns the accounts that one scan finds. Raises TreeError if the portions are of hosts with other accounts."""
-    accounts = _Accounts()
+    accounts = _PortionAccounts()
     other = next((source for source in sources if not accounts.add(source)), None)
     if not other and _meanings(accounts.rows()) != accounts.meanings:
         other = sources[-1]

@@ -10,7 +10,7 @@ import sqlite3
 from typing import Dict, Iterable, Iterator, List, Optional, Sequence, Tuple
 
 from aclck_tree.output.errors import DeviceError
-from aclck_tree.output.files import EXCHANGED, Part, refuse_what_is_no_file
+from aclck_tree.output.files import EXCHANGED, NewFile, refuse_what_is_no_file
 from aclck_tree.snapshot import others
 from aclck_tree.snapshot.portions import Device, Portion
 from aclck_tree.snapshot.schema import (
@@ -30,7 +30,7 @@ from aclck_tree.snapshot.snapshot import Above, Account, Found, Snapshot, Stored
 class Writer:
     """Makes a new snapshot in an empty file."""
 
-    def __init__(self, place: str, part: Part) -> None:
+    def __init__(self, place: str, part: NewFile) -> None:
         """`place` is the name of the snapshot in messages, and `part` is the file. Raises OSError if the file is no
         longer where it was made."""
         self._lists: Dict[bytes, int] = {}
@@ -160,7 +160,7 @@ class Writer:
             self._db.close()
 
 
-def _opened(part: Part) -> sqlite3.Connection:
+def _opened(part: NewFile) -> sqlite3.Connection:
     """Opens a new file as a database, which it is the only one to use. SQLite can only open it by its name, and who may
     write to the directory can put a link there. So before anything is written or even read, one of the files that are
     open must be the file that was made. Raises OSError if none is."""
@@ -195,7 +195,7 @@ def new_snapshot(place: str) -> Iterator[Writer]:
     something is at the place that is not a file, and DeviceError if the snapshot cannot be written.
     """
     try:
-        part = Part(place)
+        part = NewFile(place)
         writer: Optional[Writer] = None
         try:
             writer = Writer(place, part)
