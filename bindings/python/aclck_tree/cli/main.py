@@ -4,12 +4,14 @@ from __future__ import annotations
 
 import argparse
 import contextlib
+import importlib
 import io
 import os
 import signal
 import sqlite3
 import sys
-from typing import TYPE_CHECKING, Any, Callable, Dict, Iterator, List, NoReturn, Optional, Sequence, Tuple, Union
+from typing import (
+    TYPE_CHECKING, Any, Callable, Dict, Iterator, List, NamedTuple, NoReturn, Optional, Sequence, Tuple, Union)
 
 from aclck_tree import VERSION
 from aclck_tree.output.errors import DEVICE, REFUSED, USAGE, DeviceError, TreeError, UsageError
@@ -23,21 +25,6 @@ if TYPE_CHECKING:
 _EXIT = """exit status: 0 yes or done, 1 something is denied or different, 2 something was
 refused, is not known or could not be read, 3 the command line is wrong,
 4 a device failed"""
-
-EXAMPLES = {
-    "scan": "aclck-tree scan /srv/shared -o monday",
-    "merge": "aclck-tree merge server1.snapshot server2.snapshot -o all",
-    "who": "aclck-tree who monday --may WRITE_DATA --people people --domain example.com",
-    "may": "aclck-tree may monday --user bob --groups staff,editors --may rw --path '**/*.odt'",
-    "why": "aclck-tree why monday /srv/shared/plan.odt --user bob --groups staff,editors",
-    "same": "aclck-tree same monday --inherit",
-    "diff": "aclck-tree diff monday tuesday --people people --domain example.com",
-    "policy": "aclck-tree policy monday policy.toml --people people --domain example.com",
-    "report": "aclck-tree report monday --people people -o monday.html",
-    "info": "aclck-tree info monday",
-    "load": "aclck-tree load monday --domain example.com --dsn 'host=db dbname=audit'",
-}
-"""An example for each word."""
 
 
 class _Parser(argparse.ArgumentParser):
@@ -94,10 +81,24 @@ _FORM: _Arguments = [
     ("--raw", dict(action="store_true", help="with --csv: put no apostrophe in front of a cell that a spreadsheet "
                    "would run"))]
 
-_WORDS: Dict[str, Tuple[str, str, _Arguments]] = {
-    "scan": (
+
+class _Word(NamedTuple):
+    """A command: a line about it, what it does, an example, the module and its function that run it, and its arguments
+    in the order of the help."""
+
+    about: str
+    does: str
+    example: str
+    run: str
+    arguments: _Arguments
+
+
+_WORDS: Dict[str, _Word] = {
+    "scan": _Word(
         "read trees into a snapshot",
-        "Reads lists, owners, groups and modes of all objects in trees into one file.", [
+        "Reads lists, owners, groups and modes of all objects in trees into one file.",
+        "aclck-tree scan /srv/shared -o monday",
+        "scan.making:scan", [
             ("tree", dict(nargs="*", metavar="TREE",
                           help="a directory; a link to one is followed, links in it are not")),
             _OUTPUT,
@@ -119,32 +120,49 @@ _WORDS: Dict[str, Tuple[str, str, _Arguments]] = {
             ("--shard", dict(metavar="I/N", help="read only shard I of N, which merge joins")),
             ("--key", dict(metavar="FILE", help="with --shard: bytes that nobody else knows, the same for all "
                            "shards"))]),
-    "merge": (
-        "join snapshots", "Joins the snapshots of several hosts, and those of all shards of a tree.",
+    "merge": _Word(
+        "join snapshots",
+        "Joins the snapshots of several hosts, and those of all shards of a tree.",
+        "aclck-tree merge server1.snapshot server2.snapshot -o all",
+        "scan.making:merge",
         [_SNAPSHOTS, _OUTPUT]),
-    "who": (
-        "who may do something, object by object", "Writes which of some people may do what is asked.",
+    "who": _Word(
+        "who may do something, object by object",
+        "Writes which of some people may do what is asked.",
+        "aclck-tree who monday --may WRITE_DATA --people people --domain example.com",
+        "answer.questions:who",
         [_SNAPSHOT, *_WANT, *_PEOPLE, _EACH, _DOMAIN, *_LINUX_OR_DRAFT, *_FORM]),
-    "may": (
-        "on what one user may do something", "Writes the objects on which one user may do what is asked.", [
+    "may": _Word(
+        "on what one user may do something",
+        "Writes the objects on which one user may do what is asked.",
+        "aclck-tree may monday --user bob --groups staff,editors --may rw --path '**/*.odt'",
+        "answer.questions:may", [
             _SNAPSHOT, *_WANT, *_USER,
             ("--all", dict(action="store_true", help="write the objects on which it is denied, too")),
             _DOMAIN, _LINUX, *_FORM]),
-    "why": (
-        "which ACE or entry decides", "Writes of each right which ACE or entry decides about it for one user.", [
+    "why": _Word(
+        "which ACE or entry decides",
+        "Writes of each right which ACE or entry decides about it for one user.",
+        "aclck-tree why monday /srv/shared/plan.odt --user bob --groups staff,editors",
+        "answer.questions:why", [
             _SNAPSHOT,
             ("path", dict(metavar="PATH")),
             *_USER,
             ("--may", dict(metavar="RIGHTS", help="only about these rights")),
             _DOMAIN, _LINUX, *_FORM]),
-    "same": (
-        "which objects grant the same", "Writes the classes of objects whose lists grant the same, greatest first.", [
+    "same": _Word(
+        "which objects grant the same",
+        "Writes the classes of objects whose lists grant the same, greatest first.",
+        "aclck-tree same monday --inherit",
+        "answer.commands:same", [
             _SNAPSHOT,
             ("--inherit", dict(action="store_true", help="of directories, what is made below them counts too")),
             _EACH, _PATH, *_FORM]),
-    "diff": (
+    "diff": _Word(
         "what changed between two snapshots, and for whom",
-        "Writes which objects came, went or changed, and for whom access changed.", [
+        "Writes which objects came, went or changed, and for whom access changed.",
+        "aclck-tree diff monday tuesday --people people --domain example.com",
+        "diff.diffing:diff", [
             ("old", dict(metavar="OLD")),
             ("new", dict(metavar="NEW")),
             ("--each", dict(action="store_true", help="write one line per object, and not one per class of changes")),
@@ -154,32 +172,44 @@ _WORDS: Dict[str, Tuple[str, str, _Arguments]] = {
             ("--people-then", dict(metavar="FILE", help="who is asked about in NEW, as --people takes them: what would "
                                    "another membership change?")),
             _PATH, _DOMAIN, *_FORM]),
-    "policy": (
+    "policy": _Word(
         "whether a tree keeps a policy, and what breaks it",
-        "Writes which objects break a rule of a policy, with the ACE or entry that does, and for whom.", [
+        "Writes which objects break a rule of a policy, with the ACE or entry that does, and for whom.",
+        "aclck-tree policy monday policy.toml --people people --domain example.com",
+        "policy.checking:policy", [
             _SNAPSHOT,
             ("policy", dict(metavar="POLICY", help="the rules, in TOML")),
             ("--each", dict(action="store_true", help="write one line per object and rule")),
             *_PEOPLE, _DOMAIN, *_LINUX_OR_DRAFT, *_FORM]),
-    "report": (
-        "make a page of HTML", "Makes one page with totals, a table of who has which access, and findings.", [
+    "report": _Word(
+        "make a page of HTML",
+        "Makes one page with totals, a table of who has which access, and findings.",
+        "aclck-tree report monday --people people -o monday.html",
+        "report.report:report", [
             _SNAPSHOT,
             ("-o", dict(dest="output", metavar="FILE", help="the page to make; else it goes to standard output")),
             *_PEOPLE, _DOMAIN, *_LINUX_OR_DRAFT, _PATH, _REACH,
             ("--policy", dict(metavar="POLICY", help="the rules of this file come first in the findings")),
             *_FORM]),
-    "info": (
-        "what a snapshot has", "Writes which trees a snapshot has, and each step of its scan that failed.",
+    "info": _Word(
+        "what a snapshot has",
+        "Writes which trees a snapshot has, and each step of its scan that failed.",
+        "aclck-tree info monday",
+        "answer.commands:info",
         [_SNAPSHOT, *_FORM]),
-    "load": (
+    "load": _Word(
         "put snapshots into a database",
-        "Puts snapshots into tables of PostgreSQL, all of them or none. It needs psql.", [
+        "Puts snapshots into tables of PostgreSQL, all of them or none. It needs psql.",
+        "aclck-tree load monday --domain example.com --dsn 'host=db dbname=audit'",
+        "load.loading:load", [
             _SNAPSHOTS,
             ("--dsn", dict(metavar="DSN", help="the database, as psql takes it; else the variables of psql name it")),
             ("--as-superuser", dict(action="store_true", help="load although the role is a superuser, or can become "
                                     "one")),
             *_PEOPLE, _DOMAIN, _REACH])}
-"""The words, each with a line about it, what it does, and its arguments in the order of the help."""
+
+EXAMPLES = {word: row.example for word, row in _WORDS.items()}
+"""An example for each word."""
 
 
 def parser_of() -> argparse.ArgumentParser:
@@ -190,11 +220,11 @@ def parser_of() -> argparse.ArgumentParser:
                      description="Who may do what in a whole tree of files. It reads live files and never writes one.")
     parser.add_argument("--version", action="version", version=f"aclck-tree {VERSION}")
     words = parser.add_subparsers(dest="word", metavar="COMMAND", required=True, parser_class=_Parser)
-    for word, (about, description, arguments) in _WORDS.items():
-        of_word = words.add_parser(word, help=about, description=description, allow_abbrev=False,
-                                   epilog=f"example: {EXAMPLES[word]}\n\n{_EXIT}",
+    for word, row in _WORDS.items():
+        of_word = words.add_parser(word, help=row.about, description=row.does, allow_abbrev=False,
+                                   epilog=f"example: {row.example}\n\n{_EXIT}",
                                    formatter_class=argparse.RawDescriptionHelpFormatter)
-        for one in arguments:
+        for one in row.arguments:
             group = of_word.add_mutually_exclusive_group() if isinstance(one, list) else of_word
             for name, options in one if isinstance(one, list) else [one]:
                 group.add_argument(name, **options)
@@ -211,25 +241,12 @@ def _run(words: Optional[List[str]], together: Optional[Together]) -> int:
         if args.form is not Form.CSV:
             raise UsageError("--raw goes with --csv")
         args.form = Form.RAW_CSV
-    if args.word == "scan":
-        from aclck_tree.scan.making import scan
-        return scan(args)
-    if args.word == "merge":
-        from aclck_tree.scan.making import merge
-        return merge(args)
+    module, _, name = _WORDS[args.word].run.partition(":")
     try:
-        from aclck_tree.answer import commands, questions
-        from aclck_tree.diff import diffing
-        from aclck_tree.load import loading
-        from aclck_tree.policy import checking
-        from aclck_tree.report import report
+        command: Callable[[argparse.Namespace], int] = getattr(importlib.import_module(f"aclck_tree.{module}"), name)
     except ImportError as error:
         raise DeviceError(str(error)) from None
-    found: Dict[str, Callable[[argparse.Namespace], int]] = {
-        "who": questions.who, "may": questions.may, "why": questions.why, "same": commands.same,
-        "diff": diffing.diff, "policy": checking.policy, "info": commands.info, "report": report.report,
-        "load": loading.load}
-    return found[args.word](args)
+    return command(args)
 
 
 def main(words: Optional[List[str]] = None, together: Optional[Together] = None) -> int:
