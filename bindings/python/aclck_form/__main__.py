@@ -3,53 +3,30 @@
 from __future__ import annotations
 
 import argparse
-import contextlib
 import os
 import re
-import stat
 import sys
-from typing import TYPE_CHECKING, List, NoReturn, Optional, Tuple
+from typing import List, Optional, Tuple
 
 from aclck import (APPEND_DATA, DELETE_CHILD, WRITE_DATA, AceFlag, LeftOut, ListFlag, NfsAcl, PosixAcl,
-                   PosixDifference, Refused, mask_text)
+                   PosixDifference, mask_text)
 from aclck_tree import VERSION
-from aclck_tree.output.errors import DEVICE, REFUSED, YES, DeviceError, TreeError, UsageError
-from aclck_tree.output.text import quoted, quoted_line
+from aclck_tree.output.errors import YES, TreeError, UsageError
+from aclck_tree.output.text import quoted_line
 
-from .accounts import SystemIds, Table, exchanged, ids_of_names, names_of_ids
-from .values import (BYTES, NFS, OF_DEFAULT, POSIX, TOOLS, WITH_FLAGS, WITH_IDS, WITH_NAMES, WITH_PARTS, read_nfs,
-                     read_part, read_posix, style_of, written_nfs, written_posix)
+from . import streams
+from .accounts import SystemIds, accounts_of, exchanged, names_of_ids, posix_with_names, suffix_of
+from .running import Parser, add_accounts, add_kinds, run
+from .values import (BYTES, FORMS_HELP, NFS, OF_DEFAULT, POSIX, TOOLS, WITH_FLAGS, WITH_IDS, WITH_NAMES, WITH_PARTS,
+                     read_nfs, read_part, written_nfs, written_posix)
 
-if TYPE_CHECKING:
-    from _typeshed import SupportsWrite
-
-LONGEST = 1 << 27
-"""How many bytes are read at most. Each value that the program writes is shorter: a list has at most 65,536 ACEs."""
-
-SHORTER = 1 << 24
-"""How many bytes a POSIX list, and a file of names, may have: each of them takes up to 50 times as much memory."""
+_NAME = "aclck-form"
 
 _PERMISSIONS = {4: "r", 2: "w", 1: "x"}
 
 _EXACT = "exact"
 
-_EPILOG = """forms of NFSv4 lists:
-  xdr            the attribute system.nfs4_acl
-  text           the text of aclck show-nfs
-  nfs4-tools     the text of nfs4_getfacl and nfs4_setfacl
-  nfs-text       the text of getfacl of FreeBSD, and SCHILY.acl.ace in archives
-  nfs-text-ids   the same text; of an entry with a name and an id, the id counts
-  nfs41          the attribute system.nfs4_dacl, with flags of the list
-  nfs41-ids      the attribute security.nfs4acl_xdr, with flags and with ids
-forms of POSIX lists:
-  posix          the text of getfacl -n
-  posix-access   the attribute system.posix_acl_access
-  posix-default  the attribute system.posix_acl_default
-  posix-archive          SCHILY.acl.access in archives, as star and bsdtar write it
-  posix-archive-default  SCHILY.acl.default, as they write it
-  posix-gnu-tar          SCHILY.acl.access in archives, as GNU tar writes it
-  posix-gnu-tar-default  SCHILY.acl.default, as GNU tar writes it
-
+_EPILOG = FORMS_HELP + """
 examples:
   getfattr --only-values -n system.nfs4_acl plan.odt | aclck-form xdr text
   nfs4_getfacl plan.odt | aclck-form --file nfs4-tools xdr > plan.xdr
@@ -70,14 +47,6 @@ exit status: 0 done, 2 the value is refused or TO cannot hold it, 3 the
 command line is wrong, 4 a read or a write failed or memory ran out"""
 
 
-class _Parser(argparse.ArgumentParser):
-    def error(self, message: str) -> NoReturn:
-        raise UsageError(message)
-
-    def _print_message(self, message: str, file: Optional[SupportsWrite[str]] = None) -> None:
-        _write(message.encode())  # that of argparse says nothing of a failure
-
-
 def _flags(text: str) -> ListFlag:
     names = set() if text == "none" else set(text.split("|"))
     if not names <= set(ListFlag.__members__):
@@ -93,26 +62,20 @@ def _mode(text: str) -> int:
 
 def parser_of() -> argparse.ArgumentParser:
     """Returns the parser of the command line."""
-    parser = _Parser(prog="aclck-form", epilog=_EPILOG, allow_abbrev=False,
-                     formatter_class=argparse.RawDescriptionHelpFormatter,
-                     description="Reads an access control list in the form FROM, and writes it in the form TO.")
-    parser.add_argument("--version", action="version", version=f"aclck-form {VERSION}")
+    parser = Parser(prog=_NAME, epilog=_EPILOG, allow_abbrev=False,
+                    formatter_class=argparse.RawDescriptionHelpFormatter,
+                    description="Reads an access control list in the form FROM, and writes it in the form TO.")
+    parser.add_argument("--version", action="version", version=f"{_NAME} {VERSION}")
     parser.add_argument("source", metavar="FROM", choices=(*NFS, *POSIX), help="the form of standard input")
     parser.add_argument("target", metavar="TO", choices=(*NFS, *POSIX), help="the form of standard output")
-    kinds = parser.add_mutually_exclusive_group()
-    for kind in ("file", "directory"):
-        kinds.add_argument(f"--{kind}", dest="kind", action="store_const", const=kind,
-                           help=f"with nfs4-tools: it is the list of a {kind}")
+    add_kinds(parser)
     parser.add_argument("--bridge", action="store_true", help="make an NFSv4 list of a POSIX list; or make a POSIX "
                         "list of an NFSv4 list, and report who loses by it")
     parser.add_argument("--exact-only", action="store_true", help="with --bridge to a POSIX form: write nothing if "
                         "anybody loses r, w or x, or may lose it by --leave-out")
     parser.add_argument("--mode", metavar="OCT", type=_mode, help="with FROM posix-default, or "
                         "another one of default entries: the mode of the directory")
-    names = parser.add_mutually_exclusive_group()
-    names.add_argument("--names", metavar="FILE", help="exchange names and ids: lines u:NAME=ID and g:NAME=ID")
-    names.add_argument("--system", action="store_true", help="exchange names and ids, as this system has them")
-    parser.add_argument("--domain", metavar="DOMAIN", help="what follows @ in the names of the list")
+    add_accounts(parser)
     parser.add_argument("--flags", metavar="FLAGS", type=_flags, help="the flags that the written list has: none, or "
                         "names with | between")
     parser.add_argument("--drop", choices=("flags", "access", "default"), help="leave out the flags of the list, the "
@@ -154,18 +117,17 @@ def _renames(args: argparse.Namespace) -> bool:
 
 def _converted(args: argparse.Namespace, data: bytes) -> bytes:
     """Returns the value in the form TO. Raises Refused and TreeError."""
-    accounts = None if not args.exchanges else SystemIds() if args.system else Table(_names(args.names))
+    accounts = accounts_of(args)
     left_out: List[LeftOut] = []
     if args.source in POSIX:
-        posix = _read_posix(args, _short(data), accounts)
+        posix = _read_posix(args, data, accounts)
         if args.to_posix:
             return _written_posix(args, posix, accounts)
         acl, flags = posix.bridge(), ListFlag(0)
     else:
         acl, flags, left_out = _read_nfs(args, data)
     if accounts and _renames(args):
-        suffix = b"" if args.domain is None else b"@" + os.fsencode(args.domain)
-        acl = exchanged(acl, accounts, args.to_ids, suffix)
+        acl = exchanged(acl, accounts, args.to_ids, suffix_of(args))
     kept = _placed(args, flags)
     if args.to_posix:
         return _written_posix(args, _posix_of(args, acl, left_out), accounts)
@@ -174,9 +136,7 @@ def _converted(args: argparse.Namespace, data: bytes) -> bytes:
 
 def _read_posix(args: argparse.Namespace, data: bytes, accounts: Optional[SystemIds]) -> PosixAcl:
     """Returns the POSIX list of a value, and reports the entries for which TO has no place."""
-    style = style_of(args.source)
-    names = ids_of_names(data, accounts, style) if accounts and args.source in WITH_NAMES else ()
-    posix = read_posix(args.source, data, args.mode, names)
+    posix = posix_with_names(args.source, data, args.mode, accounts)
     if args.target not in ("posix", *OF_DEFAULT) and any(entry.default for entry in posix):
         _drop(args, "default", "the default entries")
     if args.target in OF_DEFAULT:
@@ -260,81 +220,26 @@ def _drop(args: argparse.Namespace, part: str, what: str) -> None:
     _tell(f"dropped {what}")
 
 
-def _read(handle: int) -> bytes:
-    data = bytearray()
-    while part := os.read(handle, 1 << 20):
-        data += part
-        if len(data) > LONGEST:
-            raise TreeError(f"more than {LONGEST} bytes")
-    return bytes(data)
-
-
-def _names(path: str) -> bytes:
-    """Returns the bytes of a file of names. Raises TreeError if it is something that may never end, such as a device or
-    a FIFO. A pipe without a name, such as that of `<(..)`, is open already."""
-    with open(path, "rb", buffering=0, opener=_opened) as file:
-        is_pipe = os.readlink(f"/proc/self/fd/{file.fileno()}").startswith("pipe:")
-        if not stat.S_ISREG(os.fstat(file.fileno()).st_mode) and not is_pipe:
-            raise TreeError(f"{quoted(path)}: the names are in no regular file")
-        os.set_blocking(file.fileno(), True)
-        return _short(_read(file.fileno()))
-
-
-def _opened(path: str, flags: int) -> int:
-    return os.open(path, flags | os.O_NONBLOCK | os.O_NOCTTY)
-
-
-def _short(data: bytes) -> bytes:
-    """Returns a POSIX list, or a file of names. Raises TreeError if it is longer than any that is used."""
-    if len(data) > SHORTER:
-        raise TreeError(f"more than {SHORTER} bytes")
-    return data
-
-
 def _write_value(form: str, data: bytes) -> None:
     """Writes a value. On a terminal, a text has `\\u009b` in place of such a character, which could control it."""
     if form not in BYTES and os.isatty(1):
         lines = data.decode("utf-8", "surrogateescape").split("\n")
         data = "\n".join(map(quoted_line, lines)).encode()
-    _write(data)
-
-
-def _write(data: bytes) -> None:
-    try:
-        while data:
-            data = data[os.write(1, data):]
-    except OSError:
-        raise DeviceError("write failed") from None
+    streams.write(data)
 
 
 def _tell(line: str) -> None:
-    with contextlib.suppress(OSError):
-        os.write(2, f"aclck-form: {quoted_line(line)}\n".encode())
+    streams.tell(_NAME, line)
 
 
 def main(words: Optional[List[str]] = None) -> int:
     """Runs the program and returns its exit status. No error has a status that is an answer of aclck(1)."""
-    try:
+    def work() -> int:
         args = parser_of().parse_args(words)
         _judge(args)
-        _write_value(args.target, _converted(args, _read(0)))
+        _write_value(args.target, _converted(args, streams.read(0)))
         return YES
-    except SystemExit:  # after --help or --version
-        return YES
-    except KeyboardInterrupt:
-        return 130
-    except Refused as refused:
-        line, status = str(refused), REFUSED
-    except TreeError as error:
-        line, status = str(error), error.status
-    except OSError as error:
-        line, status = f"{error.filename}: {error.strerror}" if error.filename is not None else "read failed", DEVICE
-    except MemoryError:
-        line, status = "out of memory", DEVICE
-    except Exception as error:  # a fault of this program; Python would exit with 1, which means `denied`
-        line, status = f"internal error: {type(error).__name__}: {error}", DEVICE
-    _tell(line)
-    return status
+    return run(_NAME, work)
 
 
 if __name__ == "__main__":

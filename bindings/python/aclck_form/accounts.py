@@ -2,6 +2,7 @@
 
 from __future__ import annotations
 
+import argparse
 import contextlib
 import grp
 import os
@@ -9,12 +10,13 @@ import pwd
 import re
 from typing import Dict, Iterable, Iterator, Optional, Tuple, Union
 
-from aclck import ALLOW, Ace, AceFlag, Entry, NfsAcl, Refused, TarStyle
+from aclck import ALLOW, Ace, AceFlag, Entry, NfsAcl, PosixAcl, Refused, TarStyle
 from aclck.tar_texts import unspelled
 from aclck_tree.output.errors import TreeError
 from aclck_tree.scan.headers import accounts_in
 
-from .values import NamedId
+from .streams import read_file, short
+from .values import WITH_NAMES, NamedId, read_posix, style_of
 
 _ID = re.compile(rb"[0-9]+")
 _NO_ACCOUNT = re.compile(rb"[0-9]+|.*@", re.DOTALL)  # an id, or a special name
@@ -65,6 +67,19 @@ class Table(SystemIds):
         return self._names.get((is_group, number))
 
 
+def accounts_of(args: argparse.Namespace) -> Optional[SystemIds]:
+    """Returns the accounts of `--names` or `--system`, or None without these. Raises TreeError if the file of names is
+    refused, and OSError if it cannot be read."""
+    if args.system:
+        return SystemIds()
+    return None if args.names is None else Table(short(read_file(args.names, "the names are")))
+
+
+def suffix_of(args: argparse.Namespace) -> bytes:
+    """Returns what the names of a list have behind the names of accounts: `--domain`, with its `@`."""
+    return b"" if args.domain is None else b"@" + os.fsencode(args.domain)
+
+
 def exchanged(acl: NfsAcl, accounts: SystemIds, to_ids: bool, suffix: bytes) -> NfsAcl:
     """Returns the list with ids in place of the names that end with the suffix, or with such names in place of ids.
     What the accounts do not have stays, and so does a name of digits alone, which is an id.
@@ -105,6 +120,14 @@ def ids_of_names(text: bytes, accounts: SystemIds, style: TarStyle) -> Iterator[
         if accounts.name_of(is_group, number) != os.fsencode(name):
             raise TreeError(f"the id {number} has two names")
         yield name, number, is_group
+
+
+def posix_with_names(form: str, data: bytes, mode: Optional[int], accounts: Optional[SystemIds]) -> PosixAcl:
+    """Returns the POSIX list of a value, whose names are those of the accounts if it may have names. Raises Refused,
+    and TreeError if the value is too long, or a name and an id are not each other's only one."""
+    value = short(data)
+    names = ids_of_names(value, accounts, style_of(form)) if accounts and form in WITH_NAMES else ()
+    return read_posix(form, value, mode, names)
 
 
 def names_of_ids(entries: Iterable[Entry], accounts: SystemIds) -> Iterator[NamedId]:

@@ -26,6 +26,25 @@ WITH_IDS = ("nfs-text-ids", "nfs41-ids", *POSIX)
 WITH_PARTS = (TOOLS, "nfs-text", "nfs-text-ids", *WITH_FLAGS)
 """The forms of other systems, whose values can have ACEs that access does not read."""
 
+FORMS_HELP = """forms of NFSv4 lists:
+  xdr            the attribute system.nfs4_acl
+  text           the text of aclck show-nfs
+  nfs4-tools     the text of nfs4_getfacl and nfs4_setfacl
+  nfs-text       the text of getfacl of FreeBSD, and SCHILY.acl.ace in archives
+  nfs-text-ids   the same text; of an entry with a name and an id, the id counts
+  nfs41          the attribute system.nfs4_dacl, with flags of the list
+  nfs41-ids      the attribute security.nfs4acl_xdr, with flags and with ids
+forms of POSIX lists:
+  posix          the text of getfacl -n
+  posix-access   the attribute system.posix_acl_access
+  posix-default  the attribute system.posix_acl_default
+  posix-archive          SCHILY.acl.access in archives, as star and bsdtar write it
+  posix-archive-default  SCHILY.acl.default, as they write it
+  posix-gnu-tar          SCHILY.acl.access in archives, as GNU tar writes it
+  posix-gnu-tar-default  SCHILY.acl.default, as GNU tar writes it
+"""
+"""What the help of a program says of the forms."""
+
 NamedId = Tuple[str, int, bool]
 """A name, its id, and whether it is that of a group."""
 
