@@ -8,7 +8,8 @@ MANUAL = $(DESTDIR)$(PREFIX)/share/man/man1/aclck.1
 COMPLETION = $(DESTDIR)$(PREFIX)/share/bash-completion/completions/aclck
 SHARE = $(DESTDIR)$(PREFIX)/share
 PAGES = docs/*.md CHANGELOG.md
-PACKAGES = bindings/python/aclck bindings/python/aclck_tree bindings/python/aclck_form
+PACKAGES = bindings/python/aclck $(addprefix bindings/python/aclck_,tree form ask)
+TREE_PROGRAMS = aclck-tree aclck-form aclck-ask
 MODULES = $(DESTDIR)$(PREFIX)/lib/aclck/python
 
 # The first example of the README: may bob, an editor, write under a list of two entries?
@@ -60,7 +61,7 @@ $(STATIC): crates/aclck/out/aclck.o
 	$(CC) -static-pie -s -Wl,-z,relro,-z,now,-z,noexecstack,-z,pack-relative-relocs \
 	  -o $@ crates/aclck/out/aclck.o $(KIT)/libos_c.a $(KIT)/liblibc_c.a
 
-## install            installs aclck, its pages and examples, aclck-tree and aclck-form, below PREFIX
+## install            installs aclck, its pages and examples, and the programs of install-tree, below PREFIX
 install: $(STATIC) install-tree
 	install -D -m 755 $(STATIC) '$(PROGRAM)'
 	install -D -m 644 man/aclck.1 '$(MANUAL)'
@@ -73,13 +74,13 @@ uninstall: uninstall-tree
 	rm -f '$(PROGRAM)' '$(MANUAL)' '$(COMPLETION)'
 	rm -rf '$(SHARE)/doc/aclck'
 
-## install-tree       installs aclck-tree, aclck-form and the Python module, which use the installed library
+## install-tree       installs aclck-tree, aclck-form, aclck-ask and the Python module, which use the installed library
 install-tree:
-	for name in aclck-tree aclck-form; do \
+	for name in $(TREE_PROGRAMS); do \
 	  install -D -m 755 bin/$$name '$(DESTDIR)$(PREFIX)/bin/'$$name && \
 	  install -D -m 644 man/$$name.1 '$(SHARE)/man/man1/'$$name.1 && \
 	  install -D -m 644 completions/$$name.bash '$(SHARE)/bash-completion/completions/'$$name || exit 1; done
-	for name in aclck aclck-tree aclck-form; do \
+	for name in aclck $(TREE_PROGRAMS); do \
 	  install -D -m 644 completions/_$$name '$(SHARE)/zsh/site-functions/'_$$name && \
 	  install -D -m 644 completions/$$name.fish '$(SHARE)/fish/vendor_completions.d/'$$name.fish || exit 1; done
 	for file in $$(find $(PACKAGES) -type f ! -path '*/__pycache__/*'); do \
@@ -87,9 +88,9 @@ install-tree:
 
 ## uninstall-tree     removes what install-tree installs
 uninstall-tree:
-	for name in aclck-tree aclck-form; do rm -f '$(DESTDIR)$(PREFIX)/bin/'$$name \
+	for name in $(TREE_PROGRAMS); do rm -f '$(DESTDIR)$(PREFIX)/bin/'$$name \
 	  '$(SHARE)/man/man1/'$$name.1 '$(SHARE)/bash-completion/completions/'$$name; done
-	for name in aclck aclck-tree aclck-form; do rm -f '$(SHARE)/zsh/site-functions/'_$$name \
+	for name in aclck $(TREE_PROGRAMS); do rm -f '$(SHARE)/zsh/site-functions/'_$$name \
 	  '$(SHARE)/fish/vendor_completions.d/'$$name.fish; done
 	rm -rf '$(MODULES)'
 

@@ -1,0 +1,1 @@
+"""The program `aclck-ask`: answers questions about one or two lists."""

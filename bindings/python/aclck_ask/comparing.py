@@ -1,0 +1,76 @@
+"""The questions about two lists: `at-most` and `same`."""
+
+from __future__ import annotations
+
+import argparse
+from typing import List, Optional, Tuple, Union
+
+from aclck import Difference, NfsAcl, PosixAcl, PosixDifference
+from aclck_form.accounts import System
+from aclck_form.values import POSIX
+from aclck_tree.output.errors import NO, YES, TreeError
+
+from .answer import Answer, Requester
+from .lists import Given, read_lists
+
+
+def at_most(args: argparse.Namespace, accounts: Optional[System]) -> Answer:
+    """Answers whether the new list grants at most what the old one grants. Raises TreeError if that is not known."""
+    old, new = _compared(args, accounts)
+    found = _excess(new, old)
+    return _answer(("at most", "more"), (old, new), found, ("old denied", "new granted"))
+
+
+def same(args: argparse.Namespace, accounts: Optional[System]) -> Answer:
+    """Answers whether two lists grant everybody the same. Raises TreeError if that is not known."""
+    first, second = _compared(args, accounts)
+    found, first_grants = _difference(first, second)
+    ends = ("first granted", "second denied") if first_grants else ("first denied", "second granted")
+    return _answer(("same", "differ"), (first, second), found, ends)
+
+
+def _excess(one: Given, other: Given) -> Union[Difference, PosixDifference, None]:
+    """Returns a requester to whom one list grants what the other one does not grant, or None."""
+    if isinstance(one.acl, NfsAcl) and isinstance(other.acl, NfsAcl):
+        return one.acl.exceeds(other.acl)
+    assert isinstance(one.acl, PosixAcl) and isinstance(other.acl, PosixAcl)
+    return one.acl.exceeds(other.acl)
+
+
+def _difference(first: Given, second: Given) -> Tuple[Union[Difference, PosixDifference, None], bool]:
+    """Returns a requester whom two lists treat differently, or None, and whether the first list grants the right."""
+    if isinstance(first.acl, NfsAcl) and isinstance(second.acl, NfsAcl):
+        found = first.acl.compare(second.acl)
+        return found, found is not None and found.first_grants
+    more = _excess(first, second)
+    return (more, True) if more else (_excess(second, first), False)
+
+
+def _compared(args: argparse.Namespace, accounts: Optional[System]) -> List[Given]:
+    """Returns two lists whose users and groups are named in one way. Raises TreeError if they are not."""
+    if len({form in POSIX for form in args.forms}) > 1:
+        raise TreeError("one list is an NFSv4 list, and the other one is a POSIX list")
+    lists = read_lists(args, accounts)
+    if len({one.has_ids for one in lists}) > 1:
+        raise TreeError("not known: one list has ids, and the other one has names: --names or --system exchanges them")
+    for one in lists:
+        if one.has_ids:
+            one.require_ids()
+        elif accounts:
+            one.require_names()
+    return lists
+
+
+def _answer(words: Tuple[str, str], lists: Tuple[Given, Given], found: Union[Difference, PosixDifference, None],
+            ends: Tuple[str, str]) -> Answer:
+    """Returns the first of the words if no requester was found, and otherwise the second one with the requester. `ends`
+    says what each list answers to the requester."""
+    inherits = any(one.inherits for one in lists)
+    note = "what new objects inherit does not count" if inherits else ""
+    if found is None:
+        return Answer(YES, {"answer": True, "difference": None, "inherits": inherits}, [words[0]], note)
+    requester = Requester.of(found)
+    [granted_by] = [end.split()[0] for end in ends if end.endswith("granted")]
+    difference = {**requester._asdict(), "granted_by": granted_by}
+    values = {"answer": False, "difference": difference, "inherits": inherits}
+    return Answer(NO, values, [words[1], *requester.lines(), *ends], note)
