@@ -7,7 +7,7 @@ import sys
 from typing import Any, Callable, Dict, List, Optional, Tuple
 
 from aclck_form import streams
-from aclck_form.accounts import System, accounts_of
+from aclck_form.accounts import SystemIds, accounts_of
 from aclck_form.running import Parser, add_accounts, add_kinds, run
 from aclck_form.values import FORMS_HELP, NFS, POSIX, TOOLS
 from aclck_tree import VERSION
@@ -102,7 +102,7 @@ def _answered(args: argparse.Namespace) -> Answer:
     if args.question == "who":
         from .people import who  # which needs the modules of aclck-tree
         return who(args, accounts)
-    asked: Dict[str, Callable[[argparse.Namespace, Optional[System]], Answer]] = {
+    asked: Dict[str, Callable[[argparse.Namespace, Optional[SystemIds]], Answer]] = {
         "at-most": at_most, "same": same, "holders": holders, "needed": needed}
     return asked[args.question](args, accounts)
 

@@ -6,7 +6,7 @@ import argparse
 from typing import List, Optional, Tuple, Union
 
 from aclck import Difference, NfsAcl, PosixAcl, PosixDifference
-from aclck_form.accounts import System
+from aclck_form.accounts import SystemIds
 from aclck_form.values import POSIX
 from aclck_tree.output.errors import NO, YES, TreeError
 
@@ -14,14 +14,14 @@ from .answer import Answer, Requester
 from .lists import Given, read_lists
 
 
-def at_most(args: argparse.Namespace, accounts: Optional[System]) -> Answer:
+def at_most(args: argparse.Namespace, accounts: Optional[SystemIds]) -> Answer:
     """Answers whether the new list grants at most what the old one grants. Raises TreeError if that is not known."""
     old, new = _compared(args, accounts)
     found = _excess(new, old)
     return _answer(("at most", "more"), (old, new), found, ("old denied", "new granted"))
 
 
-def same(args: argparse.Namespace, accounts: Optional[System]) -> Answer:
+def same(args: argparse.Namespace, accounts: Optional[SystemIds]) -> Answer:
     """Answers whether two lists grant everybody the same. Raises TreeError if that is not known."""
     first, second = _compared(args, accounts)
     found, first_grants = _difference(first, second)
@@ -46,7 +46,7 @@ def _difference(first: Given, second: Given) -> Tuple[Union[Difference, PosixDif
     return (more, True) if more else (_excess(second, first), False)
 
 
-def _compared(args: argparse.Namespace, accounts: Optional[System]) -> List[Given]:
+def _compared(args: argparse.Namespace, accounts: Optional[SystemIds]) -> List[Given]:
     """Returns two lists whose users and groups are named in one way. Raises TreeError if they are not."""
     if len({form in POSIX for form in args.forms}) > 1:
         raise TreeError("one list is an NFSv4 list, and the other one is a POSIX list")

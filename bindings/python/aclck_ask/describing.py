@@ -6,7 +6,7 @@ import argparse
 from typing import Any, Dict, List, Optional
 
 from aclck import NfsAcl, mask_text, read_mask
-from aclck_form.accounts import System
+from aclck_form.accounts import SystemIds
 from aclck_form.values import POSIX
 from aclck_tree.output.errors import YES, TreeError, UsageError
 from aclck_tree.output.text import table
@@ -15,7 +15,7 @@ from .answer import Answer
 from .lists import INHERITED, read_lists
 
 
-def holders(args: argparse.Namespace, accounts: Optional[System]) -> Answer:
+def holders(args: argparse.Namespace, accounts: Optional[SystemIds]) -> Answer:
     """Answers who has one right, in the words of the library. Raises UsageError if it is no right, and TreeError if the
     list is refused."""
     right = mask_of(args.right)
@@ -25,7 +25,7 @@ def holders(args: argparse.Namespace, accounts: Optional[System]) -> Answer:
     return Answer(YES, {"right": mask_text(right), "holders": lines}, lines)
 
 
-def needed(args: argparse.Namespace, accounts: Optional[System]) -> Answer:
+def needed(args: argparse.Namespace, accounts: Optional[SystemIds]) -> Answer:
     """Answers which rights of which ACEs decide something, and which can go. Raises TreeError if the list is
     refused."""
     acl = _nfs_list(args, accounts)
@@ -52,7 +52,7 @@ def mask_of(text: str) -> int:
     return mask
 
 
-def _nfs_list(args: argparse.Namespace, accounts: Optional[System]) -> NfsAcl:
+def _nfs_list(args: argparse.Namespace, accounts: Optional[SystemIds]) -> NfsAcl:
     """Returns the one NFSv4 list of the command line. Raises TreeError if it is a POSIX list, or is refused."""
     if args.forms[0] in POSIX:
         raise TreeError(f"{args.question} asks NFSv4 lists")

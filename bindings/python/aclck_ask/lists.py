@@ -8,7 +8,7 @@ from typing import Callable, List, NamedTuple, Optional, Union
 
 from aclck import AceFlag, NfsAcl, PosixAcl, Refused
 from aclck_form import streams
-from aclck_form.accounts import System, exchanged, posix_with_names, suffix_of
+from aclck_form.accounts import SystemIds, exchanged, posix_with_names, suffix_of
 from aclck_form.values import OF_DEFAULT, POSIX, WITH_IDS, read_nfs
 from aclck_tree.output.errors import TreeError
 from aclck_tree.output.text import quoted
@@ -59,14 +59,14 @@ def is_digits(name: str) -> bool:
     return re.fullmatch("[0-9]+", name) is not None
 
 
-def read_lists(args: argparse.Namespace, accounts: Optional[System]) -> List[Given]:
+def read_lists(args: argparse.Namespace, accounts: Optional[SystemIds]) -> List[Given]:
     """Returns the lists that the command line names. Raises TreeError if a list is refused or too long, or is in no
     regular file, and OSError."""
     return [Given(place, form, form in POSIX or form in WITH_IDS and accounts is None,
                   _read(place, form, args, accounts)) for place, form in zip(args.lists, args.forms)]
 
 
-def _read(place: str, form: str, args: argparse.Namespace, accounts: Optional[System]) -> Union[NfsAcl, PosixAcl]:
+def _read(place: str, form: str, args: argparse.Namespace, accounts: Optional[SystemIds]) -> Union[NfsAcl, PosixAcl]:
     """Returns a list. With accounts, the ids of an NFSv4 list become the names that the accounts have for them."""
     data = streams.read(0) if place == STANDARD_INPUT else streams.read_file(place, "the list is")
     try:

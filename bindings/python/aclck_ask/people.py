@@ -7,7 +7,7 @@ import os
 from typing import FrozenSet, List, NamedTuple, Optional, Sequence, Tuple, Union
 
 from aclck import NfsAcl, PosixAcl, Requesters, mask_text
-from aclck_form.accounts import System
+from aclck_form.accounts import SystemIds
 from aclck_form.values import POSIX
 from aclck_tree.answer.commands import read_people
 from aclck_tree.answer.identities import account_name, full_name
@@ -35,11 +35,11 @@ class _Naming(NamedTuple):
 
     by_ids: bool
     domain: str
-    accounts: Optional[System]
+    accounts: Optional[SystemIds]
     others: FrozenSet[Tuple[bool, str]] = frozenset()
 
     @classmethod
-    def of(cls, given: Given, domain: str, accounts: Optional[System]) -> _Naming:
+    def of(cls, given: Given, domain: str, accounts: Optional[SystemIds]) -> _Naming:
         """Returns how a list names people."""
         named = {(ace.is_group, ace.who.partition("@")) for ace in given.acl
                  if ace.who not in SPECIAL} if isinstance(given.acl, NfsAcl) else set()
@@ -83,7 +83,7 @@ class _Naming(NamedTuple):
         return os.fsencode(account_name(name, self.domain))
 
 
-def who(args: argparse.Namespace, accounts: Optional[System]) -> Answer:
+def who(args: argparse.Namespace, accounts: Optional[SystemIds]) -> Answer:
     """Answers which of the people have all of some rights on an object. Raises UsageError if these are no rights, and
     TreeError if the list or the people are refused, or it is not known how the list names the owner or the group."""
     is_posix = args.forms[0] in POSIX
