@@ -7,6 +7,7 @@ import os
 import stat
 
 from aclck_tree.output.errors import DeviceError, TreeError
+from aclck_tree.output.files import is_pipe_without_name
 from aclck_tree.output.text import quoted, quoted_line
 
 LONGEST = 1 << 27
@@ -31,11 +32,11 @@ def read_file(path: str, what: str) -> bytes:
     """Returns the bytes of a file. Raises TreeError, which says `what` it has, if it is something that may never end,
     such as a device or a FIFO, and OSError. A pipe without a name, such as that of `<(..)`, is open already."""
     with open(path, "rb", buffering=0, opener=_opened) as file:
-        is_pipe = os.readlink(f"/proc/self/fd/{file.fileno()}").startswith("pipe:")
-        if not stat.S_ISREG(os.fstat(file.fileno()).st_mode) and not is_pipe:
+        handle = file.fileno()
+        if not stat.S_ISREG(os.fstat(handle).st_mode) and not is_pipe_without_name(handle):
             raise TreeError(f"{quoted(path)}: {what} in no regular file")
-        os.set_blocking(file.fileno(), True)
-        return read(file.fileno())
+        os.set_blocking(handle, True)
+        return read(handle)
 
 
 def _opened(path: str, flags: int) -> int:
