@@ -9,9 +9,10 @@ from aclck import Difference, NfsAcl, PosixAcl, PosixDifference
 from aclck_form.accounts import SystemIds
 from aclck_form.values import POSIX
 from aclck_tree.output.errors import NO, YES, TreeError
+from aclck_tree.output.text import quoted
 
 from .answer import Answer, Requester
-from .lists import Given, read_lists
+from .lists import SPECIAL, Given, read_lists
 
 
 def at_most(args: argparse.Namespace, accounts: Optional[SystemIds]) -> Answer:
@@ -58,7 +59,18 @@ def _compared(args: argparse.Namespace, accounts: Optional[SystemIds]) -> List[G
             one.require_ids()
         elif accounts:
             one.require_names()
+    _require_one_domain(lists)
     return lists
+
+
+def _require_one_domain(lists: List[Given]) -> None:
+    """Raises TreeError if the lists have one name with a domain and without one: these may be one user or group."""
+    aces = [ace for one in lists if isinstance(one.acl, NfsAcl) for ace in one.acl if ace.who not in SPECIAL]
+    alone = {(ace.is_group, ace.who) for ace in aces if "@" not in ace.who}
+    for ace in aces:
+        name, at, _ = ace.who.partition("@")
+        if at and (ace.is_group, name) in alone:
+            raise TreeError(f"not known: the lists have {quoted(name)} with a domain and without one")
 
 
 def _answer(words: Tuple[str, str], lists: Tuple[Given, Given], found: Union[Difference, PosixDifference, None],
