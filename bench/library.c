@@ -1,10 +1,10 @@
 /* Times calls of libaclck, and a hand-written check in C, which parses the list as bench/by_hand does and judges it in
  * full.
  *
- *     library LIST [COUNT]
+ *     library LIST COUNT          times each call, with COUNT also on a list of that many ACEs, each for a user
+ *     library LIST 0 CALL TIMES   makes one call so often, so that a tool can count its instructions
  *
- * LIST is the list of examples/shared_folder.xdr. With COUNT the program also uses a list of that many ACEs, each for a
- * user. Each figure is the least time of the processor of several rounds.
+ * LIST is the list of examples/shared_folder.xdr. Each figure is the least time of the processor of several rounds.
  */
 #include "../include/aclck.h"
 #include "by_hand/devices.h"
@@ -20,10 +20,17 @@ static double now(void)
     return (double)t.tv_sec * 1e9 + (double)t.tv_nsec;
 }
 
+static const char *only; /* the call that is made, if it is one alone */
+static long often;
+
 #define TIME(name, times, each, call)                                                                                  \
     do {                                                                                                               \
         double best = 1e18;                                                                                            \
         u32 sum = 0;                                                                                                   \
+        for (long i = 0; only && !strcmp(only, name) && i < often; i++)                                                \
+            sum += (call);                                                                                             \
+        if (only)                                                                                                      \
+            break;                                                                                                     \
         for (int round = 0; round < ROUNDS; round++) {                                                                 \
             double start = now();                                                                                      \
             for (long i = 0; i < (times); i++)                                                                         \
@@ -98,8 +105,37 @@ static void time_large(u32 count)
     u32 word;
     TIME("check, a large list, by the ACE", 20, count,
          aclck_check(aclck_bytes_of(large, len), &object, &requester, &question, &word, &fault) + word);
-    TIME("  by hand", 20, count, by_hand(large, len, bob, bob, bob, &bob, 0, 1));
+    TIME("check by hand, a large list, by the ACE", 20, count, by_hand(large, len, bob, bob, bob, &bob, 0, 1));
     free(large);
+}
+
+/* Times calls on a prepared list, and on a POSIX list of six entries. */
+static void time_others(aclck_bytes acl, const aclck_object *object, const aclck_requester *requester)
+{
+    static const aclck_name rows[] = {{{"alice", 5}, 1, 0}, {{"bob", 3}, 2, 0}, {{"mallory", 7}, 3, 0},
+                                      {{"staff", 5}, 1, 1}, {{"editors", 7}, 2, 1}};
+    static const u32 ids[] = {1, 2};
+    static u8 prepared[4096];
+    const aclck_names names = {rows, sizeof rows / sizeof *rows};
+    const aclck_id_object id_object = {1, 1};
+    const aclck_id_requester id_requester = {2, ids, 2};
+    const aclck_question all = {ACLCK_ALL_RIGHTS, ACLCK_FULL};
+    const aclck_buffer room = {prepared, sizeof prepared}, out = {bytes, sizeof bytes};
+    const aclck_posix_text text = {aclck_string("u::rwx,u:7:rw-,g::r-x,g:8:r--,m::rwx,o::---"), {NULL, 0}};
+    const aclck_posix_question question = {1, 1, 2, ACLCK_PERM_READ, ids, 2};
+    aclck_decided decided;
+    aclck_fault fault;
+    u32 word;
+    size_t n;
+    aclck_bytes made = {prepared, 0};
+    if (aclck_prepare(acl, ACLCK_FULL, room, &made.len, &fault))
+        exit(3);
+    TIME("decide_prepared", 300000, 1, aclck_decide_prepared(made, object, requester, &all, &decided));
+    if (aclck_prepare_ids(acl, &names, ACLCK_FULL, room, &made.len, &fault))
+        exit(3);
+    TIME("decide_ids", 300000, 1, aclck_decide_ids(made, &id_object, &id_requester, &all, &decided));
+    TIME("posix_check, six entries", 100000, 1, aclck_posix_check(&text, &question, &word, &fault));
+    TIME("posix_show, six entries", 100000, 1, aclck_posix_show(&text, ACLCK_FORM_SHOWN, out, &n, &fault));
 }
 
 int main(int argc, char **argv)
@@ -120,9 +156,11 @@ int main(int argc, char **argv)
     aclck_difference difference;
     u32 word;
     size_t n, len;
-    FILE *file = argc < 2 ? NULL : fopen(argv[1], "rb");
+    FILE *file = argc < 3 ? NULL : fopen(argv[1], "rb");
     if (!file)
         return 2;
+    only = argc > 4 ? argv[3] : NULL;
+    often = argc > 4 ? atol(argv[4]) : 0;
     len = fread(list, 1, sizeof list, file);
     fclose(file);
     acl = aclck_bytes_of(list, len);
@@ -133,7 +171,7 @@ int main(int argc, char **argv)
         who[k].ngroups = 2;
     }
     TIME("check", 300000, 1, aclck_check(acl, &object, &requester, &some, &word, &fault) + word);
-    TIME("  by hand", 300000, 1, by_hand(list, len, object.owner, object.group, requester.user, groups, 2, 0x21));
+    TIME("check by hand", 300000, 1, by_hand(list, len, object.owner, object.group, requester.user, groups, 2, 0x21));
     TIME("granted, all sixteen rights", 300000, 1, aclck_granted(acl, &object, &requester, &all, &word, &fault));
     TIME("decide, all sixteen rights", 300000, 1, aclck_decide(acl, &object, &requester, &all, &decided, &fault));
     TIME("deciding", 300000, 1, aclck_deciding(acl, &object, &requester, &one, &decision, &fault));
@@ -144,11 +182,14 @@ int main(int argc, char **argv)
     TIME("show", 100000, 1, aclck_show(acl, ACLCK_FULL, out, &n, &fault));
     TIME("same, with its own bytes", 100000, 1, aclck_same(acl, acl, ACLCK_FULL, &word, &fault));
     TIME("normalize", 50000, 1, aclck_normalize(acl, ACLCK_FULL, out, &n, &fault));
+    if (aclck_normalize(acl, ACLCK_FULL, out, &n, &fault))
+        return 3;
     TIME("same, with its normal form", 20000, 1,
          aclck_same(acl, aclck_bytes_of(bytes, n), ACLCK_FULL, &word, &fault));
     TIME("compare, with the empty list", 20000, 1,
          aclck_compare(acl, aclck_bytes_of("\0\0\0", 4), ACLCK_FULL, &difference, out, &fault));
-    if (argc > 2)
+    time_others(acl, &object, &requester);
+    if (atoi(argv[2]))
         time_large((u32)atoi(argv[2]));
     return 0;
 }

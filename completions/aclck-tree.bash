@@ -5,10 +5,10 @@ declare -gA _aclck_tree_options=(
     [scan]='-o --one-file-system --threads --attribute --host --quiet --from --lines --archive --root --shard --key'
     [merge]='-o'
     [info]='--csv --raw --json'
-    [who]='--may --any --path --reach --people --passwd --group --getent --skip-system --each --domain --linux
+    [who]='--may --any --path --reach --obtain --people --passwd --group --getent --skip-system --each --domain --linux
         --draft --csv --raw --json'
     [may]='--may --any --path --reach --user --groups --getent --all --domain --linux --csv --raw --json'
-    [why]='--user --groups --getent --may --domain --linux --csv --raw --json'
+    [why]='--user --groups --getent --may --obtain --domain --linux --csv --raw --json'
     [same]='--inherit --path --each --csv --raw --json'
     [diff]='--people --passwd --group --getent --skip-system --people-then --path --pair --each --domain --csv --raw
         --json'

@@ -37,6 +37,7 @@ complete -c aclck-tree -n '__fish_seen_subcommand_from who may' -l any -d 'Any o
 complete -c aclck-tree -n '__fish_seen_subcommand_from who may same diff report' -l path -x -d 'Only these objects'
 complete -c aclck-tree -n '__fish_seen_subcommand_from who may report load' -l reach \
     -d 'The directories above count too'
+complete -c aclck-tree -n '__fish_seen_subcommand_from who why' -l obtain -d 'Also who could come to have it'
 complete -c aclck-tree -n '__fish_seen_subcommand_from report' -l policy -r -d 'Rules that come first'
 complete -c aclck-tree -n '__fish_seen_subcommand_from may why' -l user -x -a '(__fish_complete_users)' -d 'Who asks'
 complete -c aclck-tree -n '__fish_seen_subcommand_from may why' -l groups -x -a '(__fish_complete_groups)' \

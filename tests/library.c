@@ -8,51 +8,13 @@
  * a target of libFuzzer instead.
  */
 #include "aclck.h"
+#include "refusing.h"
 #include <pthread.h>
 #include <stdio.h>
 #include <stdlib.h>
 #include <string.h>
 
 enum { SIDE = 16, CANARY = 0xa5, MOST = 16 };
-
-/* ---- requests for memory that can fail */
-
-static long left = -1, held;
-
-#ifdef REFUSE
-void *__real_malloc(size_t);
-void *__real_realloc(void *, size_t);
-void __real_free(void *);
-void *__wrap_malloc(size_t size);
-void *__wrap_realloc(void *at, size_t size);
-void __wrap_free(void *at);
-
-static int refused(void) {
-    if (left < 0 || left-- > 0)
-        return 0;
-    left = -2;
-    return 1;
-}
-
-void *__wrap_malloc(size_t size) {
-    if (refused())
-        return NULL;
-    held++;
-    return __real_malloc(size);
-}
-
-void *__wrap_realloc(void *at, size_t size) {
-    if (refused())
-        return NULL;
-    held += at == NULL;
-    return __real_realloc(at, size);
-}
-
-void __wrap_free(void *at) {
-    held -= at != NULL;
-    __real_free(at);
-}
-#endif
 
 /* ---- cases */
 
@@ -992,10 +954,11 @@ static int are_many_groups_found(int is_memory_refused) {
 /* Makes the call, and looks whether it asked for memory, which it does once. */
 #define SORTS(call)                                                                                                    \
     do {                                                                                                               \
-        long before = held;                                                                                            \
-        left = is_memory_refused ? 0 : -1;                                                                             \
-        ok &= EXPECT(c, (call) == ACLCK_DONE && held == before && left == (is_memory_refused ? -2 : -1));              \
-        left = -1;                                                                                                     \
+        long before = memory.held;                                                                                     \
+        memory.left = is_memory_refused ? 0 : -1;                                                                      \
+        ok &= EXPECT(c, (call) == ACLCK_DONE && memory.held == before);                                                \
+        ok &= EXPECT(c, memory.left == (is_memory_refused ? -2 : -1));                                                 \
+        memory.left = -1;                                                                                              \
     } while (0)
     for (size_t i = 0; ok && i < sizeof rows / sizeof *rows; i++) {
         const aclck_bytes acl = aclck_bytes_of(list, len), bytes = aclck_bytes_of(prepared, prepared_len);
@@ -1144,12 +1107,12 @@ static int run_memory(void) {
             results r = untouched(), was = untouched();
             was.value = answers(c) ? 0 : was.value;
             memset(room, CANARY, len + 2 * SIDE);
-            long before = held;
-            left = at;
+            long before = memory.held;
+            memory.left = at;
             uint32_t status = invoke(c, room + SIDE, len, &r);
-            int all = left >= 0;
-            left = -1;
-            ok &= EXPECT(c, held == before);
+            int all = memory.left >= 0;
+            memory.left = -1;
+            ok &= EXPECT(c, memory.held == before);
             if (status == ACLCK_MEMORY) {
                 ok &= EXPECT(c, !all && memcmp(&r.fault, &was.fault, sizeof r.fault) == 0);
                 ok &= EXPECT(c, r.value == was.value && r.needed == was.needed);

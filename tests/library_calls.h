@@ -1,10 +1,11 @@
-/* What library_lists.c and library_entries.c share: what must be so, memory that is refused, bytes between pages that
- * may not be read, and calls that write a result into a buffer.
+/* What library_lists.c and library_entries.c share: what must be so, bytes between pages that may not be read, and
+ * calls that write a result into a buffer.
  */
 #ifndef LIBRARY_CALLS_H
 #define LIBRARY_CALLS_H
 
 #include "aclck.h"
+#include "refusing.h"
 #include <pthread.h>
 #include <stdio.h>
 #include <stdlib.h>
@@ -33,48 +34,6 @@ typedef struct {
 } test;
 
 #define TEST(name) {#name, name}
-
-/* ---- requests for memory that can fail */
-
-static long requests;
-
-#ifdef REFUSE
-static long left = -1, held;
-
-void *__real_malloc(size_t);
-void *__real_realloc(void *, size_t);
-void __real_free(void *);
-void *__wrap_malloc(size_t size);
-void *__wrap_realloc(void *at, size_t size);
-void __wrap_free(void *at);
-
-static int refused(void) {
-    requests++;
-    if (left < 0 || left-- > 0)
-        return 0;
-    left = -2;
-    return 1;
-}
-
-void *__wrap_malloc(size_t size) {
-    if (refused())
-        return NULL;
-    held++;
-    return __real_malloc(size);
-}
-
-void *__wrap_realloc(void *at, size_t size) {
-    if (refused())
-        return NULL;
-    held += at == NULL;
-    return __real_realloc(at, size);
-}
-
-void __wrap_free(void *at) {
-    held -= at != NULL;
-    __real_free(at);
-}
-#endif
 
 /* ---- bytes next to a page that may not be read */
 
@@ -167,12 +126,12 @@ static void is_memory_kept(writer *write, const void *with, size_t size, size_t 
         memset(w.room, CANARY, cap * size + 2 * SIDE);
         w.needed = 77;
         w.fault = no_fault();
-        before = held;
-        left = at;
+        before = memory.held;
+        memory.left = at;
         w.status = write(with, w.room + SIDE, cap, &w.needed, &w.fault);
-        all = left >= 0;
-        left = -1;
-        EXPECT(held == before);
+        all = memory.left >= 0;
+        memory.left = -1;
+        EXPECT(memory.held == before);
         EXPECT(w.status == status || (w.status == ACLCK_MEMORY && !all));
         if (w.status == ACLCK_MEMORY)
             EXPECT(w.needed == 77 && is_unreported(&w) && is_kept(&w, 0, cap * size));

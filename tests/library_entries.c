@@ -97,12 +97,12 @@ static void are_questions_answered(void) {
         aclck_posix_decision found;
         aclck_fault fault;
         uint32_t granted = 77;
-        long before = requests;
+        long before = memory.requests;
         memset(&found, 0xee, sizeof found);
         EXPECT(aclck_entries_check(entries, &question, &granted, &fault) == ACLCK_DONE && granted == rows[i].granted);
         EXPECT(aclck_entries_deciding(entries, &question, &found, &fault) == ACLCK_DONE);
         EXPECT(found.granted == rows[i].granted && found.place == rows[i].place && found.tag == rows[i].tag);
-        EXPECT(found.masked == rows[i].masked && requests == before);
+        EXPECT(found.masked == rows[i].masked && memory.requests == before);
     }
 }
 
@@ -160,12 +160,12 @@ static void are_excesses_found(void) {
         const aclck_posix_difference nothing = {1, 0, 0, 0, 0, 0, 0, 0};
         aclck_posix_difference found;
         aclck_fault fault;
-        long before = requests;
+        long before = memory.requests;
         memset(&found, 0xee, sizeof found);
         EXPECT(aclck_entries_excess(first, second, &found, &fault) == ACLCK_DONE);
         EXPECT(memcmp(&found, &rows[i].wanted, sizeof found) == 0);
         EXPECT(aclck_entries_excess(first, first, &found, &fault) == ACLCK_DONE);
-        EXPECT(memcmp(&found, &nothing, sizeof found) == 0 && requests == before);
+        EXPECT(memcmp(&found, &nothing, sizeof found) == 0 && memory.requests == before);
     }
 }
 

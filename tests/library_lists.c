@@ -276,13 +276,14 @@ static void is_asked_alike(aclck_bytes acl, aclck_bytes prepared, uint32_t optio
         who[i].user = p->users[dice((uint32_t)p->nusers)];
         who[i].ngroups = choose_groups(p, groups[i]);
         who[i].groups = groups[i];
-        before = requests;
+        before = memory.requests;
         EXPECT(aclck_decide(acl, &object, &who[i], &of_list, &wanted[i], &fault) == ACLCK_DONE);
         EXPECT(aclck_decide_prepared(prepared, &object, &who[i], &question, &found) == ACLCK_DONE);
-        EXPECT(is_same_decision(found, wanted[i]) && requests == before);
+        EXPECT(is_same_decision(found, wanted[i]) && memory.requests == before);
     }
-    before = requests;
-    EXPECT(aclck_decide_prepared_many(prepared, &object, all, &question, room) == ACLCK_DONE && requests == before);
+    before = memory.requests;
+    EXPECT(aclck_decide_prepared_many(prepared, &object, all, &question, room) == ACLCK_DONE);
+    EXPECT(memory.requests == before);
     for (int i = 0; i < 3; i++)
         EXPECT(is_same_decision(many[i], wanted[i]));
 }
@@ -428,14 +429,14 @@ static void is_asked_by_ids(aclck_bytes digits, aclck_bytes prepared, uint32_t o
     const aclck_question of_list = asks(choose_mask(), options), question = asks(of_list.mask, 0);
     aclck_decided wanted, found;
     aclck_fault fault;
-    long before = requests;
+    long before = memory.requests;
     if (object.owner == UINT32_MAX || object.group == UINT32_MAX || who.user == UINT32_MAX)
         return;
     for (size_t i = 0; i < who.ngroups; i++)
         groups[i] = digits_of(ids[i], room[3 + i]);
     EXPECT(aclck_decide(digits, &named, &of_digits, &of_list, &wanted, &fault) == ACLCK_DONE);
     EXPECT(aclck_decide_ids(prepared, &object, &who, &question, &found) == ACLCK_DONE);
-    EXPECT(is_same_decision(found, wanted) && requests == before);
+    EXPECT(is_same_decision(found, wanted) && memory.requests == before);
 }
 
 /* A list is prepared with ids, or its first name without an id is refused. */
@@ -861,16 +862,16 @@ static void are_unknown_names_answered_by_hand(void) {
         EXPECT(memcmp(&found, &wanted, sizeof wanted) == 0);
 #ifdef REFUSE
         for (long refuse = 0;; refuse++) {
-            long before = held;
+            long before = memory.held;
             enum aclck_status status;
             int all;
             memset(&found, 0xee, sizeof found);
-            left = refuse;
+            memory.left = refuse;
             status = aclck_decide_unknown(aclck_bytes_of(bytes, (size_t)(at - bytes)), &object, &bob, &question,
                                           &found, &fault);
-            all = left >= 0;
-            left = -1;
-            EXPECT(held == before);
+            all = memory.left >= 0;
+            memory.left = -1;
+            EXPECT(memory.held == before);
             EXPECT(status == ACLCK_MEMORY ? !all && is_nothing_possible(&found)
                                           : memcmp(&found, &wanted, sizeof wanted) == 0);
             if (all)

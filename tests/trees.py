@@ -5,6 +5,7 @@ import contextlib
 import ctypes
 import json
 import os
+import re
 import shutil
 import subprocess
 import tempfile
@@ -80,6 +81,14 @@ def open_above(place):
     return [Above(place[:at] or b"/", stored=StoredList("mode", 0o755, None, None)) for at in ends]
 
 
+def examples_of(page):
+    """Returns the session that the section EXAMPLES of a page of the manual shows."""
+    with open(os.path.join(ROOT, "man", page), encoding="ascii") as file:
+        text = file.read()
+    shown = re.search(r"^\.Bd -literal.*?\n(.*?)^\.Ed", text[text.index(".Sh EXAMPLES"):], re.DOTALL | re.MULTILINE)[1]
+    return shown.replace("\\-", "-").replace("\\(aq", "'").replace("\\e", "\\")
+
+
 class Scratch(unittest.TestCase):
     def setUp(self):
         self.directory = tempfile.mkdtemp()
@@ -95,6 +104,15 @@ class Scratch(unittest.TestCase):
         with open(self.path(name), "w", encoding="utf-8", errors="surrogateescape") as file:
             file.write(text)
         return self.path(name)
+
+    def replayed(self, shown, programs):
+        """Runs the commands of a session in the directory, and returns the session that they make. Programs are looked
+        for in the directory `programs` first."""
+        self.write("shown", shown)
+        words = ". tests/common.bash; cd \"$0\" && replay shown"
+        done = subprocess.run(["bash", "-c", words, self.directory], cwd=ROOT, capture_output=True, text=True,
+                              env={**os.environ, "PATH": f"{programs}:{os.environ['PATH']}"})
+        return done.stdout
 
     def put(self, name, data, is_directory=False):
         """Makes a file or a directory with an NFSv4 list."""

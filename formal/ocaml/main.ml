@@ -1,6 +1,7 @@
 (* The commands normalize, compare, child and check-nfs of aclck, over the extracted program acl.ml:
-   the same words, the same input, the same answer. The commands excess, resolved and decide-unknown
-   are calls of libaclck, and no commands of aclck. The library has no to-posix yet. *)
+   the same words, the same input, the same answer. The commands excess, resolved, decide-unknown and
+   to-posix are calls of libaclck, and no commands of aclck. The library has no restricted, meet and
+   tidy yet. *)
 
 let of_a_profile = { Words.valued = [ "--profile" ]; plain = []; takes_words = false }
 
@@ -145,6 +146,27 @@ let to_posix words =
     let groups = line "group" acl.group_obj ^ named_entries "group" acl.group_entries in
     { status = 0; text = users ^ groups ^ mask ^ line "other" acl.other }
 
+(* The rights of one list are taken out that the other one does not grant. *)
+let restricted words =
+  let profile = Words.profile (Words.given of_a_profile words) in
+  fun reader ->
+    let list = Xdr.read_list profile reader in
+    written [ Acl.restricted list (whole_list profile reader) ]
+
+(* The merge of two lists. The status is 0 if it is the greatest list that grants at most both. *)
+let meet words =
+  let profile = Words.profile (Words.given of_a_profile words) in
+  fun reader ->
+    let list = Xdr.read_list profile reader in
+    let other = whole_list profile reader in
+    { (written [ Acl.meet list other ]) with status = Bool.to_int (not (Acl.orderly list other)) }
+
+let tidy words =
+  let given = Words.given { of_a_profile with plain = [ "--inherit" ] } words in
+  let profile = Words.profile given in
+  let tidied = if Words.is_set given "--inherit" then Acl.tidy_all else Acl.tidy in
+  fun reader -> written [ tidied (whole_list profile reader) ]
+
 let command = function
   | "normalize" :: words -> normalize words
   | "child" :: words -> child words
@@ -154,6 +176,9 @@ let command = function
   | "resolved" :: words -> resolved words
   | "decide-unknown" :: words -> decide_unknown words
   | "to-posix" :: words -> to_posix words
+  | "restricted" :: words -> restricted words
+  | "meet" :: words -> meet words
+  | "tidy" :: words -> tidy words
   | _ -> raise Words.Usage
 
 let read_all () =

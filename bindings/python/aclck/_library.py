@@ -88,7 +88,7 @@ class Masks(ctypes.Structure):
 
 
 class Ace(ctypes.Structure):
-    """One ACE."""
+    """One ACE: its kind (0 is ALLOW, and 1 is DENY), its flags and its mask as numbers, and the bytes of its who."""
 
     _fields_ = [("kind", Word), ("flags", Word), ("mask", Word), ("who", Bytes)]
 

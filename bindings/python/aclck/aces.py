@@ -24,8 +24,18 @@ ALLOW, DENY = AceKind.ALLOW, AceKind.DENY
 _KINDS = (ALLOW, DENY)
 
 
-class AceFlag(enum.IntFlag):
-    """The flags of an ACE (section 6.2.1.4). A set of flags is equal to its number, and is written as its number."""
+class NumberFlag(enum.IntFlag):
+    """Flags. A set of flags is equal to its number, and is written as its number."""
+
+    def __str__(self) -> str:
+        return str(self.value)
+
+    def __format__(self, spec: str) -> str:
+        return format(self.value, spec)
+
+
+class AceFlag(NumberFlag):
+    """The flags of an ACE (section 6.2.1.4)."""
 
     FILE_INHERIT = 0x01
     DIRECTORY_INHERIT = 0x02
@@ -35,12 +45,6 @@ class AceFlag(enum.IntFlag):
     FAILED_ACCESS = 0x20
     IDENTIFIER_GROUP = 0x40
     INHERITED = 0x80
-
-    def __str__(self) -> str:
-        return str(self.value)
-
-    def __format__(self, spec: str) -> str:
-        return format(self.value, spec)
 
 
 _FLAGS = tuple(map(AceFlag, range(0x100)))

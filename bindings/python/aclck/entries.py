@@ -39,7 +39,8 @@ def part_in_c(part: Iterable[Entry]) -> c.Entries:
 
 
 def value_of(found: c.Entry, default: bool) -> Entry:
-    """Returns an entry that C has."""
+    """Returns the entry of C as a value: in the access part, or in the default part with `default`. Its id is None if
+    its tag takes none."""
     return Entry(default, _TAGS[found.tag], found.id if found.tag in _NAMED else None, found.perm)
 
 

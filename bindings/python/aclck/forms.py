@@ -8,6 +8,7 @@ import operator
 from typing import List, NamedTuple, Tuple
 
 from . import _library as c
+from .aces import NumberFlag
 from .faults import Refused
 
 _MOST_ACES = 65536
@@ -46,21 +47,15 @@ class TextStyle(enum.IntFlag):
     """Each letter has a place, with `-` for one that is absent. Without this, only the letters are written."""
 
 
-class ListFlag(enum.IntFlag):
+class ListFlag(NumberFlag):
     """The flags of a whole list (section 6.2.2). OpenZFS sets the last two in the same word. No flag changes what the
-    list grants. A set of flags is equal to its number, and is written as it."""
+    list grants."""
 
     AUTO_INHERIT = 0x1
     PROTECTED = 0x2
     DEFAULTED = 0x4
     IS_TRIVIAL = 0x10000
     IS_DIR = 0x20000
-
-    def __str__(self) -> str:
-        return str(self.value)
-
-    def __format__(self, spec: str) -> str:
-        return format(self.value, spec)
 
 
 class LeftOut(NamedTuple):

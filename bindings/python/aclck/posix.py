@@ -330,7 +330,8 @@ def posix_of(acl: c.Bytes, names: NamedIds, most: int) -> ToPosix:
 
 
 def _shown(text: bytes, form: int, names: c.Names) -> bytes:
-    """Returns a text in a form."""
+    """Returns the canonical text of the POSIX list that a text spells, or another form of it, by its number in aclck.h.
+    Raises Refused, with the line and the column."""
     return c.bytes_of("posix_show", (c.PosixText(c.in_c(text), names), form), 2 * len(text) + 64)
 
 

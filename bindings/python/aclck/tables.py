@@ -11,7 +11,7 @@ NamedIds = Iterable[Tuple[str, int, bool]]
 
 
 def table_in_c(names: NamedIds) -> c.Names:
-    """Returns a table of names for C."""
+    """Returns a table of names for C, in their order. Raises ValueError if an id has more than 32 bits."""
     rows = [c.NamedId(c.in_c(c.encoded(name)), c.word(number), c.word(int(is_group)))
             for name, number, is_group in names]
     return c.Names((c.NamedId * len(rows))(*rows), len(rows))

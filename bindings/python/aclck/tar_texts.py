@@ -38,7 +38,8 @@ def entries_in(text: c.PosixText, form: int) -> List[c.Entry]:
 
 
 def spelled(name: str, style: TarStyle) -> str:
-    """Returns a name as a text in the style has it."""
+    """Returns how an entry spells a name: GNU tar puts a backslash and three octal digits in place of a character that
+    separates entries or fields, and star leaves the name as it is."""
     if style is TarStyle.STAR:
         return name
     return _QUOTED.sub(lambda one: "\\\\" if one[0] == "\\" else f"\\{ord(one[0]):03o}", name)

@@ -13,7 +13,7 @@ from aclck_form.values import FORMS_HELP, NFS, POSIX, TOOLS
 from aclck_tree import VERSION
 from aclck_tree.output.errors import UsageError
 
-from .answer import Answer
+from .answer import Reply
 from .comparing import at_most, same
 from .describing import holders, needed
 from .lists import STANDARD_INPUT
@@ -96,13 +96,13 @@ def _judge(args: argparse.Namespace) -> None:
             raise UsageError(line)
 
 
-def _answered(args: argparse.Namespace) -> Answer:
+def _answered(args: argparse.Namespace) -> Reply:
     """Returns the answer to the question of the command line. Raises TreeError and OSError."""
     accounts = accounts_of(args)
     if args.question == "who":
         from .people import who  # which needs the modules of aclck-tree
         return who(args, accounts)
-    asked: Dict[str, Callable[[argparse.Namespace, Optional[SystemIds]], Answer]] = {
+    asked: Dict[str, Callable[[argparse.Namespace, Optional[SystemIds]], Reply]] = {
         "at-most": at_most, "same": same, "holders": holders, "needed": needed}
     return asked[args.question](args, accounts)
 

@@ -1,4 +1,4 @@
-"""Answers, as lines for people and as one object of JSON, and the requester for whom two lists differ."""
+"""Answers, as lines for people and as one object of JSON, and how a difference of two lists is shown."""
 
 from __future__ import annotations
 
@@ -12,7 +12,7 @@ LETTERS = {"r": 4, "w": 2, "x": 1}
 """The permissions of a POSIX list."""
 
 
-class Answer(NamedTuple):
+class Reply(NamedTuple):
     """The answer to a question: the exit status, the values of the object of JSON, the lines for people, and a line for
     standard error, if it is not empty."""
 
@@ -28,8 +28,8 @@ class Answer(NamedTuple):
         return "".join(f"{quoted_line(line)}\n" for line in self.lines).encode()
 
 
-class Requester(NamedTuple):
-    """A requester to whom one of two lists grants a right, and the other one does not. In a POSIX list, all names are
+class ShownDifference(NamedTuple):
+    """A difference as it is shown: a requester, and a right that one of two lists grants. In a POSIX list, all names are
     ids, and the right is some of `rwx` at once."""
 
     owner: Union[str, int]
@@ -39,8 +39,8 @@ class Requester(NamedTuple):
     right: str
 
     @classmethod
-    def of(cls, found: Union[Difference, PosixDifference]) -> Requester:
-        """Returns the requester of a difference that the library found."""
+    def of(cls, found: Union[Difference, PosixDifference]) -> ShownDifference:
+        """Returns what is shown of a difference that the library found."""
         right = mask_text(found.right) if isinstance(found, Difference) else \
             "".join(letter for letter, bit in LETTERS.items() if found.want & bit)
         return cls(found.owner, found.group, found.user, found.groups, right)

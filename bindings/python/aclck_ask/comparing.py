@@ -11,18 +11,18 @@ from aclck_form.values import POSIX
 from aclck_tree.output.errors import NO, YES, TreeError
 from aclck_tree.output.text import quoted
 
-from .answer import Answer, Requester
+from .answer import Reply, ShownDifference
 from .lists import SPECIAL, Given, read_lists
 
 
-def at_most(args: argparse.Namespace, accounts: Optional[SystemIds]) -> Answer:
+def at_most(args: argparse.Namespace, accounts: Optional[SystemIds]) -> Reply:
     """Answers whether the new list grants at most what the old one grants. Raises TreeError if that is not known."""
     old, new = _compared(args, accounts)
     found = _excess(new, old)
     return _answer(("at most", "more"), (old, new), found, ("old denied", "new granted"))
 
 
-def same(args: argparse.Namespace, accounts: Optional[SystemIds]) -> Answer:
+def same(args: argparse.Namespace, accounts: Optional[SystemIds]) -> Reply:
     """Answers whether two lists grant everybody the same. Raises TreeError if that is not known."""
     first, second = _compared(args, accounts)
     found, first_grants = _difference(first, second)
@@ -74,15 +74,15 @@ def _require_one_domain(lists: List[Given]) -> None:
 
 
 def _answer(words: Tuple[str, str], lists: Tuple[Given, Given], found: Union[Difference, PosixDifference, None],
-            ends: Tuple[str, str]) -> Answer:
+            ends: Tuple[str, str]) -> Reply:
     """Returns the first of the words if no requester was found, and otherwise the second one with the requester. `ends`
     says what each list answers to the requester."""
     inherits = any(one.inherits for one in lists)
     note = "what new objects inherit does not count" if inherits else ""
     if found is None:
-        return Answer(YES, {"answer": True, "difference": None, "inherits": inherits}, [words[0]], note)
-    requester = Requester.of(found)
+        return Reply(YES, {"answer": True, "difference": None, "inherits": inherits}, [words[0]], note)
+    shown = ShownDifference.of(found)
     [granted_by] = [end.split()[0] for end in ends if end.endswith("granted")]
-    difference = {**requester._asdict(), "granted_by": granted_by}
+    difference = {**shown._asdict(), "granted_by": granted_by}
     values = {"answer": False, "difference": difference, "inherits": inherits}
-    return Answer(NO, values, [words[1], *requester.lines(), *ends], note)
+    return Reply(NO, values, [words[1], *shown.lines(), *ends], note)

@@ -11,21 +11,21 @@ from aclck_form.values import POSIX
 from aclck_tree.output.errors import YES, TreeError, UsageError
 from aclck_tree.output.text import table
 
-from .answer import Answer
+from .answer import Reply
 from .lists import INHERITED, read_lists
 
 
-def holders(args: argparse.Namespace, accounts: Optional[SystemIds]) -> Answer:
+def holders(args: argparse.Namespace, accounts: Optional[SystemIds]) -> Reply:
     """Answers who has one right, in the words of the library. Raises UsageError if it is no right, and TreeError if the
     list is refused."""
     right = mask_of(args.right)
     if right & (right - 1):
         raise UsageError(f"holders takes one right, and not {args.right!r}")
     lines = _nfs_list(args, accounts).holders(right).split("\n")[:-1]
-    return Answer(YES, {"right": mask_text(right), "holders": lines}, lines)
+    return Reply(YES, {"right": mask_text(right), "holders": lines}, lines)
 
 
-def needed(args: argparse.Namespace, accounts: Optional[SystemIds]) -> Answer:
+def needed(args: argparse.Namespace, accounts: Optional[SystemIds]) -> Reply:
     """Answers which rights of which ACEs decide something, and which can go. Raises TreeError if the list is
     refused."""
     acl = _nfs_list(args, accounts)
@@ -38,7 +38,7 @@ def needed(args: argparse.Namespace, accounts: Optional[SystemIds]) -> Answer:
              for row in rows]
     is_inherited = any(row["inherits"] and row["can_go"] != "-" for row in rows)
     note = "new objects inherit rights that can go, which may be needed there" if is_inherited else ""
-    return Answer(YES, {"aces": rows}, table([*heads, *cells], right=[0]), note)
+    return Reply(YES, {"aces": rows}, table([*heads, *cells], right=[0]), note)
 
 
 def mask_of(text: str) -> int:

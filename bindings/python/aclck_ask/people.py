@@ -15,7 +15,7 @@ from aclck_tree.output.errors import NO, REFUSED, YES, TreeError, UsageError
 from aclck_tree.output.text import quoted
 from aclck_tree.people.people import Accounts, Person, read_id
 
-from .answer import LETTERS, Answer
+from .answer import LETTERS, Reply
 from .describing import mask_of
 from .lists import SPECIAL, Given, is_digits, read_lists
 
@@ -83,7 +83,7 @@ class _Naming(NamedTuple):
         return os.fsencode(account_name(name, self.domain))
 
 
-def who(args: argparse.Namespace, accounts: Optional[SystemIds]) -> Answer:
+def who(args: argparse.Namespace, accounts: Optional[SystemIds]) -> Reply:
     """Answers which of the people have all of some rights on an object. Raises UsageError if these are no rights, and
     TreeError if the list or the people are refused, or it is not known how the list names the owner or the group."""
     is_posix = args.forms[0] in POSIX
@@ -102,14 +102,14 @@ def who(args: argparse.Namespace, accounts: Optional[SystemIds]) -> Answer:
     return _answer(args.right if is_posix else mask_text(rights), people, found)
 
 
-def _answer(right: str, people: Sequence[Person], found: Sequence[Optional[bool]]) -> Answer:
+def _answer(right: str, people: Sequence[Person], found: Sequence[Optional[bool]]) -> Reply:
     """Returns the answer about each of the people: granted or not, or None for not known."""
     named = {word: [person.name for person, one in zip(people, found) if one is answer]
              for answer, word in _WORDS.items()}
     lines = [f"{_WORDS[answer]} {quoted(person.name)}" for person, answer in zip(people, found)]
     status = REFUSED if named["unknown"] else NO if named["denied"] else YES
     note = "unknown: nothing says how the list names the user, or a group of the user" if named["unknown"] else ""
-    return Answer(status, {"right": right, **named}, lines, note)
+    return Reply(status, {"right": right, **named}, lines, note)
 
 
 def _letters(text: str) -> int:

@@ -27,7 +27,8 @@ Name = Union[str, bytes]
 
 
 class SystemIds:
-    """The accounts of this system."""
+    """The names and ids of users and groups that this system knows, by getpwnam(3) and getgrnam(3). It is asked about
+    one at a time, because a directory service may not list them."""
 
     def number_of(self, is_group: bool, name: bytes) -> Optional[int]:
         """Returns the id of a name, or None."""

@@ -179,7 +179,6 @@ const MODE_RIGHTS: Mask = Mask {
     bits: Mask::READ_DATA.bits | WRITE_RIGHTS.bits | Mask::EXECUTE.bits,
 };
 
-// Returns the rights that an ACE loses.
 fn lost_rights(item: &AceRef<'_>, mode: Mode) -> Mask
     ensures { result.bits ≡ lost_rights mode.bits (ace item.now) }
 {

@@ -4,3 +4,5 @@ pub mod NeededRights
 pub mod RightReplaced
 -- the rows of a table in reverse
 pub mod TurnedRows
+-- the most that a list may keep under a bound
+pub mod restriction

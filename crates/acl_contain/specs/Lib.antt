@@ -2,3 +2,4 @@ pub mod Holders
 pub mod Implied
 pub mod Needed
 pub mod internal
+pub mod Removal

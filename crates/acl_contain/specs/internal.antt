@@ -2,3 +2,5 @@
 
 -- the list that grants some rights where another list grants one right
 pub mod RightReplaced
+-- which rights stay under a bound
+pub mod Restriction

@@ -39,7 +39,6 @@ fn words_of_table(alloc: Global, rows: Vec<BorrowedRow<'_>>) -> Result<Vec<u8>, 
     words_of_rows(alloc, &turned)
 }
 
-// The rows in reverse.
 fn turned<'a>(rows: Vec<BorrowedRow<'a>>) -> Vec<BorrowedRow<'a>>
     ensures { map of_borrowed result.items ≡ reverse (map of_borrowed rows.entry.items) }
 {

@@ -1,8 +1,9 @@
-//! Laws of what lists grant at most.
+//! Laws of what lists grant at most, and of the most that a list may keep under a bound.
 
-ghost use Rattle.std.specs.Prelude.{◌↔◌};
-ghost use Rattle.acl_normal.specs.Common.{Ace, all_rights, IsNormalFormOf, List, SameGrants, ℕ};
+ghost use Rattle.std.specs.Prelude.{◌↔◌, ◌≡◌};
+ghost use Rattle.acl_normal.specs.Common.{Ace, all_rights, IsAccepted, IsNormalFormOf, List, SameGrants, full, ℕ};
 ghost use Rattle.acl_eval.specs.Grant.{GrantsAtMost};
+ghost use Rattle.acl_contain.specs.Removal.{IsGreatestRemoval, IsRemoval};
 
 /// Containment of grants: a list contains itself, what a contained list contains is contained too, and two lists grant
 /// the same if and only if each contains the other; the normal form of a list may replace it on either side.
@@ -15,4 +16,22 @@ pub fn containment()
     ensures normal_forms { (list other form other_form : List Ace) → IsNormalFormOf list form
         → IsNormalFormOf other other_form
         → GrantsAtMost all_rights list other ↔ GrantsAtMost all_rights form other_form }
+{}
+
+/// What a list keeps if rights are taken out of its ALLOWs until it grants at most what a bound grants: there is one
+/// list that keeps most, and every other list that is made so is made of that one by taking out more.
+pub fn greatest_removal()
+    // Taking rights out of ALLOWs grants nobody more.
+    ensures less { (list cut : List Ace) → IsRemoval list cut → GrantsAtMost all_rights cut list }
+    // There is a greatest removal, and only one.
+    ensures exists { (list bound : List Ace) → IsAccepted full list → IsAccepted full bound
+        → (cut : List Ace) × IsGreatestRemoval list bound cut }
+    ensures unique { (list bound cut other : List Ace) → IsGreatestRemoval list bound cut
+        → IsGreatestRemoval list bound other → other ≡ cut }
+    // It is the list itself if and only if the list grants at most what the bound grants.
+    ensures unchanged { (list bound cut : List Ace) → IsGreatestRemoval list bound cut
+        → (cut ≡ list) ↔ GrantsAtMost all_rights list bound }
+    // A bound that grants no less takes no more.
+    ensures wider { (list bound wide cut more : List Ace) → GrantsAtMost all_rights bound wide
+        → IsGreatestRemoval list bound cut → IsGreatestRemoval list wide more → IsRemoval more cut }
 {}

@@ -21,8 +21,8 @@ use Rattle.acl_nfs4.specs.declared.ace.AceRef.{AceRef}
 use Rattle.acl_eval.specs.Column.{takes_part}
 use Rattle.acl_decide.specs.Unknown.{AlwaysAnswers, Assignment, GrantsUnder, MayAnswer, MayNotGrant, NeverGrants, answer_under, matches_under}
 use Rattle.acl_decide.specs.internal.RequestBody.{AllowsFrom, ArePassed, HasPassed, IsOneMore, LeavesOut, MayBeGranted, Says, SaysAce, all_but, applies_but, is_open_name, is_out, open_names}
-use Rattle.acl_decide.specs.declared.request_with_unknown.Step.{Step}
-use Rattle.acl_decide.specs.declared.request_with_unknown.Step.TheVariants.{Granted, Denied, Against}
+use Rattle.acl_decide.specs.declared.request_with_unknown.Verdict.{Verdict}
+use Rattle.acl_decide.specs.declared.request_with_unknown.Verdict.TheVariants.{Granted, Denied, Against}
 use Rattle.acl_decide.proofs.Unknowns.{answer_here, answer_passes, answer_skips, match_known, match_unknown}
 use Rattle.acl_decide.proofs.Assignments.{rest_is, deny_allow, none_allow}
 
@@ -195,12 +195,12 @@ decides_parts false t n e = absurd (true≢false (sym e))
 
 -- the ACE at the place decides the right
 pub says_here : (aces : List AceRef) (item : AceRef) (s : Situation) (bit : ℕ) (out : List ℕ → Bool) (place : ℕ)
-    (step : Step) → place < length aces → item ≡ get_or aces place item
-    → (has_bit item.mask.bits bit && applies_but out s (ace item)) ≡ true → SaysAce (ace item) step
-    → Says aces out (AllowsFrom aces s bit place) step
-says_here aces item s bit out place step lt read decides says =
+    (verdict : Verdict) → place < length aces → item ≡ get_or aces place item
+    → (has_bit item.mask.bits bit && applies_but out s (ace item)) ≡ true → SaysAce (ace item) verdict
+    → Says aces out (AllowsFrom aces s bit place) verdict
+says_here aces item s bit out place verdict lt read decides says =
     let (m, t, n) = decides_parts (has_bit item.mask.bits bit) (takes_part (ace item))
-    (matches_under (all_but out) s (ace item)) decides in by step says m t n
+    (matches_under (all_but out) s (ace item)) decides in by verdict says m t n
   where
     rest : List Ace
     rest = map ace (drop (place + 1) aces)
@@ -222,8 +222,8 @@ says_here aces item s bit out place step lt read decides says =
     never v kind un m t allows true e = absurd (denies v kind m t (match_unknown v s (ace item) un ∙ e) allows)
     never v kind un m t allows false e = e
 
-    by : (step : Step) → SaysAce (ace item) step → has_bit item.mask.bits bit ≡ true → takes_part (ace item) ≡ true
-        → matches_under (all_but out) s (ace item) ≡ true → Says aces out (AllowsFrom aces s bit place) step
+    by : (verdict : Verdict) → SaysAce (ace item) verdict → has_bit item.mask.bits bit ≡ true → takes_part (ace item) ≡ true
+        → matches_under (all_but out) s (ace item) ≡ true → Says aces out (AllowsFrom aces s bit place) verdict
     by Granted kind m t n = here (all_but out) m t n ∙ ap (λ (k : Kind). Some k) kind
     by Denied (kind, known) m t n = λ v leaves allows. denies v kind m t
         (match_known v s (ace item) known ∙ (sym (match_known (all_but out) s (ace item) known) ∙ n)) allows
@@ -236,9 +236,9 @@ says_here aces item s bit out place step lt read decides says =
 
 -- a right that is denied by the ACE at its place denies the request that has it
 pub says_request : (aces : List AceRef) (s : Situation) (request bit : ℕ) (out : List ℕ → Bool) (place : ℕ)
-    (step : Step) → has_bit request bit ≡ true → HasPassed aces s bit out 0 place → (step ≡ Granted → ⊥)
-    → Says aces out (AllowsFrom aces s bit place) step
-    → Says aces out (λ v. GrantsUnder v (map ace aces) s request) step
+    (verdict : Verdict) → has_bit request bit ≡ true → HasPassed aces s bit out 0 place → (verdict ≡ Granted → ⊥)
+    → Says aces out (AllowsFrom aces s bit place) verdict
+    → Says aces out (λ v. GrantsUnder v (map ace aces) s request) verdict
 says_request aces s request bit out place Granted asked passed refused says = absurd (refused refl)
 says_request aces s request bit out place Denied asked passed refused says = λ v leaves grants.
     says v leaves (sym (passed v leaves) ∙ grants bit asked)

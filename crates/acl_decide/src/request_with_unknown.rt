@@ -58,7 +58,7 @@ pub fn request_answer(
 
 // What an ACE that decides a right says of a request, or what all ACEs that decide its rights say.
 #[derive(Clone, Copy)]
-enum Step<'a> {
+enum Verdict<'a> {
     Granted,
     Denied,
     Against(&'a [u8]),
@@ -81,9 +81,9 @@ fn may_be_granted(
     let mut places = [0; Bit::COUNT];
     loop {
         match judge(aces, matcher, mask, &out, &mut places) {
-            Step::Granted => return Ok(true),
-            Step::Denied => return Ok(false),
-            Step::Against(who) => {
+            Verdict::Granted => return Ok(true),
+            Verdict::Denied => return Ok(false),
+            Verdict::Against(who) => {
                 out.insert(who)?;
             }
         }
@@ -98,7 +98,7 @@ fn judge<'a>(
     mask: Mask,
     out: &BTreeSet<&'a [u8]>,
     places: &mut [usize; Bit::COUNT],
-) -> Step<'a>
+) -> Verdict<'a>
     requires named { All (λ a. 1 ≤ length a.who.now) aces.now }
     requires passed { ArePassed aces.now (asked_situation matcher.now) mask.bits (is_out out.now)
         places.old }
@@ -110,14 +110,14 @@ fn judge<'a>(
     for right in mask.rights() {
         let bit = Bit::from(right);
         let mut place = places[bit.bit];
-        let step = descend(aces, matcher, bit, out, &mut place);
+        let verdict = descend(aces, matcher, bit, out, &mut place);
         places[bit.bit] = place;
-        match step {
-            Step::Granted => {}
-            _ => return step,
+        match verdict {
+            Verdict::Granted => {}
+            _ => return verdict,
         }
     }
-    Step::Granted
+    Verdict::Granted
 }
 
 // Moves the place down to the ACE that decides the right where all unknown names match but those that are out. Returns
@@ -128,7 +128,7 @@ fn descend<'a>(
     right: Bit,
     out: &BTreeSet<&'a [u8]>,
     place: &mut usize,
-) -> Step<'a>
+) -> Verdict<'a>
     requires { All (λ a. 1 ≤ length a.who.now) aces.now }
     ensures passed { HasPassed aces.now (asked_situation matcher.now) right.bit (is_out out.now)
         place.old place.new }
@@ -137,22 +137,22 @@ fn descend<'a>(
 {
     while let Some(item) = aces.get(*place) {
         if decides(item, matcher, right, out) {
-            return step_of(item);
+            return verdict_of(item);
         }
         *place += 1;
     }
-    Step::Denied
+    Verdict::Denied
 }
 
 // Returns what an ACE says that decides a right. If it is a DENY, only an unknown name may fail to match.
-fn step_of<'a>(item: &AceRef<'a>) -> Step<'a>
+fn verdict_of<'a>(item: &AceRef<'a>) -> Verdict<'a>
     requires { 1 ≤ length item.now.who.now }
     ensures { SaysAce (ace item.now) result }
 {
     match item.kind {
-        Kind::Allow => Step::Granted,
-        Kind::Deny if item.is_unknown() => Step::Against(item.who),
-        Kind::Deny => Step::Denied,
+        Kind::Allow => Verdict::Granted,
+        Kind::Deny if item.is_unknown() => Verdict::Against(item.who),
+        Kind::Deny => Verdict::Denied,
     }
 }
 

@@ -72,7 +72,6 @@ pub fn decided_with_unknown(
     Ok(possible.sorted())
 }
 
-// Finds the answers that are possible for each right of the mask.
 fn possible_answers(
     alloc: Global,
     aces: &[AceRef<'_>],

@@ -206,7 +206,6 @@ impl<'a> Requester<'a> {
     }
 }
 
-// Returns whether no name is empty.
 fn are_named(user: &[u8], groups: &[&[u8]]) -> bool
     ensures { IsTrue result
         ↔ ((0 < length user.now) × All (λ g. 0 < length g.now) groups.now) }

@@ -5,7 +5,6 @@ mod bridging;
 mod creation;
 mod examples;
 mod granting;
-mod harness;
 mod lists;
 mod modes;
 mod naming;

@@ -6,7 +6,7 @@ use Rattle.std.proofs.lemmas.List.{get_or-append_right}
 pub use Rattle.acl_nfs4.proofs.Exports.{text_tests}
 use Rattle.acl_nfs4.specs.AccessPart.{IsAnyWho}
 use Rattle.acl_nfs4.specs.Who.{IsWho, is_unknown_special}
-use Rattle.acl_forms.specs.declared.acl41_ids.Whom.{Whom}
+use Rattle.acl_forms.specs.declared.acl41_ids.IdWho.{IdWho}
 use Rattle.acl_forms.specs.declared.part.any_ace.AnyWho.{AnyWho}
 use Rattle.acl_forms.specs.declared.part.any_ace.AnyWho.TheVariants.{Known, Name, Special}
 use Rattle.acl_forms.specs.internal.AnyAces.{HasAnyName, any_name}
@@ -35,7 +35,7 @@ known_who who is = by (is_unknown_special who) refl
     by true e = absurd grind arith
 
 -- somebody knows whom a special identifier or an id of the code names
-pub known_whom : (whom : Whom) → is_unknown_special (whom_name whom) ≡ false
+pub known_whom : (whom : IdWho) → is_unknown_special (whom_name whom) ≡ false
 known_whom whom = known_who (whom_name whom) (is_who-whom whom)
 
 -- a name that somebody knows is a who

@@ -181,6 +181,7 @@ kept_more aces whole a at h known =
           ∙ ap (λ (n : ℕ). n + count_ones a.mask) h.weight ∙ weight-push aces a;
     }
 
+-- for the rules of a text, and how one of its entries is read
 module _ (rules : TextRules Ace) (read : EntryReader) where
   -- a line has the same items
   line_same : (line : Span) → line_items (any_type_rules rules read) line ≡ line_items rules line

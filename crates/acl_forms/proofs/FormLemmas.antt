@@ -20,8 +20,8 @@ use Rattle.acl_forms.specs.declared.object.ObjectKind.{ObjectKind}
 use Rattle.acl_forms.specs.declared.style.EntrySeparator.{EntrySeparator}
 use Rattle.acl_forms.specs.declared.style.EntrySeparator.TheVariants.{Commas, LineFeeds}
 use Rattle.acl_forms.specs.declared.style.LetterStyle.{LetterStyle}
-use Rattle.acl_forms.specs.declared.writing.WrittenForm.{WrittenForm}
-use Rattle.acl_forms.specs.declared.writing.WrittenForm.TheVariants.{Nfs, Tools}
+use Rattle.acl_forms.specs.declared.writing.AceTextForm.{AceTextForm}
+use Rattle.acl_forms.specs.declared.writing.AceTextForm.TheVariants.{Nfs, Tools}
 use Rattle.acl_forms.specs.internal.TextWriting.{entries_left, entry_of, separator_of}
 
 -- if there is no fault, the first ACE has none, and those after it have none
@@ -112,14 +112,14 @@ part_written holds failures sink after o put text fault e same out one =
 -- ---- the entries of a text
 
 -- the lines of ACEs are the entries of a form with a line feed after each
-lines_left : (form : WrittenForm) (entry : Ace → List ℕ) → separator_of form ≡ LineFeeds → entry_of form ≡ entry
+lines_left : (form : AceTextForm) (entry : Ace → List ℕ) → separator_of form ≡ LineFeeds → entry_of form ≡ entry
     → (list : List Ace) → entries_left form [] list ≡ flat_map (λ a. entry a ++ line_feed ∷ []) list
 lines_left form entry e same [] = refl
 lines_left form entry e same (a ∷ list) =
     rw (e, same, lines_left form entry e same list) (sym (flat_map-cons (λ a. entry a ++ line_feed ∷ []) a list))
 
 -- the entries that are left after one, with a comma before each
-commas_left : (form : WrittenForm) (entry : Ace → List ℕ) → separator_of form ≡ Commas → entry_of form ≡ entry
+commas_left : (form : AceTextForm) (entry : Ace → List ℕ) → separator_of form ≡ Commas → entry_of form ≡ entry
     → (list : List Ace) → entries_left form (comma ∷ []) list ≡ flat_map (λ a. comma ∷ entry a) list
 commas_left form entry e same [] = refl
 commas_left form entry e same (a ∷ list) =

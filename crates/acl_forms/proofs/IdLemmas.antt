@@ -26,8 +26,8 @@ use Rattle.acl_forms.specs.declared.acl_flags.AclFlags.{AclFlags}
 use Rattle.acl_forms.specs.declared.fault.ReadFault.{ReadFault}
 use Rattle.acl_forms.specs.declared.fault.ReadReason.TheVariants as reason
 use Rattle.acl_forms.specs.declared.acl41_ids.IdAce.{IdAce}
-use Rattle.acl_forms.specs.declared.acl41_ids.Whom.{Whom}
-use Rattle.acl_forms.specs.declared.acl41_ids.Whom.TheVariants.{Owner, Group, Everyone, Account}
+use Rattle.acl_forms.specs.declared.acl41_ids.IdWho.{IdWho}
+use Rattle.acl_forms.specs.declared.acl41_ids.IdWho.TheVariants.{Owner, Group, Everyone, Account}
 use Rattle.acl_forms.specs.internal.IdAces.{ReadAs, ace_by_id, whom_name, flags_and_list}
 use Rattle.acl_forms.proofs.WordLemmas.{Takes, Takes-then, flags_again, flags_found, place_at, word_again, word_takes}
 use Rattle.acl_forms.proofs.IdAces.{ace_again, ace_takes, listed_again, listed_ok}
@@ -138,7 +138,7 @@ unfolding id_aces_from
 ids_done left list at e = rw e refl
 
 -- a special identifier or an id of the code is valid as a who
-pub is_who-whom : (w : Whom) → IsWho (whom_name w)
+pub is_who-whom : (w : IdWho) → IsWho (whom_name w)
 is_who-whom Owner = is_who-owner
 is_who-whom Group = is_who-group
 is_who-whom Everyone = is_who-everyone

@@ -30,12 +30,12 @@ pub(crate) struct IdAce {
     pub kind: Kind,
     pub flags: Flags,
     pub mask: Mask,
-    pub whom: Whom,
+    pub whom: IdWho,
 }
 
 /// A special identifier, or the id of a user or a group.
 #[derive(Clone, Copy)]
-pub(crate) enum Whom {
+pub(crate) enum IdWho {
     Owner,
     Group,
     Everyone,
@@ -126,20 +126,19 @@ fn push(list: &mut Acl, item: IdAce) -> Result<(), AllocError>
 }
 
 // Returns the who. The digits of an id are written into the buffer.
-pub(crate) fn name_of(whom: Whom, digits: &mut Buffer) -> &[u8]
+pub(crate) fn name_of(whom: IdWho, digits: &mut Buffer) -> &[u8]
     ensures { result.now ≡ whom_name whom }
 {
     match whom {
-        Whom::Owner => OWNER_NAME.as_bytes(),
-        Whom::Group => GROUP_NAME.as_bytes(),
-        Whom::Everyone => EVERYONE_NAME.as_bytes(),
-        Whom::Account(id) => digits.format(id.value()).as_bytes(),
+        IdWho::Owner => OWNER_NAME.as_bytes(),
+        IdWho::Group => GROUP_NAME.as_bytes(),
+        IdWho::Everyone => EVERYONE_NAME.as_bytes(),
+        IdWho::Account(id) => digits.format(id.value()).as_bytes(),
     }
 }
 
 // ---- the words of an ACE
 
-// Reads the next ACE.
 #[tactic(auto, unfolding(crate::specs::Acl41Ids::id_ace_at))]
 fn next_ace(cursor: &mut Cursor<'_>, weight: u32) -> Result<IdAce, ReadFault>
     requires { weight ≤ most_weight }
@@ -213,7 +212,7 @@ pub(crate) fn mask(cursor: &mut Cursor<'_>, weight: u32) -> Result<Mask, ReadFau
     placed_listed(offset, mask_of(word(cursor)?, weight, Profile::FULL))
 }
 
-fn whom_word(cursor: &mut Cursor<'_>, special: u32) -> Result<Whom, ReadFault>
+fn whom_word(cursor: &mut Cursor<'_>, special: u32) -> Result<IdWho, ReadFault>
     ensures { Gives (λ x. (whom_name x, place cursor.new)) result
         (word_at (id_who_of special) (place cursor.old)) }
 {
@@ -222,7 +221,7 @@ fn whom_word(cursor: &mut Cursor<'_>, special: u32) -> Result<Whom, ReadFault>
 }
 
 #[tactic(auto, unfolding(crate::specs::Acl41Ids::id_who_of))]
-fn whom_of(special: u32, number: u32) -> Result<Whom, ReadReason>
+fn whom_of(special: u32, number: u32) -> Result<IdWho, ReadReason>
     ensures { Gives whom_name result (id_who_of special number) }
 {
     if special == 1 {
@@ -231,22 +230,22 @@ fn whom_of(special: u32, number: u32) -> Result<Whom, ReadReason>
     account_of(number)
 }
 
-pub(crate) fn account_of(number: u32) -> Result<Whom, ReadReason>
+pub(crate) fn account_of(number: u32) -> Result<IdWho, ReadReason>
     ensures { Gives whom_name result (id_who number) }
 {
     match Id::new(number) {
-        Some(id) => Ok(Whom::Account(id)),
+        Some(id) => Ok(IdWho::Account(id)),
         None => Err(ReadReason::Id),
     }
 }
 
-pub(crate) fn special_whom(number: u32) -> Result<Whom, ReadReason>
+pub(crate) fn special_whom(number: u32) -> Result<IdWho, ReadReason>
     ensures { Gives whom_name result (special_who number) }
 {
     match number {
-        1 => Ok(Whom::Owner),
-        2 => Ok(Whom::Group),
-        3 => Ok(Whom::Everyone),
+        1 => Ok(IdWho::Owner),
+        2 => Ok(IdWho::Group),
+        3 => Ok(IdWho::Everyone),
         _ => Err(ReadReason::List(Reason::SpecialWho)),
     }
 }

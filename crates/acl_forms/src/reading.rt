@@ -51,7 +51,6 @@ fn read_lines<F: TextForm>(alloc: Global, text: &[u8], form: F) -> Result<F::Lis
     Ok(list)
 }
 
-// Adds the entries of a line.
 #[tactic(auto, unfolding(crate::specs::Texts::line_items))]
 fn read_line<F: TextForm>(list: &mut F::List, line: Piece<'_>, form: F) -> Result<(), ReadFault>
     requires fits { ColumnsFit line }
@@ -77,7 +76,6 @@ fn mark_in(line: &[u8]) -> Option<usize>
     place_of(line, b'#')
 }
 
-// Judges the comment that begins at this place of a line.
 #[tactic(auto, unfolding(crate::specs::Texts::comment_fault))]
 fn judge_comment<F: TextForm>(line: Piece<'_>, place: usize, form: F) -> Result<(), ReadFault>
     requires fits { ColumnsFit line }
@@ -107,7 +105,6 @@ fn read_entries<F: TextForm>(list: &mut F::List, line: Piece<'_>, form: F) -> Re
     read_parts(list, line, form)
 }
 
-// Adds the entries among the parts of a line.
 fn read_parts<F: TextForm>(list: &mut F::List, line: Piece<'_>, form: F) -> Result<(), ReadFault>
     requires fits { ColumnsFit line }
     requires held { (all : List F.Item) × F.Holds list.old all }

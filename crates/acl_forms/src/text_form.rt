@@ -10,7 +10,6 @@ use std::alloc::Global;
 
 /// A form of text, whose lines have entries.
 pub(crate) trait TextForm: Copy {
-    /// The list to which the entries of a text are added.
     type List: Drop;
 
     // What an entry spells.
@@ -40,7 +39,6 @@ pub(crate) trait TextForm: Copy {
     fn is_line_skipped(self, line: &[u8]) -> bool
         ensures { result ≡ (rules self).is_line_skipped line.now };
 
-    /// Returns whether a part of a line is no entry.
     fn is_part_skipped(self, part: &[u8]) -> bool
         ensures { result ≡ (rules self).is_part_skipped part.now };
 

@@ -36,7 +36,6 @@ pub(crate) fn start(bytes: &[u8]) -> Cursor<'_>
     }
 }
 
-/// Reads the flags of the list.
 pub(crate) fn acl_flags(cursor: &mut Cursor<'_>) -> Result<AclFlags, ReadFault>
     ensures { Gives (λ x. (x.bits, place cursor.new)) result
         (word_at acl_flags_of (place cursor.old)) }

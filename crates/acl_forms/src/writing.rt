@@ -34,25 +34,24 @@ pub(crate) const RETENTION: Mask = Mask {
 
 /// A form of text that is written entry by entry.
 #[derive(Clone, Copy)]
-pub(crate) enum WrittenForm {
+pub(crate) enum AceTextForm {
     /// The text of nfs4-acl-tools.
     Tools,
     /// The text of FreeBSD, ZFS and libarchive.
     Nfs(Style),
 }
 
-impl WrittenForm {
+impl AceTextForm {
     // Returns what separates the entries.
     fn separator(self) -> EntrySeparator
         ensures { result ≡ separator_of self }
     {
         match self {
-            WrittenForm::Tools => EntrySeparator::LineFeeds,
-            WrittenForm::Nfs(style) => style.separator,
+            AceTextForm::Tools => EntrySeparator::LineFeeds,
+            AceTextForm::Nfs(style) => style.separator,
         }
     }
 
-    // Adds the entry of an ACE to a line that has room for it.
     fn add_entry(self, line: &mut Line, item: AceRef<'_>)
         requires room { array_vec_len line.old ≤ 1 }
         requires short { length item.who.now ≤ longest_who }
@@ -60,8 +59,8 @@ impl WrittenForm {
         ensures len { array_vec_len line.new < text_line_room }
     {
         match self {
-            WrittenForm::Tools => tools::writer::add_entry(line, item),
-            WrittenForm::Nfs(style) => nfs_text::writer::add_entry(line, item, style.letters),
+            AceTextForm::Tools => tools::writer::add_entry(line, item),
+            AceTextForm::Nfs(style) => nfs_text::writer::add_entry(line, item, style.letters),
         }
     }
 }
@@ -70,7 +69,7 @@ impl WrittenForm {
 pub(crate) fn put_entries<S: Sink>(
     sink: &mut S,
     aces: Aces<'_>,
-    form: WrittenForm,
+    form: AceTextForm,
 ) -> Result<u64, WriteFault>
     requires { length aces ≤ most_aces }
     ensures written { WritesFrom (S.contents sink.old) (S.contents sink.new) 0
@@ -93,7 +92,6 @@ pub(crate) fn put_entries<S: Sink>(
     Ok(done)
 }
 
-/// Adds bytes to a line that has room for them.
 pub(crate) fn add(line: &mut Line, bytes: &[u8])
     requires { array_vec_len line.old + length bytes.now ≤ text_line_room }
     ensures items { line.new.items ≡ line.old.items ++ bytes.now }

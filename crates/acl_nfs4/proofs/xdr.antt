@@ -13,6 +13,8 @@ pub mod PulledAce
 pub mod PulledList
 pub mod Parts
 pub mod AnyLists
+pub mod Layouts
+pub mod PartFaults
 pub mod AcesAt
 pub mod SuffixedNames
 pub mod FirstPassing

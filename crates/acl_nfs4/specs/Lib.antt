@@ -6,6 +6,7 @@ pub mod Spelling
 pub mod Front
 pub mod AceAt
 pub mod Fields
+pub mod Layout
 pub mod Fault
 pub mod BitNames
 pub mod Rights

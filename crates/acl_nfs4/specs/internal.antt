@@ -1,5 +1,5 @@
 -- What only the code and its proofs need (this library's own): no clause of a public call cites it. Two definitions that
--- such clauses cite are made of it: the fault of a list of any ACEs (`PartFault`) is found field by field, by `Reading`,
+-- such clauses cite are made of it: the who of a list of any ACEs (`PartFault`) is judged by `text_fault` of `Reading`,
 -- and the words of acl_forms (`Words`) are at the places of `Reading`.
 
 -- the result of reading a list's bytes from left to right, and its fault

@@ -2,7 +2,7 @@
 use Rattle.acl_normal.proofs.Common.{Ace, AddsRow, AreRows, Bool, ColumnKey, IsOnce, IsQuiet, IsTidy, List, Some, [], ace_key, all_cleared, ap, arith, bytes_eq, cleared, column, eqb-true, everyone_name, false, first_at, flags_for, group_name, has_bit, identifier_group, key_here, left, length, map, map-append, mask_here, of_borrowed, owner_name, principal_here, principal_of, refl, slice_index_or, subst, suc, sym, take, take_all, take_more, true, with_bit, zero, ℕ, ◌++◌, ◌+◌, ◌<◌, ◌==◌, ◌∙◌, ◌∷◌, ◌≡◌, ◌≤◌}
 use Rattle.std.proofs.lemmas.List.Elements.{filter-append}
 use Rattle.acl_normal.specs.Tables.{TableRow}
-use Rattle.acl_normal.specs.declared.bit_table.BorrowedRow.{BorrowedRow}
+use Rattle.acl_normal.specs.declared.right_table.BorrowedRow.{BorrowedRow}
 use Rattle.acl_normal.proofs.Tables.{row_pushed}
 use Rattle.acl_normal.proofs.emit.RisingKeys.{named_again}
 use Rattle.acl_normal.proofs.rows.FirstPlaces.{first_by_place, first_here}

@@ -3,7 +3,7 @@ use Rattle.std.proofs.Common.{◌≡◌, ℕ, ◌+◌, ◌<◌, true, List, [], 
 use Rattle.acl_normal.proofs.Common.{Ace, AddsRow, All, ap, AreRows, arith, column, counts, Emitted, emitted_ace, emitted_aces, first_at, first_place_of, has_bit, HasKey, HasFirstPlaces, identifier_group, IsAlike, IsOnce, KeepsFirsts, Kind, map, map-append, None, of_borrowed, Option, plain_key, Principal, principal_of, slice_index_or, Some, AreInRows, subst, sym, take_more, with_bit, ◌∙◌, same_Some}
 use Rattle.std.proofs.lemmas.List.Elements.{filter-append}
 use Rattle.acl_normal.specs.Tables.{IsRow, TableRow}
-use Rattle.acl_normal.specs.declared.bit_table.BorrowedRow.{BorrowedRow}
+use Rattle.acl_normal.specs.declared.right_table.BorrowedRow.{BorrowedRow}
 use Rattle.acl_normal.proofs.unique.Columns.{column_has, column-append, no_inherit_only}
 use Rattle.acl_normal.proofs.unique.Names.{overlaps_itself}
 use Rattle.acl_normal.proofs.unique.SameOrder.{once_has}

@@ -7,8 +7,8 @@ use Rattle.acl_nfs4.specs.Ace.{Ace}
 use Rattle.acl_nfs4.specs.Who.{principal_of}
 use Rattle.acl_normal.specs.NormalForm.{IsNormalFormOf}
 use Rattle.acl_normal.specs.Places.{first_at}
-use Rattle.acl_normal.specs.declared.bit_table.BorrowedRow.{BorrowedRow}
-use Rattle.acl_normal.specs.declared.bit_table.Row.{Row}
+use Rattle.acl_normal.specs.declared.right_table.BorrowedRow.{BorrowedRow}
+use Rattle.acl_normal.specs.declared.right_table.Row.{Row}
 
 -- the ACEs that have the right, in order
 abbrev pub with_bit : ℕ → List Ace → List Ace

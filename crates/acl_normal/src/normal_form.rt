@@ -71,7 +71,6 @@ pub fn normal_bytes_with(alloc: Global, bytes: &[u8], profile: Profile) -> Resul
     }
 }
 
-// The bytes of the normal form of the list of a view.
 fn spelled_form(alloc: Global, view: &AclView<'_>) -> Result<Vec<u8>, AllocError>
     ensures { IfOk result (λ text. (form : List Ace) × IsNormalFormOf view.now form
         × (text.items ≡ spelling form)) }

@@ -5,7 +5,7 @@ ghost use Rattle.acl_nfs4.specs.AceText.{kind_name, space};
 ghost use Rattle.acl_normal.specs.Programs.{AreTableOf, group_word, row_line, rows_text};
 ghost use Rattle.acl_normal.specs.Tables.{TableRow};
 
-use crate::bit_table::{BorrowedRow, borrowed_rows};
+use crate::right_table::{BorrowedRow, borrowed_rows};
 use acl_nfs4::Acl;
 use acl_perm::{Kind, Mask};
 use itoa::Buffer;

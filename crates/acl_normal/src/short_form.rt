@@ -69,7 +69,6 @@ fn needed_rights(alloc: Global, aces: &[AceRef<'_>]) -> Result<NeededRights, All
     Ok(NeededRights { masks, rows })
 }
 
-// The number of rights that the masks have together.
 fn count_rights(masks: &[Mask]) -> usize
     requires { length masks.now < list_limit }
     ensures { result ≡ rights_together masks.now }
@@ -112,7 +111,6 @@ fn emitted<'a>(
     drain_short(alloc, &mut left)
 }
 
-// Whether both are the same ACEs.
 fn are_equal(list: &[Emitted<'_>], other: &[Emitted<'_>]) -> bool
     ensures { IsTrue result ↔ (emitted_aces list.now ≡ emitted_aces other.now) }
 {

@@ -63,7 +63,6 @@ impl Mask {
 impl From<Right> for Mask {
     ghost from_gives = { λ right mask. mask.bits ≡ 2 ^ right.bit };
 
-    /// Returns the set that has this right alone.
     fn from(right: Right) -> Mask {
         Mask {
             bits: 1 << right.bit,

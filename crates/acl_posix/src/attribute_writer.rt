@@ -41,7 +41,6 @@ pub fn version_bytes() -> [u8; 4]
     bytes
 }
 
-/// Appends the bytes of the entries.
 fn put_entries(bytes: &mut Vec<u8>, entries: &[Entry]) -> Result<(), AllocError>
     ensures { OnOk result (bytes.new.items
         ≡ bytes.old.items ++ flat_map entry_bytes (pairs entries.now)) }
@@ -64,7 +63,6 @@ pub fn entry_bytes(entry: Entry) -> [u8; 8]
     bytes
 }
 
-/// Returns the code of a tag type.
 fn tag_code(tag: Tag) -> u16
     ensures { result ≡ tag_code (tag_of tag) }
 {

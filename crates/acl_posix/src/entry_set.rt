@@ -22,7 +22,6 @@ pub(crate) trait EntrySet {
     // The permissions of each tag.
     ghost entries: { Self → Entries };
 
-    /// Returns the number of the entries.
     fn count(&self) -> usize
         ensures { result ≡ length (set.entries (entries self.now)) };
 
@@ -77,7 +76,6 @@ pub(crate) trait EntrySet {
         None
     }
 
-    /// Returns whether a tag has an entry.
     fn has(&self, tag: Tag) -> bool
         ensures { result ≡ set.contains_key (entries self.now) (tag_of tag) }
     {
@@ -102,7 +100,6 @@ pub(crate) trait EntrySet {
         }
     }
 
-    /// Returns the file mode bits.
     fn mode_bits(&self) -> Mode
         ensures { result.bits ≡ mode_of (entries self.now) }
     {

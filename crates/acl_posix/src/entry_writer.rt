@@ -58,7 +58,6 @@ fn put_ending(line: &mut [u8; LINE], form: Form, effective: Perm, perm: Perm) ->
     }
 }
 
-// Puts a colon and the permissions.
 fn put_perm(line: &mut [u8; LINE], end: usize, perm: Perm) -> usize
     requires room { perm_room ≤ end }
     requires inside { end ≤ line_room }
@@ -91,7 +90,6 @@ fn put_qualifier(line: &mut [u8; LINE], end: usize, tag: Tag) -> usize
     }
 }
 
-// Puts the word of a tag and a colon.
 fn put_word(line: &mut [u8; LINE], end: usize, form: Form, tag: Tag) -> usize
     requires room { word_room ≤ end }
     requires inside { end ≤ line_room }

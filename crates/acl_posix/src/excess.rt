@@ -211,7 +211,6 @@ pub(crate) trait Excess: GroupAnswers {
 
 impl Excess for SortedEntries {}
 
-/// Returns the difference for the owner of an object.
 fn owner_difference(request: Perm) -> PosixDifference
     ensures owner { result.user ≡ result.owner }
     ensures request { result.request ≡ request }

@@ -8,7 +8,6 @@ pub(crate) trait GroupNumber: Copy {
     // The number of the group.
     ghost number: { Self → ℕ };
 
-    /// Returns the number of the group.
     fn number(self) -> u32
         ensures { result ≡ number self };
 }

@@ -30,7 +30,7 @@ pub(crate) enum IdPrincipal {
 
 /// An ACE that was read from a prepared list of ids, and the bytes after it.
 #[derive(Clone, Copy)]
-pub(crate) struct IdAce<'a> {
+pub(crate) struct PreparedIdAce<'a> {
     pub mask: Mask,
     pub kind: Kind,
     pub rest: &'a [u8],
@@ -38,7 +38,7 @@ pub(crate) struct IdAce<'a> {
     id: u32,
 }
 
-impl IdAce<'_> {
+impl PreparedIdAce<'_> {
     /// Returns whom the ACE names, which is asked only if the ACE has a right that is not decided yet.
     #[inline(always)]
     pub(crate) fn whom(&self) -> IdPrincipal
@@ -91,7 +91,7 @@ fn id_or_zero(id: Option<Id>) -> u32
 
 /// Returns the ACE that the bytes begin with, or `None` if they begin with none.
 #[inline(always)]
-pub(crate) fn first_id_ace(bytes: &[u8]) -> Option<IdAce<'_>>
+pub(crate) fn first_id_ace(bytes: &[u8]) -> Option<PreparedIdAce<'_>>
     ensures shorter { IfSome result (λ first. length first.rest.now < length bytes.now) }
     ensures first { (a : Ace) (more : List ℕ) → IsIdPart a → bytes.now ≡ id_ace a ++ more
         → IsSome result × IfSome result (λ first. IsIdReadAs a first × (first.rest.now ≡ more)) }
@@ -100,7 +100,7 @@ pub(crate) fn first_id_ace(bytes: &[u8]) -> Option<IdAce<'_>>
     let number = u64::from_le_bytes(*number);
     let mask = Mask::new((number % SORT) as u32)?;
     let sort = number / SORT % 16;
-    Some(IdAce {
+    Some(PreparedIdAce {
         mask,
         kind: kind_of(sort),
         rest,

@@ -112,7 +112,6 @@ fn all_marked() -> [u64; WORDS]
     [u64::MAX; WORDS]
 }
 
-// Marks the key of each name.
 fn marked(names: &[&[u8]]) -> [u64; WORDS]
     ensures { AreKeysOf result (map (λ g. g.now) names.now) }
 {
@@ -123,7 +122,6 @@ fn marked(names: &[&[u8]]) -> [u64; WORDS]
     marks
 }
 
-// Marks one more key.
 #[inline(always)]
 fn mark(marks: &mut [u64; WORDS], key: u8)
     ensures { (other : ℕ)
@@ -132,7 +130,6 @@ fn mark(marks: &mut [u64; WORDS], key: u8)
     marks[key as usize / 64] |= 1 << (key % 64);
 }
 
-// Returns whether the key is marked.
 #[inline(always)]
 fn is_marked(marks: &[u64; WORDS], key: u8) -> bool
     ensures { result ≡ is_marked marks.now key }

@@ -125,7 +125,6 @@ pub(crate) fn first_prepared(bytes: &[u8]) -> Option<PreparedAce<'_>>
     })
 }
 
-/// Returns the kind of an ACE of this sort.
 #[inline(always)]
 pub(crate) fn kind_of(sort: u64) -> Kind
     ensures { result ≡ (if sort % 2 == 0 then Allow else Deny) }

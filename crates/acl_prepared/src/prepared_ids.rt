@@ -11,7 +11,7 @@ ghost use Rattle.acl_eval.specs.internal.EachRightBody.{granted_in, left_in};
 ghost use Rattle.acl_prepared.specs.internal.IdsBody.{AreIdParts, IsIdPart, IsIdReadAs};
 ghost use Rattle.acl_prepared.specs.internal.PreparedBody.{DecidesAs};
 
-use crate::id_ace::{IdAce, first_id_ace, push_id_ace};
+use crate::id_ace::{PreparedIdAce, first_id_ace, push_id_ace};
 use crate::id_request::{IdObject, IdRequester};
 use acl_eval::DecidedRights;
 use acl_eval::internal::GrantedSoFar;
@@ -135,7 +135,7 @@ fn decided_to(
 #[inline(always)]
 fn after_id(
     so_far: GrantedSoFar,
-    item: &IdAce<'_>,
+    item: &PreparedIdAce<'_>,
     object: IdObject,
     requester: &IdRequester<'_>,
 ) -> GrantedSoFar

@@ -10,7 +10,7 @@ ghost use Rattle.acl_to_posix.specs.internal.PruningBody.{AreDecidedAt, AreDenie
 ghost use Rattle.acl_to_posix.specs.internal.ShapeBody.{is_certain, most_names, entry_shape_of};
 
 use crate::posix_shape::{PosixShape, entry_perm, is_certain};
-use crate::tag_column::{Columns, TagKey, is_same};
+use crate::tag_column::{TagColumns, TagKey, is_same};
 use acl_eval::internal::{EXECUTE, READ, WRITE};
 use acl_perm::{Kind, Perm};
 use acl_posix::Tag;
@@ -36,7 +36,7 @@ pub(crate) struct JudgedEntry {
 }
 
 /// Returns the entry of a tag, with what is known of it.
-pub(crate) fn judged(columns: &Columns, shape: &PosixShape<'_>, tag: Tag) -> JudgedEntry
+pub(crate) fn judged(columns: &TagColumns, shape: &PosixShape<'_>, tag: Tag) -> JudgedEntry
     requires few { size_of (entry_shape_of shape.now) ≤ most_names }
     requires there { IsTrue (is_in_shape (entry_shape_of shape.now) (tag_of tag)) }
     ensures judged { IsJudged columns.now (entry_shape_of shape.now) result }
@@ -54,7 +54,7 @@ pub(crate) fn judged(columns: &Columns, shape: &PosixShape<'_>, tag: Tag) -> Jud
 }
 
 // Returns where the rights of the permissions of an entry are decided.
-fn decided_places(columns: &Columns, entry: Tag, perm: Perm) -> Places
+fn decided_places(columns: &TagColumns, entry: Tag, perm: Perm) -> Places
     ensures { AreDecidedAt columns.now (tag_of entry) perm.bits result }
 {
     let may_write = perm.contains(WRITE);
@@ -67,7 +67,7 @@ fn decided_places(columns: &Columns, entry: Tag, perm: Perm) -> Places
 }
 
 // Returns where the rights are denied to the principal of an entry.
-fn denied_places(columns: &Columns, name: Tag) -> Places
+fn denied_places(columns: &TagColumns, name: Tag) -> Places
     ensures { AreDenied columns.now (tag_of name) result }
 {
     Places {

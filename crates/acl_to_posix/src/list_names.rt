@@ -25,7 +25,6 @@ pub(crate) struct NamedIds {
 }
 
 impl NamedIds {
-    /// Returns the shape with an entry for each of them.
     pub(crate) fn shape(&self) -> PosixShape<'_>
         ensures { entry_shape_of result ≡ named_shape self.now }
     {
@@ -189,7 +188,6 @@ fn relevant_id(kind: IdKind, names: &Names, item: &AceRef<'_>) -> Option<Id>
     }
 }
 
-// Returns the id of the user whom a relevant ACE names.
 fn relevant_user(names: &Names, item: &AceRef<'_>) -> Option<Id>
     ensures { option_map (λ id. id.value) result ≡ relevant_user names.now (ace item.now) }
 {

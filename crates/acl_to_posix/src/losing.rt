@@ -10,7 +10,7 @@ ghost use Rattle.acl_to_posix.specs.internal.ShapeBody.{AreColumns};
 
 use crate::list_names::bounded_names;
 use crate::posix_shape::ShapeFault;
-use crate::tag_column::{Columns, TagKey, columns_of};
+use crate::tag_column::{TagColumns, TagKey, columns_of};
 use acl_eval::internal::{EXECUTE, READ, WRITE};
 use acl_ids::first_unknown;
 use acl_nfs4::AclView;
@@ -129,7 +129,7 @@ fn check_bound(
 /// Returns a loss, if there is one, for the list of which these are the columns. Fails only if memory runs out.
 pub(crate) fn first_lost(
     alloc: Global,
-    columns: &Columns,
+    columns: &TagColumns,
     acl: &PosixAcl,
 ) -> Result<Option<LostGrant>, AllocError>
     requires few { AreSmall columns.now acl.now }

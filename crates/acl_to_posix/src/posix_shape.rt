@@ -11,7 +11,7 @@ ghost use Rattle.acl_to_posix.specs.ToPosix.{IsBest, is_in_shape, size_of};
 ghost use Rattle.acl_to_posix.specs.internal.ShapeBody.{AreColumns, HasPassAnswers, HasJust, HasThree, IsEntryPut, answer, is_certain, may_match, keys_of, may_be_user, most_names, empty_shape, users_of, entry_shape_of};
 ghost use Rattle.acl_to_posix.specs.declared.posix_shape.ShapeFault.TheVariants.{Memory};
 
-use crate::tag_column::{Columns, TagKey, is_same};
+use crate::tag_column::{TagColumns, TagKey, is_same};
 use acl_perm::{Kind, Mode, Perm};
 use acl_posix::{Id, PosixAcl, Tag, laws};
 use std::alloc::{AllocError, Global};
@@ -58,7 +58,7 @@ pub(crate) struct PosixShape<'a> {
 /// memory runs out. The time is at most proportional to the square of the number of entries, times the number of keys.
 pub(crate) fn best_of_columns(
     alloc: Global,
-    columns: &Columns,
+    columns: &TagColumns,
     shape: &PosixShape<'_>,
 ) -> Result<PosixAcl, AllocError>
     requires few { size_of (entry_shape_of shape.now) ≤ most_names }
@@ -83,7 +83,7 @@ fn is_within(shape: &PosixShape<'_>, most: u16) -> bool
 // Returns the ACL with USER_OBJ, GROUP_OBJ and OTHER.
 fn three_entries(
     alloc: Global,
-    columns: &Columns,
+    columns: &TagColumns,
     shape: &PosixShape<'_>,
 ) -> Result<PosixAcl, AllocError>
     requires few { size_of (entry_shape_of shape.now) ≤ most_names }
@@ -103,7 +103,7 @@ fn three_entries(
 // Adds MASK and the entries of the users and groups of the shape.
 fn with_named(
     acl: PosixAcl,
-    columns: &Columns,
+    columns: &TagColumns,
     shape: &PosixShape<'_>,
 ) -> Result<PosixAcl, AllocError>
     requires few { size_of (entry_shape_of shape.now) ≤ most_names }
@@ -124,10 +124,9 @@ fn with_named(
     Ok(acl)
 }
 
-// Adds the entries of the users.
 fn add_users(
     acl: &mut PosixAcl,
-    columns: &Columns,
+    columns: &TagColumns,
     shape: &PosixShape<'_>,
 ) -> Result<(), AllocError>
     requires few { size_of (entry_shape_of shape.now) ≤ most_names }
@@ -146,7 +145,7 @@ fn add_users(
 // Adds the entries of the groups, after those of the users.
 fn add_groups(
     acl: &mut PosixAcl,
-    columns: &Columns,
+    columns: &TagColumns,
     shape: &PosixShape<'_>,
 ) -> Result<(), AllocError>
     requires few { size_of (entry_shape_of shape.now) ≤ most_names }
@@ -172,8 +171,7 @@ fn put(acl: &mut PosixAcl, tag: Tag, perm: Perm) -> Result<(), AllocError>
     }
 }
 
-/// Returns the permissions of an entry of the shape.
-pub(crate) fn entry_perm(columns: &Columns, shape: &PosixShape<'_>, entry: Tag) -> Perm
+pub(crate) fn entry_perm(columns: &TagColumns, shape: &PosixShape<'_>, entry: Tag) -> Perm
     requires few { size_of (entry_shape_of shape.now) ≤ most_names }
     requires there { IsTrue (is_in_shape (entry_shape_of shape.now) (tag_of entry)) }
     ensures answers { HasPassAnswers columns.now (entry_shape_of shape.now) (tag_of entry)
@@ -188,7 +186,6 @@ pub(crate) fn entry_perm(columns: &Columns, shape: &PosixShape<'_>, entry: Tag) 
     perm_of(may_read, may_write & may_append, may_execute)
 }
 
-// Returns the set of these permissions.
 fn perm_of(may_read: bool, may_write: bool, may_execute: bool) -> Perm
     ensures read { has_bit result.bits read ≡ may_read }
     ensures write { has_bit result.bits write ≡ may_write }
@@ -246,7 +243,6 @@ fn may_be_user(shape: &PosixShape<'_>, id: Id, entry: Tag) -> bool
     }
 }
 
-/// Returns whether the id is one of these ids.
 pub(crate) fn is_among(among: &[Id], id: Id) -> bool
     ensures { result ≡ is_member id.value (ids among.now) }
 {

@@ -9,19 +9,19 @@ ghost use Rattle.acl_to_posix.specs.Pruning.{PrunesTo};
 ghost use Rattle.acl_to_posix.specs.ToPosix.{size_of};
 ghost use Rattle.acl_to_posix.specs.internal.PruningBody.{AreAllJudged, AreJudged, AreJudgedFor, AreUsersJudged, can_go, groups_left, shape_left, stands_without, users_left};
 ghost use Rattle.acl_to_posix.specs.internal.ShapeBody.{AreColumns, empty_shape, most_names, entry_shape_of};
-ghost use Rattle.acl_to_posix.specs.declared.tag_column.Columns.{Columns as Keys};
+ghost use Rattle.acl_to_posix.specs.declared.tag_column.TagColumns.{TagColumns as Keys};
 
 use crate::judged_entry::{JudgedEntry, is_named, judged, stands_without};
 use crate::list_names::NamedIds;
 use crate::posix_shape::PosixShape;
-use crate::tag_column::{Columns, is_same};
+use crate::tag_column::{TagColumns, is_same};
 use acl_posix::{Id, Tag};
 use std::alloc::{AllocError, Global};
 
 /// Returns the users and the groups of a shape that are left after as many were taken out as can go without loss.
 pub(crate) fn pruned(
     alloc: Global,
-    columns: &Columns,
+    columns: &TagColumns,
     shape: &PosixShape<'_>,
 ) -> Result<NamedIds, AllocError>
     requires few { size_of (entry_shape_of shape.now) ≤ most_names }
@@ -37,7 +37,7 @@ pub(crate) fn pruned(
 // Returns the entries of a shape, without USER_OBJ, from which nothing can be taken.
 fn judged_entries(
     alloc: Global,
-    columns: &Columns,
+    columns: &TagColumns,
     shape: &PosixShape<'_>,
 ) -> Result<Vec<JudgedEntry>, AllocError>
     requires few { size_of (entry_shape_of shape.now) ≤ most_names }
@@ -54,7 +54,7 @@ fn judged_entries(
 // Adds the entries of GROUP_OBJ and OTHER.
 fn add_unnamed(
     left: &mut Vec<JudgedEntry>,
-    columns: &Columns,
+    columns: &TagColumns,
     shape: &PosixShape<'_>,
 ) -> Result<(), AllocError>
     requires few { size_of (entry_shape_of shape.now) ≤ most_names }
@@ -67,10 +67,9 @@ fn add_unnamed(
     Ok(())
 }
 
-// Adds the entries of the users.
 fn add_users(
     left: &mut Vec<JudgedEntry>,
-    columns: &Columns,
+    columns: &TagColumns,
     shape: &PosixShape<'_>,
 ) -> Result<(), AllocError>
     requires few { size_of (entry_shape_of shape.now) ≤ most_names }
@@ -86,7 +85,7 @@ fn add_users(
 // Adds the entries of the groups, after those of the users.
 fn add_groups(
     left: &mut Vec<JudgedEntry>,
-    columns: &Columns,
+    columns: &TagColumns,
     shape: &PosixShape<'_>,
 ) -> Result<(), AllocError>
     requires few { size_of (entry_shape_of shape.now) ≤ most_names }

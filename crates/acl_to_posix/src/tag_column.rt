@@ -31,7 +31,7 @@ pub(crate) struct TagKey {
 
 /// The keys of the four rights of permissions, each tag once: only the first ACE of a principal can decide a right.
 #[derive(Drop)]
-pub(crate) struct Columns {
+pub(crate) struct TagColumns {
     pub read: Vec<TagKey>,
     pub write: Vec<TagKey>,
     pub append: Vec<TagKey>,
@@ -43,7 +43,7 @@ pub(crate) fn columns_of(
     alloc: Global,
     list: &AclView<'_>,
     names: &Names,
-) -> Result<Columns, AllocError>
+) -> Result<TagColumns, AllocError>
     requires { HaveIds names.now list.now }
     ensures columns { IfOk result (AreColumns (with_ids names.now list.now)) }
     ensures few { IfOk result HaveFewKeys }
@@ -53,7 +53,7 @@ pub(crate) fn columns_of(
     let write = column(alloc, &aces, WRITE_DATA)?;
     let append = column(alloc, &aces, APPEND_DATA)?;
     let execute = column(alloc, &aces, EXECUTE)?;
-    Ok(Columns {
+    Ok(TagColumns {
         read,
         write,
         append,
@@ -123,7 +123,6 @@ fn column(alloc: Global, aces: &[TaggedAce], right: Right) -> Result<Vec<TagKey>
     Ok(keys)
 }
 
-/// Returns whether the tag is one of those of the keys.
 pub(crate) fn has_tag(keys: &[TagKey], whom: Tag) -> bool
     ensures { result ≡ has_tag (tag_of whom) (keys_of keys.now) }
 {
@@ -135,7 +134,6 @@ pub(crate) fn has_tag(keys: &[TagKey], whom: Tag) -> bool
     false
 }
 
-/// Returns whether two tags are the same.
 pub(crate) fn is_same(one: Tag, other: Tag) -> bool
     ensures { result ≡ eq_by_cmp tag_cmp (tag_of one) (tag_of other) }
 {

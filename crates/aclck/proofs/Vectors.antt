@@ -11,7 +11,7 @@ use Rattle.acl_posix.specs.Fields.{id_of, permissions_of}
 use Rattle.acl_posix.specs.Names.{empty_table}
 use Rattle.acl_eval.specs.declared.inherit.ChildKind.TheVariants as kind
 use Rattle.aclck.specs.Line.{Term, app_from, default, flag, is_given, is_taken, optional, rows_at, value_of}
-use Rattle.aclck.specs.commands.BitTable.{right_named, table_in}
+use Rattle.aclck.specs.commands.RightTable.{right_named, table_in}
 use Rattle.aclck.specs.commands.CheckNfs.{CheckNfsValues, check_nfs_in}
 use Rattle.aclck.specs.commands.CheckPosix.{CheckPosixValues, check_posix_in}
 use Rattle.aclck.specs.commands.Child.{child_in, kind_value}

@@ -8,7 +8,7 @@ use Rattle.aclck.specs.Line.{app_from, is_taken, rows_at, words_of}
 use Rattle.aclck.specs.Answer.{Answer}
 use Rattle.aclck.specs.Definition.{Definition}
 use Rattle.aclck.specs.Run.{Shape}
-use Rattle.aclck.specs.commands.BitTable.{table, table_held}
+use Rattle.aclck.specs.commands.RightTable.{table, table_held}
 use Rattle.aclck.specs.commands.Bridge.{bridge}
 use Rattle.aclck.specs.commands.CalcMask.{calc_mask}
 use Rattle.aclck.specs.commands.CheckNfs.{check_nfs, check_nfs_held}

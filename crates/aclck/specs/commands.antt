@@ -1,4 +1,4 @@
--- One file per command: its words and its answer (this library's own). `table` has `BitTable`, and `mode` has
+-- One file per command: its words and its answer (this library's own). `table` has `RightTable`, and `mode` has
 -- `ListMode`.
 pub mod ShowPosix
 pub mod CheckPosix
@@ -11,6 +11,6 @@ pub mod CheckNfs
 pub mod Child
 pub mod ListMode
 pub mod Bridge
-pub mod BitTable
+pub mod RightTable
 pub mod Normalize
 pub mod Compare

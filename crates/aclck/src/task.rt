@@ -44,7 +44,7 @@ use show_nfs::run_show_nfs;
 use show_posix::run_show_posix;
 use std::alloc::Global;
 use table::run_table;
-use values::{BitTable, CheckNfs, CheckPosix, Child, Chmod, Create, Normalize, ShowPosix};
+use values::{CheckNfs, CheckPosix, Child, Chmod, Create, Normalize, RightTable, ShowPosix};
 
 /// A command of the program, which the first word of a line names.
 #[derive(Clone, Copy)]
@@ -107,7 +107,6 @@ impl Name {
         parse(command, words)
     }
 
-    // The word that names the command.
     fn word<'a>(self) -> &'a str
         ensures { result.now ≡ command_word self }
     {
@@ -174,7 +173,7 @@ pub enum Task<'a> {
     Child(Child),
     Mode(Profile),
     Bridge(Names),
-    Table(BitTable),
+    Table(RightTable),
     Normalize(Normalize),
     Compare(Profile),
 }

@@ -46,6 +46,7 @@ class Answer(Enum):
     """An answer to one question. Its value is the word that the output has."""
 
     GRANTED = "granted"
+    OBTAINABLE = "obtainable"
     DENIED = "denied"
     UNKNOWN = "unknown"
     REFUSED = "refused"
@@ -170,8 +171,13 @@ class Asker:
         return self._row(self._everybody, 0)
 
     @functools.cached_property
+    def nobody_granted(self) -> Answers:
+        """The answer that everybody is denied what is asked."""
+        return self._row(0, self._everybody)
+
+    @functools.cached_property
     def nobody_known(self) -> Answers:
-        """The answer that it is known of nobody."""
+        """The answers if of none of the people it is known whether they are granted what is asked."""
         return self._row(0, 0)
 
     def number_of(self, stored: StoredList) -> int:
@@ -346,6 +352,10 @@ class Asker:
     def both(self, one: Answers, other: Answers) -> Answers:
         """Returns what two answers are together: granted if both are, and denied if one is."""
         return self._row(one.granted & other.granted, one.denied | other.denied)
+
+    def either(self, one: Answers, other: Answers) -> Answers:
+        """Returns whom one of two answers is enough: granted if one is, and denied if both are."""
+        return self._row(one.granted | other.granted, one.denied & other.denied)
 
     def answers(self, face: Face, want: Want) -> Union[RefusedList, Answers]:
         """Returns whom the list of a face grants what is asked."""

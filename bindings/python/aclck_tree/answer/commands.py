@@ -44,7 +44,7 @@ def opened(args: argparse.Namespace, place: str) -> Snapshot:
     for words in sorted({one.words() for one in snapshot.portions.values() if one.is_list or not snapshot.together}):
         tell(f"{quoted(place)} has {words}")
     messages = [message for _, _, _, message in snapshot.errors()]
-    line = others.line(messages)
+    line = others.summary(messages)
     if line:
         tell(f"{quoted(place)}: {line}")
     errors = sum(not others.is_other(message) for message in messages)
@@ -102,7 +102,7 @@ def _with_accounts(snapshot: Snapshot, people: List[Person]) -> List[Person]:
     stale = {(False, one.name) for one in people if has_ids and one.name not in users}
     if stale:
         tell(f"{quoted(snapshot.place)}: groups have members without an account, who are not asked about: "
-             f"{mentions.words_of(stale)}")
+             f"{mentions.names_in_words(stale)}")
     return [one for one in people if (False, one.name) not in stale]
 
 
@@ -139,9 +139,9 @@ def asker_of(args: argparse.Namespace, snapshot: Snapshot, people: List[Person])
         tell(f"{quoted(snapshot.place)}: {line}")
     for host, names in _without_ids(asker):
         if has_hosts:
-            line = f"the host {quoted(host)} does not list {mentions.words_of(names)}: answers about its"
+            line = f"the host {quoted(host)} does not list {mentions.names_in_words(names)}: answers about its"
         else:
-            line = f"no id is known for {mentions.words_of(names)}: answers about"
+            line = f"no id is known for {mentions.names_in_words(names)}: answers about"
         tell(f"{quoted(snapshot.place)}: {line} POSIX lists are unknown")
     return asker
 
@@ -199,19 +199,19 @@ class Tally:
         self.counts: Dict[str, int] = {}
 
     def add(self, answer: str, count: int = 1) -> None:
-        """Counts an answer."""
+        """Counts an answer, by its word in the output, as one that was given `count` times."""
         if count:
             self.counts[answer] = self.counts.get(answer, 0) + count
 
     def status(self, snapshot: Snapshot) -> int:
-        """Returns 2 if something was refused or is not known or nothing was asked, 1 if something is denied, and
-        otherwise 0."""
+        """Returns 2 if something was refused or is not known or nothing was asked, 1 if something is denied, also if
+        somebody could come to have it, and otherwise 0."""
         if not self.counts and snapshot.together:
             snapshot.together.is_empty = True
             return YES
         if not self.counts or self.counts.get(Answer.REFUSED.value) or self.counts.get(UNKNOWN.value):
             return REFUSED
-        return NO if self.counts.get(DENIED.value) else YES
+        return NO if self.counts.get(DENIED.value) or self.counts.get(Answer.OBTAINABLE.value) else YES
 
     def line(self) -> str:
         """Returns the counts of answers in words."""

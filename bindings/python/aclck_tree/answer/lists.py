@@ -154,7 +154,7 @@ class Piece(NamedTuple):
 
 
 def encoded(name: str) -> bytes:
-    """Returns a name as the bytes that a list has."""
+    """Returns the bytes of a name, of which Python keeps those that are no UTF-8 as lone surrogates."""
     return name.encode("utf-8", "surrogateescape")
 
 

@@ -79,13 +79,13 @@ def lines(asker: Asker, found: Unmentioned, only_domains: bool) -> Iterator[str]
     """Yields the lines that say which names are not mentioned. With `only_domains`, the people are all accounts of a
     system, of which most are never mentioned: then only names with a domain that no list has are said."""
     if found.names and not only_domains:
-        yield f"no list, owner or group names {words_of(found.names)}{_domains(asker, found, found.names)}"
+        yield f"no list, owner or group names {names_in_words(found.names)}{_domains(asker, found, found.names)}"
     other = found.foreign if only_domains else found.foreign - found.names
     if other:
-        yield f"no NFSv4 list names {words_of(other)}{_domains(asker, found, other)}"
+        yield f"no NFSv4 list names {names_in_words(other)}{_domains(asker, found, other)}"
 
 
-def words_of(names: Set[Name]) -> str:
+def names_in_words(names: Set[Name]) -> str:
     """Returns some names in words, such as `the users bob, dora or the group editors`."""
     parts = []
     for is_group, word in ((False, "user"), (True, "group")):

@@ -72,7 +72,7 @@ def reached(asker: Asker, is_selected: Optional[Callable[[int, bytes], bool]] = 
         above = below.get(path.rpartition(b"/")[0], asker.nobody_known) if path else root
         if is_directory:
             if face not in through:
-                through[face] = _through(asker, asker.faces[face])
+                through[face] = passers(asker, asker.faces[face])
             below[path] = asker.both(above, through[face])
         if is_selected is None or is_selected(tree, path):
             yield tree, path, face, above
@@ -83,11 +83,11 @@ def _to_root(asker: Asker, tree: int) -> Answers:
     them."""
     found = asker.everybody_granted
     for one in above_root(asker, tree):
-        found = asker.both(found, _through(asker, one.face) if one.face else asker.nobody_known)
+        found = asker.both(found, passers(asker, one.face) if one.face else asker.nobody_known)
     return found
 
 
-def _through(asker: Asker, face: Face) -> Answers:
+def passers(asker: Asker, face: Face) -> Answers:
     """Returns whom a directory lets pass: also those whose ids are not known, if its POSIX list lets everybody pass."""
     asked = asker.ready(face.list)
     if isinstance(asked, RefusedList):
@@ -126,7 +126,7 @@ def stopped(asker: Asker, tree: Tree, path: bytes, person: Person) -> Tuple[Opti
         found = why(asker, one.face, person) if one.face else RefusedList(one.message)
         deciding = Why("EXECUTE", UNKNOWN, None, found.reason) if isinstance(found, RefusedList) else next(
             row for row in found if row.right in ("EXECUTE", "x"))
-        if one.face and _through(asker, one.face).of(0) is GRANTED:
+        if one.face and passers(asker, one.face).of(0) is GRANTED:
             is_root = is_root or deciding.answer is DENIED
         elif deciding.answer is DENIED:
             return (one.path, deciding), is_root

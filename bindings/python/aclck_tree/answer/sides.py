@@ -86,7 +86,7 @@ class Comparison(NamedTuple):
     on: str = ""
 
     def places(self) -> List[Place]:
-        """Returns the places that there are."""
+        """Returns the old and the new place, without one at which the object was not there."""
         return [place for place in (self.old, self.new) if place]
 
     def cases(self) -> List[Comparison]:

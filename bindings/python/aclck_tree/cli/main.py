@@ -49,6 +49,7 @@ _PATH: _Argument = ("--path", dict(metavar="GLOB", help="only the objects whose 
                                    "of directories"))
 _REACH: _Argument = ("--reach", dict(action="store_true", help="EXECUTE, or x, on each directory above an object, "
                                      "from / down, counts too"))
+_OBTAIN: _Argument = ("--obtain", dict(action="store_true", help="also who could come to have it, and by which steps"))
 _WANT: _Arguments = [
     ("--may", dict(metavar="RIGHTS", required=True, help="letters of rwx, or names of rights with | between")),
     ("--any", dict(action="store_true", help="ask for any of the rights, and not for all")),
@@ -131,7 +132,7 @@ _WORDS: Dict[str, _Word] = {
         "Writes which of some people may do what is asked.",
         "aclck-tree who monday --may WRITE_DATA --people people --domain example.com",
         "answer.questions:who",
-        [_SNAPSHOT, *_WANT, *_PEOPLE, _EACH, _DOMAIN, *_LINUX_OR_DRAFT, *_FORM]),
+        [_SNAPSHOT, *_WANT, _OBTAIN, *_PEOPLE, _EACH, _DOMAIN, *_LINUX_OR_DRAFT, *_FORM]),
     "may": _Word(
         "on what one user may do something",
         "Writes the objects on which one user may do what is asked.",
@@ -149,7 +150,7 @@ _WORDS: Dict[str, _Word] = {
             ("path", dict(metavar="PATH")),
             *_USER,
             ("--may", dict(metavar="RIGHTS", help="only about these rights")),
-            _DOMAIN, _LINUX, *_FORM]),
+            _OBTAIN, _DOMAIN, _LINUX, *_FORM]),
     "same": _Word(
         "which objects grant the same",
         "Writes the classes of objects whose lists grant the same, greatest first.",

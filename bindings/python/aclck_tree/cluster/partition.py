@@ -24,8 +24,9 @@ def _fault(words: List[str], snapshots: List[Snapshot]) -> str:
             args.people or args.passwd or args.getent):
         return "snapshots that are asked together need --people, --passwd or --getent, and may needs --groups or --getent"
     portions = [list(snapshot.portions.values()) for snapshot in snapshots]
-    if getattr(args, "reach", False) and any(portions):
-        return "--reach needs whole trees"
+    for option in ("reach", "obtain"):
+        if getattr(args, option, False) and any(portions):
+            return f"--{option} needs whole trees"
     if args.word == "diff" and portions and portions[0] != portions[1]:
         return "diff compares a shard with the same shard of a tree that was cut alike"
     return ""

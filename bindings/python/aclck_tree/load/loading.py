@@ -141,7 +141,7 @@ class _Hash:
         self.hash = hashlib.blake2b(digest_size=16)
 
     def add(self, data: bytes) -> bytes:
-        """Adds data, and returns it."""
+        """Adds data to what the digest is of. Returns the same data, so that a row can be hashed as it is written."""
         self.hash.update(data)
         return data
 

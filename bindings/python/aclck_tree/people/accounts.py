@@ -161,7 +161,7 @@ def ids_in_lists(attributes: Iterable[Optional[bytes]]) -> Tuple[Set[int], Set[i
     return users, groups
 
 
-def members(writer: Writer, tree: int) -> Iterator[Tuple[bytes, bytes]]:
+def memberships(writer: Writer, tree: int) -> Iterator[Tuple[bytes, bytes]]:
     """Yields the users whom this host lists, each with the groups of its processes; then the members of groups who are
     no users; and then the further users of `names` with their groups. A group whose name is that of several groups is
     written as its id."""

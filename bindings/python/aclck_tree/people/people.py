@@ -216,7 +216,7 @@ def system_people() -> List[Person]:
 
 
 def first_of_each_name(people: Iterable[Person]) -> List[Person]:
-    """Returns the first person of each name."""
+    """Returns the people in their order, without those who have the name of an earlier one."""
     found: Dict[str, Person] = {}
     for one in people:
         found.setdefault(one.name, one)

@@ -8,7 +8,7 @@ from typing import Dict, Iterator, List, NamedTuple, Optional, Set, Tuple
 from aclck_tree.answer import mentions
 from aclck_tree.answer.ask import NOBODY, Asker
 from aclck_tree.answer.commands import asker_of, opened, people_of, status_of
-from aclck_tree.answer.questions import left_out
+from aclck_tree.answer.objects import left_out
 from aclck_tree.output.errors import NO, REFUSED, YES
 from aclck_tree.output.text import ObjectName, ObjectNamer, Output, Row, plural, quoted, tell
 from aclck_tree.people.people import stranger_of
@@ -93,7 +93,8 @@ def verdict_of(breaches: Tuple[Breach, ...]) -> Verdict:
 
 
 def words_of(one: Breach) -> str:
-    """Returns a breach in words."""
+    """Returns what a breach says: who may or may not do what, and by which ACE, or why a bound cannot be judged. What
+    is created in the object stands in front, if it is about that."""
     on = f"{one.on}: " if one.on else ""
     if one.reason:
         return f"{on}{one.bound} cannot be judged: {one.reason}"

@@ -27,7 +27,7 @@ _ESCAPE = re.compile(r'\\(?:([btnfr"\\])|u([0-9A-Fa-f]{4})|U([0-9A-Fa-f]{8})|[ \
 _LETTERS = {"b": "\b", "t": "\t", "n": "\n", "f": "\f", "r": "\r", '"': '"', "\\": "\\"}
 
 
-class _Reader:
+class _TextReader:
     """A text and a place in it."""
 
     def __init__(self, text: str) -> None:
@@ -147,7 +147,7 @@ class _Document:
         self.top: Dict[str, Any] = {}
         self._begun: Dict[int, List[Dict[str, Any]]] = {}
 
-    def table(self, reader: _Reader) -> Dict[str, Any]:
+    def table(self, reader: _TextReader) -> Dict[str, Any]:
         """Takes a header, and returns the table that it begins."""
         found = reader.take(_HEADER, "a header is not written plainly")
         if len(found[1]) != len(found[4]):
@@ -176,7 +176,7 @@ class _Document:
 
 def loads(text: str) -> Dict[str, Any]:
     """Returns the tables of a document. Raises ValueError, with the line, if it is not of the part that is read."""
-    reader, document = _Reader(text.replace("\r\n", "\n")), _Document()
+    reader, document = _TextReader(text.replace("\r\n", "\n")), _Document()
     table = document.top
     while True:
         reader.skip(lines=True)

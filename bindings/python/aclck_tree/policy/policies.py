@@ -27,7 +27,7 @@ from aclck import (
 from aclck_tree.output.errors import TreeError
 from aclck_tree.output.files import opened_file
 from aclck_tree.output.text import quoted
-from aclck_tree.snapshot.globs import PathPattern, judge, path_pattern
+from aclck_tree.snapshot.globs import PathPattern, judge_patterns, path_pattern
 
 if sys.version_info >= (3, 11):
     from tomllib import loads
@@ -188,7 +188,7 @@ def read_policy(path: str) -> List[Rule]:
     if not rules:
         top.refuse("it has no rule, which begins with [[rule]]")
     try:
-        judge([path for rule in rules for path in (rule.path, *(one.path for one in rule.exemptions))])
+        judge_patterns([path for rule in rules for path in (rule.path, *(one.path for one in rule.exemptions))])
     except ValueError as error:
         top.refuse(str(error))
     return rules

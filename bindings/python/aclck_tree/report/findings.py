@@ -142,7 +142,7 @@ class _OfList(NamedTuple):
 
 
 def _of_list(asker: Asker, number: int, asked: AskableList, is_directory: bool) -> _OfList:
-    """Asks a list, as the list of a directory if a directory has it."""
+    """Returns what was found about the list with a number. A list of a directory is also asked what new objects get."""
     aces = list(asked.acl)
     idle = "; ".join(_idle_entries(asked.posix) if asked.posix else _idle(asked, aces, is_directory))
     # --linux changes what a list grants; a new directory gets the entries as they are.

@@ -9,7 +9,7 @@ from typing import List, Optional, Tuple
 from aclck.rest import CHANGING, clock, is_at_rest, is_same
 
 from aclck_tree.scan.handles import OBJECT
-from aclck_tree.scan.reader import Reader, ScanOptions, words_of
+from aclck_tree.scan.reader import Reader, ScanOptions, reason_of
 from aclck_tree.snapshot.others import UNREAD
 from aclck_tree.snapshot.snapshot import Above
 
@@ -35,7 +35,7 @@ def read_above(place: bytes, root: Tuple[int, int], options: ScanOptions) -> Lis
         if names and _identity(handle) != root:
             found[-1] = Above(found[-1].path, message=_MOVED)
     except OSError as error:  # nothing is known of the directories from here on, nor whether the last one read is above
-        found = [*found[:-1], *(Above(b"/" + b"/".join(names[:at]), message=words_of(error))
+        found = [*found[:-1], *(Above(b"/" + b"/".join(names[:at]), message=reason_of(error))
                                 for at in range(len(found) - 1, len(names)))]
     finally:
         os.close(handle)
@@ -64,5 +64,5 @@ def _read(reader: Reader, handle: int, path: bytes) -> Above:
                 return found
             before = found if is_kept else None
     except OSError as error:
-        return Above(path, message=words_of(error))
+        return Above(path, message=reason_of(error))
     return Above(path, message=CHANGING)

@@ -187,7 +187,7 @@ class _Gathered:
         return self._headers[digest]
 
     def headers(self, number: int) -> Dict[str, bytes]:
-        """Returns the headers of a number."""
+        """Returns the headers, by their names, to which `_number` gave this number."""
         return dict(self._db.execute("SELECT name, value FROM headers WHERE number = ?", (number,)))
 
     def texts(self) -> Iterator[bytes]:
@@ -292,7 +292,7 @@ class ArchiveScan:
         for is_group, number, name in self._gathered.owners():
             self._names.add(is_group, number, name)
         for text in self._gathered.texts():
-            for is_group, number, name in headers.ids_in(text):
+            for is_group, number, name in headers.names_with_ids(text):
                 self._names.add(is_group, number, name)
         for fault in self._gathered.faults():
             self._fail(b"", fault)

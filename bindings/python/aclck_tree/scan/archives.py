@@ -72,7 +72,7 @@ class Member(NamedTuple):
     headers: Dict[str, bytes]
 
 
-class _Reader:
+class _BlockReader:
     """Reads the blocks of an archive, from its front to its end."""
 
     def __init__(self, file: BinaryIO) -> None:
@@ -196,7 +196,7 @@ def _joined(pair: bytes) -> bytes:
     return pair.decode("utf-8", "surrogatepass").encode("utf-16", "surrogatepass").decode("utf-16").encode()
 
 
-def _content_of(header: Header, front: _Front, reader: _Reader) -> int:
+def _content_of(header: Header, front: _Front, reader: _BlockReader) -> int:
     """Returns how many bytes of content follow, and reads the list of the parts of a sparse file. Raises Damaged if
     programs would not agree about it."""
     size = int(front.values.get(b"size", header.size))
@@ -219,7 +219,7 @@ def _content_of(header: Header, front: _Front, reader: _Reader) -> int:
     return size
 
 
-def _parts_behind(header: Header, reader: _Reader) -> Parts:
+def _parts_behind(header: Header, reader: _BlockReader) -> Parts:
     """Returns the parts of a sparse file, which are in its header and in the blocks behind it."""
     parts, has_more = list(header.parts), header.has_more
     while has_more:
@@ -239,7 +239,7 @@ def _judge_parts(parts: Parts, length: int, size: int) -> None:
         raise Damaged("a sparse file has a part that ends in the middle of a block")
 
 
-def _listed(reader: _Reader) -> "tuple[Parts, int]":
+def _listed(reader: _BlockReader) -> "tuple[Parts, int]":
     """Returns the parts in the list at the beginning of the content, and how many bytes the list has."""
     numbers: List[int] = []
     rest, used = b"", 0
@@ -302,7 +302,7 @@ def _member(header: Header, front: _Front, size: int) -> Member:
                   values.get(b"uname", header.user), values.get(b"gname", header.group), target, _lists(values))
 
 
-def _members(reader: _Reader) -> Iterator[Member]:
+def _members(reader: _BlockReader) -> Iterator[Member]:
     while True:
         reader.next_member()
         front, header = _Front(), reader.header()
@@ -327,7 +327,7 @@ def _members(reader: _Reader) -> Iterator[Member]:
 def members(file: BinaryIO) -> Iterator[Member]:
     """Yields the members of an archive. Raises Damaged if it cannot be read to its end, and DeviceError."""
     try:
-        yield from _members(_Reader(file))
+        yield from _members(_BlockReader(file))
     except OSError as error:
         if error.errno:
             raise DeviceError(f"the archive cannot be read: {error.strerror}") from None

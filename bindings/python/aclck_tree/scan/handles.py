@@ -90,7 +90,7 @@ class Handles:
             self._release(held)
 
     def close(self) -> None:
-        """Closes all handles."""
+        """Closes all handles that are kept. No thread may use a directory then."""
         with self._lock:
             while self._held:
                 os.close(self._held.popitem()[1].handle)

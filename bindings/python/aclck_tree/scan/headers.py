@@ -12,9 +12,9 @@ from aclck_tree.answer.lists import AceType, Piece, decoded, joined, pieces
 from aclck_tree.people.accounts import System
 from aclck_tree.people.people import HIGHEST_ID
 from aclck_tree.scan.reader import ATTRIBUTES, POSIX
-from aclck_tree.scan.reader import another as another_attribute
+from aclck_tree.scan.reader import another_attribute
 from aclck_tree.scan.records import XATTR
-from aclck_tree.scan.values import named, read_value, refused_value
+from aclck_tree.scan.values import read_value, refused_value, with_names
 from aclck_tree.snapshot import snapshot
 from aclck_tree.snapshot.snapshot import StoredList
 
@@ -97,7 +97,7 @@ def _read_ace(text: bytes, accounts: System) -> StoredList:
     kept, others = pieces(bytes(acl)), {ace.ace: _left_out(text, ace.offset) for ace in left_out}
     in_order = iter(kept)
     data = joined([others[place] if place in others else next(in_order) for place in range(len(kept) + len(others))])
-    return StoredList(snapshot.StoredForm.ACCOUNTS, 0, named(data, accounts), None)
+    return StoredList(snapshot.StoredForm.ACCOUNTS, 0, with_names(data, accounts), None)
 
 
 def _left_out(text: bytes, offset: int) -> Piece:
@@ -127,7 +127,7 @@ def accounts_in(text: bytes, accounts: IdLookup) -> Iterator[Tuple[str, int, boo
             yield decoded(name), number, is_group
 
 
-def ids_in(text: bytes) -> Iterator[Tuple[bool, int, bytes]]:
+def names_with_ids(text: bytes) -> Iterator[Tuple[bool, int, bytes]]:
     """Yields the names for which a text of a POSIX list has an id: whether it is a group, the id, and the name."""
     for (is_group, name), last in _names_in(text):
         if _DIGITS.fullmatch(last) and len(last.lstrip(b"0")) <= 10 and int(last) <= HIGHEST_ID:

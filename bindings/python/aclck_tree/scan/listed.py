@@ -74,7 +74,7 @@ def _too_long(path: bytes) -> ListedPath:
     return ListedPath(path[:SHOWN + 1], f"it has more than {LONGEST_PATH:,} bytes")
 
 
-def names_in(path: bytes) -> List[bytes]:
+def names_of_path(path: bytes) -> List[bytes]:
     """Returns the names of a path below the root of a tree: none for the root itself. A part `.` and a slash too many
     mean nothing. Raises ValueError, with the reason, if the path could lead out of the tree."""
     if path.startswith(b"/"):
@@ -211,7 +211,7 @@ class ListedScan(Scan):
         """Returns the names of a path, or None if it is none or if it is the root, which is read here."""
         fault = entry.fault
         try:
-            names = [] if fault else names_in(entry.path)
+            names = [] if fault else names_of_path(entry.path)
         except ValueError as error:
             fault = str(error)
         if not fault and names:

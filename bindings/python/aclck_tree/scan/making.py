@@ -58,7 +58,7 @@ def scan_trees(roots: Sequence[bytes], options: ScanOptions, writer: Writer, tot
     for scan in scans:
         writer.add_names(scan.names())
         writer.add_members((scan.tree, user, group) for user, group in
-                           accounts.members(writer, scan.tree))
+                           accounts.memberships(writer, scan.tree))
     return whole, sum(scan.errors for scan in scans)
 
 
@@ -108,7 +108,7 @@ def scan(args: argparse.Namespace) -> int:
 
 def _tell_others(writer: Writer) -> None:
     """Reports on standard error how many objects have a list that is not read."""
-    line = others.line(writer.others)
+    line = others.summary(writer.others)
     if line:
         tell(f"{quoted(writer.place)}: {line}")
 

@@ -6,7 +6,7 @@ from typing import List, Sequence
 
 from aclck_tree.output.text import quoted_path
 from aclck_tree.scan.archives import Member
-from aclck_tree.scan.listed import LONGEST_PATH, names_in
+from aclck_tree.scan.listed import LONGEST_PATH, names_of_path
 from aclck_tree.scan.records import SHOWN
 
 LONGEST_TAKEN = 4095
@@ -24,7 +24,7 @@ def split(path: bytes) -> List[bytes]:
     with the reason, if a part is `..`, or if it cannot be a path."""
     if len(path) > LONGEST_PATH:
         raise ValueError(f"it has more than {LONGEST_PATH:,} bytes")
-    return names_in(path.lstrip(b"/"))
+    return names_of_path(path.lstrip(b"/"))
 
 
 def left_of(path: bytes) -> bytes:

@@ -174,7 +174,7 @@ class Reader:
             if self._has(b""):
                 self._keep(self._root_handle, now, status, b"", b"", result)
         except OSError as error:
-            result.errors.append((b"", "read", words_of(error)))
+            result.errors.append((b"", "read", reason_of(error)))
         return result
 
     def run(self, task: Task) -> Result:
@@ -193,9 +193,9 @@ class Reader:
         except OSError as error:
             path = task.directory.path()
             if isinstance(task, Batch) and task.is_listed:
-                result.errors += [(path + b"/" + name, "read", words_of(error)) for name in task.names]
+                result.errors += [(path + b"/" + name, "read", reason_of(error)) for name in task.names]
             else:
-                result.errors.append((path, "list", words_of(error)))
+                result.errors.append((path, "list", reason_of(error)))
         return result
 
     def _check(self, directory: Directory, result: Result) -> None:
@@ -205,7 +205,7 @@ class Reader:
                 if os.fstat(held.handle).st_ctime_ns != directory.changed:
                     result.errors.append((directory.path(), "list", MOVED))
         except OSError as error:
-            result.errors.append((directory.path(), "list", words_of(error)))
+            result.errors.append((directory.path(), "list", reason_of(error)))
 
     def _has(self, directory: bytes) -> bool:
         return self._shard is None or self._shard.has(directory)
@@ -237,7 +237,7 @@ class Reader:
             try:
                 self._read(place, name, result)
             except OSError as error:
-                result.errors.append((place.prefix + name, "read", words_of(error)))
+                result.errors.append((place.prefix + name, "read", reason_of(error)))
 
     def _read(self, place: _Place, name: bytes, result: Result) -> None:
         handle = os.open(name, OBJECT, dir_fd=place.held.handle)
@@ -287,7 +287,7 @@ class Reader:
         place = b"/proc/self/fd/%d" % handle  # which leads to the object that the handle has, and not by its name
         names = _names(place)
         read, nfs = self._nfs(handle, status.st_dev, path, names) or (None, None)
-        other = self._mounts_met.another(handle, status.st_dev) or another(set(names), read)
+        other = self._mounts_met.another(handle, status.st_dev) or another_attribute(set(names), read)
         if nfs:
             return nfs, other
         access = _attribute(place, POSIX[0])
@@ -335,7 +335,7 @@ class Reader:
         return read_value(name, value, self._accounts)
 
 
-def another(names: AbstractSet[str], read: Optional[str]) -> Optional[str]:
+def another_attribute(names: AbstractSet[str], read: Optional[str]) -> Optional[str]:
     """Returns an attribute of an object with another list than the one that is read, or None. `names` are those of its
     attributes, and `read` is the one that is read, or None if that is a POSIX list or the mode."""
     own = POSIX if read is None else _OF_A_MOUNT if read in _OF_A_MOUNT else (read,)
@@ -361,5 +361,5 @@ def _names(place: bytes) -> List[str]:
     return []
 
 
-def words_of(error: OSError) -> str:
+def reason_of(error: OSError) -> str:
     return error.strerror or str(error)

@@ -16,7 +16,7 @@ from aclck_tree.people import accounts
 from aclck_tree.scan.above import read_above
 from aclck_tree.scan.handles import Directory
 from aclck_tree.scan.progress import Progress
-from aclck_tree.scan.reader import Check, Listing, Reader, Result, ScanOptions, Task, words_of
+from aclck_tree.scan.reader import Check, Listing, Reader, Result, ScanOptions, Task, reason_of
 from aclck_tree.snapshot import others
 from aclck_tree.snapshot.portions import MIXED
 from aclck_tree.snapshot.snapshot import TIME, Account, Tree
@@ -58,7 +58,7 @@ class Scan:
         try:
             self._reader = Reader(root, options)
         except OSError as error:
-            raise TreeError(f"{os.fsdecode(root)}: {words_of(error)}") from None
+            raise TreeError(f"{os.fsdecode(root)}: {reason_of(error)}") from None
         self._options = options
         self._writer = writer
         self._progress = progress

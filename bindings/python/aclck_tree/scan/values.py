@@ -39,7 +39,7 @@ def read_value(attribute: str, value: bytes, accounts: System) -> StoredList:
         data, flags = _read(value, form)
         if form is ListForm.NFS_ACL41:
             return StoredList(snapshot.StoredForm.NFS4, int(flags), data, None)
-        return StoredList(snapshot.StoredForm.ACCOUNTS, int(flags), named(data, accounts), None)
+        return StoredList(snapshot.StoredForm.ACCOUNTS, int(flags), with_names(data, accounts), None)
     except Refused as refused:
         return refused_value(attribute, value, str(refused))
 
@@ -101,7 +101,7 @@ def _shown(piece: Piece, hidden: Optional[_Hidden]) -> Piece:
     return piece._replace(kind=hidden.kind, who=hidden.who or piece.who) if hidden else piece
 
 
-def named(data: bytes, accounts: System) -> bytes:
+def with_names(data: bytes, accounts: System) -> bytes:
     """Returns a list with the names of accounts in place of ids. An id without an account stays in digits."""
     whos: Dict[Tuple[bool, bytes], Optional[bytes]] = {}
     found: List[Piece] = []

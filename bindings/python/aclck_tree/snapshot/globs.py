@@ -11,7 +11,7 @@ from __future__ import annotations
 import os
 from typing import Dict, List, NamedTuple, Sequence, Tuple
 
-from aclck_tree.snapshot.names import Kept, NameMatcher, bits_of, is_set, judge_name, places_of, room_for, tokens_of
+from aclck_tree.snapshot.names import Kept, NameMatcher, bits_at, is_set, judge_name, places_of, room_for, tokens_of
 from aclck_tree.snapshot.snapshot import Snapshot
 
 ANY_PARTS = "**"
@@ -63,7 +63,7 @@ def _is_glob(part: str) -> bool:
     return part not in (ANY_PARTS, ANY_NAME) and not set(part).isdisjoint("*?[")
 
 
-def judge(patterns: Sequence[PathPattern]) -> None:
+def judge_patterns(patterns: Sequence[PathPattern]) -> None:
     """Raises ValueError, with the reason, if some patterns are too long to be matched together."""
     if sum(len(one.parts) for one in patterns) > MOST_OF_ALL:
         raise ValueError(f"the paths have more than {MOST_OF_ALL:,} parts")
@@ -93,12 +93,12 @@ class Matcher:
                 size += 1
             self._numbers[size] = number
             size += 1
-        self._loops, self._each = (bits_of(parts.pop(part, [])) for part in (ANY_PARTS, ANY_NAME))
-        self._ends = bits_of(list(self._numbers))
-        self._begins = [self._closed(bits_of(begins[is_absolute])) for is_absolute in (False, True)]
+        self._loops, self._each = (bits_at(parts.pop(part, [])) for part in (ANY_PARTS, ANY_NAME))
+        self._ends = bits_at(list(self._numbers))
+        self._begins = [self._closed(bits_at(begins[is_absolute])) for is_absolute in (False, True)]
         wild = [part for part in parts if _is_glob(part)]
         self._wild = [parts.pop(part) for part in wild]
-        self._wilds = bits_of([place for places in self._wild for place in places])
+        self._wilds = bits_at([place for places in self._wild for place in places])
         self._names = NameMatcher(wild)
         self._literals = {os.fsencode(part): places for part, places in parts.items()}
         self._named = Kept(self._bits_of_name, room_for(size))
@@ -111,10 +111,10 @@ class Matcher:
         self._root = self._bits = 0
 
     def _bits_of_name(self, name: bytes) -> int:
-        return bits_of(self._literals[name])
+        return bits_at(self._literals[name])
 
     def _bits_of_wild(self, number: int) -> int:
-        return bits_of(self._wild[number])
+        return bits_at(self._wild[number])
 
     def _bits_of_ends(self, ends: int) -> int:
         found = 0

@@ -43,7 +43,7 @@ class Kept(Dict[_Key, _Value]):
         return found
 
 
-def bits_of(places: Sequence[int]) -> int:
+def bits_at(places: Sequence[int]) -> int:
     """Returns the number in which the bits at some places are set."""
     found = bytearray(max(places, default=0) // 8 + 1)
     for place in places:
@@ -88,7 +88,7 @@ class _Set:
         self._ranges = [] if token == "?" else list(_ranges(token[2 if self._is_other else 1:-1]))
 
     def has(self, letter: str) -> bool:
-        """Whether a letter is one of them."""
+        """Whether the token matches a letter: `?` matches each, and brackets with `!` those of none of their ranges."""
         return any(first <= letter <= last for first, last in self._ranges) != self._is_other
 
 
@@ -130,13 +130,13 @@ class NameMatcher:
                     size += 1
             self._numbers[size] = number
             size += 1
-        self._begin, self._loops, self._ends = bits_of(begins), bits_of(loops), bits_of(list(self._numbers))
-        self._sets = [(_Set(token), bits_of(places)) for token, places in sets.items()]
+        self._begin, self._loops, self._ends = bits_at(begins), bits_at(loops), bits_at(list(self._numbers))
+        self._sets = [(_Set(token), bits_at(places)) for token, places in sets.items()]
         self._moves = Kept(self._moved_by, room_for(size))
 
     def _moved_by(self, letter: str) -> int:
         """Returns the bits of the tokens that match a letter."""
-        found = bits_of(self._letters.get(letter, ()))
+        found = bits_at(self._letters.get(letter, ()))
         for one, bits in self._sets:
             if one.has(letter):
                 found |= bits

@@ -41,7 +41,7 @@ def is_other(text: str) -> bool:
     return bool(_MESSAGE.fullmatch(text))
 
 
-def line(messages: Iterable[str]) -> Optional[str]:
+def summary(messages: Iterable[str]) -> Optional[str]:
     """Returns a line about all other lists of a snapshot, from the messages of its failures, or None if there are
     none."""
     counts: Dict[str, int] = {}

@@ -132,7 +132,7 @@ class Contents(NamedTuple):
     has_above: bool
 
 
-def judge(place: str, rows: RunQuery, size: int) -> Contents:
+def judge_contents(place: str, rows: RunQuery, size: int) -> Contents:
     """Judges everything in a file of some size. Raises TreeError if there is anything that a scan does not write."""
     application, version, encoding = (next(rows(f"PRAGMA {name}"))[0] for name in (
         "application_id", "user_version", "encoding"))

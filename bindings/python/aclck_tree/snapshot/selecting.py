@@ -10,7 +10,7 @@ from typing import AnyStr, Dict, Iterable, Iterator, List, NamedTuple, Optional,
 
 from aclck_tree.output.errors import TreeError, UsageError
 from aclck_tree.output.text import ObjectName, ObjectNamer, quoted, quoted_path, quoted_place
-from aclck_tree.snapshot.globs import Matcher, PathPattern, judge, path_pattern
+from aclck_tree.snapshot.globs import Matcher, PathPattern, judge_patterns, path_pattern
 from aclck_tree.snapshot.snapshot import Snapshot, Tree
 
 _SHOWN = 5
@@ -62,7 +62,7 @@ class Paths:
         here = glob if os.path.isabs(glob) else os.path.join(globs.escape(os.getcwd()), glob)
         try:
             patterns = [_typed_pattern(one) for one in (glob, here)]
-            judge(patterns)
+            judge_patterns(patterns)
         except ValueError as error:
             raise UsageError(f"--path {quoted(glob)}: {error}") from None
         self._matcher = Matcher(snapshot, patterns)

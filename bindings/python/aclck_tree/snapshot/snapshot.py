@@ -45,7 +45,7 @@ from typing import Any, Dict, Iterator, List, Optional, Sequence, Set, Tuple
 from aclck_tree.output.errors import TreeError
 from aclck_tree.output.text import quoted_place
 from aclck_tree.snapshot.portions import Device, Portion
-from aclck_tree.snapshot.schema import judge
+from aclck_tree.snapshot.schema import judge_contents
 from aclck_tree.snapshot.together import Together
 
 _OBJECTS = "objects INDEXED BY objects_by_path"
@@ -194,7 +194,7 @@ class Snapshot:
         self.allow_work(self._size)
         for line in ("trusted_schema = OFF", "cell_size_check = ON"):
             self._db.execute(f"PRAGMA {line}")
-        self.count, self._has_portions, self._has_above = judge(place, self._rows, self._size)
+        self.count, self._has_portions, self._has_above = judge_contents(place, self._rows, self._size)
         rows = self._rows("SELECT * FROM trees ORDER BY tree")
         self.trees = {row[0]: Tree(row[0], row[1], row[2], row[3], row[4], row[5], bool(row[6]), row[7], row[8])
                       for row in rows}

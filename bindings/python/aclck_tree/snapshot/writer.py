@@ -95,7 +95,7 @@ class Writer:
         self._db.execute("UPDATE trees SET ended = ?, whole = ?, links = ? WHERE tree = ?", (ended, whole, links, tree))
 
     def add_objects(self, tree: int, found: Sequence[Found]) -> None:
-        """Adds objects of a tree."""
+        """Records objects of a tree and counts them. Lists that are equal are kept once, and so are faces."""
         self.objects += len(found)
         self._db.executemany("INSERT INTO objects VALUES (?, ?, ?, ?, ?)",
                              [(tree, one.path, one.kind, one.mode, self._face(tree, one)) for one in found])

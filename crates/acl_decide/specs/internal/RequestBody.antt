@@ -14,8 +14,8 @@ use Rattle.acl_nfs4.specs.Who.{is_unknown_special}
 use Rattle.acl_nfs4.specs.declared.ace.AceRef.{AceRef}
 use Rattle.acl_eval.specs.Column.{takes_part}
 use Rattle.acl_decide.specs.Unknown.{Assignment, GrantsUnder, answer_under, matches_under}
-use Rattle.acl_decide.specs.declared.request_with_unknown.Step.{Step}
-use Rattle.acl_decide.specs.declared.request_with_unknown.Step.TheVariants.{Granted, Denied, Against}
+use Rattle.acl_decide.specs.declared.request_with_unknown.Verdict.{Verdict}
+use Rattle.acl_decide.specs.declared.request_with_unknown.Verdict.TheVariants.{Granted, Denied, Against}
 
 -- a set has the name
 abbrev pub is_out : BTreeSet (Bor (List ℕ)) → List ℕ → Bool
@@ -62,7 +62,7 @@ ArePassed aces s request out places = (bit : ℕ) → has_bit request bit ≡ tr
 
 -- what is said of a goal, where all names match but those that are out: it is reached; no assignment that leaves these
 -- names out reaches it; or an assignment that does so must leave out one more name
-abbrev pub Says : List AceRef → (List ℕ → Bool) → (Assignment → Type 0) → Step → Type 0
+abbrev pub Says : List AceRef → (List ℕ → Bool) → (Assignment → Type 0) → Verdict → Type 0
 Says aces out Reaches Granted = Reaches (all_but out)
 Says aces out Reaches Denied = (v : Assignment) → LeavesOut v out → Reaches v → ⊥
 Says aces out Reaches (Against who) = ((more : List ℕ → Bool) → IsOneMore out who.now more
@@ -75,7 +75,7 @@ applies_but out s a = takes_part a && matches_under (all_but out) s a
 
 -- what an ACE says that decides a right: an ALLOW grants it, a DENY of a known name denies, and an unknown name that
 -- denies must not match
-abbrev pub SaysAce : Ace → Step → Type 0
+abbrev pub SaysAce : Ace → Verdict → Type 0
 SaysAce a Granted = a.kind ≡ Allow
 SaysAce a Denied = (a.kind ≡ Deny) × (is_unknown_special a.who ≡ false)
 SaysAce a (Against who) = (a.kind ≡ Deny) × (who.now ≡ a.who) × (is_unknown_special a.who ≡ true)

@@ -3,8 +3,8 @@
 //! "ACCESS CHECK ALGORITHM", what a list grants by RFC 8881, section 6.2.1, and the mode of a list by its section
 //! 6.3.2.
 
-use super::harness::{kept, passes};
 use acl_eval::*;
+use acl_lists_for_tests::{kept, passes};
 use acl_nfs4::{Acl, PushFault, parse_text};
 use acl_perm::{Mask, Perm};
 use acl_posix::{Entry, Id, Names, PosixAcl, PosixFile, Tag, parse};

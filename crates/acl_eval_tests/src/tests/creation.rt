@@ -1,9 +1,9 @@
 //! What a new file or directory inherits, row by row and over all flags. RFC 8881, section 6.2.1.4.1, has the flags,
 //! and docs/reference/lists.md, "Creation", has the rules, which are this library's own.
 
-use super::harness::{ALLOW, AceRow, DENY, built, kept, passes};
 use ChildKind::{Directory, File};
 use acl_eval::*;
+use acl_lists_for_tests::{ALLOW, AceRow, DENY, built, kept, passes};
 use acl_nfs4::{AceRef, Acl, Flags, Kind, PushFault};
 use acl_perm::Mask;
 use std::alloc::Global;
@@ -76,9 +76,9 @@ fn a_child_inherits_by_its_kind(rt: HostRuntime) {
     assert!(rt; passes(check_creations(&rt, rt.alloc())));
 }
 
-// The flags of the ACE that a new file, and that a new directory, gets of one ACE, if it gets one. The index has the bits
-// of FILE_INHERIT, DIRECTORY_INHERIT and NO_PROPAGATE_INHERIT, 1, 2 and 4. The flags that are not about inheritance, 0x70,
-// are added as they were; INHERIT_ONLY and INHERITED of the parent change nothing.
+// The flags of the ACE that a new file, and that a new directory, gets of one ACE, if it gets one. The index has the
+// bits of FILE_INHERIT, DIRECTORY_INHERIT and NO_PROPAGATE_INHERIT, 1, 2 and 4. The flags that are not about
+// inheritance, 0x70, are added as they were; INHERIT_ONLY and INHERITED of the parent change nothing.
 static FILE_GETS: [Option<u8>; 8] = [None, Some(0), None, Some(0), None, Some(0), None, Some(0)];
 
 static DIRECTORY_GETS: [Option<u8>; 8] = [

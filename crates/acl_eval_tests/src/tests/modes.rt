@@ -1,7 +1,7 @@
 //! The mode of a list, by RFC 8881, section 6.3.2.
 
-use super::harness::{ALLOW, AceRow, DENY, built, passes};
 use acl_eval::*;
+use acl_lists_for_tests::{ALLOW, AceRow, DENY, built, passes};
 use acl_nfs4::{AclView, PushFault};
 use std::alloc::Global;
 use std::process::Abort;

@@ -1,9 +1,9 @@
 //! Whom the names of a list, of an object and of a requester mean, by RFC 8881, section 6.2.1.5. Groups are looked up
 //! in different ways, and each way has to give the same answer.
 
-use super::harness::passes;
 use super::lists::{GROUP_NAMED, LONG_NAMES, OWNING_GROUP, Question, THREE};
 use acl_eval::*;
+use acl_lists_for_tests::passes;
 use acl_nfs4::{AceRef, Acl, AclView, PushFault};
 use acl_perm::{Flags, Kind, Mask};
 use std::alloc::Global;

@@ -5,13 +5,13 @@ use Rattle.acl_nfs4.specs.Ace.{Ace}
 use Rattle.acl_nfs4.specs.Who.{everyone_name, group_name, owner_name}
 use Rattle.acl_forms.specs.ReadFaults.{no_memory_left}
 use Rattle.acl_forms.specs.declared.acl41_ids.IdAce.{IdAce}
-use Rattle.acl_forms.specs.declared.acl41_ids.Whom.{Whom}
-use Rattle.acl_forms.specs.declared.acl41_ids.Whom.TheVariants.{Owner, Group, Everyone, Account}
+use Rattle.acl_forms.specs.declared.acl41_ids.IdWho.{IdWho}
+use Rattle.acl_forms.specs.declared.acl41_ids.IdWho.TheVariants.{Owner, Group, Everyone, Account}
 use Rattle.acl_forms.specs.declared.acl_flags.AclFlags.{AclFlags}
 use Rattle.acl_forms.specs.declared.fault.ReadFault.{ReadFault}
 
 -- the who of a special identifier or of an id
-abbrev pub whom_name : Whom → List ℕ
+abbrev pub whom_name : IdWho → List ℕ
 whom_name Owner = owner_name
 whom_name Group = group_name
 whom_name Everyone = everyone_name

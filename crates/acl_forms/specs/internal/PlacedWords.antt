@@ -1,4 +1,5 @@
--- The value of a field of a value that is read word by word, as the code judges it. No public clause cites it.
+-- The value of a field of a value that is read word by word, as the code judges it (this library's own). No public
+-- clause cites it.
 use Rattle.std.specs.Prelude.{◌≡◌, ℕ, Result, Ok, Err}
 use Rattle.acl_forms.specs.declared.fault.ReadFault.{ReadFault}
 use Rattle.acl_forms.specs.declared.fault.ReadReason.{ReadReason}

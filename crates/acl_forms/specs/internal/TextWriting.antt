@@ -7,8 +7,8 @@ use Rattle.acl_forms.specs.NfsWritten.{nfs_entry_text}
 use Rattle.acl_forms.specs.ToolsWritten.{tools_entry_text}
 use Rattle.acl_forms.specs.declared.style.EntrySeparator.{EntrySeparator}
 use Rattle.acl_forms.specs.declared.style.EntrySeparator.TheVariants.{Commas, LineFeeds}
-use Rattle.acl_forms.specs.declared.writing.WrittenForm.{WrittenForm}
-use Rattle.acl_forms.specs.declared.writing.WrittenForm.TheVariants.{Nfs, Tools}
+use Rattle.acl_forms.specs.declared.writing.AceTextForm.{AceTextForm}
+use Rattle.acl_forms.specs.declared.writing.AceTextForm.TheVariants.{Nfs, Tools}
 
 -- the room for an entry: the longest words, all letters, the longest who, an id, and the bytes between them and at its
 -- ends
@@ -32,12 +32,12 @@ abbrev pub id_room : ℕ
 id_room = 1 + most_digits
 
 -- the entry of an ACE in a form
-abbrev pub entry_of : WrittenForm → Ace → List ℕ
+abbrev pub entry_of : AceTextForm → Ace → List ℕ
 entry_of Tools a = tools_entry_text a
 entry_of (Nfs style) a = nfs_entry_text style.letters a
 
 -- what separates the entries of a form
-abbrev pub separator_of : WrittenForm → EntrySeparator
+abbrev pub separator_of : AceTextForm → EntrySeparator
 separator_of Tools = LineFeeds
 separator_of (Nfs style) = style.separator
 
@@ -52,7 +52,7 @@ after_each LineFeeds = line_feed ∷ []
 after_each Commas = []
 
 -- the entries that are left, with these bytes before the next one
-abbrev pub entries_left : WrittenForm → List ℕ → List Ace → List ℕ
+abbrev pub entries_left : AceTextForm → List ℕ → List Ace → List ℕ
 entries_left form before [] = []
 entries_left form before (a ∷ list) = (before ++ entry_of form a ++ after_each (separator_of form))
     ++ entries_left form (between (separator_of form)) list

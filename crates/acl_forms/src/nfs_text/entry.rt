@@ -35,7 +35,6 @@ pub(crate) enum EntryWho<'a> {
     Numbered(Id),
 }
 
-// The ACE of an entry.
 #[derive(Clone, Copy)]
 struct EntryAce<'a> {
     kind: Kind,
@@ -160,7 +159,6 @@ fn any_ace_of(fields: EntryParts<'_>, source: WhoField) -> Result<AnyEntry<'_>, 
     })
 }
 
-// Returns the rights for which a field stands.
 #[inline(always)]
 fn mask_at(field: Piece<'_>) -> Result<Mask, ReadFault>
     requires { ColumnsFit field }
@@ -177,7 +175,6 @@ fn mask_at(field: Piece<'_>) -> Result<Mask, ReadFault>
     Ok(Mask { bits })
 }
 
-// Returns the flags for which a field stands.
 #[inline(always)]
 fn flags_at(field: Piece<'_>) -> Result<Flags, ReadFault>
     requires { ColumnsFit field }
@@ -193,7 +190,6 @@ fn flags_at(field: Piece<'_>) -> Result<Flags, ReadFault>
     Ok(Flags { bits: bits as u8 })
 }
 
-// Returns the kind for which a field stands.
 fn kind_at(field: Piece<'_>) -> Result<Kind, ReadFault>
     ensures { result ≡ nfs_kind (span_of field.entry) }
 {
@@ -218,7 +214,6 @@ fn type_at(field: Piece<'_>) -> Result<u32, ReadFault>
     }
 }
 
-// Returns the who of the fields.
 #[inline(always)]
 fn who_at(fields: EntryParts<'_>, source: WhoField) -> Result<EntryWho<'_>, ReadFault>
     ensures { Gives entry_name result

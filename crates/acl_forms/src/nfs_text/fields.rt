@@ -70,7 +70,6 @@ impl NfsTag {
         }
     }
 
-    /// Returns the flags of an entry with this tag.
     pub(crate) fn with_flags(self, flags: Flags) -> Flags
         ensures { result.bits ≡ flags_by_tag self flags.bits }
     {
@@ -198,7 +197,6 @@ fn with_id<'a>(tail: Tail<'a>, last: Piece<'a>) -> Option<Tail<'a>>
     }
 }
 
-// Returns a part without the blanks at its ends.
 fn without_blanks(part: Piece<'_>) -> Piece<'_>
     requires { ColumnsFit part }
     ensures value { span_of result ≡ trimmed_span (span_of part.entry) }

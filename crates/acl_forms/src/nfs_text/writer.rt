@@ -20,7 +20,7 @@ use crate::nfs_text::id::is_odd_number;
 use crate::style::{LetterStyle, Style};
 use crate::tools::writer::has_separator;
 use crate::writing::{
-    GREATEST_KEPT_ID, Line, RETENTION, WrittenForm, add, add_styled, put_entries, shares_flag,
+    AceTextForm, GREATEST_KEPT_ID, Line, RETENTION, add, add_styled, put_entries, shares_flag,
     shares_right,
 };
 use acl_nfs4::internal::{EVERYONE_NAME, GROUP_NAME, OWNER_NAME};
@@ -52,7 +52,7 @@ pub fn write_nfs_text<S: Sink>(
     if let Some(fault) = nfs_text_fault(list) {
         return Err(FormWriteFault::Form(fault));
     }
-    put_entries(sink, list.aces(), WrittenForm::Nfs(style))?;
+    put_entries(sink, list.aces(), AceTextForm::Nfs(style))?;
     Ok(())
 }
 
@@ -126,7 +126,6 @@ fn has_id_cut(who: &[u8]) -> bool
     }
 }
 
-/// Adds the entry of an ACE to a line that has room for it.
 #[tactic(auto, unfolding(crate::specs::NfsWritten::nfs_entry_text))]
 pub(crate) fn add_entry(line: &mut Line, item: AceRef<'_>, letters: LetterStyle)
     requires room { array_vec_len line.old ≤ 1 }
@@ -144,7 +143,6 @@ pub(crate) fn add_entry(line: &mut Line, item: AceRef<'_>, letters: LetterStyle)
     add_id(line, item.who);
 }
 
-// Adds the principal of an ACE.
 fn add_principal(line: &mut Line, item: AceRef<'_>)
     requires room { array_vec_len line.old ≤ 1 }
     requires short { length item.who.now ≤ longest_who }
@@ -163,7 +161,6 @@ fn add_principal(line: &mut Line, item: AceRef<'_>)
     }
 }
 
-// Adds the id of a who that is the digits of one.
 fn add_id(line: &mut Line, who: &[u8])
     requires { array_vec_len line.old + id_room ≤ text_line_room }
     ensures text { line.new.items ≡ line.old.items ++ id_after who.now (id_of_digits who.now) }
@@ -178,7 +175,6 @@ fn add_id(line: &mut Line, who: &[u8])
     }
 }
 
-// Returns the word of a special identifier.
 fn special_word(who: &[u8]) -> Option<&'static [u8]>
     ensures value { option_map (λ word. word.now) result ≡ special_word who.now }
     ensures short { IfSome result (λ word. length word.now ≤ longest_special_word) }

@@ -11,7 +11,7 @@ ghost use Rattle.acl_forms.specs.Part.{kept_unless, noted_if, reason_of};
 ghost use Rattle.acl_forms.specs.PartWords.{unless_unknown, who_by_name};
 ghost use Rattle.acl_forms.specs.internal.AnyAces.{HasAnyName, any_ace_of, any_name};
 
-use crate::acl41_ids::{Whom, name_of};
+use crate::acl41_ids::{IdWho, name_of};
 use crate::fault::ReadReason;
 use crate::part::left_out::{LeftOut, LeftOutReason};
 use acl_nfs4::internal::{any_who_of, is_unknown_special};
@@ -22,7 +22,6 @@ use std::alloc::AllocError;
 /// The number of the type DENY (RFC 8881, section 6.2.1.1).
 pub(crate) const DENY: u32 = 1;
 
-/// An ACE of any type.
 #[derive(Clone, Copy)]
 pub(crate) struct AnyAceRef<'a> {
     pub type_number: u32,
@@ -37,7 +36,7 @@ pub(crate) enum AnyWho<'a> {
     /// A name, which may be a special identifier that nobody knows.
     Name(&'a [u8]),
     /// A special identifier, or an id.
-    Known(Whom),
+    Known(IdWho),
     /// The number of a special identifier that nobody knows.
     Special(u32),
 }

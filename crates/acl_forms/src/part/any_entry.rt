@@ -6,7 +6,7 @@ ghost use Rattle.acl_forms.specs.PartTexts.{any_taken, judged_at, who_of_type};
 ghost use Rattle.acl_forms.specs.internal.AnyAces.{HasAnyName, any_ace_of, any_entry, any_name};
 ghost use Rattle.acl_forms.specs.internal.NfsReading.{entry_name};
 
-use crate::acl41_ids::Whom;
+use crate::acl41_ids::IdWho;
 use crate::fault::{ReadFault, ReadReason};
 use crate::nfs_text::entry::EntryWho;
 use crate::part::any_ace::{AnyAceRef, AnyWho, who_of};
@@ -55,7 +55,7 @@ fn who_at(place: usize, type_number: u32, who: EntryWho<'_>) -> Result<AnyWho<'_
 {
     match who {
         EntryWho::Named(name) => placed(place as u64, name_of(type_number, name)),
-        EntryWho::Numbered(id) => Ok(AnyWho::Known(Whom::Account(id))),
+        EntryWho::Numbered(id) => Ok(AnyWho::Known(IdWho::Account(id))),
     }
 }
 

@@ -79,7 +79,6 @@ fn part_of(
     })
 }
 
-// Reads the next ACE.
 fn next_ace<'a>(
     cursor: &mut Cursor<'a>,
     weight: u32,
@@ -159,7 +158,6 @@ fn who_len(cursor: &mut Cursor<'_>) -> Result<usize, ReadFault>
     placed_listed(offset, who_len_of(word(cursor)?))
 }
 
-// Reads the name of an ACE of this type.
 fn name<'a>(cursor: &mut Cursor<'a>, len: usize, type_number: u32) -> Result<AnyWho<'a>, ReadFault>
     requires { is_no_who_len len ≡ false }
     ensures exact { Gives (λ x. (any_name x, place cursor.new)) result
@@ -194,7 +192,6 @@ fn bytes<'a>(cursor: &mut Cursor<'a>, len: usize) -> Result<&'a [u8], ReadFault>
     Ok(front)
 }
 
-// Reads the number of the who of an ACE of this type.
 fn number<'a>(
     cursor: &mut Cursor<'a>,
     type_number: u32,

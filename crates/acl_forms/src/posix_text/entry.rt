@@ -122,7 +122,6 @@ fn permissions_in(bytes: &[u8]) -> Option<Perm>
     read_permissions(bytes)
 }
 
-// Returns the tag of a word and the field of a qualifier.
 #[tactic(auto, unfolding(crate::specs::PosixText::tag_read))]
 fn tag_at(field: Piece<'_>, word: TagWord, names: &Names) -> Result<Tag, ReadFault>
     requires { ColumnsFit field }

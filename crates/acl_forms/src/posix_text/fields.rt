@@ -34,7 +34,6 @@ pub(crate) fn fields_of(entry: Piece<'_>, part: Part) -> Option<PosixParts<'_>>
     }
 }
 
-// Returns the fields of an entry from here on.
 fn fields_in(rest: Piece<'_>, part: Part) -> Option<PosixParts<'_>>
     requires { ColumnsFit rest }
     ensures value { option_map parts_viewed result ≡ fields_in part

@@ -13,12 +13,12 @@ use std::alloc::{AllocError, Global};
 
 /// The text of POSIX ACLs in archives: the part of entries without a mark, and the names of users and groups.
 #[derive(Clone, Copy)]
-pub(crate) struct PosixForm<'a> {
+pub(crate) struct PosixTextForm<'a> {
     pub part: Part,
     pub names: &'a Names,
 }
 
-impl<'a> TextForm for PosixForm<'a> {
+impl<'a> TextForm for PosixTextForm<'a> {
     type List = Vec<TextEntry>;
 
     ghost Item = { PlacedEntry };

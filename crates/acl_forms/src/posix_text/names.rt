@@ -73,7 +73,6 @@ impl IdNames {
         keep_first(self.alloc, &mut self.groups, id.value(), name)
     }
 
-    /// Returns the name of the qualifier of a tag.
     pub(crate) fn of_tag(&self, tag: Tag) -> Option<&[u8]>
         ensures { option_map (λ name. name.now) result ≡ tag_name self.now (tag_of tag) }
     {

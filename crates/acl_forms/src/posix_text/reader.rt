@@ -11,7 +11,7 @@ ghost use Rattle.acl_forms.specs.declared.fault.ReadFault.{ReadFault as FaultVal
 
 use crate::fault::ReadFault;
 use crate::posix_text::entry::TextEntry;
-use crate::posix_text::form::PosixForm;
+use crate::posix_text::form::PosixTextForm;
 use crate::posix_text::parts::{acl_of, of_part};
 use crate::reading::read_text;
 use acl_posix::{Names, Part, PosixAcl, PosixFile};
@@ -83,7 +83,7 @@ fn read_file(alloc: Global, text: &[u8], names: &Names) -> Result<PosixFile, Rea
         ⊎ IsPosixTextFault names.now text.now fault) }
 {
     let part = Part::Access;
-    let read = read_text(alloc.clone()?, text, PosixForm { part, names })?;
+    let read = read_text(alloc.clone()?, text, PosixTextForm { part, names })?;
     let members = of_part(alloc.clone()?, &read, part)?;
     let access = acl_of(alloc.clone()?, &members, text.len())?;
     let default = default_of(alloc, &read, text.len())?;
@@ -104,13 +104,12 @@ fn default_of(alloc: Global, read: &[TextEntry], len: usize) -> Result<Option<Po
     Ok(Some(acl_of(alloc, &members, len)?))
 }
 
-// Returns the default ACL of a text.
 fn read_default(alloc: Global, text: &[u8], names: &Names) -> Result<PosixAcl, ReadFault>
     ensures found { IfOk result (λ acl. SpellsDefaultText names.now acl text.now) }
     ensures fault { IfErr result (λ fault. (fault ≡ no_memory_left)
         ⊎ IsDefaultTextFault names.now text.now fault) }
 {
     let part = Part::Default;
-    let read = read_text(alloc.clone()?, text, PosixForm { part, names })?;
+    let read = read_text(alloc.clone()?, text, PosixTextForm { part, names })?;
     acl_of(alloc, &read, text.len())
 }

@@ -220,7 +220,6 @@ fn is_chosen(pass: Pass, tag: Tag) -> bool
     }
 }
 
-// Adds the piece of an entry to an empty line.
 #[tactic(auto, unfolding(crate::specs::PosixWritten::posix_piece))]
 fn add_piece(line: &mut Line, entry: Entry, names: &IdNames, style: TarStyle)
     requires empty { line.old.items ≡ [] }
@@ -317,7 +316,6 @@ fn add_perm(line: &mut Line, perm: Perm)
     );
 }
 
-// Returns the word of a tag.
 fn long_word(tag: Tag) -> &'static [u8]
     ensures value { result.now ≡ long_word (tag_of tag) }
     ensures short { length result.now ≤ longest_word }

@@ -21,7 +21,6 @@ use acl_nfs4::internal::GROUP_NAME;
 use acl_nfs4::{AceRef, Acl, Flags, Kind, MOST_ACES, Mask, PushFault, Reason};
 use acl_perm::internal::Piece;
 
-/// The fields of an entry.
 #[derive(Clone, Copy)]
 pub(crate) struct EntryFields<'a> {
     pub kind: Piece<'a>,
@@ -149,7 +148,6 @@ fn fields_of(entry: Piece<'_>) -> Option<EntryFields<'_>>
     }
 }
 
-// Returns the flags for which a field stands.
 #[inline(always)]
 fn flags_at(field: Piece<'_>, object: ObjectKind) -> Result<Flags, ReadFault>
     requires { ColumnsFit field }
@@ -161,7 +159,6 @@ fn flags_at(field: Piece<'_>, object: ObjectKind) -> Result<Flags, ReadFault>
     Ok(Flags { bits: bits as u8 })
 }
 
-// Returns the rights for which a field stands.
 #[inline(always)]
 fn mask_at(field: Piece<'_>, object: ObjectKind) -> Result<Mask, ReadFault>
     requires { ColumnsFit field }
@@ -173,7 +170,6 @@ fn mask_at(field: Piece<'_>, object: ObjectKind) -> Result<Mask, ReadFault>
     Ok(Mask { bits })
 }
 
-// Returns the kind for which a field stands.
 fn kind_at(field: Piece<'_>) -> Result<Kind, ReadFault>
     ensures { result ≡ kind_read (span_of field.entry) }
 {
@@ -206,7 +202,6 @@ pub(crate) fn kind_of(type_number: u32, place: usize) -> Result<Kind, ReadFault>
     }
 }
 
-/// Returns the flags of an ACE with this who.
 pub(crate) fn with_group(who: &[u8], flags: Flags) -> Flags
     ensures { result.bits ≡ with_group_flag who.now flags.bits }
 {

@@ -14,13 +14,12 @@ use crate::letters::{FLAG_LETTERS, single_letters};
 use crate::object::ObjectKind;
 use crate::tools::entry::with_group;
 use crate::writing::{
-    Line, RETENTION, WrittenForm, add, add_letters, put_entries, shares_flag, shares_right,
+    AceTextForm, Line, RETENTION, add, add_letters, put_entries, shares_flag, shares_right,
 };
 use acl_nfs4::{AceRef, Aces, AclView, Flags, Kind, Mask};
 use acl_perm::Sink;
 use arrayvec::ArrayVec;
 
-// The flags of inheritance.
 const INHERITANCE: Flags = Flags {
     bits: Flags::FILE_INHERIT.bits
         | Flags::DIRECTORY_INHERIT.bits
@@ -55,7 +54,7 @@ pub fn write_tools<S: Sink>(
     if let Some(fault) = tools_fault(list, object) {
         return Err(FormWriteFault::Form(fault));
     }
-    put_entries(sink, list.aces(), WrittenForm::Tools)?;
+    put_entries(sink, list.aces(), AceTextForm::Tools)?;
     Ok(())
 }
 
@@ -148,7 +147,6 @@ pub(crate) fn is_separator(b: u8) -> bool
     b == b',' || b == b':' || b == b'#'
 }
 
-// Writes the line of an ACE into the buffer.
 fn fill(line: &mut Line, item: AceRef<'_>)
     requires { length item.who.now ≤ longest_who }
     ensures text { line.new.items ≡ tools_line (ace item.entry) }
@@ -159,7 +157,6 @@ fn fill(line: &mut Line, item: AceRef<'_>)
     line.push(b'\n');
 }
 
-/// Adds the entry of an ACE to a line that has room for it.
 #[tactic(auto, unfolding(crate::specs::ToolsWritten::tools_entry_text))]
 pub(crate) fn add_entry(line: &mut Line, item: AceRef<'_>)
     requires room { array_vec_len line.old ≤ 1 }

@@ -8,6 +8,7 @@ use Rattle.acl_nfs4.proofs.feed.Scanning.{none_scanned, scanned_on}
 use Rattle.acl_nfs4.proofs.xdr.OneFault.{value_or_fault}
 use Rattle.acl_nfs4.specs.Fault.Stage.{count as at_count}
 
+-- for bytes that begin with a count of at most `most_aces`, behind which so much was judged
 module _ (p : Profile) (text : List ℕ) (so_far : Progress) (long : 4 ≤ length text)
     (small : number (take 4 text) ≤ most_aces) (s : IsScanned p (drop 4 text) so_far) (fits : IsBytes text) where
   -- the text is the word of its count, the pieces of the ACEs that were seen, and the rest

@@ -3,9 +3,9 @@ use Rattle.acl_nfs4.proofs.Common.{[], AllByRecursion, Ace, ap, append-nil, appe
 use Rattle.acl_nfs4.proofs.xdr.Fields.{bind_then, bind-ok, count_again, count_is, field_again, field_takes, flags_again, flags_take, len_takes, mask_again, mask_takes, ok_is, place, padding_again, padding_takes, taken_is, Takes, Takes-then, who_len_again, word_again, word_takes}
 use Rattle.acl_nfs4.proofs.list.Within.{flags_lt, mask_lt}
 use Rattle.acl_nfs4.specs.AccessPart.{access_part, any_piece, AnyAce, AnyXdr, is_for_access, IsAnyAce, IsAnyWho, IsPartOf, kept_ace, Part}
-use Rattle.acl_nfs4.specs.PartFault.{any_who_of, at_end, FaultsOrMemory, IsFaultOfPart, IsPartOrMemory, type_of, with_ace}
-unfoldable use Rattle.acl_nfs4.specs.PartFault.{any_ace_at, part_from, part_in}
-use Rattle.acl_nfs4.specs.internal.PartReading.{PartReadAs}
+use Rattle.acl_nfs4.specs.PartFault.{any_who_of, IsPartOrMemory, type_of}
+use Rattle.acl_nfs4.specs.internal.PartReading.{at_end, PartReadAs, with_ace}
+unfoldable use Rattle.acl_nfs4.specs.internal.PartReading.{any_ace_at, part_from, part_in}
 use Rattle.acl_nfs4.specs.internal.Reading.{text_fault}
 use Rattle.acl_nfs4.proofs.xdr.AcesAt.{regrouped}
 use Rattle.std.specs.Prelude.{sum_by}
@@ -17,7 +17,7 @@ pub type_is : (n m : ℕ) → type_of n ≡ Ok m → (n ≡ m) × (m < 4)
 type_is n m e = grind (arith, nat_tests)
 
 -- a type that was read was taken
-type_takes : (p : Place) (t : ℕ × Place) → IsBytes p.rest → word_field type_of p ≡ Ok t
+pub type_takes : (p : Place) (t : ℕ × Place) → IsBytes p.rest → word_field type_of p ≡ Ok t
     → Takes p (word t.0) t.1 × (t.0 < 4)
 type_takes p t fits e =
     let (n, accepted, taken, lt) = word_takes type_of p t fits e in
@@ -29,11 +29,11 @@ is_text : (bytes : List ℕ) → text_fault bytes ≡ None → (is_utf8 bytes �
 is_text bytes e = grind arith
 
 -- a length within the bounds is the length of a who
-len_long : (n : ℕ) → 1 ≤ n → n ≤ longest_who → is_no_who_len n ≡ false
+pub len_long : (n : ℕ) → 1 ≤ n → n ≤ longest_who → is_no_who_len n ≡ false
 len_long n some short = grind (arith, nat_tests)
 
 -- a who that was read was taken, is a name, and has this length
-who_takes : (len : ℕ) (p : Place) (w : List ℕ × Place) → IsBytes p.rest → is_no_who_len len ≡ false
+pub who_takes : (len : ℕ) (p : Place) (w : List ℕ × Place) → IsBytes p.rest → is_no_who_len len ≡ false
     → field len any_who_of p ≡ Ok w → Takes p w.0 w.1 × IsAnyWho w.0 × (length w.0 ≡ len)
 who_takes len p w fits some e =
     let (accepted, long, taken) = field_takes len any_who_of p w fits e in
@@ -46,7 +46,7 @@ who_takes len p w fits some e =
     )
 
 -- an ACE was read and taken, and the list can accept it
-record TakesAny (profile : Profile) (weight : ℕ) (p : Place) (a : AnyAce) (q : Place) : Type 0 where
+pub record TakesAny (profile : Profile) (weight : ℕ) (p : Place) (a : AnyAce) (q : Place) : Type 0 where
   pub takes : Takes p (any_piece a) q
   pub is : IsAnyAce profile a
   pub light : weight + count_ones a.mask ≤ most_weight
@@ -74,7 +74,7 @@ takes_fields profile weight p t f m l w z fits te fe me le we ze =
     }
 
 -- reading an ACE takes its bytes
-any_takes : (profile : Profile) (weight : ℕ) (p : Place) (x : AnyAce × Place) → IsBytes p.rest
+pub any_takes : (profile : Profile) (weight : ℕ) (p : Place) (x : AnyAce × Place) → IsBytes p.rest
     → any_ace_at profile weight p ≡ Ok x → TakesAny profile weight p x.0 x.1
 unfolding any_ace_at
 any_takes profile weight p x fits e =
@@ -117,7 +117,7 @@ abbrev bits : List AnyAce → ℕ
 bits list = sum_by (λ a. count_ones a.mask) list
 
 -- ACEs were read and taken, and the part has what access reads of them
-record TakesParts (profile : Profile) (n weight : ℕ) (old : Part) (p : Place) (x : Part × Place) : Type 0 where
+pub record TakesParts (profile : Profile) (n weight : ℕ) (old : Part) (p : Place) (x : Part × Place) : Type 0 where
   pub list : List AnyAce
   pub takes : Takes p (flat_map any_piece list) x.1
   pub long : length list ≡ n
@@ -126,7 +126,7 @@ record TakesParts (profile : Profile) (n weight : ℕ) (old : Part) (p : Place) 
   pub part : x.0 ≡ joined old (access_part list)
 
 -- reading ACEs takes their bytes
-parts_take : (profile : Profile) (n weight : ℕ) (part : Part) (p : Place) (x : Part × Place) → IsBytes p.rest
+pub parts_take : (profile : Profile) (n weight : ℕ) (part : Part) (p : Place) (x : Part × Place) → IsBytes p.rest
     → weight ≤ most_weight → part_from profile n weight part p ≡ Ok x → TakesParts profile n weight part p x
 unfolding part_from
 parts_take profile zero weight part p x fits le e =
@@ -193,11 +193,11 @@ pub type_again : (n : ℕ) → n < 4 → type_of n ≡ Ok n
 type_again n few = grind (arith, nat_tests)
 
 -- a name is accepted
-who_again : (who : List ℕ) → IsAnyWho who → any_who_of who ≡ Ok who
+pub who_again : (who : List ℕ) → IsAnyWho who → any_who_of who ≡ Ok who
 who_again who is = rw (is.utf8, is.plain) refl
 
 -- the length of a name is within the bounds
-bounds : (who : List ℕ) → IsAnyWho who → (1 ≤ length who) × (length who ≤ longest_who)
+pub bounds : (who : List ℕ) → IsAnyWho who → (1 ≤ length who) × (length who ≤ longest_who)
 bounds who is = let long = is.long in grind (arith, nat_tests)
 
 -- an ACE that was spelled is read again
@@ -230,8 +230,8 @@ any_again profile weight at a rest ok is light =
     ∙ ap (λ (k : ℕ). Ok (a, place k rest)) (omega (arith, len, length-append a.who pad))
 
 -- ACEs that were spelled are read again
-parts_again : (profile : Profile) (list : List AnyAce) (weight at : ℕ) (part : Part) (rest : List ℕ) → IsProfile profile
-    → AllByRecursion (IsAnyAce profile) list → weight + bits list ≤ most_weight
+pub parts_again : (profile : Profile) (list : List AnyAce) (weight at : ℕ) (part : Part) (rest : List ℕ)
+    → IsProfile profile → AllByRecursion (IsAnyAce profile) list → weight + bits list ≤ most_weight
     → part_from profile (length list) weight part (place at (flat_map any_piece list ++ rest))
     ≡ Ok (joined part (access_part list), place (at + length (flat_map any_piece list)) rest)
 unfolding part_from
@@ -272,22 +272,16 @@ part_read profile list bytes ok x =
 module _ (p : Profile) (bytes : List ℕ) (ok : IsProfile p) (fits : IsBytes bytes) where
   -- a part that is returned is that of the list that the bytes spell
   pub part_found : (result : Result Part Fault) → PartReadAs result (part_in p bytes) → IfOk result (IsPartOf p bytes)
-  part_found (Ok part) h = part_spelled p bytes part fits h
-  part_found (Err f) h = tt
+  part_found (Ok part) said = part_spelled p bytes part fits said
+  part_found (Err f) reads = tt
 
   -- the part of the list that the bytes spell is returned, unless memory runs out
   pub part_only : (result : Result Part Fault) → PartReadAs result (part_in p bytes) → (list : List AnyAce)
       → AnyXdr p list bytes → IsPartOrMemory result (access_part list)
-  part_only (Ok part) h list x = ok_is _ _ (sym h ∙ part_read p list bytes ok x)
-  part_only (Err f) h list x = elim h [
+  part_only (Ok part) said list x = ok_is _ _ (sym said ∙ part_read p list bytes ok x)
+  part_only (Err f) reads list x = elim reads [
     | inl memory ↦ memory
     | inr said ↦ absurd (apart (sym said ∙ part_read p list bytes ok x))
   ] where
     apart : {x : Part} {f : Fault} → Err f ≡ Ok x → ⊥
     apart e = cc
-
-  -- bytes with a fault are refused with that fault, unless memory runs out
-  pub part_refused : (result : Result Part Fault) → PartReadAs result (part_in p bytes) → (f : Fault)
-      → IsFaultOfPart p bytes f → FaultsOrMemory result f
-  part_refused (Ok part) h f g = cc
-  part_refused (Err e) h f g = elim h [ inl memory ↦ inr memory | inr said ↦ inl cc ]

@@ -165,7 +165,7 @@ kind_lt Allow = omega arith
 kind_lt Deny = omega arith
 
 -- flags that were read are ones of the profile
-flags_are : (profile : Profile) (n m : ℕ) → flags_of profile n ≡ Ok m → (n ≡ m) × IsWithin profile.flags m
+pub flags_are : (profile : Profile) (n m : ℕ) → flags_of profile n ≡ Ok m → (n ≡ m) × IsWithin profile.flags m
 flags_are profile n m e = grind (arith, nat_tests)
 
 -- flags of the profile are accepted
@@ -173,7 +173,7 @@ pub flags_again : (profile : Profile) (n : ℕ) → IsWithin profile.flags n →
 flags_again profile n within = rw (eq-eqb (bit_and n profile.flags) n within) refl
 
 -- a mask that was read is one of the profile, and light enough
-mask_is : (profile : Profile) (weight n m : ℕ) → mask_of profile weight n ≡ Ok m
+pub mask_is : (profile : Profile) (weight n m : ℕ) → mask_of profile weight n ≡ Ok m
     → (n ≡ m) × IsWithin profile.masks m × (weight + count_ones m ≤ most_weight)
 mask_is profile weight n m e = grind (arith, nat_tests)
 
@@ -188,7 +188,7 @@ pub len_bounds : (n : ℕ) → is_no_who_len n ≡ false → (1 ≤ n) × (n ≤
 len_bounds n e = grind (arith, nat_tests)
 
 -- a length that was read is one that a who may have
-who_len_is : (n m : ℕ) → who_len_of n ≡ Ok m → (n ≡ m) × (1 ≤ m) × (m ≤ longest_who)
+pub who_len_is : (n m : ℕ) → who_len_of n ≡ Ok m → (n ≡ m) × (1 ≤ m) × (m ≤ longest_who)
 who_len_is n m e = grind (arith, nat_tests)
 
 -- a length that is accepted is one that a who may have

@@ -107,6 +107,7 @@ cut_on p weight offset {held} n value rest given bytes long few leads cut k lt =
           )
     ]
 
+-- for a field of `n` bytes that is the next one of an ACE that a source gives
 module _ {p : Profile} {weight offset held size : ℕ} {old here left : Option (List ℕ)} {before mid after : ℕ}
     {room given : List ℕ} {A : Type 0} (n : ℕ) (value : List ℕ → Result A Reason)
     (rest : A → Place → Result (Ace × Place) Fault)
@@ -177,6 +178,7 @@ module _ {p : Profile} {weight offset held size : ℕ} {old here left : Option (
         );
       }
 
+-- for a word of a field that the source gave, which a judge sees as a number
 module _ {p : Profile} {weight offset held : ℕ} {old here left : Option (List ℕ)} {before mid after x : ℕ}
     {room new given : List ℕ} {X A : Type 0} (at : ℕ) (view : X → A) (judged : Result X Reason)
     (value : ℕ → Result A Reason) (rest : A → Place → Result (Ace × Place) Fault)

@@ -1,8 +1,8 @@
 -- How the reader of a part goes on: one more ACE, and the end.
 use Rattle.acl_nfs4.proofs.Common.{[], length, length-append, weight, ◌∷◌, arith, Bool, count_ones, Err, false, true, Fault, Ok, Place, Profile, refl, suc, zero, ℕ, ◌+◌, ◌-◌, ◌<◌, ◌≡◌, ◌≤◌}
 use Rattle.acl_nfs4.specs.AccessPart.{AnyAce, Part, is_for_access, kept_ace}
-unfoldable use Rattle.acl_nfs4.specs.PartFault.{any_ace_at, part_from}
-use Rattle.acl_nfs4.specs.PartFault.{with_ace}
+unfoldable use Rattle.acl_nfs4.specs.internal.PartReading.{any_ace_at, part_from}
+use Rattle.acl_nfs4.specs.internal.PartReading.{with_ace}
 use Rattle.acl_nfs4.proofs.xdr.Faults.{weight-push}
 
 -- an ACE that is read is added to the part

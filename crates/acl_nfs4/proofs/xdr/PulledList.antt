@@ -55,6 +55,7 @@ pub pulled_light : {p : Profile} {n seen total : ℕ} {body text : List ℕ} →
     → total ≤ most_weight
 pulled_light t = omega (arith, t.scanned.total, t.scanned.spells.weight)
 
+-- for a body that was pulled, of which so many ACEs were judged
 module _ {p : Profile} {n seen total : ℕ} {body text : List ℕ} (t : IsPulled p n seen total body text) where
   -- what was judged of a body stays so if a piece follows it
   grown : (piece : List ℕ) → IsScanned p (body ++ piece) (record { seen = seen; used = length body; weight = total })

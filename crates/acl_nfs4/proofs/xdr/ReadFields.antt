@@ -1,5 +1,5 @@
 -- A field that is read: its bytes are there or not, and its judge accepts or refuses them.
-use Rattle.acl_nfs4.proofs.Common.{Ace, ace_at, ap, cond, eqb, Err, Fault, fault_at, field, flags_of, from_flags, from_len, from_mask, Gives, IfOk, is_no_who_len, is_plain_ascii, is_unknown_special, judged, Kind, kind_of, length, List, list_all, ltb, ltb-false, mask_of, moved, None, not, number, Ok, padding_of, Place, Placed, Profile, Reason, refl, Result, Some, subst, sym, take, true, Truncated, who_fault, who_of, word_field, ℕ, ◌∙◌, ◌≡◌, ◌≤◌}
+use Rattle.acl_nfs4.proofs.Common.{ace_at, ap, cond, eqb, Err, Fault, fault_at, field, flags_of, from_flags, from_len, from_mask, Gives, IfOk, is_no_who_len, is_plain_ascii, is_unknown_special, judged, Kind, kind_of, length, List, list_all, ltb, ltb-false, mask_of, moved, None, not, number, Ok, padding_of, Place, Placed, Profile, Reason, refl, Result, Some, subst, sym, take, true, Truncated, who_fault, who_of, word_field, ℕ, ◌∙◌, ◌≡◌, ◌≤◌}
 use Rattle.std.proofs.Common.{false, Bool}
 use Rattle.std.specs.Result.{result_ok}
 use Rattle.acl_nfs4.proofs.plain_ascii.PlainText.{plain_front_is_who}

@@ -130,7 +130,6 @@ impl<'a> NameMap<'a> {
         Ok(())
     }
 
-    // Returns the new who of an ACE.
     fn who(&self, item: &AceRef<'a>) -> &'a [u8]
         ensures { result.now ≡ who_by (name_for self.now) (ace item.now) }
     {

@@ -52,7 +52,6 @@ pub fn parse_text_with(alloc: Global, text: &[u8], profile: Profile) -> Result<A
     read_text(alloc, text, profile)
 }
 
-// Returns the list of the lines.
 fn read_text(alloc: Global, text: &[u8], profile: Profile) -> Result<Acl, AceTextFault>
     ensures { MatchResult result
         (λ acl. read_lines (profile_of profile) [] (ace_lines text.now) ≡ Ok acl)

@@ -85,7 +85,6 @@ fn put_lines<S: Sink>(sink: &mut S, aces: Aces<'_>) -> Result<u64, WriteFault>
     Ok(done)
 }
 
-// Writes the line of an ACE into the buffer.
 #[tactic(auto, unfolding(crate::specs::AceText::ace_line))]
 fn fill(line: &mut Line, item: AceRef<'_>)
     requires { length item.who.now ≤ longest_who }

@@ -5,13 +5,13 @@ ghost use Rattle.acl_nfs4.specs.Ace.{ace};
 ghost use Rattle.acl_nfs4.specs.AccessPart.{AnyAce, AnyXdr, IsAnyWho, IsPartOf, access_part, flags_kept, kept_ace};
 ghost use Rattle.acl_nfs4.specs.Fields.{count_of};
 ghost use Rattle.acl_nfs4.specs.Limits.{most_aces, most_weight};
-ghost use Rattle.acl_nfs4.specs.PartFault.{FaultsOrMemory, IsFaultOfPart, IsPartOrMemory, any_ace_at, any_who_of, part_from, part_in, type_of, with_ace};
+ghost use Rattle.acl_nfs4.specs.PartFault.{FaultsOrMemory, IsFaultOfPart, IsPartOrMemory, any_who_of, type_of};
 ghost use Rattle.acl_nfs4.specs.Spelling.{weight as part_weight};
 ghost use Rattle.acl_nfs4.specs.Stream.{no_memory};
 ghost use Rattle.acl_nfs4.specs.Who.{is_no_who_len};
 ghost use Rattle.acl_nfs4.specs.declared.xdr.fault.Fault.{Fault};
 ghost use Rattle.acl_nfs4.specs.internal.Cursor.{place};
-ghost use Rattle.acl_nfs4.specs.internal.PartReading.{GivesPart, PartReadAs, any_ace};
+ghost use Rattle.acl_nfs4.specs.internal.PartReading.{GivesPart, PartReadAs, any_ace, any_ace_at, part_from, part_in, with_ace};
 ghost use Rattle.acl_nfs4.specs.internal.Reading.{Gives, field, word_field};
 
 use crate::ace::AceRef;
@@ -106,7 +106,7 @@ impl<'a> AccessPart<'a> {
     }
 
     // Adds one more ACE of the list, or counts it.
-    fn add(&mut self, item: AnyAceRef<'a>) -> Result<(), AllocError>
+    fn add(&mut self, item: AccessAce<'a>) -> Result<(), AllocError>
         requires few { length self.old.kept + self.old.left_out < most_aces }
         requires light { part_weight self.old.kept + count_ones item.mask.bits ≤ most_weight }
         requires named { IsAnyWho item.who.now }
@@ -121,9 +121,8 @@ impl<'a> AccessPart<'a> {
     }
 }
 
-// An ACE of any type.
 #[derive(Clone, Copy)]
-struct AnyAceRef<'a> {
+struct AccessAce<'a> {
     type_number: u32,
     flags: Flags,
     mask: Mask,
@@ -131,7 +130,7 @@ struct AnyAceRef<'a> {
 }
 
 // Returns the ACE that is kept of an ALLOW or a DENY.
-fn kept(item: AnyAceRef<'_>) -> AceRef<'_>
+fn kept(item: AccessAce<'_>) -> AceRef<'_>
     requires { IsAnyWho item.who.now }
     ensures { ace result ≡ kept_ace (any_ace item.entry) }
 {
@@ -160,7 +159,7 @@ pub(crate) fn flags_kept(flags: Flags, who: &[u8]) -> Flags
 }
 
 // Returns the part of the list that all of the bytes spell.
-#[tactic(auto, unfolding(crate::specs::PartFault::part_in))]
+#[tactic(auto, unfolding(crate::specs::internal::PartReading::part_in))]
 fn whole_part(alloc: Global, bytes: &[u8], profile: Profile) -> Result<AccessPart<'_>, Fault>
     ensures { PartReadAs result (part_in (profile_of profile) bytes.now) }
 {
@@ -216,12 +215,12 @@ fn count(cursor: &mut Cursor<'_>) -> Result<u32, Fault>
 }
 
 // Reads the next ACE, of any type.
-#[tactic(auto, unfolding(crate::specs::PartFault::any_ace_at))]
+#[tactic(auto, unfolding(crate::specs::internal::PartReading::any_ace_at))]
 fn any_ace<'a>(
     cursor: &mut Cursor<'a>,
     weight: u32,
     profile: Profile,
-) -> Result<AnyAceRef<'a>, Fault>
+) -> Result<AccessAce<'a>, Fault>
     requires { weight ≤ most_weight }
     ensures exact { Gives (λ x. (any_ace x, place cursor.new)) result
         (any_ace_at (profile_of profile) weight (place cursor.old)) }
@@ -238,7 +237,7 @@ fn any_ace<'a>(
     let len = placed(offset, judges::who_len_of(number))?;
     let who = any_who(cursor, len)?;
     padding(cursor, len)?;
-    Ok(AnyAceRef {
+    Ok(AccessAce {
         type_number,
         flags,
         mask,

@@ -122,7 +122,6 @@ fn first_taken(names: &BTreeSet<&[u8]>, aces: &[AceRef<'_>], suffix: &[u8]) -> O
     None
 }
 
-// Returns whether the ACE is for a group whose name is one of these names with the suffix.
 fn has_taken_name(names: &BTreeSet<&[u8]>, item: &AceRef<'_>, suffix: &[u8]) -> bool
     ensures { (list : List AceRef) → HasUnknownNames names.now list
         → result ≡ has_taken_name suffix.now (map ace list) (ace item.now) }
@@ -130,7 +129,6 @@ fn has_taken_name(names: &BTreeSet<&[u8]>, item: &AceRef<'_>, suffix: &[u8]) -> 
     item.flags.is_group() && !item.is_unknown() && has_stand_in(names, item.who, suffix)
 }
 
-// Returns whether the name is one of these names with the suffix.
 fn has_stand_in(names: &BTreeSet<&[u8]>, name: &[u8], suffix: &[u8]) -> bool
     ensures { (list : List AceRef) → HasUnknownNames names.now list
         → result ≡ is_stand_in suffix.now (map ace list) name.now }

@@ -11,8 +11,8 @@ use acl_nfs4::*;
 use std::alloc::Global;
 use std::process::Abort;
 
-// Pushes an ACE with this mask and who, and checks the answer and the list after it. The list stays as it was if the ACE
-// is refused or memory runs out.
+// Pushes an ACE with this mask and who, and checks the answer and the list after it. The list stays as it was if the
+// ACE is refused or memory runs out.
 fn check_push(
     rt: &impl Abort,
     alloc: Global,

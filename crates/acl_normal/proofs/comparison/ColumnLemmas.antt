@@ -60,6 +60,7 @@ pub record AreWhomsSoFar (places : List ℕ) (bit i : ℕ) (refs : List AceRef) 
   pub is : found ++ all_renumbered places bit (aces_in (drop i refs)) (drop i ws)
       ≡ all_renumbered places bit (aces_in refs) ws
 
+-- the columns of the ACEs from a place on begin with the ACE at the place
 whoms_rest : (places : List ℕ) (bit i : ℕ) (refs : List AceRef) (ws : List Whom) {x : AceRef} → i < length refs
     → length ws ≡ length refs → x ≡ slice_index_or refs i x
     → all_renumbered places bit (aces_in (drop i refs)) (drop i ws)

@@ -20,6 +20,7 @@ use Rattle.acl_normal.specs.declared.comparison.direction.Direction.{Direction}
 use Rattle.acl_normal.specs.declared.comparison.first_principals.FirstPrincipals.{FirstPrincipals}
 use Rattle.acl_normal.proofs.comparison.LeastNumber.{least_number}
 
+-- for the columns of two lists on one right, with the places of their principals
 module _ (both : TwoLists) (bit : ℕ) (c : Columns) (rows : List Placing) (columns : AreColumnsOf both bit c)
     (placed : ArePlacings (principals c.principals.items) (aces_in c.first.aces.items) (aces_in c.second.aces.items) bit
     rows) where

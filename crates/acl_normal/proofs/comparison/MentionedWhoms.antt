@@ -20,6 +20,7 @@ among_at (p ∷ ps) zero l = or_left _ _ (principal_eq_itself p)
 among_at (p ∷ ps) (suc k) l =
     or_right (principal_eq (slice_index_or ps k everyone) p) _ (among_at ps k (omega (arith, l)))
 
+-- for a table that has the principal of each row of a list
 module _ (xs : List Ace) (table : List (Option PrincipalRef)) (t : AreByRow xs (length xs) table) where
   -- the principals of the table rise
   table_rises : IsRisingSet (held table)

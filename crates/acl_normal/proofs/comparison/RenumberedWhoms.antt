@@ -15,6 +15,7 @@ rising_apart numbers i j rising li lj e = go (cases_order i j)
     go (inr (inl less)) = absurd (omega (arith, e, rising i j less lj))
     go (inr (inr more)) = absurd (omega (arith, e, rising j i more li))
 
+-- for some of the principals, whose numbers rise
 module _ (whole : List Principal) (numbers places : List ℕ)
     (below : (j : ℕ) → j < length numbers → slice_index_or numbers j 0 < length whole)
     (rising : (i j : ℕ) → i < j → j < length numbers → slice_index_or numbers i 0 < slice_index_or numbers j 0) where

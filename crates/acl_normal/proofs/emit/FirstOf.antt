@@ -41,6 +41,7 @@ column_last : (seen : List Ace) (y : Ace) (b : ℕ) → y.flags ≡ flags_for (p
 column_last seen y b flags =
     column-append b seen (y ∷ []) ∙ ap (λ c. column seen b ++ c) (column-cons b y [] flags)
 
+-- for an ACE behind those that were seen, with the same key as the first
 module _ (seen : List Ace) (y z : Ace) (flags : y.flags ≡ flags_for (principal_of y)) (key : ace_key z ≡ ace_key y)
     (free : AreFreeAfter seen y z.mask) where
   -- with one ACE more, its own key is also free on the rights on which nothing before it conflicts

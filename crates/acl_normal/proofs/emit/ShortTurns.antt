@@ -238,6 +238,7 @@ short_formed list xs es ns reduced columns e =
 
 -- ---- the turns
 
+-- for the ACE that comes first of those that are left
 module _ (left : List Ace) (a : Ace) (first : ComesFirst left a) where
   -- the ACE that comes first, and what is left without its rights
   pub first_step : IsStep left a (take_out (principal_of a) a.mask left)

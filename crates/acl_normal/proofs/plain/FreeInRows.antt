@@ -1,6 +1,6 @@
 -- Which keys are free in what is left of merged rows.
 use Rattle.std.proofs.Common.{Bool, List, [], false, length, refl, true, ℕ, ◌+◌, ◌<◌, ◌≡◌, ◌≤◌}
-use Rattle.acl_normal.proofs.Common.{Ace, AceRef, Allow, ColumnKey, Deny, IsIrreducibleList, IsTrue, IsUnion, Kind, Principal, Some, ace, ace_key, aces_in, all_rights, ap, arith, cases_eq, cases_lt, column, cond, false_from_ne_true, false≢true, first_at, get_or-map, has_bit, inl, inr, is_free, kind_eq, left, nothing_left, one_bit, only_bit, other_kind, same_answers, slice_index_or, subst, sym, take_out, without_principal, ◌^◌, ◌||◌, ◌↔◌, ◌∙◌, ◌≢◌, ◌⊎◌}
+use Rattle.acl_normal.proofs.Common.{Ace, AceRef, Allow, ColumnKey, Deny, IsIrreducibleList, IsTrue, IsUnion, Kind, Principal, Some, ace, ace_key, aces_in, all_rights, ap, arith, cases_eq, cases_lt, column, cond, false≢true, first_at, get_or-map, has_bit, inl, inr, is_free, kind_eq, left, nothing_left, one_bit, only_bit, other_kind, same_answers, slice_index_or, subst, sym, take_out, without_principal, ◌^◌, ◌||◌, ◌↔◌, ◌∙◌, ◌≢◌, ◌⊎◌}
 use Rattle.acl_normal.specs.Left.{HasFree}
 use Rattle.acl_normal.specs.internal.Best.{HasRowColumns}
 use Rattle.acl_normal.proofs.emit.Leaving.{column_left}
@@ -67,6 +67,7 @@ kind_other Deny Allow h e = cc
 kind_other Allow Deny h e = cc
 kind_other Allow Allow h e = cc
 
+-- for a principal whose first ACE with the right is in a row
 module _ (xs : List Ace) (b : ℕ) (p : Principal) (j : Kind) (i : ℕ) (h : HasRowColumns xs)
     (first : first_at b p xs ≡ Some (j, i)) where
   -- the principal is not free with the other kind

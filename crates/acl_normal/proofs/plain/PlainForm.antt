@@ -27,6 +27,7 @@ names_of source accepted b = names_in_column b source (accepted_names full sourc
 
 -- ---- a normal list that grants the same
 
+-- for a normal list that grants the same as its source
 module _ (source ns : List Ace) (accepted : IsAccepted full source) (n : IsNormal ns)
     (grants : SameGrants all_rights source ns) where
   -- its columns are alike the reduced columns of the source

@@ -4,6 +4,7 @@ use Rattle.std.specs.List.Sorted.{IsPartitionPoint, IsPartitionedBy, IsPermutati
 use Rattle.std.proofs.lemmas.List.Recursion.{is_count_by}
 use Rattle.std.proofs.lemmas.List.Sorted.{sum_by-IsPermutation}
 
+-- for a test of elements
 module _ {X : Type 0} (t : X → Bool) where
   -- how many elements pass
   abbrev pub count : List X → ℕ

@@ -40,6 +40,7 @@ row_behind p [] h = refl
 row_behind p (b ∷ xs) h =
     rw (h 0 (omega arith)) (ap suc (row_behind p xs (λ k l. h (suc k) (omega (arith, l)))))
 
+-- for rows that rise up to the row of the last principal
 module _ (xs : List Ace) (rows : List ℕ) (row : ℕ) (last : Principal) (r : AreRisingTo xs rows row last) where
   -- a principal that is equal to the last one has its row
   pub row_again : (p : Principal) → principal_cmp p last ≡ Equal → row ≡ row_of p xs

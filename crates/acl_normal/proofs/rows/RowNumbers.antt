@@ -18,6 +18,7 @@ pub record AreNumberedTo (xs : List Ace) (names : List (Principal × ℕ)) (rows
   pub numbered : (k : ℕ) → k < i → slice_index_or rows (slice_index_or names k no_name).1 0
       ≡ row_of (slice_index_or names k no_name).0 xs
 
+-- for the names of a list in order
 module _ (xs : List Ace) (names : List (Principal × ℕ)) (s : AreSortedNames xs names) where
   -- before the first name no row is set
   pub numbered_none : (rows : List ℕ) → length rows ≡ length xs → AreNumberedTo xs names rows 0 0
@@ -92,6 +93,7 @@ module _ (xs : List Ace) (names : List (Principal × ℕ)) (s : AreSortedNames x
           ap (λ v. slice_index_or rows v 0) (sym w.3) ∙ n.numbered w.0 (omega (arith, w.1, le))
           ∙ ap (λ v. row_of v xs) w.2
 
+-- for the places of a list in the order of their principals
 module _ (xs : List Ace) (places : List HeadedPlace) (s : AreSorted xs places) where
   -- the names of the places of the code
   abbrev names : List (Principal × ℕ)

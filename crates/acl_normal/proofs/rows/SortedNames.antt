@@ -100,6 +100,7 @@ named_more aces places new i a n l here at e before_it =
         (ap (principal_here (aces_in aces)) at ∙ sym (named_in aces i a l here) ∙ ap (λ v. principal_of (ace v)) here)
         ∙ ap (λ m. (principal_of (ace b), m)) (at ∙ sym long)
 
+-- for the names of a list in order
 module _ (xs : List Ace) (names : List (Principal × ℕ)) (s : AreSortedNames xs names) where
   -- the name at a place
   abbrev pub at : ℕ → Principal × ℕ

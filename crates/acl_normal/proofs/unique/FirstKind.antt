@@ -83,6 +83,7 @@ pub record Narrows (test : Principal → Principal → Principal → Bool) (m : 
   pub first : (p q : Principal) → test p q p ≡ true
   pub second : (p q : Principal) → test p q q ≡ true
 
+-- for what follows from the first kind among the keys that a test lets pass
 module _ {X : Type 0} (f : Option Kind → X) (test : Principal → Principal → Principal → Bool) (m : Principal → Bool)
     (n : Narrows test m) (P : Principal → Type 0) where
   -- the columns agree at each two of their principals that the test passes

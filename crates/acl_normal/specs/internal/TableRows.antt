@@ -10,7 +10,7 @@ use Rattle.acl_normal.specs.internal.emit.Emitted.{AreInRows, emitted_ace, emitt
 use Rattle.acl_normal.specs.internal.emit.Rising.{all_cleared}
 use Rattle.acl_normal.specs.Left.{left}
 use Rattle.acl_normal.specs.Normal.{counts}
-use Rattle.acl_normal.specs.declared.bit_table.BorrowedRow.{BorrowedRow}
+use Rattle.acl_normal.specs.declared.right_table.BorrowedRow.{BorrowedRow}
 use Rattle.acl_normal.specs.declared.emit.emission.Emitted.{Emitted}
 use Rattle.acl_normal.specs.Tables.{with_bit, of_borrowed, AreRows}
 

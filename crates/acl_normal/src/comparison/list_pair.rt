@@ -74,7 +74,6 @@ impl<'a, 'b> ListPair<'a, 'b> {
         }
     }
 
-    /// Returns the set of the principals with these numbers.
     pub(crate) fn set(&self, members: Members) -> SmallSet<'a>
         requires { AreNumbered (all_mentioned self.now) members }
         ensures { set_of result ≡ members_of (all_mentioned self.now) members }
@@ -174,7 +173,6 @@ impl<'a, 'b> ListPair<'a, 'b> {
         })
     }
 
-    // The mentioned principals with these numbers.
     fn principals_at(
         &self,
         alloc: Global,

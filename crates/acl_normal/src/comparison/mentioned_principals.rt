@@ -16,7 +16,7 @@ use std::alloc::{AllocError, Global};
 /// The mentioned principals in order, and by row the number of the principal of the row. A row without a mentioned
 /// principal has the number of the next one.
 #[derive(Drop)]
-struct Numbers<'a> {
+struct MentionedNumbers<'a> {
     whole: Vec<Principal<'a>>,
     by_row: Vec<usize>,
 }
@@ -112,7 +112,10 @@ fn mentioned_by<'a>(item: &AceRef<'a>) -> Option<Principal<'a>>
 }
 
 // Numbers the principals of a table in the order of the rows.
-fn numbers_of<'a>(alloc: Global, table: &[Option<Principal<'a>>]) -> Result<Numbers<'a>, AllocError>
+fn numbers_of<'a>(
+    alloc: Global,
+    table: &[Option<Principal<'a>>],
+) -> Result<MentionedNumbers<'a>, AllocError>
     ensures { IfOk result (λ n. AreMentionedNumbers table.now (length table.now)
         (principals n.whole.items) n.by_row.items) }
 {
@@ -124,16 +127,15 @@ fn numbers_of<'a>(alloc: Global, table: &[Option<Principal<'a>>]) -> Result<Numb
             whole.push(p)?;
         }
     }
-    Ok(Numbers { whole, by_row })
+    Ok(MentionedNumbers { whole, by_row })
 }
 
-// Which of the numbered principals each ACE names.
 #[tactic(auto)]
 fn whoms(
     alloc: Global,
     aces: &[AceRef<'_>],
     rows: &[usize],
-    numbers: &Numbers<'_>,
+    numbers: &MentionedNumbers<'_>,
 ) -> Result<Vec<Whom>, AllocError>
     requires { AreMentionedRows (aces_in aces.now) rows.now
         (principals numbers.now.whole.items) numbers.now.by_row.items }

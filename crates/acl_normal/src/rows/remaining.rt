@@ -153,7 +153,6 @@ impl<'a> Remaining<'a> {
         self.rows[place]
     }
 
-    /// Returns the kind of the ACE at a place.
     pub(crate) fn kind_at(&self, place: usize) -> Kind
         requires { place < length self.now }
         ensures { result ≡ kind_here self.now place }

@@ -34,8 +34,8 @@ fn the_eight_flags_are_those_of_the_standard(rt: HostRuntime) {
     }
 }
 
-// The bits of the rights of RFC 8881, section 6.2.1.3.1, READ_DATA to WRITE_RETENTION_HOLD and DELETE to SYNCHRONIZE, and
-// whether the narrow profile has each: it lacks WRITE_RETENTION, 0x200, and WRITE_RETENTION_HOLD, 0x400.
+// The bits of the rights of RFC 8881, section 6.2.1.3.1, READ_DATA to WRITE_RETENTION_HOLD and DELETE to SYNCHRONIZE,
+// and whether the narrow profile has each: it lacks WRITE_RETENTION, 0x200, and WRITE_RETENTION_HOLD, 0x400.
 static RIGHT_BITS: [(u32, bool); 16] = [
     (0x1, true),
     (0x2, true),

@@ -9,7 +9,7 @@ use Rattle.acl_perm.specs.Principal.{Principal, owner, user, group, group_named,
 use Rattle.acl_nfs4.specs.Ace.{Ace}
 use Rattle.acl_nfs4.specs.Who.{principal_of}
 use Rattle.acl_eval.specs.Column.{takes_part}
-use Rattle.acl_prepared.specs.declared.id_ace.IdAce.{IdAce}
+use Rattle.acl_prepared.specs.declared.id_ace.PreparedIdAce.{PreparedIdAce}
 use Rattle.acl_prepared.specs.declared.id_ace.IdPrincipal.{IdPrincipal}
 use Rattle.acl_prepared.specs.declared.id_ace.IdPrincipal.TheVariants as code
 
@@ -34,11 +34,11 @@ id_principal (code.GroupNamed id) = group_named (decimal id)
 id_principal code.Everyone = everyone
 
 -- whom an ACE names that was read
-abbrev pub principal_read : IdAce → Principal
+abbrev pub principal_read : PreparedIdAce → Principal
 principal_read read = principal_from read.rank read.id
 
 -- what was read is this ACE
-pub record IsIdReadAs (a : Ace) (read : IdAce) : Type 0 where
+pub record IsIdReadAs (a : Ace) (read : PreparedIdAce) : Type 0 where
   pub mask : read.mask.bits ≡ a.mask
   pub kind : read.kind ≡ a.kind
   pub whom : principal_read read ≡ principal_of a

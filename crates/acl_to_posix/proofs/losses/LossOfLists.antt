@@ -20,7 +20,7 @@ use Rattle.acl_to_posix.specs.declared.losing.LostGrant.{LostGrant}
 use Rattle.acl_to_posix.specs.declared.losing.unused.Unused.{Unused}
 use Rattle.acl_to_posix.specs.declared.losing.Wanted.{Wanted}
 use Rattle.std.specs.declared.alloc.AllocError.{AllocError}
-use Rattle.acl_to_posix.specs.declared.tag_column.Columns.{Columns}
+use Rattle.acl_to_posix.specs.declared.tag_column.TagColumns.{TagColumns}
 use Rattle.acl_to_posix.specs.declared.tag_column.TagKey.{TagKey}
 use Rattle.acl_eval.proofs.Singles.{single_cases}
 use Rattle.std.proofs.lemmas.List.{length-map}
@@ -107,7 +107,7 @@ named_keys : (keys given : List TagKey) (used : List ℕ) → given ≡ keys
 named_keys keys given used is named t h = named t (ap (λ (ks : List TagKey). has_tag t (keys_of ks)) (sym is) ∙ h)
 
 -- if the searches for r, w and x find nothing, the ACL grants each single permission that the list grants
-pub answer_kept : (list : List Ace) (E : Entries) (columns : Columns) (unused : Unused) (read write execute : Wanted)
+pub answer_kept : (list : List Ace) (E : Entries) (columns : TagColumns) (unused : Unused) (read write execute : Wanted)
     → read.first.now ≡ columns.read.items → read.second.now ≡ columns.read.items
     → write.first.now ≡ columns.write.items → write.second.now ≡ columns.append.items
     → execute.first.now ≡ columns.execute.items → execute.second.now ≡ columns.execute.items
@@ -164,7 +164,7 @@ pub entries_left : (E : Entries) (es : List Entry) (most left : ℕ) → pairs e
 entries_left E es most left same few is = let count = same_entries es E same in omega (arith, few, is, count)
 
 -- the columns of a list and an ACL within the bound are small
-pub few_entries : (most : ℕ) (table : Table) (list given : List Ace) (E : Entries) (columns : Columns)
+pub few_entries : (most : ℕ) (table : Table) (list given : List Ace) (E : Entries) (columns : TagColumns)
     → AreAtMost most table list E → most ≤ 65535 → AreColumns given columns → AreSmall columns E
 few_entries most table list given E columns within small are = record {
   read = are.read.few;

@@ -22,7 +22,7 @@ use Rattle.acl_to_posix.specs.internal.ShapeBody.{IsColumnOf, has_tag, keys_of}
 use Rattle.acl_to_posix.specs.declared.losing.LostGrant.{LostGrant}
 use Rattle.acl_to_posix.specs.declared.losing.unused.Unused.{Unused}
 use Rattle.acl_to_posix.specs.declared.losing.Wanted.{Wanted}
-use Rattle.acl_to_posix.specs.declared.tag_column.Columns.{Columns}
+use Rattle.acl_to_posix.specs.declared.tag_column.TagColumns.{TagColumns}
 use Rattle.acl_to_posix.proofs.losses.ChosenSituations.{nothing_lost}
 use Rattle.acl_eval.proofs.Images.{image_right, rights}
 use Rattle.acl_to_posix.proofs.shapes.ShapeChecks.{all_contain}
@@ -227,7 +227,7 @@ parts r w a x e = record {
 }
 
 -- the tags of the columns and of the entries have these numbers
-pub record AreTagsOf (columns : Columns) (E : Entries) : Type 0 where
+pub record AreTagsOf (columns : TagColumns) (E : Entries) : Type 0 where
   pub read : (t : Tag) → has_tag t (keys_of columns.read.items) ≡ true
       → is_member (qualifier t) (used_numbers columns E) ≡ true
   pub write : (t : Tag) → has_tag t (keys_of columns.write.items) ≡ true
@@ -239,7 +239,7 @@ pub record AreTagsOf (columns : Columns) (E : Entries) : Type 0 where
   pub entries : AllByRecursion (λ entry. is_member (qualifier entry.0) (used_numbers columns E) ≡ true) (fin.entries E)
 
 -- the tags of the columns and of the entries have used numbers
-pub tags_used : (columns : Columns) (E : Entries) → AreTagsOf columns E
+pub tags_used : (columns : TagColumns) (E : Entries) → AreTagsOf columns E
 tags_used columns E =
     let p = parts (key_numbers (keys_of columns.read.items)) (key_numbers (keys_of columns.write.items))
     (key_numbers (keys_of columns.append.items)) (key_numbers (keys_of columns.execute.items))

@@ -17,7 +17,7 @@ use Rattle.acl_to_posix.specs.ToPosix.{EntryShape}
 use Rattle.acl_to_posix.specs.internal.PruningBody.{AreDecidedAt, AreDenied, decided_if, decided_place, denied_place, is_asked_more, are_before}
 use Rattle.acl_to_posix.specs.internal.ShapeBody.{HasPassAnswers, TagColumn, always, answer, is_certain, keys_of, may_match}
 use Rattle.acl_to_posix.specs.declared.judged_entry.Places.{Places}
-use Rattle.acl_to_posix.specs.declared.tag_column.Columns.{Columns}
+use Rattle.acl_to_posix.specs.declared.tag_column.TagColumns.{TagColumns}
 use Rattle.acl_to_posix.specs.declared.tag_column.TagKey.{TagKey}
 use Rattle.acl_to_posix.proofs.TagRequesters.{is_eq-nat_cmp}
 use Rattle.acl_eval.proofs.Images.{same_below}
@@ -263,7 +263,7 @@ all_before decided denied h =
     record { of_read = one.0; of_write = two.0; of_append = three.0; of_execute = three.1 }
 
 -- an entry that keeps what it has, has the same permissions without the name
-pub same_permissions : (columns : Columns) (shape : EntryShape) (name entry : Tag) (perm : ℕ) (decided denied : Places)
+pub same_permissions : (columns : TagColumns) (shape : EntryShape) (name entry : Tag) (perm : ℕ) (decided denied : Places)
     → is_named name ≡ true → is_shared entry ≡ true → HasPassAnswers columns shape entry perm
     → AreDecidedAt columns entry perm decided → AreDenied columns name denied
     → (is_asked_more entry name ≡ true → are_before decided denied ≡ true)
@@ -319,7 +319,7 @@ not_shared shape name mask s other = refl
 not_shared shape name other s t = absurd (true≢false s)
 
 -- an entry that is not shared keeps its permissions when a name is taken out
-pub own_permissions : (columns : Columns) (shape : EntryShape) (name entry : Tag) (perm : ℕ) → is_shared entry ≡ false
+pub own_permissions : (columns : TagColumns) (shape : EntryShape) (name entry : Tag) (perm : ℕ) → is_shared entry ≡ false
     → HasPassAnswers columns shape entry perm → HasPassAnswers columns (taken_out name shape) entry perm
 own_permissions columns shape name entry perm s has = record {
   of_read = has.of_read ∙ sym (same columns.read.items);
@@ -333,7 +333,7 @@ own_permissions columns shape name entry perm s has = record {
         (not_shared shape name entry s)
 
 -- if an entry has its permissions without the name too, each right of them is decided before it is denied to the name
-pub before_all : (columns : Columns) (shape : EntryShape) (name entry : Tag) (perm : ℕ) (decided denied : Places)
+pub before_all : (columns : TagColumns) (shape : EntryShape) (name entry : Tag) (perm : ℕ) (decided denied : Places)
     → is_named name ≡ true → is_shared entry ≡ true
     → (has_bit perm read ≡ true → answer (taken_out name shape) entry columns.read.items ≡ true)
     → (has_bit perm write ≡ true → answer (taken_out name shape) entry columns.write.items ≡ true)

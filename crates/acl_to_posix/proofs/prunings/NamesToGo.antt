@@ -18,7 +18,7 @@ use Rattle.acl_to_posix.specs.ToPosix.{AlwaysHas, EntryShape, is_in_class, is_in
 use Rattle.acl_to_posix.specs.internal.PruningBody.{AreJudged, IsJudged, are_before, is_asked_more, keeps_without, shape_left, stands_without}
 use Rattle.acl_to_posix.specs.internal.ShapeBody.{AreColumns, HasPassAnswers, HasJust, answer, most_names}
 use Rattle.acl_to_posix.specs.declared.judged_entry.JudgedEntry.{JudgedEntry}
-use Rattle.acl_to_posix.specs.declared.tag_column.Columns.{Columns}
+use Rattle.acl_to_posix.specs.declared.tag_column.TagColumns.{TagColumns}
 use Rattle.acl_to_posix.proofs.no_greatest.FreeIds.{eqb_comm}
 use Rattle.acl_to_posix.proofs.TagRequesters.{is_eq-nat_cmp}
 use Rattle.acl_to_posix.proofs.SituationIds.{HasIds}
@@ -86,21 +86,21 @@ contains_part : (p q want : ℕ) → contains p q ≡ true → contains q want �
 contains_part p q want h g = (subset_test p want).1 (λ k b. (subset_test p q).0 h k ((subset_test q want).0 g k b))
 
 -- the permissions of an entry that is judged are those that the list always grants
-judged_just : (list : List Ace) (columns : Columns) (shape : EntryShape) (t : Tag) (perm : ℕ) → AreColumns list columns
+judged_just : (list : List Ace) (columns : TagColumns) (shape : EntryShape) (t : Tag) (perm : ℕ) → AreColumns list columns
     → HasIds shape → size_of shape ≤ most_names → is_in_shape shape t ≡ true → HasPassAnswers columns shape t perm
     → HasJust list shape t perm
 judged_just list columns shape t perm cs ids few there has =
     just list columns shape t perm cs ids few there has.of_read has.of_write has.of_execute
 
 -- the answers of the pass for permissions that an entry always has
-record AreAnswered (columns : Columns) (shape : EntryShape) (t : Tag) (perm : ℕ) : Type 0 where
+record AreAnswered (columns : TagColumns) (shape : EntryShape) (t : Tag) (perm : ℕ) : Type 0 where
   of_read : has_bit perm read ≡ true → answer shape t columns.read.items ≡ true
   of_write : has_bit perm write ≡ true → answer shape t columns.write.items ≡ true
   of_append : has_bit perm write ≡ true → answer shape t columns.append.items ≡ true
   of_execute : has_bit perm execute ≡ true → answer shape t columns.execute.items ≡ true
 
 -- the pass over the columns of a list answers so for an entry that always has these permissions
-answers_of : (list : List Ace) (columns : Columns) (shape : EntryShape) (t : Tag) (perm : ℕ) → AreColumns list columns
+answers_of : (list : List Ace) (columns : TagColumns) (shape : EntryShape) (t : Tag) (perm : ℕ) → AreColumns list columns
     → HasIds shape → size_of shape ≤ most_names → is_in_shape shape t ≡ true → IsPerm perm
     → AlwaysHas list shape t perm → AreAnswered columns shape t perm
 answers_of list columns shape t perm cs ids small there few all = record {
@@ -135,7 +135,7 @@ stays_without name entry h s d =
     }
 
 -- an entry without the name
-pub judged_out : (columns : Columns) (shape : EntryShape) (name entry : JudgedEntry) → is_named (tag_of name.tag) ≡ true
+pub judged_out : (columns : TagColumns) (shape : EntryShape) (name entry : JudgedEntry) → is_named (tag_of name.tag) ≡ true
     → IsJudged columns shape name → is_kept (tag_of name.tag) entry ≡ true → stands_without name entry ≡ true
     → IsJudged columns shape entry → IsJudged columns (taken_out (tag_of name.tag) shape) entry
 judged_out columns shape name entry n jn kept stands j =
@@ -151,7 +151,7 @@ judged_out columns shape name entry n jn kept stands j =
     }
 
 -- if each entry stands without the name, the entries keep what they had
-pub entries_stand : (list : List Ace) (columns : Columns) (left : List JudgedEntry) (name : JudgedEntry)
+pub entries_stand : (list : List Ace) (columns : TagColumns) (left : List JudgedEntry) (name : JudgedEntry)
     → AreColumns list columns → AreJudged columns left → IsJudged columns (shape_left left) name
     → is_named (tag_of name.tag) ≡ true → list_all (stands_without name) left ≡ true
     → KeepsEntries list (shape_left left) (tag_of name.tag)
@@ -180,7 +180,7 @@ entries_stand list columns left name cs js jn n stand t shared there want few ha
     ]))
 
 -- if the entries keep what they had, each entry stands without the name
-pub stands_if : (list : List Ace) (columns : Columns) (left : List JudgedEntry) (name : JudgedEntry)
+pub stands_if : (list : List Ace) (columns : TagColumns) (left : List JudgedEntry) (name : JudgedEntry)
     → AreColumns list columns → AreJudged columns left → IsJudged columns (shape_left left) name
     → is_named (tag_of name.tag) ≡ true → KeepsEntries list (shape_left left) (tag_of name.tag)
     → (e : JudgedEntry) → IsJudged columns (shape_left left) e → stands_without name e ≡ true

@@ -19,7 +19,7 @@ use Rattle.acl_to_posix.specs.ToPosix.{EntryShape, is_in_shape, size_of}
 use Rattle.acl_to_posix.specs.internal.PruningBody.{AreJudged, AreJudgedFor, IsJudged, can_go, groups_left, has_entry, shape_left, stands_without, users_left, group_before, user_before}
 use Rattle.acl_to_posix.specs.internal.ShapeBody.{AreColumns, most_names}
 use Rattle.acl_to_posix.specs.declared.judged_entry.JudgedEntry.{JudgedEntry}
-use Rattle.acl_to_posix.specs.declared.tag_column.Columns.{Columns}
+use Rattle.acl_to_posix.specs.declared.tag_column.TagColumns.{TagColumns}
 use Rattle.acl_to_posix.proofs.Passes.{eq_by_cmp-refl}
 use Rattle.acl_to_posix.proofs.prunings.Losses.{out_size}
 use Rattle.acl_to_posix.proofs.prunings.KeptEntries.{entries_decide}
@@ -28,7 +28,7 @@ use Rattle.acl_to_posix.proofs.prunings.ShapesLeft.{all_pass, entry_there, filte
 use Rattle.acl_to_posix.proofs.prunings.NamesToGo.{entries_stand, judged_out, stands_if}
 
 -- a user or a group that is left
-name_left : (columns : Columns) (left : List JudgedEntry) (name : Tag) → AreJudged columns left → is_named name ≡ true
+name_left : (columns : TagColumns) (left : List JudgedEntry) (name : Tag) → AreJudged columns left → is_named name ≡ true
     → is_in_shape (shape_left left) name ≡ true → IsNameOf (shape_left left) name
 name_left columns left name js n there = let ids = left_ids left in record {
   named = n;
@@ -39,7 +39,7 @@ name_left columns left name js n there = let ids = left_ids left in record {
 }
 
 -- what is known of the first entry that can go
-pub record Goes (list : List Ace) (columns : Columns) (left : List JudgedEntry) (name : Tag) : Type 0 where
+pub record Goes (list : List Ace) (columns : TagColumns) (left : List JudgedEntry) (name : Tag) : Type 0 where
   pub named : is_named name ≡ true
   pub there : is_in_shape (shape_left left) name ≡ true
   pub loses : LosesNothing list (shape_left left) (taken_out name (shape_left left))
@@ -64,7 +64,7 @@ unnamed_left t name (e ∷ left) d h = by (unnamed_left t name left d) (eq_by_cm
         ∙ or_true_right (eq_by_cmp tag_cmp (tag_of e.tag) t)
 
 -- the first entry that can go is that of a name without which nothing is lost
-pub goes : (list : List Ace) (columns : Columns) (left : List JudgedEntry) (name : JudgedEntry)
+pub goes : (list : List Ace) (columns : TagColumns) (left : List JudgedEntry) (name : JudgedEntry)
     → AreColumns list columns
     → AreJudged columns left → find (can_go left) left ≡ Some name → Goes list columns left (tag_of name.tag)
 goes list columns left name cs js found =
@@ -95,7 +95,7 @@ goes list columns left name cs js found =
     }
 
 -- one more step in front of those that follow
-pub step_before : (list : List Ace) (columns : Columns) (left : List JudgedEntry) (name : JudgedEntry)
+pub step_before : (list : List Ace) (columns : TagColumns) (left : List JudgedEntry) (name : JudgedEntry)
     (two : EntryShape) → AreColumns list columns → AreJudged columns left → find (can_go left) left ≡ Some name
     → Prunes list (shape_left (filter (is_kept (tag_of name.tag)) left)) two → Prunes list (shape_left left) two
 step_before list columns left name two cs js found rest =
@@ -104,7 +104,7 @@ step_before list columns left name two cs js found rest =
     (subst (λ (s : EntryShape). Prunes list s two) (out_shape (tag_of name.tag) left g.named) rest)
 
 -- none can go
-pub none_goes : (list : List Ace) (columns : Columns) (left : List JudgedEntry) → AreColumns list columns
+pub none_goes : (list : List Ace) (columns : TagColumns) (left : List JudgedEntry) → AreColumns list columns
     → AreJudged columns left → find (can_go left) left ≡ None → (name : Tag) → is_named name ≡ true
     → is_in_shape (shape_left left) name ≡ true → LosesNothing list (shape_left left) (taken_out name (shape_left left))
     → ⊥
@@ -183,7 +183,7 @@ some_behind : {X : Type 0} (p : X → Bool) (xs : List X) (x : X) → list_any p
 some_behind p xs x h = list_any-append p xs (x ∷ []) ∙ ap (λ (b : Bool). b || list_any p (x ∷ [])) h
 
 -- one more entry
-entry_behind : (columns : Columns) (shape done more : EntryShape) (left pushed : List JudgedEntry) (e : JudgedEntry)
+entry_behind : (columns : TagColumns) (shape done more : EntryShape) (left pushed : List JudgedEntry) (e : JudgedEntry)
     → AreJudgedFor columns shape done left → IsJudged columns shape e → pushed ≡ left ++ e ∷ []
     → shape_with (done.users ++ user_before (tag_of e.tag) []) (done.groups ++ group_before (tag_of e.tag) []) ≡ more
     → AreJudgedFor columns shape more pushed
@@ -210,7 +210,7 @@ append-nil [] = refl
 append-nil (x ∷ xs) = ap (λ (ns : List ℕ). x ∷ ns) (append-nil xs)
 
 -- the entry of the next user
-pub user_behind : (columns : Columns) (shape : EntryShape) (list : List Id) (i : ℕ) (id : Id)
+pub user_behind : (columns : TagColumns) (shape : EntryShape) (list : List Id) (i : ℕ) (id : Id)
     (left pushed : List JudgedEntry) (e : JudgedEntry) → i < length list → id ≡ get_or list i id
     → IsJudged columns shape e → tag_of e.tag ≡ user id.value → pushed ≡ left ++ e ∷ []
     → AreJudgedFor columns shape (shape_with (take i (ids list)) []) left
@@ -222,7 +222,7 @@ user_behind columns shape list i id left pushed e lt at j tag is a =
     (ap (λ (t : Tag). group_before t []) tag))
 
 -- the entry of the next group
-pub group_behind : (columns : Columns) (shape : EntryShape) (users : List ℕ) (list : List Id) (i : ℕ) (id : Id)
+pub group_behind : (columns : TagColumns) (shape : EntryShape) (users : List ℕ) (list : List Id) (i : ℕ) (id : Id)
     (left pushed : List JudgedEntry) (e : JudgedEntry) → i < length list → id ≡ get_or list i id
     → IsJudged columns shape e → tag_of e.tag ≡ group id.value → pushed ≡ left ++ e ∷ []
     → AreJudgedFor columns shape (shape_with users (take i (ids list))) left
@@ -234,7 +234,7 @@ group_behind columns shape users list i id left pushed e lt at j tag is a =
     (ap (λ (t : Tag). take i (ids list) ++ group_before t []) tag ∙ one_number list i id lt at))
 
 -- entries for a whole shape are judged
-pub whole_judged : (columns : Columns) (shape : EntryShape) (left : List JudgedEntry)
+pub whole_judged : (columns : TagColumns) (shape : EntryShape) (left : List JudgedEntry)
     → AreJudgedFor columns shape shape left → size_of shape ≤ most_names → AreJudged columns left
 whole_judged columns shape left a few = (
   subst (λ (s : EntryShape). AreJudgedFor columns s s left) (sym a.named) a,

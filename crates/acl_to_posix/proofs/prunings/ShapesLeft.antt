@@ -13,7 +13,7 @@ use Rattle.acl_to_posix.specs.Pruning.{is_shared, shape_without, taken_out}
 use Rattle.acl_to_posix.specs.ToPosix.{EntryShape, is_in_shape}
 use Rattle.acl_to_posix.specs.internal.PruningBody.{AreJudged, groups_left, has_entry, shape_left, users_left, group_before, user_before}
 use Rattle.acl_to_posix.specs.declared.judged_entry.JudgedEntry.{JudgedEntry}
-use Rattle.acl_to_posix.specs.declared.tag_column.Columns.{Columns}
+use Rattle.acl_to_posix.specs.declared.tag_column.TagColumns.{TagColumns}
 use Rattle.acl_to_posix.proofs.no_greatest.FreeIds.{eqb_comm}
 use Rattle.acl_to_posix.proofs.TagRequesters.{is_eq-nat_cmp}
 use Rattle.acl_to_posix.proofs.SituationIds.{HasIds}
@@ -250,7 +250,7 @@ left_ids left = record {
 }
 
 -- each entry of the shape but USER_OBJ is there
-pub entry_there : (columns : Columns) (left : List JudgedEntry) (t : Tag) → AreJudged columns left
+pub entry_there : (columns : TagColumns) (left : List JudgedEntry) (t : Tag) → AreJudged columns left
     → (is_shared t || is_named t) ≡ true → is_in_shape (shape_left left) t ≡ true → has_entry t left ≡ true
 entry_there columns left user_obj j s h = absurd (false≢true s)
 entry_there columns left (user id) j s h = sym (user_member id left) ∙ h

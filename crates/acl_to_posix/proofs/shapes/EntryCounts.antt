@@ -20,7 +20,7 @@ use Rattle.acl_nfs4.specs.Ace.{Ace}
 use Rattle.acl_to_posix.specs.ToPosix.{EntryShape, HasShape, IsBest, size_of}
 use Rattle.acl_to_posix.specs.internal.LossBody.{AreSmall}
 use Rattle.acl_to_posix.specs.internal.ShapeBody.{AreColumns, most_names}
-use Rattle.acl_to_posix.specs.declared.tag_column.Columns.{Columns}
+use Rattle.acl_to_posix.specs.declared.tag_column.TagColumns.{TagColumns}
 use Rattle.acl_to_posix.proofs.Passes.{eq_by_cmp-refl}
 
 -- the tags that the ACL of a shape can have
@@ -68,7 +68,7 @@ entries_few shape E s =
     omega (arith, le, long, both, u, g)
 
 -- the columns of a list and the ACL of a shape are small
-pub small_of : (list : List Ace) (columns : Columns) (shape : EntryShape) (E : Entries) → AreColumns list columns
+pub small_of : (list : List Ace) (columns : TagColumns) (shape : EntryShape) (E : Entries) → AreColumns list columns
     → IsBest list shape E → size_of shape ≤ most_names → AreSmall columns E
 small_of list columns shape E are best few = record {
   read = are.read.few;

@@ -14,7 +14,7 @@ use Rattle.acl_nfs4.specs.Ace.{Ace}
 use Rattle.acl_to_posix.specs.ToPosix.{EntryShape, is_in_shape, size_of}
 use Rattle.acl_to_posix.specs.declared.posix_shape.PosixShape.{PosixShape}
 use Rattle.acl_to_posix.specs.internal.ShapeBody.{AreColumns, HasJust, answer, most_names, entry_shape_of}
-use Rattle.acl_to_posix.specs.declared.tag_column.Columns.{Columns}
+use Rattle.acl_to_posix.specs.declared.tag_column.TagColumns.{TagColumns}
 use Rattle.acl_to_posix.specs.declared.tag_column.TagKey.{TagKey}
 use Rattle.acl_to_posix.specs.internal.ListNamesBody.{named_shape}
 use Rattle.acl_to_posix.specs.PruningLaws.{HasFewIds}
@@ -24,7 +24,7 @@ use Rattle.acl_to_posix.proofs.shapes.AlwaysDecides.{decides_right}
 use Rattle.acl_eval.proofs.Images.{image_right, rights, small_bit}
 
 -- the permissions whose bits are the answers of the pass are those that the entry has
-pub just : (list : List Ace) (columns : Columns) (shape : EntryShape) (entry : Tag) (perm : ℕ) → AreColumns list columns
+pub just : (list : List Ace) (columns : TagColumns) (shape : EntryShape) (entry : Tag) (perm : ℕ) → AreColumns list columns
     → HasIds shape → length shape.users + length shape.groups ≤ most_names → is_in_shape shape entry ≡ true
     → has_bit perm 2 ≡ answer shape entry columns.read.items
     → has_bit perm 1 ≡ (answer shape entry columns.write.items && answer shape entry columns.append.items)

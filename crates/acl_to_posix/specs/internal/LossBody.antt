@@ -15,7 +15,7 @@ use Rattle.acl_to_posix.specs.declared.losing.unused.Unused.{Unused}
 use Rattle.acl_to_posix.specs.declared.losing.Wanted.{Wanted}
 use Rattle.acl_to_posix.specs.declared.posix_shape.ShapeFault.{ShapeFault}
 use Rattle.acl_to_posix.specs.declared.posix_shape.ShapeFault.TheVariants as faults
-use Rattle.acl_to_posix.specs.declared.tag_column.Columns.{Columns}
+use Rattle.acl_to_posix.specs.declared.tag_column.TagColumns.{TagColumns}
 -- the tag is that of the owner
 pub use Rattle.acl_posix.specs.internal.GroupAnswers.{is_owner_tag}
 
@@ -242,7 +242,7 @@ abbrev pub entry_numbers : List (Tag × ℕ) → List ℕ
 entry_numbers entries = map (λ entry. qualifier entry.0) entries
 
 -- the numbers of the tags of columns and of entries
-abbrev pub used_numbers : Columns → Entries → List ℕ
+abbrev pub used_numbers : TagColumns → Entries → List ℕ
 used_numbers columns entries = (((key_numbers (keys_of columns.read.items)
     ++ key_numbers (keys_of columns.write.items))
     ++ key_numbers (keys_of columns.append.items))
@@ -254,7 +254,7 @@ abbrev pub most_loss_entries : ℕ
 most_loss_entries = most_names + 4
 
 -- no column has more keys than a column can have, and there are not too many entries
-pub record AreSmall (columns : Columns) (entries : Entries) : Type 0 where
+pub record AreSmall (columns : TagColumns) (entries : Entries) : Type 0 where
   pub read : length columns.read.items ≤ most_keys
   pub write : length columns.write.items ≤ most_keys
   pub append : length columns.append.items ≤ most_keys

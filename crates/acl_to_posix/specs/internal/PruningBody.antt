@@ -13,7 +13,7 @@ use Rattle.acl_to_posix.specs.ToPosix.{EntryShape, is_in_shape, size_of}
 use Rattle.acl_to_posix.specs.internal.ShapeBody.{HasPassAnswers, is_certain, most_names, users_of}
 use Rattle.acl_to_posix.specs.declared.judged_entry.JudgedEntry.{JudgedEntry}
 use Rattle.acl_to_posix.specs.declared.judged_entry.Places.{Places}
-use Rattle.acl_to_posix.specs.declared.tag_column.Columns.{Columns}
+use Rattle.acl_to_posix.specs.declared.tag_column.TagColumns.{TagColumns}
 use Rattle.acl_to_posix.specs.declared.tag_column.TagKey.{TagKey}
 
 -- ---- what is known of an entry
@@ -35,21 +35,21 @@ abbrev pub denied_place : Tag → List TagKey → ℕ
 denied_place name keys = position_or_len (is_denial name) keys
 
 -- the places at which the rights of these permissions are decided
-pub record AreDecidedAt (columns : Columns) (entry : Tag) (perm : ℕ) (places : Places) : Type 0 where
+pub record AreDecidedAt (columns : TagColumns) (entry : Tag) (perm : ℕ) (places : Places) : Type 0 where
   pub of_read : places.read ≡ decided_if (has_bit perm read) entry columns.read.items
   pub of_write : places.write ≡ decided_if (has_bit perm write) entry columns.write.items
   pub of_append : places.append ≡ decided_if (has_bit perm write) entry columns.append.items
   pub of_execute : places.execute ≡ decided_if (has_bit perm execute) entry columns.execute.items
 
 -- the places at which the rights are denied to a principal
-pub record AreDenied (columns : Columns) (name : Tag) (places : Places) : Type 0 where
+pub record AreDenied (columns : TagColumns) (name : Tag) (places : Places) : Type 0 where
   pub of_read : places.read ≡ denied_place name columns.read.items
   pub of_write : places.write ≡ denied_place name columns.write.items
   pub of_append : places.append ≡ denied_place name columns.append.items
   pub of_execute : places.execute ≡ denied_place name columns.execute.items
 
 -- an entry of the shape, with its permissions and its places
-pub record IsJudged (columns : Columns) (shape : EntryShape) (e : JudgedEntry) : Type 0 where
+pub record IsJudged (columns : TagColumns) (shape : EntryShape) (e : JudgedEntry) : Type 0 where
   pub there : is_in_shape shape (tag_of e.tag) ≡ true
   pub answers : HasPassAnswers columns shape (tag_of e.tag) e.perm.bits
   pub decided : AreDecidedAt columns (tag_of e.tag) e.perm.bits e.decided
@@ -124,20 +124,20 @@ abbrev pub has_entry : Tag → List JudgedEntry → Bool
 has_entry tag left = list_any (λ e. eq_by_cmp tag_cmp (tag_of e.tag) tag) left
 
 -- entries of a shape: those of GROUP_OBJ and OTHER, and those of the users and groups that are done so far
-pub record AreJudgedFor (columns : Columns) (shape done : EntryShape) (left : List JudgedEntry) : Type 0 where
+pub record AreJudgedFor (columns : TagColumns) (shape done : EntryShape) (left : List JudgedEntry) : Type 0 where
   pub each : AllByRecursion (IsJudged columns shape) left
   pub named : shape_left left ≡ done
   pub owning : has_entry group_obj left ≡ true
   pub others : has_entry other left ≡ true
 
 -- the same once the users are done
-abbrev pub AreUsersJudged : Columns → EntryShape → List JudgedEntry → Type 0
+abbrev pub AreUsersJudged : TagColumns → EntryShape → List JudgedEntry → Type 0
 AreUsersJudged columns shape left = AreJudgedFor columns shape (users_of shape) left
 
 -- the same once the users and the groups are done
-abbrev pub AreAllJudged : Columns → EntryShape → List JudgedEntry → Type 0
+abbrev pub AreAllJudged : TagColumns → EntryShape → List JudgedEntry → Type 0
 AreAllJudged columns shape left = AreJudgedFor columns shape shape left
 
 -- the entries of a shape without USER_OBJ, each with what is known of it
-abbrev pub AreJudged : Columns → List JudgedEntry → Type 0
+abbrev pub AreJudged : TagColumns → List JudgedEntry → Type 0
 AreJudged columns left = AreAllJudged columns (shape_left left) left × (size_of (shape_left left) ≤ most_names)

@@ -21,7 +21,7 @@ use Rattle.acl_ids.specs.Ids.{id_of_name}
 use Rattle.acl_eval.specs.Permissions.{append_data, execute, execute_right, read, read_data, write, write_data}
 use Rattle.acl_to_posix.specs.ToPosix.{AlwaysHas, EntryShape, is_in_shape}
 use Rattle.acl_to_posix.specs.declared.posix_shape.PosixShape.{PosixShape}
-use Rattle.acl_to_posix.specs.declared.tag_column.Columns.{Columns}
+use Rattle.acl_to_posix.specs.declared.tag_column.TagColumns.{TagColumns}
 use Rattle.acl_to_posix.specs.declared.tag_column.TagKey.{TagKey}
 use Rattle.acl_to_posix.specs.declared.tag_column.TaggedAce.{TaggedAce}
 
@@ -118,7 +118,7 @@ abbrev pub answer : EntryShape → Tag → List TagKey → Bool
 answer shape entry keys = always (is_certain entry) (may_match shape entry) (keys_of keys)
 
 -- the permissions of an entry are the answers of the pass
-pub record HasPassAnswers (columns : Columns) (shape : EntryShape) (entry : Tag) (perm : ℕ) : Type 0 where
+pub record HasPassAnswers (columns : TagColumns) (shape : EntryShape) (entry : Tag) (perm : ℕ) : Type 0 where
   pub of_read : has_bit perm read ≡ answer shape entry columns.read.items
   pub of_write : has_bit perm write
       ≡ (answer shape entry columns.write.items && answer shape entry columns.append.items)
@@ -142,14 +142,14 @@ pub record IsColumnOf (list : List Ace) (bit : ℕ) (keys : List TagKey) : Type 
   pub few : length keys ≤ most_keys
 
 -- the columns of the four rights
-pub record AreColumns (list : List Ace) (columns : Columns) : Type 0 where
+pub record AreColumns (list : List Ace) (columns : TagColumns) : Type 0 where
   pub read : IsColumnOf list read_data columns.read.items
   pub write : IsColumnOf list write_data columns.write.items
   pub append : IsColumnOf list append_data columns.append.items
   pub execute : IsColumnOf list execute_right columns.execute.items
 
 -- the columns have at most as many keys as a list can have ACEs
-pub record HaveFewKeys (columns : Columns) : Type 0 where
+pub record HaveFewKeys (columns : TagColumns) : Type 0 where
   pub read : length columns.read.items ≤ most_aces
   pub write : length columns.write.items ≤ most_aces
   pub append : length columns.append.items ≤ most_aces

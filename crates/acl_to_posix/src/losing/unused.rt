@@ -6,7 +6,7 @@ ghost use Rattle.acl_posix.specs.Tag.{qualifier, tag_of};
 ghost use Rattle.acl_to_posix.specs.internal.LossBody.{AreSmall, AreUnused, entry_numbers, key_numbers, most_used, used_numbers};
 ghost use Rattle.acl_to_posix.specs.internal.ShapeBody.{keys_of};
 
-use crate::tag_column::{Columns, TagKey};
+use crate::tag_column::{TagColumns, TagKey};
 use acl_posix::{Id, PosixAcl, Tag};
 use std::alloc::{AllocError, Global};
 
@@ -20,7 +20,7 @@ pub(crate) struct Unused {
 /// Returns two ids that neither the columns nor the entries have. Fails only if memory runs out.
 pub(crate) fn unused_ids(
     alloc: Global,
-    columns: &Columns,
+    columns: &TagColumns,
     acl: &PosixAcl,
 ) -> Result<Unused, AllocError>
     requires { AreSmall columns.now acl.now }
@@ -34,7 +34,7 @@ pub(crate) fn unused_ids(
 }
 
 // The ids of the keys of all columns and of the entries, and 0 for each without an id.
-fn used_ids(alloc: Global, columns: &Columns, acl: &PosixAcl) -> Result<Vec<Id>, AllocError>
+fn used_ids(alloc: Global, columns: &TagColumns, acl: &PosixAcl) -> Result<Vec<Id>, AllocError>
     ensures { IfOk result (λ used. ids used.items ≡ used_numbers columns.now acl.now) }
 {
     let mut used = Vec::new(alloc);
@@ -91,7 +91,6 @@ fn unused_id(used: &[Id]) -> Id
     Id { value }
 }
 
-// Returns whether the number is that of one of the ids.
 fn is_used(used: &[Id], value: u32) -> bool
     ensures { result ≡ is_member value (ids used.now) }
 {

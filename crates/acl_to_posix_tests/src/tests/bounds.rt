@@ -1,5 +1,6 @@
-//! Lists that name more users and groups than the bound. They are refused for their names, also if memory runs out while
-//! the names are collected. The bytes are worked by hand from RFC 7531 (`nfsace4`), and so are the numbers of names.
+//! Lists that name more users and groups than the bound. They are refused for their names, also if memory runs out
+//! while the names are collected. The bytes are worked by hand from RFC 7531 (`nfsace4`), and so are the numbers of
+//! names.
 
 use acl_nfs4::AclView;
 use acl_perm::Mode;

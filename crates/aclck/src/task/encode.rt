@@ -27,7 +27,6 @@ pub fn run_encode<S: Source, K: Sink>(
     write_list_answer(sink, &list)
 }
 
-// Returns the list that a text spells.
 fn list_of_text(alloc: Global, input: Vec<u8>, profile: Profile) -> Result<Acl, RunFault>
     ensures read { IfOk result (λ list. IsAceText (profile_of profile) list input.items) }
     ensures refused { IfErr result (λ e. (e ≡ RunFault.Memory)

@@ -1,12 +1,12 @@
 //! `table`: what the normal form of a list says about one right.
 ghost use Rattle.std.specs.Prelude.{◌≡◌};
 ghost use Rattle.aclck.specs.Common.{ReadsValues, RunsCommand, option_and_then, option_map, profile_of, rows_in, text_if_any};
-ghost use Rattle.aclck.specs.commands.BitTable.{bit_value, right_named, table, table_held, table_in};
+ghost use Rattle.aclck.specs.commands.RightTable.{bit_value, right_named, table, table_held, table_in};
 
 use crate::answer::{Outcome, RunFault, write_answer};
 use crate::input::xdr::read_list;
 use crate::line::{Argument, LineFault, text_of};
-use crate::task::values::BitTable;
+use crate::task::values::RightTable;
 use crate::words::options::{BIT, PROFILE};
 use crate::words::profile::profile_in;
 use crate::words::values::within;
@@ -21,13 +21,13 @@ pub(crate) const ARGUMENTS: [Argument; 2] = [BIT, PROFILE];
 
 /// Returns the right and the profile. Fails with `Usage` if the value of `--bit` is not one right of the profile, or
 /// the profile is bad.
-#[tactic(auto, unfolding(crate::specs::commands::BitTable::table_in))]
-pub(crate) fn read(matches: &ArgMatches<'_>) -> Result<BitTable, LineFault>
+#[tactic(auto, unfolding(crate::specs::commands::RightTable::table_in))]
+pub(crate) fn read(matches: &ArgMatches<'_>) -> Result<RightTable, LineFault>
     ensures { ReadsValues table_held (table_in (rows_in matches.now)) result }
 {
     let profile = profile_in(matches)?;
     let bit = bit_in(text_of(matches, BIT), profile.masks).ok_or(LineFault::Usage)?;
-    Ok(BitTable { bit, profile })
+    Ok(RightTable { bit, profile })
 }
 
 // Returns the right that a word names. The rights are those of the profile, and the right must be one of them.
@@ -39,7 +39,7 @@ fn bit_in(word: Option<&str>, rights: Mask) -> Option<Mask>
 }
 
 // Returns the right of one name. `read_mask` also takes `-` and several names, which are refused here.
-#[tactic(auto, unfolding(crate::specs::commands::BitTable::right_named))]
+#[tactic(auto, unfolding(crate::specs::commands::RightTable::right_named))]
 fn right_named(word: &[u8]) -> Option<Mask>
     ensures { option_map (λ mask. mask.bits) result ≡ right_named word.now }
 {

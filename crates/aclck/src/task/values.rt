@@ -58,7 +58,7 @@ pub struct Child {
 
 /// What `table` takes: the mask of one right, and the profile.
 #[derive(Clone, Copy)]
-pub struct BitTable {
+pub struct RightTable {
     pub bit: Mask,
     pub profile: Profile,
 }

@@ -105,7 +105,6 @@ fn compared(alloc: Global, first: &[u8], second: &[u8], profile: Profile) -> Res
     Ok(comparison_of(alloc, &list, &other)?)
 }
 
-/// Returns whether the bytes are the same.
 pub(crate) fn are_equal(bytes: &[u8], others: &[u8]) -> bool
     ensures { result ≡ bytes_eq bytes.now others.now }
 {
@@ -185,7 +184,6 @@ fn names_of(alloc: Global, found: &Difference) -> Result<Vec<u8>, AllocError>
     Ok(text)
 }
 
-// Adds the name of each group.
 fn add_members(text: &mut Vec<u8>, groups: &[Vec<u8>]) -> Result<(), AllocError>
     ensures { OnOk result (text.new.items
         ≡ text.old.items ++ flat_map ended (map (λ g. g.items) groups.now)) }

@@ -73,7 +73,6 @@ pub extern "C" fn aclck_read_part(
     }
 }
 
-// What is made of a value.
 #[derive(Drop)]
 struct MadePart {
     flags: u32,

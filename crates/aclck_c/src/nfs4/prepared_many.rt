@@ -73,7 +73,6 @@ fn decide_each(
     true
 }
 
-// What is decided for a requester.
 fn decided_for(
     alloc: Global,
     prepared: &[u8],

@@ -184,7 +184,6 @@ fn place_of(acl: &EntriesView<'_>, tag: Tag) -> EntryPlace
     }
 }
 
-// Returns the number of a tag in a raw entry.
 fn raw_tag_number(tag: Tag) -> u32
     ensures { result ≡ raw_tag_number (tag_of tag) }
 {

@@ -9,4 +9,4 @@ returns-then-decides-clause-says c =
     let lookup = c.in-Some.ensures.lookup in
     says_here c.args.aces.now c.in-Some.item.now
     (situation c.args.matcher.now.object c.args.matcher.now.requester) c.args.right.bit (is_out c.args.out.now)
-    c.loop-item.place c.step_of.result lookup.3.0 lookup.1 (sym c.decides.ensures ∙ c.if-decides.true) c.step_of.ensures
+    c.loop-item.place c.verdict_of.result lookup.3.0 lookup.1 (sym c.decides.ensures ∙ c.if-decides.true) c.verdict_of.ensures

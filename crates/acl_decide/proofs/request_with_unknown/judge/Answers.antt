@@ -33,17 +33,17 @@ returns-in_default c =
     let s = situation c.args.matcher.now.object c.args.matcher.now.requester in
     let request = c.args.mask.bits in
     let bit = c.from-bit.result.bit in
-    let place = c.descend-step.new.place in
+    let place = c.descend-verdict.new.place in
     let out = is_out c.args.out.now in
     let (next, finite, long, before, rights, granted) = c.loop-right.invariant in
     let has = subst (AllByRecursion (λ b. has_bit request b ≡ true)) c.in-Some.ensures.steps rights in
     let asked : has_bit request bit ≡ true = ap (has_bit request) c.from-bit.ensures ∙ has.0 in
-    let moved = c.descend-step.ensures.passed in record {
+    let moved = c.descend-verdict.ensures.passed in record {
       passed = passed_at c.args.aces.now s request bit place out c.loop-right.places
           (omega (arith, long, c.from-bit.result.within)) moved before;
-      says = says_request c.args.aces.now s request bit out place c.descend-step.result asked
+      says = says_request c.args.aces.now s request bit out place c.descend-verdict.result asked
           (passed_here c.args.aces.now s request bit place out c.loop-right.places asked moved before)
-          c.in_default.not-Granted c.descend-step.ensures.says;
+          c.in_default.not-Granted c.descend-verdict.ensures.says;
     }
 
 pub loop-right-preserved : goal.loop-right-preserved
@@ -52,12 +52,12 @@ loop-right-preserved c =
     let s = situation c.args.matcher.now.object c.args.matcher.now.requester in
     let request = c.args.mask.bits in
     let bit = c.from-bit.result.bit in
-    let place = c.descend-step.new.place in
+    let place = c.descend-verdict.new.place in
     let out = is_out c.args.out.now in
     let (next, finite, long, before, rights, granted) = c.loop-right.invariant in
     let has = subst (AllByRecursion (λ b. has_bit request b ≡ true)) c.in-Some.ensures.steps rights in
     let asked : has_bit request bit ≡ true = ap (has_bit request) c.from-bit.ensures ∙ has.0 in
-    let moved = c.descend-step.ensures.passed in
+    let moved = c.descend-verdict.ensures.passed in
     let here = allowed_here aces s bit out place
     (passed_here aces s request bit place out c.loop-right.places asked moved before) c.in-Granted.ensures.says in (
       tt,

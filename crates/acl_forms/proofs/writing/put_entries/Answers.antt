@@ -1,13 +1,13 @@
 use Rattle.std.proofs.Common.{[], ap, append_assoc, arith, length, List, ℕ, ◌++◌, ◌∙◌, ◌∷◌, ◌≡◌, refl, sym}
 use Rattle.acl_perm.proofs.PieceLemmas.{out_cut, out_more}
 use Rattle.acl_nfs4.specs.Ace.{Ace, ace}
-use Rattle.acl_forms.specs.declared.writing.WrittenForm.{WrittenForm}
+use Rattle.acl_forms.specs.declared.writing.AceTextForm.{AceTextForm}
 use Rattle.acl_forms.specs.internal.TextWriting.{after_each, between, entries_left, entry_of, separator_of}
 use Rattle.acl_nfs4.proofs.Exits.{exit_is}
 use Rattle.acl_forms.proofs.writing.put_entries.Goals as goal
 
 -- the text of ACEs is the piece of the first and the text of the others
-next_piece : (form : WrittenForm) (before : List ℕ) (list rest : List Ace) (a : Ace) (piece : List ℕ) → list ≡ a ∷ rest
+next_piece : (form : AceTextForm) (before : List ℕ) (list rest : List Ace) (a : Ace) (piece : List ℕ) → list ≡ a ∷ rest
     → piece ≡ (([] ++ before) ++ entry_of form a) ++ after_each (separator_of form)
     → entries_left form before list ≡ piece ++ entries_left form (between (separator_of form)) rest
 next_piece form before list rest a piece e is =

@@ -1,5 +1,5 @@
 use Rattle.std.proofs.Common.{[], ap, ◌∙◌}
-use Rattle.acl_forms.specs.declared.writing.WrittenForm.TheVariants.{Tools}
+use Rattle.acl_forms.specs.declared.writing.AceTextForm.TheVariants.{Tools}
 use Rattle.acl_forms.specs.internal.TextWriting.{entries_left}
 use Rattle.acl_nfs4.proofs.Exits.{exit_is}
 use Rattle.acl_forms.proofs.FormLemmas.{done_written, tools_entries, part_written, refused_written}

@@ -1,6 +1,6 @@
 use Rattle.acl_nfs4.proofs.Common.{flags_of, mask_of, place, Place, profile_of, who_len_of, ◌∙◌}
 use Rattle.acl_nfs4.specs.PartFault.{type_of}
-unfoldable use Rattle.acl_nfs4.specs.PartFault.{any_ace_at}
+unfoldable use Rattle.acl_nfs4.specs.internal.PartReading.{any_ace_at}
 use Rattle.acl_nfs4.proofs.Exits.{exit_is}
 use Rattle.acl_nfs4.proofs.xdr.Fields.{bind-ok}
 use Rattle.acl_nfs4.proofs.xdr.ReadFields.{word_accepted}

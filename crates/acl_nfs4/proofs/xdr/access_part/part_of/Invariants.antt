@@ -1,5 +1,5 @@
 use Rattle.acl_nfs4.proofs.Common.{[], length, weight, most_aces, most_weight, place, profile_of, ◌+◌, ◌≡◌, ◌≤◌}
-use Rattle.acl_nfs4.specs.PartFault.{part_from}
+use Rattle.acl_nfs4.specs.internal.PartReading.{part_from}
 use Rattle.acl_nfs4.proofs.xdr.access_part.part_of.Given as goal
 
 -- the part so far, with the ACEs that are left, gives what all ACEs give

@@ -1,4 +1,4 @@
-use Rattle.acl_normal.proofs.Common.{ace, ap, column, first_at, is_free, principal, principal_of, Some, subst, sym, ◌∙◌, ◌≡◌, ◌^◌, ◌↔◌, IsTrue}
+use Rattle.acl_normal.proofs.Common.{ace, ap, column, first_at, is_free, principal, principal_of, Some, sym, ◌∙◌, ◌≡◌, ◌^◌, ◌↔◌, IsTrue}
 use Rattle.acl_normal.specs.Left.{HasFree}
 use Rattle.acl_normal.proofs.plain.FreeInRows.{kind_other, kind_same, other_not_free, own_free}
 use Rattle.acl_normal.proofs.rows.FirstAces.{right_there}

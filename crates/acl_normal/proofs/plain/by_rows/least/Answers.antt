@@ -1,4 +1,4 @@
-use Rattle.acl_normal.proofs.Common.{ace, ace_key, aces_in, ap, arith, column, has_bit, is_free, length, option_map, slice_index_or, subst, sym, take, take_all, take_more, ◌<◌, ◌∙◌, ◌≡◌}
+use Rattle.acl_normal.proofs.Common.{ace, ace_key, aces_in, ap, arith, column, is_free, length, option_map, slice_index_or, subst, sym, take, take_all, take_more, ◌<◌, ◌∙◌, ◌≡◌}
 use Rattle.acl_normal.specs.internal.Best.{Best}
 use Rattle.acl_normal.proofs.plain.Candidates.{best_first}
 use Rattle.acl_normal.proofs.plain.FreeInRows.{key_there}

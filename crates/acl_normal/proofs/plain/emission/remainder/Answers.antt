@@ -1,4 +1,4 @@
-use Rattle.acl_normal.proofs.Common.{Ace, ace, ap, cond, is_inherit_only, not, principal_eq, principal_of, refl, sym, true, without, ◌&&◌, ◌∙◌, ◌≡◌}
+use Rattle.acl_normal.proofs.Common.{Ace, ace, ap, cond, is_inherit_only, not, principal_eq, principal_of, sym, true, without, ◌&&◌, ◌∙◌, ◌≡◌}
 use Rattle.acl_normal.proofs.unique.Bits.{difference_is}
 use Rattle.acl_normal.proofs.plain.emission.remainder.Goals as goal
 

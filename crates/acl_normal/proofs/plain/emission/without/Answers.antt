@@ -1,4 +1,4 @@
-use Rattle.acl_normal.proofs.Common.{[], ace, aces_in, ap, arith, map-append, principal_of, sym, take, take_all, take_out, without_bits, ◌++◌, ◌∙◌, ◌∷◌}
+use Rattle.acl_normal.proofs.Common.{[], ace, aces_in, ap, arith, map-append, principal_of, sym, take, take_out, without_bits, ◌++◌, ◌∙◌, ◌∷◌}
 use Rattle.acl_normal.proofs.reduce.Passes.{list_of-append, list_of-more}
 use Rattle.acl_normal.proofs.plain.emission.without.Goals as goal
 

@@ -1,6 +1,6 @@
 use Rattle.std.proofs.Common.{refl, rules}
 use Rattle.acl_perm.specs.Profile.{profile_of}
-use Rattle.aclck.specs.commands.BitTable.{TableAnswer}
+use Rattle.aclck.specs.commands.RightTable.{TableAnswer}
 use Rattle.aclck.proofs.WritingLemmas.{written_after_reading}
 use Rattle.aclck.proofs.task.table.run_table.Goals as goal
 

@@ -1,0 +1,8 @@
+//! What the tests of several crates share: lists from rows, and what a table of tests answers if memory runs out.
+#![tactic(auto)]
+
+mod memory;
+mod rows;
+
+pub use memory::{kept, passes};
+pub use rows::{ALLOW, AceRow, DENY, ace_of, built, repeated};
