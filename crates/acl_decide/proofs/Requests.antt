@@ -56,25 +56,10 @@ passed v out s a rest bit leaves lacks = by (has_bit a.mask bit) (takes_part a) 
     by true false he te = answer_skips v a rest s bit (rw (he, te) refl)
     by false t he te = answer_skips v a rest s bit (rw he refl)
 
--- an ACE without the bit changes no answer
-lacking : (v : Assignment) (s : Situation) (a : Ace) (rest : List Ace) (bit : ℕ) → has_bit a.mask bit ≡ false
-    → answer_under v (a ∷ rest) s bit ≡ answer_under v rest s bit
-lacking v s a rest bit he = answer_skips v a rest s bit (rw he refl)
-
 -- an ACE that applies and has the bit decides it
 decided : (v : Assignment) (s : Situation) (a : Ace) (rest : List Ace) (bit : ℕ) → has_bit a.mask bit ≡ true
     → takes_part a ≡ true → matches_under v s a ≡ true → answer_under v (a ∷ rest) s bit ≡ Some a.kind
 decided v s a rest bit he te me = answer_here v a rest s bit (rw (he, te) refl) me
-
--- an ACE changes no answer to a right that it does not decide
-unchanged : (v : Assignment) (out : List ℕ → Bool) (s : Situation) (a : Ace) (rest : List Ace) (bit : ℕ)
-    → LeavesOut v out → (has_bit a.mask bit && applies_but out s a) ≡ false
-    → answer_under v (a ∷ rest) s bit ≡ answer_under v rest s bit
-unchanged v out s a rest bit leaves lacks = by (has_bit a.mask bit) refl
-  where
-    by : (h : Bool) → has_bit a.mask bit ≡ h → answer_under v (a ∷ rest) s bit ≡ answer_under v rest s bit
-    by true he = passed v out s a rest bit leaves (sym (ap (λ t. t && applies_but out s a) he) ∙ lacks)
-    by false he = lacking v s a rest bit he
 
 -- ---- one more name
 

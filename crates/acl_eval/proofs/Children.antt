@@ -141,15 +141,6 @@ child_accepted p kind list h ok = record {
 pub moved : (done rest : List Ace) (a : Ace) → (done ++ a ∷ []) ++ rest ≡ done ++ a ∷ rest
 moved done rest a = append_assoc done (a ∷ []) rest
 
--- the ACEs so far and the child of the rest of the parent are still the whole child after an ACE that the child has
-pub one_more : (kind : ChildKind) (done : List Ace) (a : Ace) (f : ℕ) (left rest whole : List Ace) → left ≡ a ∷ rest
-    → child_flags kind a.flags ≡ Some f → done ++ children kind left ≡ whole
-    → (done ++ with_flags a f ∷ []) ++ children kind rest ≡ whole
-one_more kind done a f left rest whole next has so_far =
-    append_assoc done (with_flags a f ∷ []) (children kind rest)
-    ∙ ap (λ (list : List Ace). done ++ list) (sym (child_has kind a rest f has))
-    ∙ ap (λ (list : List Ace). done ++ children kind list) (sym next) ∙ so_far
-
 -- ---- the table, row by row
 
 -- a file has an ACE with FILE_INHERIT, without flags of inheritance

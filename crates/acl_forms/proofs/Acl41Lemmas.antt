@@ -1,5 +1,5 @@
 -- Flags and a list after them are read if and only if the bytes spell them.
-use Rattle.std.proofs.Common.{◌≡◌, ◌∙◌, ◌+◌, ◌<◌, ◌^◌, ◌++◌, [], ℕ, List, Ok, Err, length, refl, ap, sym, subst}
+use Rattle.std.proofs.Common.{◌≡◌, ◌∙◌, ◌+◌, ◌<◌, ◌^◌, ◌++◌, [], ℕ, List, Ok, length, refl, ap, sym}
 use Rattle.acl_perm.specs.Profile.{full}
 use Rattle.acl_nfs4.proofs.Exports.{one, spelling_short, ok_is}
 use Rattle.acl_nfs4.specs.Ace.{Ace}
@@ -9,10 +9,9 @@ use Rattle.acl_nfs4.specs.internal.Progress.{IsBytes}
 use Rattle.acl_nfs4.specs.internal.Reading.{Place}
 use Rattle.acl_nfs4.specs.declared.xdr.fault.Reason.{Reason}
 use Rattle.acl_forms.specs.Acl41.{IsAcl41, IsAcl41Fault, acl41_bytes}
-use Rattle.acl_forms.specs.Acl41.IsAcl41Fault.{of_flags, of_list}
+use Rattle.acl_forms.specs.Acl41.IsAcl41Fault.{of_list}
 use Rattle.acl_forms.specs.AclFlags.{IsAclFlags}
 use Rattle.acl_forms.specs.Words.{acl_flags_of, start, word_at}
-use Rattle.acl_forms.specs.declared.fault.ReadFault.{ReadFault}
 use Rattle.acl_forms.specs.declared.fault.ReadReason.TheVariants as reason
 use Rattle.acl_forms.proofs.WordLemmas.{flags_again, flags_found, place_at}
 
@@ -44,14 +43,6 @@ same_place bytes flags after set text e is parts =
     let h : (flags, after) ≡ (set, place_at 4 text) = ok_is _ _ (sym e ∙ flags_again bytes set text is parts) in
     (ap (λ z. z.0) h, ap (λ z. z.1.rest) h)
 
--- if bytes spell flags and a list, these flags are read, and the bytes after them spell the list
-pub only : (bytes : List ℕ) (flags : ℕ) (after : Place) (set : ℕ) (list : List Ace)
-    → word_at acl_flags_of (start bytes) ≡ Ok (flags, after) → IsAcl41 set list bytes
-    → (flags ≡ set) × Xdr full list after.rest
-only bytes flags after set list e is =
-    let same = same_place bytes flags after set (spelling list) e is.flags is.spelled in
-    (same.0, record { accepted = is.accepted; spelled = same.1 })
-
 -- bytes spell at most one pair of flags and a list
 pub one_value : (flags set : ℕ) (list other : List Ace) (bytes : List ℕ) → IsAcl41 flags list bytes
     → IsAcl41 set other bytes → (flags ≡ set) × (list ≡ other)
@@ -62,23 +53,6 @@ one_value flags set list other bytes h k =
     (record { accepted = h.accepted; spelled = refl }) (record { accepted = k.accepted; spelled = refl })
     (ap (λ (t : List ℕ). t ++ []) same.1) in
     (same.0, lists.0)
-
--- if flags were read, the fault of the bytes is that of the list after them
-pub after_flags : (bytes : List ℕ) (flags : ℕ) (after : Place) (wrong : ReadFault)
-    → word_at acl_flags_of (start bytes) ≡ Ok (flags, after) → IsAcl41Fault bytes wrong
-    → (offset : ℕ) × (r : Reason) × IsWholeFault full after.rest offset r
-    × (wrong ≡ record { offset = 4 + offset; reason = reason.List r })
-after_flags bytes flags after _ e (of_flags wrong bad) = absurd cc
-after_flags bytes flags after _ e (of_list set offset text r is parts whole) =
-    let same = same_place bytes flags after set text e is parts in
-    (offset, r, subst (λ (t : List ℕ). IsWholeFault full t offset r) (sym same.1) whole, refl)
-
--- if flags were refused, the fault of the bytes is that of the flags
-pub at_flags : (bytes : List ℕ) (fault wrong : ReadFault) → word_at acl_flags_of (start bytes) ≡ Err fault
-    → IsAcl41Fault bytes wrong → fault ≡ wrong
-at_flags bytes fault _ e (of_flags wrong bad) = cc
-at_flags bytes fault _ e (of_list set offset text r is parts whole) =
-    let again = flags_again bytes set text is parts in absurd cc
 
 -- the fault of a list after flags is the fault of all of the bytes
 pub list_fault : (bytes : List ℕ) (flags : ℕ) (after : Place) (offset : ℕ) (r : Reason) → IsBytes bytes

@@ -1,24 +1,23 @@
 -- Bytes spell at most one ACL and have at most one fault, and not both; and what is read of bytes is true of them.
-use Rattle.std.proofs.Common.{◌≡◌, ◌∙◌, ◌+◌, ◌*◌, ◌-◌, ◌<◌, ◌≤◌, ◌++◌, ℕ, Bool, true, false, cond, eqb, List, [], ◌∷◌, Option, None, Some, Result, Ok, Err, length, drop, take, refl, ap, sym, subst, arith, inl, inr, append_assoc, append-nil, length-append}
+use Rattle.std.proofs.Common.{◌≡◌, ◌∙◌, ◌+◌, ◌*◌, ◌-◌, ◌<◌, ◌≤◌, ◌++◌, ℕ, Bool, true, false, cond, eqb, List, [], ◌∷◌, Option, None, Some, Result, Ok, Err, length, drop, refl, ap, sym, subst, arith, inl, inr, append_assoc, append-nil, length-append}
 use Rattle.std.specs.Prelude.{◌==◌, ◌⊎◌, IfErr, IfSome, IsNone, nat_le, nat_lt}
 use Rattle.std.specs.FinMap as fin
 use Rattle.std.specs.List.{All, AllByRecursion, flat_map}
 use Rattle.std.proofs.lemmas.Bool.{eqb-true}
 use Rattle.std.proofs.lemmas.Bool.Decides.{nat_tests}
-use Rattle.std.proofs.lemmas.List.{flat_map_more, map-append, nil_from_length, take_rest}
+use Rattle.std.proofs.lemmas.List.{map-append, nil_from_length}
 use Rattle.std.proofs.lemmas.List.Concat.{flat_map-cons}
 use Rattle.std.proofs.lemmas.List.Elements.{recursion_from_All}
 use Rattle.byteorder.specs.Endian.{little_bytes}
 use Rattle.acl_posix.proofs.Exports.{all_entries, bytes_length, entries_sorted, same_first, same_miss, set_of, sorted_distinct, sorted_rises}
-use Rattle.acl_posix.specs.Attribute.{IsFall, IsFirstFall, NeverFalls, attribute_bytes, attribute_version, version_size}
+use Rattle.acl_posix.specs.Attribute.{IsFall, IsFirstFall, NeverFalls, attribute_bytes}
 unfoldable use Rattle.acl_posix.specs.Attribute.{entry_bytes}
-use Rattle.acl_posix.specs.Entries.{Entries, IsEntry, as_set, pair_of, pairs}
+use Rattle.acl_posix.specs.Entries.{Entries, IsEntry, as_set, pairs}
 use Rattle.acl_posix.specs.Tag.{Tag, is_named, tag_of}
 use Rattle.acl_posix.specs.Texts.{IsAcl}
 use Rattle.acl_posix.specs.Valid.{IsDistinct, IsFirstRepeat, IsMiss, IsRepeat, IsValid, IsValidList, tag_at}
 use Rattle.acl_posix.specs.declared.entry.Entry.{Entry}
 use Rattle.acl_posix.specs.declared.tag.Tag.{Tag as TagOfCode}
-use Rattle.acl_nfs4.specs.internal.Progress.{IsBytes}
 use Rattle.acl_nfs4.specs.declared.xdr.fault.Reason.TheVariants.{Truncated}
 use Rattle.acl_forms.specs.Attributes.{AreBytesOf, IsAttributeFault, IsEntriesFault, NoneBefore, SpellsAttribute, entries_bytes, entry_offset, next_entry_fault, repeat_reason, version_fault}
 use Rattle.acl_forms.specs.Attributes.IsAttributeFault.{of_entry, of_list, of_version}
@@ -232,25 +231,6 @@ entry_refused bytes entries rest at fault is some place wrong =
     of_entry (pairs entries) rest fault (all_entries entries) is some
     (subst (λ (n : ℕ). next_entry_fault n rest ≡ Some fault) same wrong)
 
--- the bytes of entries with one more
-bytes_push : (bytes : List ℕ) (ps : List (Tag × ℕ)) (p : Tag × ℕ) (rest more : List ℕ)
-    → bytes ≡ entries_bytes ps ++ rest → rest ≡ entry_bytes p ++ more → bytes ≡ entries_bytes (ps ++ p ∷ []) ++ more
-bytes_push bytes ps p rest more is e =
-    let head : List ℕ = little_bytes version_size attribute_version in
-    is ∙ ap (λ (l : List ℕ). entries_bytes ps ++ l) e ∙ sym (append_assoc (entries_bytes ps) (entry_bytes p) more)
-    ∙ ap (λ (l : List ℕ). l ++ more) (flat_map_more entry_bytes head ps p)
-
--- the bytes of the entries that were read, with one more
-pub read_more : (bytes : List ℕ) (entries : List Entry) (e : Entry) (rest : List ℕ)
-    → bytes ≡ entries_bytes (pairs entries) ++ rest → rest ≡ entry_bytes (pair_of e) ++ drop 8 rest
-    → bytes ≡ entries_bytes (pairs (entries ++ e ∷ [])) ++ take (length rest - 8) (drop 8 rest)
-read_more bytes entries e rest is begins =
-    let more : rest ≡ entry_bytes (pair_of e) ++ take (length rest - 8) (drop 8 rest) =
-    begins ∙ ap (λ (l : List ℕ). entry_bytes (pair_of e) ++ l) (sym (take_rest rest 8)) in
-    bytes_push bytes (pairs entries) (pair_of e) rest (take (length rest - 8) (drop 8 rest)) is more
-    ∙ ap (λ (ps : List (Tag × ℕ)). entries_bytes ps ++ take (length rest - 8) (drop 8 rest))
-    (sym (map-append pair_of entries (e ∷ [])))
-
 -- where no bytes are left, the bytes are those of the entries
 pub read_whole : (bytes : List ℕ) (entries : List Entry) (rest : List ℕ)
     → bytes ≡ entries_bytes (pairs entries) ++ rest → true ≡ (length rest == 0) → AreBytesOf (pairs entries) bytes
@@ -265,31 +245,6 @@ read_whole bytes entries rest is none = record {
 -- a text that is not empty has bytes
 pub some_bytes : (n : ℕ) → false ≡ (n == 0) → 0 < n
 some_bytes n e = grind (arith, nat_tests)
-
--- a number that is not refused is the version
-version_is : (n : ℕ) → None ≡ cond (eqb n 2) None (Some (read_fault_at 0 reasons.Version)) → n ≡ 2
-version_is n =
-    elim (eqb n 2) as (λ b. eqb n 2 ≡ b → None ≡ cond b None (Some (read_fault_at 0 reasons.Version)) → n ≡ 2) [
-      | true ↦ λ e h. eqb-true n 2 e
-      | false ↦ λ e h. absurd cc
-    ] refl
-
--- a version without a fault is its four bytes
-version_bytes : (bytes : List ℕ) → IsBytes bytes → None ≡ version_fault bytes
-    → bytes ≡ little_bytes version_size attribute_version ++ drop 4 bytes
-version_bytes [] fits e = absurd cc
-version_bytes (a ∷ []) fits e = absurd cc
-version_bytes (a ∷ b ∷ []) fits e = absurd cc
-version_bytes (a ∷ b ∷ c ∷ []) fits e = absurd cc
-version_bytes (a ∷ b ∷ c ∷ d ∷ rest) fits e =
-    let long : nat_lt (length (a ∷ b ∷ c ∷ d ∷ rest)) 4 ≡ false = grind (arith, nat_tests) in
-    let h = rw long at e in
-    let is : a + 256 * (b + 256 * (c + 256 * (d + 256 * 0))) ≡ 2 = version_is _ h in
-    let first : a ≡ 2 = omega (arith, is, fits 0) in
-    let second : b ≡ 0 = omega (arith, is, fits 0) in
-    let third : c ≡ 0 = omega (arith, is, fits 0) in
-    let fourth : d ≡ 0 = omega (arith, is, fits 0) in
-    λ i. first i ∷ second i ∷ third i ∷ fourth i ∷ rest
 
 -- ---- what is wrong with the list that was read
 

@@ -22,13 +22,6 @@ removal_itself (a ∷ list) = (
   removal_itself list,
 )
 
--- a removal has as many ACEs as the list
-pub removal_length : (list cut : List Ace) → IsRemoval list cut → length cut ≡ length list
-removal_length [] [] removal = refl
-removal_length (a ∷ list) (c ∷ cut) removal = ap suc (removal_length list cut removal.1)
-removal_length [] (c ∷ cut) removal = absurd removal
-removal_length (a ∷ list) [] removal = absurd removal
-
 -- a removal of a list grants at most what the list grants
 pub removal_at_most : (list cut : List Ace) → IsRemoval list cut → GrantsAtMost all_rights cut list
 removal_at_most list cut removal = (at_most_by_bits all_rights cut list).1 (λ s valid bit right granted.

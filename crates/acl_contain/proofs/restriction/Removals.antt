@@ -1,6 +1,6 @@
 -- What removals of a list grant.
 use Rattle.acl_perm.proofs.Bools.{and_false_right}
-use Rattle.acl_normal.proofs.Common.{Ace, Allow, Bool, Deny, List, Situation, [], and_from, and_parts, ap, arith, false, false≢true, has_bit, if◌then◌else◌, is_allow, kind_eq, Kind, length, matches, no_ace, not, refl, slice_index_or, suc, sym, takes_part, true, zero, ℕ, ◌&&◌, ◌<◌, ◌∙◌, ◌∷◌, ◌≡◌}
+use Rattle.acl_normal.proofs.Common.{Ace, Allow, Bool, Deny, List, Situation, [], and_from, and_parts, ap, arith, false, false≢true, has_bit, if◌then◌else◌, is_allow, kind_eq, Kind, length, matches, no_ace, refl, slice_index_or, suc, sym, takes_part, true, zero, ℕ, ◌&&◌, ◌<◌, ◌∙◌, ◌∷◌, ◌≡◌}
 use Rattle.acl_eval.proofs.Columns.{bit_at_first}
 use Rattle.acl_eval.specs.Grant.{grants_bit}
 use Rattle.acl_contain.specs.Removal.{IsAceRemoval, IsRemoval}

@@ -96,10 +96,3 @@ place_none p es i none le =
     let less : nat_lt (length es) (length es) ≡ false = le-ltb (length es) (length es) (omega arith) in
     let is : position (λ a. p (ace a)) es ≡ None = rw (found, less) refl in
     sym is ∙ place_map p es
-
--- no ACE passes up to the next place
-pub none_more : (p : Ace → Bool) (es : List AceRef) (i : ℕ) (item : AceRef)
-    → list_any (λ a. p (ace a)) (take i es) ≡ false
-    → i < length es → item ≡ get_or es i item → p (ace item) ≡ false
-    → list_any (λ a. p (ace a)) (take (i + 1) es) ≡ false
-none_more p es i item before lt read e = any_more (λ a. p (ace a)) es i item lt read ∙ rw (before, e) refl

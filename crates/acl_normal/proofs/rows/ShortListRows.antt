@@ -31,11 +31,6 @@ count_push p (r ∷ qs) q =
     go false true n = refl
     go false false n = refl
 
--- there are at most as many as there are principals
-pub count_within : (p : Principal) (qs : List Principal) → count_below p qs ≤ length qs
-count_within p [] = omega arith
-count_within p (q ∷ qs) = grind (arith, count_within p qs)
-
 -- the row of a principal is how many principals of the ACEs are below it
 count_is_row : (p : Principal) (xs : List Ace) → count_below p (map principal_of xs) ≡ row_of p xs
 count_is_row p [] = refl

@@ -33,15 +33,6 @@ greater_greater a b x y r q one two =
     let before = pairs_total.antisymm (r, q) (a, x) ∙ ap ordering_reverse two in
     pairs_total.antisymm (b, y) (r, q) ∙ ap ordering_reverse (pairs_total.trans (r, q) (a, x) (b, y) before one)
 
--- nothing has been found or left out at the beginning
-pub all_left : (E : Entries) (r q n : ℕ) → n ≡ length (fin.entries E) → IsHalved E r q 0 n
-all_left E r q n is = record {
-  range = omega arith;
-  inside = omega (arith, is);
-  before = λ j lt. absurd (omega (arith, lt));
-  after = λ j ge lt. absurd (omega (arith, ge, lt, is));
-}
-
 -- the tag at a place, whose entry is this one
 tag_there : (E : Entries) (i : ℕ) (e : Tag × ℕ) → i < length (fin.entries E) → get_or (fin.entries E) i e ≡ e
     → get_or (fin.keys E) i other ≡ e.0

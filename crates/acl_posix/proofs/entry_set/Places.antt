@@ -1,5 +1,5 @@
 -- Entries that are read place by place, in canonical order.
-use Rattle.acl_posix.proofs.Common.{ap, Bool, cond, drop, false, get_or, length, List, list_any, Some, Tag, tags, true, ℕ, ◌+◌, ◌<◌, ◌||◌, ◌∙◌, ◌∷◌, ◌≡◌, ◌≤◌}
+use Rattle.acl_posix.proofs.Common.{ap, Bool, drop, false, get_or, length, List, list_any, Tag, tags, true, ℕ, ◌+◌, ◌<◌, ◌||◌, ◌∙◌, ◌∷◌, ◌≡◌, ◌≤◌}
 use Rattle.std.specs.Prelude.{find}
 use Rattle.std.proofs.lemmas.List.{at_drop_all, at_drop_more}
 use Rattle.acl_posix.proofs.tag.Tags.{list_any-map}
@@ -34,9 +34,3 @@ any_nowhere p ps i le left = list_any-map p (λ (q : Tag × ℕ). q.0) ps ∙ le
 -- the first entry that passes is the first of those that are left
 abbrev pub FirstLeft : (Tag × ℕ → Bool) → List (Tag × ℕ) → ℕ → Type 0
 FirstLeft p ps i = find p ps ≡ find p (drop i ps)
-
--- this entry is the first that passes
-pub first_here : (p : Tag × ℕ → Bool) (ps : List (Tag × ℕ)) (i : ℕ) (e : Tag × ℕ) → i < length ps → get_or ps i e ≡ e
-    → FirstLeft p ps i → p e ≡ true → find p ps ≡ Some e
-first_here p ps i e lt at left is = left ∙ at_entry (λ (qs : List (Tag × ℕ)). find p qs) ps i e lt at
-    ∙ ap (λ (b : Bool). cond b (Some e) (find p (drop (i + 1) ps))) is

@@ -1,7 +1,7 @@
 -- Ids that no column and no entry has.
 use Rattle.std.proofs.Common.{◌≡◌, ◌≤◌, ◌<◌, ◌+◌, ℕ, Bool, true, List, [], ◌∷◌, ◌++◌, refl, sym, ap, subst, ◌∙◌, arith, inl, inr, drop, get_or, length}
 use Rattle.std.proofs.lemmas.Bool.{eq-eqb, true≢false}
-use Rattle.std.proofs.lemmas.List.{append_assoc, at_drop_more, length-map, map-append}
+use Rattle.std.proofs.lemmas.List.{at_drop_more, length-map, map-append}
 use Rattle.std.proofs.lemmas.Bool.{cases_lt}
 use Rattle.std.specs.Prelude.{◌==◌, ◌||◌, map}
 use Rattle.std.specs.List.{AllByRecursion}
@@ -48,14 +48,6 @@ pub all_more_left : {X Y : Type 0} (f : X → Y) (Q : Y → Type 0) (xs : List X
 all_more_left f Q xs i x lt is q rest =
     subst (λ ys. AllByRecursion Q (map f ys)) (sym (at_drop_more (λ ys. ys) xs i x lt))
     (subst (λ y. Q (f y)) is q, rest)
-
--- one more id
-pub id_added : (old new : List Id) (x : Id) (n : ℕ) (rest : List ℕ) → new ≡ old ++ x ∷ [] → x.value ≡ n
-    → ids new ++ rest ≡ ids old ++ n ∷ rest
-id_added old new x n rest is number =
-    ap (λ (xs : List Id). ids xs ++ rest) is
-    ∙ (ap (λ (ys : List ℕ). ys ++ rest) (map-append (λ (id : Id). id.value) old (x ∷ []))
-    ∙ (append_assoc (ids old) (x.value ∷ []) rest ∙ ap (λ (m : ℕ). ids old ++ m ∷ rest) number))
 
 -- the same for ids
 pub below_ids : (used : List Id) (k : ℕ) → ((n : ℕ) → n < k → is_member n (ids used) ≡ true) → k ≤ length used
