@@ -62,6 +62,13 @@ def _kinds() -> List[Finding]:
                 "Somebody who is not the owner, whom no entry names, and who is in no group, has these rights."),
         Finding("readable", "readable by everybody", "{} can be read by everybody.",
                 "Somebody who is not the owner, whom no entry names, and who is in no group, may read these."),
+        Finding("obtainable", "objects that others could change",
+                "{} could be changed by somebody who may not do so now.",
+                "Each of these people alone could come to write there, by setting a list, or by putting another object "
+                "at the path. Root is not named. aclck-tree who --may w --obtain says by which steps."),
+        Finding("write-acl", "somebody who may change a list but not read the object",
+                "Somebody may change the lists of {}, but not read these objects.",
+                "Whoever may change the list of an object can have every right on it."),
         Finding("bits", "setuid, setgid and sticky bits", "A setuid, setgid or sticky bit is set on {}.",
                 "These bits of the mode are beside the list. A program with setuid or setgid runs as its owner or "
                 "group, and new files in a folder with setgid get its group. In a folder with the sticky bit, only "
@@ -84,7 +91,7 @@ def findings(asker: Asker, directories: Set[int], stranger: Person) -> List[Find
     names."""
     faces = asker.faces
     kinds = _kinds()
-    refused, everyone, readable, _, no_account, children, special, idle = kinds
+    refused, everyone, readable, _, write_acl, _, no_account, children, special, idle = kinds
     of_directories = {faces[number].list for number in directories}
     lists: Dict[int, _OfList] = {}
     for number, face in faces.items():
@@ -98,6 +105,7 @@ def findings(asker: Asker, directories: Set[int], stranger: Person) -> List[Find
         granted = asker.granted(face, asked, stranger)
         for finding, words in ((everyone, mask_text(granted & CHANGES) if granted & CHANGES else ""),
                                (readable, mask_text(READ_DATA) if granted & READ_DATA else ""),
+                               (write_acl, found.write_acl),
                                (no_account, _without_account(asker.accounts[face.tree], face, found.numbers)),
                                (special, " ".join(quoted(name) for name, _ in asked.specials)),
                                (idle, found.idle),
@@ -133,12 +141,13 @@ def _bare(name: str) -> str:
 
 
 class _OfList(NamedTuple):
-    """What was found about a list: the names in digits to which it allows something, what of it changes nothing, and
-    what new objects in a directory with it get."""
+    """What was found about a list: the names in digits to which it allows something, what of it changes nothing, what
+    new objects in a directory with it get, and who may change it but not read the object."""
 
     numbers: List[Tuple[bool, str]]
     idle: str
     children: str
+    write_acl: str
 
 
 def _of_list(asker: Asker, number: int, asked: AskableList, is_directory: bool) -> _OfList:
@@ -148,7 +157,14 @@ def _of_list(asker: Asker, number: int, asked: AskableList, is_directory: bool) 
     # --linux changes what a list grants; a new directory gets the entries as they are.
     passes_on = ready(asker.stored[number]) if asked.posix else asked
     children = _child(passes_on) if is_directory and isinstance(passes_on, AskableList) else ""
-    return _OfList(_granted_numbers(aces), idle, children)
+    return _OfList(_granted_numbers(aces), idle, children, _only_sets(asked))
+
+
+def _only_sets(asked: AskableList) -> str:
+    """Returns in words whom an NFSv4 list lets change it but not read the object, or nothing if there is nobody. POSIX
+    lists have no right to change them."""
+    found = None if asked.posix else asked.acl.implies(WRITE_ACL, READ_DATA)
+    return f"{named(found, asked)} may {mask_text(WRITE_ACL)} but not {mask_text(found.right)}" if found else ""
 
 
 _NUMBER = re.compile("[0-9]+(?:@|\\Z)")

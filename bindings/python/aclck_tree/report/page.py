@@ -129,6 +129,10 @@ def _findings(report: Report) -> Iterator[str]:
     absent = [finding.title for finding in report.findings if not report.found[finding.key]]
     if absent:
         yield f"<p>Not found: {', '.join(absent)}.</p>\n"
+    unsure = report.unsure
+    if unsure.folders + unsure.files:
+        yield f"<p class=warning>It is not known who else could change {_objects(unsure.folders, unsure.files)}: that "
+        yield "depends on a folder above the tree, on a special name, or on an id that is not known.</p>\n"
 
 
 def _finding(report: Report, finding: Finding, places: List[Places]) -> Iterator[str]:

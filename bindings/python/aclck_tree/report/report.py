@@ -4,7 +4,6 @@ from __future__ import annotations
 
 import argparse
 import contextlib
-import itertools
 import os
 import sys
 from dataclasses import dataclass, field, replace
@@ -13,15 +12,16 @@ from typing import Any, Dict, Iterable, Iterator, List, NamedTuple, Optional, Se
 from aclck_tree.answer.ask import DENIED, GRANTED, UNKNOWN, Answers, Asker, Want
 from aclck_tree.answer.commands import asker_of, opened, people_of, status_of
 from aclck_tree.answer.lists import AskableList, Kind, RefusedList
-from aclck_tree.answer.reach import reached, tell_above
+from aclck_tree.answer.reach import tell_above
 from aclck_tree.output.errors import NO, REFUSED, YES, UsageError
 from aclck_tree.output.files import replaced
-from aclck_tree.output.text import Form, ObjectNamer, Output, quoted, quoted_host, tell
+from aclck_tree.output.text import Form, ObjectNamer, Output, plural, quoted, quoted_host, tell
 from aclck_tree.people.people import HIGHEST_ID, Person, stranger_of
 from aclck_tree.policy.checking import Applied, Policy, tell_slips, verdict_of, words_of
 from aclck_tree.policy.judging import Verdict
 from aclck_tree.policy.policies import read_policy
 from aclck_tree.report.findings import Finding, everyone_words, findings, special_bits_words
+from aclck_tree.report.obtainable import Changers, Obtainable
 from aclck_tree.report.page import page
 from aclck_tree.report.rows import NAMED, Cells, Level, Name, RowBuilder, level_by, level_of, name_of, questions_of
 from aclck_tree.snapshot.selecting import Paths, beginnings
@@ -59,12 +59,13 @@ class _Kind:
 
 class ObjectTraits(NamedTuple):
     """What objects have in common about which the same is said. With --reach, `above` says who gets past the folders
-    above them, and with a policy, `rules` are those about them."""
+    above them, and with a policy, `rules` are those about them. `others` says who could come to write to them."""
 
     is_folder: bool
     bits: int
     face: int
-    above: Optional[Answers] = None
+    above: Optional[Answers]
+    others: Changers
     rules: Tuple[Applied, ...] = ()
 
 
@@ -91,10 +92,12 @@ class Report:
         # Two more are asked about: who owns all objects that none of the people owns, and somebody whom nothing names.
         stranger = stranger_of(self.snapshot, stored, asker.people)
         self.asker = Asker(self.snapshot, [*asker.people, Person(str(self._nobody)), stranger], asker.options)
+        self._obtainable = Obtainable(self.asker, len(self.people), is_reach)
         self.policy = policy
         self.findings = [*(_policy_findings() if policy else ()),
                          *findings(self.asker, self.snapshot.directory_faces(), stranger)]
         self.found: Dict[str, Dict[str, Places]] = {finding.key: {} for finding in self.findings}
+        self.unsure = Places("")  # the objects of which it is not known who else could change them
         self._has_posix = any(self.asker.stored[face.list].is_posix for face in self.faces.values())
         self.naming = ObjectNamer(self.snapshot)
         self._users: Dict[Tuple[int, Kind], Dict[str, Tuple[int, ...]]] = {}
@@ -136,9 +139,7 @@ class Report:
     def objects(self) -> Iterator[_Object]:
         """Yields each object that the report is about, in the order of trees and paths."""
         found: Iterator[_Object] = self.snapshot.objects(0o7000)
-        if self.is_reach or self.policy:
-            reach = (one[3] for one in reached(self.asker)) if self.is_reach else itertools.repeat(None)
-            found = ((*one, above) for one, above in zip(found, reach))
+        found = ((*one, *more) for one, more in zip(found, self._obtainable.objects()))
         if self.glob is not None:
             paths = Paths(self.snapshot, self.glob)
             found = (one for one in found if paths.has(*one[:2]))
@@ -151,6 +152,7 @@ class Report:
         self.lists.add(self.faces[one.face].list)
         cells, owners = self._cells_of(one)
         places = [self.found[finding.key].setdefault(words, Places(words)) for finding, words in self.words(one)]
+        places += [self.unsure] if one.others.is_unknown else []
         return _Kind(one.is_folder, cells, owners, places, places)
 
     def words(self, one: ObjectTraits) -> Iterator[Tuple[Finding, str]]:
@@ -162,6 +164,8 @@ class Report:
             words = finding.faces.get(one.face, "")
             if finding.key == "bits":
                 words = special_bits_words(self.asker.accounts[face.tree], face, one.bits)
+            elif finding.key == "obtainable":
+                words = one.others.words
             elif finding.key in ("everyone", "readable") and stranger_is_stopped:
                 words = ""
             elif finding.key == "everyone" and words:
@@ -312,6 +316,9 @@ def report(args: argparse.Namespace) -> int:
     has_empty = policy is not None and args.path is None and tell_slips(args.policy, asker, policy)
     if not made.folders + made.files:
         tell(f"{quoted(args.snapshot)}: no object is selected; {beginnings(snapshot)}")
+    unsure = made.unsure.folders + made.unsure.files
+    if unsure:
+        tell(f"{quoted(args.snapshot)}: it is not known who else could change {plural(unsure, 'object')}")
     with replaced(args.output) if args.output else contextlib.nullcontext(sys.stdout) as file:
         if args.form is Form.TEXT:
             file.writelines(page(made))
