@@ -6,6 +6,7 @@ past a directory, and who could put another object at a path. Each person acts a
 
 from __future__ import annotations
 
+import copy
 from dataclasses import dataclass, replace
 from typing import Dict, Iterator, Optional, Tuple
 
@@ -145,9 +146,20 @@ class Obtaining:
         self.want = want
         self._asker = asker
         self._places: Dict[_Key, Place] = {}
-        self.counts_replaced = bool(want.mask & ~USES_WHAT_IS_THERE) if want.any else not want.mask & USES_WHAT_IS_THERE
         known = asker.everybody_granted if not is_reach else asker.nobody_known
         self._lacking = Place(None, None, True, None, known, known, asker.nobody_known, asker.nobody_known)
+
+    def about(self, want: Want) -> Obtaining:
+        """Returns the same about something else that is asked. Both have the same places."""
+        other = copy.copy(self)
+        other.want = want
+        return other
+
+    @property
+    def counts_replaced(self) -> bool:
+        """Whether somebody who puts another object at a path has what is asked."""
+        want = self.want
+        return bool(want.mask & ~USES_WHAT_IS_THERE) if want.any else not want.mask & USES_WHAT_IS_THERE
 
     def could(self, place: Place, own: Answers) -> Answers:
         """Returns who could come to have what is asked, of objects whose list grants it to some."""

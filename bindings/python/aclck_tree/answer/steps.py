@@ -39,6 +39,15 @@ class Step(NamedTuple):
 Steps = Tuple[Step, ...]
 
 
+class Way(NamedTuple):
+    """What the steps depend on by which somebody comes to have what is asked: the place of the object, whom its list
+    grants that, and the place of the person among the people."""
+
+    place: Place
+    own: Answers
+    person: int
+
+
 class Stepping:
     """Says by which steps people come to have what is asked."""
 
@@ -110,9 +119,17 @@ class Stepping:
     def words(self, place: Place, own: Answers, people: int, name: ObjectName) -> List[str]:
         """Returns in words by which steps some people come to have what is asked of an object, those with the same
         steps together."""
-        names = [name._replace(path=path).words() for path in self.paths(place, name.path)]
+        names = self._names(place, name)
         return [f"{' '.join(map(quoted, who))}: " + ", ".join([*(step.words(names) for step in steps), self._then])
                 for steps, who in self.of_people(place, own, people)]
+
+    def told(self, way: Way, name: ObjectName) -> List[str]:
+        """Returns the steps of somebody in words. There are none if the list of the object grants what is asked."""
+        names = self._names(way.place, name)
+        return [step.words(names) for step in self.of(*way)]
+
+    def _names(self, place: Place, name: ObjectName) -> List[str]:
+        return [name._replace(path=path).words() for path in self.paths(place, name.path)]
 
     def paths(self, place: Place, path: bytes) -> List[bytes]:
         """Returns the whole paths of the directories of a chain, and of the object at its end."""

@@ -3,16 +3,20 @@
 from __future__ import annotations
 
 import argparse
+import itertools
 from typing import Dict, Iterator, List, NamedTuple, Optional, Set, Tuple
 
 from aclck_tree.answer import mentions
 from aclck_tree.answer.ask import NOBODY, Asker
 from aclck_tree.answer.commands import asker_of, opened, people_of, status_of
 from aclck_tree.answer.objects import left_out
+from aclck_tree.answer.obtain import Place
+from aclck_tree.answer.reach import tell_above
 from aclck_tree.output.errors import NO, REFUSED, YES
 from aclck_tree.output.text import ObjectName, ObjectNamer, Output, Row, plural, quoted, tell
 from aclck_tree.people.people import stranger_of
 from aclck_tree.policy.judging import Breach, Judge, Verdict
+from aclck_tree.policy.obtaining import OBTAINABLE, ObtainingJudge
 from aclck_tree.policy.policies import Rule, names_in, read_policy
 from aclck_tree.snapshot.globs import Matcher
 from aclck_tree.snapshot.selecting import Counted, count_by
@@ -36,14 +40,17 @@ class Policy:
         self.rules = rules
         snapshot = asker.snapshot
         lists = [asker.stored[number] for number in snapshot.lists()]
-        self._judge = Judge(asker, stranger_of(snapshot, lists, asker.people))
+        stranger = stranger_of(snapshot, lists, asker.people)
+        self._judge = Judge(asker, stranger)
+        self.is_about_obtaining = any(rule.at_most_obtainable for rule in rules)
+        self._obtaining = ObtainingJudge(asker, stranger) if self.is_about_obtaining else None
         patterns = [(Applied(number, place), path) for number, rule in enumerate(rules)
                     for place, path in [(None, rule.path), *enumerate(one.path for one in rule.exemptions)]]
         self._meant = [meant for meant, _ in patterns]
         self._matcher = Matcher(snapshot, [path for _, path in patterns])
         self._applied: Dict[Tuple[int, ...], Tuple[Applied, ...]] = {}
         self._each: Dict[Applied, Applied] = {}  # one of each, because objects share them
-        self._known: Dict[Tuple[int, int, bool], Tuple[Breach, ...]] = {}
+        self._known: Dict[Tuple[int, int, bool, Optional[Place]], Tuple[Breach, ...]] = {}
 
     def applied(self, tree: int, path: bytes) -> Tuple[Applied, ...]:
         """Returns the rules that apply to an object, each with the first exception that matches it. Objects come in the
@@ -62,14 +69,32 @@ class Policy:
             found = self._applied[matched] = tuple(self._each.setdefault(one, one) for one in each)
         return found
 
-    def breaches(self, rule: int, face: int, is_directory: bool) -> Tuple[Breach, ...]:
-        """Returns how the objects of a face break a rule."""
-        key = (rule, face, is_directory and self.rules[rule].children)
+    def places(self) -> Iterator[Optional[Place]]:
+        """Yields the place of each object, in the order of `Snapshot.objects`, or None if no rule asks for it."""
+        if self._obtaining:
+            return self._obtaining.places()
+        return itertools.repeat(None)
+
+    def place_for(self, applied: Tuple[Applied, ...], place: Optional[Place]) -> Optional[Place]:
+        """Returns the place of an object if one of the rules that apply to it asks for it."""
+        return place if any(self.rules[one.rule].at_most_obtainable for one in applied) else None
+
+    def breaches(self, rule: int, face: int, is_directory: bool, place: Optional[Place] = None) -> Tuple[Breach, ...]:
+        """Returns how the objects of a face, and at a place if the rule asks for it, break a rule."""
+        one = self.rules[rule]
+        key = (rule, face, is_directory and self.rules[rule].children, place if one.at_most_obtainable else None)
         if key not in self._known:
             if len(self._known) > _MOST_KNOWN:
                 self._known.clear()
-            self._known[key] = self._judge.breaches(self.rules[rule], face, is_directory)
+            found = self._judge.breaches(one, face, is_directory)
+            if self._obtaining and one.at_most_obtainable and place:
+                found += tuple(self._obtaining.breaches(one, face, place))
+            self._known[key] = found
         return self._known[key]
+
+    def decided_by(self, one: Breach, name: ObjectName) -> str:
+        """Returns what decides about a breach of an object: an ACE or an entry, or the steps."""
+        return self._obtaining.steps(one.way, name) if self._obtaining and one.way else one.decided_by
 
     def unmatched(self) -> Iterator[Tuple[Rule, Optional[str]]]:
         """Yields the rules that apply to none of the objects, and the exceptions of others that are about none, with
@@ -98,6 +123,8 @@ def words_of(one: Breach) -> str:
     on = f"{one.on}: " if one.on else ""
     if one.reason:
         return f"{on}{one.bound} cannot be judged: {one.reason}"
+    if one.bound == OBTAINABLE:
+        return f"{quoted(one.who) if one.is_known else one.who} could come to have {one.rights}"
     verb = "may" if one.bound == "at_most" else "may not"
     place = "" if one.place is None else f"ACE {one.place}: "
     who = quoted(one.who) if one.is_known else one.who
@@ -131,7 +158,14 @@ def tell_slips(place: str, asker: Asker, policy: Policy) -> bool:
 _EXCEPTED, _KEPT = "excepted", "kept"
 _ORDER = [Verdict.BROKEN.value, Verdict.UNKNOWN.value, _EXCEPTED, _KEPT]
 
-_Key = Tuple[int, bool, Tuple[Applied, ...]]  # a face, whether it is of a directory, and the rules
+class _Key(NamedTuple):
+    """What it depends on what is found about an object: its face, whether it is a directory, the rules, and the place
+    if one of them asks for it."""
+
+    face: int
+    is_directory: bool
+    applied: Tuple[Applied, ...]
+    place: Optional[Place]
 
 
 class _Found(NamedTuple):
@@ -155,15 +189,16 @@ class _Check:
 
     def keys(self) -> Iterator[Tuple[_Key, int, bytes]]:
         """Yields the key of each object, its tree and its path."""
-        for tree, path, is_directory, _, face in self.asker.snapshot.objects():
-            yield (face, is_directory, self.policy.applied(tree, path)), tree, path
+        for (tree, path, is_directory, _, face), place in zip(self.asker.snapshot.objects(), self.policy.places()):
+            applied = self.policy.applied(tree, path)
+            yield _Key(face, bool(is_directory), applied, place and self.policy.place_for(applied, place)), tree, path
 
     def count(self) -> Dict[_Key, Counted]:
         """Counts the objects about which the same is found, those of one owner next to each other."""
         faces = self.asker.faces
 
         def order(key: _Key) -> Tuple[int, int, int, int]:
-            face = faces[key[0]]
+            face = faces[key.face]
             return face.tree, face.uid, face.gid, face.face
         counts = count_by(self.asker.snapshot, self.keys())
         return {key: counts[key] for key in sorted(counts, key=order)}
@@ -171,12 +206,12 @@ class _Check:
     def found(self, key: _Key) -> List[_Found]:
         """Returns what is found about the objects of a key, for each rule that applies to them."""
         if key not in self._known:
-            face, is_directory, applied = key
+            face, is_directory, applied, place = key
             self._kept += len(applied)
             if self._kept > _MOST_KNOWN:
                 self._kept = len(applied)
                 self._known.clear()
-            rows = [(one, self.policy.breaches(one.rule, face, is_directory)) for one in applied]
+            rows = [(one, self.policy.breaches(one.rule, face, is_directory, place)) for one in applied]
             self._known[key] = [
                 _Found(_KEPT if not breaches else verdict_of(breaches).value if one.exemption is None else _EXCEPTED,
                        one, breaches) for one, breaches in rows]
@@ -191,7 +226,8 @@ class _Check:
             yield {"verdict": found.verdict if place is not None else one.verdict.value, "rule": rule.name,
                    **name.row(), "bound": one.bound, "on": one.on or None, "who": one.who or None,
                    "known": one.is_known, "rights": one.rights or None, "place": one.place,
-                   "decided_by": one.decided_by or None, "reason": one.reason or None, "exception": excepted}
+                   "decided_by": self.policy.decided_by(one, name) or None, "reason": one.reason or None,
+                   "exception": excepted}
 
 
 _COLUMNS = ["verdict", "rule", "path", "bound", "on", "who", "known", "rights", "place", "decided_by", "reason",
@@ -220,6 +256,8 @@ def policy(args: argparse.Namespace) -> int:
             _put_text(out, check, found, one)
     else:
         _put_each(args, check, out)
+    if check.policy.is_about_obtaining:
+        tell_above(check.asker)
     is_unknown = any(one.verdict is Verdict.UNKNOWN for found in classes if found.verdict != _EXCEPTED
                      for one in found.breaches)
     status = NO if tally.get(Verdict.BROKEN.value) else YES
@@ -243,7 +281,8 @@ def _put_text(out: Output, check: _Check, found: _Found, one: Counted) -> None:
     excepted = "" if place is None else f" ({rule.exemptions[place].reason})"
     out.note(f"{found.verdict}: {one.first.words()}{others}, rule {quoted(rule.name)}{excepted}")
     for breach in found.breaches:
-        out.note(f"    {words_of(breach)}")
+        steps = f": {check.policy.decided_by(breach, one.first)}" if breach.way else ""
+        out.note(f"    {words_of(breach)}{steps}")
 
 
 def _ended(args: argparse.Namespace, check: _Check, counts: Dict[_Key, Counted], tally: Dict[str, int],
@@ -252,8 +291,8 @@ def _ended(args: argparse.Namespace, check: _Check, counts: Dict[_Key, Counted],
     has_empty = tell_slips(args.policy, check.asker, check.policy)
     words = [f"{tally[word]:,} {word}" for word in _ORDER if tally.get(word)]
     objects = sum(one.objects for one in counts.values())
-    bare = sum(one.objects for (_, _, applied), one in counts.items() if not applied)
+    bare = sum(one.objects for key, one in counts.items() if not key.applied)
     no_rule = f"; no rule is about {plural(bare, 'object')}" if bare else ""
     out.note(f"{plural(objects, 'object')}, {plural(len(check.policy.rules), 'rule')}: "
-             f"{', '.join(words) or 'nothing judged'}{no_rule}{left_out(check.asker, {key[0] for key in counts})}")
+             f"{', '.join(words) or 'nothing judged'}{no_rule}{left_out(check.asker, {key.face for key in counts})}")
     return has_empty

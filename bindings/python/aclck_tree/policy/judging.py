@@ -19,6 +19,7 @@ from aclck_tree.answer.creations import creations
 from aclck_tree.answer.identities import Identity
 from aclck_tree.answer.lists import POSIX_MASKS, AskableList, Kind, RefusedList
 from aclck_tree.answer.posix import check
+from aclck_tree.answer.steps import Way
 from aclck_tree.output.text import quoted
 from aclck_tree.people.people import Person, read_id
 from aclck_tree.policy.limits import Limit, Limits, Unjudged, lacks, no_ids
@@ -38,7 +39,8 @@ class Breach(NamedTuple):
 
     `on` says what is created in the object if that breaks the rule. `who` has the rights, or with `at_least` has them
     not: it is the name of one of the people (`is_known`), or words. `decided_by` is the ACE or entry that decides about
-    the first of the rights, and `place` its place in the list.
+    the first of the rights, and `place` its place in the list. The steps by which `who` could come to have them depend
+    on `way`.
     """
 
     verdict: Verdict
@@ -50,6 +52,7 @@ class Breach(NamedTuple):
     place: Optional[int] = None
     decided_by: str = ""
     reason: str = ""
+    way: Optional[Way] = None
 
 
 class _View(NamedTuple):

@@ -91,7 +91,8 @@ class Exemption(NamedTuple):
 
 @dataclass(frozen=True)
 class Rule:
-    """A rule for the objects that a pattern matches. With `children`, it also holds for what is created in them."""
+    """A rule for the objects that a pattern matches. With `children`, the first two bounds also hold for what is
+    created in them. `at_most_obtainable` is about those who have rights, and those who could come to have them."""
 
     name: str
     path: PathPattern
@@ -99,12 +100,13 @@ class Rule:
     at_least: Optional[Bound]
     children: bool
     exemptions: Tuple[Exemption, ...]
+    at_most_obtainable: Optional[Words] = None
 
 
 def names_in(rules: Iterable[Rule]) -> Iterator[Tuple[str, Tuple[bool, ...]]]:
     """Yields the names of users (False), of groups (True) and of both in the bounds of some rules."""
     for rule in rules:
-        for bound in (rule.at_most, rule.at_least):
+        for bound in (rule.at_most, rule.at_least, rule.at_most_obtainable):
             if isinstance(bound, Words):
                 yield from (whom for _, names in bound.rows for whom in names if whom.kinds)
             elif isinstance(bound, NfsAcl):
@@ -166,6 +168,11 @@ class _Table:
         except ValueError as error:
             self.refuse(f"{key}: {error}")
 
+    def words(self, key: str) -> Optional[Words]:
+        """Takes a bound in words, of those who may have rights at most."""
+        found = self.bound(key, True)
+        return found if found is None or isinstance(found, Words) else self.refuse(f"{key} is not in words")
+
     def end(self) -> None:
         """Refuses what was not taken."""
         for key in self._left:
@@ -214,12 +221,16 @@ def _rule(table: _Table) -> Rule:
     path, text = table.pattern()
     name = table.text("name") or text
     at_most, at_least = (table.bound(key, key == "at_most") for key in ("at_most", "at_least"))
+    obtainable = table.words("at_most_obtainable")
     children = table.flag("children")
     exemptions = tuple(map(_exemption, table.tables("except", "exception")))
     table.end()
     if at_most is None and at_least is None:
-        table.refuse("it has neither at_most nor at_least")
-    return Rule(name, path, at_most, at_least, children, exemptions)
+        if obtainable is None:
+            table.refuse("it has neither at_most nor at_least")
+        if children:
+            table.refuse("children is about at_most and at_least, and it has neither")
+    return Rule(name, path, at_most, at_least, children, exemptions, obtainable)
 
 
 def _exemption(table: _Table) -> Exemption:

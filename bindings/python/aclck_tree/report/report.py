@@ -4,6 +4,7 @@ from __future__ import annotations
 
 import argparse
 import contextlib
+import itertools
 import os
 import sys
 from dataclasses import dataclass, field, replace
@@ -12,6 +13,7 @@ from typing import Any, Dict, Iterable, Iterator, List, NamedTuple, Optional, Se
 from aclck_tree.answer.ask import DENIED, GRANTED, UNKNOWN, Answers, Asker, Want
 from aclck_tree.answer.commands import asker_of, opened, people_of, status_of
 from aclck_tree.answer.lists import AskableList, Kind, RefusedList
+from aclck_tree.answer.obtain import Place
 from aclck_tree.answer.reach import tell_above
 from aclck_tree.output.errors import NO, REFUSED, YES, UsageError
 from aclck_tree.output.files import replaced
@@ -59,13 +61,15 @@ class _Kind:
 
 class ObjectTraits(NamedTuple):
     """What objects have in common about which the same is said. With --reach, `above` says who gets past the folders
-    above them, and with a policy, `rules` are those about them. `others` says who could come to write to them."""
+    above them. `others` says who could come to write to them. With a policy, `rules` are those about them, and `place`
+    is where they are, if one of these asks for it."""
 
     is_folder: bool
     bits: int
     face: int
     above: Optional[Answers]
     others: Changers
+    place: Optional[Place] = None
     rules: Tuple[Applied, ...] = ()
 
 
@@ -139,14 +143,21 @@ class Report:
     def objects(self) -> Iterator[_Object]:
         """Yields each object that the report is about, in the order of trees and paths."""
         found: Iterator[_Object] = self.snapshot.objects(0o7000)
-        found = ((*one, *more) for one, more in zip(found, self._obtainable.objects()))
+        places = self.policy.places() if self.policy else itertools.repeat(None)
+        found = ((*one, *more, place) for one, more, place in zip(found, self._obtainable.objects(), places))
         if self.glob is not None:
             paths = Paths(self.snapshot, self.glob)
             found = (one for one in found if paths.has(*one[:2]))
         if self.policy:
-            applied = self.policy.applied
-            found = ((*one, applied(*one[:2])) for one in found)
+            found = self._applied(self.policy, found)
         return found
+
+    @staticmethod
+    def _applied(policy: Policy, objects: Iterator[_Object]) -> Iterator[_Object]:
+        """Adds to objects the rules about them. The place stays if one of these asks for it."""
+        for one in objects:
+            rules = policy.applied(one[0], one[1])
+            yield (*one[:-1], one[-1] and policy.place_for(rules, one[-1]), rules)
 
     def _kind(self, one: ObjectTraits) -> _Kind:
         self.lists.add(self.faces[one.face].list)
@@ -178,7 +189,7 @@ class Report:
         found: Dict[Verdict, List[str]] = {Verdict.BROKEN: [], Verdict.UNKNOWN: []}
         for rule, exemption in one.rules:
             assert self.policy
-            breaches = self.policy.breaches(rule, one.face, one.is_folder) if exemption is None else ()
+            breaches = self.policy.breaches(rule, one.face, one.is_folder, one.place) if exemption is None else ()
             if breaches:
                 words = "; ".join(map(words_of, breaches))
                 found[verdict_of(breaches)].append(f"{quoted(self.policy.rules[rule].name)}: {words}")
