@@ -54,11 +54,26 @@ class Rights:
     def __init__(self, asker: Asker) -> None:
         self._asker = asker
         self._setters: Dict[Face, Answers] = {}
+        self._owners: Dict[Tuple[int, int, int, bool], Answers] = {}
+        self._asked: Dict[Tuple[Face, str, bool], Answers] = {}
+        self._allowed: Dict[Tuple[Face, str], Answers] = {}
+        self._roots: Dict[int, int] = {}
 
     def asked(self, face: Optional[Face], text: str, any_of: bool = False) -> Answers:
-        """Returns whom a list grants some rights."""
-        found = self._asker.answers(face, want_of(text, any_of)) if face else None
-        return found if isinstance(found, Answers) else self._asker.nobody_known
+        """Returns whom a list grants some rights, or any of them."""
+        if face is None:
+            return self._asker.nobody_known
+        key = face, text, any_of
+        if key not in self._asked:
+            found = self._asker.answers(face, want_of(text, any_of))
+            self._asked[key] = found if isinstance(found, Answers) else self._asker.nobody_known
+        return self._asked[key]
+
+    def roots(self, tree: int) -> int:
+        """Returns who of the people has the id 0 in a tree."""
+        if tree not in self._roots:
+            self._roots[tree] = self._asker.roots(tree)
+        return self._roots[tree]
 
     def is_posix(self, face: Face) -> bool:
         """Whether a list is a POSIX list or a mode."""
@@ -66,10 +81,13 @@ class Rights:
 
     def owners(self, face: Face) -> Answers:
         """Returns who owns an object. The library decides that, by a list that grants its owner something."""
-        stored, want = _OWNERS[self.is_posix(face)]
-        found = self._asker.answers(replace(face, list=self._asker.number_of(stored)), want)
-        assert isinstance(found, Answers)
-        return found
+        key = face.tree, face.uid, face.gid, self.is_posix(face)
+        if key not in self._owners:
+            stored, want = _OWNERS[self.is_posix(face)]
+            found = self._asker.answers(replace(face, list=self._asker.number_of(stored)), want)
+            assert isinstance(found, Answers)
+            self._owners[key] = found
+        return self._owners[key]
 
     def setters(self, face: Optional[Face]) -> Answers:
         """Returns who may set a list, or may become the owner, who may set it."""
@@ -108,12 +126,20 @@ class Rights:
         """Returns to whom no ACE denies a right: whom the list grants it if a last ACE allows it to everybody."""
         if self.is_posix(face):
             return self._asker.everybody_granted
+        key = face, text
+        if key not in self._allowed:
+            self._allowed[key] = self._allowed_at_last(face, text)
+        return self._allowed[key]
+
+    def _allowed_at_last(self, face: Face, text: str) -> Answers:
+        """Returns whom an NFSv4 list grants a right if a last ACE allows it to everybody."""
         stored = self._asker.stored[face.list]
         if isinstance(self._asker.ready(face.list), RefusedList):
             return self._asker.nobody_known
         last = Piece(0, 0, AceType.ALLOW, 0, want_of(text).mask, b"EVERYONE@")
         more = replace(stored, access=joined([*pieces(stored.access or b""), last]))
-        return self.asked(replace(face, list=self._asker.number_of(more)), text)
+        found = self._asker.answers(replace(face, list=self._asker.number_of(more)), want_of(text))
+        return found if isinstance(found, Answers) else self._asker.nobody_known
 
     def replacers(self, directory: Optional[Face], is_sticky: Optional[bool], face: Optional[Face],
                   is_directory: bool) -> Answers:

@@ -122,7 +122,7 @@ class ObtainingJudge:
             self._own[face.face, want.mask] = found
         own = self._own[face.face, want.mask]
         could = self._obtaining.about(want).could(place, own)
-        others = ~(within.people | self._asker.roots(face.tree))
+        others = ~(within.people | self._obtaining.rights.roots(face.tree))
         unsure = could.unknown | could.granted & ~within.known
         return _Beyond(want.mask, own, could.granted & within.known & others, unsure & others)
 

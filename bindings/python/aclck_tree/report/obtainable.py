@@ -33,14 +33,15 @@ class Obtainable:
         self._people = asker.people[:count]
         self._is_reach = is_reach
         self._question = ObjectsQuestion(asker, want_of("w"), None, is_reach, obtains=True)
+        assert self._question.obtaining
+        self._obtaining = self._question.obtaining
         self._known: Dict[Tuple[int, Place], Changers] = {}
         self._words: Dict[int, str] = {}
 
     def objects(self) -> Iterator[Tuple[Optional[Answers], Changers]]:
         """Yields for each object, in the order of `Snapshot.objects`, who gets past the directories above by their
         lists, if that is asked, and who could come to write to it."""
-        assert self._question.obtaining
-        for _, _, face, place in self._question.obtaining.objects():
+        for _, _, face, place in self._obtaining.objects():
             key = face, place
             found = self._known.get(key)
             if found is None:
@@ -53,7 +54,8 @@ class Obtainable:
         if isinstance(found, RefusedList):
             return Changers("", False)
         shares = dict(self._question.shares(basis, found))
-        roots = self._asker.roots(self._asker.faces[face].tree)  # that root could do everything is no finding
+        tree = self._asker.faces[face].tree
+        roots = self._obtaining.rights.roots(tree)  # that root could do everything is no finding
         return Changers(self._names(shares[Answer.OBTAINABLE] & ~roots), bool(shares[UNKNOWN] & ~roots))
 
     def _names(self, people: int) -> str:
