@@ -109,7 +109,7 @@ static void time_large(u32 count)
     free(large);
 }
 
-/* Times calls on a prepared list, and on a POSIX list of six entries. */
+/* Times calls on a prepared list, and on a POSIX ACL of six entries. */
 static void time_others(aclck_bytes acl, const aclck_object *object, const aclck_requester *requester)
 {
     static const aclck_name rows[] = {{{"alice", 5}, 1, 0}, {{"bob", 3}, 2, 0}, {{"mallory", 7}, 3, 0},

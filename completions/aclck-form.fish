@@ -5,7 +5,7 @@ complete -c aclck-form -f -a 'posix-archive posix-archive-default posix-gnu-tar 
 complete -c aclck-form -l file -d 'It is the list of a file'
 complete -c aclck-form -l directory -d 'It is the list of a directory'
 complete -c aclck-form -l bridge -d 'From a POSIX form to an NFSv4 form or back'
-complete -c aclck-form -l exact-only -d 'Write no POSIX list that loses anything'
+complete -c aclck-form -l exact-only -d 'Write no POSIX ACL that loses anything'
 complete -c aclck-form -l mode -x -d 'The mode of the directory'
 complete -c aclck-form -l names -r -F -d 'Names and their ids'
 complete -c aclck-form -l system -d 'The names and ids of this system'

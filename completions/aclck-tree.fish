@@ -57,8 +57,8 @@ complete -c aclck-tree -n '__fish_seen_subcommand_from diff' -l people-then -r -
 complete -c aclck-tree -n '__fish_seen_subcommand_from who may why diff policy report load' -l domain -x \
     -d 'What follows @ in names'
 complete -c aclck-tree -n '__fish_seen_subcommand_from who may why policy report' -l linux \
-    -d 'Ask POSIX lists as Linux does'
-complete -c aclck-tree -n '__fish_seen_subcommand_from who policy report' -l draft -d 'Ask POSIX lists as acl(5) says'
+    -d 'Ask POSIX ACLs as Linux does'
+complete -c aclck-tree -n '__fish_seen_subcommand_from who policy report' -l draft -d 'Ask POSIX ACLs as acl(5) says'
 complete -c aclck-tree -n '__fish_seen_subcommand_from who same diff policy' -l each -d 'One line per object'
 complete -c aclck-tree -n '__fish_seen_subcommand_from load' -l dsn -x -d 'The database'
 complete -c aclck-tree -n '__fish_seen_subcommand_from load' -l as-superuser -d 'Load although the role is a superuser'

@@ -602,8 +602,8 @@ enum aclck_status aclck_decide_ids(aclck_bytes prepared, const aclck_id_object *
 /* ---- NFSv4 lists: names that nobody knows */
 
 /* Writes to *possible what is certain about a list of another server. It is read as other calls read it, but AUDIT and
-   ALARM ACEs are left out, and special names such as INTERACTIVE@ are kept: each of them may match the requester or
-   not. If it fails, all of *possible is 0. Options: ACLCK_NARROW. ACLCK_DONE, ACLCK_REFUSED (*fault),
+   ALARM ACEs are left out, and special identifiers such as INTERACTIVE@ are kept: each of them may match the requester
+   or not. If it fails, all of *possible is 0. Options: ACLCK_NARROW. ACLCK_DONE, ACLCK_REFUSED (*fault),
    ACLCK_BAD_ARGUMENT, ACLCK_MEMORY. */
 ACLCK_CALL ACLCK_READS(2) ACLCK_READS(3) ACLCK_READS(4) ACLCK_WRITES(5) ACLCK_WRITES(6)
 enum aclck_status aclck_decide_unknown(aclck_bytes acl, const aclck_object *object, const aclck_requester *requester,
@@ -664,12 +664,12 @@ ACLCK_CALL ACLCK_READS(2) ACLCK_WRITES(5) ACLCK_WRITES(6)
 enum aclck_status aclck_resolved(aclck_bytes acl, const aclck_object *object, enum aclck_option options,
                                  aclck_buffer out, size_t *needed, aclck_fault *fault);
 
-/* The list in which a group stands for each special name that nobody knows, such as AUTHENTICATED@: the name of the
-   group is that name with `*suffix` behind it. AUDIT and ALARM ACEs are left out, and all else stays. A requester of
-   whom you know which special names match is in the groups of these names. So aclck_compare(), aclck_excess() and
-   aclck_normalize() of new lists are about every way to match them. An ACE is counted among those that stay. The list
-   is refused with ACLCK_UNKNOWN_NAME if a name with the suffix is not the name of a group, and with ACLCK_MERGED if an
-   ACE is already for a group of such a name: the fault has the place of the first one. Options: ACLCK_NARROW. */
+/* The list in which a group stands for each special identifier that nobody knows, such as AUTHENTICATED@: the name of
+   the group is that name with `*suffix` behind it. AUDIT and ALARM ACEs are left out, and all else stays. A requester
+   of whom you know which special identifiers match is in the groups of these names. So aclck_compare(), aclck_excess()
+   and aclck_normalize() of new lists are about every way to match them. An ACE is counted among those that stay. The
+   list is refused with ACLCK_UNKNOWN_NAME if a name with the suffix is not the name of a group, and with ACLCK_MERGED
+   if an ACE is already for a group of such a name: the fault has the place of the first one. Options: ACLCK_NARROW. */
 ACLCK_CALL ACLCK_READS(2) ACLCK_WRITES(5) ACLCK_WRITES(6)
 enum aclck_status aclck_with_groups(aclck_bytes acl, const aclck_bytes *suffix, enum aclck_option options,
                                     aclck_buffer out, size_t *needed, aclck_fault *fault);
@@ -722,10 +722,10 @@ ACLCK_CALL ACLCK_WRITES(4) ACLCK_WRITES(5) ACLCK_WRITES(6)
 enum aclck_status aclck_read_form(aclck_bytes value, enum aclck_form form, aclck_buffer out, size_t *needed,
                                   uint32_t *flags, aclck_fault *fault);
 
-/* The same without the ACEs that access does not read: AUDIT and ALARM ACEs, and ALLOW ACEs of a special name other
-   than OWNER@, GROUP@ and EVERYONE@. They are at the front of `left`, in order; without them the list grants no more.
-   A DENY of such a name is refused with ACLCK_SPECIAL_WHO. A value of n bytes has fewer than n / 5 + 1 ACEs that are
-   left out, and at most 65,536. ACLCK_DONE (`out`, `left`, *part), ACLCK_SHORT where `out` or `left` has no room
+/* The same without the ACEs that access does not read: AUDIT and ALARM ACEs, and ALLOW ACEs of a special identifier
+   other than OWNER@, GROUP@ and EVERYONE@. They are at the front of `left`, in order; without them the list grants no
+   more. A DENY of such a name is refused with ACLCK_SPECIAL_WHO. A value of n bytes has fewer than n / 5 + 1 ACEs that
+   are left out, and at most 65,536. ACLCK_DONE (`out`, `left`, *part), ACLCK_SHORT where `out` or `left` has no room
    (*part). */
 ACLCK_CALL ACLCK_WRITES(3) ACLCK_WRITES(6)
 enum aclck_status aclck_read_part(aclck_bytes value, enum aclck_form form, aclck_list_part *part, aclck_buffer out,

@@ -1072,7 +1072,7 @@ static void are_other_values_refused(void) {
 }
 
 /* The number, the place and the reason of each ACE that is left out, as the layouts of RFC 8881 and of nfs41acl.x have
-   them: AUDIT bob, ALLOW alice, ALLOW NOW@; and ALLOW of the special name 9, DENY of the group 20. */
+   them: AUDIT bob, ALLOW alice, ALLOW NOW@; and ALLOW of the special identifier 9, DENY of the group 20. */
 static void are_aces_left_out(void) {
     char named[] = "\0\0\0\2\0\0\0\3\0\0\0\2\0\0\0\20\0\0\0\2\0\0\0\3bob\0\0\0\0\0\0\0\0\0\0\0\0\1\0\0\0\5alice"
                          "\0\0\0\0\0\0\0\0\0\0\0\0\0\0\1\0\0\0\4NOW@";
@@ -1328,7 +1328,7 @@ enum { IDS = 3000, MOST_ACES = 1000 };
 
 static char id_names[IDS][DIGITS];
 
-/* Returns a list whose names are numbers, or one of the three special names. */
+/* Returns a list whose names are numbers, or one of the three special identifiers. */
 static aclck_bytes random_list(size_t count) {
     static const char *const special[] = {"OWNER@", "GROUP@", "EVERYONE@"};
     static aclck_ace aces[MOST_ACES];

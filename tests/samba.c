@@ -26,7 +26,7 @@ static const struct row {
     {"a user has the id of the group", {{USER(8), ALLOW, 0, READ}}, 1, 5, 1, 0},
     {"for children only", {{USER(5), ALLOW, ACLCK_FILE_INHERIT | ACLCK_INHERIT_ONLY, READ}}, 1, 5, 0, 0},
     {"AUDIT decides nothing", {{USER(5), AUDIT, 0x10, READ}, {USER(5), ALLOW, 0, READ}}, 2, 5, 0, READ},
-    {"other special names decide nothing",
+    {"other special identifiers decide nothing",
      {{SPECIAL(INTERACTIVE), DENY, 0, READ}, {USER(5), ALLOW, 0, READ}, {SPECIAL(0), DENY, 0, READ}}, 3, 5, 0, READ},
     {"bits that are no rights", {{USER(5), ALLOW, 0, 0xffffffff}}, 1, 5, 0, READ | WRITE},
 };

@@ -26,7 +26,7 @@ def page():
 
 
 def make_snapshots(directory):
-    """Makes snapshots of a tree of alice: six objects with NFSv4 lists, one with a POSIX list, one with a mode. On
+    """Makes snapshots of a tree of alice: six objects with NFSv4 lists, one with a POSIX ACL, one with a mode. On
     Tuesday, the list of the plan denies bob nothing any more, and the mask of the notes lets him write."""
     for name, lists, notes in (("monday", LISTS, POSIX),
                                ("tuesday", {**LISTS, b"plan.odt": PLAN_OF_TUESDAY}, NOTES_OF_TUESDAY)):

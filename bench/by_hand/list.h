@@ -77,7 +77,7 @@ static inline int is_who(const u8 *who, u32 len)
     return 1;
 }
 
-/* Returns the rank of a who, or -1 if it ends in `@` and is not one of the three special names. */
+/* Returns the rank of a who, or -1 if it ends in `@` and is not one of the three special identifiers. */
 static inline int rank_of(const u8 *who, u32 len, u32 flags)
 {
     if (who[len - 1] != '@')

@@ -40,7 +40,7 @@ static aclck_bytes name_of(char *room, uint32_t id)
     return aclck_bytes_of(room + at, DIGITS - at);
 }
 
-/* Returns the who of an ACE. It is empty for any other special name: that ACE matches nobody. */
+/* Returns the who of an ACE. It is empty for any other special identifier: that ACE matches nobody. */
 static aclck_bytes who_of(char *room, const fsal_ace_t *ace)
 {
     if (!IS_FSAL_ACE_SPECIAL_ID(*ace))

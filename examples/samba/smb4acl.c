@@ -17,7 +17,7 @@ static aclck_bytes name_of(char *room, uint32_t id)
     return aclck_bytes_of(room + at, DIGITS - at);
 }
 
-/* Returns the who of an ACE. It is empty for a special name that is left out. */
+/* Returns the who of an ACE. It is empty for a special identifier that is left out. */
 static aclck_bytes who_of(char *room, const smb4_ace *ace)
 {
     static const char *const special[] = {"", "OWNER@", "GROUP@", "EVERYONE@"};

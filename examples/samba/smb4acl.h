@@ -10,9 +10,9 @@
 #include <aclck.h>
 #include <sys/types.h>
 
-/* In `flags`: the who is a special name. */
+/* In `flags`: the who is a special identifier. */
 #define SMB4_SPECIAL 0x1u
-/* In `who.special_id`. Samba has more special names. It ignores their ACEs, and so does this file. */
+/* In `who.special_id`. Samba has more special identifiers. It ignores their ACEs, and so does this file. */
 enum { SMB4_OWNER = 1, SMB4_GROUP = 2, SMB4_EVERYONE = 3 };
 
 typedef struct smb4_ace {
@@ -38,7 +38,7 @@ typedef struct smb4_token {
 #define SMB4_LIST_ROOM(naces) (4 + 28 * (size_t)(naces))
 
 /* Writes the bytes of a list to `out`, which has SMB4_LIST_ROOM(naces) bytes, and returns them. ACEs that have no part
- * in access checks are left out: AUDIT, ALARM, and those of other special names. */
+ * in access checks are left out: AUDIT, ALARM, and those of other special identifiers. */
 aclck_bytes smb4_list(const smb4_ace *aces, size_t naces, unsigned char *out);
 
 /* Writes to *granted the rights of `mask` that the list grants the user on an object with this owner and this group.

@@ -1,6 +1,6 @@
 """Access control lists, checked, converted and compared in process by the proved library libaclck.
 
-NFSv4 lists are `NfsAcl` (RFC 8881, section 6.2.1), POSIX lists are `PosixAcl` (acl(5); POSIX.1e draft 17, section 23).
+NFSv4 lists are `NfsAcl` (RFC 8881, section 6.2.1), POSIX ACLs are `PosixAcl` (acl(5); POSIX.1e draft 17, section 23).
 Names of users and groups are `str` or `bytes`. In a `str`, bytes that are not UTF-8 are represented as by
 `surrogateescape`. All calls may run in any number of threads at once. They use no live file, except the calls
 `from_file`, which read attributes of one file, and `to_file`, which write them.

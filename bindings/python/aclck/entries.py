@@ -1,4 +1,4 @@
-"""The entries of POSIX lists as values (acl(5), "ACL TYPES")."""
+"""The entries of POSIX ACLs as values (acl(5), "ACL TYPES")."""
 
 from __future__ import annotations
 

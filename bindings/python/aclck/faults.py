@@ -14,11 +14,11 @@ class Refused(ValueError):
     Attributes:
         reason: the name of the reason, such as `Truncated` (docs/reference/formats.md has all).
         offset: for bytes and for a text of an archive, the place of the refused field in bytes, from 0. For a POSIX
-            list that is not valid, the place of the entry in its part, from 0. Otherwise None.
+            ACL that is not valid, the place of the entry in its part, from 0. Otherwise None.
         ace: for a list that is made of ACEs, and for one whose names are exchanged, the place of the ACE, from 0.
             Otherwise None.
         line, column: for a text, the place, both from 1; the column is in bytes. Otherwise None.
-        part: for a POSIX list that is not valid, `access` or `default`. Otherwise None.
+        part: for a POSIX ACL that is not valid, `access` or `default`. Otherwise None.
         tag: if an entry is missing, its tag, such as `MASK`. Otherwise None.
         second: whether the second of two lists or texts is refused.
     """

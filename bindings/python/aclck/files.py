@@ -1,4 +1,4 @@
-"""The attributes of files that hold POSIX lists, read as they were at one time."""
+"""The attributes of files that hold POSIX ACLs, read as they were at one time."""
 
 from __future__ import annotations
 

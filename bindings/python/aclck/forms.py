@@ -68,7 +68,7 @@ class LeftOut(NamedTuple):
     """The place of the ACE's first byte, or of the first byte of its entry in a text, from 0."""
 
     reason: str
-    """`AuditOrAlarm`, or `SpecialWho` for a special name other than `OWNER@`, `GROUP@` and `EVERYONE@`."""
+    """`AuditOrAlarm`, or `SpecialWho` for a special identifier other than `OWNER@`, `GROUP@` and `EVERYONE@`."""
 
     def __str__(self) -> str:
         return f"{self.reason} at ACE {self.ace}, byte {self.offset}"

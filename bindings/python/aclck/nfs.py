@@ -81,8 +81,8 @@ class NfsAcl:
     @classmethod
     def from_form_part(cls, value: Name, form: ListForm) -> Tuple[NfsAcl, ListFlag, List[LeftOut]]:
         """Reads a value as `from_form` does, but leaves out the ACEs that access does not read, and returns them too:
-        AUDIT and ALARM ACEs, and ALLOW ACEs of a special name other than `OWNER@`, `GROUP@` and `EVERYONE@`. The list
-        grants no more than the whole list.
+        AUDIT and ALARM ACEs, and ALLOW ACEs of a special identifier other than `OWNER@`, `GROUP@` and `EVERYONE@`. The
+        list grants no more than the whole list.
 
         Raises Refused, with the offset in the value, also for a DENY of such a name, and TypeError as `from_form` does.
         """
@@ -171,8 +171,8 @@ class NfsAcl:
     @staticmethod
     def decide_unknown(data: bytes, *, user: Name, groups: Iterable[Name] = (), owner: Name, group: Name,
                        mask: int = ALL, narrow: bool = False) -> Possible:
-        """Returns what a list answers whose special names nobody knows, such as `INTERACTIVE@`: what holds whomever the
-        server takes for these. AUDIT and ALARM ACEs are left out and counted. `NfsAcl` refuses such lists.
+        """Returns what a list answers whose special identifiers nobody knows, such as `INTERACTIVE@`: what holds
+        whomever the server takes for these. AUDIT and ALARM ACEs are left out and counted. `NfsAcl` refuses such lists.
 
         Raises Refused, with the offset, if the bytes are not such a list, and ValueError and TypeError as `grants`
         does.
@@ -187,13 +187,13 @@ class NfsAcl:
 
     @classmethod
     def with_groups(cls, data: bytes, suffix: Name, *, narrow: bool = False) -> NfsAcl:
-        """Reads a list whose special names nobody knows, such as `INTERACTIVE@`: a group stands for each of them, whose
-        name is that name with the suffix behind it. AUDIT and ALARM ACEs are left out. A requester of whom it is known
-        which of the special names match has the groups of these names.
+        """Reads a list whose special identifiers nobody knows, such as `INTERACTIVE@`: a group stands for each of them,
+        whose name is that name with the suffix behind it. AUDIT and ALARM ACEs are left out. A requester of whom it is
+        known which of the special identifiers match has the groups of these names.
 
         Raises Refused, with the offset, if the bytes are not such a list; and with the place of the ACE among those
-        that stay, with the reason `UnknownName` if a special name with the suffix is not the name of a group, and with
-        the reason `Merged` if an ACE is already for a group of such a name.
+        that stay, with the reason `UnknownName` if a special identifier with the suffix is not the name of a group, and
+        with the reason `Merged` if an ACE is already for a group of such a name.
         """
         held = memoryview(data).tobytes()
         args = (c.in_c(held), c.in_c(c.encoded(suffix)), c.NARROW if narrow else 0)
@@ -301,8 +301,8 @@ class NfsAcl:
         return self._like(c.bytes_of("resolved", args, len(self._bytes) + names))
 
     def to_posix(self, names: NamedIds = (), most: int = 256) -> ToPosix:
-        """Returns a POSIX list in place of this list, and who loses by it (docs/use/convert.md, "An NFSv4 list as a
-        POSIX list"). It never grants more than this list: r only if this list grants READ_DATA, w only if it grants
+        """Returns a POSIX ACL in place of this list, and who loses by it (docs/use/convert.md, "An NFSv4 list as a
+        POSIX ACL"). It never grants more than this list: r only if this list grants READ_DATA, w only if it grants
         WRITE_DATA and APPEND_DATA, x only if it grants EXECUTE. DELETE_CHILD, which POSIX systems give with w on a
         directory, is not asked for. ACEs with INHERIT_ONLY do not count, and there are no default entries. `names` has
         the ids of names: name, id, whether it is a group. A name of digits is an id.

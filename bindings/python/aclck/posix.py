@@ -1,4 +1,4 @@
-"""POSIX lists (acl(5); POSIX.1e draft 17, section 23). Ids are numbers; permissions are 4 (r), 2 (w) and 1 (x)."""
+"""POSIX ACLs (acl(5); POSIX.1e draft 17, section 23). Ids are numbers; permissions are 4 (r), 2 (w) and 1 (x)."""
 
 from __future__ import annotations
 
@@ -319,7 +319,7 @@ class ToPosix(NamedTuple):
 
 
 def posix_of(acl: c.Bytes, names: NamedIds, most: int) -> ToPosix:
-    """Makes a POSIX list of an NFSv4 list. Raises Refused and ValueError as `NfsAcl.to_posix` does."""
+    """Makes a POSIX ACL of an NFSv4 list. Raises Refused and ValueError as `NfsAcl.to_posix` does."""
     loss, bound = c.PosixLoss(), c.word(most)
     given = acl, table_in_c(names), bound
     room = min(bound, acl.len // _SHORTEST_ACE) + 4  # USER_OBJ, GROUP_OBJ, MASK and OTHER have no name
@@ -330,7 +330,7 @@ def posix_of(acl: c.Bytes, names: NamedIds, most: int) -> ToPosix:
 
 
 def _shown(text: bytes, form: int, names: c.Names) -> bytes:
-    """Returns the canonical text of the POSIX list that a text spells, or another form of it, by its number in aclck.h.
+    """Returns the canonical text of the POSIX ACL that a text spells, or another form of it, by its number in aclck.h.
     Raises Refused, with the line and the column."""
     return c.bytes_of("posix_show", (c.PosixText(c.in_c(text), names), form), 2 * len(text) + 64)
 

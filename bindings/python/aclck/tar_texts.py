@@ -1,4 +1,4 @@
-"""The texts of POSIX lists in archives: the headers `SCHILY.acl.access` and `SCHILY.acl.default` (star(1), tar(1))."""
+"""The texts of POSIX ACLs in archives: the headers `SCHILY.acl.access` and `SCHILY.acl.default` (star(1), tar(1))."""
 
 from __future__ import annotations
 

@@ -48,7 +48,7 @@ _QUESTIONS: Dict[str, Tuple[str, List[_Argument]]] = {
     "holders": ("who has a right by an NFSv4 list, in words", [_RIGHT, _LIST]),
     "needed": ("which rights of an NFSv4 list decide something, and which can go", [_LIST]),
     "who": ("which of some people have a right", [
-        ("right", dict(metavar="RIGHT", help="rights with | between them, or letters of rwx for a POSIX list")), _LIST,
+        ("right", dict(metavar="RIGHT", help="rights with | between them, or letters of rwx for a POSIX ACL")), _LIST,
         ("--people", dict(metavar="FILE", required=True, help="who is asked about: lines `name: group group ..`, or "
                           "LDIF or CSV if FILE ends with .ldif or .csv")),
         ("--owner", dict(metavar="USER", required=True, help="the owner of the object")),

@@ -9,7 +9,7 @@ from aclck import Difference, PosixDifference, mask_text
 from aclck_tree.output.text import quoted, quoted_line
 
 LETTERS = {"r": 4, "w": 2, "x": 1}
-"""The permissions of a POSIX list."""
+"""The permissions of a POSIX ACL."""
 
 
 class Reply(NamedTuple):
@@ -29,7 +29,7 @@ class Reply(NamedTuple):
 
 
 class ShownDifference(NamedTuple):
-    """A difference as it is shown: a requester, and a right that one of two lists grants. In a POSIX list, all names are
+    """A difference as it is shown: a requester, and a right that one of two lists grants. In a POSIX ACL, all names are
     ids, and the right is some of `rwx` at once."""
 
     owner: Union[str, int]

@@ -50,7 +50,7 @@ def _difference(first: Given, second: Given) -> Tuple[Union[Difference, PosixDif
 def _compared(args: argparse.Namespace, accounts: Optional[SystemIds]) -> List[Given]:
     """Returns two lists whose users and groups are named in one way. Raises TreeError if they are not."""
     if len({form in POSIX for form in args.forms}) > 1:
-        raise TreeError("one list is an NFSv4 list, and the other one is a POSIX list")
+        raise TreeError("one list is an NFSv4 list, and the other one is a POSIX ACL")
     lists = read_lists(args, accounts)
     if len({one.has_ids for one in lists}) > 1:
         raise TreeError("not known: one list has ids, and the other one has names: --names or --system exchanges them")

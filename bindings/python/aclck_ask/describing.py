@@ -53,7 +53,7 @@ def mask_of(text: str) -> int:
 
 
 def _nfs_list(args: argparse.Namespace, accounts: Optional[SystemIds]) -> NfsAcl:
-    """Returns the one NFSv4 list of the command line. Raises TreeError if it is a POSIX list, or is refused."""
+    """Returns the one NFSv4 list of the command line. Raises TreeError if it is a POSIX ACL, or is refused."""
     if args.forms[0] in POSIX:
         raise TreeError(f"{args.question} asks NFSv4 lists")
     acl = read_lists(args, accounts)[0].acl

@@ -20,7 +20,7 @@ INHERITED = AceFlag.FILE_INHERIT | AceFlag.DIRECTORY_INHERIT
 """With one of these flags, new objects inherit an ACE."""
 
 SPECIAL = ("OWNER@", "GROUP@", "EVERYONE@")
-"""The special names of lists that are asked about."""
+"""The special identifiers of lists that are asked about."""
 
 
 class Given(NamedTuple):

@@ -115,7 +115,7 @@ def _answer(right: str, people: Sequence[Person], found: Sequence[Optional[bool]
 def _letters(text: str) -> int:
     """Returns the permissions that letters name. Raises UsageError if they are none of `rwx`."""
     if not text or not set(text) <= set(LETTERS):
-        raise UsageError(f"a POSIX list has letters of rwx, and not {text!r}")
+        raise UsageError(f"a POSIX ACL has letters of rwx, and not {text!r}")
     return sum(bit for letter, bit in LETTERS.items() if letter in text)
 
 

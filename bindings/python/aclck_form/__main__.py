@@ -69,7 +69,7 @@ def parser_of() -> argparse.ArgumentParser:
     parser.add_argument("source", metavar="FROM", choices=(*NFS, *POSIX), help="the form of standard input")
     parser.add_argument("target", metavar="TO", choices=(*NFS, *POSIX), help="the form of standard output")
     add_kinds(parser)
-    parser.add_argument("--bridge", action="store_true", help="make an NFSv4 list of a POSIX list; or make a POSIX "
+    parser.add_argument("--bridge", action="store_true", help="make an NFSv4 list of a POSIX ACL; or make a POSIX "
                         "list of an NFSv4 list, and report who loses by it")
     parser.add_argument("--exact-only", action="store_true", help="with --bridge to a POSIX form: write nothing if "
                         "anybody loses r, w or x, or may lose it by --leave-out")
@@ -110,8 +110,8 @@ def _judge(args: argparse.Namespace) -> None:
 
 
 def _renames(args: argparse.Namespace) -> bool:
-    """Whether the names and the ids of an NFSv4 list are exchanged. That of a POSIX list has ids, and so has one that
-    becomes a POSIX list."""
+    """Whether the names and the ids of an NFSv4 list are exchanged. That of a POSIX ACL has ids, and so has one that
+    becomes a POSIX ACL."""
     return bool(args.exchanges and args.from_ids != args.to_ids)
 
 
@@ -135,7 +135,7 @@ def _converted(args: argparse.Namespace, data: bytes) -> bytes:
 
 
 def _read_posix(args: argparse.Namespace, data: bytes, accounts: Optional[SystemIds]) -> PosixAcl:
-    """Returns the POSIX list of a value, and reports the entries for which TO has no place."""
+    """Returns the POSIX ACL of a value, and reports the entries for which TO has no place."""
     posix = posix_with_names(args.source, data, args.mode, accounts)
     if args.target not in ("posix", *OF_DEFAULT) and any(entry.default for entry in posix):
         _drop(args, "default", "the default entries")
@@ -145,7 +145,7 @@ def _read_posix(args: argparse.Namespace, data: bytes, accounts: Optional[System
 
 
 def _written_posix(args: argparse.Namespace, posix: PosixAcl, accounts: Optional[SystemIds]) -> bytes:
-    """Returns the value of a POSIX list. In the text of an archive, ids have the names of the accounts."""
+    """Returns the value of a POSIX ACL. In the text of an archive, ids have the names of the accounts."""
     entries = [entry for entry in posix if entry.default == (args.target in OF_DEFAULT)]
     return written_posix(args.target, posix, names_of_ids(entries, accounts) if accounts else ())
 
@@ -161,7 +161,7 @@ def _read_nfs(args: argparse.Namespace, data: bytes) -> Tuple[NfsAcl, ListFlag, 
 
 
 def _posix_of(args: argparse.Namespace, acl: NfsAcl, left_out: List[LeftOut]) -> PosixAcl:
-    """Returns the POSIX list that an NFSv4 list with ids becomes, and reports who loses by it. Raises TreeError if
+    """Returns the POSIX ACL that an NFSv4 list with ids becomes, and reports who loses by it. Raises TreeError if
     somebody does, or may, and `--exact-only` is given."""
     inherits = any(ace.flags & (AceFlag.FILE_INHERIT | AceFlag.DIRECTORY_INHERIT) for ace in acl)
     if inherits:
@@ -172,7 +172,7 @@ def _posix_of(args: argparse.Namespace, acl: NfsAcl, left_out: List[LeftOut]) ->
         raise TreeError(f"{line}, and --exact-only is given")
     _tell(line)
     for one, other in ((WRITE_DATA, APPEND_DATA), (APPEND_DATA, WRITE_DATA)):
-        if acl.implies(one, other):  # a POSIX list has no permission for one of them alone
+        if acl.implies(one, other):  # a POSIX ACL has no permission for one of them alone
             _tell(f"{mask_text(one)} without {mask_text(other)} is lost")
     if (inherits or args.kind == "directory") and _removes_more(made.acl, acl):
         _tell("DELETE_CHILD is gained with w")
@@ -180,14 +180,14 @@ def _posix_of(args: argparse.Namespace, acl: NfsAcl, left_out: List[LeftOut]) ->
 
 
 def _removes_more(posix: PosixAcl, acl: NfsAcl) -> bool:
-    """Returns whether the POSIX list grants w to somebody to whom the NFSv4 list does not grant DELETE_CHILD: by POSIX,
+    """Returns whether the POSIX ACL grants w to somebody to whom the NFSv4 list does not grant DELETE_CHILD: by POSIX,
     w on a directory is the right to remove what is in it, too."""
     wider = (ace._replace(mask=ace.mask | DELETE_CHILD) if ace.mask & WRITE_DATA else ace for ace in posix.bridge())
     return NfsAcl.from_aces(wider).exceeds(acl) is not None
 
 
 def _verdict(lost: Optional[PosixDifference], left_out: List[LeftOut]) -> str:
-    """Returns the words for what is lost. Whom an ALLOW of a special name allows something is not known."""
+    """Returns the words for what is lost. Whom an ALLOW of a special identifier allows something is not known."""
     if lost is not None:
         return f"not exact: {_loser(lost)}"
     if any(ace.reason != "AuditOrAlarm" for ace in left_out):

@@ -19,7 +19,7 @@ from .streams import read_file, short
 from .values import WITH_NAMES, NamedId, read_posix, style_of
 
 _ID = re.compile(rb"[0-9]+")
-_NO_ACCOUNT = re.compile(rb"[0-9]+|.*@", re.DOTALL)  # an id, or a special name
+_NO_ACCOUNT = re.compile(rb"[0-9]+|.*@", re.DOTALL)  # an id, or a special identifier
 _ROW = re.compile(rb"([ug]):(.+)=([0-9]{1,10})")
 _LARGEST = 4294967294
 
@@ -114,7 +114,7 @@ class _Spelled(SystemIds):
 
 
 def ids_of_names(text: bytes, accounts: SystemIds, style: TarStyle) -> Iterator[NamedId]:
-    """Yields the names that a text of a POSIX list has and the accounts know. Raises TreeError if a name and an id are
+    """Yields the names that a text of a POSIX ACL has and the accounts know. Raises TreeError if a name and an id are
     not each other's only one."""
     for word, number, is_group in accounts_in(text, _Spelled(accounts, style)):
         name = unspelled(word, style)
@@ -124,7 +124,7 @@ def ids_of_names(text: bytes, accounts: SystemIds, style: TarStyle) -> Iterator[
 
 
 def posix_with_names(form: str, data: bytes, mode: Optional[int], accounts: Optional[SystemIds]) -> PosixAcl:
-    """Returns the POSIX list of a value, whose names are those of the accounts if it may have names. Raises Refused,
+    """Returns the POSIX ACL of a value, whose names are those of the accounts if it may have names. Raises Refused,
     and TreeError if the value is too long, or a name and an id are not each other's only one."""
     value = short(data)
     names = ids_of_names(value, accounts, style_of(form)) if accounts and form in WITH_NAMES else ()

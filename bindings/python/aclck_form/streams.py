@@ -14,7 +14,7 @@ LONGEST = 1 << 27
 """How many bytes are read at most. Each value that a program writes is shorter: a list has at most 65,536 ACEs."""
 
 SHORTER = 1 << 24
-"""How many bytes a POSIX list, and a file of names, may have: each of them takes up to 50 times as much memory."""
+"""How many bytes a POSIX ACL, and a file of names, may have: each of them takes up to 50 times as much memory."""
 
 
 def read(handle: int) -> bytes:
@@ -44,7 +44,7 @@ def _opened(path: str, flags: int) -> int:
 
 
 def short(data: bytes) -> bytes:
-    """Returns a POSIX list, or a file of names. Raises TreeError if it is longer than any that is used."""
+    """Returns a POSIX ACL, or a file of names. Raises TreeError if it is longer than any that is used."""
     if len(data) > SHORTER:
         raise TreeError(f"more than {SHORTER} bytes")
     return data

@@ -14,7 +14,7 @@ POSIX = ("posix", "posix-access", "posix-default", _STAR, _STAR_DEFAULT, _GNU, _
 OF_DEFAULT = ("posix-default", _STAR_DEFAULT, _GNU_DEFAULT)
 """The forms that have the default entries, and no others."""
 WITH_NAMES = (_STAR, _STAR_DEFAULT, _GNU, _GNU_DEFAULT)
-"""The forms of POSIX lists in which users and groups may have names."""
+"""The forms of POSIX ACLs in which users and groups may have names."""
 TOOLS = "nfs4-tools"
 WITH_FLAGS = ("nfs41", "nfs41-ids")
 """The forms that have flags of the whole list."""
@@ -34,7 +34,7 @@ FORMS_HELP = """forms of NFSv4 lists:
   nfs-text-ids   the same text; of an entry with a name and an id, the id counts
   nfs41          the attribute system.nfs4_dacl, with flags of the list
   nfs41-ids      the attribute security.nfs4acl_xdr, with flags and with ids
-forms of POSIX lists:
+forms of POSIX ACLs:
   posix          the text of getfacl -n
   posix-access   the attribute system.posix_acl_access
   posix-default  the attribute system.posix_acl_default

@@ -102,8 +102,8 @@ pub fn read_form(value: &[u8], form: ListForm) -> Result<(Vec<u8>, ListFlags), E
 }
 
 /// Returns what `read_form` returns of a value without the ACEs that access does not read, and these ACEs: AUDIT and
-/// ALARM ACEs, and ALLOW ACEs of a special name other than `OWNER@`, `GROUP@` and `EVERYONE@`. The list grants no more
-/// than the whole list. A DENY of such a name is refused.
+/// ALARM ACEs, and ALLOW ACEs of a special identifier other than `OWNER@`, `GROUP@` and `EVERYONE@`. The list grants no
+/// more than the whole list. A DENY of such a name is refused.
 pub fn read_part(value: &[u8], form: ListForm) -> Result<(Vec<u8>, ListFlags, Vec<LeftOut>), Error> {
     // No ACE that is left out has fewer than 5 bytes.
     let mut left = vec![LeftOut::default(); (value.len() / 5 + 1).min(MOST_ACES)];

@@ -106,9 +106,9 @@ pub fn resolved(acl: &[u8], object: &Object, profile: Profile) -> Result<Vec<u8>
     })
 }
 
-/// Returns the list without AUDIT and ALARM ACEs in which a group stands for each special name that nobody knows: its
-/// name is the special name followed by the suffix. If such a name cannot be that of a group, or an ACE is already for
-/// a group of that name, `offset` of the fault is the place of the ACE, from 0, among those that stay.
+/// Returns the list without AUDIT and ALARM ACEs in which a group stands for each special identifier that nobody knows:
+/// its name is the special identifier followed by the suffix. If such a name cannot be that of a group, or an ACE is
+/// already for a group of that name, `offset` of the fault is the place of the ACE, from 0, among those that stay.
 pub fn with_groups(acl: &[u8], suffix: &[u8], profile: Profile) -> Result<Vec<u8>, Error> {
     let suffix = Bytes::of(suffix);
     made(2 * acl.len(), |out, needed, fault| unsafe {

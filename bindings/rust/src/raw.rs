@@ -53,7 +53,7 @@ pub struct LeftOut {
     pub place: u64,
     /// The place of the ACE's first byte, from 0.
     pub offset: u64,
-    /// The number of the reason in `enum aclck_reason`: 3 for AUDIT and ALARM, 11 for a special name.
+    /// The number of the reason in `enum aclck_reason`: 3 for AUDIT and ALARM, 11 for a special identifier.
     pub reason: u32,
 }
 

@@ -182,7 +182,7 @@ fn the_owner_and_the_owning_group_are_named() {
 }
 
 #[test]
-fn a_group_stands_for_a_special_name() {
+fn a_group_stands_for_a_special_identifier() {
     // ALLOW READ_DATA NOW@, which no text spells.
     let list = b"\0\0\0\x01\0\0\0\0\0\0\0\0\0\0\0\x01\0\0\0\x04NOW@";
     let made = with_groups(list, b"?", Profile::Full).unwrap();

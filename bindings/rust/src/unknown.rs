@@ -25,8 +25,8 @@ pub struct Possible {
     pub left_out: u32,
 }
 
-/// Returns what is certain about a list of another server: AUDIT and ALARM ACEs are left out, and each special name
-/// that nobody knows, such as `INTERACTIVE@`, may match the requester or not.
+/// Returns what is certain about a list of another server: AUDIT and ALARM ACEs are left out, and each special
+/// identifier that nobody knows, such as `INTERACTIVE@`, may match the requester or not.
 pub fn decide_unknown(
     acl: &[u8], object: Object, requester: Requester, rights: Rights, profile: Profile,
 ) -> Result<Possible, Error> {

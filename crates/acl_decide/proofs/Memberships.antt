@@ -75,7 +75,7 @@ none_each p (a ∷ list) e = let h = none_passes p a list e in (h.0, none_each p
 
 -- ---- one ACE
 
--- for a situation in which no group is one of the list's special names
+-- for a situation in which no group is one of the list's special identifiers
 module _ (suffix : List ℕ) (list : List Ace) (v : Assignment) (s : Situation) (apart : IsApart suffix list s) where
   -- the situation with the groups that match
   abbrev after : Situation

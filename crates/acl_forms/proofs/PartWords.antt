@@ -22,7 +22,7 @@ use Rattle.acl_nfs4.specs.internal.Progress.{IsBytes}
 use Rattle.acl_nfs4.specs.internal.Reading.{Place, text_fault}
 use Rattle.acl_forms.specs.Acl41Ids.{id_who, listed, special_of}
 use Rattle.acl_forms.specs.Part.{is_unknown_deny}
-use Rattle.acl_forms.specs.PartWords.{Names, SpellsById, SpellsByName, bytes_at, special_name, unless_unknown, who_by_name, who_by_number}
+use Rattle.acl_forms.specs.PartWords.{Names, SpellsById, SpellsByName, bytes_at, special_identifier, unless_unknown, who_by_name, who_by_number}
 use Rattle.acl_forms.specs.PartWords.Names.{by_id, by_special}
 unfoldable use Rattle.acl_forms.specs.PartWords.{ace_by_name, ace_by_number}
 use Rattle.acl_forms.specs.Words.{word_at}
@@ -232,10 +232,11 @@ number_is : (type_number special n : ℕ) (who : List ℕ) → special ≤ 1 →
     → who_by_number type_number special n ≡ Ok who → SaysNumber type_number special n who
 number_is type_number special n who le lt e = by (eqb special 1) refl e
   where
-    by : (b : Bool) → eqb special 1 ≡ b → cond b (unless_unknown type_number (special_name n)) (id_who n) ≡ Ok who
+    by : (b : Bool) → eqb special 1 ≡ b
+        → cond b (unless_unknown type_number (special_identifier n)) (id_who n) ≡ Ok who
         → SaysNumber type_number special n who
     by true t e =
-        let h = unless_ok type_number (special_name n) who e in
+        let h = unless_ok type_number (special_identifier n) who e in
         subst (λ (m : ℕ). SaysNumber type_number m n who) (sym (eqb-true special 1 t))
         (subst (SaysNumber type_number 1 n) h.1 (record { names = by_special n lt; known = h.0 }))
     by false t e =

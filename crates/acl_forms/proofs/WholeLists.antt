@@ -24,7 +24,7 @@ unfoldable use Rattle.acl_forms.specs.Acl41Ids.{id_who_of}
 use Rattle.acl_forms.specs.AclFlags.{IsAclFlags}
 use Rattle.acl_forms.specs.Part.{SpellsPart, kept, reason_of}
 unfoldable use Rattle.acl_forms.specs.Part.{left_out_from}
-use Rattle.acl_forms.specs.PartWords.{IsPartAce, Names, SpelledAce, SpellsById, SpellsByName, SpellsWhole, special_name}
+use Rattle.acl_forms.specs.PartWords.{IsPartAce, Names, SpelledAce, SpellsById, SpellsByName, SpellsWhole, special_identifier}
 use Rattle.acl_forms.specs.PartWords.Names.{by_id, by_special}
 unfoldable use Rattle.acl_forms.specs.PartWords.{placed_from}
 use Rattle.acl_forms.specs.declared.fault.ReadReason.TheVariants as reason
@@ -182,13 +182,13 @@ named_whole set list bytes h =
     whole_part SpellsByName piece set list bytes h.flags h.accepted (each_named list h.accepted.each) h.spelled
 
 -- a special identifier that is read of a number has the number's name
-special_is : (n : ℕ) (who : List ℕ) → special_who n ≡ Ok who → special_name n ≡ who
+special_is : (n : ℕ) (who : List ℕ) → special_who n ≡ Ok who → special_identifier n ≡ who
 special_is n who e = by (eqb n 1) (eqb n 2) (eqb n 3) refl refl refl e
   where
     by : (a b c : Bool) → eqb n 1 ≡ a → eqb n 2 ≡ b → eqb n 3 ≡ c
         → cond a (Ok owner_name) (cond b (Ok group_name) (cond c (Ok everyone_name)
         (Err (reason.List list.SpecialWho)))) ≡ Ok who
-        → special_name n ≡ who
+        → special_identifier n ≡ who
     by true b c p q s e = rw p (ok_is owner_name who e)
     by false true c p q s e = rw (p, q) (ok_is group_name who e)
     by false false true p q s e = rw (p, q, s) (ok_is everyone_name who e)

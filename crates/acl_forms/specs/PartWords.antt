@@ -29,14 +29,14 @@ use Rattle.acl_forms.specs.declared.fault.ReadReason.TheVariants as reason
 -- ---- the bytes of an ACE
 
 -- the name of a special identifier by its number; a number above three has a name that no list names
-abbrev pub special_name : ℕ → List ℕ
-special_name n = if n == 1 then owner_name
+abbrev pub special_identifier : ℕ → List ℕ
+special_identifier n = if n == 1 then owner_name
     else (if n == 2 then group_name
     else (if n == 3 then everyone_name else codes "special " ++ decimal n ++ codes "@"))
 
 -- two words name a who: 1 and the number of a special identifier, or 0 and an id
 pub data Names : ℕ → ℕ → List ℕ → Type 0 where
-  by_special : (n : ℕ) → n < 2 ^ 32 → Names 1 n (special_name n)
+  by_special : (n : ℕ) → n < 2 ^ 32 → Names 1 n (special_identifier n)
   by_id : (id : ℕ) → IsId id → Names 0 id (decimal id)
 
 -- the bytes spell the ACE in nfsacl41
@@ -110,7 +110,7 @@ who_by_name type_number bytes = listed (any_who_of bytes) >>= λ who. unless_unk
 -- the who of a number in an ACE of this type, or why the number is refused
 abbrev pub who_by_number : ℕ → ℕ → ℕ → Result (List ℕ) ReadReason
 who_by_number type_number special n =
-    if special == 1 then unless_unknown type_number (special_name n) else id_who n
+    if special == 1 then unless_unknown type_number (special_identifier n) else id_who n
 
 -- a call that reads an ACE at a place, after ACEs of this weight, and the place after it
 abbrev pub AceReader : Type 0

@@ -20,7 +20,7 @@ use arrayvec::ArrayVec;
 
 /// Room for an entry: the longest words, all letters, the longest who, an id, and the bytes between them and at its
 /// ends.
-pub(crate) type Line = ArrayVec<u8, LINE_ROOM>;
+pub(crate) type EntryLine = ArrayVec<u8, LINE_ROOM>;
 
 pub(crate) const LINE_ROOM: usize = 1080;
 
@@ -52,7 +52,7 @@ impl AceTextForm {
         }
     }
 
-    fn add_entry(self, line: &mut Line, item: AceRef<'_>)
+    fn add_entry(self, line: &mut EntryLine, item: AceRef<'_>)
         requires room { array_vec_len line.old ≤ 1 }
         requires short { length item.who.now ≤ longest_who }
         ensures text { line.new.items ≡ line.old.items ++ entry_of self (ace item.entry) }
@@ -92,7 +92,7 @@ pub(crate) fn put_entries<S: Sink>(
     Ok(done)
 }
 
-pub(crate) fn add(line: &mut Line, bytes: &[u8])
+pub(crate) fn add(line: &mut EntryLine, bytes: &[u8])
     requires { array_vec_len line.old + length bytes.now ≤ text_line_room }
     ensures items { line.new.items ≡ line.old.items ++ bytes.now }
     ensures len { array_vec_len line.new ≡ array_vec_len line.old + length bytes.now }
@@ -103,7 +103,7 @@ pub(crate) fn add(line: &mut Line, bytes: &[u8])
 
 /// Adds the letters of the rows whose bits a set has, in a style. The set is a number, since the table may be that of
 /// the flags or that of the rights.
-pub(crate) fn add_styled(line: &mut Line, table: &[Letter], set: u32, letters: LetterStyle)
+pub(crate) fn add_styled(line: &mut EntryLine, table: &[Letter], set: u32, letters: LetterStyle)
     requires room { array_vec_len line.old + length table.now ≤ text_line_room }
     ensures text { line.new.items ≡ line.old.items ++ styled_letters letters table.now set }
     ensures len { array_vec_len line.new ≤ array_vec_len line.old + length table.now }
@@ -115,7 +115,7 @@ pub(crate) fn add_styled(line: &mut Line, table: &[Letter], set: u32, letters: L
 }
 
 /// Adds the letters of the rows whose bits a set has.
-pub(crate) fn add_letters(line: &mut Line, table: &[Letter], set: u32)
+pub(crate) fn add_letters(line: &mut EntryLine, table: &[Letter], set: u32)
     requires room { array_vec_len line.old + length table.now ≤ text_line_room }
     ensures text { line.new.items ≡ line.old.items ++ letters_of table.now set }
     ensures len { array_vec_len line.new ≤ array_vec_len line.old + length table.now }
@@ -128,7 +128,7 @@ pub(crate) fn add_letters(line: &mut Line, table: &[Letter], set: u32)
 }
 
 // Adds a letter for each row, or a hyphen if the set does not have its bits.
-fn add_columns(line: &mut Line, table: &[Letter], set: u32)
+fn add_columns(line: &mut EntryLine, table: &[Letter], set: u32)
     requires room { array_vec_len line.old + length table.now ≤ text_line_room }
     ensures text { line.new.items ≡ line.old.items ++ map (letter_or_hyphen set) table.now }
     ensures len { array_vec_len line.new ≡ array_vec_len line.old + length table.now }

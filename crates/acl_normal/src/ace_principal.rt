@@ -1,4 +1,4 @@
-//! Whom an ACE names. The last byte of the who is read first, because only the special names end in `@`.
+//! Whom an ACE names. The last byte of the who is read first, because only the special identifiers end in `@`.
 ghost use Rattle.std.specs.Prelude.{◌≡◌};
 ghost use Rattle.acl_normal.specs.Common.{ace, principal, principal_of};
 
@@ -17,8 +17,8 @@ pub(crate) fn key<'a>(item: &AceRef<'a>) -> Key<'a>
     }
 }
 
-/// Returns whom the ACE names, as `AceRef::principal` does, but compares the who with a special name only if it ends in
-/// `@`.
+/// Returns whom the ACE names, as `AceRef::principal` does, but compares the who with a special identifier only if it
+/// ends in `@`.
 #[inline(always)]
 #[tactic(auto, using(crate::proofs::Whoms::plain_who))]
 pub(crate) fn whom<'a>(item: &AceRef<'a>) -> Principal<'a>

@@ -72,7 +72,7 @@ class Answers:
 
 
 class Want(NamedTuple):
-    """What is asked for: rights of NFSv4 lists, and permissions of POSIX lists, or the reason why these have none."""
+    """What is asked for: rights of NFSv4 lists, and permissions of POSIX ACLs, or the reason why these have none."""
 
     text: str
     mask: int
@@ -82,7 +82,7 @@ class Want(NamedTuple):
 
     @property
     def posix_mask(self) -> int:
-        """The rights that stand for the permissions in the bridge of a POSIX list."""
+        """The rights that stand for the permissions in the bridge of a POSIX ACL."""
         return sum(rights for bit, rights in POSIX_MASKS.items() if self.perms & bit)
 
 
@@ -237,7 +237,7 @@ class Asker:
 
     def identities(self, person: Person, face: Face, kind: Kind, acl: Optional[NfsAcl] = None) -> Tuple[Identity, ...]:
         """Returns the ways in which a kind of list may name a person, the one by the given names first, and with a list
-        those that count only for this list. POSIX lists name a person in one way, or in none if an id is not known."""
+        those that count only for this list. POSIX ACLs name a person in one way, or in none if an id is not known."""
         if kind is Kind.POSIX:
             found = self._identities.by_ids(person, face.tree)
             return (found,) if found else ()
@@ -288,8 +288,8 @@ class Asker:
             known=bits_of(not names.isdisjoint(named) for names in one.if_named)) for one in forms]
 
     def masks(self, face: Face, asked: AskableList) -> Sequence[Optional[int]]:
-        """Returns what each person is granted by a list without special names, or None for a person of whom that is
-        not known."""
+        """Returns what each person is granted by a list without special identifiers, or None for a person of whom that
+        is not known."""
         return self.granted_by(asked.acl, face, asked.kind, *self.owner_and_group(face, asked.kind))
 
     def granted_by(self, acl: NfsAcl, face: Face, kind: Kind, owner: str, group: str) -> Sequence[Optional[int]]:
@@ -305,14 +305,14 @@ class Asker:
         return found
 
     def granted(self, face: Face, asked: AskableList, person: Person) -> int:
-        """Returns what a person whose ids are known is granted as a member of no special name."""
+        """Returns what a person whose ids are known is granted as a member of no special identifier."""
         identity = self.identity(person, face, asked.kind)
         assert identity
         owner, group = self.owner_and_group(face, asked.kind)
         return asked.acl.granted(user=identity.user, groups=asked.others(identity.groups), owner=owner, group=group)
 
     def possible(self, face: Face, asked: AskableList, identity: Identity, mask: int) -> Possible:
-        """Returns what a list with special names grants somebody, whomever the server takes for these names."""
+        """Returns what a list with special identifiers grants somebody, whomever the server takes for these names."""
         owner, group = self.owner_and_group(face, asked.kind)
         return NfsAcl.decide_unknown(asked.whomever, user=identity.user, groups=identity.groups, owner=owner,
                                      group=group, mask=mask)
@@ -329,8 +329,8 @@ class Asker:
         return {Request.ALWAYS: Request.NEVER, Request.NEVER: Request.ALWAYS}.get(none, none)
 
     def _whomever(self, face: Face, asked: AskableList, want: Want, forms: _Forms) -> Tuple[int, int]:
-        """Returns whom a list with special names grants what is asked, and whom it denies that, whomever the server
-        takes for these names."""
+        """Returns whom a list with special identifiers grants what is asked, and whom it denies that, whomever the
+        server takes for these names."""
         found: List[Optional[Request]] = [None] * len(forms.identities)
         for place in chosen(range(len(found)), forms.known):
             one = forms.identities[place]
@@ -365,7 +365,7 @@ class Asker:
         mask = want.mask
         if asked.kind is Kind.POSIX:
             if want.missing and not (want.any and want.perms):
-                return RefusedList(f"a POSIX list has no {mask_text(want.missing)}")
+                return RefusedList(f"a POSIX ACL has no {mask_text(want.missing)}")
             mask = want.posix_mask
         granted = denied = self._everybody
         for place, forms in enumerate(self._forms_for(face, asked.kind, asked.acl)):

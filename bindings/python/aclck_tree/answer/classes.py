@@ -15,7 +15,7 @@ from aclck_tree.answer.identities import Identity
 
 _SHARE = 16
 """How many people there must be for each class, so that it is quicker to ask about the classes. It does not count for
-lists with special names, because a question about these takes much longer."""
+lists with special identifiers, because a question about these takes much longer."""
 
 _MOST_KEPT = 1024
 """Of how many groups the members are kept as bits."""

@@ -93,7 +93,7 @@ def read_people(place: str) -> List[Person]:
 
 def _with_accounts(snapshot: Snapshot, people: List[Person]) -> List[Person]:
     """Returns the people without those whose name several accounts of a host have, and without those whom groups have
-    as members and who have no account, if POSIX lists are asked about them, and reports both. Of a snapshot that has no
+    as members and who have no account, if POSIX ACLs are asked about them, and reports both. Of a snapshot that has no
     users, nobody knows who has none."""
     shared = shared_users(snapshot)
     people = [one for one in people if one.name not in shared]
@@ -116,7 +116,7 @@ def _without_system(snapshot: Snapshot, people: List[Person]) -> List[Person]:
 
 
 def _linux_of(args: argparse.Namespace, snapshot: Snapshot) -> Tuple[bool, bool]:
-    """Returns whether POSIX lists are asked as Linux does, and whether that is so only because nothing else is asked
+    """Returns whether POSIX ACLs are asked as Linux does, and whether that is so only because nothing else is asked
     for: this system is the one that was scanned."""
     if getattr(args, "linux", False) or getattr(args, "draft", True):
         return getattr(args, "linux", False), False
@@ -142,7 +142,7 @@ def asker_of(args: argparse.Namespace, snapshot: Snapshot, people: List[Person])
             line = f"the host {quoted(host)} does not list {mentions.names_in_words(names)}: answers about its"
         else:
             line = f"no id is known for {mentions.names_in_words(names)}: answers about"
-        tell(f"{quoted(snapshot.place)}: {line} POSIX lists are unknown")
+        tell(f"{quoted(snapshot.place)}: {line} POSIX ACLs are unknown")
     return asker
 
 
@@ -176,7 +176,7 @@ def _names_without_ids(asker: Asker, person: Person, tree: int) -> Set[mentions.
 
 
 def _without_ids(asker: Asker) -> Iterator[Tuple[str, Set[mentions.Name]]]:
-    """Yields each host with POSIX lists on which people or groups have no id, with these. People of whom only other
+    """Yields each host with POSIX ACLs on which people or groups have no id, with these. People of whom only other
     hosts listed the groups are among them."""
     trees: Dict[str, List[int]] = {}
     for tree in sorted({face.tree for face in asker.faces.values() if asker.stored[face.list].is_posix}):

@@ -15,7 +15,7 @@ from aclck_tree.output.text import ObjectName, quoted
 
 Meaning = Tuple[str, bytes]
 """What a list grants, whoever owns the object: equal for two lists of one kind if they grant the same. For NFSv4 lists
-it is equal only then. The form of a POSIX list is that of its bridge, which is about single permissions."""
+it is equal only then. The form of a POSIX ACL is that of its bridge, which is about single permissions."""
 
 
 def meaning(asked: AskableList, is_directory: bool = False) -> Meaning:
@@ -29,7 +29,7 @@ def own_form(asked: AskableList) -> bytes:
 
 
 def grant_the_same(first: AskableList, second: AskableList) -> bool:
-    """Returns whether two lists of one kind grant everybody the same. For POSIX lists every request is compared, also
+    """Returns whether two lists of one kind grant everybody the same. For POSIX ACLs every request is compared, also
     for several permissions at once."""
     if first.posix and second.posix:
         return first.posix.means_the_same(second.posix)
@@ -45,8 +45,8 @@ def heir_forms(asked: AskableList) -> Tuple[bytes, ...]:
 
 
 def _marked(asked: AskableList, form: NfsAcl) -> bytes:
-    """Returns the bytes of a form, and the special names in it. So a group with the name of the group that replaces a
-    special name elsewhere is not the same."""
+    """Returns the bytes of a form, and the special identifiers in it. So a group with the name of the group that
+    replaces a special identifier elsewhere is not the same."""
     whos = {ace.who for ace in form} if asked.specials else set()
     return bytes(form) + "".join(f"{name}\n" for name, group in sorted(asked.specials) if group in whos).encode()
 
@@ -115,7 +115,8 @@ def named(difference: Difference, *lists: AskableList, name: Optional[Callable[[
 
 def named_of(difference: Difference, special: Mapping[str, str], *mentioned: AbstractSet[str],
              name: Optional[Callable[[bool, str], str]] = None) -> str:
-    """Returns the same, given the special names by the groups that replace them, and the names that lists mention."""
+    """Returns the same, given the special identifiers by the groups that replace them, and the names that lists
+    mention."""
     def shown(is_group: bool, who: str) -> str:
         return quoted(special.get(who) or (name(is_group, who) if name else who))
 

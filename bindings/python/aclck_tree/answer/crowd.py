@@ -24,15 +24,15 @@ _RIGHTS = [1 << bit for bit in range(21) if ALL >> bit & 1]
 
 
 class Granted(NamedTuple):
-    """The rights that somebody is granted whomever the server takes for the special names of a list, and those that are
-    granted in some case."""
+    """The rights that somebody is granted whomever the server takes for the special identifiers of a list, and those
+    that are granted in some case."""
 
     sure: int
     maybe: int
 
     @property
     def unknown(self) -> int:
-        """The rights that depend on the special names."""
+        """The rights that depend on the special identifiers."""
         return self.maybe & ~self.sure
 
 
@@ -131,8 +131,8 @@ _Keys = FrozenSet[Tuple[Optional[bool], str]]
 
 @dataclass
 class ListPair:
-    """Two lists with special names. What is said about somebody depends only on the ACEs that match, which are the same
-    ones for most people, so answers are kept."""
+    """Two lists with special identifiers. What is said about somebody depends only on the ACEs that match, which are
+    the same ones for most people, so answers are kept."""
 
     old: View
     new: View
@@ -140,7 +140,7 @@ class ListPair:
 
     def rights(self, one: Identity, other: Identity, rights: int) -> int:
         """Returns those of some rights that both lists grant somebody in the same cases of who is a member of their
-        special names. Each side has its own names for the same person."""
+        special identifiers. Each side has its own names for the same person."""
         key = _matching(self.old, one), _matching(self.new, other), rights
 
         def are_alike(mask: int) -> bool:
@@ -152,7 +152,7 @@ class ListPair:
 
 
 def _matching(view: View, person: Identity) -> _Keys:
-    """Returns whom the ACEs name that match somebody who is a member of no special name."""
+    """Returns whom the ACEs name that match somebody who is a member of no special identifier."""
     keys = {(None, "EVERYONE@"), (False, person.user), *((True, group) for group in person.groups)}
     keys.update((None, who) for who, is_meant in (("OWNER@", person.user == view.owner),
                                                   ("GROUP@", view.group in person.groups)) if is_meant)
@@ -160,8 +160,8 @@ def _matching(view: View, person: Identity) -> _Keys:
 
 
 def _left(view: View, matching: _Keys, rights: int) -> NfsAcl:
-    """Returns what is left of a list if only some rights and one person count: the ACEs of special names, as groups,
-    and those that match the person, for everyone (RFC 8881, section 6.2.1)."""
+    """Returns what is left of a list if only some rights and one person count: the ACEs of special identifiers, as
+    groups, and those that match the person, for everyone (RFC 8881, section 6.2.1)."""
     names = {group: f"{name}?" for name, group in view.asked.specials}
     keys = matching | {(True, group) for group in names}
     found = sorted(one for key in keys for one in view.asked.by_who.get(key, ()))

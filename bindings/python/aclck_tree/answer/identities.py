@@ -1,4 +1,4 @@
-"""How lists name the people who are asked about: by ids in POSIX lists, and by names in NFSv4 lists.
+"""How lists name the people who are asked about: by ids in POSIX ACLs, and by names in NFSv4 lists.
 
 A person whose id is known can be meant by an NFSv4 list in other ways than by name: by the name of the account that has
 this id, and by the id in digits. Each way is asked, and an answer is known only if all ways give it.
@@ -91,7 +91,7 @@ class Identities:
         return full_name(str(number) if name is None else name, self._domain)
 
     def by_ids(self, person: Person, tree: int) -> Optional[Identity]:
-        """Returns how POSIX lists name a person, or None if an id is not known."""
+        """Returns how POSIX ACLs name a person, or None if an id is not known."""
         listed = person.groups_in(tree)
         users = self.ids(person, person.name, False, tree)
         groups = [self.ids(person, group, True, tree) for group in listed or ()]

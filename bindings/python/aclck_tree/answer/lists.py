@@ -1,8 +1,8 @@
 """Makes the lists of a snapshot ready for questions.
 
 The AUDIT and ALARM ACEs of an NFSv4 list are left out, because they decide nothing (RFC 8881, section 6.2.1.1). A
-special name that the library refuses, such as `INTERACTIVE@`, becomes a group whose members are not known. For a POSIX
-list its bridge is asked: an NFSv4 list that grants each single permission alike, with ids as names.
+special identifier that the library refuses, such as `INTERACTIVE@`, becomes a group whose members are not known. For a
+POSIX ACL its bridge is asked: an NFSv4 list that grants each single permission alike, with ids as names.
 """
 
 from __future__ import annotations
@@ -20,7 +20,7 @@ from aclck import APPEND_DATA, EXECUTE, READ_DATA, WRITE_DATA, Ace, AceFlag, Nfs
 from aclck_tree.snapshot.snapshot import StoredForm, StoredList
 
 MOST_BYTES = 1000
-"""How many bytes the special names may have that are asked about: a group that replaces one has a longer name."""
+"""How many bytes the special identifiers may have that are asked about: a group that replaces one has a longer name."""
 
 POSIX_MASKS = {4: READ_DATA, 2: WRITE_DATA | APPEND_DATA, 1: EXECUTE}
 """The rights of the bridge by permissions."""
@@ -63,8 +63,9 @@ _GROUP = int(AceFlag.IDENTIFIER_GROUP)  # `&` of two numbers is quicker
 class AskableList:
     """A list that can be asked.
 
-    `acl` is the list without AUDIT and ALARM ACEs, or the bridge of `posix`. `specials` are the special names in it,
-    each with the name of the group that replaces it. `places` are the places of its ACEs in the list as it was found.
+    `acl` is the list without AUDIT and ALARM ACEs, or the bridge of `posix`. `specials` are the special identifiers in
+    it, each with the name of the group that replaces it. `places` are the places of its ACEs in the list as it was
+    found.
     """
 
     acl: NfsAcl
@@ -75,27 +76,28 @@ class AskableList:
 
     @property
     def kind(self) -> Kind:
-        """`POSIX` for a POSIX list or a mode, and otherwise `NFS4`."""
+        """`POSIX` for a POSIX ACL or a mode, and otherwise `NFS4`."""
         return Kind.POSIX if self.posix else Kind.NFS4
 
     def ids(self) -> List[Tuple[bool, int]]:
-        """Returns the ids in a POSIX list, each once, and whether they are those of groups."""
+        """Returns the ids in a POSIX ACL, each once, and whether they are those of groups."""
         return list(dict.fromkeys((entry.tag == "group", entry.id) for entry in self.posix or ()
                                   if entry.id is not None))
 
     def others(self, groups: Sequence[str]) -> Tuple[str, ...]:
-        """Returns those of some groups that replace no special name. The list has no ACE about the rest of them."""
+        """Returns those of some groups that replace no special identifier. The list has no ACE about the rest of
+        them."""
         stand_ins = {group for _, group in self.specials}
         return tuple(group for group in groups if group not in stand_ins)
 
     def fewest_and_most(self, groups: Sequence[str]) -> Tuple[Tuple[str, ...], Tuple[str, ...]]:
-        """Returns the groups of a member of no special name, and those of a member of all special names."""
+        """Returns the groups of a member of no special identifier, and those of a member of all special identifiers."""
         others = self.others(groups)
         return others, (*others, *(group for _, group in self.specials))
 
     @functools.cached_property
     def whomever(self) -> bytes:
-        """The bytes of the list with its special names, for `NfsAcl.decide_unknown`."""
+        """The bytes of the list with its special identifiers, for `NfsAcl.decide_unknown`."""
         names = {encoded(group): encoded(name) for name, group in self.specials}
         return joined([piece._replace(who=names.get(piece.who, piece.who)) for piece in pieces(bytes(self.acl))])
 
@@ -107,7 +109,7 @@ class AskableList:
 
     @functools.cached_property
     def named(self) -> FrozenSet[Tuple[bool, str]]:
-        """The names in the list, and whether each is that of a group. A special name counts as both."""
+        """The names in the list, and whether each is that of a group. A special identifier counts as both."""
         return frozenset((piece.is_group, decoded(piece.who)) for piece in pieces(bytes(self.acl))).union(
             (is_group, name) for name, _ in self.specials for is_group in (False, True))
 
@@ -123,7 +125,7 @@ class AskableList:
         return found
 
     def lines(self) -> List[str]:
-        """Returns the text of each ACE, with the special names as they were found."""
+        """Returns the text of each ACE, with the special identifiers as they were found."""
         lines, names = str(self.acl).split("\n")[:-1], {group: name for name, group in self.specials}
         return [line[:-len(ace.who)] + names.get(ace.who, ace.who) for line, ace in zip(lines, self.acl)]
 
@@ -200,7 +202,7 @@ def asked_nfs(data: bytes) -> AskableList:
     places = tuple(place for place, piece in enumerate(found) if piece.kind not in _DECIDES_NOTHING)
     names = dict.fromkeys(piece.who for piece in special if piece.kind not in _DECIDES_NOTHING)
     ends = {piece.who.rpartition(b"?")[2] for piece in found if b"?" in piece.who}
-    suffix = b"?"  # with it, a special name is no name of the list
+    suffix = b"?"  # with it, a special identifier is no name of the list
     if b"" in ends:
         suffix = next(b"?%d" % number for number in itertools.count(2) if b"%d" % number not in ends)
     acl = NfsAcl.with_groups(data, suffix)
@@ -231,7 +233,7 @@ def nfs_bytes(stored: StoredList, domain: str) -> bytes:
 
 
 def ready(stored: StoredList, linux: bool = False, domain: str = "") -> Ready:
-    """Makes a list ready for questions. With `linux`, a POSIX list with an empty mask grants as it does on Linux. The
+    """Makes a list ready for questions. With `linux`, a POSIX ACL with an empty mask grants as it does on Linux. The
     names of accounts in an NFSv4 list get the domain."""
     if stored.kind == StoredForm.REFUSED:
         return RefusedList(decoded(stored.default or b""))

@@ -29,7 +29,7 @@ class Unmentioned(NamedTuple):
 
 
 def _wanted(asker: Asker, names: Iterable[Tuple[Person, Name]], trees: Set[int]) -> Dict[_Form, Set[Name]]:
-    """Returns some names by their forms in NFSv4 lists and in the POSIX lists of some trees."""
+    """Returns some names by their forms in NFSv4 lists and in the POSIX ACLs of some trees."""
     wanted: Dict[_Form, Set[Name]] = {}
     for person, (is_group, word) in names:
         wanted.setdefault((0, is_group, encoded(asker.full_name(word))), set()).add((is_group, word))

@@ -134,7 +134,7 @@ class ObjectsQuestion:
         return " ".join(parts + (["directories above"] if unknown & above else []))
 
     def lacks_ids(self, basis: Basis) -> bool:
-        """Whether the list of an object is a POSIX list, which has ids, and no id is known for the one person who is
+        """Whether the list of an object is a POSIX ACL, which has ids, and no id is known for the one person who is
         asked about, or for a group."""
         face = self.asker.faces[basis.face]
         is_posix = self.asker.stored[face.list].is_posix
@@ -147,7 +147,7 @@ class ObjectsQuestion:
         """Returns the line that counts the answers, and says what else was asked or was not."""
         faces = {basis.face for basis in counts}
         has_posix = any(self.asker.stored[self.asker.faces[face].list].is_posix for face in faces)
-        missing = f"; POSIX lists have no {mask_text(self.want.missing)}" if has_posix and self.want.missing else ""
+        missing = f"; POSIX ACLs have no {mask_text(self.want.missing)}" if has_posix and self.want.missing else ""
         above = "" if not counts else (root_note(self.asker) if self.is_reach else
                                        "; directories above were not asked (--reach)")
         if self.obtaining and counts and not self.is_reach:

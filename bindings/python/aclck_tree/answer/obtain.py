@@ -25,7 +25,7 @@ _STICKY = 0o1000
 _OWNERS = {True: (StoredList(StoredForm.MODE, 0o200, None, None), want_of("w")),
            False: (StoredList(StoredForm.NFS4, 0, joined([Piece(0, 0, AceType.ALLOW, 0, WRITE_ACL, b"OWNER@")]), None),
                    want_of("WRITE_ACL"))}
-"""A list that grants something to the owner alone, and what it grants: a POSIX list, and an NFSv4 list."""
+"""A list that grants something to the owner alone, and what it grants: a POSIX ACL, and an NFSv4 list."""
 
 
 @dataclass(frozen=True, eq=False)
@@ -76,7 +76,7 @@ class Rights:
         return self._roots[tree]
 
     def is_posix(self, face: Face) -> bool:
-        """Whether a list is a POSIX list or a mode."""
+        """Whether a list is a POSIX ACL or a mode."""
         return self._asker.stored[face.list].is_posix
 
     def owners(self, face: Face) -> Answers:
@@ -109,7 +109,7 @@ class Rights:
         return self.asked(directory, "ADD_SUBDIRECTORY" if is_directory else "ADD_FILE")
 
     def deleters(self, face: Face) -> Answers:
-        """Returns whom the list of an object lets remove it, if the directory has an NFSv4 list. A POSIX list has no
+        """Returns whom the list of an object lets remove it, if the directory has an NFSv4 list. A POSIX ACL has no
         such right."""
         return self._asker.nobody_granted if self.is_posix(face) else self.asked(face, "DELETE")
 

@@ -1,4 +1,4 @@
-"""What a POSIX list grants ids."""
+"""What a POSIX ACL grants ids."""
 
 from __future__ import annotations
 

@@ -127,7 +127,7 @@ def may(args: argparse.Namespace) -> int:
         elif args.all or answer is not DENIED:
             out.put({"answer": answer.value, **name.row(), "reason": reason})
     if without_ids:
-        out.note(f"unknown: {plural(without_ids, 'object')} with POSIX lists, because an id is not known")
+        out.note(f"unknown: {plural(without_ids, 'object')} with POSIX ACLs, because an id is not known")
     tally = Tally()
     for basis, count in counts.items():
         tally.add(answers[basis][0].value, count)

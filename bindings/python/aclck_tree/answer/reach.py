@@ -1,5 +1,5 @@
 """Who gets past the directories above an object: each directory from `/` down must grant EXECUTE (x). A user with the
-id 0 gets past each directory with a POSIX list or a mode, as on Linux (capabilities(7), CAP_DAC_READ_SEARCH)."""
+id 0 gets past each directory with a POSIX ACL or a mode, as on Linux (capabilities(7), CAP_DAC_READ_SEARCH)."""
 
 from __future__ import annotations
 
@@ -21,7 +21,7 @@ _SHOWN = 5
 
 _NOT_ASKED = "the directories above the root were not asked when it was scanned"
 
-AS_ROOT = "it gets past each directory with a POSIX list or a mode"
+AS_ROOT = "it gets past each directory with a POSIX ACL or a mode"
 """What is said of root."""
 
 
@@ -88,7 +88,7 @@ def _to_root(asker: Asker, tree: int) -> Answers:
 
 
 def passers(asker: Asker, face: Face) -> Answers:
-    """Returns whom a directory lets pass: also those whose ids are not known, if its POSIX list lets everybody pass."""
+    """Returns whom a directory lets pass: also those whose ids are not known, if its POSIX ACL lets everybody pass."""
     asked = asker.ready(face.list)
     if isinstance(asked, RefusedList):
         return asker.nobody_known
@@ -146,7 +146,7 @@ def _directories(asker: Asker, tree: Tree, path: bytes) -> Iterator[AboveRoot]:
 
 
 def root_note(asker: Asker) -> str:
-    """Returns that root is counted as root, if one of the people has the id 0 in a tree with POSIX lists."""
+    """Returns that root is counted as root, if one of the people has the id 0 in a tree with POSIX ACLs."""
     trees = {face.tree for face in asker.faces.values() if asker.stored[face.list].is_posix}
     trees.update(tree for tree in asker.snapshot.trees for one in asker.snapshot.above(tree) or ()
                  if one.stored and one.stored.is_posix)

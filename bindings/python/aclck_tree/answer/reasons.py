@@ -41,7 +41,7 @@ def _why_as(asker: Asker, face: Face, asked: AskableList, identity: Identity) ->
     rows = []
     for right in (1 << bit for bit in range(21) if ALL >> bit & 1):
         one = _deciding(asker, face, asked, fewest, right)
-        if possible and one != _deciding(asker, face, asked, most, right):  # the ACE of a special name comes first
+        if possible and one != _deciding(asker, face, asked, most, right):  # that of a special identifier comes first
             answer = GRANTED if possible.allowed & right else UNKNOWN if possible.unknown & right else DENIED
             rows.append(Why(mask_text(right), answer, None, f"depends on who is {names}"))
             continue
@@ -76,14 +76,14 @@ def why_posix(asker: Asker, face: Face, asked: AskableList, person: Person) -> L
 
 
 def why_request(asker: Asker, face: Face, person: Person, want: Want) -> Iterator[Why]:
-    """Yields what else decides about a request for several rights on an object with a POSIX list: rights that do not
+    """Yields what else decides about a request for several rights on an object with a POSIX ACL: rights that do not
     exist in such lists, and that no entry grants all of the permissions although each is granted by itself."""
     asked, identity = asker.ready(face.list), asker.identity(person, face, Kind.POSIX)
     if isinstance(asked, RefusedList) or not asked.posix:
         return
     for right in (1 << bit for bit in range(21)):
         if want.missing & right:
-            yield Why(mask_text(right), Answer.REFUSED, None, "a POSIX list has no such right")
+            yield Why(mask_text(right), Answer.REFUSED, None, "a POSIX ACL has no such right")
     if want.perms and identity and not check(asked.posix, face, identity, want.perms):
         if all(check(asked.posix, face, identity, bit) for bit in POSIX_MASKS if want.perms & bit):
             letters = _letters(want.perms).replace("-", "")

@@ -1,5 +1,5 @@
 """The two sides of a comparison: where an object is on each of them, the questions about it and about what is made in
-it, and who is who on the other side: owners, groups and ids in POSIX lists, whose names each host knows for itself."""
+it, and who is who on the other side: owners, groups and ids in POSIX ACLs, whose names each host knows for itself."""
 
 from __future__ import annotations
 
@@ -43,7 +43,7 @@ class Side:
         return Identity(found.user, tuple(sorted(set(found.groups)))) if found else Missing.ID
 
 
-class Place(NamedTuple):
+class ObjectOnSide(NamedTuple):
     """Where an object is: its side, its face, and its list; or the lists that it may have, if that is not known."""
 
     side: Side
@@ -73,7 +73,7 @@ class Place(NamedTuple):
         return self.views[0].group if is_group else self.views[0].owner
 
     def name(self, is_group: bool, who: str) -> str:
-        """Returns the name that people know for a who: for an id in a POSIX list, the name of the account."""
+        """Returns the name that people know for a who: for an id in a POSIX ACL, the name of the account."""
         return self.accounts().name(is_group, int(who)) if self.kind is Kind.POSIX else who
 
 
@@ -81,11 +81,11 @@ class Comparison(NamedTuple):
     """A question about an object at two times. A place is None if the object was not there. `on` says what the object
     is if it is made in the object that the output names."""
 
-    old: Optional[Place]
-    new: Optional[Place]
+    old: Optional[ObjectOnSide]
+    new: Optional[ObjectOnSide]
     on: str = ""
 
-    def places(self) -> List[Place]:
+    def places(self) -> List[ObjectOnSide]:
         """Returns the old and the new place, without one at which the object was not there."""
         return [place for place in (self.old, self.new) if place]
 
@@ -98,7 +98,7 @@ class Comparison(NamedTuple):
         return [self._replace(old=old._replace(views=(one,)), new=new._replace(views=(two,)))
                 for one, two in zip(old.views, new.views)]
 
-    def each(self, is_group: bool, who: Callable[[Place], str]) -> Tuple[IdentityOrMissing, IdentityOrMissing]:
+    def each(self, is_group: bool, who: Callable[[ObjectOnSide], str]) -> Tuple[IdentityOrMissing, IdentityOrMissing]:
         """Returns a user on each side, or a stranger in a group there. `who` names the user or the group."""
         sides: List[IdentityOrMissing] = [
             Missing.PERSON if not place else Identity(place.stranger(), (who(place),)) if is_group
@@ -106,15 +106,15 @@ class Comparison(NamedTuple):
         return sides[0], sides[1]
 
 
-def place_of(side: Side, face: Face, asked: AskableList) -> Place:
+def place_of(side: Side, face: Face, asked: AskableList) -> ObjectOnSide:
     """Returns the place of an object whose list is known."""
-    return Place(side, face, (View(asked, *side.asker.owner_and_group(face, asked.kind)),))
+    return ObjectOnSide(side, face, (View(asked, *side.asker.owner_and_group(face, asked.kind)),))
 
 
 def heirs(question: Comparison, notes: List[str]) -> Iterator[Comparison]:
     """Yields the questions about what is made in a directory."""
     try:
-        sides: List[Sequence[Optional[Place]]] = [
+        sides: List[Sequence[Optional[ObjectOnSide]]] = [
             [place._replace(views=views) for views in _heir_views(place)] if place else [None] * len(HEIRS)
             for place in (question.old, question.new)]
     except Refused as refused:
@@ -128,7 +128,7 @@ def heirs(question: Comparison, notes: List[str]) -> Iterator[Comparison]:
         yield Comparison(old, new, on)
 
 
-def _heir_views(place: Place) -> Iterator[Tuple[View, ...]]:
+def _heir_views(place: ObjectOnSide) -> Iterator[Tuple[View, ...]]:
     """Yields the lists of what strangers make in a directory. Without a default ACL the umask of the process that makes
     the object decides, so that every permission of the mode or none may be left."""
     asked = place.views[0].asked
@@ -143,7 +143,7 @@ def _heir_views(place: Place) -> Iterator[Tuple[View, ...]]:
         yield tuple(View(AskableList(acl.bridge(), acl), *names) for acl in made)
 
 
-def who_at(place: Place, other: Place, is_group: bool, who: str) -> str:
+def who_at(place: ObjectOnSide, other: ObjectOnSide, is_group: bool, who: str) -> str:
     """Returns how the list of the other side names a who, which is a stranger if the other host has no such account."""
     if place.kind is not Kind.POSIX or other is place:
         return who
@@ -188,7 +188,7 @@ def _label(is_group: bool, number: int, accounts: Accounts) -> Optional[str]:
 
 
 def renamed_ids(question: Comparison) -> List[str]:
-    """Returns the note about ids in equal POSIX lists that have other names now."""
+    """Returns the note about ids in equal POSIX ACLs that have other names now."""
     old, new = question.old, question.new
     assert old and new
     found = []

@@ -68,12 +68,12 @@ _PEOPLE: _Arguments = [
     ("--group", dict(metavar="FILE", help="groups in the form of group(5), with --passwd")),
     ("--skip-system", dict(action="store_true", help="leave out accounts with ids below UID_MIN (login.defs(5))"))]
 _DOMAIN: _Argument = ("--domain", dict(metavar="DOMAIN", help="what follows @ in the names of NFSv4 lists"))
-_LINUX: _Argument = ("--linux", dict(action="store_true", help="ask POSIX lists as Linux does where their mask is "
+_LINUX: _Argument = ("--linux", dict(action="store_true", help="ask POSIX ACLs as Linux does where their mask is "
                                      "empty"))
 _LINUX_OR_DRAFT: _Arguments = [
-    [("--linux", dict(action="store_true", help="ask POSIX lists as Linux does where their mask is empty, as is done "
+    [("--linux", dict(action="store_true", help="ask POSIX ACLs as Linux does where their mask is empty, as is done "
                       "anyway if this host was scanned")),
-     ("--draft", dict(action="store_true", help="ask POSIX lists as acl(5) says"))]]
+     ("--draft", dict(action="store_true", help="ask POSIX ACLs as acl(5) says"))]]
 _FORM: _Arguments = [
     [("--csv", dict(dest="form", action="store_const", const=Form.CSV, default=Form.TEXT,
                     help="write CSV, one line per object or answer")),

@@ -32,7 +32,7 @@ MOST_ASKED = 200_000
 
 
 MOST_STEPS = 4_000
-"""How many ACEs of special names are looked at for these requesters together: each is asked about all of them."""
+"""How many ACEs of special identifiers are looked at for these requesters together: each is asked about all of them."""
 
 
 def _most_asked(question: Comparison) -> int:
@@ -252,7 +252,7 @@ class Compared:
                     words = named(witness, before, translated, name=names)
                     changes.append(_compared("", is_more, witness.right, words))
             if is_own and not found:
-                notes.append("a group and a special name changed places")
+                notes.append("a group and a special identifier changed places")
             if of_heirs:
                 notes.append("what new objects get changes too")
         else:

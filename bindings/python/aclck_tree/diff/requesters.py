@@ -62,7 +62,7 @@ _NO_EFFECT: Effect = (0, 0, 0)
 _Part = List[Optional[Granted]]
 
 _ID_NOT_KNOWN = Granted(0, sum(POSIX_MASKS.values()))
-"""What somebody may be granted whose id is not known, which only matters for POSIX lists."""
+"""What somebody may be granted whose id is not known, which only matters for POSIX ACLs."""
 
 
 def _granted_at(place: Optional[Place], crowd: Crowd) -> Iterator[_Part]:
@@ -86,7 +86,7 @@ def _in_each(found: Sequence[Optional[Granted]]) -> Optional[Granted]:
 def _effect(question: Comparison, row: ComparedRequester, one: Granted, other: Granted,
             alike: Optional[ListPair]) -> Effect:
     """Returns what differs for a row. A right is known only if it is granted in all cases of a side or in none. Of
-    rights that depend on special names on both sides, it is asked whether they do so alike."""
+    rights that depend on special identifiers on both sides, it is asked whether they do so alike."""
     gained, lost = other.sure & ~one.maybe, one.sure & ~other.maybe
     unclear = ((one.sure ^ other.sure) | one.unknown | other.unknown) & ~gained & ~lost
     on_both = one.unknown & other.unknown

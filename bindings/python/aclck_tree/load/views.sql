@@ -35,7 +35,7 @@ SELECT f.tree, f.face, f.objects, f.first, p.person, p.name, q.rights,
        CASE WHEN l.fault IS NOT NULL THEN l.fault
             WHEN l.kind = 'nfs4' AND num_nulls(f.owner, f.owning_group, p."user", p.groups) > 0
             THEN 'a name is not text'
-            WHEN l.kind <> 'nfs4' AND q.perms IS NULL THEN 'a POSIX list has not all of these rights'
+            WHEN l.kind <> 'nfs4' AND q.perms IS NULL THEN 'a POSIX ACL has not all of these rights'
             WHEN l.kind <> 'nfs4' AND num_nulls(f.uid, f.gid, p.uid, p.gids) > 0 THEN 'no id is known' END AS reason
 FROM faces f JOIN lists l USING (list) JOIN people p USING (tree) CROSS JOIN requests q;
 

@@ -108,7 +108,7 @@ def names(writer: Writer, tree: int) -> Iterator[Account]:
     """Yields the users and the groups that this host lists; then, in the order of their ids, users of ids in the tree
     whom it knows but does not list; and then such groups, and those of all these users."""
     owners, groups = writer.seen_ids(tree)
-    users_in_lists, groups_in_lists = ids_in_lists(writer.posix_lists())
+    users_in_lists, groups_in_lists = ids_in_lists(writer.posix_acls())
     known: Set[int] = set()
     wanted = {*groups, *groups_in_lists}
     listed = list(_listed_users())
@@ -150,7 +150,7 @@ def _further_users(ids: Set[int]) -> List[pwd.struct_passwd]:
 
 
 def ids_in_lists(attributes: Iterable[Optional[bytes]]) -> Tuple[Set[int], Set[int]]:
-    """Returns the ids of the users and of the groups that the attributes of POSIX lists have."""
+    """Returns the ids of the users and of the groups that the attributes of POSIX ACLs have."""
     users: Set[int] = set()
     groups: Set[int] = set()
     for data in attributes:
@@ -166,7 +166,7 @@ def memberships(writer: Writer, tree: int) -> Iterator[Tuple[bytes, bytes]]:
     no users; and then the further users of `names` with their groups. A group whose name is that of several groups is
     written as its id."""
     owners, _ = writer.seen_ids(tree)
-    in_lists, _ = ids_in_lists(writer.posix_lists())
+    in_lists, _ = ids_in_lists(writer.posix_acls())
     ids: Dict[str, Set[int]] = {}
     for group in grp.getgrall():
         ids.setdefault(group.gr_name, set()).add(group.gr_gid)

@@ -92,7 +92,7 @@ def bound_word(is_most: bool) -> str:
 
 
 def _certain(asked: AskableList, is_most: bool) -> NfsAcl:
-    """Returns a list that grants only what a list with special names grants whoever their members are; or without
+    """Returns a list that grants only what a list with special identifiers grants whoever their members are; or without
     `is_most`, one that grants whatever it grants in some case."""
     stand_ins = {group for _, group in asked.specials}
     aces: List[Ace] = []
@@ -278,7 +278,7 @@ class Judge:
         return self._kept.lines[place]
 
     def _entry(self, view: _View, identity: Identity, where: Tuple[str, str], perm: int) -> str:
-        """Returns the entry of a POSIX list that decides about some permissions. A name that is no id is one that the
+        """Returns the entry of a POSIX ACL that decides about some permissions. A name that is no id is one that the
         library made for a stranger."""
         def number(name: str) -> int:
             found = read_id(name)
@@ -290,7 +290,7 @@ class Judge:
             f"{one.entry}, which the mask limits" if one.masked else str(one.entry)
 
     def _several(self, case: _Case) -> Optional[Breach]:
-        """Returns how a POSIX list breaks the bound of a POSIX list for several permissions at once, which one entry
+        """Returns how a POSIX ACL breaks the bound of a POSIX ACL for several permissions at once, which one entry
         must have (acl(5)). Single permissions were judged before."""
         view, mine, other = case.view, case.view.asked.posix, case.limit.posix
         if not mine or not other:

@@ -24,7 +24,7 @@ _SHOWN = 5
 
 
 class Limit(NamedTuple):
-    """The list of a bound, and the POSIX list of which it is the bridge if it is one. `without_ids` are the names that
+    """The list of a bound, and the POSIX ACL of which it is the bridge if it is one. `without_ids` are the names that
     the bound has and the list has not, because no id is known for them. `lacking` are the rights of the bound that
     lists of this kind do not have."""
 
@@ -73,11 +73,11 @@ class Limits:
         if isinstance(bound, NfsAcl):
             return Limit(bound) if kind is Kind.NFS4 else self._with_ids(bound, is_most, tree)
         if kind is Kind.NFS4:
-            return Unjudged("the rule has a POSIX list, and the object has an NFSv4 list")
+            return Unjudged("the rule has a POSIX ACL, and the object has an NFSv4 list")
         return self._of_posix(bound, tree)
 
     def _of_words(self, words: Words, is_most: bool, kind: Kind, tree: int) -> Union[Limit, Unjudged]:
-        """Makes the list that words mean. What `at_most` does not name, everybody may have. Rights that POSIX lists do
+        """Makes the list that words mean. What `at_most` does not name, everybody may have. Rights that POSIX ACLs do
         not have are left out for these, and the other words are judged."""
         lacking = words.rights & ~_OF_POSIX if kind is Kind.POSIX else 0
         if lacking == words.rights:
@@ -112,7 +112,7 @@ class Limits:
         return self._asker.id_of(name, is_group, tree)
 
     def _with_ids(self, acl: NfsAcl, is_most: bool, tree: int) -> Union[Limit, Unjudged]:
-        """Makes the list that a list with names means where lists have ids. No POSIX list grants further rights."""
+        """Makes the list that a list with names means where lists have ids. No POSIX ACL grants further rights."""
         lacking = functools.reduce(operator.or_, (ace.mask & ~_OF_POSIX for ace in acl if ace.kind == ALLOW), 0)
         users: Dict[_Name, _Name] = {}
         groups: Dict[_Name, _Name] = {}
@@ -142,8 +142,8 @@ class Limits:
 
 
 def lacks(rights: int) -> str:
-    """Returns the line about rights that POSIX lists do not have."""
-    return f"a POSIX list has no {mask_text(rights)}"
+    """Returns the line about rights that POSIX ACLs do not have."""
+    return f"a POSIX ACL has no {mask_text(rights)}"
 
 
 def no_ids(given: Iterable[str]) -> str:

@@ -70,7 +70,7 @@ class Words:
 
 @dataclass(frozen=True)
 class PosixBound:
-    """The text of a POSIX list, and the names of users and groups in it."""
+    """The text of a POSIX ACL, and the names of users and groups in it."""
 
     text: str
     users: FrozenSet[str]
@@ -298,7 +298,7 @@ def _list(text: Any) -> Bound:
 
 
 def _names(text: str, word: str) -> Iterator[str]:
-    """Yields the names of users or of groups in the text of a POSIX list."""
+    """Yields the names of users or of groups in the text of a POSIX ACL."""
     for line in text.split("\n"):
         for entry in line.partition("#")[0].split(","):
             fields = [field.strip(" \t") for field in entry.split(":")]

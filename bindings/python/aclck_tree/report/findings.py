@@ -78,7 +78,7 @@ def _kinds() -> List[Finding]:
         Finding("children", "folders that pass on something else",
                 "New folders or new files in {} get other access than the folder itself.",
                 "The list of a new directory or of a new file in these directories grants something else.", True),
-        Finding("special", "special names", "The lists of {} have special names.",
+        Finding("special", "special identifiers", "The lists of {} have special identifiers.",
                 "Some answers depend on whom the server takes for these."),
         Finding("idle", "entries that change nothing", "The lists of {} have entries or rights that change nothing.",
                 "Without all that is named here the list grants everybody the same. What new files and folders in a "
@@ -162,7 +162,7 @@ def _of_list(asker: Asker, number: int, asked: AskableList, is_directory: bool) 
 
 def _only_sets(asked: AskableList) -> str:
     """Returns in words whom an NFSv4 list lets change it but not read the object, or nothing if there is nobody. POSIX
-    lists have no right to change them."""
+    ACLs have no right to change them."""
     found = None if asked.posix else asked.acl.implies(WRITE_ACL, READ_DATA)
     return f"{named(found, asked)} may {mask_text(WRITE_ACL)} but not {mask_text(found.right)}" if found else ""
 
@@ -179,7 +179,7 @@ def _granted_numbers(aces: Sequence[Ace]) -> List[Tuple[bool, str]]:
 
 def _child(asked: AskableList) -> str:
     """Returns in words how the lists of a new directory and of a new file differ, or nothing if they grant the same.
-    For a POSIX list without a default part, the mode and the umask of the process that makes the object decide."""
+    For a POSIX ACL without a default part, the mode and the umask of the process that makes the object decide."""
     if asked.posix:
         default = [line[8:] for line in str(asked.posix).splitlines() if line.startswith("default:")]
         access = [line for line in str(asked.posix).splitlines() if not line.startswith("default:")]

@@ -106,7 +106,7 @@ def _summary(report: Report) -> Iterator[str]:
     yield ("Nobody has access below a folder that does not let them pass. " if report.is_reach else
            "It does not ask whether somebody gets past the folders above an object. ")
     if report.is_reach and root_note(report.asker):
-        yield "Root gets past every folder with a POSIX list or a mode. "
+        yield "Root gets past every folder with a POSIX ACL or a mode. "
     yield "What a server grants beyond a list, as to root, is not counted.</p>\n"
     for tree in report.snapshot.trees.values():
         where = tree.words()
@@ -132,7 +132,7 @@ def _findings(report: Report) -> Iterator[str]:
     unsure = report.unsure
     if unsure.folders + unsure.files:
         yield f"<p class=warning>It is not known who else could change {_objects(unsure.folders, unsure.files)}: that "
-        yield "depends on a folder above the tree, on a special name, or on an id that is not known.</p>\n"
+        yield "depends on a folder above the tree, on a special identifier, or on an id that is not known.</p>\n"
 
 
 def _finding(report: Report, finding: Finding, places: List[Places]) -> Iterator[str]:
@@ -195,8 +195,8 @@ def _table_head(report: Report, heads: List[Tuple[str, str]]) -> Iterator[str]:
     yield "the rows under it: these are the exceptions. People whose access is equal in all rows share a column. A "
     yield "cell says <b>all</b> for every right (of a file: except to run it), <b>write</b> for reading and writing or "
     yield "appending, <b>write only</b>, <b>read</b>, <b>–</b> for none of these, and <b>?</b> where the answer "
-    yield "depends on whom the server takes for a special name, or on an id that is not known. <b>own:</b> says what a "
-    yield "person has on those objects of the row that he or she owns, if that is something else.</p>\n"
+    yield "depends on whom the server takes for a special identifier, or on an id that is not known. <b>own:</b> says "
+    yield "what a person has on those objects of the row that he or she owns, if that is something else.</p>\n"
     yield "<p id=tools hidden><label>Show rows with <input id=search type=search placeholder='part of a path'></label> "
     yield "<label>where <select id=person><option value=''>anybody</option>"
     for place, (head, _) in enumerate(heads):

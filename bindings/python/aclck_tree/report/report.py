@@ -218,8 +218,8 @@ class Report:
         return self._levels[key]
 
     def _levels_of(self, face: Face, asked: AskableList, is_folder: bool) -> bytes:
-        """Returns the levels of the people: unknown where they depend on the members of special names, and for a person
-        whose id is not known."""
+        """Returns the levels of the people: unknown where they depend on the members of special identifiers, and for a
+        person whose id is not known."""
         if asked.specials:
             return self._levels_whomever(face, asked, is_folder)
         masks = self.asker.masks(face, asked)
@@ -228,7 +228,7 @@ class Report:
         return bytes(map(levels.__getitem__, masks))
 
     def _levels_whomever(self, face: Face, asked: AskableList, is_folder: bool) -> bytes:
-        """Returns the same for a list with special names, by the three questions that make a level."""
+        """Returns the same for a list with special identifiers, by the three questions that make a level."""
         wanted = (Want("", mask, 0, 0, any_of) for mask, any_of in questions_of(asked.kind, is_folder))
         found = [answers for answers in (self.asker.answers(face, want) for want in wanted)
                  if isinstance(answers, Answers)]
@@ -255,7 +255,7 @@ class Report:
 
     def id_of(self, person: Person) -> str:
         """Returns the ids of a person on the scanned systems, or the names if the person was named by an id. Returns
-        nothing if no list is a POSIX list, because other lists have names."""
+        nothing if no list is a POSIX ACL, because other lists have names."""
         if not self._has_posix:
             return ""
         found = []

@@ -191,7 +191,7 @@ class _Gathered:
         return dict(self._db.execute("SELECT name, value FROM headers WHERE number = ?", (number,)))
 
     def texts(self) -> Iterator[bytes]:
-        """Yields all texts of POSIX lists."""
+        """Yields all texts of POSIX ACLs."""
         query = "SELECT value FROM headers WHERE name IN ('SCHILY.acl.access', 'SCHILY.acl.default') ORDER BY number"
         return (row[0] for row in self._db.execute(query))
 

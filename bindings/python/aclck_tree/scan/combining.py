@@ -228,7 +228,7 @@ class _PortionAccounts:
 
 def _seen(source: Source) -> Set[Tuple[bool, int]]:
     """Returns the ids of a portion, and whether they are those of groups: its scan asked for the names of these."""
-    users, groups = ids_in_lists(source.snapshot.posix_lists())
+    users, groups = ids_in_lists(source.snapshot.posix_acls())
     for face in source.snapshot.faces().values():
         if face.tree == source.tree.tree:
             users.add(face.uid)

@@ -1,4 +1,4 @@
-"""Reads the lists that pax headers of an archive have: texts of POSIX lists (of star, GNU tar and bsdtar), the text of
+"""Reads the lists that pax headers of an archive have: texts of POSIX ACLs (of star, GNU tar and bsdtar), the text of
 an NFSv4 list (of bsdtar), and attributes."""
 
 from __future__ import annotations
@@ -35,7 +35,7 @@ def read_headers(headers: Mapping[str, bytes], is_directory: bool, mode: int, ac
     """Returns the list of a member. An NFSv4 list counts first, as for a file."""
     if _ACE in headers:
         if _ACCESS in headers or _DEFAULT in headers:  # programs restore one or the other
-            return refused_value(_ACE, headers[_ACE], "the member also has the text of a POSIX list")
+            return refused_value(_ACE, headers[_ACE], "the member also has the text of a POSIX ACL")
         return _read_ace(headers[_ACE], accounts)
     for attribute in ATTRIBUTES:
         if XATTR + attribute in headers:
@@ -45,7 +45,7 @@ def read_headers(headers: Mapping[str, bytes], is_directory: bool, mode: int, ac
 
 def another(names: AbstractSet[str]) -> Optional[str]:
     """Returns an attribute with another list than the one that `read_headers` returns for headers of these names, or
-    None. Archives have a POSIX list as a text, as an attribute, or as both."""
+    None. Archives have a POSIX ACL as a text, as an attribute, or as both."""
     held = {name[len(XATTR):] for name in names if name.startswith(XATTR)}
     if _ACE in names:
         return another_attribute(held, _ACE)
@@ -84,7 +84,7 @@ def _read_posix(headers: Mapping[str, bytes], is_directory: bool, mode: int, acc
 
 
 def _other_attribute(headers: Mapping[str, bytes], values: Sequence[Optional[bytes]]) -> Optional[str]:
-    """Returns the first attribute of a POSIX list whose value is not the one that a text says."""
+    """Returns the first attribute of a POSIX ACL whose value is not the one that a text says."""
     return next((name for name, value in zip(POSIX, values) if headers.get(XATTR + name, value) != value), None)
 
 
@@ -120,7 +120,7 @@ class IdLookup(Protocol):
 
 
 def accounts_in(text: bytes, accounts: IdLookup) -> Iterator[Tuple[str, int, bool]]:
-    """Yields the accounts whose names a text of a POSIX list has: the name, the id, and whether it is a group."""
+    """Yields the accounts whose names a text of a POSIX ACL has: the name, the id, and whether it is a group."""
     for is_group, name in sorted({key for key, _ in _names_in(text)}):
         number = accounts.number_of(is_group, name)
         if number is not None:
@@ -128,14 +128,14 @@ def accounts_in(text: bytes, accounts: IdLookup) -> Iterator[Tuple[str, int, boo
 
 
 def names_with_ids(text: bytes) -> Iterator[Tuple[bool, int, bytes]]:
-    """Yields the names for which a text of a POSIX list has an id: whether it is a group, the id, and the name."""
+    """Yields the names for which a text of a POSIX ACL has an id: whether it is a group, the id, and the name."""
     for (is_group, name), last in _names_in(text):
         if _DIGITS.fullmatch(last) and len(last.lstrip(b"0")) <= 10 and int(last) <= HIGHEST_ID:
             yield is_group, int(last), name
 
 
 def _names_in(text: bytes) -> Iterator[Tuple[Tuple[bool, bytes], bytes]]:
-    """Yields the names of a text of a POSIX list, each with whether it is a group and with the field behind its
+    """Yields the names of a text of a POSIX ACL, each with whether it is a group and with the field behind its
     permissions, or with no bytes. Whether the text is right is for the library to say."""
     for data in _named_in(text):
         if not _DIGITS.fullmatch(data[1]):
@@ -143,7 +143,7 @@ def _names_in(text: bytes) -> Iterator[Tuple[Tuple[bool, bytes], bytes]]:
 
 
 def _named_in(text: bytes) -> Iterator[List[bytes]]:
-    """Yields the fields of each entry for a user or a group of a text of a POSIX list."""
+    """Yields the fields of each entry for a user or a group of a text of a POSIX ACL."""
     for data in _entries(text):
         if data[0] in _PREFIXES:
             del data[0]

@@ -38,7 +38,7 @@ _OF_A_MOUNT = ATTRIBUTES[:2]
 """Those in which an NFSv4 mount shows one list."""
 
 POSIX = ("system.posix_acl_access", "system.posix_acl_default")
-"""The attributes with POSIX lists."""
+"""The attributes with POSIX ACLs."""
 
 _WITH_LISTS = LISTS.union(ATTRIBUTES, POSIX)
 
@@ -337,7 +337,7 @@ class Reader:
 
 def another_attribute(names: AbstractSet[str], read: Optional[str]) -> Optional[str]:
     """Returns an attribute of an object with another list than the one that is read, or None. `names` are those of its
-    attributes, and `read` is the one that is read, or None if that is a POSIX list or the mode."""
+    attributes, and `read` is the one that is read, or None if that is a POSIX ACL or the mode."""
     own = POSIX if read is None else _OF_A_MOUNT if read in _OF_A_MOUNT else (read,)
     return min(_WITH_LISTS.intersection(names).difference(own), default=None)
 

@@ -20,13 +20,14 @@ FORMS = {"system.nfs4_dacl": ListForm.NFS_ACL41, "security.nfs4acl_xdr": ListFor
 
 _SPECIAL = {4: b"INTERACTIVE@", 5: b"NETWORK@", 6: b"DIALUP@", 7: b"BATCH@", 8: b"ANONYMOUS@", 9: b"AUTHENTICATED@",
             10: b"SERVICE@"}
-"""The special names that the library refuses (RFC 8881, section 6.2.1.5), by their numbers in Samba's attribute."""
+"""The special identifiers that the library refuses (RFC 8881, section 6.2.1.5), by their numbers in Samba's
+attribute."""
 
 _ID = re.compile(rb"0|[1-9][0-9]{0,9}")
 _EVERYONE = 3
 _FLAGS = 4  # bytes
 _IDS = struct.Struct(">IIIII")
-"""An ACE of Samba's attribute: its type, its flags, 1 for a special name, its mask, and its number or id."""
+"""An ACE of Samba's attribute: its type, its flags, 1 for a special identifier, its mask, and its number or id."""
 
 
 def read_value(attribute: str, value: bytes, accounts: System) -> StoredList:
@@ -52,7 +53,8 @@ def refused_value(attribute: str, value: bytes, reason: str) -> StoredList:
 
 def _read(value: bytes, form: ListForm) -> Tuple[bytes, ListFlag]:
     """Returns the bytes of the list that a value spells, and the flags of the list. The list may have what the library
-    refuses and `ready` takes: AUDIT and ALARM ACEs, and special names. Raises Refused, with the offset in the value."""
+    refuses and `ready` takes: AUDIT and ALARM ACEs, and special identifiers. Raises Refused, with the offset in the
+    value."""
     try:
         acl, flags = NfsAcl.from_form(value, form)
         return bytes(acl), flags
@@ -82,7 +84,7 @@ class _Hidden(NamedTuple):
 
 def _with_ids(value: bytes) -> bytes:
     """Returns the list of a value with ids. The library judges the value with ALLOW in place of AUDIT and ALARM, and
-    with EVERYONE@ in place of special names: so all else is judged, at its own place."""
+    with EVERYONE@ in place of special identifiers: so all else is judged, at its own place."""
     data = bytearray(value)
     hidden: Dict[int, _Hidden] = {}
     for place, at in enumerate(range(2 * _FLAGS, len(value) - _IDS.size + 1, _IDS.size)):

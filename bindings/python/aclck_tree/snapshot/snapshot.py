@@ -95,7 +95,7 @@ class Tree:
 
 
 class StoredForm(str, enum.Enum):
-    """How a list was found: as an NFSv4 list, as one whose ids the scan named, as POSIX lists, as a mode alone, or as a
+    """How a list was found: as an NFSv4 list, as one whose ids the scan named, as POSIX ACLs, as a mode alone, or as a
     value that the scan refused. A form equals its word."""
 
     NFS4 = "nfs4"
@@ -121,7 +121,7 @@ class StoredList:
 
     @property
     def is_posix(self) -> bool:
-        """Whether it is a POSIX list or a mode."""
+        """Whether it is a POSIX ACL or a mode."""
         return self.kind in (StoredForm.POSIX, StoredForm.MODE)
 
     @functools.cached_property
@@ -250,8 +250,8 @@ class Snapshot:
         """Returns all lists by their numbers."""
         return {row[0]: StoredList(StoredForm(row[1]), *row[2:]) for row in self._rows("SELECT * FROM lists")}
 
-    def posix_lists(self) -> Iterator[Optional[bytes]]:
-        """Yields the attributes of all POSIX lists, also of directories above the roots of trees."""
+    def posix_acls(self) -> Iterator[Optional[bytes]]:
+        """Yields the attributes of all POSIX ACLs, also of directories above the roots of trees."""
         for row in self._rows("SELECT access, dflt FROM lists WHERE kind = 'posix'"):
             yield from row
         for one in itertools.chain.from_iterable(self._above.values()):
@@ -281,7 +281,7 @@ class Snapshot:
         return found
 
     def is_posix(self, number: int) -> bool:
-        """Whether a list is a POSIX list or a mode."""
+        """Whether a list is a POSIX ACL or a mode."""
         rows = self._rows("SELECT kind IN ('posix', 'mode') FROM lists WHERE list = ?", (number,))
         return bool(next(rows)[0])
 

@@ -142,8 +142,8 @@ class Writer:
         """Returns a table, and with it that of the directories above the roots of trees if there is one."""
         return [table, "above"] if self._version >= ABOVE else [table]
 
-    def posix_lists(self) -> Iterator[Optional[bytes]]:
-        """Yields the attributes of all POSIX lists."""
+    def posix_acls(self) -> Iterator[Optional[bytes]]:
+        """Yields the attributes of all POSIX ACLs."""
         for table in self._with_lists("lists"):
             for row in self._db.execute(f"SELECT access, dflt FROM {table} WHERE kind = 'posix'"):
                 yield from row

@@ -5,7 +5,7 @@ use Rattle.acl_nfs4.specs.Limits.{most_aces, most_weight}
 use Rattle.acl_nfs4.specs.Who.{is_unknown_special}
 use Rattle.acl_nfs4.specs.internal.Reading.{Place}
 use Rattle.acl_forms.specs.Part.{IsPartWith, PlacedAce, kept, left_out}
-use Rattle.acl_forms.specs.PartWords.{AceReader, ace_by_name, ace_by_number, special_name}
+use Rattle.acl_forms.specs.PartWords.{AceReader, ace_by_name, ace_by_number, special_identifier}
 use Rattle.acl_forms.specs.ReadFaults.{no_memory_left}
 use Rattle.acl_forms.specs.declared.fault.ReadFault.{ReadFault}
 use Rattle.acl_forms.specs.declared.part.Part.{Part}
@@ -22,7 +22,7 @@ use Rattle.acl_forms.specs.internal.NfsReading.{entry_name}
 abbrev pub any_name : AnyWho → List ℕ
 any_name (Name name) = name.now
 any_name (Known whom) = whom_name whom
-any_name (Special n) = special_name n
+any_name (Special n) = special_identifier n
 
 -- the ACE of an `AnyAceRef`
 abbrev pub any_ace_of : AnyAceRef → AnyAce
@@ -33,7 +33,7 @@ any_ace_of a =
 abbrev pub HasAnyName : AnyWho → Type 0
 HasAnyName (Name name) = IsAnyWho name.now
 HasAnyName (Known whom) = Unit {0}
-HasAnyName (Special n) = is_unknown_special (special_name n) ≡ true
+HasAnyName (Special n) = is_unknown_special (special_identifier n) ≡ true
 
 -- the ACE of an `AnyEntry`
 abbrev pub any_entry : AnyEntry → AnyAce

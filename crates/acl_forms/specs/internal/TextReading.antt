@@ -14,7 +14,7 @@ use Rattle.acl_forms.specs.declared.fault.ReadFault.{ReadFault}
 use Rattle.acl_forms.specs.declared.fault.ReadReason.TheVariants.{Empty, Nul}
 use Rattle.acl_forms.specs.declared.ace_text.AceText.{AceText}
 use Rattle.acl_forms.specs.declared.ace_text.AceText.TheVariants.{Nfs, Tools}
-use Rattle.acl_forms.specs.declared.tools.entry.EntryFields.{EntryFields}
+use Rattle.acl_forms.specs.declared.tools.entry.AceFields.{AceFields}
 -- the columns of what is left, if something is, are counts
 pub use Rattle.acl_posix.specs.internal.Reading.{RestFits}
 
@@ -89,7 +89,7 @@ JudgesComment (Ok _) fault = fault ≡ None
 JudgesComment (Err e) fault = fault ≡ Some e
 
 -- the fields of an entry as code holds them, without their places in memory
-abbrev pub fields_viewed : EntryFields → Fields
+abbrev pub fields_viewed : AceFields → Fields
 fields_viewed fields = record {
   kind = span_of fields.kind;
   flags = span_of fields.flags;
@@ -98,7 +98,7 @@ fields_viewed fields = record {
 }
 
 -- the columns of the fields are counts
-pub record EntryFieldsFit (fields : EntryFields) : Type 0 where
+pub record AceFieldsFit (fields : AceFields) : Type 0 where
   pub kind : ColumnsFit fields.kind
   pub flags : ColumnsFit fields.flags
   pub who : ColumnsFit fields.who

@@ -20,7 +20,7 @@ use crate::nfs_text::id::is_odd_number;
 use crate::style::{LetterStyle, Style};
 use crate::tools::writer::has_separator;
 use crate::writing::{
-    AceTextForm, GREATEST_KEPT_ID, Line, RETENTION, add, add_styled, put_entries, shares_flag,
+    AceTextForm, EntryLine, GREATEST_KEPT_ID, RETENTION, add, add_styled, put_entries, shares_flag,
     shares_right,
 };
 use acl_nfs4::internal::{EVERYONE_NAME, GROUP_NAME, OWNER_NAME};
@@ -127,7 +127,7 @@ fn has_id_cut(who: &[u8]) -> bool
 }
 
 #[tactic(auto, unfolding(crate::specs::NfsWritten::nfs_entry_text))]
-pub(crate) fn add_entry(line: &mut Line, item: AceRef<'_>, letters: LetterStyle)
+pub(crate) fn add_entry(line: &mut EntryLine, item: AceRef<'_>, letters: LetterStyle)
     requires room { array_vec_len line.old ≤ 1 }
     requires short { length item.who.now ≤ longest_who }
     ensures text { line.new.items ≡ line.old.items ++ nfs_entry_text letters (ace item.entry) }
@@ -143,7 +143,7 @@ pub(crate) fn add_entry(line: &mut Line, item: AceRef<'_>, letters: LetterStyle)
     add_id(line, item.who);
 }
 
-fn add_principal(line: &mut Line, item: AceRef<'_>)
+fn add_principal(line: &mut EntryLine, item: AceRef<'_>)
     requires room { array_vec_len line.old ≤ 1 }
     requires short { length item.who.now ≤ longest_who }
     ensures text { line.new.items
@@ -161,7 +161,7 @@ fn add_principal(line: &mut Line, item: AceRef<'_>)
     }
 }
 
-fn add_id(line: &mut Line, who: &[u8])
+fn add_id(line: &mut EntryLine, who: &[u8])
     requires { array_vec_len line.old + id_room ≤ text_line_room }
     ensures text { line.new.items ≡ line.old.items ++ id_after who.now (id_of_digits who.now) }
     ensures len { array_vec_len line.new ≤ array_vec_len line.old + id_room }

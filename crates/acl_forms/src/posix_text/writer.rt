@@ -22,7 +22,7 @@ use crate::form_write::FormWriteFault;
 use crate::posix_text::names::IdNames;
 use crate::posix_text::style::TarStyle;
 use crate::tools::writer::is_separator;
-use crate::writing::{GREATEST_KEPT_ID, Line, add};
+use crate::writing::{EntryLine, GREATEST_KEPT_ID, add};
 use acl_perm::internal::{put_next, trimmed};
 use acl_perm::{Perm, Sink, WriteFault};
 use acl_posix::internal::letter;
@@ -198,7 +198,7 @@ fn put_pass<K: Sink>(
 }
 
 // Fills the buffer with the piece of an entry, or with nothing if the pass leaves the entry out.
-fn fill(line: &mut Line, entry: Entry, names: &IdNames, style: TarStyle, pass: Pass)
+fn fill(line: &mut EntryLine, entry: Entry, names: &IdNames, style: TarStyle, pass: Pass)
     requires { IsShortName (tag_name names.now (tag_of entry.tag)) }
     ensures text { line.new.items ≡ piece_if names.now style (chosen pass) (pair_of entry) }
     ensures short { array_vec_len line.new ≤ text_line_room }
@@ -221,7 +221,7 @@ fn is_chosen(pass: Pass, tag: Tag) -> bool
 }
 
 #[tactic(auto, unfolding(crate::specs::PosixWritten::posix_piece))]
-fn add_piece(line: &mut Line, entry: Entry, names: &IdNames, style: TarStyle)
+fn add_piece(line: &mut EntryLine, entry: Entry, names: &IdNames, style: TarStyle)
     requires empty { line.old.items ≡ [] }
     requires short { IsShortName (tag_name names.now (tag_of entry.tag)) }
     ensures text { line.new.items ≡ posix_piece names.now style (pair_of entry) }
@@ -252,7 +252,7 @@ fn comma_before(tag: Tag) -> &'static [u8]
 }
 
 // Adds the word, the qualifier and the permissions of an entry.
-fn add_fields(line: &mut Line, entry: Entry, name: Option<&[u8]>)
+fn add_fields(line: &mut EntryLine, entry: Entry, name: Option<&[u8]>)
     requires room { array_vec_len line.old ≤ 1 }
     requires short { IsShortName (option_map (λ name. name.now) name) }
     ensures text { line.new.items ≡ line.old.items ++ three_fields (pair_of entry)
@@ -270,7 +270,7 @@ fn add_fields(line: &mut Line, entry: Entry, name: Option<&[u8]>)
 }
 
 // Adds the id after the permissions, if the qualifier is a name.
-fn add_id(line: &mut Line, tag: Tag, name: Option<&[u8]>)
+fn add_id(line: &mut EntryLine, tag: Tag, name: Option<&[u8]>)
     requires room { array_vec_len line.old + id_room ≤ text_line_room }
     ensures text { line.new.items ≡ line.old.items ++ id_field (tag_of tag)
         (option_map (λ name. name.now) name.entry) }
@@ -286,7 +286,7 @@ fn add_id(line: &mut Line, tag: Tag, name: Option<&[u8]>)
 }
 
 // Adds the decimal id of a tag, if it has one.
-fn add_number(line: &mut Line, tag: Tag)
+fn add_number(line: &mut EntryLine, tag: Tag)
     requires room { array_vec_len line.old + most_digits ≤ text_line_room }
     ensures text { line.new.items ≡ line.old.items ++ qualifier_text (tag_of tag) }
     ensures len { array_vec_len line.new ≤ array_vec_len line.old + most_digits }
@@ -301,7 +301,7 @@ fn add_number(line: &mut Line, tag: Tag)
 }
 
 // Adds the three letters of permissions.
-fn add_perm(line: &mut Line, perm: Perm)
+fn add_perm(line: &mut EntryLine, perm: Perm)
     requires room { array_vec_len line.old + perm_letters ≤ text_line_room }
     ensures text { line.new.items ≡ line.old.items ++ perm_text perm.bits }
     ensures len { array_vec_len line.new ≤ array_vec_len line.old + perm_letters }

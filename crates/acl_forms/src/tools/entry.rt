@@ -6,7 +6,7 @@ ghost use Rattle.acl_nfs4.specs.Limits.{most_aces, most_weight};
 ghost use Rattle.acl_nfs4.specs.internal.Reading.{Gives};
 ghost use Rattle.acl_forms.specs.Letters.{flag_letters, right_letters, set_of_letters};
 ghost use Rattle.acl_forms.specs.PartTexts.{tools_any_ace, tools_any_entry};
-ghost use Rattle.acl_forms.specs.internal.TextReading.{AddsOne, fields_viewed, EntryFieldsFit};
+ghost use Rattle.acl_forms.specs.internal.TextReading.{AddsOne, fields_viewed, AceFieldsFit};
 ghost use Rattle.acl_forms.specs.ToolsText.{tools_ace, entry_fields_of, fields_read, kind_at, kind_read, refused_at, tools_entry, type_read, with_group_flag};
 ghost use Rattle.acl_forms.specs.internal.AnyAces.{IsWithinLimits, any_ace_of, any_entry};
 ghost use Rattle.acl_forms.specs.declared.fault.ReadReason.TheVariants as reasons;
@@ -22,7 +22,7 @@ use acl_nfs4::{AceRef, Acl, Flags, Kind, MOST_ACES, Mask, PushFault, Reason};
 use acl_perm::internal::Piece;
 
 #[derive(Clone, Copy)]
-pub(crate) struct EntryFields<'a> {
+pub(crate) struct AceFields<'a> {
     pub kind: Piece<'a>,
     pub flags: Piece<'a>,
     pub who: Piece<'a>,
@@ -68,10 +68,10 @@ pub(crate) fn any_tools_ace(
 
 // Returns the fields of an entry, if a list of this many ACEs can take one more.
 #[inline(always)]
-fn fields_read(entry: Piece<'_>, count: usize) -> Result<EntryFields<'_>, ReadFault>
+fn fields_read(entry: Piece<'_>, count: usize) -> Result<AceFields<'_>, ReadFault>
     requires { ColumnsFit entry }
     ensures exact { Gives fields_viewed result (fields_read count (span_of entry.entry)) }
-    ensures fits { IfOk result EntryFieldsFit }
+    ensures fits { IfOk result AceFieldsFit }
     ensures room { IfOk result (λ _. count < most_aces) }
 {
     let Some(fields) = fields_of(entry) else {
@@ -85,8 +85,8 @@ fn fields_read(entry: Piece<'_>, count: usize) -> Result<EntryFields<'_>, ReadFa
 
 // Returns the ACE of the fields of an entry, which the list may still refuse.
 #[tactic(auto, unfolding(crate::specs::ToolsText::tools_ace))]
-fn ace_of(fields: EntryFields<'_>, object: ObjectKind) -> Result<AceRef<'_>, ReadFault>
-    requires { EntryFieldsFit fields }
+fn ace_of(fields: AceFields<'_>, object: ObjectKind) -> Result<AceRef<'_>, ReadFault>
+    requires { AceFieldsFit fields }
     ensures { Gives ace result (tools_ace object (fields_viewed fields.entry)) }
 {
     let kind = kind_at(fields.kind)?;
@@ -103,8 +103,8 @@ fn ace_of(fields: EntryFields<'_>, object: ObjectKind) -> Result<AceRef<'_>, Rea
 
 // Returns the ACE of any type of the fields of an entry, whose who is not judged yet.
 #[tactic(auto, unfolding(crate::specs::PartTexts::tools_any_ace))]
-fn any_ace_of(fields: EntryFields<'_>, object: ObjectKind) -> Result<AnyEntry<'_>, ReadFault>
-    requires { EntryFieldsFit fields }
+fn any_ace_of(fields: AceFields<'_>, object: ObjectKind) -> Result<AnyEntry<'_>, ReadFault>
+    requires { AceFieldsFit fields }
     ensures { Gives any_entry result (tools_any_ace object (fields_viewed fields.entry)) }
 {
     let type_number = type_at(fields.kind)?;
@@ -122,10 +122,10 @@ fn any_ace_of(fields: EntryFields<'_>, object: ObjectKind) -> Result<AnyEntry<'_
 // Returns the fields of an entry, if there are four.
 #[inline(always)]
 #[tactic(auto, unfolding(crate::specs::ToolsText::entry_fields_of))]
-fn fields_of(entry: Piece<'_>) -> Option<EntryFields<'_>>
+fn fields_of(entry: Piece<'_>) -> Option<AceFields<'_>>
     requires { ColumnsFit entry }
     ensures value { option_map fields_viewed result ≡ entry_fields_of (span_of entry.entry) }
-    ensures fits { IfSome result EntryFieldsFit }
+    ensures fits { IfSome result AceFieldsFit }
 {
     let (kind, Some(rest)) = entry.cut(b':') else {
         return None;
@@ -139,7 +139,7 @@ fn fields_of(entry: Piece<'_>) -> Option<EntryFields<'_>>
     let (rights, after) = rest.cut(b':');
     match after {
         Some(_) => None,
-        None => Some(EntryFields {
+        None => Some(AceFields {
             kind,
             flags,
             who,

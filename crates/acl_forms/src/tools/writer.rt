@@ -14,7 +14,7 @@ use crate::letters::{FLAG_LETTERS, single_letters};
 use crate::object::ObjectKind;
 use crate::tools::entry::with_group;
 use crate::writing::{
-    AceTextForm, Line, RETENTION, add, add_letters, put_entries, shares_flag, shares_right,
+    AceTextForm, EntryLine, RETENTION, add, add_letters, put_entries, shares_flag, shares_right,
 };
 use acl_nfs4::{AceRef, Aces, AclView, Flags, Kind, Mask};
 use acl_perm::Sink;
@@ -147,7 +147,7 @@ pub(crate) fn is_separator(b: u8) -> bool
     b == b',' || b == b':' || b == b'#'
 }
 
-fn fill(line: &mut Line, item: AceRef<'_>)
+fn fill(line: &mut EntryLine, item: AceRef<'_>)
     requires { length item.who.now ≤ longest_who }
     ensures text { line.new.items ≡ tools_line (ace item.entry) }
     ensures short { array_vec_len line.new ≤ text_line_room }
@@ -158,7 +158,7 @@ fn fill(line: &mut Line, item: AceRef<'_>)
 }
 
 #[tactic(auto, unfolding(crate::specs::ToolsWritten::tools_entry_text))]
-pub(crate) fn add_entry(line: &mut Line, item: AceRef<'_>)
+pub(crate) fn add_entry(line: &mut EntryLine, item: AceRef<'_>)
     requires room { array_vec_len line.old ≤ 1 }
     requires short { length item.who.now ≤ longest_who }
     ensures text { line.new.items ≡ line.old.items ++ tools_entry_text (ace item.entry) }

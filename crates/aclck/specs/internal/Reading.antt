@@ -20,7 +20,7 @@ use Rattle.aclck.specs.declared.answer.RunFault.{RunFault}
 use Rattle.aclck.specs.declared.answer.RunFault.TheVariants as fault
 use Rattle.aclck.specs.declared.input.xdr.ListFault.{ListFault}
 use Rattle.aclck.specs.declared.input.xdr.ListFault.TheVariants as unread
-use Rattle.aclck.specs.declared.input.xdr.TwoLists.{TwoLists}
+use Rattle.aclck.specs.declared.input.xdr.TwoInputs.{TwoInputs}
 
 -- ---- faults
 
@@ -87,7 +87,7 @@ abbrev pub one_list_input : Profile → InputKind
 one_list_input p = record { HasFault = IsXdrFault p; EndsAt = ListEnds p; MayGoOn = IsOpen p }
 
 -- a text spells the two lists that the program holds, and nothing more
-abbrev pub SpellsTwo : Profile → TwoLists → List ℕ → Type 0
+abbrev pub SpellsTwo : Profile → TwoInputs → List ℕ → Type 0
 SpellsTwo p two = AreTwo p two.first two.second
 
 -- two lists

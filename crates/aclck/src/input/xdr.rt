@@ -70,7 +70,7 @@ pub(crate) fn read_list<S: Source>(
 
 /// The lists of an input that spells two, one after the other.
 #[derive(Drop)]
-pub(crate) struct TwoLists {
+pub(crate) struct TwoInputs {
     pub(crate) first: Acl,
     pub(crate) second: Acl,
 }
@@ -81,7 +81,7 @@ pub(crate) fn read_two<S: Source>(
     alloc: Global,
     source: &mut S,
     profile: Profile,
-) -> Result<TwoLists, RunFault>
+) -> Result<TwoInputs, RunFault>
     ensures { ReadsInput (two_list_input (profile_of profile))
         (SpellsTwo (profile_of profile)) (S.remaining source.old) (S.remaining source.new)
         (S.failure_count source.old) (S.failure_count source.new) result }
@@ -91,7 +91,7 @@ pub(crate) fn read_two<S: Source>(
     match read_value(alloc, source, &mut pulled, profile) {
         Ok(second) => {
             read_end(source, &mut pulled, first.len + second.len)?;
-            Ok(TwoLists {
+            Ok(TwoInputs {
                 first: first.list,
                 second: second.list,
             })

@@ -9,7 +9,7 @@ ghost use Rattle.aclck.specs.commands.Compare.{Compares, compare, compare_line, 
 ghost use Rattle.aclck.specs.internal.Compared.{compared_text};
 
 use crate::answer::{Outcome, RunFault, write_answer};
-use crate::input::xdr::{TwoLists, read_two};
+use crate::input::xdr::{TwoInputs, read_two};
 use acl_nfs4::bit_name;
 use acl_normal::{Difference, compare};
 use acl_perm::{Mask, Profile, Sink, Source};
@@ -42,7 +42,7 @@ struct Comparison {
     text: Vec<u8>,
 }
 
-fn answer_of(alloc: Global, lists: &TwoLists) -> Result<Comparison, AllocError>
+fn answer_of(alloc: Global, lists: &TwoInputs) -> Result<Comparison, AllocError>
     ensures { IfOk result (λ answer.
         Compares lists.now.first lists.now.second answer.outcome answer.text.items) }
 {

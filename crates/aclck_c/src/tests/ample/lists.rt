@@ -160,7 +160,7 @@ static SUFFIXES: [(&[u8], &[u8], u32, u32, u64); 5] = [
 ];
 
 #[test]
-fn a_group_stands_for_a_special_name(rt: HostRuntime) {
+fn a_group_stands_for_a_special_identifier(rt: HostRuntime) {
     for (acl, suffix, options, expected, offset) in SUFFIXES {
         let mut fault = no_fault();
         let mut needed = 0;
