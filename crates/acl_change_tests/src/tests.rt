@@ -2,6 +2,5 @@
 
 mod ample;
 mod examples;
-mod harness;
 mod mode_changes;
 mod resolving;

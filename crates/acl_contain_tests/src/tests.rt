@@ -6,7 +6,7 @@ mod equal_lists;
 mod examples;
 mod excesses;
 mod expected;
-mod harness;
 mod holder_words;
 mod implications;
+mod lists;
 mod needed_rights;

@@ -2,6 +2,5 @@
 
 mod ample;
 mod examples;
-mod harness;
 mod ids;
 mod prepared;

@@ -3,6 +3,6 @@
 mod ample;
 mod bounds;
 mod examples;
-mod harness;
+mod lists;
 mod losses;
 mod pruning;

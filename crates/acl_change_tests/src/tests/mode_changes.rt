@@ -1,9 +1,9 @@
 //! What a list grants after a change of the mode, by RFC 8881, section 6.4.1.1: the list has the mode, and names are
 //! not granted what the bits of the group lack. The owner is alice, and the group is staff.
 
-use super::harness::{ALLOW, AceRow, DENY, built, kept, passes};
 use acl_change::*;
 use acl_eval::{Object, Requester, granted, mode_of};
+use acl_lists_for_tests::{ALLOW, AceRow, DENY, built, kept, passes};
 use acl_nfs4::{AceRef, Acl, PushFault};
 use acl_perm::{Flags, Mask, Mode};
 use std::alloc::Global;

@@ -1,7 +1,7 @@
 //! Whether two worked lists grant the same, by the first match (RFC 8881, section 6.2.1).
 
-use super::harness::{kept, passes};
 use acl_contain::same_views;
+use acl_lists_for_tests::{kept, passes};
 use acl_nfs4::{PushFault, parse_text};
 use std::alloc::Global;
 use std::process::Abort;

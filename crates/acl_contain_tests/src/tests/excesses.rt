@@ -2,10 +2,9 @@
 //! (RFC 8881, section 6.2.1), and the order of the small situations is that of docs/reference/lists.md.
 
 use super::expected::{Expected, is_expected};
-use super::harness::{
-    ALLOW, AceRow, DENY, EVERYONE, EXECUTE, GROUP, READ_DATA, WRITE_DATA, built, kept, passes,
-};
+use super::lists::{EVERYONE, EXECUTE, GROUP, READ_DATA, WRITE_DATA};
 use acl_contain::excess;
+use acl_lists_for_tests::{ALLOW, AceRow, DENY, built, kept, passes};
 use acl_nfs4::{Acl, PushFault};
 use std::alloc::{AllocError, Global};
 use std::process::Abort;

@@ -1,11 +1,11 @@
 //! Who has a right, in words. The rows are worked by hand from docs/reference/lists.md ("The normal form"), and the
 //! words are those of docs/reference/lists.md ("Who has a right").
 
-use super::harness::{
-    ALLOW, AMY, AceRow, DENY, EVERYONE, EXECUTE, GROUP, NO_STAFF, NO_WRITE, OWNER, READ_DATA,
-    STAFF, WRITE_DATA, built, kept, passes,
+use super::lists::{
+    AMY, EVERYONE, EXECUTE, GROUP, NO_STAFF, NO_WRITE, OWNER, READ_DATA, STAFF, WRITE_DATA,
 };
 use acl_contain::holders;
+use acl_lists_for_tests::{ALLOW, AceRow, DENY, built, kept, passes};
 use acl_nfs4::{Acl, PushFault};
 use acl_perm::Mask;
 use std::alloc::{AllocError, Global};

@@ -3,12 +3,10 @@
 //! (RFC 8881, section 6.2.1), and the order of the small situations is that of docs/reference/lists.md.
 
 use super::expected::{Expected, is_expected};
-use super::harness::{
-    ALLOW, AMY, AceRow, DENY, EVERYONE, EXECUTE, GROUP, INHERIT_ONLY, NO_WRITE, READ_DATA,
-    WRITE_DATA, built, kept, passes,
-};
+use super::lists::{AMY, EVERYONE, EXECUTE, GROUP, INHERIT_ONLY, NO_WRITE, READ_DATA, WRITE_DATA};
 use acl_contain::implies;
 use acl_eval::{Object, Requester, grants};
+use acl_lists_for_tests::{ALLOW, AceRow, DENY, built, kept, passes};
 use acl_nfs4::{Acl, PushFault};
 use acl_normal::Difference;
 use acl_perm::{Mask, Right};

@@ -1,12 +1,13 @@
 //! The rights of some lists that are needed, worked by hand from RFC 8881, section 6.2.1: for each requester the first
 //! ACE that has a right, takes part and matches decides it, and a right that no ACE decides is denied.
 
-use super::harness::{
-    ALLOW, AMY, AceRow, DENY, EVERYONE, EXECUTE, FOR_FILES, GROUP, INHERIT_ONLY, NO_STAFF,
-    NO_WRITE, OWNER, READ_DATA, STAFF, WRITE_DATA, ace_of, built, kept, passes,
+use super::lists::{
+    AMY, EVERYONE, EXECUTE, FOR_FILES, GROUP, INHERIT_ONLY, NO_STAFF, NO_WRITE, OWNER, READ_DATA,
+    STAFF, WRITE_DATA,
 };
 use acl_contain::needed_of_view;
 use acl_eval::{Object, Requester, grants};
+use acl_lists_for_tests::{ALLOW, AceRow, DENY, ace_of, built, kept, passes};
 use acl_nfs4::{Acl, PushFault};
 use acl_perm::Mask;
 use std::alloc::{AllocError, Global};
@@ -156,7 +157,7 @@ fn readers(list: &Acl) -> u32 {
 fn cut_to(alloc: Global, rows: &[AceRow], masks: &[u32]) -> Result<Acl, PushFault> {
     let mut cut = Acl::new(alloc);
     for ((kind, flags, _, who), mask) in rows.iter().zip(masks) {
-        if let Some(ace) = ace_of(*kind, *flags, *mask, who) {
+        if let Some(ace) = ace_of((*kind, *flags, *mask, *who)) {
             cut.push(ace)?;
         }
     }

@@ -1,8 +1,8 @@
 //! Lists whose users and groups are ids: what such a list decides is by RFC 8881, section 6.2.1, and which names have
 //! an id is this library's own.
 
-use super::harness::{ALLOW, DENY, built, passes};
 use acl_ids::IdsFault;
+use acl_lists_for_tests::{ALLOW, DENY, built, passes};
 use acl_nfs4::PushFault;
 use acl_perm::Mask;
 use acl_posix::{Id, Names};

@@ -1,0 +1,43 @@
+//! Rights, flags and ACEs that several tests of this crate use.
+
+use acl_lists_for_tests::{ALLOW, AceRow, DENY};
+
+pub const READ_DATA: u32 = 1;
+
+pub const WRITE_DATA: u32 = 2;
+
+pub const EXECUTE: u32 = 0x20;
+
+pub const FILE_INHERIT: u32 = 0x01;
+
+pub const INHERIT_ONLY: u32 = 0x08;
+
+pub const GROUP: u32 = 0x40;
+
+/// Amy may read.
+pub const AMY: AceRow = (ALLOW, 0, READ_DATA, b"amy");
+
+/// All may read.
+pub const EVERYONE: AceRow = (ALLOW, 0, READ_DATA, b"EVERYONE@");
+
+/// The group staff may not read.
+pub const NO_STAFF: AceRow = (DENY, GROUP, READ_DATA, b"staff");
+
+/// The owner may read.
+pub const OWNER: AceRow = (ALLOW, 0, READ_DATA, b"OWNER@");
+
+/// Bob may not write, and the owner may read and write.
+pub const NO_WRITE: [AceRow; 2] = [
+    (DENY, 0, WRITE_DATA, b"bob"),
+    (ALLOW, 0, READ_DATA | WRITE_DATA, b"OWNER@"),
+];
+
+/// Amy may read and execute, staff may not read, and all may execute.
+pub const STAFF: [AceRow; 3] = [
+    NO_STAFF,
+    (ALLOW, 0, READ_DATA | EXECUTE, b"amy"),
+    (ALLOW, 0, EXECUTE, b"EVERYONE@"),
+];
+
+/// An ACE for new files, and one for the object.
+pub const FOR_FILES: [AceRow; 2] = [(ALLOW, FILE_INHERIT | INHERIT_ONLY, READ_DATA, b"amy"), AMY];
