@@ -20,7 +20,8 @@ use Rattle.acl_nfs4.specs.Who.{is_unknown_special}
 use Rattle.acl_nfs4.specs.declared.ace.AceRef.{AceRef}
 use Rattle.acl_eval.specs.Column.{takes_part}
 use Rattle.acl_decide.specs.Unknown.{AlwaysAnswers, Assignment, GrantsUnder, MayAnswer, MayNotGrant, NeverGrants, answer_under, matches_under}
-use Rattle.acl_decide.specs.internal.RequestBody.{AllowsFrom, ArePassed, HasPassed, IsOneMore, LeavesOut, MayBeGranted, Says, SaysAce, all_but, applies_but, is_open_name, is_out, open_names}
+use Rattle.acl_decide.specs.internal.RequestBody.{AllowsFrom, ArePassed, HasPassed, IsOneMore, LeavesOut, MayBeGranted, Says, SaysAce, all_but, applies_but, is_open_name, open_names}
+use Rattle.acl_nfs4.specs.internal.PartReading.{has_name}
 use Rattle.acl_decide.specs.declared.request_with_unknown.Verdict.{Verdict}
 use Rattle.acl_decide.specs.declared.request_with_unknown.Verdict.TheVariants.{Granted, Denied, Against}
 use Rattle.acl_decide.proofs.Unknowns.{answer_here, answer_passes, answer_skips, match_known, match_unknown}
@@ -66,7 +67,7 @@ decided v s a rest bit he te me = answer_here v a rest s bit (rw (he, te) refl) 
 -- one more name is out after it was inserted
 pub out_more : (old new : BTreeSet (Bor (List ℕ))) (name : Bor (List ℕ))
     → new.keys ≡ insert_key (λ x y. slice_cmp nat_cmp x.now y.now) old.keys name
-    → IsOneMore (is_out old) name.now (is_out new)
+    → IsOneMore (has_name old) name.now (has_name new)
 out_more old new name is = name_inserted old new name is
 
 -- an assignment that leaves more names out leaves fewer out

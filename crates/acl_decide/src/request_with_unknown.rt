@@ -5,7 +5,8 @@ ghost use Rattle.acl_nfs4.specs.Ace.{ace};
 ghost use Rattle.acl_eval.specs.Situation.{situation};
 ghost use Rattle.acl_decide.specs.Unknown.{GrantsUnder, IsRequestAnswer};
 ghost use Rattle.acl_eval.specs.internal.Asked.{asked_situation};
-ghost use Rattle.acl_decide.specs.internal.RequestBody.{AllowsFrom, ArePassed, HasPassed, MayBeGranted, Says, SaysAce, applies_but, is_out};
+ghost use Rattle.acl_decide.specs.internal.RequestBody.{AllowsFrom, ArePassed, HasPassed, MayBeGranted, Says, SaysAce, applies_but};
+ghost use Rattle.acl_nfs4.specs.internal.PartReading.{has_name};
 
 use crate::rights_with_unknown::decided_with_unknown;
 use acl_eval::internal::Matcher;
@@ -100,11 +101,11 @@ fn judge<'a>(
     places: &mut [usize; Bit::COUNT],
 ) -> Verdict<'a>
     requires named { All (λ a. 1 ≤ length a.who.now) aces.now }
-    requires passed { ArePassed aces.now (asked_situation matcher.now) mask.bits (is_out out.now)
+    requires passed { ArePassed aces.now (asked_situation matcher.now) mask.bits (has_name out.now)
         places.old }
-    ensures passed { ArePassed aces.now (asked_situation matcher.now) mask.bits (is_out out.now)
+    ensures passed { ArePassed aces.now (asked_situation matcher.now) mask.bits (has_name out.now)
         places.new }
-    ensures says { Says aces.now (is_out out.now)
+    ensures says { Says aces.now (has_name out.now)
         (λ v. GrantsUnder v (map ace aces.now) (asked_situation matcher.now) mask.bits) result }
 {
     for right in mask.rights() {
@@ -130,9 +131,9 @@ fn descend<'a>(
     place: &mut usize,
 ) -> Verdict<'a>
     requires { All (λ a. 1 ≤ length a.who.now) aces.now }
-    ensures passed { HasPassed aces.now (asked_situation matcher.now) right.bit (is_out out.now)
+    ensures passed { HasPassed aces.now (asked_situation matcher.now) right.bit (has_name out.now)
         place.old place.new }
-    ensures says { Says aces.now (is_out out.now)
+    ensures says { Says aces.now (has_name out.now)
         (AllowsFrom aces.now (asked_situation matcher.now) right.bit place.new) result }
 {
     while let Some(item) = aces.get(*place) {
@@ -160,7 +161,7 @@ fn verdict_of<'a>(item: &AceRef<'a>) -> Verdict<'a>
 fn decides(item: &AceRef<'_>, matcher: &Matcher<'_>, right: Bit, out: &BTreeSet<&[u8]>) -> bool
     requires { 1 ≤ length item.now.who.now }
     ensures { result ≡ (has_bit item.now.mask.bits right.bit
-        && applies_but (is_out out.now) (asked_situation matcher.now) (ace item.now)) }
+        && applies_but (has_name out.now) (asked_situation matcher.now) (ace item.now)) }
 {
     right.is_in(item.mask) && applies_but(item, matcher, out)
 }
@@ -168,7 +169,7 @@ fn decides(item: &AceRef<'_>, matcher: &Matcher<'_>, right: Bit, out: &BTreeSet<
 // Returns whether the ACE applies where all unknown names match but those that are out.
 fn applies_but(item: &AceRef<'_>, matcher: &Matcher<'_>, out: &BTreeSet<&[u8]>) -> bool
     requires { 1 ≤ length item.now.who.now }
-    ensures { result ≡ applies_but (is_out out.now) (asked_situation matcher.now) (ace item.now) }
+    ensures { result ≡ applies_but (has_name out.now) (asked_situation matcher.now) (ace item.now) }
 {
     if item.is_unknown() {
         item.takes_part() && !out.contains(item.who)

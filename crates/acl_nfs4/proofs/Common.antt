@@ -1,4 +1,5 @@
 -- The names that the proofs of this crate use most, from std, from the crates below and from specs/, in one place.
+pub use Rattle.acl_nfs4.specs.AccessPart.{kind_of_type}
 pub use Rattle.acl_nfs4.specs.Ace.{Ace, ace}
 pub use Rattle.acl_nfs4.specs.AceText.{ace_lines, ace_text, as_text, HasLineFields, HasNoSpace, is_skipped, IsAceText, kind_name, LineFields, space, SpellEach, SpellsAce, TextLine}
 unfoldable pub use Rattle.acl_nfs4.specs.AceText.{ace_line}
@@ -34,7 +35,7 @@ pub use Rattle.acl_nfs4.specs.internal.NameTable.{ace_line_room, bit_name_of, bi
 unfoldable pub use Rattle.acl_nfs4.specs.internal.NameTable.{set_within}
 pub use Rattle.acl_nfs4.specs.internal.Progress.{behind_scanned, body_in, EndsPart, HasTaken, IsBytes, IsFeed, IsProgress, IsScanned, IsText, IsWhole, Judged, state_of}
 pub use Rattle.acl_nfs4.specs.internal.Pulling.{DrawsCount, HasAce, HasEnded, HasKindAndFlags, HasWords, IsCutIn, IsDrawn, IsFilled, IsHalted, IsLacking, IsPulled, IsShort}
-pub use Rattle.acl_nfs4.specs.internal.Reading.{ArePlain, fault_at, field, from_flags, from_len, from_mask, from_padding, from_who, Gives, is_plain_ascii, judged, kind_from, moved, Place, Placed, word_field}
+pub use Rattle.acl_nfs4.specs.internal.Reading.{ArePlain, fault_at, field, from_flags, from_len, from_mask, from_padding, from_who, Gives, is_plain_ascii, judged, moved, Place, Placed, word_field}
 unfoldable pub use Rattle.acl_nfs4.specs.internal.Reading.{ace_at, aces_at, read_list}
 pub use Rattle.acl_perm.proofs.Bools.{and_true}
 pub use Rattle.acl_perm.proofs.LineLemmas.{lines_left, lines_next, no_lines, number_next, NumberFits, text_left}

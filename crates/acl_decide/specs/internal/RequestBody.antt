@@ -1,10 +1,6 @@
 -- The search for an assignment that grants a request, from the greatest downwards: this library's own.
 use Rattle.std.specs.Prelude.{◌≡◌, ◌<◌, ℕ, Bool, true, false, ◌&&◌, ◌||◌, not, List, drop, length, map, slice_index_or, Some}
-use Rattle.std.specs.BTreeSet.{BTreeSet, contains_by}
-use Rattle.std.specs.Borrow.{Bor}
-use Rattle.std.specs.Cmp.Lexicographic.{slice_cmp}
 use Rattle.std.specs.List.{filter}
-use Rattle.std.specs.Ordering.{nat_cmp}
 use Rattle.std.specs.Str.{bytes_eq}
 use Rattle.acl_perm.specs.Bits.{has_bit}
 use Rattle.acl_perm.specs.Situation.{Situation}
@@ -16,10 +12,6 @@ use Rattle.acl_eval.specs.Column.{takes_part}
 use Rattle.acl_decide.specs.Unknown.{Assignment, GrantsUnder, answer_under, matches_under}
 use Rattle.acl_decide.specs.declared.request_with_unknown.Verdict.{Verdict}
 use Rattle.acl_decide.specs.declared.request_with_unknown.Verdict.TheVariants.{Granted, Denied, Against}
-
--- a set has the name
-abbrev pub is_out : BTreeSet (Bor (List ℕ)) → List ℕ → Bool
-is_out names who = contains_by (λ k. slice_cmp nat_cmp who k.now) names
 
 -- the same names are out, and this one
 abbrev pub IsOneMore : (List ℕ → Bool) → List ℕ → (List ℕ → Bool) → Type 0

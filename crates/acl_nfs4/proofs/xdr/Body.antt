@@ -1,5 +1,5 @@
 -- Where the fields are in the piece of an ACE, and the ACEs of a body, one after the other.
-use Rattle.acl_nfs4.proofs.Common.{[], Ace, Allow, ap, append_assoc, arith, Deny, drop, drop_at, flat_map, flat_map-cons, from_be_bytes-to_be_bytes_4, full, IsAce, IsBody, Kind, kind_from, kind_number, length, length-append, length-replicate, List, number, pad_len, piece, refl, replicate, SpellsBody, subst, sym, take, take_at, word, ℕ, ◌*◌, ◌++◌, ◌+◌, ◌-◌, ◌/◌, ◌<◌, ◌∙◌, ◌∷◌, ◌≡◌}
+use Rattle.acl_nfs4.proofs.Common.{[], Ace, Allow, ap, append_assoc, arith, Deny, drop, drop_at, flat_map, flat_map-cons, from_be_bytes-to_be_bytes_4, full, IsAce, IsBody, Kind, kind_of_type, kind_number, length, length-append, length-replicate, List, number, pad_len, piece, refl, replicate, SpellsBody, subst, sym, take, take_at, word, ℕ, ◌*◌, ◌++◌, ◌+◌, ◌-◌, ◌/◌, ◌<◌, ◌∙◌, ◌∷◌, ◌≡◌}
 use Rattle.acl_nfs4.specs.internal.Body.{aces_of, front_ace, front_who_len}
 use Rattle.acl_nfs4.proofs.xdr.Fields.{who_bounds}
 use Rattle.acl_nfs4.proofs.list.Within.{flags_lt, mask_lt, full_is}
@@ -21,9 +21,9 @@ kind_back Allow = refl
 kind_back Deny = refl
 
 -- the kind of the number of a kind is that kind
-pub kind_from-number : (k : Kind) → kind_from (kind_number k) ≡ k
-kind_from-number Allow = refl
-kind_from-number Deny = refl
+pub kind_of_type-number : (k : Kind) → kind_of_type (kind_number k) ≡ k
+kind_of_type-number Allow = refl
+kind_of_type-number Deny = refl
 
 -- the piece of an ACE has the layout of the ACE
 layout-of : (a : Ace) (more : List ℕ) → IsAce full a → Layout (piece a ++ more) a more
@@ -58,7 +58,7 @@ unfolding aces_of
 aces_of-flat_map [] bytes s = refl
 aces_of-flat_map (a ∷ list) bytes s =
     let l = layout bytes a (flat_map piece list) s.each.0 (s.spelled ∙ flat_map-cons piece a list) in
-    let first : front_ace bytes ≡ a = same_ace a (ap kind_from l.kind ∙ kind_from-number a.kind) l.flags l.mask
+    let first : front_ace bytes ≡ a = same_ace a (ap kind_of_type l.kind ∙ kind_of_type-number a.kind) l.flags l.mask
     (ap (λ (k : ℕ). take k (drop 16 bytes)) l.len ∙ l.who) in
     let size : 16 + front_who_len bytes + pad_len (front_who_len bytes) ≡ (length a.who + 19) / 4 * 4 =
     omega (arith, l.len, ap pad_len l.len) in

@@ -7,7 +7,7 @@ use Rattle.acl_nfs4.specs.Ace.{Ace}
 use Rattle.acl_nfs4.specs.Limits.{most_aces, most_weight}
 use Rattle.acl_nfs4.specs.Fields.{number_at}
 use Rattle.acl_nfs4.specs.Spelling.{pad_len, piece, weight, IsAce}
-use Rattle.acl_nfs4.specs.internal.Reading.{kind_from}
+use Rattle.acl_nfs4.specs.AccessPart.{kind_of_type}
 
 -- the length of the who of the ACE at the front
 abbrev pub front_who_len : List ℕ → ℕ
@@ -16,7 +16,7 @@ front_who_len bytes = number_at 12 bytes
 -- the ACE at the front
 abbrev pub front_ace : List ℕ → Ace
 front_ace bytes = record {
-  kind = kind_from (number_at 0 bytes);
+  kind = kind_of_type (number_at 0 bytes);
   flags = number_at 4 bytes;
   mask = number_at 8 bytes;
   who = take (front_who_len bytes) (drop 16 bytes);

@@ -3,7 +3,6 @@ use Rattle.std.specs.Prelude.{◌≡◌, ℕ, zero, suc, ◌+◌, ◌-◌, ◌*�
 use Rattle.acl_perm.specs.Ascii.{delete, space}
 use Rattle.acl_perm.specs.Profile.{Profile}
 use Rattle.acl_perm.specs.declared.kind.Kind.{Kind}
-use Rattle.acl_perm.specs.declared.kind.Kind.TheVariants.{Deny, Allow}
 use Rattle.acl_perm.specs.internal.Steps.{◌>>=◌}
 use Rattle.acl_nfs4.specs.Ace.{Ace}
 use Rattle.acl_nfs4.specs.Fields.{number, count_of, kind_of, flags_of, mask_of, who_len_of, who_of, padding_of}
@@ -47,10 +46,6 @@ ArePlain bytes from to = AllWithin (λ b. is_plain_ascii b ≡ true) bytes from 
 abbrev pub text_fault : List ℕ → Option WhoFault
 text_fault bytes = if not (is_utf8 bytes) then Some Utf8
     else (if not (list_all is_plain bytes) then Some Control else None)
-
--- the kind of a number, which must be the number of a kind
-abbrev pub kind_from : ℕ → Kind
-kind_from n = if n == 0 then Allow else Deny
 
 -- the number in which all bits of the lowest n bytes are set, and no others
 abbrev pub low_bytes : ℕ → ℕ

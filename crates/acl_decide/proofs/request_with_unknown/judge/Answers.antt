@@ -7,7 +7,8 @@ use Rattle.acl_perm.specs.declared.kind.Kind.TheVariants.{Allow}
 use Rattle.acl_nfs4.specs.Ace.{ace}
 use Rattle.acl_eval.specs.Situation.{situation}
 use Rattle.acl_decide.specs.Unknown.{answer_under}
-use Rattle.acl_decide.specs.internal.RequestBody.{all_but, is_out}
+use Rattle.acl_decide.specs.internal.RequestBody.{all_but}
+use Rattle.acl_nfs4.specs.internal.PartReading.{has_name}
 use Rattle.acl_decide.proofs.Requests.{allowed_here, passed_at, passed_here, says_request}
 use Rattle.acl_decide.proofs.RightsOf.{rights_are, rights_have}
 use Rattle.acl_decide.proofs.request_with_unknown.judge.Goals as goal
@@ -23,8 +24,8 @@ loop-right-init c =
       c.requires.passed,
       subst (AllByRecursion (λ bit. has_bit request bit ≡ true)) (sym is) (rights_are request),
       λ each bit has. rights_have request
-          (λ bit. answer_under (all_but (is_out c.args.out.now)) (map ace c.args.aces.now) s bit ≡ Some Allow)
-          c.args.mask.within (subst (AllByRecursion (λ bit. answer_under (all_but (is_out c.args.out.now))
+          (λ bit. answer_under (all_but (has_name c.args.out.now)) (map ace c.args.aces.now) s bit ≡ Some Allow)
+          c.args.mask.within (subst (AllByRecursion (λ bit. answer_under (all_but (has_name c.args.out.now))
           (map ace c.args.aces.now) s bit ≡ Some Allow)) is each) bit has,
     )
 
@@ -34,7 +35,7 @@ returns-in_default c =
     let request = c.args.mask.bits in
     let bit = c.from-bit.result.bit in
     let place = c.descend-verdict.new.place in
-    let out = is_out c.args.out.now in
+    let out = has_name c.args.out.now in
     let (next, finite, long, before, rights, granted) = c.loop-right.invariant in
     let has = subst (AllByRecursion (λ b. has_bit request b ≡ true)) c.in-Some.ensures.steps rights in
     let asked : has_bit request bit ≡ true = ap (has_bit request) c.from-bit.ensures ∙ has.0 in
@@ -53,7 +54,7 @@ loop-right-preserved c =
     let request = c.args.mask.bits in
     let bit = c.from-bit.result.bit in
     let place = c.descend-verdict.new.place in
-    let out = is_out c.args.out.now in
+    let out = has_name c.args.out.now in
     let (next, finite, long, before, rights, granted) = c.loop-right.invariant in
     let has = subst (AllByRecursion (λ b. has_bit request b ≡ true)) c.in-Some.ensures.steps rights in
     let asked : has_bit request bit ≡ true = ap (has_bit request) c.from-bit.ensures ∙ has.0 in
@@ -75,5 +76,5 @@ pub returns-clause-says : goal.returns-clause-says
 returns-clause-says c =
     let s = situation c.args.matcher.now.object c.args.matcher.now.requester in
     let (next, finite, long, before, rights, granted) = c.loop-right.invariant in
-    granted (subst (AllByRecursion (λ b. answer_under (all_but (is_out c.args.out.now)) (map ace c.args.aces.now) s b
+    granted (subst (AllByRecursion (λ b. answer_under (all_but (has_name c.args.out.now)) (map ace c.args.aces.now) s b
     ≡ Some Allow)) (sym c.in-None.ensures.steps.0) tt)
