@@ -1,16 +1,9 @@
-//! What the tests of this crate share, without expected values: failed allocations as a fault, and the lines of faults.
+//! The lines of faults.
 
+use acl_lists_for_tests::kept;
 use acl_nfs4::PushFault;
-use std::alloc::{AllocError, Global};
+use std::alloc::Global;
 use std::fmt::Display;
-
-/// Returns the answer with a failed allocation as `PushFault::Memory`.
-pub fn kept<T>(answer: Result<T, AllocError>) -> Result<T, PushFault> {
-    match answer {
-        Ok(value) => Ok(value),
-        Err(_) => Err(PushFault::Memory),
-    }
-}
 
 /// Returns whether the message of a fault is this line.
 pub fn is_displayed_as<F: Display>(

@@ -3,17 +3,16 @@
 //! docs/reference/formats.md and docs/proofs/contracts.md, with the names and numbers of RFC 8881, sections 6.2.1.3.1,
 //! 6.2.1.4.1 and 6.2.1.5.
 
-use super::harness::{is_displayed_as, kept};
-use super::rows::{
-    Row, append_ace, append_word, built, check_copy, item, repeated, shows, spelled,
-};
+use super::harness::is_displayed_as;
+use super::rows::{append_ace, append_word, check_copy, shows, spelled};
+use acl_lists_for_tests::{AceRow, ace_of, built, kept, repeated};
 use acl_nfs4::*;
 use std::alloc::{AllocError, Global};
 use std::process::Abort;
 use std::test::*;
 
 // The lists of the worked examples.
-static LISTS: [&[Row]; 14] = [
+static LISTS: [&[AceRow]; 14] = [
     &[],
     &[(Kind::Allow, 0, 1, b"EVERYONE@")],
     &[(Kind::Deny, 0, 1, b"bob"), (Kind::Allow, 0, 1, b"alice")],
@@ -38,7 +37,7 @@ static LISTS: [&[Row]; 14] = [
 ];
 
 // Returns whether every way through a list gives these rows, and their number.
-fn gives_rows(list: &Acl, rows: &[Row]) -> bool {
+fn gives_rows(list: &Acl, rows: &[AceRow]) -> bool {
     let aces = list.into_iter();
     let again: Result<_, _> = aces.clone();
     aces.len() == rows.len() && shows(aces, rows) && again.is_ok_and(|again| shows(again, rows))
@@ -78,7 +77,7 @@ fn are_spelled(
 fn check_view(
     rt: &impl Abort,
     alloc: Global,
-    rows: &[Row],
+    rows: &[AceRow],
     bytes: &[u8],
     expected: &Acl,
 ) -> Result<(), PushFault> {
@@ -114,7 +113,7 @@ pub fn a_list_from_a_view_is_what_the_view_shows(
 }
 
 // Lists in ascending order: by their numbers of ACEs, and then by the words of their ACEs.
-static RISING: [&[Row]; 7] = [
+static RISING: [&[AceRow]; 7] = [
     &[],
     &[(Kind::Allow, 0, 1, b"a")],
     &[(Kind::Allow, 0, 1, b"b")],
@@ -140,7 +139,7 @@ pub fn lists_are_ordered_by_their_bytes(rt: &impl Abort, alloc: Global) -> Resul
 }
 
 // ACEs, and the lines that display them.
-static SHOWN: [(Row, &str); 4] = [
+static SHOWN: [(AceRow, &str); 4] = [
     (
         (Kind::Allow, 0, 1, b"EVERYONE@"),
         "ALLOW - READ_DATA EVERYONE@",
@@ -156,11 +155,11 @@ static SHOWN: [(Row, &str); 4] = [
 /// Displays each ACE of `SHOWN`, and reads the row twice: the same row gives equal ACEs.
 pub fn an_ace_is_shown_as_its_line(rt: &impl Abort, alloc: Global) -> Result<(), PushFault> {
     for (row, line) in SHOWN {
-        let Some(ace) = item(row) else {
+        let Some(ace) = ace_of(row) else {
             return Ok(());
         };
         assert!(rt; is_displayed_as(alloc, &ace, line)?, "{line}");
-        assert!(rt; item(row) == Some(ace));
+        assert!(rt; ace_of(row) == Some(ace));
     }
     Ok(())
 }
@@ -186,7 +185,7 @@ pub fn a_principal_is_shown_as_its_who(rt: &impl Abort, alloc: Global) -> Result
 
 #[test]
 fn a_name_that_begins_like_the_owner_is_a_user(rt: HostRuntime) {
-    let ace = item((Kind::Allow, 0, 1, b"OWNER@x"));
+    let ace = ace_of((Kind::Allow, 0, 1, b"OWNER@x"));
     assert!(rt; ace.is_some_and(|ace| ace.principal() == Principal::User(b"OWNER@x")));
 }
 
@@ -228,7 +227,7 @@ pub fn a_list_fits_the_profile_of_its_bits(
     Ok(())
 }
 
-fn full_spelled(alloc: Global, row: Row) -> Result<Vec<u8>, AllocError> {
+fn full_spelled(alloc: Global, row: AceRow) -> Result<Vec<u8>, AllocError> {
     let mut bytes = Vec::new(alloc);
     append_word(&mut bytes, 65_536)?;
     for _ in 0..65_536u32 {

@@ -2,8 +2,9 @@
 //! sections 4.2, 4.10 and 4.13, over RFC 8881, section 6.2.1; the limits and the reasons are those of
 //! docs/reference/formats.md.
 
-use super::harness::{is_displayed_as, kept};
+use super::harness::is_displayed_as;
 use super::readers::ONE;
+use acl_lists_for_tests::kept;
 use acl_nfs4::*;
 use std::alloc::{AllocError, Global};
 use std::process::Abort;

@@ -3,7 +3,8 @@
 //! docs/reference/formats.md.
 
 use super::harness::is_displayed_as;
-use super::rows::{EVERYONE, built, check_copy, item, repeated, shows};
+use super::rows::{EVERYONE, check_copy, shows};
+use acl_lists_for_tests::{ace_of, built, repeated};
 use acl_nfs4::PushFault::{
     Memory, SpecialWho, TooHeavy, TooManyAces, WhoControl, WhoLength, WhoUtf8,
 };
@@ -22,7 +23,7 @@ fn check_push(
 ) -> Result<(), PushFault> {
     let row = (Kind::Allow, 0, mask, who);
     let mut list = built(alloc, &[EVERYONE])?;
-    if let Some(ace) = item(row) {
+    if let Some(ace) = ace_of(row) {
         let pushed = list.push(ace);
         assert!(rt; pushed == answer || pushed == Err(Memory));
         let both = [EVERYONE, row];
@@ -56,7 +57,7 @@ pub fn a_push_is_judged_by_its_who(rt: &impl Abort, alloc: Global) -> Result<(),
 
 // Returns the answer of a list to an ACE with this mask and an empty who.
 fn push_nameless(list: &mut Acl, mask: u32) -> Option<Result<(), PushFault>> {
-    let ace = item((Kind::Allow, 0, mask, b""))?;
+    let ace = ace_of((Kind::Allow, 0, mask, b""))?;
     Some(list.push(ace))
 }
 

@@ -1,35 +1,12 @@
 //! Lists as rows, and the bytes that spell them by RFC 4506, sections 4.2, 4.10 and 4.13, over RFC 8881, section 6.2.1.
 
+use acl_lists_for_tests::AceRow;
 use acl_nfs4::*;
 use std::alloc::{AllocError, Global};
 use std::process::Abort;
 
-/// An ACE as a row: its kind, flags, mask and who.
-pub type Row = (Kind, u32, u32, &'static [u8]);
-
 /// The row ALLOW READ_DATA EVERYONE@.
-pub const EVERYONE: Row = (Kind::Allow, 0, 1, b"EVERYONE@");
-
-/// Returns the ACE of a row, if its bits are flags and rights.
-pub fn item((kind, flags, mask, who): Row) -> Option<AceRef<'static>> {
-    Some(AceRef {
-        kind,
-        flags: Flags::new(flags)?,
-        mask: Mask::new(mask)?,
-        who,
-    })
-}
-
-/// Builds the list of these rows, without a row that has a bit of no flag or no right. Fails as `push` does.
-pub fn built(alloc: Global, rows: &[Row]) -> Result<Acl, PushFault> {
-    let mut list = Acl::new(alloc);
-    for row in rows {
-        if let Some(ace) = item(*row) {
-            list.push(ace)?;
-        }
-    }
-    Ok(list)
-}
+pub const EVERYONE: AceRow = (Kind::Allow, 0, 1, b"EVERYONE@");
 
 /// Adds a word, the most significant byte first.
 pub fn append_word(bytes: &mut Vec<u8>, number: u32) -> Result<(), AllocError> {
@@ -41,7 +18,7 @@ fn word_of(len: usize) -> u32 {
 }
 
 /// Adds the bytes that spell the ACE of a row, with its padding.
-pub fn append_ace(bytes: &mut Vec<u8>, (kind, flags, mask, who): Row) -> Result<(), AllocError> {
+pub fn append_ace(bytes: &mut Vec<u8>, (kind, flags, mask, who): AceRow) -> Result<(), AllocError> {
     append_word(bytes, if kind == Kind::Allow { 0 } else { 1 })?;
     append_word(bytes, flags)?;
     append_word(bytes, mask)?;
@@ -54,7 +31,7 @@ pub fn append_ace(bytes: &mut Vec<u8>, (kind, flags, mask, who): Row) -> Result<
 }
 
 /// Returns the bytes that spell the list of these rows.
-pub fn spelled(alloc: Global, rows: &[Row]) -> Result<Vec<u8>, AllocError> {
+pub fn spelled(alloc: Global, rows: &[AceRow]) -> Result<Vec<u8>, AllocError> {
     let mut bytes = Vec::new(alloc);
     append_word(&mut bytes, word_of(rows.len()))?;
     for row in rows {
@@ -63,7 +40,7 @@ pub fn spelled(alloc: Global, rows: &[Row]) -> Result<Vec<u8>, AllocError> {
     Ok(bytes)
 }
 
-fn is_row(ace: &AceRef<'_>, (kind, flags, mask, who): Row) -> bool {
+fn is_row(ace: &AceRef<'_>, (kind, flags, mask, who): AceRow) -> bool {
     ace.kind == kind
         && ace.flags.bits() as u32 == flags
         && ace.mask.bits() == mask
@@ -71,7 +48,7 @@ fn is_row(ace: &AceRef<'_>, (kind, flags, mask, who): Row) -> bool {
 }
 
 /// Returns whether the ACEs are those of the rows, in order.
-pub fn shows(aces: Aces<'_>, rows: &[Row]) -> bool {
+pub fn shows(aces: Aces<'_>, rows: &[AceRow]) -> bool {
     let mut at = 0usize;
     for ace in aces {
         let Some(row) = rows.get(at) else {
@@ -83,17 +60,6 @@ pub fn shows(aces: Aces<'_>, rows: &[Row]) -> bool {
         at = at.wrapping_add(1);
     }
     at == rows.len()
-}
-
-/// Returns a list that has the same ACE this many times.
-pub fn repeated(alloc: Global, count: u32, row: Row) -> Result<Acl, PushFault> {
-    let mut list = Acl::new(alloc);
-    if let Some(ace) = item(row) {
-        for _ in 0..count {
-            list.push(ace)?;
-        }
-    }
-    Ok(list)
 }
 
 /// Copies a list of any length. Fails if memory runs out.

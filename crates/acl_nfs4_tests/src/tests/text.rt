@@ -1,7 +1,8 @@
 //! Texts that spell a list, and texts that have a fault, by the grammar of docs/reference/formats.md. The names of the
 //! rights are those of RFC 8881, section 6.2.1.3.1, and those of the flags shorten the names of section 6.2.1.4.1.
 
-use super::harness::{is_displayed_as, kept};
+use super::harness::is_displayed_as;
+use acl_lists_for_tests::kept;
 use acl_nfs4::*;
 use std::alloc::{AllocError, Global};
 use std::process::Abort;
