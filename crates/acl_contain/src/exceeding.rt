@@ -44,7 +44,8 @@ pub fn excess(alloc: Global, first: &Acl, second: &Acl) -> Result<Option<Differe
     excess_of_views(alloc, &first.view(), &second.view())
 }
 
-// Does so for the lists of two views. It copies neither list, and does not look first whether they are equal.
+// Answers as `excess` does, for the lists of two views. It copies neither list, and does not look first whether they
+// are equal.
 fn excess_of_views(
     alloc: Global,
     first: &AclView<'_>,

@@ -43,7 +43,7 @@ pub fn implies(
     implies_of_view(alloc, &list.view(), right, others)
 }
 
-// Does so for the list of a view. It copies no who.
+// Answers as `implies` does, for the list of a view. It copies no who.
 fn implies_of_view(
     alloc: Global,
     list: &AclView<'_>,

@@ -126,7 +126,7 @@ impl<'a> Groups<'a> {
     }
 
     /// Returns whether to sort a copy of the names for this many look-ups. Then each name counts. The copy makes the
-    /// time proportional to the sum of the numbers of look-ups and names, times a logarithm, and no longer to their
+    /// time proportional to the sum of the numbers of look-ups and names, times a logarithm, and not to their
     /// product.
     pub(crate) fn are_worth_sorting(&self, look_ups: usize) -> bool
         ensures { result ≡ true → groups_among self.now ≡ map (λ g. g.now) self.now.names.now }

@@ -62,7 +62,7 @@ pub fn table(alloc: Global, list: &Acl, right: Mask) -> Result<Vec<Row>, AllocEr
     table_of_view(alloc, &list.view(), right)
 }
 
-// Does so for the list of a view, and does not copy the list.
+// Returns the table of the list of a view, and does not copy the list.
 fn table_of_view(alloc: Global, list: &AclView<'_>, right: Mask) -> Result<Vec<Row>, AllocError>
     ensures rows { IfOk result (λ rows. (b : ℕ) → IsLowest b right.bits
         → IsTable b list.now rows.items) }

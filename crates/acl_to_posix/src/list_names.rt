@@ -64,7 +64,7 @@ pub(crate) fn bounded_names(
     }
 }
 
-// Does so, but may also fail with `Memory` if they are more than `most`.
+// Returns these names too, but may also fail with `Memory` if they are more than `most`.
 fn names_within(
     alloc: Global,
     list: &AclView<'_>,

@@ -93,6 +93,7 @@ pub(crate) fn fail<E: Sink>(err: &mut E, fault: CommandFault) -> u8
     }
 }
 
+// Runs the command that the words name.
 #[tactic(auto, unfolding(crate::specs::Task::task_named))]
 fn perform<'a, S: Source, K: Sink>(
     alloc: Global,

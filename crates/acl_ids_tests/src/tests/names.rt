@@ -1,4 +1,5 @@
-//! Which names have an id, and which id it is: this library's own.
+//! Which names have an id, and which id it is: this library's own rule, that of `aclck_prepare_ids` in
+//! include/aclck.h.
 
 use acl_ids::*;
 use acl_nfs4::parse_text;
