@@ -14,7 +14,7 @@ from aclck_tree.answer.lists import Kind, RefusedList
 from aclck_tree.answer.sides import (
     MOST_NAMES,
     Comparison,
-    Place,
+    ObjectOnSide,
     Side,
     has_other_owner,
     heirs,
@@ -286,7 +286,7 @@ class Compared:
         return _without_repeats([self._changes(heir, notes) for heir in heirs(question, notes)])
 
 
-def _names_in(place: Place) -> Set[Tuple[bool, str]]:
+def _names_in(place: ObjectOnSide) -> Set[Tuple[bool, str]]:
     """Returns the names of which the NFSv4 list of a place says something, and whether they are those of groups."""
     aces = place.views[0].asked.acl
     whos = {ace.who for ace in aces}

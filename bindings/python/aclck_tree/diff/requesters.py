@@ -12,7 +12,7 @@ from aclck import ALL
 from aclck_tree.answer.crowd import AT_ONCE, NOTHING, Crowd, Granted, IdentityOrMissing, ListPair, Missing
 from aclck_tree.answer.identities import Identity
 from aclck_tree.answer.lists import POSIX_MASKS, Kind
-from aclck_tree.answer.sides import Comparison, Place, Side, is_same_owner, who_at
+from aclck_tree.answer.sides import Comparison, ObjectOnSide, Side, is_same_owner, who_at
 from aclck_tree.output.text import quoted
 from aclck_tree.people.people import Person
 
@@ -65,7 +65,7 @@ _ID_NOT_KNOWN = Granted(0, sum(POSIX_MASKS.values()))
 """What somebody may be granted whose id is not known, which only matters for POSIX ACLs."""
 
 
-def _granted_at(place: Optional[Place], crowd: Crowd) -> Iterator[_Part]:
+def _granted_at(place: Optional[ObjectOnSide], crowd: Crowd) -> Iterator[_Part]:
     """Yields what each of a crowd is granted, in parts. On an object that is not there nothing is granted."""
     if not place:
         return ([NOTHING] * min(AT_ONCE, len(crowd) - start) for start in range(0, len(crowd), AT_ONCE))
@@ -154,7 +154,7 @@ def paired_people(old: Side, new: Side, question: Comparison) -> PairedRequester
     return PairedRequesters(rows)
 
 
-def _known(place: Optional[Place], person: Person) -> object:
+def _known(place: Optional[ObjectOnSide], person: Person) -> object:
     """Returns what is known of a person at a place: the ids, and the names without one."""
     if not place:
         return None
@@ -205,7 +205,7 @@ def _owners(question: Comparison, is_group: bool) -> Iterator[ComparedRequester]
             yield _row(question, place, "member of group" if is_group else "owner", is_group, place.owner(is_group))
 
 
-def _row(question: Comparison, place: Place, words: str, is_group: bool, who: str) -> ComparedRequester:
+def _row(question: Comparison, place: ObjectOnSide, words: str, is_group: bool, who: str) -> ComparedRequester:
     """Makes the row for a who of the list of one side."""
     sides = question.each(is_group, lambda other: who_at(place, other, is_group, who))
     return ComparedRequester(Whom(words, place.name(is_group, who)), *sides)
