@@ -12,6 +12,9 @@ _NAMED = (2, 4)
 _NUMBERS = {(tag, number in _NAMED): number for number, tag in enumerate(_TAGS) if number}
 _ANYBODY = 0xFFFFFFFF
 
+PERMISSIONS = {"r": 4, "w": 2, "x": 1}
+"""The permissions by their letters."""
+
 
 class Entry(NamedTuple):
     """One entry: whether it is of the default part, its tag as in the canonical text, its id or None, permissions."""
@@ -24,7 +27,7 @@ class Entry(NamedTuple):
     def __str__(self) -> str:
         """Returns the line of the entry in the canonical text."""
         number = "" if self.id is None else self.id
-        return f"{'default:' if self.default else ''}{self.tag}:{number}:{_letters(self.perm)}"
+        return f"{'default:' if self.default else ''}{self.tag}:{number}:{letters_of(self.perm)}"
 
 
 def held(entries: Sequence[c.Entry]) -> c.Entries:
@@ -56,9 +59,14 @@ def read_line(line: bytes) -> Entry:
     """Returns the entry of a line of the canonical text."""
     fields = line.decode().split(":")
     tag, number, perm = fields[-3:]
-    return Entry(len(fields) == 4, tag, int(number) if number else None,
-                 sum(bit for letter, bit in zip("rwx", (4, 2, 1)) if letter in perm))
+    return Entry(len(fields) == 4, tag, int(number) if number else None, perm_of(perm))
 
 
-def _letters(perm: int) -> str:
-    return "".join(letter if perm & bit else "-" for letter, bit in zip("rwx", (4, 2, 1)))
+def perm_of(letters: str) -> int:
+    """Returns the permissions of which a text has the letters."""
+    return sum(bit for letter, bit in PERMISSIONS.items() if letter in letters)
+
+
+def letters_of(perm: int, absent: str = "-") -> str:
+    """Returns the letters of permissions, with `absent` in place of each one that is not among them: such as `r-x`."""
+    return "".join(letter if perm & bit else absent for letter, bit in PERMISSIONS.items())

@@ -6,10 +6,8 @@ import json
 from typing import Any, Dict, List, NamedTuple, Sequence, Union
 
 from aclck import Difference, PosixDifference, mask_text
+from aclck.entries import letters_of
 from aclck_tree.output.text import quoted, quoted_line
-
-LETTERS = {"r": 4, "w": 2, "x": 1}
-"""The permissions of a POSIX ACL."""
 
 
 class Reply(NamedTuple):
@@ -41,8 +39,7 @@ class ShownDifference(NamedTuple):
     @classmethod
     def of(cls, found: Union[Difference, PosixDifference]) -> ShownDifference:
         """Returns what is shown of a difference that the library found."""
-        right = mask_text(found.right) if isinstance(found, Difference) else \
-            "".join(letter for letter, bit in LETTERS.items() if found.want & bit)
+        right = mask_text(found.right) if isinstance(found, Difference) else letters_of(found.want, absent="")
         return cls(found.owner, found.group, found.user, found.groups, right)
 
     def lines(self) -> List[str]:

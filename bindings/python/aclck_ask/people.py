@@ -7,6 +7,7 @@ import os
 from typing import FrozenSet, List, NamedTuple, Optional, Sequence, Tuple, Union
 
 from aclck import NfsAcl, PosixAcl, Requesters, mask_text
+from aclck.entries import PERMISSIONS, perm_of
 from aclck_form.accounts import SystemIds
 from aclck_form.values import POSIX
 from aclck_tree.answer.commands import read_people
@@ -15,7 +16,7 @@ from aclck_tree.output.errors import NO, REFUSED, YES, TreeError, UsageError
 from aclck_tree.output.text import quoted
 from aclck_tree.people.people import Accounts, Person, read_id
 
-from .answer import LETTERS, Reply
+from .answer import Reply
 from .describing import mask_of
 from .lists import SPECIAL, Given, is_digits, read_lists
 
@@ -114,9 +115,9 @@ def _answer(right: str, people: Sequence[Person], found: Sequence[Optional[bool]
 
 def _letters(text: str) -> int:
     """Returns the permissions that letters name. Raises UsageError if they are none of `rwx`."""
-    if not text or not set(text) <= set(LETTERS):
+    if not text or not set(text) <= set(PERMISSIONS):
         raise UsageError(f"a POSIX ACL has letters of rwx, and not {text!r}")
-    return sum(bit for letter, bit in LETTERS.items() if letter in text)
+    return perm_of(text)
 
 
 def _asked(acl: Union[NfsAcl, PosixAcl], identities: Sequence[Optional[_Identity]], of: _Identity,

@@ -21,6 +21,7 @@ from aclck import (
     mask_text,
     read_mask,
 )
+from aclck.entries import PERMISSIONS, perm_of
 
 from aclck_tree.answer.bits import bits_of, chosen
 from aclck_tree.answer.classes import Classes, everybody
@@ -91,8 +92,8 @@ def want_of(text: str, any_of: bool = False) -> Want:
 
     Raises UsageError if the text is neither, or is empty.
     """
-    if text and set(text) <= set("rwx"):
-        perms = sum(bit for letter, bit in zip("rwx", (4, 2, 1)) if letter in text)
+    if text and set(text) <= set(PERMISSIONS):
+        perms = perm_of(text)
         return Want(text, sum(mask for bit, mask in POSIX_MASKS.items() if perms & bit), perms, 0, any_of)
     try:
         mask = read_mask(text)

@@ -5,6 +5,7 @@ from __future__ import annotations
 from typing import Dict, Iterator, List, NamedTuple, Optional, Tuple, Union
 
 from aclck import ALL, ALLOW, Decision, mask_text
+from aclck.entries import PERMISSIONS, letters_of
 
 from aclck_tree.answer.ask import DENIED, GRANTED, UNKNOWN, Answer, Asker, Want
 from aclck_tree.answer.identities import Identity
@@ -61,15 +62,15 @@ def why_posix(asker: Asker, face: Face, asked: AskableList, person: Person) -> L
     identity = asker.identity(person, face, Kind.POSIX)
     assert asked.posix
     if identity is None:
-        return [Why(letter, UNKNOWN, None, "no id is known for the user or a group") for letter in "rwx"]
+        return [Why(letter, UNKNOWN, None, "no id is known for the user or a group") for letter in PERMISSIONS]
     user, groups = int(identity.user), set(map(int, identity.groups))
     entries = {(entry.tag, entry.id): entry.perm for entry in asked.posix if not entry.default}
     mask = entries.get(("mask", None), 7)
     rows = []
-    for letter, bit in zip("rwx", (4, 2, 1)):
+    for letter, bit in PERMISSIONS.items():
         tag, number, masked = _entry_for(entries, user, groups, face, bit)
-        text = f"{tag}:{'' if number is None else number}:{_letters(entries[tag, number])}"
-        limited = f", mask::{_letters(mask)}" if masked and mask != 7 else ""
+        text = f"{tag}:{'' if number is None else number}:{letters_of(entries[tag, number])}"
+        limited = f", mask::{letters_of(mask)}" if masked and mask != 7 else ""
         granted = check(asked.posix, face, identity, bit)
         rows.append(Why(letter, GRANTED if granted else DENIED, None, text + limited))
     return rows
@@ -86,7 +87,7 @@ def why_request(asker: Asker, face: Face, person: Person, want: Want) -> Iterato
             yield Why(mask_text(right), Answer.REFUSED, None, "a POSIX ACL has no such right")
     if want.perms and identity and not check(asked.posix, face, identity, want.perms):
         if all(check(asked.posix, face, identity, bit) for bit in POSIX_MASKS if want.perms & bit):
-            letters = _letters(want.perms).replace("-", "")
+            letters = letters_of(want.perms, absent="")
             yield Why(letters, DENIED, None, "no entry grants all of these permissions")
 
 
@@ -102,10 +103,6 @@ def _entry_for(entries: Dict[Tuple[str, Optional[int]], int], user: int, groups:
     if matching:
         return "group", next((one for one in matching if entries["group", one] & bit), matching[0]), True
     return "other", None, False
-
-
-def _letters(perm: int) -> str:
-    return "".join(letter if perm & bit else "-" for letter, bit in zip("rwx", (4, 2, 1)))
 
 
 def why(asker: Asker, face: Face, person: Person) -> Union[RefusedList, List[Why]]:

@@ -12,6 +12,7 @@ from dataclasses import replace
 from typing import Callable, Dict, FrozenSet, Iterator, List, NamedTuple, Optional, Sequence, Tuple
 
 from aclck import ALLOW, Ace, AceFlag, Difference, NfsAcl, mask_text
+from aclck.entries import letters_of
 
 from aclck_tree.answer.ask import Asker
 from aclck_tree.answer.compare import named_of
@@ -305,9 +306,9 @@ class Judge:
                 str(found.user), tuple(map(str, found.groups)))):
             for perms in (*(perms for perms in range(1, 8) if perms & (perms - 1)), found.want):
                 if check(more, face, identity, perms) and not check(less, face, identity, perms):
-                    letters = "".join(letter for letter, bit in zip("rwx", (4, 2, 1)) if perms & bit)
                     return Breach(Verdict.BROKEN, bound_word(case.is_most), view.on, who, is_known,
-                                  f"{letters} at once", None, self._entry(view, identity, (str(uid), str(gid)), perms))
+                                  f"{letters_of(perms, absent='')} at once", None,
+                                  self._entry(view, identity, (str(uid), str(gid)), perms))
         return case.unknown("it would be broken for another owner or group of the object, and may be for this one")
 
     def _asked_at_once(self, view: _View, face: Face, found: Identity) -> Iterator[Tuple[str, bool, Identity]]:
