@@ -3,16 +3,14 @@
 from __future__ import annotations
 
 import argparse
-import contextlib
-import grp
 import os
-import pwd
 import re
 from typing import Dict, Iterable, Iterator, Optional, Tuple, Union
 
 from aclck import ALLOW, Ace, AceFlag, Entry, NfsAcl, PosixAcl, Refused, TarStyle
 from aclck.tar_texts import unspelled
 from aclck_tree.output.errors import TreeError
+from aclck_tree.people.accounts import known_id, known_name
 from aclck_tree.scan.headers import accounts_in
 
 from .streams import read_file, short
@@ -32,16 +30,11 @@ class SystemIds:
 
     def number_of(self, is_group: bool, name: bytes) -> Optional[int]:
         """Returns the id of a name, or None."""
-        with contextlib.suppress(KeyError, ValueError):  # a name with a zero byte is no name
-            spelled = os.fsdecode(name)
-            return grp.getgrnam(spelled).gr_gid if is_group else pwd.getpwnam(spelled).pw_uid
-        return None
+        return known_id(is_group, name)
 
     def name_of(self, is_group: bool, number: int) -> Optional[bytes]:
         """Returns the name of an id, or None."""
-        with contextlib.suppress(KeyError):
-            return os.fsencode(grp.getgrgid(number).gr_name if is_group else pwd.getpwuid(number).pw_name)
-        return None
+        return known_name(is_group, number)
 
 
 class Table(SystemIds):

@@ -39,8 +39,8 @@ class System:
         key = is_group, number
         with self._lock:
             if key not in self._names:
-                name = _name_of(is_group, number)
-                is_its_own = (name is not None and is_name(name) and _number_of(is_group, name) == number
+                name = known_name(is_group, number)
+                is_its_own = (name is not None and is_name(name) and known_id(is_group, name) == number
                               and not self._is_shared(is_group, name))
                 self._names[key] = name if is_its_own else None
             return self._names[key]
@@ -59,17 +59,19 @@ class System:
         key = is_group, name
         with self._lock:
             if key not in self._numbers:
-                self._numbers[key] = _number_of(is_group, name)
+                self._numbers[key] = known_id(is_group, name)
             return self._numbers[key]
 
 
-def _name_of(is_group: bool, number: int) -> Optional[bytes]:
+def known_name(is_group: bool, number: int) -> Optional[bytes]:
+    """Returns the name that this system has for an id (getpwuid(3), getgrgid(3)), or None."""
     with contextlib.suppress(KeyError, OverflowError):
         return os.fsencode(grp.getgrgid(number).gr_name if is_group else pwd.getpwuid(number).pw_name)
     return None
 
 
-def _number_of(is_group: bool, name: bytes) -> Optional[int]:
+def known_id(is_group: bool, name: bytes) -> Optional[int]:
+    """Returns the id that this system has for a name (getpwnam(3), getgrnam(3)), or None."""
     with contextlib.suppress(KeyError, ValueError):  # a name with a zero byte is no name
         spelled = os.fsdecode(name)
         return grp.getgrnam(spelled).gr_gid if is_group else pwd.getpwnam(spelled).pw_uid
