@@ -9,11 +9,8 @@ from typing import Dict, Iterable, Iterator, List, NamedTuple, Optional, Sequenc
 
 from aclck_tree.answer.ask import Asker
 from aclck_tree.answer.lists import AskableList, Kind, decoded, encoded, nfs_bytes, pieces
-from aclck_tree.output.text import quoted
+from aclck_tree.output.text import first_few, quoted
 from aclck_tree.people.people import Person
-
-SHOWN = 5
-"""How many names a line shows; it counts the others."""
 
 Name = Tuple[bool, str]  # whether it is a group, and the name as it was given
 _Form = Tuple[int, bool, bytes]  # the tree, or 0 for the names of NFSv4 lists; whether it is a group; the name or id
@@ -91,9 +88,8 @@ def names_in_words(names: Set[Name]) -> str:
     for is_group, word in ((False, "user"), (True, "group")):
         some = sorted(name for kind, name in names if kind == is_group)
         if some:
-            more = f" and {len(some) - SHOWN:,} more" if len(some) > SHOWN else ""
             plural = "s" if len(some) > 1 else ""
-            parts.append(f"the {word}{plural} {', '.join(map(quoted, some[:SHOWN]))}{more}")
+            parts.append(f"the {word}{plural} {first_few(some, quoted)}")
     return " or ".join(parts)
 
 
@@ -103,8 +99,7 @@ def _domains(asker: Asker, found: Unmentioned, names: Set[Name]) -> str:
     if not given:
         return ""
     shown: Sequence[str] = sorted(found.domains)
-    more = f" and {len(shown) - SHOWN:,} more" if len(shown) > SHOWN else ""
-    line = f"; the NFSv4 lists have the domain {', '.join(map(quoted, shown[:SHOWN]))}{more}"
+    line = f"; the NFSv4 lists have the domain {first_few(shown, quoted)}"
     folded: Dict[str, List[str]] = {}
     for domain in shown:
         folded.setdefault(domain.casefold(), []).append(domain)

@@ -11,13 +11,9 @@ from aclck import PosixAcl
 from aclck_tree.answer.ask import DENIED, GRANTED, UNKNOWN, Answers, Asker, want_of
 from aclck_tree.answer.lists import RefusedList
 from aclck_tree.answer.reasons import Why, why
-from aclck_tree.output.text import plural, quoted, quoted_line, quoted_path, tell
+from aclck_tree.output.text import first_few, plural, quoted, quoted_line, quoted_path, tell
 from aclck_tree.people.people import Person
 from aclck_tree.snapshot.snapshot import Face, Tree
-
-_SHOWN = 5
-"""How many directories a line names; it counts the others."""
-
 
 _NOT_ASKED = "the directories above the root were not asked when it was scanned"
 
@@ -106,9 +102,7 @@ def tell_above(asker: Asker, trees: Optional[Sequence[int]] = None) -> bool:
     unread = dict.fromkeys((one.path, one.message) for rows in found for one in rows or () if one.message)
     shown = [f"{quoted_path(path)} ({quoted_line(message)})" for path, message in unread]
     if shown:
-        more = f" and {len(shown) - _SHOWN:,} more" if len(shown) > _SHOWN else ""
-        tell(f"{quoted(asker.snapshot.place)}: above the tree, it is not known who gets past "
-             f"{', '.join(shown[:_SHOWN])}{more}")
+        tell(f"{quoted(asker.snapshot.place)}: above the tree, it is not known who gets past {first_few(shown, str)}")
     if None in found:
         of_some = f" of {plural(found.count(None), 'tree')}" if len(found) > 1 else ""
         tell(f"{quoted(asker.snapshot.place)}: the directories above the root{of_some} were not asked when it was "

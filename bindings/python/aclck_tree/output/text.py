@@ -3,19 +3,38 @@
 from __future__ import annotations
 
 import enum
+import itertools
 import json
 import os
 import re
 import stat
 import sys
 import unicodedata
-from typing import TYPE_CHECKING, Any, Callable, Dict, Iterable, List, NamedTuple, Optional, Sequence, TextIO
+from typing import (
+    TYPE_CHECKING,
+    Any,
+    Callable,
+    Collection,
+    Dict,
+    Iterable,
+    List,
+    NamedTuple,
+    Optional,
+    Sequence,
+    TextIO,
+    TypeVar,
+)
 
 if TYPE_CHECKING:
     from aclck_tree.snapshot.snapshot import Snapshot, Tree
 
 Row = Dict[str, Any]
 """One answer. Names and paths in it are `str` as os.fsdecode makes them."""
+
+_SHOWN = 5
+"""How many names a line shows; it counts the others."""
+
+_Named = TypeVar("_Named")
 
 _PLAIN = re.compile(r"[\w@%+=:,./^-]+")
 """Texts that bash reads as they are: `\\w` is a letter or a digit of any alphabet, or `_`."""
@@ -54,6 +73,12 @@ def quoted(name: str) -> str:
         else:
             found += "".join(f"\\{byte:03o}" for byte in letter.encode("utf-8", "surrogateescape"))
     return f"$'{found}'"
+
+
+def first_few(names: Collection[_Named], shown: Callable[[_Named], str]) -> str:
+    """Returns the first names as a line shows them, with commas between, and how many more there are."""
+    more = f" and {len(names) - _SHOWN:,} more" if len(names) > _SHOWN else ""
+    return ", ".join(map(shown, itertools.islice(names, _SHOWN))) + more
 
 
 def quoted_line(text: str) -> str:

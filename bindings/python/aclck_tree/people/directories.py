@@ -12,11 +12,8 @@ from typing import Dict, Iterable, Iterator, List, NoReturn, Optional, Sequence,
 
 from aclck_tree.output.errors import TreeError
 from aclck_tree.output.files import opened_file
-from aclck_tree.output.text import plural, quoted, tell
+from aclck_tree.output.text import first_few, plural, quoted, tell
 from aclck_tree.people.people import Person, made_person, read_id
-
-_SHOWN = 5
-"""How many names a line shows; it counts the others."""
 
 _USERS = {"posixaccount", "account", "person", "user", "inetorgperson"}
 _GROUPS = {"posixgroup", "group", "groupofnames", "groupofuniquenames", "groupofmembers"}
@@ -79,7 +76,8 @@ class _Accounts:
             graphlib.TopologicalSorter({name: one.groups for name, one in self.groups.items()}).prepare()
         except graphlib.CycleError as error:
             names = list(dict.fromkeys(error.args[1]))
-            tell(f"{quoted(self.place)}: these groups are in each other, and have the same members: {_some(names)}")
+            tell(f"{quoted(self.place)}: these groups are in each other, and have the same members: "
+                 f"{first_few(names, quoted)}")
         return [made_person((one.name, one.number), [(group, self._id(group)) for group in groups])
                 for one, groups in self._users()]
 
@@ -118,11 +116,6 @@ class _Accounts:
 def refuse(place: str, line: int, reason: str) -> NoReturn:
     """Raises TreeError about a line of a file."""
     raise TreeError(f"{quoted(place)}: line {line}: {reason}")
-
-
-def _some(names: Sequence[str]) -> str:
-    more = f" and {len(names) - _SHOWN:,} more" if len(names) > _SHOWN else ""
-    return ", ".join(map(quoted, names[:_SHOWN])) + more
 
 
 def _id_in(place: str, line: int, text: str) -> Optional[int]:
@@ -297,7 +290,8 @@ def people_of_ldif(place: str) -> List[Person]:
         found.append((entry, account, is_group))
     absent = _joined(accounts, found, of_names)
     if absent:
-        tell(f"{quoted(place)}: {plural(len(absent), 'name')} of members not in the file: {_some(sorted(absent))}")
+        tell(f"{quoted(place)}: {plural(len(absent), 'name')} of members not in the file: "
+             f"{first_few(sorted(absent), quoted)}")
     return accounts.people()
 
 

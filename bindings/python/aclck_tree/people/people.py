@@ -11,15 +11,12 @@ from dataclasses import dataclass, field
 from typing import Callable, Dict, Iterable, Iterator, List, Mapping, Optional, Sequence, Set, Tuple, Union
 
 from aclck_tree.output.errors import TreeError, UsageError
-from aclck_tree.output.text import quoted, tell
+from aclck_tree.output.text import first_few, quoted, tell
 from aclck_tree.people.accounts import group_name, groups_of, least_id
 from aclck_tree.snapshot.snapshot import Snapshot, StoredList
 
 HIGHEST_ID = 0xFFFFFFFE
 """The highest id of a user or a group. The next number means that there is no id."""
-
-_SHOWN = 5
-"""How many names a line shows; it counts the others."""
 
 MOST_IDS = 16
 """How many ids of a host may have one name: each of them is asked about."""
@@ -231,9 +228,8 @@ def tell_shared(place: str, users: Iterable[Tuple[str, int]]) -> Set[str]:
         ids.setdefault(name, set()).add(number)
     shared = sorted(name for name, numbers in ids.items() if len(numbers) > 1)
     if shared:
-        more = f" and {len(shared) - _SHOWN:,} more" if len(shared) > _SHOWN else ""
         tell(f"{place}: several accounts have one name, by which nobody is asked about: "
-             f"{', '.join(map(quoted, shared[:_SHOWN]))}{more}")
+             f"{first_few(shared, quoted)}")
     return set(shared)
 
 

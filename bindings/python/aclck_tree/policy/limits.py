@@ -10,7 +10,7 @@ from aclck import ALL, ALLOW, APPEND_DATA, EXECUTE, READ_DATA, WRITE_DATA, Ace, 
 
 from aclck_tree.answer.ask import Asker
 from aclck_tree.answer.lists import Kind
-from aclck_tree.output.text import quoted
+from aclck_tree.output.text import first_few, quoted
 from aclck_tree.policy.policies import Bound, PosixBound, Principal, Rule, Words
 
 _OF_POSIX = READ_DATA | WRITE_DATA | APPEND_DATA | EXECUTE
@@ -18,9 +18,6 @@ _OF_POSIX = READ_DATA | WRITE_DATA | APPEND_DATA | EXECUTE
 _Name = Union[str, bytes]
 
 _SPECIAL = ("OWNER@", "GROUP@", "EVERYONE@")
-
-_SHOWN = 5
-"""How many names a line shows; it counts the others."""
 
 
 class Limit(NamedTuple):
@@ -148,6 +145,4 @@ def lacks(rights: int) -> str:
 
 def no_ids(given: Iterable[str]) -> str:
     """Returns the line about names without ids."""
-    names = list(dict.fromkeys(given))
-    more = f" and {len(names) - _SHOWN:,} more" if len(names) > _SHOWN else ""
-    return f"no id is known for {', '.join(map(quoted, names[:_SHOWN]))}{more}"
+    return f"no id is known for {first_few(dict.fromkeys(given), quoted)}"

@@ -15,15 +15,12 @@ from dataclasses import replace
 from typing import Dict, Iterator, List, NamedTuple, Optional, Sequence, Set, Tuple
 
 from aclck_tree.output.errors import TreeError
-from aclck_tree.output.text import quoted, quoted_path
+from aclck_tree.output.text import first_few, quoted, quoted_path
 from aclck_tree.people.accounts import ids_in_lists
 from aclck_tree.people.people import read_id
 from aclck_tree.snapshot.portions import MIXED, Device, Portion, above
 from aclck_tree.snapshot.snapshot import TIME, Above, Found, Snapshot, Tree
 from aclck_tree.snapshot.writer import Writer
-
-SHOWN = 5
-"""How many of the shards that are absent are named."""
 
 MOST_LINKS = 2**53
 """How many links a snapshot can count."""
@@ -89,11 +86,10 @@ def _judge_shards(sources: List[Source], shards: int) -> None:
         twin = known.setdefault(source.portion.shard, source)
         if twin is not source:
             raise TreeError(f"{twin.place} and {source.place} both have {source.portion.words()}, {source.name()}")
-    absent = [str(number) for number in range(1, shards + 1) if number not in known]
+    absent = [number for number in range(1, shards + 1) if number not in known]
     if absent:
-        more = f" and {len(absent) - SHOWN:,} more" if len(absent) > SHOWN else ""
         raise TreeError(f"of the {shards} shards of {sources[0].name()}, "
-                        f"{', '.join(absent[:SHOWN])}{more} {'is' if len(absent) == 1 else 'are'} absent")
+                        f"{first_few(absent, str)} {'is' if len(absent) == 1 else 'are'} absent")
     sources.sort(key=lambda source: source.portion.shard if source.portion else 0)
 
 

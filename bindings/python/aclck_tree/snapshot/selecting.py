@@ -9,12 +9,9 @@ from dataclasses import replace
 from typing import AnyStr, Dict, Iterable, Iterator, List, NamedTuple, Optional, Sequence, Tuple, TypeVar
 
 from aclck_tree.output.errors import TreeError, UsageError
-from aclck_tree.output.text import ObjectName, ObjectNamer, quoted, quoted_path, quoted_place
+from aclck_tree.output.text import ObjectName, ObjectNamer, first_few, quoted, quoted_path, quoted_place
 from aclck_tree.snapshot.globs import Matcher, PathPattern, judge_patterns, path_pattern
 from aclck_tree.snapshot.snapshot import Snapshot, Tree
-
-_SHOWN = 5
-"""How many places of an object a line shows; it counts the others."""
 
 
 class Counted(NamedTuple):
@@ -105,9 +102,7 @@ def selected(snapshot: Snapshot, glob: Optional[str]) -> Iterator[Tuple[int, byt
 def beginnings(snapshot: Snapshot) -> str:
     """Returns what the paths of a snapshot begin with, as they were typed for the scan and from `/`."""
     places = dict.fromkeys(place for tree in snapshot.trees.values() for place in (tree.root, tree.place))
-    shown = [quoted_path(place) for place in itertools.islice(places, _SHOWN)]
-    more = f" and {len(places) - len(shown):,} more" if len(places) > len(shown) else ""
-    return f"the paths begin with {', '.join(shown)}{more}"
+    return f"the paths begin with {first_few(places, quoted_path)}"
 
 
 def find(snapshot: Snapshot, path: str) -> Tuple[Tree, bytes, int]:
@@ -121,9 +116,8 @@ def find(snapshot: Snapshot, path: str) -> Tuple[Tree, bytes, int]:
         raise TreeError(f"{quoted(path)}: not in the snapshot")
     places = {(tree.host, _whole(_normal(tree.place), below)) for tree, below, _ in found}
     if len(places) > 1:
-        names = [quoted_place(host, place) for host, place in sorted(places)]
-        more = f" and {len(names) - _SHOWN:,} more" if len(names) > _SHOWN else ""
-        raise TreeError(f"{quoted(path)}: this path is in several trees: {', '.join(names[:_SHOWN])}{more}")
+        names = first_few(sorted(places), lambda one: quoted_place(*one))
+        raise TreeError(f"{quoted(path)}: this path is in several trees: {names}")
     if len({tree.place for tree, _, _ in found}) < len(found) or not _are_alike(snapshot, found):
         raise TreeError(f"{quoted(path)}: the snapshot has it at several times")
     return found[0]
