@@ -3,6 +3,7 @@ directory for each test. The scripts need the library that `make library` leaves
 """
 import contextlib
 import ctypes
+import io
 import json
 import os
 import re
@@ -14,6 +15,7 @@ from unittest import mock
 
 from encoders import ANYBODY, nfs, posix
 from harness import LIBRARY, ROOT, run, say_skipped
+from aclck_tree.cli.main import main
 from aclck_tree.snapshot.snapshot import Above, StoredList
 
 TOOL = os.path.join(ROOT, "bin/aclck-tree")
@@ -128,11 +130,29 @@ class Scratch(unittest.TestCase):
         self.assertNotIn("Traceback", found[2])
         return found
 
+    def run_tool(self, *words):
+        """Runs the program in the directory, and returns its exit status, its output and its lines on standard error."""
+        return tool(*words, directory=self.directory)
+
     def ask(self, *words):
         """Asks a question, and returns the exit status and the JSON objects of the answer."""
-        status, out, printed = tool(*words, "--json", directory=self.directory)
+        status, out, printed = self.run_tool(*words, "--json")
         self.assertNotIn("Traceback", printed)
         return status, [json.loads(line) for line in out.splitlines()]
 
     def asked(self, word, *words):
         return self.ask(word, "snapshot", "--domain", "example.com", *words)[1]
+
+
+class InProcess(Scratch):
+    """A directory for each test. The program runs in the process of the test."""
+
+    def run_tool(self, *words, directory=None):
+        out, printed, here = io.StringIO(), io.StringIO(), os.getcwd()
+        os.chdir(directory or self.directory)
+        try:
+            with contextlib.redirect_stdout(out), contextlib.redirect_stderr(printed):
+                status = main(list(words))
+        finally:
+            os.chdir(here)
+        return status, out.getvalue(), printed.getvalue()
