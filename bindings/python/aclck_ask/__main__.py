@@ -11,6 +11,7 @@ from aclck_form.accounts import SystemIds, accounts_of
 from aclck_form.running import Parser, add_accounts, add_kinds, run
 from aclck_form.values import FORMS_HELP, NFS, POSIX, TOOLS
 from aclck_tree import VERSION
+from aclck_tree.cli.main import PEOPLE_HELP
 from aclck_tree.output.errors import UsageError
 
 from .answer import Reply
@@ -49,8 +50,7 @@ _QUESTIONS: Dict[str, Tuple[str, List[_Argument]]] = {
     "needed": ("which rights of an NFSv4 list decide something, and which can go", [_LIST]),
     "who": ("which of some people have a right", [
         ("right", dict(metavar="RIGHT", help="rights with | between them, or letters of rwx for a POSIX ACL")), _LIST,
-        ("--people", dict(metavar="FILE", required=True, help="who is asked about: lines `name: group group ..`, or "
-                          "LDIF or CSV if FILE ends with .ldif or .csv")),
+        ("--people", dict(metavar="FILE", required=True, help=PEOPLE_HELP)),
         ("--owner", dict(metavar="USER", required=True, help="the owner of the object")),
         ("--group", dict(metavar="GROUP", required=True, help="the owning group of the object"))])}
 """The questions, each with what it answers, and with its own arguments."""

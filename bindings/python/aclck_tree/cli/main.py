@@ -35,6 +35,9 @@ class _Parser(argparse.ArgumentParser):
         (file or sys.stderr).write(message)  # that of argparse says nothing of a failure
 
 
+PEOPLE_HELP = "who is asked about: lines `name: group group ..`, or LDIF or CSV if FILE ends with .ldif or .csv"
+"""What `--help` says of `--people`."""
+
 _Argument = Tuple[str, Dict[str, Any]]
 """The name of an argument, and what `add_argument` gets with it."""
 
@@ -60,8 +63,7 @@ _USER: _Arguments = [
                        "several times; else those that the scanned system knew")),
      ("--getent", dict(action="store_true", help="the user's groups are those that this system knows"))]]
 _PEOPLE: _Arguments = [
-    [("--people", dict(metavar="FILE", help="who is asked about: lines `name: group group ..`, or LDIF or CSV if "
-                       "FILE ends with .ldif or .csv")),
+    [("--people", dict(metavar="FILE", help=PEOPLE_HELP)),
      ("--passwd", dict(metavar="FILE", help="the same, in the form of passwd(5), with --group")),
      ("--getent", dict(action="store_true", help="the accounts that this system lists; without any of these, those "
                        "that the scanned system listed"))],
