@@ -127,9 +127,9 @@ _UNUSED = Identity("?")
 """Who asks in place of a person whose id is not known. The answer is not used."""
 
 
-class _Forms(NamedTuple):
-    """The people in one form for a kind of list, and a bit for each person who has such a form. If it counts only for
-    lists with some names, `if_named` has these for each person, and whether they are those of groups."""
+class _Named(NamedTuple):
+    """The people as a kind of list names them in one way, and a bit for each person whom it names so. If the way counts
+    only for lists with some names, `if_named` has these for each person, and whether they are those of groups."""
 
     identities: List[Optional[Identity]]
     requesters: Requesters
@@ -139,13 +139,13 @@ class _Forms(NamedTuple):
 
     @classmethod
     def of(cls, identities: List[Optional[Identity]],
-           if_named: Sequence[AbstractSet[Tuple[bool, str]]] = ()) -> _Forms:
-        """Returns the forms for the identities of the people."""
+           if_named: Sequence[AbstractSet[Tuple[bool, str]]] = ()) -> _Named:
+        """Returns the people by their identities."""
         return cls(identities, Requesters([one or _UNUSED for one in identities]),
                    bits_of(one is not None for one in identities), Classes(identities), if_named)
 
 
-_MOST_FORMS = 8
+_MOST_NAMED = 8
 """For how many trees the people are kept with the ids that they have there."""
 
 
@@ -162,7 +162,7 @@ class Asker:
         self.stored = snapshot.lists()
         self._above: Dict[StoredList, int] = {}
         self._ready: Dict[int, Ready] = {}
-        self._forms: Dict[Tuple[Kind, int], List[_Forms]] = {}
+        self._named: Dict[Tuple[Kind, int], List[_Named]] = {}
         self._rows: Dict[Tuple[int, int], Answers] = {}
         self._everybody = (1 << len(self.people)) - 1
 
@@ -216,9 +216,9 @@ class Asker:
         """Returns a name, with the domain added if it has none."""
         return full_name(name, self.options.domain)
 
-    def owner_and_group(self, face: Face, kind: str) -> Tuple[str, str]:
+    def owner_and_group(self, face: Face, kind: Kind) -> Tuple[str, str]:
         """Returns the names of the owner and the group of a face, in the form of its kind of list."""
-        if kind == Kind.POSIX:
+        if kind is Kind.POSIX:
             return str(face.uid), str(face.gid)
         return self._identities.word(False, face.uid, face.tree), self._identities.word(True, face.gid, face.tree)
 
@@ -250,43 +250,43 @@ class Asker:
         """Returns the ways in which NFSv4 lists may name a person."""
         return self._identities.by_names(person, tree)
 
-    def identity(self, person: Person, face: Face, kind: str) -> Optional[Identity]:
+    def identity(self, person: Person, face: Face, kind: Kind) -> Optional[Identity]:
         """Returns the first way in which a kind of list names a person, or None if an id is not known."""
-        if kind == Kind.NFS4:
+        if kind is Kind.NFS4:
             return self._identities.by_names(person, face.tree).always[0]
         return self._identities.by_ids(person, face.tree)
 
-    def _forms_of(self, face: Face, kind: Kind) -> List[_Forms]:
-        """Returns the people in the form of a kind of list in a tree, and in other forms those whom such a list may
-        name in several ways."""
+    def _named_by(self, face: Face, kind: Kind) -> List[_Named]:
+        """Returns the people as a kind of list names them in a tree, and once more those whom such a list may name in
+        several ways, for each of these."""
         key = (kind, face.tree)
-        if key not in self._forms:
-            if len(self._forms) == _MOST_FORMS:
-                self._forms.clear()
-            self._forms[key] = self._made_forms(face, kind)
-        return self._forms[key]
+        if key not in self._named:
+            if len(self._named) == _MOST_NAMED:
+                self._named.clear()
+            self._named[key] = self._in_each_way(face, kind)
+        return self._named[key]
 
-    def _made_forms(self, face: Face, kind: Kind) -> List[_Forms]:
+    def _in_each_way(self, face: Face, kind: Kind) -> List[_Named]:
         if kind is Kind.POSIX:
-            return [_Forms.of([self._identities.by_ids(person, face.tree) for person in self.people])]
+            return [_Named.of([self._identities.by_ids(person, face.tree) for person in self.people])]
         ways = [self._identities.by_names(person, face.tree) for person in self.people]
-        forms = [_Forms.of([one.always[place] if place < len(one.always) else None for one in ways])
+        found = [_Named.of([one.always[place] if place < len(one.always) else None for one in ways])
                  for place in range(max([1, *(len(one.always) for one in ways)]))]
         for place in range(max([0, *(len(one.if_named) for one in ways)])):
             rows = [one.if_named[place] if place < len(one.if_named) else None for one in ways]
-            forms.append(_Forms.of([row[0] if row else None for row in rows],
+            found.append(_Named.of([row[0] if row else None for row in rows],
                                    [row[1] if row else frozenset() for row in rows]))
-        return forms
+        return found
 
-    def _forms_for(self, face: Face, kind: Kind, acl: NfsAcl) -> List[_Forms]:
-        """Returns the forms that count for a list: of those that count only for some lists, the people of whom the list
-        has a name."""
-        forms = self._forms_of(face, kind)
-        if not any(one.if_named for one in forms):
-            return forms
+    def _named_in(self, face: Face, kind: Kind, acl: NfsAcl) -> List[_Named]:
+        """Returns the people in the ways that count for a list: in those that count only for some lists, the people of
+        whom the list has a name."""
+        found = self._named_by(face, kind)
+        if not any(one.if_named for one in found):
+            return found
         named = {(ace.is_group, ace.who) for ace in acl}
         return [one if not one.if_named else one._replace(
-            known=bits_of(not names.isdisjoint(named) for names in one.if_named)) for one in forms]
+            known=bits_of(not names.isdisjoint(named) for names in one.if_named)) for one in found]
 
     def masks(self, face: Face, asked: AskableList) -> Sequence[Optional[int]]:
         """Returns what each person is granted by a list without special identifiers, or None for a person of whom that
@@ -296,12 +296,12 @@ class Asker:
     def granted_by(self, acl: NfsAcl, face: Face, kind: Kind, owner: str, group: str) -> Sequence[Optional[int]]:
         """Returns what each person is granted by a list in the names of a face and a kind of list, on an object of an
         owner and a group, or None for a person of whom that is not known."""
-        first, *others = self._forms_for(face, kind, acl)
+        first, *others = self._named_in(face, kind, acl)
         found: List[Optional[int]] = [mask if one else None for mask, one in zip(
             acl.granted_many(first.requesters, owner=owner, group=group), first.identities)]
-        for forms in others:
-            masks = acl.granted_many(forms.requesters, owner=owner, group=group) if forms.known else ()
-            for place in chosen(range(len(masks)), forms.known):
+        for other in others:
+            masks = acl.granted_many(other.requesters, owner=owner, group=group) if other.known else ()
+            for place in chosen(range(len(masks)), other.known):
                 found[place] = found[place] if masks[place] == found[place] else None
         return found
 
@@ -329,12 +329,12 @@ class Asker:
             return Request.DEPENDS
         return {Request.ALWAYS: Request.NEVER, Request.NEVER: Request.ALWAYS}.get(none, none)
 
-    def _whomever(self, face: Face, asked: AskableList, want: Want, forms: _Forms) -> Tuple[int, int]:
+    def _whomever(self, face: Face, asked: AskableList, want: Want, people: _Named) -> Tuple[int, int]:
         """Returns whom a list with special identifiers grants what is asked, and whom it denies that, whomever the
         server takes for these names."""
-        found: List[Optional[Request]] = [None] * len(forms.identities)
-        for place in chosen(range(len(found)), forms.known):
-            one = forms.identities[place]
+        found: List[Optional[Request]] = [None] * len(people.identities)
+        for place in chosen(range(len(found)), people.known):
+            one = people.identities[place]
             assert one
             found[place] = (self._is_any(face, asked, one, want.mask) if want.any
                             else self.possible(face, asked, one, want.mask).request)
@@ -369,32 +369,32 @@ class Asker:
                 return RefusedList(f"a POSIX ACL has no {mask_text(want.missing)}")
             mask = want.posix_mask
         granted = denied = self._everybody
-        for place, forms in enumerate(self._forms_for(face, asked.kind, asked.acl)):
-            if place == 0 or forms.known:
-                yes, no = self._answered(face, asked, want._replace(mask=mask), forms)
-                others = 0 if place == 0 else ~forms.known
+        for place, people in enumerate(self._named_in(face, asked.kind, asked.acl)):
+            if place == 0 or people.known:
+                yes, no = self._answered(face, asked, want._replace(mask=mask), people)
+                others = 0 if place == 0 else ~people.known
                 granted, denied = granted & (yes | others), denied & (no | others)
         return self._row(granted, denied)
 
-    def _answered(self, face: Face, asked: AskableList, want: Want, forms: _Forms) -> Tuple[int, int]:
-        """Returns whom of the people in one form a list grants what is asked, and whom it denies that. Of those whom it
-        cannot treat differently, the first is asked."""
+    def _answered(self, face: Face, asked: AskableList, want: Want, people: _Named) -> Tuple[int, int]:
+        """Returns whom of the people, named in one way, a list grants what is asked, and whom it denies that. Of those
+        whom it cannot treat differently, the first is asked."""
         owner, group = self.owner_and_group(face, asked.kind)
         named = itertools.chain(asked.named, ((False, owner), (True, group)))
-        classes = forms.classes.of(forms.known, named, bool(asked.specials))
+        classes = people.classes.of(people.known, named, bool(asked.specials))
         if classes is None:
-            return self._each_answered(face, asked, want, forms)
-        firsts = _Forms.of([one.first for one in classes])
+            return self._each_answered(face, asked, want, people)
+        firsts = _Named.of([one.first for one in classes])
         granted, denied = self._each_answered(face, asked, want, firsts) if classes else (0, 0)
         return everybody(classes, granted), everybody(classes, denied)
 
-    def _each_answered(self, face: Face, asked: AskableList, want: Want, forms: _Forms) -> Tuple[int, int]:
+    def _each_answered(self, face: Face, asked: AskableList, want: Want, people: _Named) -> Tuple[int, int]:
         """Returns the same. Each of the people is asked."""
         if asked.specials:
-            return self._whomever(face, asked, want, forms)
+            return self._whomever(face, asked, want, people)
         owner, group = self.owner_and_group(face, asked.kind)
-        found = asked.acl.granted_many(forms.requesters, owner=owner, group=group, mask=want.mask)
+        found = asked.acl.granted_many(people.requesters, owner=owner, group=group, mask=want.mask)
         granted = bits_of([one != 0 for one in found] if want.any else [one == want.mask for one in found])
         if asked.posix and not want.any and want.perms & (want.perms - 1):
-            granted = at_once(face, asked.posix, forms.identities, granted & forms.known, want.perms)
-        return granted & forms.known, ~granted & forms.known
+            granted = at_once(face, asked.posix, people.identities, granted & people.known, want.perms)
+        return granted & people.known, ~granted & people.known

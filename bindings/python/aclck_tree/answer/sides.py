@@ -35,7 +35,7 @@ class Side:
         for _ in range(3):
             self.strangers.append(stranger_of(asker.snapshot, lists, [*asker.people, *self.strangers]))
 
-    def identity(self, person: Optional[Person], face: Face, kind: str) -> IdentityOrMissing:
+    def identity(self, person: Optional[Person], face: Face, kind: Kind) -> IdentityOrMissing:
         """Returns the user and the groups of a person for lists of a kind."""
         if not person:
             return Missing.PERSON
@@ -51,7 +51,7 @@ class ObjectOnSide(NamedTuple):
     views: Tuple[View, ...]
 
     @property
-    def kind(self) -> str:
+    def kind(self) -> Kind:
         """The kind of its list."""
         return self.views[0].asked.kind
 

@@ -25,6 +25,7 @@ from typing import Dict, Iterable, Iterator, List, NamedTuple, Optional, Sequenc
 
 from aclck_tree.answer.ask import Answers, AskOptions, Asker
 from aclck_tree.answer.commands import opened, people_of, status_of, tell_linux
+from aclck_tree.answer.lists import Kind
 from aclck_tree.answer.reach import reached, tell_above
 from aclck_tree.output.errors import YES, DeviceError, TreeError, UsageError
 from aclck_tree.output.text import plural, quoted, quoted_line, quoted_path
@@ -242,7 +243,7 @@ def _face_lines(source: _Source, faces: Sequence[Tuple[Face, bytes]], counts: _C
     for number, (face, digest) in enumerate(faces, 1):
         if counts.objects[number]:
             own = seen.add(line([number, as_id(face.uid), as_id(face.gid), digest]))[:-1]
-            owner, group = asker.owner_and_group(face, "nfs4")
+            owner, group = asker.owner_and_group(face, Kind.NFS4)
             rest = line([as_text(owner), as_text(group), counts.objects[number], counts.firsts[number]])
             yield own + b"\t" + rest
 
