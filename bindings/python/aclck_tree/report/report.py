@@ -327,14 +327,14 @@ def report(args: argparse.Namespace) -> int:
     has_empty = policy is not None and args.path is None and tell_slips(args.policy, asker, policy)
     if not made.folders + made.files:
         tell(f"{quoted(args.snapshot)}: no object is selected; {beginnings(snapshot)}")
-    unsure = made.unsure.folders + made.unsure.files
-    if unsure:
-        tell(f"{quoted(args.snapshot)}: it is not known who else could change {plural(unsure, 'object')}")
     with replaced(args.output) if args.output else contextlib.nullcontext(sys.stdout) as file:
         if args.form is Form.TEXT:
             file.writelines(page(made))
         else:
             _put_findings(args, made, file)
+    unsure = made.unsure.folders + made.unsure.files
+    if unsure:
+        tell(f"{quoted(args.snapshot)}: it is not known who else could change {plural(unsure, 'object')}")
     return REFUSED if has_empty or is_unread else made.status()
 
 
