@@ -8,7 +8,7 @@ use Rattle.std.specs.Ordering.{eq_by_cmp}
 use Rattle.acl_posix.specs.Check.{Object, Requester, any_matches}
 use Rattle.acl_posix.specs.Deciding.{decider, first_match}
 use Rattle.acl_posix.specs.Entries.{Entries}
-use Rattle.acl_posix.specs.Tag.{Tag, group, group_obj, other, tag_cmp, user, user_obj}
+use Rattle.acl_posix.specs.Tag.{Tag, group_obj, other, tag_cmp, user, user_obj}
 use Rattle.acl_posix.specs.Valid.{IsValid, missing}
 use Rattle.acl_posix.proofs.Exports.{eq_by_cmp-refl}
 use Rattle.aclck_c.specs.internal.Deciders.{HasEntry}

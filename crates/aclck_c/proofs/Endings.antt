@@ -16,14 +16,14 @@ use Rattle.aclck_c.specs.internal.Endings.{EndsCall, ReportsFailure}
 use Rattle.aclck_c.specs.internal.Failures.{IsFailure, IsListFailure}
 
 -- a call that fails returns neither 0 nor 5
-fails_without_bytes : (f : Failure) (fault after : Refusal) (returned : ℕ) → ReportsFailure f fault after returned
+pub fails_without_bytes : (f : Failure) (fault after : Refusal) (returned : ℕ) → ReportsFailure f fault after returned
     → (returned ≡ status.done → ⊥) × (returned ≡ status.short → ⊥)
-fails_without_bytes failure.BadArgument fault after returned h =
-    (λ is. omega (arith, is, h.0), λ is. omega (arith, is, h.0))
-fails_without_bytes (failure.Refused shown) fault after returned h =
-    (λ is. omega (arith, is, h.0), λ is. omega (arith, is, h.0))
-fails_without_bytes failure.Memory fault after returned h =
-    (λ is. omega (arith, is, h.0), λ is. omega (arith, is, h.0))
+fails_without_bytes failure.BadArgument fault after returned reports =
+    (λ is. omega (arith, is, reports.0), λ is. omega (arith, is, reports.0))
+fails_without_bytes (failure.Refused shown) fault after returned reports =
+    (λ is. omega (arith, is, reports.0), λ is. omega (arith, is, reports.0))
+fails_without_bytes failure.Memory fault after returned reports =
+    (λ is. omega (arith, is, reports.0), λ is. omega (arith, is, reports.0))
 
 -- a call that made bytes returns 0 or 5
 puts_no_other : {A : Type 0} (bytes : Vec A) {buffer buffer_after : List A} {needed needed_after : ℕ}
@@ -66,8 +66,8 @@ writes_bytes Means (Err f) {fault} {fault_after} {returned} means ends =
 pub in_words : {A : Type 0} (Means Says : List A → Type 0) (made : Result (Vec A) Failure)
     → ((text : List A) → Means text → Says text) → IfOk made (λ bytes. Means bytes.items)
     → IfOk made (λ bytes. Says bytes.items)
-in_words Means Says (Ok bytes) follows h = follows bytes.items h
-in_words Means Says (Err f) follows h = tt
+in_words Means Says (Ok bytes) follows means = follows bytes.items means
+in_words Means Says (Err f) follows means = tt
 
 -- the fault of the caller is that of the failure
 pub reports_fault : {A : Type 0} (AreGood Known : Type 0) (IsRefused : Refusal → Type 0) (made : Result (Vec A) Failure)

@@ -16,6 +16,8 @@ pub mod FormFailures
 pub mod FormParts
 -- why a list is not prepared for ids
 pub mod IdFailures
+-- the numbers of statuses and of reasons
+pub mod Numbers
 -- why a list has no POSIX ACL
 pub mod PosixFailures
 -- the table of the reasons

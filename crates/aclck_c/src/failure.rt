@@ -2,9 +2,10 @@
 ghost use Rattle.std.specs.Prelude.{◌≡◌};
 ghost use Rattle.aclck_c.specs.internal.Endings.{ReportsFailure};
 ghost use Rattle.aclck_c.specs.internal.Failures.{of_list_fault, of_refusal, out_of_memory};
+ghost use Rattle.aclck_c.specs.internal.Numbers.{number_of_status};
 
 use crate::refusal::Refusal;
-use crate::status::{BAD_ARGUMENT, MEMORY, REFUSED};
+use crate::status::Status;
 use acl_nfs4::Fault;
 use std::alloc::AllocError;
 
@@ -23,7 +24,7 @@ impl From<Fault> for Failure {
     ghost from_gives = { λ fault failure. failure ≡ of_list_fault fault };
 
     fn from(fault: Fault) -> Failure {
-        Failure::Refused(Refusal::in_list(fault.offset, fault.reason, 0))
+        Failure::Refused(Refusal::in_list(fault))
     }
 }
 
@@ -48,16 +49,16 @@ impl Failure {
 
     /// Returns the status of the failure. If the input is refused, `fault` gets the reason; otherwise it stays as it
     /// was.
-    pub(crate) fn report(self, fault: &mut Refusal) -> u32
-        ensures { ReportsFailure self fault.old fault.new result }
+    pub(crate) fn report(self, fault: &mut Refusal) -> Status
+        ensures { ReportsFailure self fault.old fault.new (number_of_status result) }
     {
         match self {
-            Failure::BadArgument => BAD_ARGUMENT,
+            Failure::BadArgument => Status::BadArgument,
             Failure::Refused(refusal) => {
                 *fault = refusal;
-                REFUSED
+                Status::Refused
             }
-            Failure::Memory => MEMORY,
+            Failure::Memory => Status::Memory,
         }
     }
 }

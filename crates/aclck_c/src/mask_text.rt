@@ -6,7 +6,7 @@ ghost use Rattle.std.specs.Prelude.{◌≡◌, ◌∷◌};
 ghost use Rattle.aclck_c.specs.Common.{JudgesArguments, WritesBytes};
 
 use crate::out::put;
-use crate::status::BAD_ARGUMENT;
+use crate::status::Status;
 use acl_nfs4::internal::rights_text;
 use acl_perm::Mask;
 
@@ -21,8 +21,8 @@ pub extern "C" fn aclck_mask_text(mask: u32, out: &mut [u8], needed: &mut usize)
     ensures known { status.IsOneOf (status.bad_argument ∷ status.done_or_short) result }
 {
     let Some(mask) = Mask::new(mask) else {
-        return BAD_ARGUMENT;
+        return Status::BadArgument.number();
     };
     let text = rights_text(mask);
-    put(text.as_slice(), out, needed)
+    put(text.as_slice(), out, needed).number()
 }

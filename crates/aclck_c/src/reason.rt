@@ -2,134 +2,105 @@
 ghost use Rattle.std.specs.Prelude.{◌≡◌, ◌==◌, find, option_copied, option_map};
 ghost use Rattle.aclck_c.specs.Refusal.{reason_number};
 ghost use Rattle.aclck_c.specs.Words.{reason_name, reasons};
+ghost use Rattle.aclck_c.specs.internal.Numbers.{number_of_reason};
 ghost use Rattle.aclck_c.specs.internal.Reasons.{reasons_of};
 
-use acl_nfs4::Reason;
+use acl_nfs4::Reason as ListReason;
 
-pub(crate) const TRUNCATED: u32 = 1;
+/// Why an input is refused.
+#[derive(Clone, Copy)]
+pub(crate) enum Reason {
+    Truncated = 1,
+    TooManyAces = 2,
+    AuditOrAlarm = 3,
+    AceType = 4,
+    FlagBits = 5,
+    MaskBits = 6,
+    TooHeavy = 7,
+    WhoLength = 8,
+    WhoUtf8 = 9,
+    WhoControl = 10,
+    SpecialWho = 11,
+    Padding = 12,
+    TrailingBytes = 13,
+    Read = 14,
+    Memory = 15,
+    Fields = 16,
+    Flag = 17,
+    Mask = 18,
+    Tag = 19,
+    Qualifier = 20,
+    Id = 21,
+    UnknownName = 22,
+    Permission = 23,
+    EmptyEntry = 24,
+    Multi = 25,
+    Duplicate = 26,
+    Miss = 27,
+    Limits = 28,
+    Size = 29,
+    Version = 30,
+    Order = 31,
+    Merged = 32,
+    AclFlagBits = 33,
+    IflagBits = 34,
+    NotDirectory = 35,
+    Empty = 36,
+    IdDiffers = 37,
+    Comment = 38,
+    Nul = 39,
+    TooLong = 40,
+    NoId = 41,
+    Inherited = 42,
+    Retention = 43,
+    Separator = 44,
+    AclFlags = 45,
+}
 
-pub(crate) const TOO_MANY_ACES: u32 = 2;
-
-pub(crate) const AUDIT_OR_ALARM: u32 = 3;
-
-pub(crate) const ACE_TYPE: u32 = 4;
-
-pub(crate) const FLAG_BITS: u32 = 5;
-
-pub(crate) const MASK_BITS: u32 = 6;
-
-pub(crate) const TOO_HEAVY: u32 = 7;
-
-pub(crate) const WHO_LENGTH: u32 = 8;
-
-pub(crate) const WHO_UTF8: u32 = 9;
-
-pub(crate) const WHO_CONTROL: u32 = 10;
-
-pub(crate) const SPECIAL_WHO: u32 = 11;
-
-pub(crate) const PADDING: u32 = 12;
-
-pub(crate) const TRAILING_BYTES: u32 = 13;
-
-pub(crate) const READ: u32 = 14;
-
-pub(crate) const MEMORY: u32 = 15;
-
-pub(crate) const FIELDS: u32 = 16;
-
-pub(crate) const FLAG: u32 = 17;
-
-pub(crate) const MASK: u32 = 18;
-
-pub(crate) const TAG: u32 = 19;
-
-pub(crate) const QUALIFIER: u32 = 20;
-
-pub(crate) const ID: u32 = 21;
-
-pub(crate) const UNKNOWN_NAME: u32 = 22;
-
-pub(crate) const PERMISSION: u32 = 23;
-
-pub(crate) const EMPTY_ENTRY: u32 = 24;
-
-pub(crate) const MULTI: u32 = 25;
-
-pub(crate) const DUPLICATE: u32 = 26;
-
-pub(crate) const MISS: u32 = 27;
-
-pub(crate) const LIMITS: u32 = 28;
-
-pub(crate) const SIZE: u32 = 29;
-
-pub(crate) const VERSION: u32 = 30;
-
-pub(crate) const ORDER: u32 = 31;
-
-pub(crate) const MERGED: u32 = 32;
-
-pub(crate) const ACL_FLAG_BITS: u32 = 33;
-
-pub(crate) const IFLAG_BITS: u32 = 34;
-
-pub(crate) const NOT_DIRECTORY: u32 = 35;
-
-pub(crate) const EMPTY: u32 = 36;
-
-pub(crate) const ID_DIFFERS: u32 = 37;
-
-pub(crate) const COMMENT: u32 = 38;
-
-pub(crate) const NUL: u32 = 39;
-
-pub(crate) const TOO_LONG: u32 = 40;
-
-pub(crate) const NO_ID: u32 = 41;
-
-pub(crate) const INHERITED: u32 = 42;
-
-pub(crate) const RETENTION: u32 = 43;
-
-pub(crate) const SEPARATOR: u32 = 44;
-
-pub(crate) const ACL_FLAGS: u32 = 45;
-
-/// Returns the number of a reason for which a list is refused.
-pub(crate) fn reason_number(reason: Reason) -> u32
-    ensures { result ≡ reason_number reason }
-{
-    match reason {
-        Reason::Truncated => TRUNCATED,
-        Reason::TooManyAces => TOO_MANY_ACES,
-        Reason::AuditOrAlarm => AUDIT_OR_ALARM,
-        Reason::AceType => ACE_TYPE,
-        Reason::FlagBits => FLAG_BITS,
-        Reason::MaskBits => MASK_BITS,
-        Reason::TooHeavy => TOO_HEAVY,
-        Reason::WhoLength => WHO_LENGTH,
-        Reason::WhoUtf8 => WHO_UTF8,
-        Reason::WhoControl => WHO_CONTROL,
-        Reason::SpecialWho => SPECIAL_WHO,
-        Reason::Padding => PADDING,
-        Reason::TrailingBytes => TRAILING_BYTES,
-        Reason::Read => READ,
-        Reason::Memory => MEMORY,
+impl Reason {
+    /// Returns the number of the reason in `enum aclck_reason`.
+    pub(crate) fn number(self) -> u32
+        ensures { result ≡ number_of_reason self }
+    {
+        self as u32
     }
 }
 
-// A reason: its number and its name.
+impl From<ListReason> for Reason {
+    ghost from_gives = { λ why reason. number_of_reason reason ≡ reason_number why };
+
+    fn from(why: ListReason) -> Reason {
+        match why {
+            ListReason::Truncated => Reason::Truncated,
+            ListReason::TooManyAces => Reason::TooManyAces,
+            ListReason::AuditOrAlarm => Reason::AuditOrAlarm,
+            ListReason::AceType => Reason::AceType,
+            ListReason::FlagBits => Reason::FlagBits,
+            ListReason::MaskBits => Reason::MaskBits,
+            ListReason::TooHeavy => Reason::TooHeavy,
+            ListReason::WhoLength => Reason::WhoLength,
+            ListReason::WhoUtf8 => Reason::WhoUtf8,
+            ListReason::WhoControl => Reason::WhoControl,
+            ListReason::SpecialWho => Reason::SpecialWho,
+            ListReason::Padding => Reason::Padding,
+            ListReason::TrailingBytes => Reason::TrailingBytes,
+            ListReason::Read => Reason::Read,
+            ListReason::Memory => Reason::Memory,
+        }
+    }
+}
+
+// A reason and its name.
 #[derive(Clone, Copy)]
 struct ReasonRow {
-    number: u32,
+    reason: Reason,
     name: &'static [u8],
 }
 
 macro_rules! row {
-    ($number:ident, $name:literal) => {
+    ($reason:ident, $name:literal) => {
         ReasonRow {
-            number: $number,
+            reason: Reason::$reason,
             name: $name,
         }
     };
@@ -137,51 +108,51 @@ macro_rules! row {
 
 // The reasons in ascending order of their numbers.
 static REASONS: [ReasonRow; 45] = [
-    row!(TRUNCATED, b"Truncated"),
-    row!(TOO_MANY_ACES, b"TooManyAces"),
-    row!(AUDIT_OR_ALARM, b"AuditOrAlarm"),
-    row!(ACE_TYPE, b"AceType"),
-    row!(FLAG_BITS, b"FlagBits"),
-    row!(MASK_BITS, b"MaskBits"),
-    row!(TOO_HEAVY, b"TooHeavy"),
-    row!(WHO_LENGTH, b"WhoLength"),
-    row!(WHO_UTF8, b"WhoUtf8"),
-    row!(WHO_CONTROL, b"WhoControl"),
-    row!(SPECIAL_WHO, b"SpecialWho"),
-    row!(PADDING, b"Padding"),
-    row!(TRAILING_BYTES, b"TrailingBytes"),
-    row!(READ, b"Read"),
-    row!(MEMORY, b"Memory"),
-    row!(FIELDS, b"Fields"),
-    row!(FLAG, b"Flag"),
-    row!(MASK, b"Mask"),
-    row!(TAG, b"Tag"),
-    row!(QUALIFIER, b"Qualifier"),
-    row!(ID, b"Id"),
-    row!(UNKNOWN_NAME, b"UnknownName"),
-    row!(PERMISSION, b"Permission"),
-    row!(EMPTY_ENTRY, b"EmptyEntry"),
-    row!(MULTI, b"Multi"),
-    row!(DUPLICATE, b"Duplicate"),
-    row!(MISS, b"Miss"),
-    row!(LIMITS, b"Limits"),
-    row!(SIZE, b"Size"),
-    row!(VERSION, b"Version"),
-    row!(ORDER, b"Order"),
-    row!(MERGED, b"Merged"),
-    row!(ACL_FLAG_BITS, b"AclFlagBits"),
-    row!(IFLAG_BITS, b"IflagBits"),
-    row!(NOT_DIRECTORY, b"NotDirectory"),
-    row!(EMPTY, b"Empty"),
-    row!(ID_DIFFERS, b"IdDiffers"),
-    row!(COMMENT, b"Comment"),
-    row!(NUL, b"Nul"),
-    row!(TOO_LONG, b"TooLong"),
-    row!(NO_ID, b"NoId"),
-    row!(INHERITED, b"Inherited"),
-    row!(RETENTION, b"Retention"),
-    row!(SEPARATOR, b"Separator"),
-    row!(ACL_FLAGS, b"AclFlags"),
+    row!(Truncated, b"Truncated"),
+    row!(TooManyAces, b"TooManyAces"),
+    row!(AuditOrAlarm, b"AuditOrAlarm"),
+    row!(AceType, b"AceType"),
+    row!(FlagBits, b"FlagBits"),
+    row!(MaskBits, b"MaskBits"),
+    row!(TooHeavy, b"TooHeavy"),
+    row!(WhoLength, b"WhoLength"),
+    row!(WhoUtf8, b"WhoUtf8"),
+    row!(WhoControl, b"WhoControl"),
+    row!(SpecialWho, b"SpecialWho"),
+    row!(Padding, b"Padding"),
+    row!(TrailingBytes, b"TrailingBytes"),
+    row!(Read, b"Read"),
+    row!(Memory, b"Memory"),
+    row!(Fields, b"Fields"),
+    row!(Flag, b"Flag"),
+    row!(Mask, b"Mask"),
+    row!(Tag, b"Tag"),
+    row!(Qualifier, b"Qualifier"),
+    row!(Id, b"Id"),
+    row!(UnknownName, b"UnknownName"),
+    row!(Permission, b"Permission"),
+    row!(EmptyEntry, b"EmptyEntry"),
+    row!(Multi, b"Multi"),
+    row!(Duplicate, b"Duplicate"),
+    row!(Miss, b"Miss"),
+    row!(Limits, b"Limits"),
+    row!(Size, b"Size"),
+    row!(Version, b"Version"),
+    row!(Order, b"Order"),
+    row!(Merged, b"Merged"),
+    row!(AclFlagBits, b"AclFlagBits"),
+    row!(IflagBits, b"IflagBits"),
+    row!(NotDirectory, b"NotDirectory"),
+    row!(Empty, b"Empty"),
+    row!(IdDiffers, b"IdDiffers"),
+    row!(Comment, b"Comment"),
+    row!(Nul, b"Nul"),
+    row!(TooLong, b"TooLong"),
+    row!(NoId, b"NoId"),
+    row!(Inherited, b"Inherited"),
+    row!(Retention, b"Retention"),
+    row!(Separator, b"Separator"),
+    row!(AclFlags, b"AclFlags"),
 ];
 
 /// Returns the name of the reason with this number, or `None` if there is no such reason.
@@ -202,7 +173,7 @@ fn reasons() -> &'static [ReasonRow]
 }
 
 fn row_of(rows: &[ReasonRow], number: u32) -> Option<&ReasonRow>
-    ensures { option_copied result ≡ find (λ row. number == row.number) rows.now }
+    ensures { option_copied result ≡ find (λ row. number == number_of_reason row.reason) rows.now }
 {
-    rows.iter().find(|row| number == row.number)
+    rows.iter().find(|row| number == row.reason.number())
 }

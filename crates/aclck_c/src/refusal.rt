@@ -1,9 +1,15 @@
 //! Why and where something is refused, as C sees it.
-ghost use Rattle.std.specs.Prelude.{◌≡◌};
-ghost use Rattle.aclck_c.specs.Refusal.{at_place, in_list, in_part, in_value, merged, past_limits};
+ghost use Rattle.std.specs.Prelude.{◌≡◌, codes};
+ghost use Rattle.aclck_c.specs.EntriesExcess.{of_second};
+ghost use Rattle.aclck_c.specs.Posix.{part_number, tag_number};
+ghost use Rattle.aclck_c.specs.Refusal.{at_place, in_list, in_part, in_value};
+ghost use Rattle.aclck_c.specs.Words.{reason_called};
+ghost use Rattle.aclck_c.specs.internal.Numbers.{number_of_reason};
 
-use crate::reason::{LIMITS, MERGED, reason_number};
-use acl_nfs4::Reason;
+use crate::posix::text_fault::{part_number, tag_number};
+use crate::reason::Reason;
+use acl_nfs4::Fault;
+use acl_posix::{Part, Tag};
 
 /// `struct aclck_fault`: a reason by its number, and its place. Fields that the reason does not use are 0.
 #[repr(C)]
@@ -26,96 +32,63 @@ pub struct Refusal {
 }
 
 impl Refusal {
-    /// Makes the refusal of a list for this reason, at this byte. `list` is 1 for the second of two lists, and
-    /// otherwise 0.
-    pub(crate) fn in_list(offset: u64, reason: Reason, list: u32) -> Refusal
-        ensures { result ≡ in_list offset reason list }
-    {
-        Refusal {
-            offset,
-            line: 0,
-            column: 0,
-            reason: reason_number(reason),
-            list,
-            part: 0,
-            tag: 0,
-        }
-    }
-
-    /// Makes the refusal of a text for the reason with this number, at this line and column.
-    pub(crate) fn at_place(reason: u32, line: usize, column: usize) -> Refusal
-        ensures { result ≡ at_place reason line column }
-    {
-        Refusal {
-            offset: 0,
-            line: line as u64,
-            column: column as u64,
-            reason,
-            list: 0,
-            part: 0,
-            tag: 0,
-        }
-    }
-
-    /// Makes the refusal of a part of a POSIX ACL for this reason: for the entry at this place, or for the tag that is
-    /// missing.
-    pub(crate) fn in_part(reason: u32, part: u32, place: usize, tag: u32) -> Refusal
-        ensures { result ≡ in_part reason part place tag }
-    {
-        Refusal {
-            offset: place as u64,
-            line: 0,
-            column: 0,
-            reason,
-            list: 0,
-            part,
-            tag,
-        }
-    }
-
-    /// Makes the refusal of a value of a form at this byte, or of a list of which a form cannot hold the ACE at this
-    /// place. `tag` is the number of the tag that is missing, or 0.
-    pub(crate) fn in_value(place: u64, reason: u32, tag: u32) -> Refusal
-        ensures { result ≡ in_value place reason tag }
+    /// Makes the refusal for this reason of an input at this byte, or of the ACE or the entry at this place.
+    pub(crate) fn at(reason: Reason, place: u64) -> Refusal
+        ensures { result ≡ in_value place (number_of_reason reason) 0 }
     {
         Refusal {
             offset: place,
             line: 0,
             column: 0,
-            reason,
-            list: 0,
-            part: 0,
-            tag,
-        }
-    }
-
-    /// Makes the refusal of a list in which the name of the ACE at this place would become one with another.
-    pub(crate) fn merged(place: usize) -> Refusal
-        ensures { result ≡ merged place }
-    {
-        Refusal {
-            offset: place as u64,
-            line: 0,
-            column: 0,
-            reason: MERGED,
+            reason: reason.number(),
             list: 0,
             part: 0,
             tag: 0,
         }
     }
 
-    /// Makes the refusal of a POSIX ACL whose list is above a limit.
-    pub(crate) fn past_limits() -> Refusal
-        ensures { result ≡ past_limits }
+    /// Makes the refusal of the bytes of a list, which is the first or only one of a call.
+    pub(crate) fn in_list(fault: Fault) -> Refusal
+        ensures { result ≡ in_list fault.offset fault.reason 0 }
+    {
+        Refusal::at(Reason::from(fault.reason), fault.offset)
+    }
+
+    /// Makes the refusal of a text for this reason, at this line and column.
+    pub(crate) fn at_place(reason: Reason, line: usize, column: usize) -> Refusal
+        ensures { result ≡ at_place (number_of_reason reason) line column }
     {
         Refusal {
-            offset: 0,
-            line: 0,
-            column: 0,
-            reason: LIMITS,
-            list: 0,
-            part: 0,
-            tag: 0,
+            line: line as u64,
+            column: column as u64,
+            ..Refusal::at(reason, 0)
         }
+    }
+
+    /// Makes the refusal of a part of a POSIX ACL for this reason, of the entry at this place.
+    pub(crate) fn in_part(reason: Reason, part: Part, place: usize) -> Refusal
+        ensures { result ≡ in_part (number_of_reason reason) (part_number part) place 0 }
+    {
+        Refusal {
+            part: part_number(part),
+            ..Refusal::at(reason, place as u64)
+        }
+    }
+
+    /// Makes the refusal of a part of a POSIX ACL that has no entry with this tag.
+    pub(crate) fn missing(part: Part, tag: Tag) -> Refusal
+        ensures { result ≡ in_part (reason_called (codes "Miss")) (part_number part) 0 (tag_number tag) }
+    {
+        Refusal {
+            tag: tag_number(tag),
+            ..Refusal::in_part(Reason::Miss, part, 0)
+        }
+    }
+
+    /// Makes the refusal of the second of two lists out of that of a first one.
+    pub(crate) fn of_second(self) -> Refusal
+        ensures { result ≡ of_second self }
+    {
+        Refusal { list: 1, ..self }
     }
 }

@@ -5,12 +5,21 @@ mod ample;
 mod prepared;
 
 use crate::options::NARROW;
-use crate::status::{BAD_ARGUMENT, DONE, MEMORY, REFUSED};
 use crate::{
     RawAce, RawObject, RawQuestion, RawRequester, Refusal, aclck_check, aclck_next, aclck_normalize,
 };
 use std::alloc::Global;
 use std::test::Fail;
+
+const DONE: u32 = 0;
+
+const REFUSED: u32 = 2;
+
+const BAD_ARGUMENT: u32 = 3;
+
+const MEMORY: u32 = 4;
+
+const SHORT: u32 = 5;
 
 // ALLOW READ_DATA bob.
 const LIST: &[u8; 24] = b"\0\0\0\x01\0\0\0\0\0\0\0\0\0\0\0\x01\0\0\0\x03bob\0";

@@ -7,7 +7,7 @@ ghost use Rattle.aclck_c.specs.Common.{IsSome, Some, JudgesArguments, WritesByte
 
 use crate::out::put;
 use crate::reason::reason_name;
-use crate::status::{BAD_ARGUMENT, DONE};
+use crate::status::Status;
 use acl_nfs4::read_mask;
 
 /// Reads the rights that a text names: names with `|` between them, or `-` for none. Returns 0 if they are in `mask`,
@@ -21,9 +21,9 @@ pub extern "C" fn aclck_read_mask(text: &[u8], mask: &mut u32) -> u32
     match read_mask(text) {
         Some(found) => {
             *mask = found.bits();
-            DONE
+            Status::Done.number()
         }
-        None => BAD_ARGUMENT,
+        None => Status::BadArgument.number(),
     }
 }
 
@@ -37,7 +37,7 @@ pub extern "C" fn aclck_reason_text(reason: u32, out: &mut [u8], needed: &mut us
     ensures known { status.IsOneOf (status.bad_argument ∷ status.done_or_short) result }
 {
     match reason_name(reason) {
-        Some(name) => put(name, out, needed),
-        None => BAD_ARGUMENT,
+        Some(name) => put(name, out, needed).number(),
+        None => Status::BadArgument.number(),
     }
 }

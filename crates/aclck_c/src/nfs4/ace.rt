@@ -5,7 +5,7 @@ ghost use Rattle.aclck_c.specs.internal.Building.{GivesJudgedAce};
 ghost use Rattle.aclck_c.specs.Common.{IfSome, IsSome, profile_of};
 
 use acl_nfs4::internal::kind_of;
-use acl_nfs4::{AceRef, Flags, Mask, Reason};
+use acl_nfs4::{AceRef, Flags, Mask, Reason as ListReason};
 use acl_perm::Profile;
 
 /// `struct aclck_ace`: the numbers of the kind, of the flags and of the mask of an ACE (RFC 8881, section 6.2.1), and
@@ -21,15 +21,15 @@ pub struct RawAce<'a> {
 
 impl<'a> RawAce<'a> {
     /// Returns the ACE, whose who is not judged. Fails with the first number that the profile does not have.
-    pub(crate) fn judged(&self, profile: Profile) -> Result<AceRef<'a>, Reason>
+    pub(crate) fn judged(&self, profile: Profile) -> Result<AceRef<'a>, ListReason>
         ensures { GivesJudgedAce (profile_of profile) self.now result }
     {
         let kind = kind_of(self.kind)?;
         let Some(flags) = flags_of(self.flags, profile) else {
-            return Err(Reason::FlagBits);
+            return Err(ListReason::FlagBits);
         };
         let Some(mask) = mask_of(self.mask, profile) else {
-            return Err(Reason::MaskBits);
+            return Err(ListReason::MaskBits);
         };
         Ok(AceRef {
             kind,

@@ -10,9 +10,10 @@ use crate::failure::Failure;
 use crate::nfs4::ace::RawAce;
 use crate::options::profile_from;
 use crate::out::answer;
+use crate::reason::Reason;
 use crate::refusal::Refusal;
-use crate::status::BAD_ARGUMENT;
-use acl_nfs4::{Acl, PushFault, Reason};
+use crate::status::Status;
+use acl_nfs4::{Acl, PushFault, Reason as ListReason};
 use acl_perm::Profile;
 use std::alloc::Global;
 
@@ -34,7 +35,7 @@ pub extern "C" fn aclck_build(
         (IsProfileOption options) status.done_or_short fault.old fault.new result }
 {
     let Some(profile) = profile_from(options) else {
-        return BAD_ARGUMENT;
+        return Status::BadArgument.number();
     };
     answer(built(alloc, aces, profile), out, needed, fault)
 }
@@ -66,12 +67,12 @@ fn add(list: &mut Acl, item: &RawAce<'_>, profile: Profile) -> Result<(), Failur
 {
     match push(list, item, profile) {
         Ok(()) => Ok(()),
-        Err(Reason::Memory) => Err(Failure::Memory),
-        Err(reason) => Err(Failure::Refused(Refusal::in_list(list.len() as u64, reason, 0))),
+        Err(ListReason::Memory) => Err(Failure::Memory),
+        Err(reason) => Err(Failure::Refused(Refusal::at(Reason::from(reason), list.len() as u64))),
     }
 }
 
-fn push(list: &mut Acl, item: &RawAce<'_>, profile: Profile) -> Result<(), Reason>
+fn push(list: &mut Acl, item: &RawAce<'_>, profile: Profile) -> Result<(), ListReason>
     ensures { AddsNext (profile_of profile) item.now result list.old list.new }
 {
     let item = item.judged(profile)?;
@@ -81,16 +82,16 @@ fn push(list: &mut Acl, item: &RawAce<'_>, profile: Profile) -> Result<(), Reaso
     }
 }
 
-fn push_reason(fault: PushFault) -> Reason
+fn push_reason(fault: PushFault) -> ListReason
     ensures { result ≡ push_reason fault }
 {
     match fault {
-        PushFault::TooManyAces => Reason::TooManyAces,
-        PushFault::TooHeavy => Reason::TooHeavy,
-        PushFault::WhoLength => Reason::WhoLength,
-        PushFault::WhoUtf8 => Reason::WhoUtf8,
-        PushFault::WhoControl => Reason::WhoControl,
-        PushFault::SpecialWho => Reason::SpecialWho,
-        PushFault::Memory => Reason::Memory,
+        PushFault::TooManyAces => ListReason::TooManyAces,
+        PushFault::TooHeavy => ListReason::TooHeavy,
+        PushFault::WhoLength => ListReason::WhoLength,
+        PushFault::WhoUtf8 => ListReason::WhoUtf8,
+        PushFault::WhoControl => ListReason::WhoControl,
+        PushFault::SpecialWho => ListReason::SpecialWho,
+        PushFault::Memory => ListReason::Memory,
     }
 }

@@ -6,9 +6,9 @@ use crate::failure::Failure;
 use crate::nfs4::request::{
     NfsRequest, RawObject, RawQuestion, RawRequester, asked, with_sorted_groups,
 };
-use crate::out::truth_number;
+use crate::out::answer_truth;
 use crate::refusal::Refusal;
-use crate::status::{BAD_ARGUMENT, DONE};
+use crate::status::Status;
 use acl_eval::grants;
 use acl_nfs4::AclView;
 use std::alloc::Global;
@@ -34,15 +34,9 @@ pub extern "C" fn aclck_check(
 {
     *granted = 0;
     let Some(request) = asked(object, requester, question) else {
-        return BAD_ARGUMENT;
+        return Status::BadArgument.number();
     };
-    match decide(alloc, acl, &request) {
-        Ok(answer) => {
-            *granted = truth_number(answer);
-            DONE
-        }
-        Err(failure) => failure.report(fault),
-    }
+    answer_truth(decide(alloc, acl, &request), granted, fault)
 }
 
 // Returns whether the list grants the request. Fails if the bytes are refused.

@@ -9,7 +9,7 @@ use crate::failure::Failure;
 use crate::nfs4::request::{RawObject, RawQuestion, RawRequester, with_sorted_groups};
 use crate::options::profile_from;
 use crate::refusal::Refusal;
-use crate::status::{BAD_ARGUMENT, DONE};
+use crate::status::Status;
 use acl_eval::{Object, Requester, granted};
 use acl_nfs4::AclView;
 use acl_perm::{Mask, Profile};
@@ -38,17 +38,17 @@ pub extern "C" fn aclck_check_many(
 {
     rights.fill(0);
     let Some(request) = asked(object, question) else {
-        return BAD_ARGUMENT;
+        return Status::BadArgument.number();
     };
     if rights.len() != requesters.len() || !are_good(requesters) {
-        return BAD_ARGUMENT;
+        return Status::BadArgument.number();
     }
     match AclView::parse_whole_with(acl, request.profile) {
         Ok(view) => {
             grant_each(alloc, &view, &request, requesters, rights);
-            DONE
+            Status::Done.number()
         }
-        Err(found) => Failure::from(found).report(fault),
+        Err(found) => Failure::from(found).report(fault).number(),
     }
 }
 

@@ -8,8 +8,9 @@ ghost use Rattle.aclck_c.specs.Common.{IfErr, IfOk, profile_of, JudgesInput, pro
 use crate::failure::Failure;
 use crate::options::{mode_from, profile_from};
 use crate::out::answer;
+use crate::reason::Reason;
 use crate::refusal::Refusal;
-use crate::status::BAD_ARGUMENT;
+use crate::status::Status;
 use acl_change::{ChmodFault, chmod};
 use acl_nfs4::AclView;
 use acl_perm::{Mode, Profile};
@@ -36,10 +37,10 @@ pub extern "C" fn aclck_chmod(
         fault.old fault.new result }
 {
     let Some(mode) = mode_from(mode) else {
-        return BAD_ARGUMENT;
+        return Status::BadArgument.number();
     };
     let Some(profile) = profile_from(options) else {
-        return BAD_ARGUMENT;
+        return Status::BadArgument.number();
     };
     answer(changed(alloc, acl, mode, profile), out, needed, fault)
 }
@@ -49,7 +50,7 @@ impl From<ChmodFault> for Failure {
 
     fn from(fault: ChmodFault) -> Failure {
         match fault {
-            ChmodFault::Limits => Failure::Refused(Refusal::past_limits()),
+            ChmodFault::Limits => Failure::Refused(Refusal::at(Reason::Limits, 0)),
             ChmodFault::Memory => Failure::Memory,
         }
     }

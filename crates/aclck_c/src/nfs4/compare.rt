@@ -11,9 +11,9 @@ ghost use Rattle.aclck_c.specs.Common.{IfErr, IfOk, OnOk, map, profile_of, Reads
 
 use crate::failure::Failure;
 use crate::options::profile_from;
-use crate::out::{put, truth_number};
+use crate::out::{Made, answer_both, truth_number};
 use crate::refusal::Refusal;
-use crate::status::BAD_ARGUMENT;
+use crate::status::Status;
 use acl_nfs4::AclView;
 use acl_normal::{Difference, compare_views};
 use acl_perm::Profile;
@@ -30,8 +30,8 @@ pub struct RawDifference {
     pub first_grants: u32,
 }
 
-/// What is written if there is no difference.
-pub(crate) const NO_DIFFERENCE: RawDifference = RawDifference {
+// What is written if there is no difference.
+const NO_DIFFERENCE: RawDifference = RawDifference {
     names: 0,
     same: 1,
     right: 0,
@@ -71,30 +71,20 @@ pub extern "C" fn aclck_compare(
 {
     *difference = NOT_COMPARED;
     let Some(profile) = profile_from(options) else {
-        return BAD_ARGUMENT;
+        return Status::BadArgument.number();
     };
-    match compared(alloc, first, second, profile) {
-        Ok(found) => {
-            *difference = found.at;
-            let mut needed = 0;
-            put(&found.names, out, &mut needed)
-        }
-        Err(failure) => failure.report(fault),
-    }
+    let found = compared(alloc, first, second, profile);
+    answer_both(found, difference, out, &mut 0, fault)
 }
 
 /// How two lists compare, with the names as one text: a zero byte ends each name.
-#[derive(Drop)]
-pub(crate) struct Named {
-    pub at: RawDifference,
-    pub names: Vec<u8>,
-}
+pub(crate) type Named = Made<RawDifference, u8>;
 
 // Compares two lists.
 #[tactic(auto, using(crate::proofs::Pairs::first_failure, crate::proofs::Pairs::second_failure))]
 fn compared(alloc: Global, first: &[u8], second: &[u8], profile: Profile) -> Result<Named, Failure>
     ensures ok { IfOk result (λ found.
-        AreCompared (profile_of profile) first.now second.now found.at found.names.items) }
+        AreCompared (profile_of profile) first.now second.now found.value found.items.items) }
     ensures err { IfErr result (IsPairFailure (profile_of profile) first.now second.now) }
 {
     let list = view_of(first, profile)?;
@@ -128,7 +118,7 @@ pub(crate) fn second_view_of(bytes: &[u8], profile: Profile) -> Result<AclView<'
 {
     match AclView::parse_whole_with(bytes, profile) {
         Ok(view) => Ok(view),
-        Err(fault) => Err(Failure::Refused(Refusal::in_list(fault.offset, fault.reason, 1))),
+        Err(fault) => Err(Failure::Refused(Refusal::in_list(fault).of_second())),
     }
 }
 
@@ -137,7 +127,7 @@ fn comparison_of(
     list: &AclView<'_>,
     other: &AclView<'_>,
 ) -> Result<Named, AllocError>
-    ensures { IfOk result (λ found. ComparesAs list.now other.now found.at found.names.items) }
+    ensures { IfOk result (λ found. ComparesAs list.now other.now found.value found.items.items) }
 {
     match compare_views(alloc, list, other)? {
         None => Ok(no_difference(alloc)),
@@ -145,14 +135,14 @@ fn comparison_of(
     }
 }
 
-// What is returned if both lists grant the same. It takes no memory.
-fn no_difference(alloc: Global) -> Named
-    ensures at { result.at ≡ no_difference }
-    ensures names { result.names.items ≡ [] }
+/// What is returned if both lists grant the same. It takes no memory.
+pub(crate) fn no_difference(alloc: Global) -> Named
+    ensures at { result.value ≡ no_difference }
+    ensures names { result.items.items ≡ [] }
 {
-    Named {
-        at: NO_DIFFERENCE,
-        names: Vec::new(alloc),
+    Made {
+        value: NO_DIFFERENCE,
+        items: Vec::new(alloc),
     }
 }
 
@@ -162,14 +152,14 @@ pub(crate) fn report_of(alloc: Global, found: &Difference) -> Result<Named, Allo
         found.now.bit.bits found.now.first_grants) }
 {
     let names = names_of(alloc, found)?;
-    Ok(Named {
-        at: RawDifference {
+    Ok(Made {
+        value: RawDifference {
             names: names.len() as u64,
             same: 0,
             right: found.bit.bits(),
             first_grants: truth_number(found.first_grants),
         },
-        names,
+        items: names,
     })
 }
 

@@ -6,8 +6,9 @@ use crate::failure::Failure;
 use crate::nfs4::request::{
     NfsRequest, RawObject, RawQuestion, RawRequester, asked, with_sorted_groups,
 };
+use crate::out::answer_value;
 use crate::refusal::Refusal;
-use crate::status::{BAD_ARGUMENT, DONE};
+use crate::status::Status;
 use acl_eval::decided;
 use acl_nfs4::AclView;
 use std::alloc::Global;
@@ -48,15 +49,9 @@ pub extern "C" fn aclck_decide(
 {
     *decided = NOTHING_DECIDED;
     let Some(request) = asked(object, requester, question) else {
-        return BAD_ARGUMENT;
+        return Status::BadArgument.number();
     };
-    match decided_in(alloc, acl, &request) {
-        Ok(found) => {
-            *decided = found;
-            DONE
-        }
-        Err(failure) => failure.report(fault),
-    }
+    answer_value(decided_in(alloc, acl, &request), decided, fault)
 }
 
 // Returns which rights of the request the list allows and denies. Fails if the bytes are refused.

@@ -8,8 +8,9 @@ use crate::failure::Failure;
 use crate::nfs4::request::{
     NfsRequest, RawObject, RawQuestion, RawRequester, asked, with_sorted_groups,
 };
+use crate::out::answer_value;
 use crate::refusal::Refusal;
-use crate::status::{BAD_ARGUMENT, DONE};
+use crate::status::Status;
 use acl_decide::{Decision, deciding_ace};
 use acl_nfs4::AclView;
 use acl_perm::{Mask, Right};
@@ -49,18 +50,13 @@ pub extern "C" fn aclck_deciding(
 {
     *decision = NO_DECISION;
     let Some(request) = asked(object, requester, question) else {
-        return BAD_ARGUMENT;
+        return Status::BadArgument.number();
     };
     let Some(bit) = right_of(request.mask) else {
-        return BAD_ARGUMENT;
+        return Status::BadArgument.number();
     };
-    match decide(alloc, acl, &request, bit) {
-        Ok(found) => {
-            *decision = raw_decision(found);
-            DONE
-        }
-        Err(failure) => failure.report(fault),
-    }
+    let found = decide(alloc, acl, &request, bit).map(raw_decision);
+    answer_value(found, decision, fault)
 }
 
 fn raw_decision(found: Option<Decision>) -> RawDecision

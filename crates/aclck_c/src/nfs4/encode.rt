@@ -9,12 +9,9 @@ ghost use Rattle.aclck_c.specs.Common.{⊤, IfErr, IfOk, profile_of, JudgesInput
 use crate::failure::Failure;
 use crate::options::profile_from;
 use crate::out::answer;
-use crate::reason::{
-    ACE_TYPE, FIELDS, FLAG, MASK, SPECIAL_WHO, TOO_HEAVY, TOO_MANY_ACES, WHO_CONTROL, WHO_LENGTH,
-    WHO_UTF8,
-};
+use crate::reason::Reason;
 use crate::refusal::Refusal;
-use crate::status::BAD_ARGUMENT;
+use crate::status::Status;
 use acl_nfs4::{AceTextFault, parse_text_with};
 use acl_perm::Profile;
 use std::alloc::Global;
@@ -37,7 +34,7 @@ pub extern "C" fn aclck_encode(
         (IsProfileOption options) status.done_or_short fault.old fault.new result }
 {
     let Some(profile) = profile_from(options) else {
-        return BAD_ARGUMENT;
+        return Status::BadArgument.number();
     };
     answer(bytes_of(alloc, text, profile), out, needed, fault)
 }
@@ -58,16 +55,16 @@ fn ace_text_refusal(fault: AceTextFault) -> Option<Refusal>
     ensures { result ≡ ace_text_refusal fault }
 {
     let (reason, line, column) = match fault {
-        AceTextFault::TooManyAces { line, column } => (TOO_MANY_ACES, line, column),
-        AceTextFault::AceType { line, column } => (ACE_TYPE, line, column),
-        AceTextFault::TooHeavy { line, column } => (TOO_HEAVY, line, column),
-        AceTextFault::WhoLength { line, column } => (WHO_LENGTH, line, column),
-        AceTextFault::WhoUtf8 { line, column } => (WHO_UTF8, line, column),
-        AceTextFault::WhoControl { line, column } => (WHO_CONTROL, line, column),
-        AceTextFault::SpecialWho { line, column } => (SPECIAL_WHO, line, column),
-        AceTextFault::Fields { line, column } => (FIELDS, line, column),
-        AceTextFault::Flag { line, column } => (FLAG, line, column),
-        AceTextFault::Mask { line, column } => (MASK, line, column),
+        AceTextFault::TooManyAces { line, column } => (Reason::TooManyAces, line, column),
+        AceTextFault::AceType { line, column } => (Reason::AceType, line, column),
+        AceTextFault::TooHeavy { line, column } => (Reason::TooHeavy, line, column),
+        AceTextFault::WhoLength { line, column } => (Reason::WhoLength, line, column),
+        AceTextFault::WhoUtf8 { line, column } => (Reason::WhoUtf8, line, column),
+        AceTextFault::WhoControl { line, column } => (Reason::WhoControl, line, column),
+        AceTextFault::SpecialWho { line, column } => (Reason::SpecialWho, line, column),
+        AceTextFault::Fields { line, column } => (Reason::Fields, line, column),
+        AceTextFault::Flag { line, column } => (Reason::Flag, line, column),
+        AceTextFault::Mask { line, column } => (Reason::Mask, line, column),
         AceTextFault::Memory => return None,
     };
     Some(Refusal::at_place(reason, line, column))

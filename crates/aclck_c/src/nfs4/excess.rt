@@ -6,12 +6,12 @@ ghost use Rattle.std.specs.Prelude.{◌≡◌};
 ghost use Rattle.aclck_c.specs.Common.{IfErr, IfOk, profile_of, ReadsTwoLists, profile_from, WritesBytes, IsPairFailure, IsProfileOption};
 
 use crate::failure::Failure;
-use crate::nfs4::compare::{NO_DIFFERENCE, NOT_COMPARED, Named, RawDifference, report_of};
+use crate::nfs4::compare::{NOT_COMPARED, Named, RawDifference, no_difference, report_of};
 use crate::nfs4::reading::{list_of, second_list_of};
 use crate::options::profile_from;
-use crate::out::put;
+use crate::out::answer_both;
 use crate::refusal::Refusal;
-use crate::status::BAD_ARGUMENT;
+use crate::status::Status;
 use acl_contain::excess;
 use acl_nfs4::Acl;
 use acl_perm::Profile;
@@ -42,22 +42,16 @@ pub extern "C" fn aclck_excess(
 {
     *difference = NOT_COMPARED;
     let Some(profile) = profile_from(options) else {
-        return BAD_ARGUMENT;
+        return Status::BadArgument.number();
     };
-    match exceeding(alloc, first, second, profile) {
-        Ok(found) => {
-            *difference = found.at;
-            let mut needed = 0;
-            put(&found.names, out, &mut needed)
-        }
-        Err(failure) => failure.report(fault),
-    }
+    let found = exceeding(alloc, first, second, profile);
+    answer_both(found, difference, out, &mut 0, fault)
 }
 
 #[tactic(auto, using(crate::proofs::Pairs::first_failure, crate::proofs::Pairs::second_failure))]
 fn exceeding(alloc: Global, first: &[u8], second: &[u8], profile: Profile) -> Result<Named, Failure>
     ensures ok { IfOk result (λ found.
-        AreExcess (profile_of profile) first.now second.now found.at found.names.items) }
+        AreExcess (profile_of profile) first.now second.now found.value found.items.items) }
     ensures err { IfErr result (IsPairFailure (profile_of profile) first.now second.now) }
 {
     let list = list_of(alloc, first, profile)?;
@@ -66,13 +60,10 @@ fn exceeding(alloc: Global, first: &[u8], second: &[u8], profile: Profile) -> Re
 }
 
 fn excess_of(alloc: Global, list: &Acl, other: &Acl) -> Result<Named, AllocError>
-    ensures { IfOk result (λ found. ExceedsAs list.now other.now found.at found.names.items) }
+    ensures { IfOk result (λ found. ExceedsAs list.now other.now found.value found.items.items) }
 {
     match excess(alloc, list, other)? {
-        None => Ok(Named {
-            at: NO_DIFFERENCE,
-            names: Vec::new(alloc),
-        }),
+        None => Ok(no_difference(alloc)),
         Some(found) => Ok(report_of(alloc, &found)?),
     }
 }

@@ -1,19 +1,16 @@
 //! Why a value of a form is refused, and why a form cannot hold a list, by numbers.
 ghost use Rattle.std.specs.Prelude.{◌≡◌};
-ghost use Rattle.aclck_c.specs.FormValues.{form_reason_number, missing_tag, read_reason_number, value_refusal};
+ghost use Rattle.aclck_c.specs.FormValues.{form_reason_number, read_reason_number, value_refusal};
 ghost use Rattle.aclck_c.specs.Refusal.{in_value};
 ghost use Rattle.aclck_c.specs.internal.FormFailures.{of_value};
+ghost use Rattle.aclck_c.specs.internal.Numbers.{number_of_reason};
 
 use crate::failure::Failure;
 use crate::posix::text_fault::tag_number;
-use crate::reason::{
-    ACL_FLAG_BITS, ACL_FLAGS, COMMENT, DUPLICATE, EMPTY, EMPTY_ENTRY, FIELDS, FLAG, ID, ID_DIFFERS,
-    IFLAG_BITS, INHERITED, MASK, MISS, MULTI, NO_ID, NOT_DIRECTORY, NUL, ORDER, PERMISSION,
-    QUALIFIER, RETENTION, SEPARATOR, TAG, TOO_LONG, UNKNOWN_NAME, VERSION, reason_number,
-};
+use crate::reason::Reason;
 use crate::refusal::Refusal;
 use acl_forms::{FormFault, FormReason, ReadFault, ReadReason};
-use acl_nfs4::Reason;
+use acl_nfs4::Reason as ListReason;
 
 impl From<ReadFault> for Failure {
     ghost from_gives = { λ fault failure. failure ≡ of_value fault };
@@ -29,48 +26,42 @@ fn value_refusal(fault: ReadFault) -> Option<Refusal>
 {
     let ReadFault { offset, reason } = fault;
     match reason {
-        ReadReason::List(Reason::Memory) => None,
-        _ => Some(Refusal::in_value(offset, read_reason_number(reason), missing_tag(reason))),
+        ReadReason::List(ListReason::Memory) => None,
+        ReadReason::Miss(tag) => Some(Refusal {
+            tag: tag_number(tag),
+            ..Refusal::at(Reason::Miss, offset)
+        }),
+        _ => Some(Refusal::at(read_reason(reason), offset)),
     }
 }
 
-fn read_reason_number(reason: ReadReason) -> u32
-    ensures { result ≡ read_reason_number reason }
+fn read_reason(reason: ReadReason) -> Reason
+    ensures { number_of_reason result ≡ read_reason_number reason }
 {
     match reason {
-        ReadReason::List(why) => reason_number(why),
-        ReadReason::AclFlagBits => ACL_FLAG_BITS,
-        ReadReason::IflagBits => IFLAG_BITS,
-        ReadReason::Id => ID,
-        ReadReason::Version => VERSION,
-        ReadReason::Tag => TAG,
-        ReadReason::Permission => PERMISSION,
-        ReadReason::Qualifier => QUALIFIER,
-        ReadReason::Order => ORDER,
-        ReadReason::Multi => MULTI,
-        ReadReason::Duplicate => DUPLICATE,
-        ReadReason::Miss(_) => MISS,
-        ReadReason::Fields => FIELDS,
-        ReadReason::Flag => FLAG,
-        ReadReason::Mask => MASK,
-        ReadReason::NotDirectory => NOT_DIRECTORY,
-        ReadReason::Empty => EMPTY,
-        ReadReason::EmptyEntry => EMPTY_ENTRY,
-        ReadReason::IdDiffers => ID_DIFFERS,
-        ReadReason::UnknownName => UNKNOWN_NAME,
-        ReadReason::Comment => COMMENT,
-        ReadReason::Nul => NUL,
-        ReadReason::TooLong => TOO_LONG,
-    }
-}
-
-// Returns the number of the tag that is missing, or 0.
-fn missing_tag(reason: ReadReason) -> u32
-    ensures { result ≡ missing_tag reason }
-{
-    match reason {
-        ReadReason::Miss(tag) => tag_number(tag),
-        _ => 0,
+        ReadReason::List(why) => Reason::from(why),
+        ReadReason::AclFlagBits => Reason::AclFlagBits,
+        ReadReason::IflagBits => Reason::IflagBits,
+        ReadReason::Id => Reason::Id,
+        ReadReason::Version => Reason::Version,
+        ReadReason::Tag => Reason::Tag,
+        ReadReason::Permission => Reason::Permission,
+        ReadReason::Qualifier => Reason::Qualifier,
+        ReadReason::Order => Reason::Order,
+        ReadReason::Multi => Reason::Multi,
+        ReadReason::Duplicate => Reason::Duplicate,
+        ReadReason::Miss(_) => Reason::Miss,
+        ReadReason::Fields => Reason::Fields,
+        ReadReason::Flag => Reason::Flag,
+        ReadReason::Mask => Reason::Mask,
+        ReadReason::NotDirectory => Reason::NotDirectory,
+        ReadReason::Empty => Reason::Empty,
+        ReadReason::EmptyEntry => Reason::EmptyEntry,
+        ReadReason::IdDiffers => Reason::IdDiffers,
+        ReadReason::UnknownName => Reason::UnknownName,
+        ReadReason::Comment => Reason::Comment,
+        ReadReason::Nul => Reason::Nul,
+        ReadReason::TooLong => Reason::TooLong,
     }
 }
 
@@ -78,21 +69,21 @@ fn missing_tag(reason: ReadReason) -> u32
 pub(crate) fn holding_refusal(fault: FormFault) -> Refusal
     ensures { result ≡ in_value fault.place (form_reason_number fault.reason) 0 }
 {
-    Refusal::in_value(fault.place as u64, form_reason_number(fault.reason), 0)
+    Refusal::at(form_reason(fault.reason), fault.place as u64)
 }
 
-fn form_reason_number(reason: FormReason) -> u32
-    ensures { result ≡ form_reason_number reason }
+fn form_reason(reason: FormReason) -> Reason
+    ensures { number_of_reason result ≡ form_reason_number reason }
 {
     match reason {
-        FormReason::NoId => NO_ID,
-        FormReason::Inherited => INHERITED,
-        FormReason::Retention => RETENTION,
-        FormReason::Separator => SEPARATOR,
-        FormReason::NotDirectory => NOT_DIRECTORY,
-        FormReason::TooLong => TOO_LONG,
-        FormReason::Empty => EMPTY,
-        FormReason::Id => ID,
-        FormReason::AclFlags => ACL_FLAGS,
+        FormReason::NoId => Reason::NoId,
+        FormReason::Inherited => Reason::Inherited,
+        FormReason::Retention => Reason::Retention,
+        FormReason::Separator => Reason::Separator,
+        FormReason::NotDirectory => Reason::NotDirectory,
+        FormReason::TooLong => Reason::TooLong,
+        FormReason::Empty => Reason::Empty,
+        FormReason::Id => Reason::Id,
+        FormReason::AclFlags => Reason::AclFlags,
     }
 }

@@ -3,17 +3,17 @@ ghost use Rattle.aclck_c.specs.FormParts.{IsRefusedFormPartIn, ReadsFormPart, Re
 ghost use Rattle.aclck_c.specs.FormValues.{form_of_number};
 ghost use Rattle.aclck_c.specs.Status as status;
 ghost use Rattle.aclck_c.specs.internal.FormParts.{IsFormPartFailure, PutsBothIfRoom};
+ghost use Rattle.aclck_c.specs.internal.Numbers.{number_of_reason, number_of_status};
 ghost use Rattle.std.specs.Prelude.{◌≡◌};
 ghost use Rattle.aclck_c.specs.Common.{⊤, IfErr, IfOk, IsSome, JudgesInput, map};
 
 use crate::failure::Failure;
 use crate::nfs4::forms::form_of_number;
 use crate::out::fill;
-use crate::reason::reason_number;
+use crate::reason::Reason;
 use crate::refusal::Refusal;
-use crate::status::{BAD_ARGUMENT, DONE, SHORT};
+use crate::status::Status;
 use acl_forms::{Form, LeftOut, LeftOutReason, read_part};
-use acl_nfs4::Reason;
 use std::alloc::{AllocError, Global};
 
 /// `struct aclck_left_out`: the number of an ACE that is left out, from 0, the place of its first byte in the value,
@@ -58,9 +58,9 @@ pub extern "C" fn aclck_read_part(
         (IsSome (form_of_number form)) status.done_or_short fault.old fault.new result }
 {
     let Some(form) = form_of_number(form) else {
-        return BAD_ARGUMENT;
+        return Status::BadArgument.number();
     };
-    match part_in(alloc, value, form) {
+    let status = match part_in(alloc, value, form) {
         Ok(made) => {
             *part = RawPart {
                 needed: made.bytes.len() as u64,
@@ -70,7 +70,8 @@ pub extern "C" fn aclck_read_part(
             put_both(&made.bytes, out, &made.left_out, left)
         }
         Err(failure) => failure.report(fault),
-    }
+    };
+    status.number()
 }
 
 #[derive(Drop)]
@@ -104,29 +105,30 @@ fn numbers_of(alloc: Global, left_out: &[LeftOut]) -> Result<Vec<RawLeftOut>, Al
         raws.push(RawLeftOut {
             place: ace.place as u64,
             offset: ace.offset,
-            reason: left_out_number(ace.reason),
+            reason: left_out_reason(ace.reason).number(),
         })?;
     }
     Ok(raws)
 }
 
-fn left_out_number(reason: LeftOutReason) -> u32
-    ensures { result ≡ left_out_number reason }
+fn left_out_reason(reason: LeftOutReason) -> Reason
+    ensures { number_of_reason result ≡ left_out_number reason }
 {
     match reason {
-        LeftOutReason::AuditOrAlarm => reason_number(Reason::AuditOrAlarm),
-        LeftOutReason::SpecialWho => reason_number(Reason::SpecialWho),
+        LeftOutReason::AuditOrAlarm => Reason::AuditOrAlarm,
+        LeftOutReason::SpecialWho => Reason::SpecialWho,
     }
 }
 
 // Puts bytes and items at the fronts of their buffers, or nothing if one of the two has no room. Returns the status.
-fn put_both<T: Copy, U: Copy>(bytes: &[T], out: &mut [T], items: &[U], room: &mut [U]) -> u32
-    ensures { PutsBothIfRoom bytes.now out.old out.new items.now room.old room.new result }
+fn put_both<T: Copy, U: Copy>(bytes: &[T], out: &mut [T], items: &[U], room: &mut [U]) -> Status
+    ensures { PutsBothIfRoom bytes.now out.old out.new items.now room.old room.new
+        (number_of_status result) }
 {
     if bytes.len() > out.len() || items.len() > room.len() {
-        return SHORT;
+        return Status::Short;
     }
     fill(items, room);
     fill(bytes, out);
-    DONE
+    Status::Done
 }

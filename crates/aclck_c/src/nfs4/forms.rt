@@ -9,9 +9,9 @@ ghost use Rattle.aclck_c.specs.Common.{⊤, IfErr, IfOk, IsSome, JudgesInput, Wr
 
 use crate::failure::Failure;
 use crate::nfs4::form_fault::holding_refusal;
-use crate::out::{answer, put};
+use crate::out::{Made, answer, answer_both};
 use crate::refusal::Refusal;
-use crate::status::BAD_ARGUMENT;
+use crate::status::Status;
 use acl_forms::{
     AclFlags, EntrySeparator, Form, FormWriteFault, LetterStyle, ObjectKind, Style, WhoField, read,
     write,
@@ -49,35 +49,22 @@ pub extern "C" fn aclck_read_form(
         status.done_or_short fault.old fault.new result }
 {
     let Some(form) = form_of_number(form) else {
-        return BAD_ARGUMENT;
+        return Status::BadArgument.number();
     };
-    match list_in(alloc, value, form) {
-        Ok(found) => {
-            *flags = found.flags;
-            put(&found.bytes, out, needed)
-        }
-        Err(failure) => failure.report(fault),
-    }
-}
-
-// The flags and the bytes of the list that a value spells.
-#[derive(Drop)]
-struct FoundList {
-    flags: u32,
-    bytes: Vec<u8>,
+    answer_both(list_in(alloc, value, form), flags, out, needed, fault)
 }
 
 // Returns the flags and the bytes of the list. Fails if the value is refused or memory runs out.
 #[tactic(auto, using(crate::proofs::FormValues::value_failure))]
-fn list_in(alloc: Global, value: &[u8], form: Form) -> Result<FoundList, Failure>
+fn list_in(alloc: Global, value: &[u8], form: Form) -> Result<Made<u32, u8>, Failure>
     ensures ok { IfOk result (λ found.
-        ReadsFormValue form value.now found.flags found.bytes.items) }
+        ReadsFormValue form value.now found.value found.items.items) }
     ensures err { IfErr result (IsValueFailure form value.now) }
 {
     let (flags, list) = read(alloc, form, value)?;
-    Ok(FoundList {
-        flags: flags.bits(),
-        bytes: list.to_bytes(alloc)?,
+    Ok(Made {
+        value: flags.bits(),
+        items: list.to_bytes(alloc)?,
     })
 }
 
@@ -101,10 +88,10 @@ pub extern "C" fn aclck_write_form(
         (IsGoodForm form flags) status.done_or_short fault.old fault.new result }
 {
     let Some(form) = form_of_number(form) else {
-        return BAD_ARGUMENT;
+        return Status::BadArgument.number();
     };
     let Some(flags) = AclFlags::new(flags) else {
-        return BAD_ARGUMENT;
+        return Status::BadArgument.number();
     };
     answer(value_of(alloc, acl, form, flags), out, needed, fault)
 }

@@ -6,8 +6,9 @@ use crate::failure::Failure;
 use crate::nfs4::request::{
     NfsRequest, RawObject, RawQuestion, RawRequester, asked, with_sorted_groups,
 };
+use crate::out::answer_value;
 use crate::refusal::Refusal;
-use crate::status::{BAD_ARGUMENT, DONE};
+use crate::status::Status;
 use acl_eval::granted;
 use acl_nfs4::AclView;
 use std::alloc::Global;
@@ -33,15 +34,9 @@ pub extern "C" fn aclck_granted(
 {
     *rights = 0;
     let Some(request) = asked(object, requester, question) else {
-        return BAD_ARGUMENT;
+        return Status::BadArgument.number();
     };
-    match granted_in(alloc, acl, &request) {
-        Ok(found) => {
-            *rights = found;
-            DONE
-        }
-        Err(failure) => failure.report(fault),
-    }
+    answer_value(granted_in(alloc, acl, &request), rights, fault)
 }
 
 // Returns those rights of the request that the list grants. Fails if the bytes are refused.

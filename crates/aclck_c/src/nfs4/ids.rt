@@ -14,9 +14,9 @@ use crate::nfs4::request::RawQuestion;
 use crate::options::profile_from;
 use crate::out::answer;
 use crate::posix::names::{RawName, table_of};
-use crate::reason::UNKNOWN_NAME;
+use crate::reason::Reason;
 use crate::refusal::Refusal;
-use crate::status::{BAD_ARGUMENT, DONE};
+use crate::status::Status;
 use acl_ids::IdsFault;
 use acl_nfs4::AclView;
 use acl_perm::{Mask, Profile};
@@ -65,7 +65,7 @@ impl From<IdsFault> for Failure {
 pub(crate) fn unknown_at(place: usize) -> Refusal
     ensures { result ≡ unknown_at place }
 {
-    Refusal::in_part(UNKNOWN_NAME, 0, place, 0)
+    Refusal::at(Reason::UnknownName, place as u64)
 }
 
 /// Writes the list that the bytes spell as `aclck_decide_ids` takes it. The id of a name is that of `names`, and
@@ -88,7 +88,7 @@ pub extern "C" fn aclck_prepare_ids(
         fault.old fault.new result }
 {
     let Some(profile) = profile_from(options) else {
-        return BAD_ARGUMENT;
+        return Status::BadArgument.number();
     };
     answer(
         prepared(alloc, acl, names.names, profile),
@@ -138,13 +138,13 @@ pub extern "C" fn aclck_decide_ids(
         denied: 0,
     };
     let Some(request) = asked(object, requester, question) else {
-        return BAD_ARGUMENT;
+        return Status::BadArgument.number();
     };
     let Some(found) = decided_in(prepared, &request) else {
-        return BAD_ARGUMENT;
+        return Status::BadArgument.number();
     };
     *decided = found;
-    DONE
+    Status::Done.number()
 }
 
 // A request by ids: the object, the requester, and the rights that are requested.

@@ -9,13 +9,13 @@ ghost use Rattle.std.specs.Prelude.{◌↔◌, ◌≡◌, IsSome};
 ghost use Rattle.aclck_c.specs.Common.{IfErr, IfOk, IfSome, profile_from, WritesBytes, IsListFailure};
 
 use crate::failure::Failure;
-use crate::nfs4::compare::{NO_DIFFERENCE, NOT_COMPARED, Named, RawDifference, report_of};
+use crate::nfs4::compare::{NOT_COMPARED, Named, RawDifference, no_difference, report_of};
 use crate::nfs4::deciding::right_of;
 use crate::nfs4::reading::list_of;
 use crate::options::profile_from;
-use crate::out::put;
+use crate::out::answer_both;
 use crate::refusal::Refusal;
-use crate::status::BAD_ARGUMENT;
+use crate::status::Status;
 use acl_contain::implies;
 use acl_nfs4::Acl;
 use acl_perm::{Mask, Profile, Right};
@@ -62,16 +62,10 @@ pub extern "C" fn aclck_implies(
 {
     *difference = NOT_COMPARED;
     let Some(question) = asked(implication) else {
-        return BAD_ARGUMENT;
+        return Status::BadArgument.number();
     };
-    match found_in(alloc, acl, question) {
-        Ok(found) => {
-            *difference = found.at;
-            let mut needed = 0;
-            put(&found.names, out, &mut needed)
-        }
-        Err(failure) => failure.report(fault),
-    }
+    let found = found_in(alloc, acl, question);
+    answer_both(found, difference, out, &mut 0, fault)
 }
 
 // Returns what is asked, or `None` if an argument has no meaning.
@@ -92,7 +86,7 @@ fn asked(implication: &RawImplication) -> Option<Question>
 // Fails if the bytes are refused, or memory runs out.
 fn found_in(alloc: Global, acl: &[u8], question: Question) -> Result<Named, Failure>
     ensures ok { IfOk result (λ found. HasImplication (profile_of question.profile) acl.now
-        question.right.bit question.others.bits found.at found.names.items) }
+        question.right.bit question.others.bits found.value found.items.items) }
     ensures err { IfErr result (IsListFailure (profile_of question.profile) acl.now 0) }
 {
     let list = list_of(alloc, acl, question.profile)?;
@@ -101,13 +95,10 @@ fn found_in(alloc: Global, acl: &[u8], question: Question) -> Result<Named, Fail
 
 fn implication_of(alloc: Global, list: &Acl, question: Question) -> Result<Named, AllocError>
     ensures { IfOk result (λ found.
-        ImpliesAs list.now question.right.bit question.others.bits found.at found.names.items) }
+        ImpliesAs list.now question.right.bit question.others.bits found.value found.items.items) }
 {
     match implies(alloc, list, question.right, question.others)? {
-        None => Ok(Named {
-            at: NO_DIFFERENCE,
-            names: Vec::new(alloc),
-        }),
+        None => Ok(no_difference(alloc)),
         Some(found) => Ok(report_of(alloc, &found)?),
     }
 }

@@ -4,8 +4,9 @@ ghost use Rattle.aclck_c.specs.Common.{IfErr, IfOk, profile_of, LooksAtList, pro
 
 use crate::failure::Failure;
 use crate::options::profile_from;
+use crate::out::answer_value;
 use crate::refusal::Refusal;
-use crate::status::{BAD_ARGUMENT, DONE};
+use crate::status::Status;
 use acl_eval::mode_of;
 use acl_nfs4::AclView;
 use acl_perm::Profile;
@@ -21,15 +22,9 @@ pub extern "C" fn aclck_mode(acl: &[u8], options: u32, mode: &mut u32, fault: &m
 {
     *mode = 0;
     let Some(profile) = profile_from(options) else {
-        return BAD_ARGUMENT;
+        return Status::BadArgument.number();
     };
-    match mode_in(acl, profile) {
-        Ok(found) => {
-            *mode = found;
-            DONE
-        }
-        Err(failure) => failure.report(fault),
-    }
+    answer_value(mode_in(acl, profile), mode, fault)
 }
 
 // Fails if the bytes are refused.

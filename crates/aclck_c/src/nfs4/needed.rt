@@ -7,7 +7,7 @@ use crate::failure::Failure;
 use crate::options::profile_from;
 use crate::out::answer;
 use crate::refusal::Refusal;
-use crate::status::BAD_ARGUMENT;
+use crate::status::Status;
 use acl_contain::needed_of_view;
 use acl_nfs4::AclView;
 use acl_perm::{Mask, Profile};
@@ -31,7 +31,7 @@ pub extern "C" fn aclck_needed(
         masks.old masks.new needed.old needed.new fault.old fault.new result }
 {
     let Some(profile) = profile_from(options) else {
-        return BAD_ARGUMENT;
+        return Status::BadArgument.number();
     };
     answer(needed_masks(alloc, acl, profile), masks, needed, fault)
 }

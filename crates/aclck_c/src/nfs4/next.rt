@@ -9,7 +9,7 @@ use crate::failure::Failure;
 use crate::nfs4::ace::RawAce;
 use crate::options::profile_from;
 use crate::refusal::Refusal;
-use crate::status::{BAD_ARGUMENT, DONE};
+use crate::status::Status;
 use acl_nfs4::{AceRef, ace_at};
 
 /// Writes the ACE at `offset` of the list that the bytes spell to `ace`, and moves `offset` behind it. If no ACE is
@@ -32,23 +32,24 @@ pub extern "C" fn aclck_next<'a>(
         fault.old fault.new result }
 {
     if *offset > acl.len() {
-        return BAD_ARGUMENT;
+        return Status::BadArgument.number();
     }
     let Some(profile) = profile_from(options) else {
-        return BAD_ARGUMENT;
+        return Status::BadArgument.number();
     };
-    match ace_at(acl, *offset, profile) {
+    let status = match ace_at(acl, *offset, profile) {
         Ok(Some(next)) => {
             *ace = raw_ace(next.ace);
             *offset = next.end;
-            DONE
+            Status::Done
         }
         Ok(None) => {
             *ace = no_ace(acl);
-            DONE
+            Status::Done
         }
         Err(found) => Failure::from(found).report(fault),
-    }
+    };
+    status.number()
 }
 
 fn raw_ace(item: AceRef<'_>) -> RawAce<'_>

@@ -14,7 +14,7 @@ use crate::nfs4::request::{RawObject, RawQuestion, RawRequester, with_sorted_gro
 use crate::options::{GROUPS_IN_ORDER, has_option, is_order_option, profile_from};
 use crate::out::answer;
 use crate::refusal::Refusal;
-use crate::status::{BAD_ARGUMENT, DONE};
+use crate::status::Status;
 use acl_eval::{Object, Requester};
 use acl_nfs4::AclView;
 use acl_perm::{Mask, Profile};
@@ -42,7 +42,7 @@ pub extern "C" fn aclck_prepare(
         out.old out.new needed.old needed.new fault.old fault.new result }
 {
     let Some(profile) = profile_from(options) else {
-        return BAD_ARGUMENT;
+        return Status::BadArgument.number();
     };
     answer(prepared_bytes(alloc, acl, profile), out, needed, fault)
 }
@@ -77,18 +77,16 @@ pub extern "C" fn aclck_decide_prepared(
 {
     *decided = NOTHING_DECIDED;
     let Some(call) = call_of(object, question) else {
-        return BAD_ARGUMENT;
+        return Status::BadArgument.number();
     };
     let Some(requester) = requester_of(&call, requester) else {
-        return BAD_ARGUMENT;
+        return Status::BadArgument.number();
     };
-    match decided_by(alloc, prepared, &call, requester) {
-        Some(found) => {
-            *decided = found;
-            DONE
-        }
-        None => BAD_ARGUMENT,
-    }
+    let Some(found) = decided_by(alloc, prepared, &call, requester) else {
+        return Status::BadArgument.number();
+    };
+    *decided = found;
+    Status::Done.number()
 }
 
 /// What is the same for all requesters: the object, the rights that are requested, and whether the caller says that the

@@ -11,7 +11,7 @@ use crate::nfs4::check_many::are_good;
 use crate::nfs4::decide::{NOTHING_DECIDED, RawDecided};
 use crate::nfs4::prepared::{PreparedCall, call_of, decided_by, requester_of};
 use crate::nfs4::request::{RawObject, RawQuestion, RawRequester};
-use crate::status::{BAD_ARGUMENT, DONE};
+use crate::status::Status;
 use std::alloc::Global;
 
 /// Answers as `aclck_decide_prepared` does, for each of the requesters: the answers are in `decided`, one for each
@@ -35,16 +35,16 @@ pub extern "C" fn aclck_decide_prepared_many(
 {
     decided.fill(NOTHING_DECIDED);
     let Some(call) = call_of(object, question) else {
-        return BAD_ARGUMENT;
+        return Status::BadArgument.number();
     };
     if decided.len() != requesters.len() || !are_good(requesters) {
-        return BAD_ARGUMENT;
+        return Status::BadArgument.number();
     }
     if !decide_each(alloc, prepared, &call, requesters, decided) {
         decided.fill(NOTHING_DECIDED);
-        return BAD_ARGUMENT;
+        return Status::BadArgument.number();
     }
-    DONE
+    Status::Done.number()
 }
 
 // Writes for each requester what is decided. Returns false if the bytes are not prepared bytes.

@@ -26,6 +26,6 @@ pub(crate) fn second_list_of(alloc: Global, bytes: &[u8], profile: Profile) -> R
 {
     match AclView::parse_whole_with(bytes, profile) {
         Ok(view) => Ok(Acl::from_view(alloc, &view)?),
-        Err(fault) => Err(Failure::Refused(Refusal::in_list(fault.offset, fault.reason, 1))),
+        Err(fault) => Err(Failure::Refused(Refusal::in_list(fault).of_second())),
     }
 }

@@ -8,8 +8,9 @@ ghost use Rattle.aclck_c.specs.internal.Renaming.{IsRenamingFailure, ReadsRows, 
 use crate::failure::Failure;
 use crate::options::{RenameOptions, rename_options_from};
 use crate::out::answer;
+use crate::reason::Reason;
 use crate::refusal::Refusal;
-use crate::status::BAD_ARGUMENT;
+use crate::status::Status;
 use acl_nfs4::{AclView, RenameFault, Renaming};
 use std::alloc::{AllocError, Global};
 
@@ -36,7 +37,10 @@ impl From<RenameFault> for Failure {
     fn from(fault: RenameFault) -> Failure {
         match fault {
             RenameFault::Row(_) => Failure::BadArgument,
-            RenameFault::Merged(place) => Failure::Refused(Refusal::merged(place)),
+            RenameFault::Merged(place) => Failure::Refused(Refusal::at(
+                Reason::Merged,
+                place as u64,
+            )),
             RenameFault::Memory => Failure::Memory,
         }
     }
@@ -61,7 +65,7 @@ pub extern "C" fn aclck_renamed(
         out.old out.new needed.old needed.new fault.old fault.new result }
 {
     let Some(choice) = rename_options_from(options) else {
-        return BAD_ARGUMENT;
+        return Status::BadArgument.number();
     };
     answer(renamed(alloc, acl, table.at, choice), out, needed, fault)
 }

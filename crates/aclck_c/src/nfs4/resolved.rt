@@ -13,7 +13,7 @@ use crate::nfs4::request::RawObject;
 use crate::options::profile_from;
 use crate::out::answer;
 use crate::refusal::Refusal;
-use crate::status::BAD_ARGUMENT;
+use crate::status::Status;
 use acl_change::{ResolveFault, resolved};
 use acl_eval::Object;
 use acl_nfs4::AclView;
@@ -45,10 +45,10 @@ pub extern "C" fn aclck_resolved(
         fault.old fault.new result }
 {
     let Some(object) = Object::new(object.owner, object.group) else {
-        return BAD_ARGUMENT;
+        return Status::BadArgument.number();
     };
     let Some(profile) = profile_from(options) else {
-        return BAD_ARGUMENT;
+        return Status::BadArgument.number();
     };
     answer(named(alloc, acl, &object, profile), out, needed, fault)
 }

@@ -6,9 +6,9 @@ ghost use Rattle.aclck_c.specs.Common.{IfErr, IfOk, profile_of, ReadsTwoLists, G
 use crate::failure::Failure;
 use crate::nfs4::compare::{are_equal, second_view_of, view_of};
 use crate::options::profile_from;
-use crate::out::truth_number;
+use crate::out::answer_truth;
 use crate::refusal::Refusal;
-use crate::status::{BAD_ARGUMENT, DONE};
+use crate::status::Status;
 use acl_contain::same_views;
 use acl_perm::Profile;
 use std::alloc::Global;
@@ -32,15 +32,9 @@ pub extern "C" fn aclck_same(
 {
     *same = 0;
     let Some(profile) = profile_from(options) else {
-        return BAD_ARGUMENT;
+        return Status::BadArgument.number();
     };
-    match are_same(alloc, first, second, profile) {
-        Ok(answer) => {
-            *same = truth_number(answer);
-            DONE
-        }
-        Err(failure) => failure.report(fault),
-    }
+    answer_truth(are_same(alloc, first, second, profile), same, fault)
 }
 
 #[tactic(auto, using(crate::proofs::Pairs::first_failure, crate::proofs::Pairs::second_failure))]

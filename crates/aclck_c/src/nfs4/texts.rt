@@ -22,7 +22,7 @@ use crate::nfs4::request::RawQuestion;
 use crate::options::{ChildOptions, child_options_from, profile_from};
 use crate::out::answer;
 use crate::refusal::Refusal;
-use crate::status::BAD_ARGUMENT;
+use crate::status::Status;
 use acl_contain::holders;
 use acl_eval::{child_of_view, inherited_child};
 use acl_nfs4::{Acl, AclView, bit_name};
@@ -47,7 +47,7 @@ pub extern "C" fn aclck_child(
         out.old out.new needed.old needed.new fault.old fault.new result }
 {
     let Some(creation) = child_options_from(options) else {
-        return BAD_ARGUMENT;
+        return Status::BadArgument.number();
     };
     answer(child_of(alloc, acl, creation), out, needed, fault)
 }
@@ -89,7 +89,7 @@ pub extern "C" fn aclck_show(
         out.old out.new needed.old needed.new fault.old fault.new result }
 {
     let Some(profile) = profile_from(options) else {
-        return BAD_ARGUMENT;
+        return Status::BadArgument.number();
     };
     answer(shown(alloc, acl, profile), out, needed, fault)
 }
@@ -118,7 +118,7 @@ pub extern "C" fn aclck_normalize(
         out.old out.new needed.old needed.new fault.old fault.new result }
 {
     let Some(profile) = profile_from(options) else {
-        return BAD_ARGUMENT;
+        return Status::BadArgument.number();
     };
     answer(normal_form(alloc, acl, profile), out, needed, fault)
 }
@@ -149,7 +149,7 @@ pub extern "C" fn aclck_normalize_inherit(
         out.old out.new needed.old needed.new fault.old fault.new result }
 {
     let Some(profile) = profile_from(options) else {
-        return BAD_ARGUMENT;
+        return Status::BadArgument.number();
     };
     answer(five_forms(alloc, acl, profile), out, needed, fault)
 }
@@ -191,10 +191,10 @@ pub extern "C" fn aclck_table(
         out.old out.new needed.old needed.new fault.old fault.new result }
 {
     let Some(profile) = profile_from(question.options) else {
-        return BAD_ARGUMENT;
+        return Status::BadArgument.number();
     };
     let Some(bit) = right_of(question.mask, profile) else {
-        return BAD_ARGUMENT;
+        return Status::BadArgument.number();
     };
     answer(tabulated(alloc, acl, bit, profile), out, needed, fault)
 }
@@ -250,10 +250,10 @@ pub extern "C" fn aclck_holders(
         out.old out.new needed.old needed.new fault.old fault.new result }
 {
     let Some(profile) = profile_from(question.options) else {
-        return BAD_ARGUMENT;
+        return Status::BadArgument.number();
     };
     let Some(bit) = right_of(question.mask, profile) else {
-        return BAD_ARGUMENT;
+        return Status::BadArgument.number();
     };
     answer(holders_in(alloc, acl, bit, profile), out, needed, fault)
 }

@@ -8,11 +8,12 @@ ghost use Rattle.aclck_c.specs.Common.{IfErr, IfOk, IfSome, IsSome, WritesBytes}
 
 use crate::failure::Failure;
 use crate::nfs4::ids::{RawNames, unknown_at};
-use crate::out::put;
+use crate::out::{Made, answer_both};
 use crate::posix::entries::raws_of;
 use crate::posix::names::{RawName, table_of};
+use crate::reason::Reason;
 use crate::refusal::Refusal;
-use crate::status::BAD_ARGUMENT;
+use crate::status::Status;
 use acl_nfs4::AclView;
 use acl_posix::{Id, RawEntry};
 use acl_to_posix::{LostGrant, ShapeFault, to_posix};
@@ -49,14 +50,7 @@ const NOTHING_LOST: RawPosixLoss = RawPosixLoss {
 
 const LOSS_UNKNOWN: RawPosixLoss = RawPosixLoss {
     exact: 0,
-    owner: 0,
-    group: 0,
-    user: 0,
-    want: 0,
-    ngroups: 0,
-    first_group: 0,
-    second_group: 0,
-    third_group: 0,
+    ..NOTHING_LOST
 };
 
 impl From<ShapeFault> for Failure {
@@ -65,7 +59,7 @@ impl From<ShapeFault> for Failure {
     fn from(fault: ShapeFault) -> Failure {
         match fault {
             ShapeFault::NoId(place) => Failure::Refused(unknown_at(place)),
-            ShapeFault::TooManyNames => Failure::Refused(Refusal::past_limits()),
+            ShapeFault::TooManyNames => Failure::Refused(Refusal::at(Reason::Limits, 0)),
             ShapeFault::Memory => Failure::Memory,
         }
     }
@@ -97,15 +91,10 @@ pub extern "C" fn aclck_to_posix(
 {
     *loss = LOSS_UNKNOWN;
     let Some(most) = bound_from(most) else {
-        return BAD_ARGUMENT;
+        return Status::BadArgument.number();
     };
-    match posix_of(alloc, acl, names.names, most) {
-        Ok(made) => {
-            *loss = made.loss;
-            put(&made.entries, out, needed)
-        }
-        Err(failure) => failure.report(fault),
-    }
+    let made = posix_of(alloc, acl, names.names, most);
+    answer_both(made, loss, out, needed, fault)
 }
 
 // Returns the bound on the users and groups that a list names, or `None` if the number is above the greatest bound.
@@ -116,31 +105,25 @@ fn bound_from(number: u32) -> Option<u16>
     u16::try_from(number).ok()
 }
 
-// The entries of the ACL of a list, and what is lost with it.
-#[derive(Drop)]
-struct MadePosix {
-    entries: Vec<RawEntry>,
-    loss: RawPosixLoss,
-}
-
-// Fails if the names make no table, the bytes are refused, the list has no ACL, or memory runs out.
+// Returns what is lost with the ACL of a list, and the entries of the ACL. Fails if the names make no table, the bytes
+// are refused, the list has no ACL, or memory runs out.
 #[tactic(auto, using(crate::proofs::PosixFailures::names_failure, crate::proofs::PosixFailures::list_failure, crate::proofs::PosixFailures::shape_failure))]
 fn posix_of(
     alloc: Global,
     acl: &[u8],
     names: &[RawName<'_>],
     most: u16,
-) -> Result<MadePosix, Failure>
+) -> Result<Made<RawPosixLoss, RawEntry>, Failure>
     ensures ok { IfOk result (λ made.
-        BecomesPosix acl.now names.now most made.loss made.entries.items) }
+        BecomesPosix acl.now names.now most made.value made.items.items) }
     ensures err { IfErr result (IsPosixFailure acl.now names.now most) }
 {
     let table = table_of(alloc, names)?;
     let list = AclView::parse_whole(acl)?;
     let made = to_posix(alloc, &list, &table, most)?;
-    Ok(MadePosix {
-        entries: raws_of(alloc, &made.acl)?,
-        loss: loss_of(&made.lost),
+    Ok(Made {
+        value: loss_of(&made.lost),
+        items: raws_of(alloc, &made.acl)?,
     })
 }
 

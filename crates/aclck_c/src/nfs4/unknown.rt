@@ -11,10 +11,11 @@ use crate::failure::Failure;
 use crate::nfs4::request::{
     NfsRequest, RawObject, RawQuestion, RawRequester, asked, with_sorted_groups,
 };
+use crate::out::answer_value;
 use crate::refusal::Refusal;
-use crate::status::{BAD_ARGUMENT, DONE};
+use crate::status::Status;
 use acl_decide::{RequestAnswer, decided_with_unknown, request_answer};
-use acl_nfs4::{AccessPart, Fault, Reason};
+use acl_nfs4::{AccessPart, Fault, Reason as ListReason};
 use acl_perm::Profile;
 use std::alloc::{AllocError, Global};
 
@@ -61,15 +62,9 @@ pub extern "C" fn aclck_decide_unknown(
 {
     *possible = NOTHING_POSSIBLE;
     let Some(request) = asked(object, requester, question) else {
-        return BAD_ARGUMENT;
+        return Status::BadArgument.number();
     };
-    match possible_in(alloc, acl, &request) {
-        Ok(found) => {
-            *possible = found;
-            DONE
-        }
-        Err(failure) => failure.report(fault),
-    }
+    answer_value(possible_in(alloc, acl, &request), possible, fault)
 }
 
 // Fails if the bytes are refused or memory runs out.
@@ -102,8 +97,8 @@ fn failure_of(fault: Fault) -> Failure
     ensures { result ≡ of_part_fault fault.reason fault.offset }
 {
     match fault.reason {
-        Reason::Memory => Failure::Memory,
-        reason => Failure::Refused(Refusal::in_list(fault.offset, reason, 0)),
+        ListReason::Memory => Failure::Memory,
+        _ => Failure::Refused(Refusal::in_list(fault)),
     }
 }
 

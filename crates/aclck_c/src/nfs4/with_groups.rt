@@ -11,8 +11,9 @@ use crate::nfs4::ids::unknown_at;
 use crate::nfs4::unknown::part_of;
 use crate::options::profile_from;
 use crate::out::answer;
+use crate::reason::Reason;
 use crate::refusal::Refusal;
-use crate::status::BAD_ARGUMENT;
+use crate::status::Status;
 use acl_nfs4::GroupsFault;
 use acl_perm::Profile;
 use std::alloc::Global;
@@ -48,7 +49,7 @@ pub extern "C" fn aclck_with_groups(
         (IsProfileOption options) status.done_or_short fault.old fault.new result }
 {
     let Some(profile) = profile_from(options) else {
-        return BAD_ARGUMENT;
+        return Status::BadArgument.number();
     };
     answer(
         with_groups(alloc, acl, suffix.bytes, profile),
@@ -64,7 +65,10 @@ impl From<GroupsFault> for Failure {
     fn from(fault: GroupsFault) -> Failure {
         match fault {
             GroupsFault::Name(place) => Failure::Refused(unknown_at(place)),
-            GroupsFault::Merged(place) => Failure::Refused(Refusal::merged(place)),
+            GroupsFault::Merged(place) => Failure::Refused(Refusal::at(
+                Reason::Merged,
+                place as u64,
+            )),
             GroupsFault::Memory => Failure::Memory,
         }
     }

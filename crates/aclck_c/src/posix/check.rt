@@ -9,10 +9,10 @@ ghost use Rattle.std.specs.Prelude.{◌≡◌, ◌↔◌};
 ghost use Rattle.aclck_c.specs.Common.{All, IfErr, IfOk, IfSome, IsSome, IsTrue, ReadsFile, GivesAnswer, IsTruthOf, IsRefusedPosix, SpellsFile, IsFileFailure};
 
 use crate::failure::Failure;
-use crate::out::truth_number;
+use crate::out::answer_truth;
 use crate::posix::file::{RawPosixText, file_of};
 use crate::refusal::Refusal;
-use crate::status::{BAD_ARGUMENT, DONE, MEMORY};
+use crate::status::Status;
 use acl_perm::Perm;
 use acl_posix::Id;
 use std::alloc::{AllocError, Global};
@@ -49,21 +49,15 @@ pub extern "C" fn aclck_posix_check(
 {
     *granted = 0;
     let Some(request) = asked(question) else {
-        return BAD_ARGUMENT;
+        return Status::BadArgument.number();
     };
     if !are_ids(question.groups) {
-        return BAD_ARGUMENT;
+        return Status::BadArgument.number();
     }
     let Ok(groups) = ids_of(alloc, question.groups) else {
-        return MEMORY;
+        return Status::Memory.number();
     };
-    match decide(alloc, text, &request, &groups) {
-        Ok(answer) => {
-            *granted = truth_number(answer);
-            DONE
-        }
-        Err(failure) => failure.report(fault),
-    }
+    answer_truth(decide(alloc, text, &request, &groups), granted, fault)
 }
 
 /// The numbers of a request, once they are judged.

@@ -3,13 +3,13 @@ ghost use Rattle.std.specs.Prelude.{◌≡◌, map};
 ghost use Rattle.std.specs.FinMap as set;
 ghost use Rattle.aclck_c.specs.Entries.{HoldEntries, HoldWithMask, acl_refusal, at_entry, attribute_refusal, entries_refusal, entry_reason, raws_of};
 ghost use Rattle.aclck_c.specs.internal.Failures.{AreFailure, AreMaskedFailure, of_attribute, of_raw_entries};
+ghost use Rattle.aclck_c.specs.internal.Numbers.{number_of_reason};
 ghost use Rattle.aclck_c.specs.Common.{IfErr, IfOk};
 
 use crate::failure::Failure;
-use crate::posix::text_fault::tag_number;
-use crate::reason::{DUPLICATE, ID, MISS, MULTI, ORDER, PERMISSION, SIZE, TAG, VERSION};
+use crate::reason::Reason;
 use crate::refusal::Refusal;
-use acl_posix::{AclFault, AttributeFault, EntriesFault, EntryFault, PosixAcl, RawEntry};
+use acl_posix::{AclFault, AttributeFault, EntriesFault, EntryFault, Part, PosixAcl, RawEntry};
 use std::alloc::{AllocError, Global};
 
 impl From<EntriesFault> for Failure {
@@ -73,10 +73,10 @@ fn attribute_refusal(fault: AttributeFault) -> Option<Refusal>
     ensures { result ≡ attribute_refusal fault }
 {
     match fault {
-        AttributeFault::Size => Some(at_entry(SIZE, 0)),
-        AttributeFault::Version => Some(at_entry(VERSION, 0)),
+        AttributeFault::Size => Some(at_entry(Reason::Size, 0)),
+        AttributeFault::Version => Some(at_entry(Reason::Version, 0)),
         AttributeFault::Entry(place, fault) => Some(at_entry(entry_reason(fault), place)),
-        AttributeFault::Order(place) => Some(at_entry(ORDER, place)),
+        AttributeFault::Order(place) => Some(at_entry(Reason::Order, place)),
         AttributeFault::Acl(fault) => acl_refusal(fault),
     }
 }
@@ -85,25 +85,25 @@ fn acl_refusal(fault: AclFault) -> Option<Refusal>
     ensures { result ≡ acl_refusal fault }
 {
     match fault {
-        AclFault::Multi(place) => Some(at_entry(MULTI, place)),
-        AclFault::Duplicate(place) => Some(at_entry(DUPLICATE, place)),
-        AclFault::Miss(tag) => Some(Refusal::in_part(MISS, 0, 0, tag_number(tag))),
+        AclFault::Multi(place) => Some(at_entry(Reason::Multi, place)),
+        AclFault::Duplicate(place) => Some(at_entry(Reason::Duplicate, place)),
+        AclFault::Miss(tag) => Some(Refusal::missing(Part::Access, tag)),
         AclFault::Memory => None,
     }
 }
 
-pub(crate) fn at_entry(reason: u32, place: usize) -> Refusal
-    ensures { result ≡ at_entry reason place }
+pub(crate) fn at_entry(reason: Reason, place: usize) -> Refusal
+    ensures { result ≡ at_entry (number_of_reason reason) place }
 {
-    Refusal::in_part(reason, 0, place, 0)
+    Refusal::at(reason, place as u64)
 }
 
-pub(crate) fn entry_reason(fault: EntryFault) -> u32
-    ensures { result ≡ entry_reason fault }
+pub(crate) fn entry_reason(fault: EntryFault) -> Reason
+    ensures { number_of_reason result ≡ entry_reason fault }
 {
     match fault {
-        EntryFault::Tag => TAG,
-        EntryFault::Id => ID,
-        EntryFault::Perm => PERMISSION,
+        EntryFault::Tag => Reason::Tag,
+        EntryFault::Id => Reason::Id,
+        EntryFault::Perm => Reason::Permission,
     }
 }

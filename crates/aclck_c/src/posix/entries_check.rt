@@ -11,15 +11,14 @@ ghost use Rattle.std.specs.Prelude.{◌≡◌, IfSome, option_map};
 ghost use Rattle.aclck_c.specs.Common.{⊤, IfErr, IfOk, GivesAnswer, IsTruthOf};
 
 use crate::failure::Failure;
-use crate::out::truth_number;
+use crate::out::{answer_truth, answer_value, truth_number};
 use crate::posix::check::{PosixRequest, RawPosixQuestion, are_ids, asked};
 use crate::posix::entries::{at_entry, entry_reason};
-use crate::posix::text_fault::tag_number;
-use crate::reason::{MISS, ORDER};
+use crate::reason::Reason;
 use crate::refusal::Refusal;
-use crate::status::{BAD_ARGUMENT, DONE};
+use crate::status::Status;
 use acl_perm::Perm;
-use acl_posix::{EntriesView, Entry, RawEntry, Tag, ViewFault};
+use acl_posix::{EntriesView, Entry, Part, RawEntry, Tag, ViewFault};
 
 /// Answers whether the entries grant what is asked (acl(5), "ACCESS CHECK ALGORITHM"): `granted` is 1 if they do, and 0
 /// if they do not or the call fails. Returns 0 if it is answered; 2 if the entries are refused, with the reason in
@@ -39,18 +38,12 @@ pub extern "C" fn aclck_entries_check(
 {
     *granted = 0;
     let Some(request) = asked(question) else {
-        return BAD_ARGUMENT;
+        return Status::BadArgument.number();
     };
     if !are_ids(question.groups) {
-        return BAD_ARGUMENT;
+        return Status::BadArgument.number();
     }
-    match decide(entries, &request, question.groups) {
-        Ok(answer) => {
-            *granted = truth_number(answer);
-            DONE
-        }
-        Err(failure) => failure.report(fault),
-    }
+    answer_truth(decide(entries, &request, question.groups), granted, fault)
 }
 
 // Fails if the entries are refused.
@@ -108,18 +101,16 @@ pub extern "C" fn aclck_entries_deciding(
 {
     *decision = NO_DECISION;
     let Some(request) = asked(question) else {
-        return BAD_ARGUMENT;
+        return Status::BadArgument.number();
     };
     if !are_ids(question.groups) {
-        return BAD_ARGUMENT;
+        return Status::BadArgument.number();
     }
-    match decision_of(entries, &request, question.groups) {
-        Ok(found) => {
-            *decision = found;
-            DONE
-        }
-        Err(failure) => failure.report(fault),
-    }
+    answer_value(
+        decision_of(entries, &request, question.groups),
+        decision,
+        fault,
+    )
 }
 
 // Fails if the entries are refused.
@@ -204,13 +195,7 @@ pub extern "C" fn aclck_entries_mode(
     ensures input { LooksAtEntries entries.now ⊤ fault.old fault.new result }
 {
     *mode = 0;
-    match mode_of(entries) {
-        Ok(found) => {
-            *mode = found;
-            DONE
-        }
-        Err(failure) => failure.report(fault),
-    }
+    answer_value(mode_of(entries), mode, fault)
 }
 
 // Fails if the entries are refused.
@@ -237,7 +222,7 @@ pub(crate) fn view_refusal(fault: ViewFault) -> Refusal
 {
     match fault {
         ViewFault::Entry(place, fault) => at_entry(entry_reason(fault), place),
-        ViewFault::Order(place) => at_entry(ORDER, place),
-        ViewFault::Miss(tag) => Refusal::in_part(MISS, 0, 0, tag_number(tag)),
+        ViewFault::Order(place) => at_entry(Reason::Order, place),
+        ViewFault::Miss(tag) => Refusal::missing(Part::Access, tag),
     }
 }

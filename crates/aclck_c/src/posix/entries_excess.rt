@@ -8,9 +8,9 @@ ghost use Rattle.aclck_c.specs.internal.Failures.{AreBothFailure, AreSecondFailu
 ghost use Rattle.aclck_c.specs.Common.{IfErr, IfOk, OnOk, GivesAnswer};
 
 use crate::failure::Failure;
+use crate::out::answer_value;
 use crate::posix::entries_check::view_refusal;
 use crate::refusal::Refusal;
-use crate::status::DONE;
 use acl_posix::{EntriesView, FewGroups, PosixDifference, RawEntry};
 
 /// `struct aclck_posix_difference`: 1 if the second ACL grants whatever the first grants; otherwise the owner and the
@@ -42,13 +42,7 @@ const NO_DIFFERENCE: RawPosixDifference = RawPosixDifference {
 
 const NOT_COMPARED: RawPosixDifference = RawPosixDifference {
     same: 0,
-    owner: 0,
-    group: 0,
-    user: 0,
-    want: 0,
-    ngroups: 0,
-    first_group: 0,
-    second_group: 0,
+    ..NO_DIFFERENCE
 };
 
 /// Answers whether the entries of a first ACL grant anybody a request that those of a second deny (this library's own,
@@ -68,13 +62,7 @@ pub extern "C" fn aclck_entries_excess(
     ensures input { LooksAtTwoAcls first.now second.now fault.old fault.new result }
 {
     *difference = NOT_COMPARED;
-    match exceeding(first, second) {
-        Ok(found) => {
-            *difference = found;
-            DONE
-        }
-        Err(failure) => failure.report(fault),
-    }
+    answer_value(exceeding(first, second), difference, fault)
 }
 
 // Fails if the entries of one of the ACLs are refused.
@@ -105,11 +93,7 @@ fn second_view(entries: &[RawEntry]) -> Result<EntriesView<'_>, Failure>
 {
     match EntriesView::new(entries) {
         Ok(view) => Ok(view),
-        Err(fault) => {
-            let mut refusal = view_refusal(fault);
-            refusal.list = 1;
-            Err(Failure::Refused(refusal))
-        }
+        Err(fault) => Err(Failure::Refused(view_refusal(fault).of_second())),
     }
 }
 

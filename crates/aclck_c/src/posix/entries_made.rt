@@ -17,7 +17,7 @@ use crate::out::answer;
 use crate::posix::creation::{PosixCreation, RawCreation, creation_of};
 use crate::posix::entries::{acl_of, acl_with_mask_of, raws_of};
 use crate::refusal::Refusal;
-use crate::status::BAD_ARGUMENT;
+use crate::status::Status;
 use acl_eval::bridge;
 use acl_perm::Mode;
 use acl_posix::{PosixAcl, RawEntry, create};
@@ -40,7 +40,7 @@ pub extern "C" fn aclck_entries_sorted(
         out.old out.new needed.old needed.new fault.old fault.new result }
 {
     let Some(adds_mask) = adds_mask_from(options) else {
-        return BAD_ARGUMENT;
+        return Status::BadArgument.number();
     };
     answer(sorted(alloc, entries, adds_mask), out, needed, fault)
 }
@@ -81,7 +81,7 @@ pub extern "C" fn aclck_entries_chmod(
         out.old out.new needed.old needed.new fault.old fault.new result }
 {
     let Some(mode) = mode_from(mode) else {
-        return BAD_ARGUMENT;
+        return Status::BadArgument.number();
     };
     answer(with_mode(alloc, entries, mode), out, needed, fault)
 }
@@ -139,7 +139,7 @@ pub extern "C" fn aclck_entries_create(
         out.old out.new needed.old needed.new fault.old fault.new result }
 {
     let Some(creation) = creation_of(creation) else {
-        return BAD_ARGUMENT;
+        return Status::BadArgument.number();
     };
     answer(created(alloc, default, &creation), out, needed, fault)
 }

@@ -11,7 +11,7 @@ use crate::posix::entries::raws_of;
 use crate::posix::file::RawPosixText;
 use crate::posix::names::table_of;
 use crate::refusal::Refusal;
-use crate::status::BAD_ARGUMENT;
+use crate::status::Status;
 use acl_forms::{ReadFault, read_attribute, read_default_text, read_posix_text};
 use acl_posix::{Names, PosixAcl, RawEntry};
 use std::alloc::Global;
@@ -48,7 +48,7 @@ pub extern "C" fn aclck_entries_from_form(
         out.old out.new needed.old needed.new fault.old fault.new result }
 {
     let Some(form) = posix_form_of_number(form) else {
-        return BAD_ARGUMENT;
+        return Status::BadArgument.number();
     };
     answer(entries_of(alloc, value, form), out, needed, fault)
 }

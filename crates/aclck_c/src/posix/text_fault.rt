@@ -4,9 +4,7 @@ ghost use Rattle.aclck_c.specs.Posix.{invalid_refusal, part_number, posix_refusa
 ghost use Rattle.aclck_c.specs.internal.Failures.{of_posix_text};
 
 use crate::failure::Failure;
-use crate::reason::{
-    DUPLICATE, EMPTY_ENTRY, FIELDS, ID, MISS, MULTI, PERMISSION, QUALIFIER, TAG, UNKNOWN_NAME,
-};
+use crate::reason::Reason;
 use crate::refusal::Refusal;
 use acl_posix::{Cause, Part, Tag, TextFault};
 
@@ -22,33 +20,33 @@ impl From<TextFault> for Failure {
 fn posix_refusal(fault: TextFault) -> Option<Refusal>
     ensures { result ≡ posix_refusal fault }
 {
-    let refusal = match fault {
-        TextFault::Fields { line, column } => Refusal::at_place(FIELDS, line, column),
-        TextFault::Tag { line, column } => Refusal::at_place(TAG, line, column),
-        TextFault::Qualifier { line, column } => Refusal::at_place(QUALIFIER, line, column),
-        TextFault::Id { line, column } => Refusal::at_place(ID, line, column),
-        TextFault::UnknownName { line, column } => Refusal::at_place(UNKNOWN_NAME, line, column),
-        TextFault::Permission { line, column } => Refusal::at_place(PERMISSION, line, column),
-        TextFault::EmptyEntry { line, column } => Refusal::at_place(EMPTY_ENTRY, line, column),
-        TextFault::Invalid(part, cause) => invalid_refusal(part_number(part), cause),
+    let (reason, line, column) = match fault {
+        TextFault::Fields { line, column } => (Reason::Fields, line, column),
+        TextFault::Tag { line, column } => (Reason::Tag, line, column),
+        TextFault::Qualifier { line, column } => (Reason::Qualifier, line, column),
+        TextFault::Id { line, column } => (Reason::Id, line, column),
+        TextFault::UnknownName { line, column } => (Reason::UnknownName, line, column),
+        TextFault::Permission { line, column } => (Reason::Permission, line, column),
+        TextFault::EmptyEntry { line, column } => (Reason::EmptyEntry, line, column),
+        TextFault::Invalid(part, cause) => return Some(invalid_refusal(part, cause)),
         TextFault::Memory => return None,
     };
-    Some(refusal)
+    Some(Refusal::at_place(reason, line, column))
 }
 
-// Returns by its numbers for C why the part with this number is not a valid ACL.
-fn invalid_refusal(part: u32, cause: Cause) -> Refusal
-    ensures { result ≡ invalid_refusal part cause }
+// Returns by its numbers for C why the part is not a valid ACL.
+fn invalid_refusal(part: Part, cause: Cause) -> Refusal
+    ensures { result ≡ invalid_refusal (part_number part) cause }
 {
     match cause {
-        Cause::Multi(place) => Refusal::in_part(MULTI, part, place, 0),
-        Cause::Duplicate(place) => Refusal::in_part(DUPLICATE, part, place, 0),
-        Cause::Miss(tag) => Refusal::in_part(MISS, part, 0, tag_number(tag)),
+        Cause::Multi(place) => Refusal::in_part(Reason::Multi, part, place),
+        Cause::Duplicate(place) => Refusal::in_part(Reason::Duplicate, part, place),
+        Cause::Miss(tag) => Refusal::missing(part, tag),
     }
 }
 
-// The numbers are those of `enum aclck_part`.
-fn part_number(part: Part) -> u32
+/// Returns the number of a part in `enum aclck_part`.
+pub(crate) fn part_number(part: Part) -> u32
     ensures { result ≡ part_number part }
 {
     match part {

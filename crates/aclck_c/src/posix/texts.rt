@@ -16,8 +16,9 @@ use crate::options::{form_from, mode_from};
 use crate::out::answer;
 use crate::posix::creation::{PosixCreation, RawCreation, creation_of};
 use crate::posix::file::{RawPosixText, file_of};
+use crate::reason::Reason;
 use crate::refusal::Refusal;
-use crate::status::BAD_ARGUMENT;
+use crate::status::Status;
 use acl_eval::{BridgeFault, bridge};
 use acl_perm::Mode;
 use acl_posix::{Form, create};
@@ -40,7 +41,7 @@ pub extern "C" fn aclck_posix_show(
         out.old out.new needed.old needed.new fault.old fault.new result }
 {
     let Some(form) = form_from(options) else {
-        return BAD_ARGUMENT;
+        return Status::BadArgument.number();
     };
     answer(shown(alloc, text, form), out, needed, fault)
 }
@@ -97,7 +98,7 @@ pub extern "C" fn aclck_posix_chmod(
         out.old out.new needed.old needed.new fault.old fault.new result }
 {
     let Some(mode) = mode_from(mode) else {
-        return BAD_ARGUMENT;
+        return Status::BadArgument.number();
     };
     answer(with_mode(alloc, text, mode), out, needed, fault)
 }
@@ -127,7 +128,7 @@ pub extern "C" fn aclck_posix_create(
         out.old out.new needed.old needed.new fault.old fault.new result }
 {
     let Some(creation) = creation_of(creation) else {
-        return BAD_ARGUMENT;
+        return Status::BadArgument.number();
     };
     answer(created(alloc, text, &creation), out, needed, fault)
 }
@@ -176,7 +177,7 @@ impl From<BridgeFault> for Failure {
 
     fn from(fault: BridgeFault) -> Failure {
         match fault {
-            BridgeFault::Limits => Failure::Refused(Refusal::past_limits()),
+            BridgeFault::Limits => Failure::Refused(Refusal::at(Reason::Limits, 0)),
             BridgeFault::Memory => Failure::Memory,
         }
     }

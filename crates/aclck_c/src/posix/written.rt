@@ -12,7 +12,7 @@ use crate::out::answer;
 use crate::posix::entries::acl_of;
 use crate::posix::names::{RawName, id_names_of};
 use crate::refusal::Refusal;
-use crate::status::BAD_ARGUMENT;
+use crate::status::Status;
 use acl_forms::{FormWriteFault, IdNames, TarStyle, write_posix_text};
 use acl_perm::Counted;
 use acl_posix::{PosixAcl, RawEntry};
@@ -47,7 +47,7 @@ pub extern "C" fn aclck_entries_to_form(
     ensures input { ReadsForForm form names.now.names.now entries.now fault.old fault.new result }
 {
     let Some(form) = written_form_of_number(form) else {
-        return BAD_ARGUMENT;
+        return Status::BadArgument.number();
     };
     answer(
         value_of(alloc, entries, names.names, form),

@@ -8,8 +8,7 @@ mod forms;
 mod implying;
 mod lists;
 
-use super::{LIST, no_fault, normalize_into};
-use crate::status::{BAD_ARGUMENT, DONE, REFUSED, SHORT};
+use super::{BAD_ARGUMENT, DONE, LIST, REFUSED, SHORT, no_fault, normalize_into};
 use crate::{
     RawDecided, RawIdObject, RawIdRequester, RawName, RawNames, RawPosixQuestion, RawPosixText,
     RawQuestion, Refusal, aclck_decide_ids, aclck_posix_check, aclck_prepare_ids,

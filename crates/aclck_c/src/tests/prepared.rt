@@ -2,10 +2,9 @@
 //! `specs/Prepared.antt` of `acl_eval` describes them.
 ghost use Rattle.std.specs.Prelude.{◌≤◌};
 
-use super::{LIST, OBJECT};
+use super::{BAD_ARGUMENT, DONE, LIST, OBJECT};
 use crate::nfs4::decide::RawDecided;
 use crate::options::{GROUPS_IN_ORDER, NARROW};
-use crate::status::{BAD_ARGUMENT, DONE};
 use crate::{RawQuestion, RawRequester, aclck_decide_prepared, aclck_decide_prepared_many};
 use std::alloc::Global;
 use std::test::Fail;

@@ -1,7 +1,6 @@
 //! The texts of a POSIX ACL in archives, as bsdtar 3.6.2 and GNU tar 1.34 write them. That a form does not hold an ACL
 //! is this library's own.
-use crate::status::{BAD_ARGUMENT, DONE, REFUSED};
-use crate::tests::no_fault;
+use crate::tests::{BAD_ARGUMENT, DONE, REFUSED, no_fault};
 use crate::{RawName, RawNames, aclck_entries_to_form};
 use acl_posix::RawEntry;
 

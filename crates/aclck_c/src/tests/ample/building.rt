@@ -1,8 +1,7 @@
 //! Lists from arrays of ACEs, and questions to lists that name special identifiers which nobody knows. Bytes and
 //! answers are by RFC 8881, section 6.2.1, and RFC 4506; the numbers of reasons are those of `aclck.h`.
 use crate::options::{DIRECTORY, NARROW};
-use crate::status::{BAD_ARGUMENT, DONE, REFUSED};
-use crate::tests::{LIST, OBJECT, no_fault};
+use crate::tests::{BAD_ARGUMENT, DONE, LIST, OBJECT, REFUSED, no_fault};
 use crate::{RawAce, RawPossible, RawQuestion, RawRequester, aclck_build, aclck_decide_unknown};
 use std::alloc::Global;
 

@@ -1,6 +1,5 @@
 //! The POSIX ACL of a list, by RFC 8881, section 6.2.1, and acl(5).
-use crate::status::{BAD_ARGUMENT, DONE, REFUSED, SHORT};
-use crate::tests::{LIST, no_fault};
+use crate::tests::{BAD_ARGUMENT, DONE, LIST, REFUSED, SHORT, no_fault};
 use crate::{RawName, RawNames, RawPosixLoss, aclck_to_posix};
 use acl_posix::RawEntry;
 use std::alloc::Global;

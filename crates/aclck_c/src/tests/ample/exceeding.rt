@@ -1,7 +1,6 @@
 //! What one list grants and another does not, by RFC 8881, section 6.2.1.
 use crate::options::DIRECTORY;
-use crate::status::{BAD_ARGUMENT, DONE, REFUSED, SHORT};
-use crate::tests::{LIST, no_fault};
+use crate::tests::{BAD_ARGUMENT, DONE, LIST, REFUSED, SHORT, no_fault};
 use crate::{RawDifference, aclck_excess};
 
 const NO_ACE: &[u8; 4] = b"\0\0\0\0";

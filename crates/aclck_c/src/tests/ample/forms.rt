@@ -1,7 +1,6 @@
 //! Values of forms. The texts are those of nfs4_setfacl(1) and of libarchive 3.6.2, and the bytes are in the layout of
 //! RFC 4506; the flags of a list are those of RFC 8881, section 6.2.2.
-use crate::status::{BAD_ARGUMENT, DONE, REFUSED, SHORT};
-use crate::tests::{LIST, no_fault};
+use crate::tests::{BAD_ARGUMENT, DONE, LIST, REFUSED, SHORT, no_fault};
 use crate::{Refusal, aclck_read_form, aclck_write_form};
 use std::alloc::Global;
 

@@ -1,7 +1,6 @@
 //! What a right of a list implies, and who has a right, by RFC 8881, section 6.2.1.
 use crate::options::DIRECTORY;
-use crate::status::{BAD_ARGUMENT, DONE};
-use crate::tests::{LIST, no_fault};
+use crate::tests::{BAD_ARGUMENT, DONE, LIST, no_fault};
 use crate::{RawDifference, RawImplication, RawQuestion, aclck_holders, aclck_implies};
 
 const UNTOUCHED: RawDifference = RawDifference {

@@ -1,9 +1,8 @@
 //! Calls that make bytes of a list. The lists are written by hand by RFC 8881, sections 6.2.1.4.1, 6.4.1.1 and 6.4.3.2,
 //! and RFC 4506.
 use crate::options::{DIRECTORY, MARK_INHERITED, NARROW};
-use crate::status::{BAD_ARGUMENT, DONE, REFUSED, SHORT};
 use crate::tests::prepared::PREPARED;
-use crate::tests::{LIST, no_fault};
+use crate::tests::{BAD_ARGUMENT, DONE, LIST, REFUSED, SHORT, no_fault};
 use crate::{
     RawObject, RawSuffix, aclck_child, aclck_chmod, aclck_prepare, aclck_resolved,
     aclck_with_groups,

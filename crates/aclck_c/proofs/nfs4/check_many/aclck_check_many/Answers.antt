@@ -1,4 +1,3 @@
-use Rattle.std.proofs.Common.{refl}
 use Rattle.aclck_c.proofs.nfs4.check_many.aclck_check_many.Goals as goal
 
 pub returns-in-Ok-clause-answer : goal.returns-in-Ok-clause-answer
@@ -11,5 +10,5 @@ returns-in-Ok-clause-answer c =
         rights = rw (asked.owner, asked.group, asked.mask) at c.grant_each.ensures.rights;
         count = c.grant_each.ensures.count;
       };
-      failed = λ not. absurd (not refl);
+      failed = λ not. absurd (not c.number-in-Ok.ensures);
     }

@@ -1,7 +1,7 @@
-use Rattle.std.proofs.Common.{rules}
+use Rattle.std.proofs.Common.{refl}
 use Rattle.aclck_c.proofs.Comparisons.{writes_names}
 use Rattle.aclck_c.proofs.nfs4.compare.aclck_compare.Goals as goal
 
-pub returns-in-Ok-clause-answer : goal.returns-in-Ok-clause-answer
-returns-in-Ok-clause-answer c = writes_names (rw c.in-Some.ensures.value at c.in-Ok.ensures.ok)
-    (search rules) c.put.ensures
+pub returns-clause-answer : goal.returns-clause-answer
+returns-clause-answer c =
+    writes_names refl (rw c.in-Some.ensures.value at c.compared-found.ensures.ok) c.answer_both.ensures

@@ -1,10 +1,14 @@
-use Rattle.std.proofs.Common.{ap, inl, inr, refl, rules}
+use Rattle.std.proofs.Common.{ap, inl, inr, rules}
 use Rattle.std.specs.Option.{is_some}
 use Rattle.acl_normal.specs.Difference.{situation_of}
 use Rattle.aclck_c.proofs.nfs4.excess.excess_of.Goals as goal
 
 pub returns-in-None : goal.returns-in-None
-returns-in-None c = inl (c.in_ok-excess.ensures.contained.0 (ap is_some c.in-None.is), refl, search rules)
+returns-in-None c = inl (
+  c.in_ok-excess.ensures.contained.0 (ap is_some c.in-None.is),
+  c.no_difference.ensures.at,
+  c.no_difference.ensures.names,
+)
 
 pub returns-in_ok-report_of-in-Some : goal.returns-in_ok-report_of-in-Some
 returns-in_ok-report_of-in-Some c =

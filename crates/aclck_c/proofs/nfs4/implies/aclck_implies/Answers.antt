@@ -1,7 +1,7 @@
-use Rattle.std.proofs.Common.{rules}
+use Rattle.std.proofs.Common.{refl}
 use Rattle.aclck_c.proofs.Comparisons.{writes_implication}
 use Rattle.aclck_c.proofs.nfs4.implies.aclck_implies.Goals as goal
 
-pub returns-in-Ok-clause-answer : goal.returns-in-Ok-clause-answer
-returns-in-Ok-clause-answer c = writes_implication c.in-Some.ensures.right
-    (rw c.in-Some.ensures.others at (rw c.in-Some.ensures.profile at c.in-Ok.ensures.ok)) (search rules) c.put.ensures
+pub returns-clause-answer : goal.returns-clause-answer
+returns-clause-answer c = writes_implication c.in-Some.ensures.right refl
+    (rw c.in-Some.ensures.others at (rw c.in-Some.ensures.profile at c.found_in-found.ensures.ok)) c.answer_both.ensures
