@@ -622,7 +622,8 @@ static unsigned char *put_ace(unsigned char *at, uint32_t kind, uint32_t flags, 
 
 enum { UNKNOWN = 3 };
 
-/* Gives the ACEs of g0, g1 and g2 the names of the groups that stand for the unknown names with the suffix `~`. */
+/* Gives the ACEs of g0, g1 and g2 the names of the groups that stand for the unknown identifiers, with the suffix
+   `~`. */
 static void aces_with_suffix(aclck_ace *aces, uint32_t count) {
     static const char *const names[UNKNOWN] = {"INTERACTIVE@~", "NETWORK@~", "DIALUP@~"};
     for (uint32_t i = 0; i < count; i++) {
@@ -632,7 +633,7 @@ static void aces_with_suffix(aclck_ace *aces, uint32_t count) {
     }
 }
 
-/* What is certain of a list with three unknown names is what is so in each of the eight cases. */
+/* What is certain of a list with three unknown identifiers is what is so in each of the eight cases. */
 static void is_every_case_counted(void) {
     static const char *const whos[] = {"INTERACTIVE@", "NETWORK@", "DIALUP@", "EVERYONE@", "bob", "OWNER@"};
     static const char *const named[] = {"g0", "g1", "g2", "EVERYONE@", "bob", "OWNER@"};

@@ -203,7 +203,7 @@ class Decision(ctypes.Structure):
 
 
 class Possible(ctypes.Structure):
-    """What a list with unknown names answers."""
+    """What a list with unknown identifiers answers."""
 
     _fields_ = [("allowed", Word), ("denied", Word), ("unknown", Word), ("request", Word), ("left_out", Word)]
 

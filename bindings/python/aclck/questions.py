@@ -38,7 +38,7 @@ class Difference(NamedTuple):
 
 
 class Request(enum.Enum):
-    """Whether a request for several rights is granted, whomever a list's unknown names mean."""
+    """Whether a request for several rights is granted, whomever a list's unknown identifiers mean."""
 
     NEVER = 0
     DEPENDS = 1
@@ -46,10 +46,10 @@ class Request(enum.Enum):
 
 
 class Possible(NamedTuple):
-    """What a list with unknown names answers, whomever these names mean. Of the rights that are asked: those that are
-    always allowed; those that are never allowed, and that a DENY decides or may decide; those that no ACE ever decides;
-    and those that are allowed in one case and not in another. `request` says it of all rights together. `left_out` is
-    the number of AUDIT and ALARM ACEs, which decide nothing."""
+    """What a list with unknown identifiers answers, whomever these names mean. Of the rights that are asked: those that
+    are always allowed; those that are never allowed, and that a DENY decides or may decide; those that no ACE ever
+    decides; and those that are allowed in one case and not in another. `request` says it of all rights together.
+    `left_out` is the number of AUDIT and ALARM ACEs, which decide nothing."""
 
     allowed: int
     denied: int

@@ -6,5 +6,11 @@ pub mod Greatest
 pub mod Turns
 -- the list whose rights stay by the rule
 pub mod Chosen
+-- which ALLOWs grant somebody what a bound denies, by the first ACEs that concern each principal
+pub mod Excesses
+-- which rights a list has kept, bit by bit and place by place
+pub mod Keeping
+-- which ALLOWs exceed a bound, by the numbers of principals and by tables
+pub mod Naming
 -- worked lists
 pub mod Worked

@@ -4,3 +4,9 @@
 pub mod RightReplaced
 -- which rights stay under a bound
 pub mod Restriction
+-- what shows which rights exceed a bound
+pub mod Limits
+-- tables by the places of a bound
+pub mod LimitTables
+-- which rights were kept so far
+pub mod Kept

@@ -1,4 +1,5 @@
-//! Whether a list grants at most what another does, who has a right, and which rights are needed.
+//! Whether a list grants at most what another does, what it may keep under a bound, who has a right, and which rights
+//! are needed.
 #![tactic(auto)]
 
 mod equal_grants;
@@ -7,9 +8,11 @@ mod holder_lines;
 mod implying;
 pub mod laws;
 mod needed_rights;
+mod restricting;
 
 pub use equal_grants::same_views;
 pub use exceeding::excess;
 pub use holder_lines::holders;
 pub use implying::implies;
 pub use needed_rights::needed_of_view;
+pub use restricting::restricted;

@@ -10,3 +10,4 @@ mod holder_words;
 mod implications;
 mod lists;
 mod needed_rights;
+mod restrictions;

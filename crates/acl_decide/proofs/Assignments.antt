@@ -1,4 +1,4 @@
--- What the pass finds possible at its end says what holds in every assignment of the unknown names.
+-- What the pass finds possible at its end says what holds in every assignment of the unknown identifiers.
 use Rattle.std.proofs.Common.{◌≡◌, ℕ, ◌+◌, ◌<◌, ◌≤◌, length, get_or, drop, Bool, true, false, List, [], ◌∷◌, Option, None, Some, refl, sym, ap, subst, ◌∙◌}
 use Rattle.std.specs.Prelude.{◌&&◌, ◌||◌, ◌↔◌, IsTrue, map, not}
 use Rattle.std.proofs.lemmas.Bool.{true≢false}

@@ -1,4 +1,4 @@
--- Unknown names: what one pass over the rights of a mask notes of an answer, ACE by ACE.
+-- Unknown identifiers: what one pass over the rights of a mask notes of an answer, ACE by ACE.
 use Rattle.std.proofs.Common.{◌≡◌, ℕ, Bool, true, false, List, [], ◌∷◌, Option, Some, refl, sym, ap, ◌∙◌}
 use Rattle.std.specs.Prelude.{◌&&◌, ◌||◌, if◌then◌else◌, not}
 use Rattle.std.specs.Str.{bytes_eq}
@@ -30,7 +30,7 @@ use Rattle.acl_decide.proofs.Unknowns.{can_match, can_pass, can_skip, can_unknow
 pub noted_none : (names : BTreeMap (Bor (List ℕ)) Mask) → names.entries ≡ [] → HaveNoted names []
 noted_none names none bit who = rw none (no_bit bit)
 
--- the rights of a name after those of one more ACE of an unknown name were added
+-- the rights of a name after those of one more ACE of an unknown identifier were added
 pub noted_more : (old new : BTreeMap (Bor (List ℕ)) Mask) (a : Ace) (rights : Mask) (earlier : List Ace)
     → UpdatesBy (λ x y. slice_cmp nat_cmp x.now y.now) (λ k. slice_cmp nat_cmp a.who k.now) old new (Some rights)
     → IsUnion (noted_rights old a.who) a.mask rights.bits → (is_unknown_special a.who && takes_part a) ≡ true
@@ -86,7 +86,7 @@ after_inherited self earlier a list s bit k lacks =
     by true e = rw (e, lacks) refl
     by false e = rw e refl
 
--- an ACE of an unknown name with the bit, as tests
+-- an ACE of an unknown identifier with the bit, as tests
 unknown_counts : (p l h x r : Bool) → ((p || (((l && true) && not h) && x)) || (l && r))
     ≡ (p || (l && ((if h then false else x) || r)))
 unknown_counts true l h x r = refl
@@ -94,13 +94,13 @@ unknown_counts false true true x r = refl
 unknown_counts false true false x r = refl
 unknown_counts false false h x r = refl
 
--- an ACE of an unknown name without the bit, as tests
+-- an ACE of an unknown identifier without the bit, as tests
 unknown_lacks : (p l h x r : Bool) → ((p || (((l && false) && not h) && x)) || (l && r)) ≡ (p || (l && r))
 unknown_lacks true l h x r = refl
 unknown_lacks false true h x r = refl
 unknown_lacks false false h x r = refl
 
--- an ACE of an unknown name
+-- an ACE of an unknown identifier
 pub after_unknown : (self next : Possible) (common first : ℕ) (earlier : List Ace) (a : Ace) (list : List Ace)
     (s : Situation) (bit : ℕ) (k : Option Kind) → takes_part a ≡ true → is_unknown_special a.who ≡ true
     → IsIntersection self.left.bits a.mask common

@@ -1,4 +1,4 @@
--- Unknown names: the answers that one pass finds possible are those that some assignment gives.
+-- Unknown identifiers: the answers that one pass finds possible are those that some assignment gives.
 use Rattle.std.proofs.Common.{◌≡◌, ℕ, Bool, true, false, List, [], ◌∷◌, ◌++◌, Option, None, Some, refl, sym, ap, subst, ◌∙◌}
 use Rattle.std.specs.Prelude.{◌&&◌, ◌||◌, if◌then◌else◌}
 use Rattle.std.specs.Str.{bytes_eq}
@@ -56,7 +56,7 @@ pub answer_here : (v : Assignment) (a : Ace) (list : List Ace) (s : Situation) (
 answer_here v a list s bit e m =
     let yes : decides_under v s bit a ≡ true = ap (λ t. t && matches_under v s a) e ∙ m in rw yes refl
 
--- an unknown name matches as it is assigned
+-- an unknown identifier matches as it is assigned
 pub match_unknown : (v : Assignment) (s : Situation) (a : Ace) → is_unknown_special a.who ≡ true
     → matches_under v s a ≡ v a.who
 match_unknown v s a u = rw u refl
@@ -125,7 +125,7 @@ pub can_skip : (earlier : List Ace) (a : Ace) (list : List Ace) (s : Situation) 
 unfolding can_answer
 can_skip earlier a list s bit k e = rw e refl
 
--- an ACE of an unknown name
+-- an ACE of an unknown identifier
 pub can_unknown : (earlier : List Ace) (a : Ace) (list : List Ace) (s : Situation) (bit : ℕ) (k : Option Kind)
     → counts bit a ≡ true → is_unknown_special a.who ≡ true → can_answer earlier (a ∷ list) s bit k
     ≡ ((if had earlier bit a.who then false else is_answer (Some a.kind) k)

@@ -16,7 +16,7 @@ use Rattle.acl_decide.specs.declared.request_with_unknown.RequestAnswer.TheVaria
 abbrev pub Assignment : Type 0
 Assignment = List ℕ → Bool
 
--- the who of the ACE matches the requester: an unknown name as the assignment says, any other who as ever
+-- the who of the ACE matches the requester: an unknown identifier as the assignment says, any other who as ever
 abbrev pub matches_under : Assignment → Situation → Ace → Bool
 matches_under v s a = if is_unknown_special a.who then v a.who else matches s (principal_of a)
 

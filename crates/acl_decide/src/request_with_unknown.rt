@@ -17,14 +17,14 @@ use acl_perm::{Kind, Mask};
 use std::alloc::{AllocError, Global};
 use std::collections::BTreeSet;
 
-/// Whether a list grants a request, whatever its unknown names match.
+/// Whether a list grants a request, whatever its unknown identifiers match.
 #[derive(Clone, Copy, Debug, PartialEq, Eq)]
 pub enum RequestAnswer {
     /// The request is granted in any case.
     Always,
     /// The request is not granted in any case.
     Never,
-    /// Whether the request is granted depends on what the unknown names match.
+    /// Whether the request is granted depends on what the unknown identifiers match.
     Depends,
 }
 
@@ -32,8 +32,8 @@ pub enum RequestAnswer {
 /// identifiers that nobody knows, for none, or for some. This is more than `decided_with_unknown` says of each right:
 /// two rights may each be granted and never both, since a name matches for both or for none. After
 /// `decided_with_unknown`, it reads the list about once for each right of the mask. So the time is proportional to the
-/// number of ACEs, times the number of rights, times the logarithm of the number of unknown names. Fails if memory runs
-/// out for these names.
+/// number of ACEs, times the number of rights, times the logarithm of the number of unknown identifiers. Fails if
+/// memory runs out for these names.
 pub fn request_answer(
     alloc: Global,
     part: &AccessPart<'_>,
@@ -91,8 +91,8 @@ fn may_be_granted(
     }
 }
 
-// Judges the request where all unknown names match but those that are out. Moves the places of its rights down, up to
-// the first right that is not allowed.
+// Judges the request where all unknown identifiers match but those that are out. Moves the places of its rights down,
+// up to the first right that is not allowed.
 fn judge<'a>(
     aces: &[AceRef<'a>],
     matcher: &Matcher<'_>,
@@ -121,8 +121,8 @@ fn judge<'a>(
     Verdict::Granted
 }
 
-// Moves the place down to the ACE that decides the right where all unknown names match but those that are out. Returns
-// what this ACE says.
+// Moves the place down to the ACE that decides the right where all unknown identifiers match but those that are out.
+// Returns what this ACE says.
 fn descend<'a>(
     aces: &[AceRef<'a>],
     matcher: &Matcher<'_>,
@@ -145,7 +145,7 @@ fn descend<'a>(
     Verdict::Denied
 }
 
-// Returns what an ACE says that decides a right. If it is a DENY, only an unknown name may fail to match.
+// Returns what an ACE says that decides a right. If it is a DENY, only an unknown identifier may fail to match.
 fn verdict_of<'a>(item: &AceRef<'a>) -> Verdict<'a>
     requires { 1 ≤ length item.now.who.now }
     ensures { SaysAce (ace item.now) result }
@@ -157,7 +157,7 @@ fn verdict_of<'a>(item: &AceRef<'a>) -> Verdict<'a>
     }
 }
 
-// Returns whether the ACE decides the right where all unknown names match but those that are out.
+// Returns whether the ACE decides the right where all unknown identifiers match but those that are out.
 fn decides(item: &AceRef<'_>, matcher: &Matcher<'_>, right: Bit, out: &BTreeSet<&[u8]>) -> bool
     requires { 1 ≤ length item.now.who.now }
     ensures { result ≡ (has_bit item.now.mask.bits right.bit
@@ -166,7 +166,7 @@ fn decides(item: &AceRef<'_>, matcher: &Matcher<'_>, right: Bit, out: &BTreeSet<
     right.is_in(item.mask) && applies_but(item, matcher, out)
 }
 
-// Returns whether the ACE applies where all unknown names match but those that are out.
+// Returns whether the ACE applies where all unknown identifiers match but those that are out.
 fn applies_but(item: &AceRef<'_>, matcher: &Matcher<'_>, out: &BTreeSet<&[u8]>) -> bool
     requires { 1 ≤ length item.now.who.now }
     ensures { result ≡ applies_but (has_name out.now) (asked_situation matcher.now) (ace item.now) }

@@ -16,8 +16,8 @@ use acl_perm::{Kind, Mask};
 use std::alloc::{AllocError, Global};
 use std::collections::BTreeMap;
 
-/// The rights of a mask, sorted by what a list answers for them, whatever its unknown names match. Each right of the
-/// mask is in one of the four sets.
+/// The rights of a mask, sorted by what a list answers for them, whatever its unknown identifiers match. Each right of
+/// the mask is in one of the four sets.
 #[derive(Clone, Copy, Debug, PartialEq, Eq)]
 pub struct DecidedWithUnknown {
     /// An ALLOW decides the right in any case.
@@ -26,16 +26,16 @@ pub struct DecidedWithUnknown {
     pub denied: Mask,
     /// No ACE decides the right in any case.
     pub undecided: Mask,
-    /// Whether the right is granted depends on the unknown names.
+    /// Whether the right is granted depends on the unknown identifiers.
     pub unknown: Mask,
 }
 
 /// Decides the rights of `mask` as `granted` does, for a list with special identifiers that nobody knows, such as
 /// `INTERACTIVE@`: the answer for each right holds for every assignment of matches to these names, and `unknown` has
 /// the rights that some assignment grants and another does not. That two rights are unknown does not say that they may
-/// be granted together, which `request_answer` says. It reads the list once, and keeps the rights of each unknown name
-/// by the name. So the time is proportional to the number of ACEs, times the logarithm of the number of unknown names.
-/// Fails if memory runs out for these names.
+/// be granted together, which `request_answer` says. It reads the list once, and keeps the rights of each unknown
+/// identifier by the name. So the time is proportional to the number of ACEs, times the logarithm of the number of
+/// unknown identifiers. Fails if memory runs out for these names.
 pub fn decided_with_unknown(
     alloc: Global,
     part: &AccessPart<'_>,
@@ -128,7 +128,7 @@ impl Possible {
         }
     }
 
-    // The answers that are possible after one more ACE, given the rights of unknown names in the earlier ACEs.
+    // The answers that are possible after one more ACE, given the rights of unknown identifiers in the earlier ACEs.
     fn after(
         self,
         names: &BTreeMap<&[u8], Mask>,

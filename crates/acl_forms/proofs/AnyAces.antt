@@ -14,7 +14,6 @@ use Rattle.acl_nfs4.specs.Who.{is_unknown_special}
 use Rattle.acl_nfs4.specs.internal.Reading.{Place}
 use Rattle.acl_nfs4.proofs.Exports.{weight-push}
 use Rattle.acl_forms.specs.Part.{PlacedAce, any_weight, kept, kept_unless, left_out, noted_if, reason_of}
-unfoldable use Rattle.acl_forms.specs.Part.{left_out_from}
 unfoldable use Rattle.acl_forms.specs.PartWords.{aces_from}
 use Rattle.acl_forms.specs.PartWords.{AceReader}
 use Rattle.acl_forms.specs.declared.fault.ReadFault.{ReadFault}
@@ -22,7 +21,7 @@ use Rattle.acl_forms.specs.declared.part.any_ace.AnyAceRef.{AnyAceRef}
 use Rattle.acl_forms.specs.declared.part.left_out.LeftOut.{LeftOut}
 use Rattle.acl_forms.specs.declared.part.left_out.LeftOutReason.{LeftOutReason}
 use Rattle.acl_forms.specs.declared.part.left_out.LeftOutReason.TheVariants.{AuditOrAlarm, SpecialWho}
-use Rattle.acl_forms.specs.internal.AnyAces.{HasAnyName, any_ace_of, any_name}
+use Rattle.acl_forms.specs.internal.AnyAces.{HasAnyName, any_ace_of, any_name, left_out_from}
 use Rattle.acl_forms.proofs.AnyNames.{is_who-any}
 use Rattle.acl_forms.proofs.IdLemmas.{accepted_push}
 
@@ -78,7 +77,6 @@ kept-push list p = filter_map-append (λ (q : PlacedAce). kept_unless (reason_of
 -- one more ACE is reported after the others, if it is left out
 left_from-push : (place : ℕ) (list : List PlacedAce) (p : PlacedAce) → left_out_from place (list ++ p ∷ [])
     ≡ left_out_from place list ++ noted_if (place + length list) p.offset (reason_of p.ace)
-unfolding left_out_from
 left_from-push place [] p =
     append-nil (noted_if place p.offset (reason_of p.ace))
     ∙ ap (λ (n : ℕ). noted_if n p.offset (reason_of p.ace)) (omega arith)
@@ -129,7 +127,6 @@ pub record Sofar (read : AceReader) (count place bits : ℕ) (list : List Ace) (
 
 -- before the first ACE
 pub sofar_none : (read : AceReader) (count : ℕ) (at : Place) → Sofar read count 0 0 [] [] at at
-unfolding left_out_from
 sofar_none read count at = record {
   whole = [];
   reads = ap (λ (n : ℕ). aces_from read n [] at) (omega arith);

@@ -16,7 +16,6 @@ use Rattle.acl_nfs4.specs.Who.{is_unknown_special}
 use Rattle.acl_nfs4.proofs.Exports.{ok_is, weight-push}
 use Rattle.acl_forms.specs.Forms.{IsTextWithoutFlags}
 use Rattle.acl_forms.specs.Part.{HasNoUnknownDeny, IsReadAsPart, PlacedAce, RefusesPart, SpellsPart, any_weight, is_unknown_deny, kept, kept_unless, left_out, noted_if, reason_of}
-unfoldable use Rattle.acl_forms.specs.Part.{left_out_from}
 use Rattle.acl_forms.specs.PartTexts.{EntryReader, any_type_rules, placed_ace}
 use Rattle.acl_forms.specs.ReadFaults.{no_memory_left}
 use Rattle.acl_forms.specs.internal.TextReading.{FailsAsRead, IsHeld, text_read}
@@ -38,7 +37,6 @@ use Rattle.acl_forms.proofs.WholeLists.{any_of, kept_same}
 -- nothing is kept of no ACEs
 pub holds_none : (part : TextPart) → part.list ≡ [] → part.left_out.items ≡ [] → part.count ≡ 0 → part.weight ≡ 0
     → HoldsPart part []
-unfolding left_out_from
 holds_none part none out count bits = record {
   kept = none;
   left_out = out;
@@ -214,7 +212,6 @@ module _ (rules : TextRules Ace) (read : EntryReader) where
   pub text_whole : Follows rules read → (set : ℕ) (list : List Ace) (text : List ℕ)
       → IsTextWithoutFlags (SpellsByRules rules) set list text
       → SpellsPart (λ whole. IsTextWithoutFlags (SpellsByRules (any_type_rules rules read)) set whole text) list []
-  unfolding left_out_from
   text_whole follows set list text h =
       let same : items_in (any_type_rules rules read) text ≡ items_in rules text =
       lines_same (cut_at line_feed (whole_text text)) in

@@ -1,16 +1,22 @@
 -- The first ACE that a form cannot hold, step by step.
-use Rattle.std.proofs.Common.{◌≡◌, ◌+◌, ◌<◌, ◌≤◌, ◌++◌, ℕ, List, [], ◌∷◌, length, take, ◌-◌, Option, None, Some, Ok, Err, refl, subst, sym, append-nil, arith}
+use Rattle.std.proofs.Common.{◌≡◌, ◌+◌, ◌<◌, ◌≤◌, ◌++◌, ℕ, List, [], ◌∷◌, length, take, ◌-◌, Option, None, Some, Ok, Err, ap, cond, refl, subst, sym, append-nil, append_assoc, arith, ◌∙◌}
+use Rattle.std.proofs.Math.Seq.{take-append-add}
+use Rattle.std.proofs.lemmas.Grind.{flat_map-append}
+use Rattle.std.proofs.lemmas.List.{length-append}
 use Rattle.std.proofs.lemmas.List.Concat.{flat_map-cons}
 use Rattle.std.proofs.lemmas.Bool.{le-ltb, lt-ltb}
 use Rattle.acl_nfs4.specs.Ace.{Ace}
-use Rattle.std.specs.List.{flat_map}
+use Rattle.std.specs.List.{enumerate_from, find, flat_map}
+use Rattle.std.specs.Option.{is_some, option_and_then, option_map, option_or}
+use Rattle.std.specs.Prelude.{if◌then◌else◌, nat_lt}
 use Rattle.std.specs.Io.KnownBytes.{Appends}
 use Rattle.acl_perm.specs.Ascii.{comma, line_feed}
 use Rattle.acl_perm.specs.Devices.{one_more}
 use Rattle.acl_perm.specs.Pieces.{WritesFrom}
 use Rattle.acl_perm.specs.declared.whole.WriteFault.{WriteFault}
 use Rattle.acl_forms.specs.FormWrites.{WritesIfHeld}
-use Rattle.acl_forms.specs.ToolsWritten.{longest_tools_text, tools_ace_fault, tools_entry_text, tools_fault, tools_fault_from, tools_line, tools_text, fault_or}
+use Rattle.acl_forms.specs.FirstFault.{first_fault}
+use Rattle.acl_forms.specs.ToolsWritten.{longest_tools_text, tools_ace_fault, tools_entry_text, tools_fault, tools_fault_at, tools_line, tools_text}
 use Rattle.acl_forms.specs.NfsWritten.{nfs_entry_text, nfs_text}
 use Rattle.acl_forms.specs.declared.fault.FormFault.{FormFault}
 use Rattle.acl_forms.specs.declared.fault.FormReason.{FormReason}
@@ -22,6 +28,7 @@ use Rattle.acl_forms.specs.declared.style.EntrySeparator.TheVariants.{Commas, Li
 use Rattle.acl_forms.specs.declared.style.LetterStyle.{LetterStyle}
 use Rattle.acl_forms.specs.declared.writing.AceTextForm.{AceTextForm}
 use Rattle.acl_forms.specs.declared.writing.AceTextForm.TheVariants.{Nfs, Tools}
+use Rattle.acl_forms.specs.internal.FaultSearch.{fault_from, fault_or, tools_fault_from}
 use Rattle.acl_forms.specs.internal.TextWriting.{entries_left, entry_of, separator_of}
 
 -- if there is no fault, the first ACE has none, and those after it have none
@@ -29,6 +36,31 @@ pub no_fault : (place : ℕ) (o : Option FormReason) (others : Option FormFault)
     → (o ≡ None) × (others ≡ None)
 no_fault place None others e = (refl, e)
 no_fault place (Some reason) others e = absurd cc
+
+-- the first element has a reason, or the fault is one of the others
+fault_of_next : {X : Type 0} (reason : X → Option FormReason) (place : ℕ) (x : X) (r : Option FormReason)
+    (rest : List (ℕ × X)) (others : Option FormFault) → reason x ≡ r
+    → others ≡ option_and_then (λ p. option_map (λ r. record { place = p.0; reason = r }) (reason p.1))
+    (find (λ p. is_some (reason p.1)) rest)
+    → fault_or place r others
+    ≡ option_and_then (λ p. option_map (λ r. record { place = p.0; reason = r }) (reason p.1))
+    (cond (is_some r) (Some (place, x)) (find (λ p. is_some (reason p.1)) rest))
+fault_of_next reason place x (Some r) rest others e is = sym (ap (λ o. option_map (λ r. record { place = place; reason = r }) o) e)
+fault_of_next reason place x None rest others e is = is
+
+-- the first fault of a list that begins at some place is that of its elements with their numbers from there on
+numbered_fault : {X : Type 0} (reason : X → Option FormReason) (place : ℕ) (list : List X)
+    → fault_from reason place list
+    ≡ option_and_then (λ p. option_map (λ r. record { place = p.0; reason = r }) (reason p.1))
+    (find (λ p. is_some (reason p.1)) (enumerate_from place list))
+numbered_fault reason place [] = refl
+numbered_fault reason place (x ∷ list) = fault_of_next reason place x (reason x) (enumerate_from (place + 1) list)
+    (fault_from reason (place + 1) list) refl (numbered_fault reason (place + 1) list)
+
+-- the first fault of a list that begins at the place 0 is that of the list
+pub fault_from_start : {X : Type 0} (reason : X → Option FormReason) (list : List X)
+    → fault_from reason 0 list ≡ first_fault reason list
+fault_from_start reason list = numbered_fault reason 0 list
 
 -- the fault of the next ACE is the fault of the ACEs that are left
 pub ace_refused : (object : ObjectKind) (place done : ℕ) (list rest : List Ace) (a : Ace) (reason : FormReason)
@@ -65,11 +97,45 @@ pub empty_fault : (object : ObjectKind) (list : List Ace) → list ≡ []
     → Some (record { place = 0; reason = Empty }) ≡ tools_fault object list
 empty_fault object list e = rw e refl
 
+-- the first of two reasons is the first fault
+fault_or-two : (place : ℕ) (x y : Option FormReason) (others : Option FormFault)
+    → fault_or place x (fault_or place y others) ≡ fault_or place (option_or x y) others
+fault_or-two place None y others = refl
+fault_or-two place (Some reason) y others = refl
+
+-- the fault of ACEs after a text of other ACEs is that of their numbers and themselves in the whole list
+tools_numbered : (object : ObjectKind) (before list : List Ace) (place done : ℕ) → place ≡ length before
+    → done ≡ length (tools_text before) → tools_fault_from object place done list
+    ≡ fault_from (tools_fault_at object (before ++ list)) place (enumerate_from place list)
+unfolding tools_fault_from
+tools_numbered object before [] place done here text = refl
+tools_numbered object before (a ∷ list) place done here text =
+    let whole : (before ++ a ∷ []) ++ list ≡ before ++ a ∷ list = append_assoc before (a ∷ []) list in
+    let upto : take (place + 1) (before ++ a ∷ list) ≡ before ++ a ∷ [] =
+    ap (λ n. take (n + 1) (before ++ a ∷ list)) here ∙ take-append-add before (a ∷ list) 1 in
+    let size : length (tools_text (before ++ a ∷ [])) ≡ length (tools_text before) + length (tools_line a) =
+    ap length (flat_map-append tools_line before (a ∷ []) ∙ ap (λ (l : List ℕ). tools_text before ++ l)
+    (append-nil (tools_line a))) ∙ length-append (tools_text before) (tools_line a) in
+    let sum : done + length (tools_line a) ≡ length (tools_text (take (place + 1) (before ++ a ∷ list))) =
+    ap (λ n. n + length (tools_line a)) text ∙ sym size ∙ sym (ap (λ l. length (tools_text l)) upto) in
+    let next = tools_numbered object (before ++ a ∷ []) list (place + 1) (done + length (tools_line a))
+    (omega (arith, here, length-append before (a ∷ []))) (ap (λ n. n + length (tools_line a)) text ∙ sym size) in
+    fault_or-two place (tools_ace_fault object a)
+    (if nat_lt longest_tools_text (done + length (tools_line a)) then Some TooLong else None)
+    (tools_fault_from object (place + 1) (done + length (tools_line a)) list)
+    ∙ ap (λ n. fault_or place (option_or (tools_ace_fault object a)
+    (if nat_lt longest_tools_text n then Some TooLong else None))
+    (tools_fault_from object (place + 1) (done + length (tools_line a)) list)) sum
+    ∙ ap (λ (o : Option FormFault). fault_or place (tools_fault_at object (before ++ a ∷ list) (place, a)) o)
+    (next ∙ ap (λ (l : List Ace). fault_from (tools_fault_at object l) (place + 1) (enumerate_from (place + 1) list))
+    whole)
+
 -- the fault of any other list is that of its first ACE that is not held
 pub some_fault : (object : ObjectKind) (list : List Ace) → (list ≡ [] → ⊥)
     → tools_fault_from object 0 0 list ≡ tools_fault object list
 some_fault object [] some = absurd (some refl)
-some_fault object (a ∷ list) some = refl
+some_fault object (a ∷ list) some = tools_numbered object [] (a ∷ list) 0 0 refl refl
+    ∙ fault_from_start (tools_fault_at object (a ∷ list)) (enumerate_from 0 (a ∷ list))
 
 -- ---- what a call writes
 

@@ -7,15 +7,17 @@ use Rattle.acl_perm.specs.Profile.{full}
 use Rattle.acl_nfs4.specs.Ace.{Ace}
 use Rattle.acl_nfs4.specs.Spelling.{IsAccepted}
 use Rattle.acl_forms.specs.Acl41.{acl41_bytes}
-use Rattle.acl_forms.specs.Acl41Ids.{EachHasId, acl41_ids_bytes, no_id_from, whom_words}
+use Rattle.acl_forms.specs.Acl41Ids.{EachHasId, acl41_ids_bytes, id_fault, whom_words}
 use Rattle.acl_forms.specs.AclFlags.{IsAclFlags}
 use Rattle.acl_forms.specs.Forms.{SpellsForm, form_bytes, form_fault, form_list, unless_flags}
 use Rattle.acl_forms.specs.NfsWritten.{nfs_text_fault}
 use Rattle.acl_forms.specs.ToolsWritten.{tools_fault}
+use Rattle.acl_forms.specs.internal.FaultSearch.{fault_from, fault_or}
 use Rattle.acl_forms.specs.declared.fault.FormFault.{FormFault}
 use Rattle.acl_forms.specs.declared.fault.FormReason.TheVariants.{AclFlags, NoId}
 use Rattle.acl_forms.specs.declared.form.Form.{Form}
 use Rattle.acl_forms.specs.declared.form.Form.TheVariants.{NfsTools, NfsText, NfsAcl41, NfsAcl41Ids}
+use Rattle.acl_forms.proofs.FormLemmas.{fault_from_start}
 use Rattle.acl_forms.proofs.Acl41Lemmas as acl41
 use Rattle.acl_forms.proofs.IdLemmas as ids
 use Rattle.acl_forms.proofs.NfsReadBack.{nfs_written_reads_back}
@@ -34,16 +36,16 @@ no_flags flags fault e =
 
 -- if a who without an id would be a fault, and there is none, the who has an id
 who_held : (place : ℕ) (words : Option (ℕ × ℕ)) (others : Option FormFault)
-    → (if is_none words then Some (record { place = place; reason = NoId }) else others) ≡ None
+    → fault_or place (if is_none words then Some NoId else None) others ≡ None
     → IsSome words × (others ≡ None)
 who_held place (Some w) others e = (refl, e)
 who_held place None others e = absurd cc
 
 -- each who of a list that the form with ids can hold has an id
-each_held : (place : ℕ) (list : List Ace) → no_id_from place list ≡ None → EachHasId list
+each_held : (place : ℕ) (list : List Ace) → fault_from id_fault place list ≡ None → EachHasId list
 each_held place [] e = tt
 each_held place (a ∷ list) e =
-    let s = who_held place (whom_words a.who) (no_id_from (place + 1) list) e in
+    let s = who_held place (whom_words a.who) (fault_from id_fault (place + 1) list) e in
     (s.0, each_held (place + 1) list s.1)
 
 -- the value that is written spells the flags and the list as it is written, and nothing else
@@ -63,5 +65,5 @@ reads_back NfsAcl41 flags set list other is ok none =
     (λ s. acl41.one_value set flags other list (acl41_bytes flags list) s written, λ e. rw (e.0, e.1) written)
 reads_back NfsAcl41Ids flags set list other is ok none =
     let bytes = acl41_ids_bytes flags list in
-    let written = (ids.ids_bytes flags list bytes is ok (each_held 0 list none)).1 refl in
+    let written = (ids.ids_bytes flags list bytes is ok (each_held 0 list (fault_from_start id_fault list ∙ none))).1 refl in
     (λ s. ids.one_value set flags other list bytes s written, λ e. rw (e.0, e.1) written)

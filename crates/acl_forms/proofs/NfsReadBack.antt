@@ -23,7 +23,7 @@ use Rattle.acl_forms.specs.Acl41Ids.{id_of_digits}
 use Rattle.acl_forms.specs.Letters.{nfs_flag_letters, nfs_right_letters}
 use Rattle.acl_forms.specs.NfsRules.{nfs_rules, SpellsNfsText}
 use Rattle.acl_forms.specs.NfsText.{is_odd_number}
-use Rattle.acl_forms.specs.NfsWritten.{account_word, as_nfs_written, id_after, is_cut_who, is_id_cut, is_other_id, kept_flags, kind_word, nfs_ace_fault, nfs_entry_text, nfs_fault_from, nfs_text, nfs_text_fault, principal_text, special_word, IsSameButSpecialGroup}
+use Rattle.acl_forms.specs.NfsWritten.{account_word, as_nfs_written, id_after, is_cut_who, is_id_cut, is_other_id, kept_flags, kind_word, nfs_ace_fault, nfs_entry_text, nfs_text, nfs_text_fault, principal_text, special_word, IsSameButSpecialGroup}
 use Rattle.acl_forms.specs.ToolsWritten.{is_separator, meets, retention_rights}
 use Rattle.acl_forms.specs.declared.fault.FormReason.TheVariants.{Id, Retention, Separator}
 use Rattle.acl_forms.specs.declared.nfs_text.fields.NfsTag.{NfsTag}
@@ -35,7 +35,8 @@ use Rattle.acl_forms.proofs.TextLemmas.{one_list}
 use Rattle.acl_forms.proofs.StyledLetters.{styled_pass}
 use Rattle.acl_forms.proofs.CommasReadBack.{separated_again, separated_pass, IsEntryReadBack}
 use Rattle.acl_forms.proofs.ToolsEntriesReadBack.{apart_sets, is_inside, no_place, rights_within, who_pass}
-use Rattle.acl_forms.proofs.FormLemmas.{no_fault}
+use Rattle.acl_forms.specs.internal.FaultSearch.{fault_from}
+use Rattle.acl_forms.proofs.FormLemmas.{fault_from_start, no_fault}
 use Rattle.acl_forms.proofs.NfsFieldsReadBack.{IsAccountWord, IsSpecialWord, everyone_word, flags_text, group_flags, group_word, kind_pass, not_all_blank, owner_word, rights_text, user_flags}
 use Rattle.acl_forms.proofs.NfsEntriesReadBack.{IsNameKept, account_again, account_text, special_again, special_text}
 
@@ -151,11 +152,11 @@ read_ace letters by a is none =
 
 -- each ACE of a list that is held is read again
 read_each : (letters : LetterStyle) (by : WhoField) (list : List Ace) (place : ℕ) → AllByRecursion (IsAce full) list
-    → nfs_fault_from place list ≡ None
+    → fault_from nfs_ace_fault place list ≡ None
     → AllByRecursion (λ a. IsEntryReadBack by (nfs_entry_text letters a) (as_nfs_written a)) list
 read_each letters by [] place each none = tt
 read_each letters by (a ∷ list) place each none =
-    let no = no_fault place (nfs_ace_fault a) (nfs_fault_from (place + 1) list) none in
+    let no = no_fault place (nfs_ace_fault a) (fault_from nfs_ace_fault (place + 1) list) none in
     (read_ace letters by a each.0 no.0, read_each letters by list (place + 1) each.1 no.1)
 
 -- a test of bytes that plain bytes pass
@@ -204,7 +205,7 @@ nfs_written_spells by style list is none =
       no_nul = no_place (λ b. b == 0) (nfs_text style list)
           (separated_pass is_no_zero refl refl style.separator entry list (entries_no_nul style.letters list is.each));
       each = separated_again by style.separator entry as_nfs_written list (λ a. refl)
-          (read_each style.letters by list 0 is.each none) (omega (arith, is.count)) (omega (arith, is.weight));
+          (read_each style.letters by list 0 is.each (fault_from_start nfs_ace_fault list ∙ none)) (omega (arith, is.count)) (omega (arith, is.weight));
       enough = omega arith;
     }
 

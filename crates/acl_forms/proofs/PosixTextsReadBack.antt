@@ -19,10 +19,11 @@ use Rattle.acl_posix.specs.internal.GroupAnswers.{is_owner_tag}
 use Rattle.acl_forms.specs.PosixNames.{HasNamesOfIds, NamesOfIds}
 use Rattle.acl_forms.specs.PosixRules.{SpellsDefaultText, SpellsPosixText, of_part, posix_rules}
 use Rattle.acl_forms.specs.PosixText.{PlacedEntry}
-use Rattle.acl_forms.specs.PosixWritten.{is_base, pieces_if, posix_text, posix_text_fault}
+use Rattle.acl_forms.specs.PosixWritten.{posix_entry_fault, is_base, pieces_if, posix_text, posix_text_fault}
 unfoldable use Rattle.acl_forms.specs.PosixWritten.{posix_piece}
 use Rattle.acl_forms.specs.Texts.{SpellsByRules}
 use Rattle.acl_forms.specs.declared.posix_text.style.TarStyle.TheVariants.{Gnu, Star}
+use Rattle.acl_forms.proofs.FormLemmas.{fault_from_start}
 use Rattle.acl_forms.proofs.PosixReadBack.{AreTexts, commas_spell, joined, lines_spell, placed_are, placed_from}
 use Rattle.acl_forms.proofs.StarEntries.{AreOthers, BeginsWithOwner, gnu_of, gnu_texts, has_owner, owner_first, split_acl, split_by, star_of, star_texts, whole_acl}
 
@@ -104,7 +105,8 @@ star_spelled : (names : NamesOfIds) (table : Table) (part : Part) (acl : Entries
 star_spelled names table part acl h held =
     let es = fin.entries acl in
     let first = owner_first es (entries_sorted acl) (has_owner acl h.valid) in
-    let texts = star_texts table names 0 es (recursion_from_All IsEntry es h.within) held in
+    let texts = star_texts table names 0 es (recursion_from_All IsEntry es h.within)
+    (fault_from_start (posix_entry_fault names Star) es ∙ held) in
     let ordered = append_texts table (star_of names) (filter (λ e. is_base e.0) es) (filter (λ e. not (is_base e.0)) es)
     (order_texts table (star_of names) is_base es texts)
     (order_texts table (star_of names) (λ tag. not (is_base tag)) es texts) in
@@ -184,7 +186,8 @@ gnu_spelled : (names : NamesOfIds) (table : Table) (part : Part) (acl : Entries)
 unfolding posix_piece
 gnu_spelled names table part acl has h held =
     lines_spell table (gnu_of names) part (fin.entries acl)
-    (gnu_texts table names 0 (fin.entries acl) has (recursion_from_All IsEntry (fin.entries acl) h.within) held)
+    (gnu_texts table names 0 (fin.entries acl) has (recursion_from_All IsEntry (fin.entries acl) h.within)
+    (fault_from_start (posix_entry_fault names Gnu) (fin.entries acl) ∙ held))
 
 -- if the table has its names, the text of GNU tar spells a file with the ACL as its access ACL
 pub gnu_file : (names : NamesOfIds) (table : Table) (acl : Entries) → HasNamesOfIds table names → IsAcl acl

@@ -11,21 +11,23 @@ use Rattle.acl_posix.specs.Entries.{Entries, IsEntry, pair_of, pairs}
 use Rattle.acl_posix.specs.Tag.{Tag, tag_of}
 use Rattle.acl_posix.specs.declared.entry.Entry.{Entry}
 use Rattle.acl_forms.specs.PosixNames.{NamesOfIds, tag_name}
-use Rattle.acl_forms.specs.PosixWritten.{entries_text, id_reason_of, is_base, is_cut_name, longest_name, name_reason, named_reason, pieces_if, posix_fault_from}
+use Rattle.acl_forms.specs.FirstFault.{first_fault}
+use Rattle.acl_forms.specs.PosixWritten.{entries_text, posix_entry_fault, id_reason_of, is_base, is_cut_name, longest_name, name_reason, named_reason, pieces_if}
 use Rattle.acl_forms.specs.declared.fault.FormReason.{FormReason}
 use Rattle.acl_forms.specs.declared.fault.FormReason.TheVariants.{Separator, TooLong}
 use Rattle.acl_forms.specs.declared.posix_text.style.TarStyle.{TarStyle}
 use Rattle.acl_forms.specs.declared.posix_text.style.TarStyle.TheVariants.{Star}
 use Rattle.acl_forms.specs.internal.AttributeEntries.{most_entries}
+use Rattle.acl_forms.specs.internal.FaultSearch.{fault_from}
 use Rattle.acl_forms.specs.internal.PosixWriting.{IsShortName, piece_if}
 use Rattle.acl_forms.proofs.AttributeOrder.{few_entries}
-use Rattle.acl_forms.proofs.FormLemmas.{no_fault}
+use Rattle.acl_forms.proofs.FormLemmas.{fault_from_start, no_fault}
 
 -- ---- what the text can hold
 
 -- an entry of an ACL that the text can hold has no reason
 held_at : (names : NamesOfIds) (style : TarStyle) (place : ℕ) (es : List Entry) (i : ℕ) (d : Entry) → i < length es
-    → posix_fault_from names style place (pairs es) ≡ None
+    → fault_from (posix_entry_fault names style) place (pairs es) ≡ None
     → named_reason style (tag_of (get_or es i d).tag) (tag_name names (tag_of (get_or es i d).tag)) ≡ None
 held_at names style place [] i d lt e = absurd (omega (arith, lt))
 held_at names style place (x ∷ es) zero d lt e = (no_fault place _ _ e).0
@@ -52,12 +54,12 @@ short_in style tag (Some name) e =
 
 -- the name of an entry of an ACL that the text can hold is short
 pub short_at : (names : NamesOfIds) (style : TarStyle) (es : List Entry) (i : ℕ) (e : Entry) → i < length es
-    → e ≡ get_or es i e → posix_fault_from names style 0 (pairs es) ≡ None
+    → e ≡ get_or es i e → first_fault (posix_entry_fault names style) (pairs es) ≡ None
     → IsShortName (tag_name names (tag_of e.tag))
 short_at names style es i e lt read held =
     short_in style (tag_of e.tag) (tag_name names (tag_of e.tag))
     (subst (λ (x : Entry). named_reason style (tag_of x.tag) (tag_name names (tag_of x.tag)) ≡ None) (sym read)
-    (held_at names style 0 es i e lt held))
+    (held_at names style 0 es i e lt (fault_from_start (posix_entry_fault names style) (pairs es) ∙ held)))
 
 -- ---- pieces
 

@@ -23,8 +23,9 @@ unfoldable use Rattle.acl_posix.specs.Valid.{missing}
 use Rattle.acl_posix.specs.internal.TagCode.{tags_total}
 use Rattle.acl_posix.specs.internal.GroupAnswers.{is_owner_tag}
 use Rattle.acl_forms.specs.PosixNames.{HasNamesOfIds, NamesOfIds, if_shown, is_shown, shown_name, tag_name}
-use Rattle.acl_forms.specs.PosixWritten.{id_field, named_reason, posix_fault_from, three_fields}
+use Rattle.acl_forms.specs.PosixWritten.{posix_entry_fault, id_field, named_reason, three_fields}
 use Rattle.acl_forms.specs.declared.posix_text.style.TarStyle.TheVariants.{Gnu, Star}
+use Rattle.acl_forms.specs.internal.FaultSearch.{fault_from}
 use Rattle.acl_forms.proofs.PosixReadBack.{AreTexts}
 use Rattle.acl_forms.proofs.PosixEntriesReadBack.{HasName, IsShownName, by_qualifier, held_qualifier, star_entry}
 use Rattle.acl_forms.proofs.FormLemmas.{no_fault}
@@ -94,7 +95,7 @@ has_of table names other has = tt
 
 -- the texts of star are read as the entries of an ACL that they can hold
 pub star_texts : (table : Table) (names : NamesOfIds) (place : ℕ) (es : List (Tag × ℕ)) → AllByRecursion IsEntry es
-    → posix_fault_from names Star place es ≡ None → AreTexts table (star_of names) es
+    → fault_from (posix_entry_fault names Star) place es ≡ None → AreTexts table (star_of names) es
 star_texts table names place [] within held = tt
 star_texts table names place (e ∷ es) within held =
     let both = no_fault place (named_reason Star e.0 (tag_name names e.0)) _ held in (
@@ -105,7 +106,8 @@ star_texts table names place (e ∷ es) within held =
 
 -- the texts of GNU tar are read as the entries of an ACL that they can hold
 pub gnu_texts : (table : Table) (names : NamesOfIds) (place : ℕ) (es : List (Tag × ℕ)) → HasNamesOfIds table names
-    → AllByRecursion IsEntry es → posix_fault_from names Gnu place es ≡ None → AreTexts table (gnu_of names) es
+    → AllByRecursion IsEntry es → fault_from (posix_entry_fault names Gnu) place es ≡ None
+    → AreTexts table (gnu_of names) es
 gnu_texts table names place [] has within held = tt
 gnu_texts table names place (e ∷ es) has within held =
     let both = no_fault place (named_reason Gnu e.0 (tag_name names e.0)) _ held in (

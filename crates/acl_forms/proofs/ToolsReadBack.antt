@@ -1,5 +1,5 @@
 -- The text that is written for a list spells the list.
-use Rattle.std.proofs.Common.{◌≡◌, ◌+◌, ℕ, Bool, true, false, cond, List, [], ◌∷◌, length, None, Some, Ok, refl, sym, ap, subst, arith}
+use Rattle.std.proofs.Common.{◌∙◌, ◌≡◌, ◌+◌, ℕ, Bool, true, false, cond, List, [], ◌∷◌, length, None, Some, Ok, refl, sym, ap, subst, arith}
 use Rattle.std.specs.Prelude.{◌==◌, ◌↔◌, map, nat_lt, not, if◌then◌else◌}
 use Rattle.std.specs.List.{AllByRecursion, list_all}
 use Rattle.std.specs.Str.{bytes_eq}
@@ -16,17 +16,18 @@ use Rattle.acl_perm.specs.Bits.{has_bit, identifier_group}
 use Rattle.acl_perm.specs.Principal.{everyone, group, group_named, owner, user}
 use Rattle.acl_nfs4.specs.Who.{everyone_name, group_name, is_plain, IsWho, owner_name, principal_of}
 use Rattle.acl_nfs4.proofs.Exports.{all_weaker, plain_who}
+use Rattle.acl_forms.specs.internal.FaultSearch.{tools_fault_from}
 use Rattle.acl_forms.specs.Letters.{flag_letters, single_letters}
 use Rattle.acl_forms.specs.Texts.{cut_entries, line_items}
 use Rattle.acl_forms.specs.ToolsRules.{is_break, tools_rules, SpellsTools}
-use Rattle.acl_forms.specs.ToolsWritten.{as_written, flags_written, longest_tools_text, tools_ace_fault, tools_entry_text, tools_fault, tools_fault_from, tools_line, tools_text, IsSameButGroup}
+use Rattle.acl_forms.specs.ToolsWritten.{as_written, flags_written, longest_tools_text, tools_ace_fault, tools_entry_text, tools_fault, tools_line, tools_text, IsSameButGroup}
 use Rattle.acl_forms.specs.declared.fault.FormFault.{FormFault}
 use Rattle.acl_forms.specs.declared.fault.FormReason.TheVariants.{TooLong}
 use Rattle.acl_forms.specs.declared.object.ObjectKind.{ObjectKind}
 use Rattle.acl_forms.proofs.TextLemmas.{one_list}
 use Rattle.acl_forms.proofs.TextsReadBack.{each_again, no_nul, part_at, IsReadBack}
 use Rattle.acl_forms.proofs.LettersReadBack.{letters_pass}
-use Rattle.acl_forms.proofs.FormLemmas.{no_fault}
+use Rattle.acl_forms.proofs.FormLemmas.{no_fault, some_fault}
 use Rattle.acl_forms.proofs.ToolsEntriesReadBack.{all_not, entry_again, entry_inside, group_twice, held, is_inside, kind_pass, no_place}
 
 -- ---- a text
@@ -101,14 +102,14 @@ lines_no_nul (a ∷ list) each = (line_no_nul a each.0.who, lines_no_nul list ea
 -- the text that is written for a list that the form holds spells the list as it is written
 pub written_spells : (object : ObjectKind) (list : List Ace) → IsAccepted full list → tools_fault object list ≡ None
     → SpellsTools object (map as_written list) (tools_text list)
-written_spells object [] is none = absurd (some_fault none) where
-  some_fault : {f : FormFault} → Some f ≡ None → ⊥
-  some_fault e = cc
+written_spells object [] is none = absurd (no_some none) where
+  no_some : {f : FormFault} → Some f ≡ None → ⊥
+  no_some e = cc
 written_spells object (a ∷ list) is none = record {
   no_nul =
       no_place (λ b. b == 0) (tools_text (a ∷ list)) (no_nul tools_line (a ∷ list) (lines_no_nul (a ∷ list) is.each));
   each = each_again (tools_rules object) tools_entry_text as_written [] (a ∷ list) 0 (no_items object) (λ x. refl)
-      (read_each object (a ∷ list) 0 0 is.each none) (omega (arith, is.count)) (omega (arith, is.weight));
+      (read_each object (a ∷ list) 0 0 is.each (some_fault object (a ∷ list) (λ e. absurd cc) ∙ none)) (omega (arith, is.count)) (omega (arith, is.weight));
   enough = omega arith;
 }
 

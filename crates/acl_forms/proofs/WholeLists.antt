@@ -23,11 +23,11 @@ use Rattle.acl_forms.specs.Acl41Ids.{EachHasId, IsAcl41Ids, id_piece, id_who, sp
 unfoldable use Rattle.acl_forms.specs.Acl41Ids.{id_who_of}
 use Rattle.acl_forms.specs.AclFlags.{IsAclFlags}
 use Rattle.acl_forms.specs.Part.{SpellsPart, kept, reason_of}
-unfoldable use Rattle.acl_forms.specs.Part.{left_out_from}
 use Rattle.acl_forms.specs.PartWords.{IsPartAce, Names, SpelledAce, SpellsById, SpellsByName, SpellsWhole, special_identifier}
 use Rattle.acl_forms.specs.PartWords.Names.{by_id, by_special}
 unfoldable use Rattle.acl_forms.specs.PartWords.{placed_from}
 use Rattle.acl_forms.specs.declared.fault.ReadReason.TheVariants as reason
+use Rattle.acl_forms.specs.internal.AnyAces.{left_out_from}
 use Rattle.acl_forms.proofs.AnyNames.{known_who}
 use Rattle.acl_forms.proofs.IdAces.{piece_of, with_words}
 use Rattle.acl_forms.proofs.WhoLemmas.{ReadsWho, reads_who}
@@ -91,7 +91,7 @@ module _ (Spells : AnyAce → List ℕ → Type 0) (bytes : Ace → List ℕ) wh
   -- no ACE is left out
   none_left : (place at : ℕ) (list : List Ace) → EachIs list
       → left_out_from place (placed_from at (map spelled list)) ≡ []
-  unfolding placed_from left_out_from
+  unfolding placed_from
   none_left place at [] each = refl
   none_left place at (a ∷ list) each =
       let same = kept_same a each.0.1.known in

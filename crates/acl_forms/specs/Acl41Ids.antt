@@ -19,10 +19,12 @@ use Rattle.acl_nfs4.specs.Who.{everyone_name, group_name, owner_name}
 use Rattle.acl_nfs4.specs.internal.Reading.{Place}
 use Rattle.acl_nfs4.specs.declared.xdr.fault.Reason.{Reason}
 use Rattle.acl_nfs4.specs.declared.xdr.fault.Reason.TheVariants.{SpecialWho, TrailingBytes}
+use Rattle.acl_forms.specs.FirstFault.{first_fault}
 use Rattle.acl_forms.specs.AclFlags.{IsAclFlags}
 use Rattle.acl_forms.specs.ReadFaults.{read_fault_at}
 use Rattle.acl_forms.specs.Words.{acl_flags_of, start, word_at}
 use Rattle.acl_forms.specs.declared.fault.FormFault.{FormFault}
+use Rattle.acl_forms.specs.declared.fault.FormReason.{FormReason}
 use Rattle.acl_forms.specs.declared.fault.FormReason.TheVariants.{NoId}
 use Rattle.acl_forms.specs.declared.fault.ReadFault.{ReadFault}
 use Rattle.acl_forms.specs.declared.fault.ReadReason.{ReadReason}
@@ -127,12 +129,10 @@ IsAcl41IdsFault bytes fault = acl41_ids_in bytes ≡ Err fault
 
 -- ---- which lists the form holds
 
--- the place of the first ACE whose who has no id, if the list begins at this place
-abbrev pub no_id_from : ℕ → List Ace → Option FormFault
-no_id_from place [] = None
-no_id_from place (a ∷ list) = if is_none (whom_words a.who) then Some (record { place = place; reason = NoId })
-    else no_id_from (place + 1) list
+-- why the form cannot hold an ACE: its who has no id
+abbrev pub id_fault : Ace → Option FormReason
+id_fault a = if is_none (whom_words a.who) then Some NoId else None
 
 -- why the form does not hold the list: the first ACE whose who has no id
 abbrev pub acl41_ids_fault : List Ace → Option FormFault
-acl41_ids_fault list = no_id_from 0 list
+acl41_ids_fault list = first_fault id_fault list

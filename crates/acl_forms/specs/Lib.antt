@@ -16,6 +16,7 @@ pub mod NfsText
 pub mod NfsRules
 pub mod PosixText
 pub mod PosixRules
+pub mod FirstFault
 pub mod ToolsWritten
 pub mod NfsWritten
 pub mod PosixNames

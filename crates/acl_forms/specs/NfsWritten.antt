@@ -14,7 +14,8 @@ use Rattle.acl_nfs4.specs.Who.{everyone_name, group_name, is_special, owner_name
 use Rattle.acl_forms.specs.Acl41Ids.{id_of_digits}
 use Rattle.acl_forms.specs.Letters.{nfs_flag_letters, nfs_right_letters}
 use Rattle.acl_forms.specs.NfsText.{is_odd_number}
-use Rattle.acl_forms.specs.ToolsWritten.{fault_or, is_separator, letters_of, meets, retention_rights}
+use Rattle.acl_forms.specs.FirstFault.{first_fault}
+use Rattle.acl_forms.specs.ToolsWritten.{is_separator, letters_of, meets, retention_rights}
 use Rattle.acl_forms.specs.declared.fault.FormFault.{FormFault}
 use Rattle.acl_forms.specs.declared.fault.FormReason.{FormReason}
 use Rattle.acl_forms.specs.declared.fault.FormReason.TheVariants.{Id, Retention, Separator}
@@ -118,11 +119,6 @@ nfs_ace_fault a = if meets a.mask retention_rights then Some Retention
     else (if is_cut_who a.who then Some Separator
     else (if is_other_id a.who then Some Id else None))
 
--- the first ACE from a place on that the form cannot hold
-abbrev pub nfs_fault_from : ℕ → List Ace → Option FormFault
-nfs_fault_from place [] = None
-nfs_fault_from place (a ∷ list) = fault_or place (nfs_ace_fault a) (nfs_fault_from (place + 1) list)
-
 -- the first ACE that the form cannot hold
 abbrev pub nfs_text_fault : List Ace → Option FormFault
-nfs_text_fault list = nfs_fault_from 0 list
+nfs_text_fault list = first_fault nfs_ace_fault list

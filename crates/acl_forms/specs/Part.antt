@@ -3,7 +3,7 @@
 -- 6.2.1.5). An ALLOW of such a name is left out, so that no more is granted; without a DENY of it more may be granted,
 -- so that is refused: this library's own.
 use Rattle.std.specs.Prelude.{◌≡◌, ◌==◌, ◌&&◌, ◌+◌, ◌++◌, ℕ, Bool, not, count_ones, if◌then◌else◌, List, [], ◌∷◌, Option, Some, None, Result, MatchResult, ◌⊎◌, false, sum_by}
-use Rattle.std.specs.List.{AllByRecursion, filter_map}
+use Rattle.std.specs.List.{AllByRecursion, enumerate_from, filter_map, flat_map}
 use Rattle.acl_nfs4.specs.AccessPart.{AnyAce, is_for_access, kept_ace}
 use Rattle.acl_nfs4.specs.Ace.{Ace}
 use Rattle.acl_nfs4.specs.Who.{is_unknown_special}
@@ -46,14 +46,9 @@ abbrev pub noted_if : ℕ → ℕ → Option LeftOutReason → List LeftOut
 noted_if place offset None = []
 noted_if place offset (Some reason) = record { place = place; offset = offset; reason = reason } ∷ []
 
--- the ACEs that are left out, in order, if the first ACE of the list has this number
-unfoldable pub left_out_from : ℕ → List PlacedAce → List LeftOut
-left_out_from place [] = []
-left_out_from place (p ∷ list) = noted_if place p.offset (reason_of p.ace) ++ left_out_from (place + 1) list
-
--- the ACEs that are left out of a whole list
+-- the ACEs that are left out of a whole list, in order
 abbrev pub left_out : List PlacedAce → List LeftOut
-left_out list = left_out_from 0 list
+left_out list = flat_map (λ p. noted_if p.0 p.1.offset (reason_of p.1.ace)) (enumerate_from 0 list)
 
 -- the number of mask bits that are set, over all ACEs
 abbrev pub any_weight : List PlacedAce → ℕ

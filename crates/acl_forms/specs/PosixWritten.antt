@@ -13,7 +13,8 @@ use Rattle.acl_posix.specs.Tag.{Tag, user_obj, user, group_obj, group, mask, oth
 use Rattle.acl_posix.specs.Texts.{long_word, qualifier_text}
 use Rattle.acl_forms.specs.NfsWritten.{greatest_kept_id}
 use Rattle.acl_forms.specs.PosixNames.{NamesOfIds, tag_name}
-use Rattle.acl_forms.specs.ToolsWritten.{fault_or, is_separator}
+use Rattle.acl_forms.specs.FirstFault.{first_fault}
+use Rattle.acl_forms.specs.ToolsWritten.{is_separator}
 use Rattle.acl_forms.specs.declared.fault.FormFault.{FormFault}
 use Rattle.acl_forms.specs.declared.fault.FormReason.{FormReason}
 use Rattle.acl_forms.specs.declared.fault.FormReason.TheVariants.{Id, Separator, TooLong}
@@ -106,12 +107,10 @@ abbrev pub named_reason : TarStyle → Tag → Option (List ℕ) → Option Form
 named_reason style tag None = id_reason_of style tag
 named_reason style tag (Some name) = option_or (name_reason name) (id_reason_of style tag)
 
--- the first entry from a place on that the text cannot hold
-abbrev pub posix_fault_from : NamesOfIds → TarStyle → ℕ → List (Tag × ℕ) → Option FormFault
-posix_fault_from names style place [] = None
-posix_fault_from names style place (e ∷ entries) =
-    fault_or place (named_reason style e.0 (tag_name names e.0)) (posix_fault_from names style (place + 1) entries)
+-- why the text cannot hold an entry
+abbrev pub posix_entry_fault : NamesOfIds → TarStyle → Tag × ℕ → Option FormReason
+posix_entry_fault names style e = named_reason style e.0 (tag_name names e.0)
 
 -- the first entry in canonical order that the text cannot hold
 abbrev pub posix_text_fault : NamesOfIds → TarStyle → Entries → Option FormFault
-posix_text_fault names style acl = posix_fault_from names style 0 (set.entries acl)
+posix_text_fault names style acl = first_fault (posix_entry_fault names style) (set.entries acl)

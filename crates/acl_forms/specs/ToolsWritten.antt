@@ -1,13 +1,15 @@
 -- The text of a list that nfs4_getfacl prints, without the line before it (nfs4_acl(5), and the source of
 -- nfs4-acl-tools 0.4.2 for the order of the letters), and the lists that this text cannot hold, with the reason for
 -- each.
-use Rattle.std.specs.Prelude.{◌≡◌, ◌==◌, ◌||◌, ◌+◌, ℕ, Bool, false, not, List, [], ◌∷◌, ◌++◌, length, nat_lt, bit_and, filter, map, Option, None, Some, if◌then◌else◌}
-use Rattle.std.specs.List.{flat_map, list_any}
+use Rattle.std.specs.Prelude.{◌≡◌, ◌==◌, ◌||◌, ◌+◌, ℕ, Bool, false, not, List, [], ◌∷◌, ◌++◌, length, nat_lt, take, bit_and, filter, map, Option, None, Some, if◌then◌else◌}
+use Rattle.std.specs.List.{enumerate_from, flat_map, list_any}
+use Rattle.std.specs.Option.{option_or}
 use Rattle.acl_perm.specs.Ascii.{colon, comma, hash, line_feed}
 use Rattle.acl_perm.specs.declared.kind.Kind.{Kind}
 use Rattle.acl_perm.specs.declared.kind.Kind.TheVariants.{Deny, Allow}
 use Rattle.acl_nfs4.specs.Ace.{Ace}
 use Rattle.acl_nfs4.specs.FlagNames.{inherited_alone}
+use Rattle.acl_forms.specs.FirstFault.{first_fault}
 use Rattle.acl_forms.specs.Letters.{flag_letters, single_letters}
 use Rattle.acl_forms.specs.ToolsText.{with_group_flag}
 use Rattle.acl_forms.specs.declared.fault.FormFault.{FormFault}
@@ -103,23 +105,13 @@ tools_ace_fault object a = if meets a.flags inherited_alone then Some Inherited
     else (if is_no_file_ace object a then Some NotDirectory
     else (if nat_lt longest_tools_who (length a.who) then Some TooLong else None))))
 
--- the fault of an ACE at a place, or of the ACEs after it
-abbrev pub fault_or : ℕ → Option FormReason → Option FormFault → Option FormFault
-fault_or place (Some reason) others = Some (record { place = place; reason = reason })
-fault_or place None others = others
-
--- the fault of a text that is too long up to an ACE, or of the ACEs after it
-abbrev pub unless_long : ℕ → ℕ → Option FormFault → Option FormFault
-unless_long place done others = fault_or place (if nat_lt longest_tools_text done then Some TooLong else None) others
-
--- the first ACE from a place on that the form cannot hold, after a text of this many bytes
-unfoldable pub tools_fault_from : ObjectKind → ℕ → ℕ → List Ace → Option FormFault
-tools_fault_from object place done [] = None
-tools_fault_from object place done (a ∷ list) = fault_or place (tools_ace_fault object a)
-    (unless_long place (done + length (tools_line a))
-    (tools_fault_from object (place + 1) (done + length (tools_line a)) list))
+-- why the form cannot hold an ACE with its number in a list: one of these reasons, or the text up to it is too long
+abbrev pub tools_fault_at : ObjectKind → List Ace → ℕ × Ace → Option FormReason
+tools_fault_at object list p = option_or (tools_ace_fault object p.1)
+    (if nat_lt longest_tools_text (length (tools_text (take (p.0 + 1) list))) then Some TooLong else None)
 
 -- the first ACE that the form cannot hold; it cannot hold the empty list
 abbrev pub tools_fault : ObjectKind → List Ace → Option FormFault
 tools_fault object [] = Some (record { place = 0; reason = Empty })
-tools_fault object (a ∷ list) = tools_fault_from object 0 0 (a ∷ list)
+tools_fault object (a ∷ list) =
+    first_fault (tools_fault_at object (a ∷ list)) (enumerate_from 0 (a ∷ list))

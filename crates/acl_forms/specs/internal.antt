@@ -24,3 +24,5 @@ pub mod PosixWriting
 pub mod NamesOfIds
 -- how a text of entries is written
 pub mod TextWriting
+-- what a form cannot hold of the rest of a list
+pub mod FaultSearch

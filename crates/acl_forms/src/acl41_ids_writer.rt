@@ -61,6 +61,7 @@ pub fn acl41_ids_fault(list: &AclView<'_>) -> Option<FormFault>
     first_fault(list.aces())
 }
 
+#[tactic(auto, using(crate::proofs::FormLemmas::fault_from_start))]
 fn first_fault(aces: Aces<'_>) -> Option<FormFault>
     requires { length aces ≤ most_aces }
     ensures { result ≡ acl41_ids_fault aces.entry }

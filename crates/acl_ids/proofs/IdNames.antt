@@ -1,7 +1,9 @@
 -- The digits of an id in place of a name: whom the ACE names then.
-use Rattle.std.proofs.Common.{◌≡◌, ℕ, Bool, true, false, List, Option, Some, None, refl, ap, ◌∙◌}
+use Rattle.std.proofs.Common.{◌≡◌, ℕ, Bool, true, false, List, Option, Some, None, refl, ap, sym, ◌∙◌}
 use Rattle.std.specs.Prelude.{⊤, if◌then◌else◌}
+use Rattle.std.proofs.lemmas.Iterator.Adapters.{position_from-zero}
 use Rattle.std.specs.Fmt.{decimal}
+use Rattle.std.specs.List.{position, position_from}
 use Rattle.std.specs.Str.{bytes_eq}
 use Rattle.acl_perm.specs.Bits.{has_bit, identifier_group}
 use Rattle.acl_perm.specs.Principal.{Principal, owner, user, group, group_named, everyone}
@@ -66,3 +68,8 @@ with_id_names table a known = at (principal_of a) refl known (flag_of a)
     at group e h flag = e
     at (group_named name) e h flag = of_group (id_of_name table.groups name) name h flag
     at everyone e h flag = e
+
+-- the first place of a list that begins at the place 0 is that of the list
+pub position_from_start : {X : Type 0} (test : X → Bool) (xs : List X)
+    → position_from test 0 xs ≡ position test xs
+position_from_start test xs = sym (position_from-zero test xs)

@@ -1,8 +1,8 @@
 -- Lists whose users and groups are ids (this library's own): a table gives ids for names, and the decimal digits of an
 -- id are a name of it too. By these digits an id is compared (RFC 8881, section 6.2.1.5).
-use Rattle.std.specs.Prelude.{⊤, ◌≡◌, ℕ, ◌+◌, ◌==◌, ◌&&◌, not, Bool, false, if◌then◌else◌, List, [], ◌∷◌, length, map, slice_index, Option, Some, None}
+use Rattle.std.specs.Prelude.{⊤, ◌≡◌, ℕ, ◌==◌, ◌&&◌, not, Bool, false, if◌then◌else◌, List, length, map, slice_index, Option, Some, None}
 use Rattle.std.specs.Fmt.{decimal}
-use Rattle.std.specs.List.{AllByRecursion}
+use Rattle.std.specs.List.{AllByRecursion, position}
 use Rattle.std.specs.List.Sorted.{IsStrictlySortedBy}
 use Rattle.std.specs.Option.{is_none, option_or}
 use Rattle.std.specs.Ordering.{nat_cmp}
@@ -65,15 +65,9 @@ HasId table everyone = ⊤
 abbrev pub HaveIds : Table → List Ace → Type 0
 HaveIds table list = AllByRecursion (λ a. HasId table (principal_of a)) list
 
--- the place of the first ACE that names a user or a group without an id, if the list begins at this place
-abbrev pub unknown_from : Table → ℕ → List Ace → Option ℕ
-unknown_from table place [] = None
-unknown_from table place (a ∷ list) =
-    if is_unknown table (principal_of a) then Some place else unknown_from table (place + 1) list
-
 -- the place of the first ACE that names a user or a group without an id
 abbrev pub first_unknown : Table → List Ace → Option ℕ
-first_unknown table list = unknown_from table 0 list
+first_unknown table list = position (λ a. is_unknown table (principal_of a)) list
 
 -- what a refusal says: the first ACE without an id, or that each has one and memory ran out
 abbrev pub IsIdsFault : Table → List Ace → IdsFault → Type 0

@@ -37,6 +37,7 @@ impl From<AllocError> for IdsFault {
 }
 
 /// Returns the place of the first ACE that names a user or a group without an id.
+#[tactic(auto, using(crate::proofs::IdNames::position_from_start))]
 pub fn first_unknown(list: &AclView<'_>, names: &Names) -> Option<usize>
     ensures unknown { result ≡ first_unknown names.now list.now }
     ensures known { result ≡ None → HaveIds names.now list.now }

@@ -1,7 +1,8 @@
 -- The first fault of bytes that should be a list of any ACEs: the fields of such a list, and the first one that is
 -- wrong. They are the fields of `Fields`, except that every type of RFC 8881, section 6.2.1.1, and every special
 -- identifier is accepted.
-use Rattle.std.specs.Prelude.{◌≡◌, ℕ, ◌+◌, ◌<◌, List, [], ◌∷◌, ◌++◌, length, replicate, Result, Ok, Err, if◌then◌else◌, nat_lt, option_map, count_ones, ◌⊎◌}
+use Rattle.std.specs.Prelude.{◌≡◌, ℕ, ◌<◌, List, [], ◌∷◌, ◌++◌, length, replicate, sum_by, take, Result, Ok, Err, if◌then◌else◌, nat_lt, option_map, count_ones, ◌⊎◌}
+use Rattle.std.specs.List.{enumerate_from, flat_map}
 use Rattle.acl_perm.specs.Profile.{Profile}
 use Rattle.acl_nfs4.specs.AccessPart.{AnyAce, AnyXdr, Part}
 use Rattle.acl_nfs4.specs.Fields.{count_of, flags_of, mask_of, padding_of, unless, who_len_of, who_reason}
@@ -28,14 +29,14 @@ ace_fields p weight a = number_field type_of a.type_number ∷ number_field (fla
     ∷ number_field (mask_of p weight) a.mask ∷ number_field who_len_of (length a.who) ∷ bytes_field any_who_of a.who
     ∷ bytes_field padding_of (replicate (pad_len (length a.who)) 0) ∷ []
 
--- the fields of ACEs after ACEs of this weight
-abbrev pub fields_of_aces : Profile → ℕ → List AnyAce → List (Field Reason)
-fields_of_aces p weight [] = []
-fields_of_aces p weight (a ∷ list) = ace_fields p weight a ++ fields_of_aces p (weight + count_ones a.mask) list
+-- the number of mask bits that are set, over ACEs
+abbrev pub weight_of_any : List AnyAce → ℕ
+weight_of_any list = sum_by (λ a. count_ones a.mask) list
 
--- the fields of a list: the number of its ACEs, and those of the ACEs
+-- the fields of a list: the number of its ACEs, and those of each ACE, after the ACEs before it
 abbrev pub fields_of_list : Profile → List AnyAce → List (Field Reason)
-fields_of_list p list = number_field count_of (length list) ∷ fields_of_aces p 0 list
+fields_of_list p list = number_field count_of (length list)
+    ∷ flat_map (λ q. ace_fields p (weight_of_any (take q.0 list)) q.1) (enumerate_from 0 list)
 
 -- what is wrong with bytes that should be a list of any ACEs and nothing more, and where: the first wrong field of a
 -- list, or the first byte after a list

@@ -1,8 +1,13 @@
 //! What the crates of this repository share. It is no promise to other users, and may change or go without notice.
 
+pub use crate::comparison::columns::{Column, placings};
 pub use crate::comparison::direction::Direction;
 pub use crate::comparison::first_difference::{searched, searched_among};
+pub use crate::comparison::inversions::denied_before;
+pub use crate::comparison::mentioned_principals::{Mentions, mentioned};
+pub use crate::comparison::placing::{First, Placing, Whom};
 pub use crate::normal_form::SHORT;
+pub use crate::principal_class::Class;
 pub use crate::reduce::collected::collect;
 pub use crate::reduce::reduced_list;
 pub use crate::rows::remaining::Reduced;

@@ -7,7 +7,7 @@ use acl_perm::Principal;
 /// The class of a principal. Two different users never overlap; a principal of the other class overlaps with every
 /// principal.
 #[derive(Clone, Copy)]
-pub(crate) enum Class {
+pub enum Class {
     /// A user by name.
     Users,
     /// The owner, the owning group, a group by name, or everyone.
@@ -32,7 +32,8 @@ impl Class {
         if users { Class::Users } else { Class::Others }
     }
 
-    pub(crate) fn is_users(self) -> bool
+    /// Returns whether it is the class of users.
+    pub fn is_users(self) -> bool
         ensures { result ≡ is_users self }
     {
         match self {

@@ -35,9 +35,9 @@ pub record IsRequestNumber (list : List Ace) (s : Situation) (mask number : ℕ)
   pub holds : IsRequestAnswer list s mask answer
   pub is : number ≡ request_number answer
 
--- Of the rights of the mask: an ALLOW decides the allowed ones, whatever the unknown names match; no assignment of
--- matches grants the denied ones, and some assignment lets a DENY decide; some assignment grants the unknown ones, and
--- another does not. The last field is the answer to the whole request.
+-- Of the rights of the mask: an ALLOW decides the allowed ones, whatever the unknown identifiers match; no assignment
+-- of matches grants the denied ones, and some assignment lets a DENY decide; some assignment grants the unknown ones,
+-- and another does not. The last field is the answer to the whole request.
 pub record ArePossibleIn (list : List Ace) (s : Situation) (mask : ℕ) (found : RawPossible) : Type 0 where
   pub allowed : (bit : ℕ) → IsTrue (has_bit found.allowed bit)
       ↔ (IsTrue (has_bit mask bit) × AlwaysAnswers list s bit (Some Allow))

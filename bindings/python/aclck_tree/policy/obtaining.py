@@ -12,7 +12,7 @@ from aclck import mask_text
 
 from aclck_tree.answer.ask import Answers, Asker, want_of
 from aclck_tree.answer.bits import bits_of
-from aclck_tree.answer.lists import AskableList, RefusedList
+from aclck_tree.answer.lists import AskableList, Kind, RefusedList
 from aclck_tree.answer.obtain import Obtaining, Place
 from aclck_tree.answer.steps import Stepping, Way
 from aclck_tree.output.text import ObjectName, quoted
@@ -54,7 +54,7 @@ class ObtainingJudge:
         self._obtaining = Obtaining(self._asker, want_of("w"), False)
         self._stepping = Stepping(self._asker, self._obtaining)
         self._own: Dict[Tuple[int, int], Answers] = {}
-        self._within: Dict[Tuple[int, int, int, int], List[_Within]] = {}
+        self._within: Dict[Tuple[int, Kind, int, int, int], List[_Within]] = {}
 
     def places(self) -> Iterator[Place]:
         """Yields the place of each object, in the order of `Snapshot.objects`."""
@@ -85,7 +85,7 @@ class ObtainingJudge:
     def _granted(self, face: Face, asked: AskableList, limit: Limit, rights: int) -> List[_Within]:
         """Returns whom a bound grants each of some rights on the objects of a face. Raises ValueError if a name of the
         owner or the group cannot be in a list."""
-        key = (id(limit), face.tree, face.uid, face.gid)
+        key = (id(limit), asked.kind, face.tree, face.uid, face.gid)  # `Limits` keeps the limit
         if key not in self._within:
             owner, group = self._asker.owner_and_group(face, asked.kind)
             bound = limit.acl.resolved(owner=owner, group=group)

@@ -8,7 +8,7 @@ use Rattle.acl_normal.proofs.unique.FirstKind.{clique_of, cliques_relate}
 use Rattle.acl_normal.proofs.unique.ListColumns.{names_in_column}
 use Rattle.acl_normal.proofs.unique.Names.{longest_name, principal_eq_itself, principal_eq_same}
 use Rattle.acl_normal.proofs.unique.Realised.{everyone_moved, first_kind_alike, one_user, small_is_situation, small_matches}
-use Rattle.acl_contain.specs.internal.Restriction.{Stays, is_hit, is_reached}
+use Rattle.acl_contain.specs.internal.Restriction.{Stays, is_denied_before, is_hit}
 
 -- whoever gets the bit from one column gets it from the other
 abbrev pub AtMost : Column → Column → Type 0
@@ -101,7 +101,7 @@ passing_at_most c d pass s valid = cliques_relate (λ k l. is_allow k ≡ true �
     (passes_one (λ v. list_all (pair_passes c d v) (all_of c d)) (all_of c d) p pass first) second))
 
 -- what two overlapping principals get from one column they get from the other, if whoever gets it does so
-pair_at_most : (c d : Column) (p q : Principal) → AtMost c d → HasName p → HasName q → may_overlap p q ≡ true
+pub pair_at_most : (c d : Column) (p q : Principal) → AtMost c d → HasName p → HasName q → may_overlap p q ≡ true
     → is_allow (verdict (is_either_or_everyone p q) c) ≡ true
     → is_allow (verdict (is_either_or_everyone p q) d) ≡ true
 pair_at_most c d p q most named other overlap granted =
@@ -148,33 +148,44 @@ turn (a ∷ list) bit zero = if has_bit a.mask bit && takes_part a then (princip
 turn (a ∷ list) bit (suc place) = if kind_eq a.kind Deny && (has_bit a.mask bit && takes_part a)
     then (principal_of a, Deny) ∷ turn list bit place else turn list bit place
 
--- whoever gets the bit from that column reaches the ACE, and the other way round
-turn_is : (list : List Ace) (s : Situation) (bit place : ℕ)
-    → is_allow (verdict (matches s) (turn list bit place)) ≡ is_reached list bit place s
-turn_is [] s bit place = no_rights bit
+-- a test gets the bit from that column if and only if it hits the ACE and no DENY before it
+pub turn_by : (list : List Ace) (test : Principal → Bool) (bit place : ℕ)
+    → is_allow (verdict test (turn list bit place))
+    ≡ (is_hit test bit (slice_index_or list place no_ace) && not (is_denied_before test bit list place))
+turn_by [] test bit place = no_rights bit
   where
-    no_rights : (bit : ℕ) → false ≡ is_reached [] bit place s
+    no_rights : (bit : ℕ) → false ≡ (is_hit test bit no_ace && not (is_denied_before test bit [] place))
     no_rights bit = rw (no_bit bit) refl
-turn_is (a ∷ list) s bit zero = here (has_bit a.mask bit && takes_part a) refl (matches s (principal_of a)) refl
+turn_by (a ∷ list) test bit zero = here (has_bit a.mask bit && takes_part a) refl (test (principal_of a)) refl
   where
-    here : (t : Bool) → (has_bit a.mask bit && takes_part a) ≡ t → (m : Bool) → matches s (principal_of a) ≡ m
-        → is_allow (verdict (matches s) (turn (a ∷ list) bit zero)) ≡ is_reached (a ∷ list) bit zero s
+    here : (t : Bool) → (has_bit a.mask bit && takes_part a) ≡ t → (m : Bool) → test (principal_of a) ≡ m
+        → is_allow (verdict test (turn (a ∷ list) bit zero))
+        ≡ (is_hit test bit a && not (is_denied_before test bit (a ∷ list) zero))
     here true counts true match = rw (counts, match) refl
     here true counts false match = rw (counts, match) refl
     here false counts m match = rw counts refl
-turn_is (a ∷ list) s bit (suc place) =
-    behind (kind_eq a.kind Deny) refl (has_bit a.mask bit && takes_part a) refl (matches s (principal_of a)) refl
-    (turn_is list s bit place)
+turn_by (a ∷ list) test bit (suc place) =
+    behind (kind_eq a.kind Deny) refl (has_bit a.mask bit && takes_part a) refl (test (principal_of a)) refl
+    (turn_by list test bit place)
   where
     behind : (k : Bool) → kind_eq a.kind Deny ≡ k → (t : Bool) → (has_bit a.mask bit && takes_part a) ≡ t
-        → (m : Bool) → matches s (principal_of a) ≡ m
-        → is_allow (verdict (matches s) (turn list bit place)) ≡ is_reached list bit place s
-        → is_allow (verdict (matches s) (turn (a ∷ list) bit (suc place))) ≡ is_reached (a ∷ list) bit (suc place) s
+        → (m : Bool) → test (principal_of a) ≡ m
+        → is_allow (verdict test (turn list bit place))
+        ≡ (is_hit test bit (slice_index_or list place no_ace) && not (is_denied_before test bit list place))
+        → is_allow (verdict test (turn (a ∷ list) bit (suc place)))
+        ≡ (is_hit test bit (slice_index_or list place no_ace)
+        && not (is_denied_before test bit (a ∷ list) (suc place)))
     behind true deny true counts true match rest = rw (deny, counts, match)
-        (sym (and_false_right (is_hit (matches s) bit (slice_index_or list place no_ace))))
+        (sym (and_false_right (is_hit test bit (slice_index_or list place no_ace))))
     behind true deny true counts false match rest = rw (deny, counts, match) rest
     behind true deny false counts m match rest = rw (deny, counts) rest
     behind false allow t counts m match rest = rw allow rest
+
+-- who gets what stays from the column of an ACE and the DENYs before it gets it from the column of the bound
+pub stays_at_most : (list bound : List Ace) (bit place : ℕ) → Stays list bound bit place
+    → AtMost (turn list bit place) (column bound bit)
+stays_at_most list bound bit place kept s valid granted =
+    kept s valid (sym (turn_by list (matches s) bit place) ∙ granted)
 
 -- its principals have names that a situation may have, if those of the list do
 turn_named : (list : List Ace) (bit place : ℕ) → HasNames list → HaveNames (turn list bit place)
@@ -192,11 +203,11 @@ stays list bound bit place = all_pass (turn list bit place) (column bound bit)
 pub stays_holds : (list bound : List Ace) (bit place : ℕ) → stays list bound bit place ≡ true
     → Stays list bound bit place
 stays_holds list bound bit place pass s valid reached =
-    passing_at_most (turn list bit place) (column bound bit) pass s valid (turn_is list s bit place ∙ reached)
+    passing_at_most (turn list bit place) (column bound bit) pass s valid (turn_by list (matches s) bit place ∙ reached)
 
 -- what stays, stays by the pairs
 pub stays_found : (list bound : List Ace) (bit place : ℕ) → HasNames list → HasNames bound
     → Stays list bound bit place → stays list bound bit place ≡ true
 stays_found list bound bit place named other kept =
     at_most_passes (turn list bit place) (column bound bit) (turn_named list bit place named)
-    (names_in_column bit bound other) (λ s valid granted. kept s valid (sym (turn_is list s bit place) ∙ granted))
+    (names_in_column bit bound other) (stays_at_most list bound bit place kept)

@@ -1,7 +1,7 @@
 //! The tables of this crate in ample memory, where a check may not answer that memory ran out, as it may in the file of
 //! its subject. That file has the expected values and says where they are from.
 
-use super::{equal_lists, excesses, holder_words, implications, needed_rights};
+use super::{equal_lists, excesses, holder_words, implications, needed_rights, restrictions};
 use acl_nfs4::PushFault;
 
 #[test]
@@ -11,5 +11,6 @@ fn every_row_of_the_tables_holds_if_memory_is_ample(rt: HostRuntime) -> Result<(
     excesses::worked_excesses(&rt, alloc)?;
     holder_words::holder_words(&rt, alloc)?;
     implications::worked_implications(&rt, alloc)?;
-    needed_rights::needed_rights(&rt, alloc)
+    needed_rights::needed_rights(&rt, alloc)?;
+    restrictions::worked_restrictions(&rt, alloc)
 }

@@ -11,6 +11,27 @@ mod ample {
     use super::*;
 
     #[test]
+    fn amy_does_not_keep_what_the_bound_denies_her(rt: HostRuntime) -> Result<(), Fail> {
+        let alloc = rt.alloc();
+        let list = parse_text(
+            alloc,
+            b"ALLOW - READ_DATA|WRITE_DATA amy\nALLOW - READ_DATA EVERYONE@\n",
+        )?;
+        let bound = parse_text(
+            alloc,
+            b"DENY - WRITE_DATA amy\nALLOW - READ_DATA|WRITE_DATA EVERYONE@\n",
+        )?;
+        let kept = restricted(alloc, &list, &bound)?;
+        assert!(rt;
+            kept == parse_text(
+                alloc,
+                b"ALLOW - READ_DATA amy\nALLOW - READ_DATA EVERYONE@\n"
+            )?
+        );
+        Ok(())
+    }
+
+    #[test]
     fn a_deny_of_a_user_whom_no_ace_allows_changes_nothing(rt: HostRuntime) -> Result<(), Fail> {
         let alloc = rt.alloc();
         let first = parse_text(alloc, b"DENY - WRITE_DATA bob\nALLOW - READ_DATA OWNER@\n")?;

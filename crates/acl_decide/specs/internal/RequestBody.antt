@@ -25,11 +25,11 @@ all_but out who = not (out who)
 abbrev pub LeavesOut : Assignment → (List ℕ → Bool) → Type 0
 LeavesOut v out = (who : List ℕ) → out who ≡ true → v who ≡ false
 
--- the ACE has an unknown name that is not out
+-- the ACE has an unknown identifier that is not out
 abbrev pub is_open_name : (List ℕ → Bool) → Ace → Bool
 is_open_name out a = is_unknown_special a.who && not (out a.who)
 
--- how many ACEs have an unknown name that is not out
+-- how many ACEs have an unknown identifier that is not out
 abbrev pub open_names : (List ℕ → Bool) → List Ace → ℕ
 open_names out list = length (filter (is_open_name out) list)
 
@@ -65,8 +65,8 @@ Says aces out Reaches (Against who) = ((more : List ℕ → Bool) → IsOneMore 
 abbrev pub applies_but : (List ℕ → Bool) → Situation → Ace → Bool
 applies_but out s a = takes_part a && matches_under (all_but out) s a
 
--- what an ACE says that decides a right: an ALLOW grants it, a DENY of a known name denies, and an unknown name that
--- denies must not match
+-- what an ACE says that decides a right: an ALLOW grants it, a DENY of a known name denies, and an unknown identifier
+-- that denies must not match
 abbrev pub SaysAce : Ace → Verdict → Type 0
 SaysAce a Granted = a.kind ≡ Allow
 SaysAce a Denied = (a.kind ≡ Deny) × (is_unknown_special a.who ≡ false)

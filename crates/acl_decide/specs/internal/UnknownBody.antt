@@ -32,7 +32,7 @@ is_answer (Some Deny) (Some Deny) = true
 abbrev pub had : List Ace → ℕ → List ℕ → Bool
 had earlier bit who = list_any (λ a. bytes_eq a.who who && has_bit a.mask bit) earlier
 
--- the ACEs of unknown names that take part, so far
+-- the ACEs of unknown identifiers that take part, so far
 abbrev pub noting : List Ace → Ace → List Ace
 noting earlier a = if is_unknown_special a.who && takes_part a then earlier ++ a ∷ [] else earlier
 
@@ -44,8 +44,8 @@ noted_rights names who = option_map_or (λ mask. mask.bits) (get_by (λ k. slice
 abbrev pub HaveNoted : BTreeMap (Bor (List ℕ)) Mask → List Ace → Type 0
 HaveNoted names earlier = (bit : ℕ) (who : List ℕ) → has_bit (noted_rights names who) bit ≡ had earlier bit who
 
--- whether the answer is possible for the bit: the first ACE of an unknown name that has the bit may decide or not, a
--- later one cannot, and any other ACE that matches decides
+-- whether the answer is possible for the bit: the first ACE of an unknown identifier that has the bit may decide or
+-- not, a later one cannot, and any other ACE that matches decides
 unfoldable pub can_answer : List Ace → List Ace → Situation → ℕ → Option Kind → Bool
 can_answer earlier [] s bit answer = is_answer None answer
 can_answer earlier (a ∷ list) s bit answer =

@@ -1,14 +1,16 @@
 -- An ACE of any type as the code holds it (this library's own). No public clause cites it.
 use Rattle.std.specs.Prelude.{◌≡◌, ◌⊎◌, ◌+◌, ◌<◌, ◌≤◌, ℕ, List, Result, Ok, Err, count_ones, true}
+use Rattle.std.specs.List.{enumerate_from, flat_map}
 use Rattle.acl_nfs4.specs.AccessPart.{AnyAce, IsAnyWho}
 use Rattle.acl_nfs4.specs.Limits.{most_aces, most_weight}
 use Rattle.acl_nfs4.specs.Who.{is_unknown_special}
 use Rattle.acl_nfs4.specs.internal.Reading.{Place}
-use Rattle.acl_forms.specs.Part.{IsPartWith, PlacedAce, kept, left_out}
+use Rattle.acl_forms.specs.Part.{IsPartWith, PlacedAce, kept, left_out, noted_if, reason_of}
 use Rattle.acl_forms.specs.PartWords.{AceReader, ace_by_name, ace_by_number, special_identifier}
 use Rattle.acl_forms.specs.ReadFaults.{no_memory_left}
 use Rattle.acl_forms.specs.declared.fault.ReadFault.{ReadFault}
 use Rattle.acl_forms.specs.declared.part.Part.{Part}
+use Rattle.acl_forms.specs.declared.part.left_out.LeftOut.{LeftOut}
 use Rattle.acl_forms.specs.declared.part.any_ace.AnyAceRef.{AnyAceRef}
 use Rattle.acl_forms.specs.declared.part.any_ace.AnyWho.{AnyWho}
 use Rattle.acl_forms.specs.declared.part.any_ace.AnyWho.TheVariants.{Known, Name, Special}
@@ -39,6 +41,11 @@ HasAnyName (Special n) = is_unknown_special (special_identifier n) ≡ true
 abbrev pub any_entry : AnyEntry → AnyAce
 any_entry a =
     record { type_number = a.type_number; flags = a.flags.bits; mask = a.mask.bits; who = entry_name a.who }
+
+-- the ACEs that are left out, in order, if the first ACE of the list has this number
+abbrev pub left_out_from : ℕ → List PlacedAce → List LeftOut
+left_out_from place list =
+    flat_map (λ p. noted_if p.0 p.1.offset (reason_of p.1.ace)) (enumerate_from place list)
 
 -- a list of this many ACEs of this weight can take one more, which has a name
 pub record IsWithinLimits (count weight : ℕ) (a : AnyAceRef) : Type 0 where

@@ -8,7 +8,7 @@ ghost use Rattle.acl_nfs4.specs.Limits.{longest_who, most_aces};
 ghost use Rattle.acl_forms.specs.Acl41Ids.{id_of_digits};
 ghost use Rattle.acl_forms.specs.FormWrites.{WritesIfHeld};
 ghost use Rattle.acl_forms.specs.Letters.{nfs_flag_letters, nfs_right_letters};
-ghost use Rattle.acl_forms.specs.NfsWritten.{account_word, id_after, is_cut_who, is_id_cut, is_other_id, kind_word, nfs_ace_fault, nfs_entry_text, nfs_fault_from, nfs_text, nfs_text_fault, principal_text, special_word};
+ghost use Rattle.acl_forms.specs.NfsWritten.{account_word, id_after, is_cut_who, is_id_cut, is_other_id, kind_word, nfs_ace_fault, nfs_entry_text, nfs_text, nfs_text_fault, principal_text, special_word};
 ghost use Rattle.acl_forms.specs.ToolsWritten.{letters_of};
 ghost use Rattle.acl_forms.specs.internal.TextWriting.{id_room, longest_special_word, longest_word, text_line_room};
 
@@ -73,6 +73,7 @@ pub fn nfs_text_fault(list: &AclView<'_>) -> Option<FormFault>
 }
 
 // Returns the first ACE that the form cannot hold.
+#[tactic(auto, using(crate::proofs::FormLemmas::fault_from_start))]
 fn first_fault(aces: Aces<'_>) -> Option<FormFault>
     requires { length aces ≤ most_aces }
     ensures { result ≡ nfs_text_fault aces.entry }

@@ -12,7 +12,8 @@ ghost use Rattle.acl_posix.specs.internal.Digits.{most_digits};
 ghost use Rattle.acl_posix.specs.Texts.{long_word, qualifier_text};
 ghost use Rattle.acl_forms.specs.FormWrites.{WritesIfHeld};
 ghost use Rattle.acl_forms.specs.PosixNames.{tag_name};
-ghost use Rattle.acl_forms.specs.PosixWritten.{comma_before, entries_text, id_field, id_reason_of, is_cut_name, is_name_separator, longest_name, name_reason, named_reason, pieces_if, posix_fault_from, posix_piece, posix_text, posix_text_fault, styled, three_fields, written_qualifier};
+ghost use Rattle.acl_forms.specs.FirstFault.{first_fault};
+ghost use Rattle.acl_forms.specs.PosixWritten.{comma_before, entries_text, posix_entry_fault, id_field, id_reason_of, is_cut_name, is_name_separator, longest_name, name_reason, named_reason, pieces_if, posix_piece, posix_text, posix_text_fault, styled, three_fields, written_qualifier};
 ghost use Rattle.acl_forms.specs.internal.AttributeEntries.{most_entries};
 ghost use Rattle.acl_forms.specs.internal.PosixWriting.{chosen, named_room, piece_if, IsShortName};
 ghost use Rattle.acl_forms.specs.internal.TextWriting.{id_room, longest_word, perm_letters, text_line_room};
@@ -81,8 +82,9 @@ pub fn posix_text_fault(acl: &PosixAcl, names: &IdNames, style: TarStyle) -> Opt
 }
 
 // Returns the first entry that the text cannot hold.
+#[tactic(auto, using(crate::proofs::FormLemmas::fault_from_start))]
 fn first_fault(entries: &[Entry], names: &IdNames, style: TarStyle) -> Option<FormFault>
-    ensures { result ≡ posix_fault_from names.now style 0 (pairs entries.now) }
+    ensures { result ≡ first_fault (posix_entry_fault names.now style) (pairs entries.now) }
 {
     for (place, entry) in entries.iter().enumerate() {
         if let Some(reason) = entry_reason(entry.tag, names, style) {
@@ -155,7 +157,7 @@ fn put_text<K: Sink>(
     sink: &mut K,
 ) -> Result<u64, WriteFault>
     requires few { length entries.now ≤ most_entries }
-    requires held { posix_fault_from names.now style 0 (pairs entries.now) ≡ None }
+    requires held { first_fault (posix_entry_fault names.now style) (pairs entries.now) ≡ None }
     ensures written { WritesFrom (K.contents sink.old) (K.contents sink.new) 0
         (entries_text names.now style (pairs entries.now)) result }
     ensures none_failed { OnOk result (K.failure_count sink.new ≡ K.failure_count sink.old) }
@@ -181,7 +183,7 @@ fn put_pass<K: Sink>(
 ) -> Result<u64, WriteFault>
     requires few { length entries.now ≤ most_entries }
     requires start { start ≤ text_line_room * most_entries }
-    requires held { posix_fault_from names.now style 0 (pairs entries.now) ≡ None }
+    requires held { first_fault (posix_entry_fault names.now style) (pairs entries.now) ≡ None }
     ensures written { WritesFrom (K.contents sink.old) (K.contents sink.new) start
         (pieces_if names.now style (chosen pass) (pairs entries.now)) result }
     ensures none_failed { OnOk result (K.failure_count sink.new ≡ K.failure_count sink.old) }

@@ -4,8 +4,9 @@ ghost use Rattle.std.specs.List.{list_any};
 ghost use Rattle.arrayvec.specs.ArrayVec.{array_vec_len};
 ghost use Rattle.acl_nfs4.specs.Ace.{ace};
 ghost use Rattle.acl_nfs4.specs.Limits.{longest_who, most_aces};
+ghost use Rattle.acl_forms.specs.internal.FaultSearch.{tools_fault_from};
 ghost use Rattle.acl_forms.specs.FormWrites.{WritesIfHeld};
-ghost use Rattle.acl_forms.specs.ToolsWritten.{as_written, is_for_directories, is_separator, kind_letter, letters_of, tools_ace_fault, tools_entry_text, tools_fault, tools_fault_from, tools_line, tools_text};
+ghost use Rattle.acl_forms.specs.ToolsWritten.{as_written, is_for_directories, is_separator, kind_letter, letters_of, tools_ace_fault, tools_entry_text, tools_fault, tools_line, tools_text};
 ghost use Rattle.acl_forms.specs.internal.TextWriting.{text_line_room};
 
 use crate::fault::{FormFault, FormReason};

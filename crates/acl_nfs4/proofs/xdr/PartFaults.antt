@@ -1,8 +1,11 @@
 -- Bytes are refused as a part if and only if they have the fault, and with that fault.
-use Rattle.acl_nfs4.proofs.Common.{[], ap, append_assoc, arith, Bool, cases_lt, cond, count_of, count_ones, eq-eqb, eqb, eqb-true, Err, false, Fault, fault_at, field, flags_of, flat_map, IfErr, inl, inr, IsBytes, IsProfile, length, length-append, length-replicate, List, mask_of, None, number, Ok, pad_len, padding_of, Place, Profile, Reason, refl, replicate, Result, subst, suc, sym, TrailingBytes, true, Truncated, who_len_of, word, word_field, zero, ℕ, ◌++◌, ◌+◌, ◌<◌, ◌>>=◌, ◌^◌, ◌∙◌, ◌∷◌, ◌≡◌, ◌⊎◌}
+use Rattle.acl_nfs4.proofs.Common.{[], ap, append_assoc, arith, Bool, cases_lt, cond, count_of, count_ones, eq-eqb, eqb, eqb-true, Err, false, Fault, fault_at, field, flags_of, flat_map, IfErr, inl, inr, IsBytes, IsProfile, length, length-append, length-replicate, List, mask_of, None, number, Ok, pad_len, padding_of, Place, Profile, Reason, refl, replicate, Result, subst, suc, sym, take, TrailingBytes, true, Truncated, who_len_of, word, word_field, zero, ℕ, ◌++◌, ◌+◌, ◌<◌, ◌>>=◌, ◌^◌, ◌∙◌, ◌∷◌, ◌≡◌, ◌⊎◌}
+use Rattle.std.proofs.Math.Seq.{take-append_seam}
+use Rattle.std.proofs.lemmas.List.Sums.{sum_by_push}
+use Rattle.std.specs.List.{enumerate_from}
 use Rattle.acl_nfs4.specs.AccessPart.{any_piece, AnyAce, AnyXdr, Part}
 use Rattle.acl_nfs4.specs.Layout.{bytes_field, Field, IsFirstWrongField, number_field, refusal}
-use Rattle.acl_nfs4.specs.PartFault.{ace_fields, any_who_of, FaultsOrMemory, fields_of_aces, fields_of_list, IsFaultOfPart, IsAnyListFault, type_of}
+use Rattle.acl_nfs4.specs.PartFault.{ace_fields, weight_of_any, any_who_of, FaultsOrMemory, fields_of_list, IsFaultOfPart, IsAnyListFault, type_of}
 use Rattle.acl_nfs4.specs.PartFault.IsAnyListFault.{after_list, of_field}
 use Rattle.acl_nfs4.specs.Stream.{no_memory}
 use Rattle.acl_nfs4.specs.internal.PartReading.{at_end, PartReadAs, with_ace}
@@ -19,6 +22,36 @@ use Rattle.acl_nfs4.proofs.xdr.Resume.{bind-err}
 -- no value is a fault
 no_fault : {A : Type 0} (x : A) (f : Fault) → ok {A = A} {E = Fault} x ≡ Err f → ⊥
 no_fault x f e = cc
+
+-- ---- the fields of a list, ACE by ACE
+
+-- the fields of ACEs after ACEs of this weight
+abbrev fields_of_aces : Profile → ℕ → List AnyAce → List (Field Reason)
+fields_of_aces p weight [] = []
+fields_of_aces p weight (a ∷ list) = ace_fields p weight a ++ fields_of_aces p (weight + count_ones a.mask) list
+
+-- the fields of ACEs after others
+fields_after : (p : Profile) (before list : List AnyAce) (weight n : ℕ) → weight ≡ weight_of_any before
+    → n ≡ length before → fields_of_aces p weight list
+    ≡ flat_map (λ q. ace_fields p (weight_of_any (take q.0 (before ++ list))) q.1) (enumerate_from n list)
+fields_after p before [] weight n light long = refl
+fields_after p before (a ∷ list) weight n light long =
+    let whole : (before ++ a ∷ []) ++ list ≡ before ++ a ∷ list = append_assoc before (a ∷ []) list in
+    let here : take n (before ++ a ∷ list) ≡ before =
+    ap (λ k. take k (before ++ a ∷ list)) long ∙ take-append_seam before (a ∷ list) in
+    let next = fields_after p (before ++ a ∷ []) list (weight + count_ones a.mask) (n + 1)
+    (ap (λ k. k + count_ones a.mask) light ∙ sym (sum_by_push (λ (b : AnyAce). count_ones b.mask) before a))
+    (omega (arith, long, length-append before (a ∷ []))) in
+    ap (λ k. ace_fields p k a ++ fields_of_aces p (weight + count_ones a.mask) list) (light ∙ sym (ap weight_of_any here))
+    ∙ ap (λ (l : List (Field Reason)). ace_fields p (weight_of_any (take n (before ++ a ∷ list))) a ++ l)
+    (next ∙ ap (λ (w : List AnyAce). flat_map (λ q. ace_fields p (weight_of_any (take q.0 w)) q.1)
+    (enumerate_from (n + 1) list)) whole)
+
+-- the fields of a list are the number of its ACEs and their fields
+list_fields : (p : Profile) (list : List AnyAce)
+    → number_field count_of (length list) ∷ fields_of_aces p 0 list ≡ fields_of_list p list
+list_fields p list = ap (λ (l : List (Field Reason)). number_field count_of (length list) ∷ l)
+    (fields_after p [] list 0 0 refl refl)
 
 -- ---- a fault that reading returns is that of the first wrong field
 
@@ -170,8 +203,10 @@ no_ace = record { kept = []; left_out = 0 }
 
 -- the fault of a field of a list is the fault of the bytes
 of_list : (profile : Profile) (bytes : List ℕ) (f : Fault) (list : List AnyAce)
-    → FailsIn (fields_of_list profile list) 0 bytes f → IsFaultOfPart profile bytes f
-of_list profile bytes f list fails =
+    → FailsIn (number_field count_of (length list) ∷ fields_of_aces profile 0 list) 0 bytes f
+    → IsFaultOfPart profile bytes f
+of_list profile bytes f list found =
+    let fails = subst (λ (xs : List (Field Reason)). FailsIn xs 0 bytes f) (list_fields profile list) found in
     let same : fails.more ≡ f.offset = omega (arith, fails.here) in
     subst (λ (k : ℕ). IsAnyListFault profile bytes k f.reason) same (of_field list fails.more f.reason fails.wrong)
 
@@ -328,7 +363,9 @@ fault_read profile bytes _ _ is (of_field list offset r first) =
     let n : ℕ = length list in
     sym (ok_last (part_in profile bytes))
     ∙ step_fails 4 (λ b. count_of (number b)) _ (λ x. Ok x) n (number_field count_of n) (fields_of_aces profile 0 list)
-    0 bytes offset r refl (λ b. refl) (count_means n) first (λ rest more later.
+    0 bytes offset r refl (λ b. refl) (count_means n)
+    (subst (λ (xs : List (Field Reason)). IsFirstWrongField Truncated xs bytes offset r)
+    (sym (list_fields profile list)) first) (λ rest more later.
     bind-err (λ x. Ok x) (bind-err at_end (aces_read profile list 0 4 no_ace rest more r is later)))
     ∙ ap (λ (k : ℕ). Err (record { offset = k; reason = r })) (omega arith)
   where

@@ -1,9 +1,12 @@
 -- The greatest places of the placings that count, and whether one is over a number.
-use Rattle.acl_normal.proofs.Common.{Bool, List, Placing, [], ap, arith, cond, false, le-ltb, max, nat_lt, ne_eqb, not, refl, ℕ, ◌&&◌, ◌++◌, ◌+◌, ◌==◌, ◌||◌, ◌∙◌, ◌∷◌, ◌≡◌}
+use Rattle.acl_normal.proofs.Common.{Allow, Bool, List, Placing, [], ap, arith, cond, false, le-ltb, max, nat_lt, ne_eqb, not, refl, ℕ, ◌&&◌, ◌++◌, ◌+◌, ◌==◌, ◌||◌, ◌∙◌, ◌∷◌, ◌≡◌}
 use Rattle.std.proofs.lemmas.Bool.Decides.{nat_tests}
-use Rattle.acl_normal.specs.internal.comparison.PlaceTables.{is_opposing, most_at, most_before, other_place, place_of}
+use Rattle.acl_normal.specs.internal.comparison.PlaceTables.{is_denied_beside, is_opposing, most_at, most_before, most_denied, other_place, place_of, selection_of}
 use Rattle.acl_normal.specs.declared.comparison.inversions.Selection.{Selection}
 use Rattle.acl_normal.specs.declared.comparison.inversions.Side.{Side}
+use Rattle.acl_normal.specs.declared.comparison.inversions.Side.TheVariants.{There}
+use Rattle.acl_normal.specs.declared.comparison.direction.Direction.TheVariants.{Over}
+use Rattle.acl_normal.specs.declared.principal_class.Class.{Class}
 
 -- the greatest of two parts is the greater of theirs
 pub most_at-append : (q : Selection) (w : Side) (k : ℕ) (xs ys : List Placing)
@@ -55,3 +58,28 @@ over_is q w k v (r ∷ rows) =
     over_head (is_opposing q r) (nat_lt (place_of w r) k) v (other_place w r) (most_before q w k rows)
     ∙ ap (λ t. (is_opposing q r && (nat_lt (place_of w r) k && not (nat_lt (other_place w r) v))) || t)
     (over_is q w k v rows)
+
+-- ---- the principals that the second list denies
+
+-- some principal that the second list denies, and that may overlap with others of a class, is before k in the second
+-- list, and is not before v in the first list
+abbrev pub any_denied : Class → ℕ → ℕ → List Placing → Bool
+any_denied class k v [] = false
+any_denied class k v (r ∷ rows) =
+    (is_denied_beside class r && (nat_lt r.there.place k && not (nat_lt r.here.place v))) || any_denied class k v rows
+
+-- the greatest is over a number if and only if that of some principal is
+pub denied_over : (class : Class) (k v : ℕ) (rows : List Placing)
+    → nat_lt v (most_denied class k rows) ≡ any_denied class k v rows
+denied_over class k v [] = le-ltb v 0 (omega arith)
+denied_over class k v (r ∷ rows) =
+    over_head (is_denied_beside class r) (nat_lt r.there.place k) v r.here.place (most_denied class k rows)
+    ∙ ap (λ t. (is_denied_beside class r && (nat_lt r.there.place k && not (nat_lt r.here.place v))) || t)
+    (denied_over class k v rows)
+
+-- the greatest is that of the principals that a selection of ALLOWs opposes
+pub denied_is : (class : Class) (k : ℕ) (rows : List Placing)
+    → most_before (selection_of Over Allow class) There k rows ≡ most_denied class k rows
+denied_is class k [] = refl
+denied_is class k (r ∷ rows) =
+    ap (max (cond (is_denied_beside class r && nat_lt r.there.place k) (r.here.place + 1) 0)) (denied_is class k rows)

@@ -38,13 +38,13 @@ pair_granted (a ∷ xs) p q b =
     (granted_to-cons a xs (q ∷ []) b) (granted_to-cons a xs (p ∷ []) b))
 
 -- two users that may overlap are one user
-both_users : (p q : Principal) → is_user p ≡ true → is_user q ≡ true → may_overlap p q ≡ true → p ≡ q
+pub both_users : (p q : Principal) → is_user p ≡ true → is_user q ≡ true → may_overlap p q ≡ true → p ≡ q
 both_users (user a) (user b) h i o = ap user (bytes_eq_same a b o)
 both_users (user a) _ h i o = cc
 both_users _ q h i o = cc
 
 -- two principals overlap if one of them is no user
-not_both_users : (p q : Principal) → (is_user p && is_user q) ≡ false → may_overlap p q ≡ true
+pub not_both_users : (p q : Principal) → (is_user p && is_user q) ≡ false → may_overlap p q ≡ true
 not_both_users p q h = grind arith
 
 -- what is granted to a pair is what the first ACE with the earlier place says

@@ -1,5 +1,5 @@
 -- Rows of principals by counting.
-use Rattle.acl_normal.proofs.Common.{Ace, AreRowNumbers, Bool, List, Principal, [], ap, arith, cond, everyone, false, get_or-map, is_lt, length, length-map, map, map-append, principal, principal_cmp, principal_of, refl, row_of, slice_index_or, suc, sym, take, take_more, true, ℕ, ◌++◌, ◌+◌, ◌<◌, ◌∙◌, ◌∷◌, ◌≡◌, ◌≤◌, no_ace, subst}
+use Rattle.acl_normal.proofs.Common.{Ace, AreRowNumbers, Bool, List, Principal, [], ap, arith, cond, everyone, false, get_or-map, is_lt, length, length-map, map, map-append, principal, principal_cmp, principal_of, refl, row_of, slice_index_or, suc, sym, take, take_more, true, ℕ, ◌++◌, ◌+◌, ◌<◌, ◌∙◌, ◌∷◌, ◌≡◌, no_ace, subst}
 use Rattle.acl_normal.specs.declared.rows.heads.HeadedPrincipal.{HeadedPrincipal}
 use Rattle.acl_normal.specs.internal.rows.LowerCounts.{count_below, headed_names}
 use Rattle.acl_normal.proofs.rows.ByPlace.{key_at_index}

@@ -26,9 +26,9 @@ pub(crate) struct Columns<'a> {
 
 /// The ACEs of a list that have a right, in order, and which of the principals of the columns each of them names.
 #[derive(Drop)]
-pub(crate) struct Column<'a> {
-    pub(crate) aces: Vec<AceRef<'a>>,
-    pub(crate) whoms: Vec<Whom>,
+pub struct Column<'a> {
+    pub aces: Vec<AceRef<'a>>,
+    pub whoms: Vec<Whom>,
 }
 
 impl<'a> Columns<'a> {
@@ -42,18 +42,7 @@ impl<'a> Columns<'a> {
             (aces_in self.now.first.aces.items) (aces_in self.now.second.aces.items)
             right.bit v.items) }
     {
-        let named = self.principals.as_slice();
-        let here = self.first.firsts(alloc, named, right)?;
-        let there = self.second.firsts(alloc, named, right)?;
-        let mut placings = Vec::with_capacity(alloc, named.len())?;
-        for (i, p) in named.iter().enumerate() {
-            placings.push(Placing {
-                here: here[i],
-                there: there[i],
-                class: Class::of(*p),
-            })?;
-        }
-        Ok(placings)
+        placings(alloc, &self.principals, &self.first, &self.second, right)
     }
 
     /// Returns the number among all mentioned principals of the principal at a place, or `count` if the columns have no
@@ -96,6 +85,34 @@ impl<'a> Column<'a> {
             right,
         )
     }
+}
+
+/// Returns, for each of some principals, the first ACE with a right that concerns it in each of two columns.
+pub fn placings(
+    alloc: Global,
+    named: &[Principal<'_>],
+    first: &Column<'_>,
+    second: &Column<'_>,
+    right: Bit,
+) -> Result<Vec<Placing>, AllocError>
+    requires here { AreWhoms (principals named.now) (aces_in first.now.aces.items)
+        first.now.whoms.items }
+    requires there { AreWhoms (principals named.now) (aces_in second.now.aces.items)
+        second.now.whoms.items }
+    ensures { IfOk result (λ v. ArePlacings (principals named.now) (aces_in first.now.aces.items)
+        (aces_in second.now.aces.items) right.bit v.items) }
+{
+    let here = first.firsts(alloc, named, right)?;
+    let there = second.firsts(alloc, named, right)?;
+    let mut placings = Vec::with_capacity(alloc, named.len())?;
+    for (i, p) in named.iter().enumerate() {
+        placings.push(Placing {
+            here: here[i],
+            there: there[i],
+            class: Class::of(*p),
+        })?;
+    }
+    Ok(placings)
 }
 
 /// The numbers of the principals that have a right, rising; and by number, for each of these, its place among them.

@@ -2,7 +2,7 @@
 ghost use Rattle.std.specs.Prelude.{◌&&◌, ◌+◌, ◌<◌, ◌≡◌, ◌≤◌};
 ghost use Rattle.acl_normal.specs.Common.{AllByRecursion, IfOk, is_users, length, not, true, vec_len};
 ghost use Rattle.acl_normal.specs.internal.comparison.FirstPlaces.{IsFirstBelow, SameAlone, earlier_allows, inverts, inverts_any, is_unlike};
-ghost use Rattle.acl_normal.specs.internal.comparison.PlaceTables.{IsPlacingWithin, IsFirstOf, IsPlaceTable, Raises, has_kind, is_inverting, is_selected, other_place, place_of, wants};
+ghost use Rattle.acl_normal.specs.internal.comparison.PlaceTables.{IsDeniedTable, IsPlacingWithin, IsFirstOf, IsPlaceTable, Raises, has_kind, is_inverting, is_selected, other_place, place_of, wants};
 ghost use Rattle.acl_normal.specs.internal.Limits.{slice_limit};
 
 use super::direction::Direction;
@@ -140,6 +140,26 @@ fn table(
         table[k] = most;
     }
     Ok(table)
+}
+
+/// Returns, by place in the second list, one more than the greatest place in the first list of those principals that
+/// the second list denies the right before the place, and that may overlap with other principals of a class.
+pub fn denied_before(
+    alloc: Global,
+    placings: &[Placing],
+    size: usize,
+    class: Class,
+) -> Result<Vec<usize>, AllocError>
+    requires places { AllByRecursion (IsPlacingWithin size) placings.now }
+    requires size { size < slice_limit }
+    ensures { IfOk result (λ v. IsDeniedTable class size placings.now v.items) }
+{
+    let selection = Selection {
+        direction: Direction::Over,
+        kind: Kind::Allow,
+        class,
+    };
+    table(alloc, placings, size, selection, Side::There)
 }
 
 /// The list by whose places a table is indexed: the first or the second.

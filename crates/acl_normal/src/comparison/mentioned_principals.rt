@@ -23,7 +23,7 @@ struct MentionedNumbers<'a> {
 
 /// Returns whom two lists mention. If the second list names the same principals as the first near the same places, only
 /// the first list is sorted.
-pub(crate) fn mentioned<'a>(
+pub fn mentioned<'a>(
     alloc: Global,
     list: &[AceRef<'a>],
     other: &[AceRef<'a>],
@@ -153,9 +153,9 @@ fn whoms(
 /// The principals that two lists mention, in order, and which of them each ACE names: first the ACEs of the first list,
 /// and then those of the second.
 #[derive(Drop)]
-pub(crate) struct Mentions<'a> {
-    pub(crate) principals: Vec<Principal<'a>>,
-    pub(crate) whoms: Vec<Whom>,
+pub struct Mentions<'a> {
+    pub principals: Vec<Principal<'a>>,
+    pub whoms: Vec<Whom>,
 }
 
 // Whom an ACE names, if this is the number of its principal.

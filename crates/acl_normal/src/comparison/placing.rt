@@ -14,13 +14,14 @@ use std::alloc::{AllocError, Global};
 /// The place and the kind of the first ACE that has a right and concerns a principal: one that names the principal or
 /// everyone.
 #[derive(Clone, Copy)]
-pub(crate) struct First {
+pub struct First {
     pub place: usize,
     pub kind: Kind,
 }
 
 impl First {
-    pub(crate) fn allows(self) -> bool
+    /// Returns whether it is an ALLOW.
+    pub fn allows(self) -> bool
         ensures { result ≡ is_allow self.kind }
     {
         self.kind.is_allow()
@@ -29,7 +30,7 @@ impl First {
 
 /// The first ACE in each of two lists that concerns a principal, and the class of the principal.
 #[derive(Clone, Copy)]
-pub(crate) struct Placing {
+pub struct Placing {
     pub here: First,
     pub there: First,
     pub class: Class,
@@ -46,7 +47,7 @@ impl Placing {
 
 /// Whom an ACE names: nobody if it takes no part, one of the mentioned principals by its number, or everyone.
 #[derive(Clone, Copy)]
-pub(crate) enum Whom {
+pub enum Whom {
     Nobody,
     One(usize),
     Everyone,

@@ -19,8 +19,8 @@ use acl_nfs4::{AccessPart, Fault, Reason as ListReason};
 use acl_perm::Profile;
 use std::alloc::{AllocError, Global};
 
-/// `struct aclck_possible`: rights by what a list answers for them, whatever its unknown names match; the number of the
-/// answer to the whole request; and how many AUDIT and ALARM ACEs are left out.
+/// `struct aclck_possible`: rights by what a list answers for them, whatever its unknown identifiers match; the number
+/// of the answer to the whole request; and how many AUDIT and ALARM ACEs are left out.
 #[repr(C)]
 #[derive(Clone, Copy, Debug)]
 pub struct RawPossible {

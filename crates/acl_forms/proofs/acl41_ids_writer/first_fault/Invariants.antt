@@ -1,6 +1,7 @@
 use Rattle.std.proofs.Common.{◌≡◌, ◌+◌, ◌≤◌, length}
 use Rattle.acl_nfs4.specs.Limits.{most_aces}
-use Rattle.acl_forms.specs.Acl41Ids.{acl41_ids_fault, no_id_from}
+use Rattle.acl_forms.specs.Acl41Ids.{acl41_ids_fault, id_fault}
+use Rattle.acl_forms.specs.internal.FaultSearch.{fault_from}
 use Rattle.acl_forms.proofs.acl41_ids_writer.first_fault.Given as goal
 
 -- the ACEs that are left give what all ACEs give
@@ -8,5 +9,5 @@ abbrev pub invariant-loop-ace : goal.invariant-loop-ace
 invariant-loop-ace l =
     (goal.iterator-loop-ace).can_next l.ace-iterator ×
     (goal.iterator-loop-ace).is_finite l.ace-iterator ×
-    (no_id_from l.place l.ace-iterator ≡ acl41_ids_fault l.fn.aces) ×
+    (fault_from id_fault l.place l.ace-iterator ≡ acl41_ids_fault l.fn.aces) ×
     (l.place + length l.ace-iterator ≤ most_aces)

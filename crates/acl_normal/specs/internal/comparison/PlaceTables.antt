@@ -77,6 +77,22 @@ pub record IsPlaceTable (selection : Selection) (side : Side) (size : ℕ) (plac
   pub each : (k : ℕ) → k < size + 2
       → slice_index_or table k 0 ≡ (if wants selection side then most_before selection side k placings else 0)
 
+-- the second list denies the right to a principal that may overlap with other principals of a class
+abbrev pub is_denied_beside : Class → Placing → Bool
+is_denied_beside class r = not (is_users class && is_users r.class) && not (is_allow r.there.kind)
+
+-- one more than the greatest place in the first list of those principals before a place in the second list
+abbrev pub most_denied : Class → ℕ → List Placing → ℕ
+most_denied class k [] = 0
+most_denied class k (r ∷ placings) =
+    max (if is_denied_beside class r && nat_lt r.there.place k then r.here.place + 1 else 0)
+    (most_denied class k placings)
+
+-- the table has, at each place, the number of `most_denied`
+pub record IsDeniedTable (class : Class) (size : ℕ) (placings : List Placing) (table : List ℕ) : Type 0 where
+  pub count : length table ≡ size + 2
+  pub each : (k : ℕ) → k < size + 2 → slice_index_or table k 0 ≡ most_denied class k placings
+
 -- the table has, at each place, the number of `most_at`
 pub record IsScattered (selection : Selection) (side : Side) (size : ℕ) (placings : List Placing) (table : List ℕ) :
     Type 0 where

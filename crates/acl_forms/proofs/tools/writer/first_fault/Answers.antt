@@ -1,6 +1,6 @@
 use Rattle.std.proofs.Common.{ap, arith, length, sym, ℕ, ◌∙◌, ◌+◌}
 use Rattle.acl_nfs4.specs.Ace.{ace}
-use Rattle.acl_forms.specs.ToolsWritten.{tools_fault_from}
+use Rattle.acl_forms.specs.internal.FaultSearch.{tools_fault_from}
 use Rattle.acl_forms.proofs.FormLemmas.{ace_refused, fault_passed, none_left, text_long}
 use Rattle.acl_forms.proofs.tools.writer.first_fault.Goals as goal
 

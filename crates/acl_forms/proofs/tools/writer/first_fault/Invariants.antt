@@ -1,6 +1,7 @@
 use Rattle.std.proofs.Common.{length, ◌+◌, ◌≡◌, ◌≤◌}
 use Rattle.acl_nfs4.specs.Limits.{most_aces}
-use Rattle.acl_forms.specs.ToolsWritten.{longest_tools_text, tools_fault_from}
+use Rattle.acl_forms.specs.internal.FaultSearch.{tools_fault_from}
+use Rattle.acl_forms.specs.ToolsWritten.{longest_tools_text}
 use Rattle.acl_forms.proofs.tools.writer.first_fault.Given as goal
 
 -- the ACEs that are left have the fault of the list

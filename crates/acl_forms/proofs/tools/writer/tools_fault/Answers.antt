@@ -1,5 +1,5 @@
 use Rattle.std.proofs.Common.{ap, refl, ◌∙◌}
-use Rattle.acl_forms.specs.ToolsWritten.{tools_fault_from}
+use Rattle.acl_forms.specs.internal.FaultSearch.{tools_fault_from}
 use Rattle.acl_forms.proofs.FormLemmas.{empty_fault, some_fault}
 use Rattle.acl_forms.proofs.tools.writer.tools_fault.Goals as goal
 
