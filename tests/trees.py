@@ -10,6 +10,7 @@ import re
 import shutil
 import subprocess
 import tempfile
+import time
 import unittest
 from unittest import mock
 
@@ -100,6 +101,17 @@ class Scratch(unittest.TestCase):
 
     def path(self, *parts):
         return os.path.join(self.directory, *parts)
+
+    def assert_linear(self, prepared, count):
+        """Asserts that eight times as many take less than 24 times as long: some 8 times if each is looked at once, and
+        64 times if pairs of them are. `prepared(count)` makes the inputs, and returns the call whose time is taken."""
+        took = []
+        for number in (count, 8 * count):
+            call = prepared(number)
+            begun = time.process_time()
+            call()
+            took.append(time.process_time() - begun)
+        self.assertLess(took[1], 24 * took[0])
 
     def write(self, name, text=""):
         os.makedirs(os.path.dirname(self.path(name)), exist_ok=True)
