@@ -1,4 +1,4 @@
-pub mod Keys
+pub mod NameHashes
 pub mod PreparedBytes
 pub mod PreparedLists
 pub mod IdGroups

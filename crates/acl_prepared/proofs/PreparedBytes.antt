@@ -16,14 +16,14 @@ use Rattle.acl_nfs4.specs.Ace.{Ace}
 use Rattle.acl_nfs4.specs.Spelling.{IsAce}
 use Rattle.acl_nfs4.specs.Who.{everyone_name, group_name, owner_name, principal_of}
 use Rattle.acl_nfs4.proofs.Exports.{who_bounds}
-use Rattle.acl_prepared.specs.Prepared.{ace_number, name_key, prepared_ace, sort_number}
-use Rattle.acl_prepared.proofs.Keys.{key_below}
+use Rattle.acl_prepared.specs.Prepared.{ace_number, name_hash, prepared_ace, sort_number}
+use Rattle.acl_prepared.proofs.NameHashes.{hash_below}
 
 -- the four numbers in the number of an ACE
 pub record AreIn (n m c k l : ℕ) : Type 0 where
   pub mask : n % 2 ^ 32 ≡ m
   pub sort : n / 2 ^ 32 % 256 ≡ c
-  pub key : n / 2 ^ 40 % 256 ≡ k
+  pub hash : n / 2 ^ 40 % 256 ≡ k
   pub size : n / 2 ^ 48 ≡ l
 
 -- four numbers that fit are read as they were written
@@ -32,7 +32,7 @@ unpack : (n m c k l : ℕ) → m < 2 ^ 32 → c < 256 → k < 256 → l < 65536
 unpack n m c k l p q r s e = record {
   mask = omega arith;
   sort = omega arith;
-  key = omega arith;
+  hash = omega arith;
   size = omega arith;
 }
 
@@ -69,21 +69,21 @@ kind_below Allow = omega arith
 -- the number of an ACE has the numbers of which it is made
 read_number : (a : Ace) → IsAce full a
     → AreIn (from_le_bytes w64 (to_le_bytes w64 (ace_number (principal_of a) a.kind a.mask)))
-    a.mask (sort_number (principal_of a) a.kind) (name_key (principal_name (principal_of a)))
+    a.mask (sort_number (principal_of a) a.kind) (name_hash (principal_name (principal_of a)))
     (length (principal_name (principal_of a)))
 read_number a is =
     let p = principal_of a in
     let mask : a.mask < 2 ^ 32 = IsMask-lt a.mask is.mask in
     let rank : principal_rank p < 5 = rank_below p in
     let kind : kind_number a.kind < 2 = kind_below a.kind in
-    let key : name_key (principal_name p) < 256 = key_below (principal_name p) in
+    let hash : name_hash (principal_name p) < 256 = hash_below (principal_name p) in
     let size : length (principal_name p) < 65536 = name_short a is in
-    unpack _ a.mask (sort_number p a.kind) (name_key (principal_name p)) (length (principal_name p)) mask (omega arith)
-    key size (from_le_bytes-to_le_bytes_8 (ace_number p a.kind a.mask) (omega arith))
+    unpack _ a.mask (sort_number p a.kind) (name_hash (principal_name p)) (length (principal_name p)) mask (omega arith)
+    hash size (from_le_bytes-to_le_bytes_8 (ace_number p a.kind a.mask) (omega arith))
 
 -- what is read from bytes that begin with those of an ACE: the number, and the name and the rest behind it
 pub record IsLaidOut (a : Ace) (more : List ℕ) (n : ℕ) (after : List ℕ) : Type 0 where
-  pub numbers : AreIn n a.mask (sort_number (principal_of a) a.kind) (name_key (principal_name (principal_of a)))
+  pub numbers : AreIn n a.mask (sort_number (principal_of a) a.kind) (name_hash (principal_name (principal_of a)))
       (length (principal_name (principal_of a)))
   pub behind : after ≡ principal_name (principal_of a) ++ more
 

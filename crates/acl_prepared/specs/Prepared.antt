@@ -19,28 +19,28 @@ use Rattle.acl_prepared.specs.declared.prepared_names.Prepared.{Prepared}
 abbrev pub prepared_start : List ℕ
 prepared_start = codes "aclprep1"
 
--- the key of a name of less than eight bytes
-abbrev pub short_key : List ℕ → ℕ
-short_key name = fold (λ key byte. (31 * key + byte) % 256) 0 name
+-- the hash of a name of less than eight bytes
+abbrev pub short_hash : List ℕ → ℕ
+short_hash name = fold (λ hash byte. (31 * hash + byte) % 256) 0 name
 
--- the key of a longer name, by its first and its last eight bytes: the highest byte of a sum of products
-abbrev pub ends_key : List ℕ → List ℕ → ℕ
-ends_key first last = (from_le_bytes w64 first * 0x9e3779b97f4a7c15 + from_le_bytes w64 last * 0xc2b2ae3d27d4eb4f)
+-- the hash of a longer name, by its first and its last eight bytes: the highest byte of a sum of products
+abbrev pub ends_hash : List ℕ → List ℕ → ℕ
+ends_hash first last = (from_le_bytes w64 first * 0x9e3779b97f4a7c15 + from_le_bytes w64 last * 0xc2b2ae3d27d4eb4f)
     % 2 ^ 64 / 2 ^ 56
 
--- the key of a name: a byte that two different names seldom share
-unfoldable pub name_key : List ℕ → ℕ
-name_key name = if nat_lt (length name) 8 then short_key name
-    else ends_key (take 8 name) (drop (length name - 8) name)
+-- the hash of a name: a byte that two different names seldom share
+unfoldable pub name_hash : List ℕ → ℕ
+name_hash name = if nat_lt (length name) 8 then short_hash name
+    else ends_hash (take 8 name) (drop (length name - 8) name)
 
 -- the kind, and which of the five principals an ACE names, as one number
 abbrev pub sort_number : Principal → Kind → ℕ
 sort_number p kind = kind_number kind + 2 * principal_rank p
 
--- the number of an ACE: its mask in four bytes, its sort and the key of its name in one byte each, and the length of
+-- the number of an ACE: its mask in four bytes, its sort and the hash of its name in one byte each, and the length of
 -- the name in two bytes
 abbrev pub ace_number : Principal → Kind → ℕ → ℕ
-ace_number p kind mask = mask + 2 ^ 32 * sort_number p kind + 2 ^ 40 * name_key (principal_name p)
+ace_number p kind mask = mask + 2 ^ 32 * sort_number p kind + 2 ^ 40 * name_hash (principal_name p)
     + 2 ^ 48 * length (principal_name p)
 
 -- the bytes of an ACE

@@ -4,7 +4,7 @@
 pub mod PreparedBody
 -- a prepared list of ids while it is made and read
 pub mod IdsBody
--- the keys of the groups of a requester
-pub mod Keys
--- an object and a requester with their keys, as a situation
-pub mod AskedByKeys
+-- the hashes of the groups of a requester
+pub mod NameHashes
+-- an object and a requester with their hashes, as a situation
+pub mod AskedByHashes

@@ -1,9 +1,9 @@
 //! A list as bytes that are asked many times, by names or by ids.
 #![tactic(auto)]
 
+mod hash_matching;
 mod id_ace;
 mod id_request;
-mod key_matching;
 mod prepared_ace;
 mod prepared_ids;
 mod prepared_names;

@@ -9,21 +9,21 @@ ghost use Rattle.acl_nfs4.specs.Ace.{Ace, ace};
 ghost use Rattle.acl_nfs4.specs.Limits.{longest_who};
 ghost use Rattle.acl_nfs4.specs.Spelling.{IsAce};
 ghost use Rattle.acl_nfs4.specs.Who.{IsWho, principal_of};
-ghost use Rattle.acl_prepared.specs.Prepared.{ace_number, ends_key, name_key, prepared_ace, short_key, sort_number};
+ghost use Rattle.acl_prepared.specs.Prepared.{ace_number, ends_hash, name_hash, prepared_ace, short_hash, sort_number};
 ghost use Rattle.acl_prepared.specs.internal.PreparedBody.{IsReadAs, sort_count};
 
 use acl_nfs4::AceRef;
 use acl_perm::{Kind, Mask, Principal};
 use std::alloc::AllocError;
 
-// What the sort, the key and the length are multiplied by in the number of an ACE.
+// What the sort, the hash and the length are multiplied by in the number of an ACE.
 const SORT: u64 = 1 << 32;
 
-const KEY: u64 = 1 << 40;
+const HASH: u64 = 1 << 40;
 
 const LENGTH: u64 = 1 << 48;
 
-// Odd numbers with bits in all places, by which the key of a name multiplies its first and its last eight bytes.
+// Odd numbers with bits in all places, by which the hash of a name multiplies its first and its last eight bytes.
 const FIRST: u64 = 0x9e37_79b9_7f4a_7c15;
 
 const LAST: u64 = 0xc2b2_ae3d_27d4_eb4f;
@@ -37,7 +37,7 @@ pub(crate) struct PreparedAce<'a> {
     pub mask: Mask,
     pub kind: Kind,
     pub whom: Principal<'a>,
-    pub key: u8,
+    pub hash: u8,
     pub rest: &'a [u8],
 }
 
@@ -58,7 +58,7 @@ fn number_of(whom: Principal<'_>, kind: Kind, mask: Mask) -> u64
 {
     let name = whom.name();
     let sort = sort_of(whom, kind);
-    mask.bits() as u64 + SORT * sort + KEY * name_key(name) as u64 + LENGTH * name.len() as u64
+    mask.bits() as u64 + SORT * sort + HASH * name_hash(name) as u64 + LENGTH * name.len() as u64
 }
 
 /// Returns the kind of an ACE, and which of the five principals it names, as one number.
@@ -69,38 +69,38 @@ pub(crate) fn sort_of(whom: Principal<'_>, kind: Kind) -> u64
     kind.number() as u64 + 2 * whom.rank() as u64
 }
 
-/// Returns the key of a name: a byte that two different names seldom share. It is computed from both ends of the name,
+/// Returns the hash of a name: a byte that two different names seldom share. It is computed from both ends of the name,
 /// so that it takes the same time for long names.
 #[inline(always)]
-#[tactic(auto, unfolding(crate::specs::Prepared::name_key))]
-pub(crate) fn name_key(name: &[u8]) -> u8
-    ensures { result ≡ name_key name.now }
+#[tactic(auto, unfolding(crate::specs::Prepared::name_hash))]
+pub(crate) fn name_hash(name: &[u8]) -> u8
+    ensures { result ≡ name_hash name.now }
 {
     match (name.first_chunk::<8>(), name.last_chunk::<8>()) {
-        (Some(first), Some(last)) => ends_key(first, last),
-        _ => short_key(name),
+        (Some(first), Some(last)) => ends_hash(first, last),
+        _ => short_hash(name),
     }
 }
 
-// Returns the key of a name with these first and last eight bytes.
+// Returns the hash of a name with these first and last eight bytes.
 #[inline(always)]
-fn ends_key(first: &[u8; 8], last: &[u8; 8]) -> u8
-    ensures { result ≡ ends_key first.now last.now }
+fn ends_hash(first: &[u8; 8], last: &[u8; 8]) -> u8
+    ensures { result ≡ ends_hash first.now last.now }
 {
     let first = u64::from_le_bytes(*first).wrapping_mul(FIRST);
     let last = u64::from_le_bytes(*last).wrapping_mul(LAST);
     (first.wrapping_add(last) / HIGHEST) as u8
 }
 
-// Returns the key of a name of less than eight bytes.
-fn short_key(name: &[u8]) -> u8
-    ensures { result ≡ short_key name.now }
+// Returns the hash of a name of less than eight bytes.
+fn short_hash(name: &[u8]) -> u8
+    ensures { result ≡ short_hash name.now }
 {
-    let mut key: u8 = 0;
+    let mut hash: u8 = 0;
     for byte in name {
-        key = key.wrapping_mul(31).wrapping_add(*byte);
+        hash = hash.wrapping_mul(31).wrapping_add(*byte);
     }
-    key
+    hash
 }
 
 /// Returns the ACE that the bytes begin with, or `None` if they begin with none.
@@ -120,7 +120,7 @@ pub(crate) fn first_prepared(bytes: &[u8]) -> Option<PreparedAce<'_>>
         mask,
         kind: kind_of(sort),
         whom,
-        key: (number / KEY % 256) as u8,
+        hash: (number / HASH % 256) as u8,
         rest,
     })
 }

@@ -8,9 +8,9 @@ ghost use Rattle.acl_prepared.specs.Prepared.{IsPrepared, IsReadFrom, prepared_a
 ghost use Rattle.acl_eval.specs.Situation.{situation};
 ghost use Rattle.acl_eval.specs.internal.EachRightBody.{granted_in, left_in};
 ghost use Rattle.acl_prepared.specs.internal.PreparedBody.{AreParts, DecidesAs, IsPart, IsReadAs};
-ghost use Rattle.acl_prepared.specs.internal.AskedByKeys.{situation_by_keys};
+ghost use Rattle.acl_prepared.specs.internal.AskedByHashes.{situation_by_hashes};
 
-use crate::key_matching::{KeyMatcher, keys_of};
+use crate::hash_matching::{HashMatcher, hashes_of};
 use crate::prepared_ace::{PreparedAce, first_prepared, push_prepared};
 use acl_eval::internal::GrantedSoFar;
 use acl_eval::{DecidedRights, Object, Requester};
@@ -86,17 +86,18 @@ impl<'a> Prepared<'a> {
             rights.denied.bits) }
     {
         let requester = requester.for_look_ups(self.aces.len() / SHORTEST);
-        let group_keys = keys_of(requester.groups());
-        let matcher = KeyMatcher::new(*object, requester, &group_keys);
+        let group_hashes = hashes_of(requester.groups());
+        let matcher = HashMatcher::new(*object, requester, &group_hashes);
         let so_far = decided_to(self.aces, &matcher, mask)?;
         Some(so_far.decided(mask))
     }
 }
 
 // Decides the rights of the mask, ACE by ACE, until none is left.
-fn decided_to(aces: &[u8], matcher: &KeyMatcher<'_>, mask: Mask) -> Option<GrantedSoFar>
+fn decided_to(aces: &[u8], matcher: &HashMatcher<'_>, mask: Mask) -> Option<GrantedSoFar>
     ensures { (list : List Ace) → AreParts list → aces.now ≡ flat_map prepared_ace list
-        → IsSome result × IfSome result (DecidesAs (situation_by_keys matcher.now) mask.bits list) }
+        → IsSome result
+        × IfSome result (DecidesAs (situation_by_hashes matcher.now) mask.bits list) }
 {
     let mut so_far = GrantedSoFar::new(mask);
     let mut rest = aces;
@@ -116,17 +117,17 @@ fn decided_to(aces: &[u8], matcher: &KeyMatcher<'_>, mask: Mask) -> Option<Grant
 fn after_prepared(
     so_far: GrantedSoFar,
     item: &PreparedAce<'_>,
-    matcher: &KeyMatcher<'_>,
+    matcher: &HashMatcher<'_>,
 ) -> GrantedSoFar
     ensures granted { (a : Ace) → IsPart a → IsReadAs a item.now → (list : List Ace) (bit : ℕ)
-        → granted_in (situation_by_keys matcher.now) result list bit
-        ≡ granted_in (situation_by_keys matcher.now) so_far (a ∷ list) bit }
+        → granted_in (situation_by_hashes matcher.now) result list bit
+        ≡ granted_in (situation_by_hashes matcher.now) so_far (a ∷ list) bit }
     ensures left { (a : Ace) → IsPart a → IsReadAs a item.now → (list : List Ace) (bit : ℕ)
-        → left_in (situation_by_keys matcher.now) result list bit
-        ≡ left_in (situation_by_keys matcher.now) so_far (a ∷ list) bit }
+        → left_in (situation_by_hashes matcher.now) result list bit
+        ≡ left_in (situation_by_hashes matcher.now) so_far (a ∷ list) bit }
 {
     let decided = so_far.left.intersection(item.mask);
-    if decided.bits() == 0 || !matcher.is_match(item.whom, item.key) {
+    if decided.bits() == 0 || !matcher.is_match(item.whom, item.hash) {
         return so_far;
     }
     so_far.decide(item.kind, item.mask)

@@ -11,7 +11,7 @@ use Rattle.acl_nfs4.specs.Spelling.{IsAce}
 use Rattle.acl_nfs4.specs.Who.{principal_of}
 use Rattle.acl_eval.specs.Column.{takes_part}
 use Rattle.acl_eval.specs.Grant.{grants_bit}
-use Rattle.acl_prepared.specs.Prepared.{name_key}
+use Rattle.acl_prepared.specs.Prepared.{name_hash}
 use Rattle.acl_eval.specs.internal.EachRightBody.{is_undecided}
 use Rattle.acl_eval.specs.declared.each_right.GrantedSoFar.{GrantedSoFar}
 use Rattle.acl_prepared.specs.declared.prepared_ace.PreparedAce.{PreparedAce}
@@ -25,7 +25,7 @@ pub record IsReadAs (a : Ace) (read : PreparedAce) : Type 0 where
   pub mask : read.mask.bits ≡ a.mask
   pub kind : read.kind ≡ a.kind
   pub whom : principal read.whom ≡ principal_of a
-  pub key : read.key ≡ name_key (principal_name (principal_of a))
+  pub hash : read.hash ≡ name_hash (principal_name (principal_of a))
 
 -- a valid ACE that takes part
 pub record IsPart (a : Ace) : Type 0 where

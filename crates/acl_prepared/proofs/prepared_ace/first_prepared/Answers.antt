@@ -49,7 +49,7 @@ returns-clause-first c = λ a more is e.
           mask = c.in_ok-mask.ensures.value ∙ l.numbers.mask;
           kind = c.kind_of.ensures ∙ kind_read p a.kind _ l.numbers.sort;
           whom = (c.in_ok-whom.ensures p (rank_read p a.kind _ l.numbers.sort) name).1;
-          key = l.numbers.key;
+          hash = l.numbers.hash;
         },
         c.in_ok-name.ensures.cases.2 ∙ rw (l.numbers.size, l.behind) (drop_at (principal_name p) more _ refl),
       ),

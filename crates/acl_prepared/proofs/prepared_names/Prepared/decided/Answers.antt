@@ -38,5 +38,5 @@ returns-clause-denied c = λ list from.
 pub new-matcher-requires : goal.new-matcher-requires
 new-matcher-requires c = λ name h.
     let requester = c.for_look_ups-requester.result in
-    c.keys_of-group_keys.ensures name (ap (list_any (bytes_eq name)) c.groups.ensures
+    c.hashes_of-group_hashes.ensures name (ap (list_any (bytes_eq name)) c.groups.ensures
     ∙ counted_among requester.groups.order (given_groups_of requester) name h)
