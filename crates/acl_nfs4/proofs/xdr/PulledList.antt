@@ -159,7 +159,7 @@ pulled_stops {p} {total = total} {offset = offset} {f = f} text ok t lt at h =
 pub pulled_on : {p : Profile} {n seen total offset : ℕ} {room : List ℕ} {old left : Option (List ℕ)}
     {before after : ℕ} {x : Pulled} {body : List ℕ} (text : List ℕ) → IsProfile p → IsPulled p n seen total body text
     → seen < n → offset ≡ 4 + length body → (h : HasAce p total offset old left before after room x)
-    → IsPulled p n (seen + 1) (total + x.bits) (body ++ h.given) (text ++ h.given)
+    → IsPulled p n (seen + 1) (total + x.weight) (body ++ h.given) (text ++ h.given)
 pulled_on {p} {n} {seen} {total} {offset} {x = x} {body = body} text ok t lt at h =
     let next : place (4 + length body) (drop (length body) (body ++ h.given)) ≡ place offset (h.given ++ []) =
     ap (λ (y : List ℕ). place (4 + length body) y) (drop_at body h.given (length body) refl ∙ sym (append-nil h.given))
@@ -175,7 +175,7 @@ pulled_on {p} {n} {seen} {total} {offset} {x = x} {body = body} text ok t lt at 
       parts = body_on t h.given;
       long = omega (arith, t.long, length-append body h.given, length-append text h.given);
       bytes = bytes_append text h.given t.bytes h.drawn.bytes;
-      scanned = rw (all, h.bits) at s.scanned;
+      scanned = rw (all, h.weighs) at s.scanned;
     }
 
 -- if all ACEs were taken, the bytes spell their list

@@ -122,8 +122,8 @@ pub record HasWords (p : Profile) (weight offset : ℕ) (old left : Option (List
   pub given : List ℕ
   pub drawn : IsDrawn p weight (from_who kind flags mask x.len) offset 16 old left before after room given
   pub some : is_no_who_len x.len ≡ false
-  pub bits : count_ones mask ≡ x.bits
-  pub light : weight + x.bits ≤ most_weight
+  pub weighs : count_ones mask ≡ x.weight
+  pub light : weight + x.weight ≤ most_weight
 
 -- a source gave a whole ACE
 pub record HasAce (p : Profile) (weight offset : ℕ) (old left : Option (List ℕ)) (before after : ℕ) (room : List ℕ)
@@ -131,8 +131,8 @@ pub record HasAce (p : Profile) (weight offset : ℕ) (old left : Option (List �
   pub ace : Ace
   pub given : List ℕ
   pub drawn : IsDrawn p weight (λ at. Ok (ace, at)) offset x.len old left before after room given
-  pub bits : count_ones ace.mask ≡ x.bits
-  pub light : weight + x.bits ≤ most_weight
+  pub weighs : count_ones ace.mask ≡ x.weight
+  pub light : weight + x.weight ≤ most_weight
   pub inside : x.len ≤ length room
 
 -- the result of asking for the kind and the flags of an ACE

@@ -98,7 +98,7 @@ fn read_value<S: Source>(alloc: Global, source: &mut S, profile: Profile) -> Res
         };
         let ace = pull_ace(source, &mut room, next)?;
         body.extend_from_slice(&room[..ace.len])?;
-        weight += ace.bits;
+        weight += ace.weight;
     }
     Ok(Acl {
         count,

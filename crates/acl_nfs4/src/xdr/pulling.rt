@@ -19,7 +19,7 @@ pub(crate) const LONGEST_ACE: usize = 16 + LONGEST_WHO;
 #[derive(Clone, Copy)]
 pub(crate) struct Pulled {
     pub len: usize,
-    pub bits: u32,
+    pub weight: u32,
 }
 
 /// Reads the next ACE of the source. Each pull asks for no more bytes than the field that is being read lacks, and a
@@ -51,7 +51,7 @@ pub(crate) fn pull_ace<S: Source>(
     )?;
     Ok(Pulled {
         len: end,
-        bits: words.bits,
+        weight: words.weight,
     })
 }
 
@@ -75,7 +75,7 @@ fn pull_words<S: Source>(source: &mut S, room: &mut [u8], next: NextAce) -> Resu
     let len = placed((next.offset + 12) as u64, judges::who_len_of(number))?;
     Ok(Words {
         len,
-        bits: mask.bits().count_ones(),
+        weight: mask.bits().count_ones(),
     })
 }
 
@@ -109,7 +109,7 @@ pub(crate) struct NextAce {
 #[derive(Clone, Copy)]
 struct Words {
     len: usize,
-    bits: u32,
+    weight: u32,
 }
 
 // Reads the next four bytes of the source, and returns them as a number. They are kept in the buffer from `held` on.

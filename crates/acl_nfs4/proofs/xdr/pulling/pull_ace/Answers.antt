@@ -42,7 +42,7 @@ returns g c =
       given = _;
       drawn = padding_drawn w _ d _ c.padding_of.result c.in_ok-placed-2.field-0 c.in_ok-fill-2.ensures (omega arith)
           (omega arith) c.in_ok-placed-2.ensures c.padding_of.ensures;
-      bits = w.bits;
+      weighs = w.weighs;
       light = w.light;
       inside = let some = len_bounds c.in_ok-words.words.len w.some in
           omega (arith, some, c.requires.room, c.pull_words.auto.room, c.fill.auto.room, c.fill-2.auto.room);

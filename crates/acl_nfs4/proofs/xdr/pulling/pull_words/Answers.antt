@@ -52,7 +52,7 @@ returns-clause-drawn g c =
       drawn = word_drawn _ (λ z. z) c.who_len_of.result who_len_of (from_who w.kind w.flags m.bits) d
           c.in_ok-number.ensures c.who_len_of.ensures.exact len c.in_ok-len.ensures;
       some = who_len_some c.in_ok-number.number len is;
-      bits = rw c.bits.ensures.value refl;
+      weighs = rw c.bits.ensures.value refl;
       light = rw c.bits.ensures.value
           (placed_light c.args.next.weight c.mask_of.result m _ c.in_ok-mask.ensures c.mask_of.ensures.light);
     }
