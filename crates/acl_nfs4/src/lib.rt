@@ -15,7 +15,7 @@ mod xdr;
 
 pub use ace::AceRef;
 pub use acl_perm::{
-    Counted, Flags, Fused, Kind, Mask, Principal, Profile, ReadFault, Sink, Source, WriteFault,
+    Counted, Flags, Fused, InputFault, Kind, Mask, Principal, Profile, Sink, Source, WriteFault,
 };
 pub use feed::Feed;
 pub use feed::fed::Fed;

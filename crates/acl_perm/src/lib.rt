@@ -38,4 +38,4 @@ pub use principal::{Principal, overlaps};
 pub use profile::Profile;
 pub use right::Right;
 pub use rights::Rights;
-pub use whole::{ReadFault, WriteFault, put_all, read_all};
+pub use whole::{InputFault, WriteFault, put_all, read_all};

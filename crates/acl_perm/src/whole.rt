@@ -3,7 +3,7 @@ ghost use Rattle.std.specs.Prelude.{◌≡◌, ◌<◌, ◌≤◌, IfNone, IfOk,
 ghost use Rattle.std.specs.Io.KnownBytes.{Appends, IsAtEnd, Keeps};
 ghost use Rattle.acl_perm.specs.Devices.{one_more};
 ghost use Rattle.acl_perm.specs.Pieces.{Writes};
-ghost use Rattle.acl_perm.specs.declared.whole.ReadFault.{ReadFault};
+ghost use Rattle.acl_perm.specs.declared.whole.InputFault.{InputFault};
 
 use crate::devices::{Sink, Source};
 use std::alloc::{AllocError, Global};
@@ -18,7 +18,7 @@ pub struct WriteFault {
 
 /// Why an input could not be read to its end.
 #[derive(Clone, Copy, Debug, PartialEq, Eq, Error)]
-pub enum ReadFault {
+pub enum InputFault {
     /// A pull failed.
     #[error("read failed")]
     Read,
@@ -27,11 +27,11 @@ pub enum ReadFault {
     Memory,
 }
 
-impl From<AllocError> for ReadFault {
-    ghost from_gives = { λ _ fault. fault ≡ ReadFault.Memory };
+impl From<AllocError> for InputFault {
+    ghost from_gives = { λ _ fault. fault ≡ InputFault.Memory };
 
-    fn from(_error: AllocError) -> ReadFault {
-        ReadFault::Memory
+    fn from(_error: AllocError) -> InputFault {
+        InputFault::Memory
     }
 }
 
@@ -78,15 +78,15 @@ const PIECE: usize = 16384;
 
 /// Returns the whole input, or fails with `Read` if and only if a pull failed. It ends at the first pull that fails,
 /// and tries nothing again. For a source that never ends it returns `Memory` when the buffer cannot grow further.
-pub fn read_all<S: Source>(alloc: Global, source: &mut S) -> Result<Vec<u8>, ReadFault>
+pub fn read_all<S: Source>(alloc: Global, source: &mut S) -> Result<Vec<u8>, InputFault>
     ensures ok { IfOk result (λ bytes.
         IfSome (S.remaining source.old) (λ input. bytes.items ≡ input)) }
     ensures end { OnOk result (IsAtEnd (S.remaining source.new)) }
     ensures none_failed { OnOk result (S.failure_count source.new ≡ S.failure_count source.old) }
 
-    ensures read { result ≡ Err ReadFault.Read
+    ensures read { result ≡ Err InputFault.Read
         → S.failure_count source.new ≡ one_more (S.failure_count source.old) }
-    ensures memory { result ≡ Err ReadFault.Memory
+    ensures memory { result ≡ Err InputFault.Memory
         → S.failure_count source.new ≡ S.failure_count source.old }
 {
     let mut whole = Vec::new(alloc);
@@ -97,7 +97,7 @@ pub fn read_all<S: Source>(alloc: Global, source: &mut S) -> Result<Vec<u8>, Rea
             Ok(count) => {
                 whole.extend_from_slice(&piece[..count])?;
             }
-            Err(_) => return Err(ReadFault::Read),
+            Err(_) => return Err(InputFault::Read),
         }
     }
 }

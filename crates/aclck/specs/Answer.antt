@@ -3,8 +3,8 @@ use Rattle.std.specs.Prelude.{◌≡◌, ◌<◌, ◌∷◌, ◌++◌, [], List,
 use Rattle.std.specs.Io.KnownBytes.{Appends}
 use Rattle.acl_perm.specs.Lines.{line_feed}
 use Rattle.acl_perm.specs.Profile.{Profile}
-use Rattle.acl_perm.specs.declared.whole.ReadFault.{ReadFault}
-use Rattle.acl_perm.specs.declared.whole.ReadFault.TheVariants as read
+use Rattle.acl_perm.specs.declared.whole.InputFault.{InputFault}
+use Rattle.acl_perm.specs.declared.whole.InputFault.TheVariants as read
 use Rattle.acl_nfs4.specs.Fault.{IsWholeFault}
 use Rattle.acl_nfs4.specs.declared.xdr.fault.Fault.{Fault}
 use Rattle.acl_nfs4.specs.declared.xdr.fault.Reason.{Reason}
@@ -95,7 +95,7 @@ abbrev pub is_write : RunFault → Bool
 is_write e = is_sink (origin_of e)
 
 -- the faults of whole reads as an engine reports them
-abbrev pub run_fault_of : ReadFault → RunFault
+abbrev pub run_fault_of : InputFault → RunFault
 run_fault_of read.Read = fault.Read
 run_fault_of read.Memory = fault.Memory
 

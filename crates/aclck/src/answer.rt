@@ -4,7 +4,7 @@ ghost use Rattle.acl_nfs4.specs.Spelling.{spelling};
 ghost use Rattle.aclck.specs.Answer.{origin_of, decision_line, is_yes, run_fault_of};
 ghost use Rattle.aclck.specs.internal.Writing.{WritesText};
 
-use acl_nfs4::{AceTextFault, Acl, Fault, ReadFault, WriteFault};
+use acl_nfs4::{AceTextFault, Acl, Fault, InputFault, WriteFault};
 use acl_perm::{Sink, put_all};
 use acl_posix::TextFault;
 use std::alloc::AllocError;
@@ -55,13 +55,13 @@ pub enum RunFault {
     Memory,
 }
 
-impl From<ReadFault> for RunFault {
+impl From<InputFault> for RunFault {
     ghost from_gives = { λ fault run. run ≡ run_fault_of fault };
 
-    fn from(fault: ReadFault) -> RunFault {
+    fn from(fault: InputFault) -> RunFault {
         match fault {
-            ReadFault::Read => RunFault::Read,
-            ReadFault::Memory => RunFault::Memory,
+            InputFault::Read => RunFault::Read,
+            InputFault::Memory => RunFault::Memory,
         }
     }
 }

@@ -23,8 +23,8 @@ fn read_stopped(rt: &impl Abort, alloc: Global, calls: u64) {
     let mut source = Counted::new(Fused::new(b"granted".as_slice(), calls, 2));
     match read_all(alloc, &mut source) {
         Ok(_) => assert!(rt; false, "the source failed"),
-        Err(ReadFault::Read) => assert!(rt; source.failures() == 1),
-        Err(ReadFault::Memory) => {}
+        Err(InputFault::Read) => assert!(rt; source.failures() == 1),
+        Err(InputFault::Memory) => {}
     }
 }
 
@@ -41,7 +41,7 @@ fn whole_reads_and_writes_stop_at_the_first_failure(rt: HostRuntime) {
     let mut source = Counted::new(Fused::new(b"granted".as_slice(), 9, 2));
     match read_all(rt.alloc(), &mut source) {
         Ok(bytes) => assert!(rt; bytes.as_slice() == b"granted".as_slice()),
-        Err(fault) => assert!(rt; fault == ReadFault::Memory),
+        Err(fault) => assert!(rt; fault == InputFault::Memory),
     }
 }
 
@@ -65,7 +65,7 @@ pub fn write_ended(rt: &impl Abort, failing: u64, passed: u64, slip: Slip) {
 pub fn read_ended(rt: &impl Abort, alloc: Global, failing: u64, passed: u64, slip: Slip) {
     let mut source = Counted::new(FailsOnce::new(b"granted".as_slice(), failing, slip));
     match (read_all(alloc, &mut source), slip) {
-        (Err(ReadFault::Read), Slip::Error) => assert!(rt; source.failures() == 1),
+        (Err(InputFault::Read), Slip::Error) => assert!(rt; source.failures() == 1),
         (Ok(bytes), Slip::Nothing) => {
             assert!(rt; bytes.as_slice() == first(b"granted", passed));
             assert!(rt; source.failures() == 0);
