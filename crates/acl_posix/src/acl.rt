@@ -16,7 +16,7 @@ ghost use Rattle.acl_posix.specs.Equal.{same_entry};
 ghost use Rattle.std.specs.Cmp.Lexicographic.{pointwise};
 
 use crate::check::AccessCheck;
-use crate::deciding::{Deciding, Decision};
+use crate::deciding::{Deciding, EntryDecision};
 use crate::difference::PosixDifference;
 use crate::entry::Entry;
 use crate::entry_set::EntrySet;
@@ -217,7 +217,14 @@ impl PosixAcl {
     /// let decision = acl.deciding(owner, group, user, &[group], Perm { bits: 2 });
     /// assert!(rt; !decision.granted && decision.entry == None);
     /// ```
-    pub fn deciding(&self, owner: Id, group: Id, user: Id, groups: &[Id], want: Perm) -> Decision
+    pub fn deciding(
+        &self,
+        owner: Id,
+        group: Id,
+        user: Id,
+        groups: &[Id],
+        want: Perm,
+    ) -> EntryDecision
         ensures granted { result.granted ≡ grants self.now
             (record { user = owner.value; group = group.value })
             (record { user = user.value; groups = ids groups.now })

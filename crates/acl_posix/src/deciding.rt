@@ -13,7 +13,7 @@ use acl_perm::Perm;
 
 /// How a request is decided.
 #[derive(Clone, Copy, Debug, PartialEq, Eq)]
-pub struct Decision {
+pub struct EntryDecision {
     /// Whether all that is requested is granted.
     pub granted: bool,
     /// The entry that decides. `None` means that entries of groups match, and none of them has all that is requested.
@@ -32,7 +32,7 @@ pub(crate) trait Deciding: AccessCheck {
         user: Id,
         groups: &[G],
         want: Perm,
-    ) -> Decision
+    ) -> EntryDecision
         ensures granted { result.granted ≡ grants (Self.entries self.now)
             (record { user = owner.value; group = group.value })
             (record { user = user.value; groups = map G.number groups.now })
@@ -49,7 +49,7 @@ pub(crate) trait Deciding: AccessCheck {
         let granted = self.grants(owner, group, user, groups, want);
         let entry = self.decider(owner, group, user, groups, want);
         let masked = self.decider_contains(entry, want) && !granted;
-        Decision {
+        EntryDecision {
             granted,
             entry,
             masked,

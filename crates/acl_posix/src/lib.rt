@@ -46,7 +46,7 @@ mod written_line;
 
 pub use acl::PosixAcl;
 pub use attribute_fault::AttributeFault;
-pub use deciding::Decision;
+pub use deciding::EntryDecision;
 pub use difference::{FewGroups, PosixDifference};
 pub use entry::Entry;
 pub use fault::AclFault;

@@ -11,7 +11,7 @@ ghost use Rattle.acl_posix.specs.Tag.{tag_of};
 ghost use Rattle.acl_posix.specs.View.{IsCanonical, IsFaultOfView, IsFirstStop, IsFoundAt};
 
 use crate::check::AccessCheck;
-use crate::deciding::{Deciding, Decision};
+use crate::deciding::{Deciding, EntryDecision};
 use crate::difference::PosixDifference;
 use crate::entry::Entry;
 use crate::entry_set::EntrySet;
@@ -93,7 +93,14 @@ impl<'a> EntriesView<'a> {
 
     /// Returns how the request that `check` answers is decided, as `PosixAcl::deciding` does. It takes time number of
     /// groups times number of entries.
-    pub fn deciding(&self, owner: Id, group: Id, user: Id, groups: &[u32], want: Perm) -> Decision
+    pub fn deciding(
+        &self,
+        owner: Id,
+        group: Id,
+        user: Id,
+        groups: &[u32],
+        want: Perm,
+    ) -> EntryDecision
         ensures granted { result.granted ≡ grants self.now
             (record { user = owner.value; group = group.value })
             (record { user = user.value; groups = groups.now })
