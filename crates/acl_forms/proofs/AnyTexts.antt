@@ -22,7 +22,7 @@ use Rattle.acl_forms.specs.internal.TextReading.{FailsAsRead, IsHeld, text_read}
 use Rattle.acl_forms.specs.Texts.{AddEach, IsFaultByRules, SpellsByRules, TextRules, item_read, items_in, whole_text}
 unfoldable use Rattle.acl_forms.specs.Texts.{comment_fault, cut_entries, line_items}
 use Rattle.acl_forms.specs.declared.fault.ReadFault.{ReadFault}
-use Rattle.acl_forms.specs.declared.part.Part.{Part}
+use Rattle.acl_forms.specs.declared.part.ReadablePart.{ReadablePart}
 use Rattle.acl_forms.specs.declared.part.left_out.LeftOut.{LeftOut}
 use Rattle.acl_forms.specs.declared.part.texts.TextPart.{TextPart}
 use Rattle.acl_forms.specs.internal.AnyAces.{IsPartReadAs}
@@ -94,7 +94,7 @@ part_fails read f (inl memory) = inl memory
 part_fails read f (inr e) = inr (rw e refl)
 
 -- what is kept and left out of a text is its part
-pub part_made : (read : Result (List PlacedAce) ReadFault) (part : TextPart) (made : Part)
+pub part_made : (read : Result (List PlacedAce) ReadFault) (part : TextPart) (made : ReadablePart)
     → IsHeld read (HoldsPart part) → made.flags.bits ≡ 0 → made.list ≡ part.list
     → made.left_out.items ≡ part.left_out.items → IsPartReadAs (Ok made) (without_flags read)
 part_made read part made (all, is, h) none list out =
@@ -113,7 +113,7 @@ without_err (Ok all) f e = absurd cc
 without_err (Err g) f e = cc
 
 -- a part that is read is that of what the text spells
-pub texts_found : (rules : TextRules PlacedAce) (text : List ℕ) (result : Result Part ReadFault)
+pub texts_found : (rules : TextRules PlacedAce) (text : List ℕ) (result : Result ReadablePart ReadFault)
     → IsPartReadAs result (without_flags (text_read rules text))
     → IfOk result (λ part. SpellsPart (λ whole. IsTextWithoutFlags (SpellsByRules rules) part.flags.bits whole text)
     part.list part.left_out.items)
@@ -125,7 +125,7 @@ texts_found rules text =
     record { none = is.0; spelled = text_found rules text (Ok list) (list, is.1, refl) })
 
 -- the part of what the text spells is returned, unless memory runs out
-pub texts_only : (rules : TextRules PlacedAce) (text : List ℕ) (result : Result Part ReadFault)
+pub texts_only : (rules : TextRules PlacedAce) (text : List ℕ) (result : Result ReadablePart ReadFault)
     → IsPartReadAs result (without_flags (text_read rules text)) → (set : ℕ) (list : List Ace) (out : List LeftOut)
     → SpellsPart (λ whole. IsTextWithoutFlags (SpellsByRules rules) set whole text) list out
     → IsReadAsPart result set list out
@@ -137,7 +137,7 @@ texts_only rules text =
     rw (read, h.none) refl)
 
 -- a text that is refused has the fault, or memory ran out
-pub texts_fault : (rules : TextRules PlacedAce) (text : List ℕ) (result : Result Part ReadFault)
+pub texts_fault : (rules : TextRules PlacedAce) (text : List ℕ) (result : Result ReadablePart ReadFault)
     → IsPartReadAs result (without_flags (text_read rules text))
     → IfErr result (λ fault. (fault ≡ no_memory_left) ⊎ IsFaultByRules rules text fault)
 texts_fault rules text (Ok part) h = tt
@@ -146,7 +146,7 @@ texts_fault rules text (Err f) (inr said) =
     text_refused rules text (Err f) (inr (without_err (text_read rules text) f said))
 
 -- a text with a fault is refused with that fault, unless memory runs out
-pub texts_refused : (rules : TextRules PlacedAce) (text : List ℕ) (result : Result Part ReadFault)
+pub texts_refused : (rules : TextRules PlacedAce) (text : List ℕ) (result : Result ReadablePart ReadFault)
     → IsPartReadAs result (without_flags (text_read rules text)) → (wrong : ReadFault)
     → IsFaultByRules rules text wrong → RefusesPart result wrong
 texts_refused rules text result h wrong is =

@@ -5,13 +5,14 @@ use Rattle.acl_nfs4.specs.Ace.{Ace}
 use Rattle.acl_nfs4.proofs.Exports.{ok_is}
 use Rattle.acl_forms.specs.Part.{PlacedAce, IsReadAsPart, RefusesPart, SpellsPart, kept, left_out}
 use Rattle.acl_forms.specs.declared.fault.ReadFault.{ReadFault}
-use Rattle.acl_forms.specs.declared.part.Part.{Part}
+use Rattle.acl_forms.specs.declared.part.ReadablePart.{ReadablePart}
 use Rattle.acl_forms.specs.declared.part.left_out.LeftOut.{LeftOut}
 use Rattle.acl_forms.specs.internal.AnyAces.{IsPartReadAs}
 
 -- a part that is read is that of what is spelled
 pub part_found : (Spells : ℕ → List PlacedAce → Type 0) (said : Result (ℕ × List PlacedAce) ReadFault)
-    → ((set : ℕ) (list : List PlacedAce) → said ≡ Ok (set, list) → Spells set list) → (result : Result Part ReadFault)
+    → ((set : ℕ) (list : List PlacedAce) → said ≡ Ok (set, list) → Spells set list)
+    → (result : Result ReadablePart ReadFault)
     → IsPartReadAs result said → IfOk result (λ part. SpellsPart (Spells part.flags.bits) part.list part.left_out.items)
 part_found Spells said spelled (Ok part) (set, list, e, is) = record {
   whole = list;
@@ -23,7 +24,8 @@ part_found Spells said spelled (Err f) h = tt
 
 -- the part of what is spelled is returned, unless memory runs out
 pub part_only : (Spells : ℕ → List PlacedAce → Type 0) (said : Result (ℕ × List PlacedAce) ReadFault)
-    → ((set : ℕ) (list : List PlacedAce) → Spells set list → said ≡ Ok (set, list)) → (result : Result Part ReadFault)
+    → ((set : ℕ) (list : List PlacedAce) → Spells set list → said ≡ Ok (set, list))
+    → (result : Result ReadablePart ReadFault)
     → IsPartReadAs result said → (set : ℕ) (list : List Ace) (out : List LeftOut) → SpellsPart (Spells set) list out
     → IsReadAsPart result set list out
 part_only Spells said read (Ok part) (flags, aces, was, is) set list out h =
@@ -39,7 +41,7 @@ part_only Spells said read (Err f) (inr was) set list out h = absurd (apart (sym
     apart e = cc
 
 -- what has a fault is refused with that fault, unless memory runs out
-pub part_refused : (said : Result (ℕ × List PlacedAce) ReadFault) (result : Result Part ReadFault)
+pub part_refused : (said : Result (ℕ × List PlacedAce) ReadFault) (result : Result ReadablePart ReadFault)
     → IsPartReadAs result said → (wrong : ReadFault) → said ≡ Err wrong → RefusesPart result wrong
 part_refused said (Ok part) (flags, list, was, is) wrong e = cc
 part_refused said (Err f) (inl memory) wrong e = inr memory

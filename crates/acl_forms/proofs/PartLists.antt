@@ -24,7 +24,7 @@ use Rattle.acl_forms.specs.Words.{acl_flags_of, start, word_at}
 use Rattle.acl_forms.specs.declared.fault.ReadFault.{ReadFault}
 use Rattle.acl_forms.specs.declared.fault.ReadReason.{ReadReason}
 use Rattle.acl_forms.specs.declared.fault.ReadReason.TheVariants as reason
-use Rattle.acl_forms.specs.declared.part.Part.{Part}
+use Rattle.acl_forms.specs.declared.part.ReadablePart.{ReadablePart}
 use Rattle.acl_forms.specs.declared.part.left_out.LeftOut.{LeftOut}
 use Rattle.acl_forms.specs.internal.AnyAces.{IsPartReadAs}
 use Rattle.acl_forms.proofs.IdAces.{listed_again, listed_ok}
@@ -226,7 +226,7 @@ module _ {Spells : AnyAce → List ℕ → Type 0} {read : AceReader} (reader : 
   -- ---- what a call answers
 
   -- a part that is returned is that of the ACEs that the bytes spell
-  pub words_found : (bytes : List ℕ) → IsBytes bytes → (result : Result Part ReadFault)
+  pub words_found : (bytes : List ℕ) → IsBytes bytes → (result : Result ReadablePart ReadFault)
       → IsPartReadAs result (whole_in read bytes)
       → IfOk result (λ part. SpellsPart (λ whole. SpellsWhole Spells part.flags.bits whole bytes) part.list
       part.left_out.items)
@@ -235,7 +235,8 @@ module _ {Spells : AnyAce → List ℕ → Type 0} {read : AceReader} (reader : 
       (λ set list e. whole_spelled bytes (set, list) fits e)
 
   -- the part of the ACEs that the bytes spell is returned, unless memory runs out
-  pub words_only : (bytes : List ℕ) → (result : Result Part ReadFault) → IsPartReadAs result (whole_in read bytes)
+  pub words_only : (bytes : List ℕ) → (result : Result ReadablePart ReadFault)
+      → IsPartReadAs result (whole_in read bytes)
       → (set : ℕ) (list : List Ace) (out : List LeftOut)
       → SpellsPart (λ whole. SpellsWhole Spells set whole bytes) list out → IsReadAsPart result set list out
   words_only bytes =

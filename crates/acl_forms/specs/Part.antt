@@ -9,7 +9,7 @@ use Rattle.acl_nfs4.specs.Ace.{Ace}
 use Rattle.acl_nfs4.specs.Who.{is_unknown_special}
 use Rattle.acl_forms.specs.ReadFaults.{no_memory_left}
 use Rattle.acl_forms.specs.declared.fault.ReadFault.{ReadFault}
-use Rattle.acl_forms.specs.declared.part.Part.{Part}
+use Rattle.acl_forms.specs.declared.part.ReadablePart.{ReadablePart}
 use Rattle.acl_forms.specs.declared.part.left_out.LeftOut.{LeftOut}
 use Rattle.acl_forms.specs.declared.part.left_out.LeftOutReason.{LeftOutReason}
 use Rattle.acl_forms.specs.declared.part.left_out.LeftOutReason.TheVariants.{AuditOrAlarm, SpecialWho}
@@ -64,16 +64,16 @@ pub record SpellsPart (Spells : List PlacedAce → Type 0) (list : List Ace) (ou
   pub left_out : out ≡ left_out whole
 
 -- the part has these flags and these ACEs, and reports these ones as left out
-pub record IsPartWith (part : Part) (set : ℕ) (list : List Ace) (out : List LeftOut) : Type 0 where
+pub record IsPartWith (part : ReadablePart) (set : ℕ) (list : List Ace) (out : List LeftOut) : Type 0 where
   pub flags : part.flags.bits ≡ set
   pub kept : part.list ≡ list
   pub left_out : part.left_out.items ≡ out
 
 -- this part, unless memory runs out
-abbrev pub IsReadAsPart : Result Part ReadFault → ℕ → List Ace → List LeftOut → Type 0
+abbrev pub IsReadAsPart : Result ReadablePart ReadFault → ℕ → List Ace → List LeftOut → Type 0
 IsReadAsPart result set list out =
     MatchResult result (λ part. IsPartWith part set list out) (λ fault. fault ≡ no_memory_left)
 
 -- this fault, unless memory runs out
-abbrev pub RefusesPart : Result Part ReadFault → ReadFault → Type 0
+abbrev pub RefusesPart : Result ReadablePart ReadFault → ReadFault → Type 0
 RefusesPart result wrong = MatchResult result (λ _. ⊥) (λ fault. (fault ≡ wrong) ⊎ (fault ≡ no_memory_left))

@@ -40,7 +40,7 @@ pub use form_write::FormWriteFault;
 pub use nfs_text::{nfs_text_fault, read_nfs_text, write_nfs_text};
 pub use object::ObjectKind;
 pub use part::left_out::{LeftOut, LeftOutReason};
-pub use part::{Part, read_part};
+pub use part::{ReadablePart, read_part};
 pub use posix_text::{
     IdNames, TarStyle, posix_text_fault, read_default_text, read_posix_text, write_posix_text,
 };

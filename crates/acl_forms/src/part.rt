@@ -26,7 +26,7 @@ use std::alloc::Global;
 
 /// What access can read of a value that may have AUDIT and ALARM ACEs, and special identifiers that nobody knows.
 #[derive(Debug, Drop)]
-pub struct Part {
+pub struct ReadablePart {
     /// The flags of the list.
     pub flags: AclFlags,
     /// The ACEs that are kept, in order.
@@ -49,7 +49,7 @@ pub struct Part {
 /// assert!(rt; part.list.is_empty());
 /// assert!(rt; part.left_out.len() == 1);
 /// ```
-pub fn read_part(alloc: Global, form: Form, bytes: &[u8]) -> Result<Part, ReadFault>
+pub fn read_part(alloc: Global, form: Form, bytes: &[u8]) -> Result<ReadablePart, ReadFault>
     ensures found { IfOk result (λ part.
         SpellsPartOf form part.flags.bits part.list part.left_out.items bytes.now) }
     // If the bytes spell flags and ACEs, their part is returned.

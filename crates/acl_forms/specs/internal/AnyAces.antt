@@ -9,7 +9,7 @@ use Rattle.acl_forms.specs.Part.{IsPartWith, PlacedAce, kept, left_out, noted_if
 use Rattle.acl_forms.specs.PartWords.{AceReader, ace_by_name, ace_by_number, special_identifier}
 use Rattle.acl_forms.specs.ReadFaults.{no_memory_left}
 use Rattle.acl_forms.specs.declared.fault.ReadFault.{ReadFault}
-use Rattle.acl_forms.specs.declared.part.Part.{Part}
+use Rattle.acl_forms.specs.declared.part.ReadablePart.{ReadablePart}
 use Rattle.acl_forms.specs.declared.part.left_out.LeftOut.{LeftOut}
 use Rattle.acl_forms.specs.declared.part.any_ace.AnyAceRef.{AnyAceRef}
 use Rattle.acl_forms.specs.declared.part.any_ace.AnyWho.{AnyWho}
@@ -59,13 +59,13 @@ reader_of ByName = ace_by_name
 reader_of ByNumber = ace_by_number
 
 -- the result of reading ACEs is the part of those that are read, and ends at this place, unless memory runs out
-abbrev pub GivesAnyPart : ℕ → Place → Result Part ReadFault → Result (List PlacedAce × Place) ReadFault → Type 0
+abbrev pub GivesAnyPart : ℕ → Place → Result ReadablePart ReadFault → Result (List PlacedAce × Place) ReadFault → Type 0
 GivesAnyPart flags at (Ok part) read =
     (list : List PlacedAce) × (read ≡ Ok (list, at)) × IsPartWith part flags (kept list) (left_out list)
 GivesAnyPart flags at (Err fault) read = (fault ≡ no_memory_left) ⊎ (read ≡ Err fault)
 
 -- the result of a call is the part of what is read, unless memory runs out
-abbrev pub IsPartReadAs : Result Part ReadFault → Result (ℕ × List PlacedAce) ReadFault → Type 0
+abbrev pub IsPartReadAs : Result ReadablePart ReadFault → Result (ℕ × List PlacedAce) ReadFault → Type 0
 IsPartReadAs (Ok part) said = (flags : ℕ) × (list : List PlacedAce) × (said ≡ Ok (flags, list))
     × IsPartWith part flags (kept list) (left_out list)
 IsPartReadAs (Err fault) said = (fault ≡ no_memory_left) ⊎ (said ≡ Err fault)

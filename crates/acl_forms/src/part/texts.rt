@@ -13,7 +13,7 @@ use crate::ace_text::AceText;
 use crate::acl_flags::AclFlags;
 use crate::fault::ReadFault;
 use crate::nfs_text::entry::any_nfs_ace;
-use crate::part::Part;
+use crate::part::ReadablePart;
 use crate::part::any_ace::{AnyAceRef, add};
 use crate::part::left_out::LeftOut;
 use crate::reading::read_text;
@@ -39,11 +39,15 @@ pub(crate) struct AnyAceText {
 }
 
 /// Returns the part of what a text spells, or its first fault.
-pub(crate) fn read_text_part(alloc: Global, text: &[u8], form: AceText) -> Result<Part, ReadFault>
+pub(crate) fn read_text_part(
+    alloc: Global,
+    text: &[u8],
+    form: AceText,
+) -> Result<ReadablePart, ReadFault>
     ensures { IsPartReadAs result (without_flags (text_read (any_text_rules form) text.now)) }
 {
     let read = read_text(alloc, text, AnyAceText { form })?;
-    Ok(Part {
+    Ok(ReadablePart {
         flags: AclFlags::NONE,
         list: read.list,
         left_out: read.left_out,

@@ -15,7 +15,7 @@ ghost use Rattle.acl_forms.specs.internal.AnyAces.{GivesAnyPart, HasAnyName, IsP
 use crate::acl_flags::AclFlags;
 use crate::acl41_ids::{account_of, count, flags, mask, special, special_whom};
 use crate::fault::{ReadFault, ReadReason};
-use crate::part::Part;
+use crate::part::ReadablePart;
 use crate::part::any_ace::{AnyAceRef, AnyWho, DENY, add, who_of};
 use crate::words::{acl_flags, offset_of, placed, placed_listed, start, word};
 use acl_nfs4::internal::{Cursor, pad_len, padding_of, type_of, who_len_of};
@@ -33,7 +33,11 @@ pub(crate) enum Layout {
 
 /// Returns the part of what all of the bytes spell, or their first fault.
 #[tactic(auto, unfolding(crate::specs::PartWords::whole_in))]
-pub(crate) fn read_words(alloc: Global, bytes: &[u8], layout: Layout) -> Result<Part, ReadFault>
+pub(crate) fn read_words(
+    alloc: Global,
+    bytes: &[u8],
+    layout: Layout,
+) -> Result<ReadablePart, ReadFault>
     ensures { IsPartReadAs result (whole_in (reader_of layout) bytes.now) }
 {
     let mut cursor = start(bytes);
@@ -56,7 +60,7 @@ fn part_of(
     flags: AclFlags,
     count: u32,
     layout: Layout,
-) -> Result<Part, ReadFault>
+) -> Result<ReadablePart, ReadFault>
     requires { count ≤ most_aces }
     ensures { GivesAnyPart flags.bits (place cursor.new) result
         (aces_from (reader_of layout) count [] (place cursor.old)) }
@@ -72,7 +76,7 @@ fn part_of(
         weight += ace.mask.bits().count_ones();
         place += 1;
     }
-    Ok(Part {
+    Ok(ReadablePart {
         flags,
         list,
         left_out,

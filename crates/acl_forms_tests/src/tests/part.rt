@@ -173,7 +173,7 @@ mod ample {
     // Returns whether a list is kept, and these ACEs are left out.
     fn is_part(
         alloc: Global,
-        part: &Part,
+        part: &ReadablePart,
         text: &str,
         left_out: &[LeftOut],
     ) -> Result<bool, AllocError> {
