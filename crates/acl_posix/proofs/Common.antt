@@ -33,8 +33,8 @@ pub use Rattle.acl_posix.specs.declared.fault.AclFault.TheVariants.{Duplicate, M
 pub use Rattle.acl_posix.specs.declared.field.TagWord.{TagWord}
 pub use Rattle.acl_posix.specs.declared.field.TagWord.TheVariants.{Group, User}
 pub use Rattle.acl_posix.specs.declared.file.PosixFile.{PosixFile}
-pub use Rattle.acl_posix.specs.declared.form.Form.{Form}
-pub use Rattle.acl_posix.specs.declared.form.Form.TheVariants.{Canonical, Short, Shown}
+pub use Rattle.acl_posix.specs.declared.form.AclTextForm.{AclTextForm}
+pub use Rattle.acl_posix.specs.declared.form.AclTextForm.TheVariants.{Canonical, Short, Shown}
 pub use Rattle.acl_posix.specs.declared.id.Id.{Id}
 pub use Rattle.acl_posix.specs.declared.tag.Tag.{Tag as TagOfCode}
 pub use Rattle.acl_posix.specs.declared.text_fault.Part.{Part}

@@ -8,13 +8,13 @@ use Rattle.acl_posix.specs.Mask.{with_mask}
 use Rattle.acl_posix.specs.Mode.{chmoded}
 use Rattle.acl_posix.specs.Texts.{canonical_text, short_text, shown_text}
 use Rattle.acl_posix.specs.declared.file.PosixFile.{PosixFile}
-use Rattle.acl_posix.specs.declared.form.Form.{Form}
-use Rattle.acl_posix.specs.declared.form.Form.TheVariants.{Canonical, Short, Shown}
+use Rattle.acl_posix.specs.declared.form.AclTextForm.{AclTextForm}
+use Rattle.acl_posix.specs.declared.form.AclTextForm.TheVariants.{Canonical, Short, Shown}
 
 -- ---- texts of a file
 
 -- the text of a file in a form; the short text has a line feed after it
-abbrev pub file_text : Form → PosixFile → List ℕ
+abbrev pub file_text : AclTextForm → PosixFile → List ℕ
 file_text Canonical file = canonical_text file.access file.default
 file_text Shown file = shown_text file.access file.default
 file_text Short file = short_text file.access file.default ++ line_feed ∷ []

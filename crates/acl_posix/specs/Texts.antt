@@ -6,8 +6,8 @@ use Rattle.std.specs.FinMap as set
 use Rattle.acl_perm.specs.Ascii.{colon, comma, line_feed, tab}
 use Rattle.acl_perm.specs.Shown.{perm_text}
 use Rattle.acl_posix.specs.declared.file.PosixFile.{PosixFile}
-use Rattle.acl_posix.specs.declared.form.Form.{Form}
-use Rattle.acl_posix.specs.declared.form.Form.TheVariants.{Canonical, Shown, Short}
+use Rattle.acl_posix.specs.declared.form.AclTextForm.{AclTextForm}
+use Rattle.acl_posix.specs.declared.form.AclTextForm.TheVariants.{Canonical, Shown, Short}
 use Rattle.acl_posix.specs.declared.field.TagWord.{TagWord}
 use Rattle.acl_posix.specs.declared.field.TagWord.TheVariants.{User, Group, Mask, Other}
 use Rattle.acl_posix.specs.Tag.{Tag, tag_row}
@@ -94,7 +94,7 @@ short_text access default =
     join_with_byte comma (map short_entry (set.entries access) ++ map short_default (default_entries default))
 
 -- the text in a form
-abbrev pub form_text : Form → Entries → Option Entries → List ℕ
+abbrev pub form_text : AclTextForm → Entries → Option Entries → List ℕ
 form_text Canonical access default = canonical_text access default
 form_text Shown access default = shown_text access default
 form_text Short access default = short_text access default

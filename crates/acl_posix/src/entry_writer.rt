@@ -8,7 +8,7 @@ ghost use Rattle.acl_posix.specs.Texts.{qualifier_text};
 ghost use Rattle.acl_posix.specs.internal.Writing.{ending, ending_room, entry_out, form_word, entry_lead, lead_room, line_room, perm_room, qualifier_room, word_room, IsPut};
 
 use crate::entry::Entry;
-use crate::form::Form;
+use crate::form::AclTextForm;
 use crate::tag::Tag;
 use crate::text_fault::Part;
 use acl_perm::Perm;
@@ -21,7 +21,7 @@ pub(crate) const LINE: usize = 64;
 #[tactic(auto, unfolding(crate::specs::internal::Writing::entry_out))]
 pub(crate) fn put_entry(
     line: &mut [u8; LINE],
-    form: Form,
+    form: AclTextForm,
     part: Part,
     is_first: bool,
     entry: Entry,
@@ -40,13 +40,13 @@ pub(crate) fn put_entry(
 
 // Puts the bytes after an entry: in the shown form with a comment, if the effective permissions are not those of the
 // entry.
-fn put_ending(line: &mut [u8; LINE], form: Form, effective: Perm, perm: Perm) -> usize
+fn put_ending(line: &mut [u8; LINE], form: AclTextForm, effective: Perm, perm: Perm) -> usize
     ensures text { IsPut (ending form effective.bits perm.bits) line.old line.new line_room result }
     ensures short { line_room ≤ result + ending_room }
 {
     match form {
-        Form::Canonical => put(line, LINE, *b"\n"),
-        Form::Shown => {
+        AclTextForm::Canonical => put(line, LINE, *b"\n"),
+        AclTextForm::Shown => {
             let end = put(line, LINE, *b"\n");
             if effective.bits == perm.bits {
                 return end;
@@ -54,7 +54,7 @@ fn put_ending(line: &mut [u8; LINE], form: Form, effective: Perm, perm: Perm) ->
             let end = put_perm(line, end, effective);
             put(line, end, *b"\t#effective")
         }
-        Form::Short => LINE,
+        AclTextForm::Short => LINE,
     }
 }
 
@@ -90,39 +90,51 @@ fn put_qualifier(line: &mut [u8; LINE], end: usize, tag: Tag) -> usize
     }
 }
 
-fn put_word(line: &mut [u8; LINE], end: usize, form: Form, tag: Tag) -> usize
+fn put_word(line: &mut [u8; LINE], end: usize, form: AclTextForm, tag: Tag) -> usize
     requires room { word_room ≤ end }
     requires inside { end ≤ line_room }
     ensures text { IsPut (form_word form (tag_of tag) ++ colon ∷ []) line.old line.new end result }
     ensures short { end ≤ result + word_room }
 {
     match (form, tag) {
-        (Form::Canonical | Form::Shown, Tag::UserObj | Tag::User(_)) => put(line, end, *b"user:"),
-        (Form::Canonical | Form::Shown, Tag::GroupObj | Tag::Group(_)) => put(
+        (AclTextForm::Canonical | AclTextForm::Shown, Tag::UserObj | Tag::User(_)) => put(
+            line, end, *b"user:",
+        ),
+        (AclTextForm::Canonical | AclTextForm::Shown, Tag::GroupObj | Tag::Group(_)) => put(
             line, end, *b"group:",
         ),
-        (Form::Canonical | Form::Shown, Tag::Mask) => put(line, end, *b"mask:"),
-        (Form::Canonical | Form::Shown, Tag::Other) => put(line, end, *b"other:"),
-        (Form::Short, Tag::UserObj | Tag::User(_)) => put(line, end, *b"u:"),
-        (Form::Short, Tag::GroupObj | Tag::Group(_)) => put(line, end, *b"g:"),
-        (Form::Short, Tag::Mask) => put(line, end, *b"m:"),
-        (Form::Short, Tag::Other) => put(line, end, *b"o:"),
+        (AclTextForm::Canonical | AclTextForm::Shown, Tag::Mask) => put(line, end, *b"mask:"),
+        (AclTextForm::Canonical | AclTextForm::Shown, Tag::Other) => put(line, end, *b"other:"),
+        (AclTextForm::Short, Tag::UserObj | Tag::User(_)) => put(line, end, *b"u:"),
+        (AclTextForm::Short, Tag::GroupObj | Tag::Group(_)) => put(line, end, *b"g:"),
+        (AclTextForm::Short, Tag::Mask) => put(line, end, *b"m:"),
+        (AclTextForm::Short, Tag::Other) => put(line, end, *b"o:"),
     }
 }
 
 // Puts the bytes before an entry.
-fn put_lead(line: &mut [u8; LINE], end: usize, form: Form, part: Part, is_first: bool) -> usize
+fn put_lead(
+    line: &mut [u8; LINE],
+    end: usize,
+    form: AclTextForm,
+    part: Part,
+    is_first: bool,
+) -> usize
     requires room { lead_room ≤ end }
     requires inside { end ≤ line_room }
     ensures { IsPut (entry_lead form part is_first) line.old line.new end result }
 {
     match (form, part, is_first) {
-        (Form::Canonical | Form::Shown, Part::Access, _) => end,
-        (Form::Canonical | Form::Shown, Part::Default, _) => put(line, end, *b"default:"),
-        (Form::Short, Part::Access, true) => end,
-        (Form::Short, Part::Access, false) => put(line, end, *b","),
-        (Form::Short, Part::Default, true) => put(line, end, *b"d:"),
-        (Form::Short, Part::Default, false) => put(line, end, *b",d:"),
+        (AclTextForm::Canonical | AclTextForm::Shown, Part::Access, _) => end,
+        (AclTextForm::Canonical | AclTextForm::Shown, Part::Default, _) => put(
+            line,
+            end,
+            *b"default:",
+        ),
+        (AclTextForm::Short, Part::Access, true) => end,
+        (AclTextForm::Short, Part::Access, false) => put(line, end, *b","),
+        (AclTextForm::Short, Part::Default, true) => put(line, end, *b"d:"),
+        (AclTextForm::Short, Part::Default, false) => put(line, end, *b",d:"),
     }
 }
 

@@ -2,7 +2,7 @@
 
 /// A form of the text of ACLs: which words it has, and what separates its entries.
 #[derive(Clone, Copy, Debug, PartialEq, Eq)]
-pub enum Form {
+pub enum AclTextForm {
     /// Each entry on a line of its own, in canonical order, with the default ACL after the access ACL.
     Canonical,
     /// The canonical text, with a comment after each entry that the mask limits: its effective permissions.

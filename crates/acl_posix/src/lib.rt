@@ -51,7 +51,7 @@ pub use difference::{FewGroups, PosixDifference};
 pub use entry::Entry;
 pub use fault::AclFault;
 pub use file::{PosixFile, create};
-pub use form::Form;
+pub use form::AclTextForm;
 pub use id::Id;
 pub use names::{NameFault, Names};
 pub use parser::parse;

@@ -13,7 +13,7 @@ use crate::acl::PosixAcl;
 use crate::entry::Entry;
 use crate::entry_writer::{LINE, put_entry};
 use crate::file::PosixFile;
-use crate::form::Form;
+use crate::form::AclTextForm;
 use crate::text_fault::Part;
 use acl_perm::internal::put_next;
 use acl_perm::{Counted, Sink, WriteFault};
@@ -26,7 +26,7 @@ impl PosixFile {
         ensures { Writes S.contents S.failure_count sink.old sink.new
             (canonical_text self.now.access self.now.default) result }
     {
-        self.write(sink, Form::Canonical)
+        self.write(sink, AclTextForm::Canonical)
     }
 
     /// Writes the canonical text with a comment after each entry that the mask limits: its effective permissions. It
@@ -35,7 +35,7 @@ impl PosixFile {
         ensures { Writes S.contents S.failure_count sink.old sink.new
             (shown_text self.now.access self.now.default) result }
     {
-        self.write(sink, Form::Shown)
+        self.write(sink, AclTextForm::Shown)
     }
 
     /// Writes the short text: the entries in canonical order with commas between them, and no line feed. It ends at the
@@ -44,12 +44,12 @@ impl PosixFile {
         ensures { Writes S.contents S.failure_count sink.old sink.new
             (short_text self.now.access self.now.default) result }
     {
-        self.write(sink, Form::Short)
+        self.write(sink, AclTextForm::Short)
     }
 
     /// Writes the text in a form. It ends at the first put that fails, and tries nothing again. It takes no memory and
     /// linear time.
-    pub fn write<S: Sink>(&self, sink: &mut S, form: Form) -> Result<(), WriteFault>
+    pub fn write<S: Sink>(&self, sink: &mut S, form: AclTextForm) -> Result<(), WriteFault>
         ensures { Writes S.contents S.failure_count sink.old sink.new
             (form_text form self.now.access self.now.default) result }
     {
@@ -59,15 +59,15 @@ impl PosixFile {
 
     /// Returns the text in a form, with a line feed after the short text, which `write_short` does not write. Fails
     /// only if memory runs out.
-    pub fn to_text(&self, alloc: Global, form: Form) -> Result<Vec<u8>, AllocError>
+    pub fn to_text(&self, alloc: Global, form: AclTextForm) -> Result<Vec<u8>, AllocError>
         ensures { IfOk result (λ text. text.items ≡ file_text form self.now) }
     {
         let mut text = Counted::new(Vec::new(alloc));
         self.write(&mut text, form).map_err(|_| AllocError)?;
         let mut text = text.into_inner();
         match form {
-            Form::Canonical | Form::Shown => {}
-            Form::Short => text.push(b'\n')?,
+            AclTextForm::Canonical | AclTextForm::Shown => {}
+            AclTextForm::Short => text.push(b'\n')?,
         }
         Ok(text)
     }
@@ -89,7 +89,7 @@ impl PosixAcl {
         ensures { Writes S.contents S.failure_count sink.old sink.new
             (canonical_text self.now None) result }
     {
-        PosixAcl::write(self, sink, Form::Canonical)
+        PosixAcl::write(self, sink, AclTextForm::Canonical)
     }
 
     /// Writes the canonical text with a comment after each entry that the mask limits: its effective permissions. It
@@ -98,7 +98,7 @@ impl PosixAcl {
         ensures { Writes S.contents S.failure_count sink.old sink.new
             (shown_text self.now None) result }
     {
-        PosixAcl::write(self, sink, Form::Shown)
+        PosixAcl::write(self, sink, AclTextForm::Shown)
     }
 
     /// Writes the short text: the entries in canonical order with commas between them, and no line feed. It ends at the
@@ -107,12 +107,12 @@ impl PosixAcl {
         ensures { Writes S.contents S.failure_count sink.old sink.new
             (short_text self.now None) result }
     {
-        PosixAcl::write(self, sink, Form::Short)
+        PosixAcl::write(self, sink, AclTextForm::Short)
     }
 
     /// Writes the text in a form. It ends at the first put that fails, and tries nothing again. It takes no memory and
     /// linear time.
-    pub fn write<S: Sink>(&self, sink: &mut S, form: Form) -> Result<(), WriteFault>
+    pub fn write<S: Sink>(&self, sink: &mut S, form: AclTextForm) -> Result<(), WriteFault>
         ensures { Writes S.contents S.failure_count sink.old sink.new
             (form_text form self.now None) result }
     {
@@ -125,7 +125,7 @@ impl PosixAcl {
 #[tactic(auto, using(crate::proofs::writer::Bounds::part_under))]
 fn put_file<S: Sink>(
     sink: &mut S,
-    form: Form,
+    form: AclTextForm,
     access: &PosixAcl,
     default: Option<&PosixAcl>,
 ) -> Result<u64, WriteFault>
@@ -149,7 +149,7 @@ fn put_file<S: Sink>(
 fn put_part<S: Sink>(
     sink: &mut S,
     done: u64,
-    form: Form,
+    form: AclTextForm,
     part: Part,
     acl: &PosixAcl,
     entries: &[Entry],

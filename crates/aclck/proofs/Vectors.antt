@@ -24,7 +24,7 @@ use Rattle.aclck.specs.ProfileArgument.{profile_in, profile_value}
 use Rattle.aclck.specs.commands.ShowPosix.{form_value, show_posix_in}
 use Rattle.aclck.specs.Task.{definition_of, task_at, task_named, task_of}
 use Rattle.aclck.specs.Values.{id_value, ids_value, mask_value, mode_value, want_value}
-use Rattle.acl_posix.specs.declared.form.Form.TheVariants as form
+use Rattle.acl_posix.specs.declared.form.AclTextForm.TheVariants as form
 use Rattle.aclck.specs.declared.task.Name.{Name}
 use Rattle.aclck.specs.declared.task.Name.TheVariants as name
 

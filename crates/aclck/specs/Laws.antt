@@ -20,7 +20,7 @@ use Rattle.aclck.specs.commands.Normalize.{NormalizeAnswer, NormalizeInheritAnsw
 use Rattle.aclck.specs.commands.ShowNfs.{ShowNfsAnswer}
 use Rattle.aclck.specs.commands.ShowPosix.{ShowPosixAnswer}
 use Rattle.aclck.specs.declared.answer.Outcome.TheVariants as outcome
-use Rattle.acl_posix.specs.declared.form.Form.TheVariants as form
+use Rattle.acl_posix.specs.declared.form.AclTextForm.TheVariants as form
 
 -- what `show-posix` makes of an input in the canonical form is this text
 abbrev pub ShowsCanonical : Table → List ℕ → List ℕ → Type 0

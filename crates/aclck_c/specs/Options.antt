@@ -3,8 +3,8 @@
 use Rattle.std.specs.Prelude.{◌≡◌, ◌==◌, ◌+◌, ◌≤◌, ℕ, Bool, IsFalse, None, Option, Some, bit_and, if◌then◌else◌}
 use Rattle.acl_perm.specs.Bits.{all_mode_bits}
 use Rattle.acl_perm.specs.Profile.{Profile, full, narrow}
-use Rattle.acl_posix.specs.declared.form.Form.{Form}
-use Rattle.acl_posix.specs.declared.form.Form.TheVariants as form
+use Rattle.acl_posix.specs.declared.form.AclTextForm.{AclTextForm}
+use Rattle.acl_posix.specs.declared.form.AclTextForm.TheVariants as form
 use Rattle.acl_eval.specs.declared.inherit.ChildKind.{ChildKind}
 use Rattle.acl_eval.specs.declared.inherit.ChildKind.TheVariants.{Directory, File}
 
@@ -61,7 +61,7 @@ abbrev pub child_kind_from : ℕ → ChildKind
 child_kind_from options = if has_option directory_option options then Directory else File
 
 -- the form of a text
-abbrev pub form_from : ℕ → Option Form
+abbrev pub form_from : ℕ → Option AclTextForm
 form_from options =
     if options == 0 then Some form.Canonical
     else (if options == shown_option then Some form.Shown

@@ -5,7 +5,7 @@ use Rattle.acl_posix.specs.Names.{Table}
 use Rattle.acl_posix.specs.TextFault.{IsTextFault}
 use Rattle.acl_posix.specs.Programs.{MakesOfFile, chmod_text, created_text, file_text}
 use Rattle.acl_posix.specs.declared.file.PosixFile.{PosixFile}
-use Rattle.acl_posix.specs.declared.form.Form.{Form}
+use Rattle.acl_posix.specs.declared.form.AclTextForm.{AclTextForm}
 use Rattle.acl_posix.specs.declared.tag.Tag.{Tag}
 use Rattle.acl_posix.specs.declared.tag.Tag.TheVariants as tag
 use Rattle.acl_posix.specs.declared.text_fault.Cause.{Cause}
@@ -41,7 +41,7 @@ pub record HasTextFault (given : RawPosixText) (f : TextFault) : Type 0 where
 
 -- options mean a form, and the result is the text of the file in that form
 pub record IsShown (given : RawPosixText) (options : ℕ) (result : List ℕ) : Type 0 where
-  pub form : Form
+  pub form : AclTextForm
   pub is_form : form_from options ≡ Some form
   pub makes : MakesOfFile (SpellsFile given) (file_text form) result
 

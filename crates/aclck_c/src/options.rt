@@ -6,7 +6,7 @@ ghost use Rattle.aclck_c.specs.Renaming.{IsRenameOption, may_merge_from};
 
 use acl_eval::ChildKind;
 use acl_perm::{Mode, Profile};
-use acl_posix::Form;
+use acl_posix::AclTextForm;
 
 /// Only the rights and flags of the narrow profile.
 pub(crate) const NARROW: u32 = 0x0100_0000;
@@ -125,13 +125,13 @@ pub(crate) fn adds_mask_from(options: u32) -> Option<bool>
 }
 
 /// Returns the form of a text that `options` choose, or `None` if they choose none.
-pub(crate) fn form_from(options: u32) -> Option<Form>
+pub(crate) fn form_from(options: u32) -> Option<AclTextForm>
     ensures { result ≡ form_from options }
 {
     match options {
-        0 => Some(Form::Canonical),
-        FORM_SHOWN => Some(Form::Shown),
-        FORM_SHORT => Some(Form::Short),
+        0 => Some(AclTextForm::Canonical),
+        FORM_SHOWN => Some(AclTextForm::Shown),
+        FORM_SHORT => Some(AclTextForm::Short),
         _ => None,
     }
 }

@@ -1,5 +1,5 @@
 -- The bytes of a text of ACLs can be counted: the tags of a sorted list rise, so there are at most 6 * 2^32 entries.
-use Rattle.acl_posix.proofs.Common.{[], All, AllByRecursion, arith, Bool, decimal, effective_of, ending, Entries, entry_lead, entry_out, entry_text, false, Form, form_word, IfSome, IsEntry, IsId, IsStrictlySortedBy, IsTag, length, length-append, length-decimal-le, length-take, Less, List, long_word, None, Option, option_map, Part, part_limit, part_out, perm_text, qualifier_text, recursion_from_All, Short, Some, Tag, tag_cmp, tag_row, tags, TagWord, unwrap_or, word_text, ℕ, ◌*◌, ◌++◌, ◌+◌, ◌<◌, ◌∷◌, ◌≡◌, ◌≤◌}
+use Rattle.acl_posix.proofs.Common.{[], AclTextForm, All, AllByRecursion, arith, Bool, decimal, effective_of, ending, Entries, entry_lead, entry_out, entry_text, false, form_word, IfSome, IsEntry, IsId, IsStrictlySortedBy, IsTag, length, length-append, length-decimal-le, length-take, Less, List, long_word, None, Option, option_map, Part, part_limit, part_out, perm_text, qualifier_text, recursion_from_All, Short, Some, Tag, tag_cmp, tag_row, tags, TagWord, unwrap_or, word_text, ℕ, ◌*◌, ◌++◌, ◌+◌, ◌<◌, ◌∷◌, ◌≡◌, ◌≤◌}
 use Rattle.std.specs.FinMap as fin
 use Rattle.acl_posix.proofs.tag.Tags.{length-tags_of, less_rises, number, qualifier_below, rank_below}
 use Rattle.acl_posix.proofs.sorted.Lists.{entries_sorted}
@@ -8,7 +8,7 @@ use Rattle.acl_posix.specs.internal.Packed.{most_entries}
 -- ---- an entry
 
 -- the bytes before an entry are at most eight
-lead_short : (form : Form) (part : Part) (first : Bool) → length (entry_lead form part first) ≤ 8
+lead_short : (form : AclTextForm) (part : Part) (first : Bool) → length (entry_lead form part first) ≤ 8
 lead_short form part first = grind arith
 
 -- a tag word in full has at most five bytes
@@ -16,7 +16,7 @@ text_short : (word : TagWord) → length (word_text word) ≤ 5
 text_short word = grind arith
 
 -- the word of a tag has at most five bytes in each form
-word_short : (form : Form) (t : Tag) → length (form_word form t) ≤ 5
+word_short : (form : AclTextForm) (t : Tag) → length (form_word form t) ≤ 5
 word_short Short t = let long = length-take 1 (long_word t) in omega (arith, long, text_short (tag_row t).word)
 word_short form t = text_short (tag_row t).word
 
@@ -26,11 +26,11 @@ digits_short None h = omega arith
 digits_short (Some id) h = length-decimal-le 20 id (omega arith) (omega (arith, h)) (omega (arith, h))
 
 -- the bytes after an entry are at most 16
-ending_short : (form : Form) (eff perm : ℕ) → length (ending form eff perm) ≤ 16
+ending_short : (form : AclTextForm) (eff perm : ℕ) → length (ending form eff perm) ≤ 16
 ending_short form eff perm = grind arith
 
 -- what is written for an entry has at most 64 bytes
-out_short : (form : Form) (part : Part) (first : Bool) (eff : ℕ) (e : Tag × ℕ) → IsEntry e
+out_short : (form : AclTextForm) (part : Part) (first : Bool) (eff : ℕ) (e : Tag × ℕ) → IsEntry e
     → length (entry_out form part first eff e) ≤ 64
 unfolding entry_out
 out_short form part first eff e h =
@@ -44,7 +44,7 @@ out_short form part first eff e h =
     omega (arith, a, b, c, d, lead_short form part first, word_short form e.0, few, ending_short form eff e.1)
 
 -- what is written for the entries of a part has at most 64 bytes per entry
-part_short : (form : Form) (part : Part) (acl : Entries) (first : Bool) (es : List (Tag × ℕ))
+part_short : (form : AclTextForm) (part : Part) (acl : Entries) (first : Bool) (es : List (Tag × ℕ))
     → AllByRecursion IsEntry es → length (part_out form part acl first es) ≤ 64 * length es
 part_short form part acl first [] h = omega arith
 part_short form part acl first (e ∷ es) h =
@@ -80,7 +80,7 @@ tags_within [] h = tt
 tags_within (e ∷ es) h = (h.0.0, tags_within es h.1)
 
 -- the bytes of a part are fewer than the limit
-pub part_under : (form : Form) (part : Part) (acl : Entries) (first : Bool) → All IsEntry (fin.entries acl)
+pub part_under : (form : AclTextForm) (part : Part) (acl : Entries) (first : Bool) → All IsEntry (fin.entries acl)
     → length (part_out form part acl first (fin.entries acl)) < part_limit
 part_under form part acl first h =
     let within = recursion_from_All IsEntry (fin.entries acl) h in

@@ -1,10 +1,10 @@
 -- The texts that the code puts together are those of the definitions.
-use Rattle.acl_posix.proofs.Common.{[], Access, ap, append-nil, append_assoc, Canonical, canonical_text, codes, Default, effective_mark, effective_of, Entries, entry_lead, entry_out, false, flat_map, flat_map-append, flat_map-map, Form, form_text, join_with_byte, line, List, long_default, long_entry, map, missing, None, Option, Part, part_out, refl, Short, short_default, short_entry, short_text, Shown, shown_text, Some, sym, Tag, text_out, true, ℕ, ◌++◌, ◌∙◌, ◌∷◌, ◌≡◌}
+use Rattle.acl_posix.proofs.Common.{[], Access, AclTextForm, ap, append-nil, append_assoc, Canonical, canonical_text, codes, Default, effective_mark, effective_of, Entries, entry_lead, entry_out, false, flat_map, flat_map-append, flat_map-map, form_text, join_with_byte, line, List, long_default, long_entry, map, missing, None, Option, Part, part_out, refl, Short, short_default, short_entry, short_text, Shown, shown_text, Some, sym, Tag, text_out, true, ℕ, ◌++◌, ◌∙◌, ◌∷◌, ◌≡◌}
 use Rattle.std.specs.FinMap as fin
 use Rattle.acl_posix.proofs.writer.TextFiles.{has_owner}
 
 -- what is written for an entry that is not the first of its text
-abbrev later_text : Form → Part → Entries → Tag × ℕ → List ℕ
+abbrev later_text : AclTextForm → Part → Entries → Tag × ℕ → List ℕ
 later_text Canonical Access acl e = line (long_entry e)
 later_text Canonical Default acl e = line (long_default e)
 later_text Shown Access acl e = line (long_entry e ++ effective_mark acl e)
@@ -13,7 +13,7 @@ later_text Short Access acl e = 44 ∷ short_entry e
 later_text Short Default acl e = 44 ∷ short_default e
 
 -- what is put together for an entry that is not the first is what the definitions have for it
-later_is : (form : Form) (part : Part) (acl : Entries) (e : Tag × ℕ)
+later_is : (form : AclTextForm) (part : Part) (acl : Entries) (e : Tag × ℕ)
     → entry_out form part false (effective_of acl e) e ≡ later_text form part acl e
 unfolding entry_out long_entry long_default short_entry short_default effective_mark
 later_is Canonical Access acl e = refl
@@ -28,13 +28,13 @@ append-equal : {a b c d : List ℕ} → a ≡ b → c ≡ d → a ++ c ≡ b ++ 
 append-equal {b} {c} first second = ap (λ (xs : List ℕ). xs ++ c) first ∙ ap (λ (xs : List ℕ). b ++ xs) second
 
 -- the entries of a part that are not the first of a text are put together one after the other
-part_is : (form : Form) (part : Part) (acl : Entries) (es : List (Tag × ℕ))
+part_is : (form : AclTextForm) (part : Part) (acl : Entries) (es : List (Tag × ℕ))
     → part_out form part acl false es ≡ flat_map (later_text form part acl) es
 part_is form part acl [] = refl
 part_is form part acl (e ∷ es) = append-equal (later_is form part acl e) (part_is form part acl es)
 
 -- in a text of lines the first entry is written as any other
-lines_are : (form : Form) (acl : Entries) (es : List (Tag × ℕ))
+lines_are : (form : AclTextForm) (acl : Entries) (es : List (Tag × ℕ))
     → entry_lead form Access true ≡ entry_lead form Access false
     → part_out form Access acl true es ≡ flat_map (later_text form Access acl) es
 unfolding entry_out
@@ -67,7 +67,7 @@ short_row acl (e ∷ es) ds some = rw (
 -- ---- all of them
 
 -- the text that is put together is the text in that form
-pub form_is : (form : Form) (access : Entries) (default : Option Entries) → missing access ≡ None
+pub form_is : (form : AclTextForm) (access : Entries) (default : Option Entries) → missing access ≡ None
     → text_out form access default ≡ form_text form access default
 unfolding canonical_text shown_text short_text
 form_is Canonical access None valid = append-equal (lines_are Canonical access (fin.entries access) refl) refl

@@ -1,5 +1,5 @@
 -- Bytes that are put in front of others, and entries that are put one after the other.
-use Rattle.acl_posix.proofs.Common.{ap, append-nil, append_assoc, arith, Bool, drop, drop_all, drop_more, Entries, Entry, entry_out, Err, false, Form, IsPut, length, length-append, length-drop, List, mask, masked_by, Option, out_cut, out_none, pair_of, pairs, Part, part_out, refl, slice_index_or, sym, take, take_all, WritesFrom, ℕ, ◌++◌, ◌+◌, ◌-◌, ◌<◌, ◌∙◌, ◌∷◌, ◌≡◌}
+use Rattle.acl_posix.proofs.Common.{AclTextForm, ap, append-nil, append_assoc, arith, Bool, drop, drop_all, drop_more, Entries, Entry, entry_out, Err, false, IsPut, length, length-append, length-drop, List, mask, masked_by, Option, out_cut, out_none, pair_of, pairs, Part, part_out, refl, slice_index_or, sym, take, take_all, WritesFrom, ℕ, ◌++◌, ◌+◌, ◌-◌, ◌<◌, ◌∙◌, ◌∷◌, ◌≡◌}
 use Rattle.acl_perm.specs.declared.whole.WriteFault.{WriteFault}
 use Rattle.std.specs.FinMap as set
 
@@ -22,7 +22,8 @@ pub line_from : (line : List ℕ) (start : ℕ) → length line ≡ 64 → take 
 line_from line start long = take_all (64 - start) (drop start line) (omega (arith, long, length-drop start line))
 
 -- the text of the entries that are left is the line of the next entry and the text of the entries after it
-pub entry_next : {i eff : ℕ} {e : Entry} {limit : Option ℕ} (form : Form) (part : Part) (acl : Entries) (first : Bool)
+pub entry_next : {i eff : ℕ} {e : Entry} {limit : Option ℕ} (form : AclTextForm) (part : Part) (acl : Entries)
+    (first : Bool)
     (es : List Entry) (room : List ℕ) (start : ℕ) → i < length es → e ≡ slice_index_or es i e → length room ≡ 64
     → drop start room ≡ entry_out form part first eff (pair_of e) → eff ≡ masked_by limit (pair_of e)
     → limit ≡ set.get acl mask → part_out form part acl first (pairs (drop i es))

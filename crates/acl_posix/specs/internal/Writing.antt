@@ -3,8 +3,8 @@
 use Rattle.std.specs.Prelude.{ℕ, ◌≡◌, ◌+◌, ◌^◌, Bool, true, false, List, [], ◌∷◌, ◌++◌, codes, drop, length, Option, Some, None, if◌then◌else◌}
 use Rattle.std.specs.FinMap as set
 use Rattle.acl_perm.specs.Ascii.{line_feed}
-use Rattle.acl_posix.specs.declared.form.Form.{Form}
-use Rattle.acl_posix.specs.declared.form.Form.TheVariants.{Canonical, Shown, Short}
+use Rattle.acl_posix.specs.declared.form.AclTextForm.{AclTextForm}
+use Rattle.acl_posix.specs.declared.form.AclTextForm.TheVariants.{Canonical, Shown, Short}
 use Rattle.acl_posix.specs.declared.text_fault.Part.{Part}
 use Rattle.acl_posix.specs.declared.text_fault.Part.TheVariants.{Access, Default}
 use Rattle.acl_posix.specs.Tag.{Tag}
@@ -48,7 +48,7 @@ pub record IsPut (bytes old new : List ℕ) (end start : ℕ) : Type 0 where
 
 -- the bytes before an entry: a comma before each entry of a short text except the first, and the mark of a default
 -- entry
-abbrev pub entry_lead : Form → Part → Bool → List ℕ
+abbrev pub entry_lead : AclTextForm → Part → Bool → List ℕ
 entry_lead Canonical Access first = []
 entry_lead Canonical Default first = codes "default:"
 entry_lead Shown Access first = []
@@ -57,33 +57,33 @@ entry_lead Short Access first = if first then [] else codes ","
 entry_lead Short Default first = if first then codes "d:" else codes ",d:"
 
 -- the word of a tag, in full or as its first letter
-abbrev pub form_word : Form → Tag → List ℕ
+abbrev pub form_word : AclTextForm → Tag → List ℕ
 form_word Canonical tag = long_word tag
 form_word Shown tag = long_word tag
 form_word Short tag = short_word tag
 
 -- the bytes after the fields of an entry
-abbrev pub ending : Form → ℕ → ℕ → List ℕ
+abbrev pub ending : AclTextForm → ℕ → ℕ → List ℕ
 ending Canonical effective perm = line_feed ∷ []
 ending Shown effective perm = mark_text effective perm ++ line_feed ∷ []
 ending Short effective perm = []
 
 -- what is written for an entry: the bytes before it, its fields, and the bytes after it
-unfoldable pub entry_out : Form → Part → Bool → ℕ → Tag × ℕ → List ℕ
+unfoldable pub entry_out : AclTextForm → Part → Bool → ℕ → Tag × ℕ → List ℕ
 entry_out form part first effective entry =
     entry_lead form part first ++ (entry_text (form_word form entry.0) entry ++ ending form effective entry.1)
 
 -- what is written for the entries of a part
-abbrev pub part_out : Form → Part → Entries → Bool → List (Tag × ℕ) → List ℕ
+abbrev pub part_out : AclTextForm → Part → Entries → Bool → List (Tag × ℕ) → List ℕ
 part_out form part acl first [] = []
 part_out form part acl first (entry ∷ entries) =
     entry_out form part first (effective_of acl entry) entry ++ part_out form part acl false entries
 
 -- what is written for the default part, if there is one
-abbrev pub default_out : Form → Option Entries → List ℕ
+abbrev pub default_out : AclTextForm → Option Entries → List ℕ
 default_out form None = []
 default_out form (Some acl) = part_out form Default acl false (set.entries acl)
 
 -- what is written for a file
-abbrev pub text_out : Form → Entries → Option Entries → List ℕ
+abbrev pub text_out : AclTextForm → Entries → Option Entries → List ℕ
 text_out form access default = part_out form Access access true (set.entries access) ++ default_out form default

@@ -129,6 +129,6 @@ fn a_name_is_added_once_as_a_user_and_once_as_a_group(rt: HostRuntime) -> Result
     add_each(&rt, &mut names);
     let text = b"u::,u:7a:,g::,g:7a:,m::,o::";
     let wanted = b"u::---,u:1:---,g::---,g:2:---,m::---,o::---";
-    assert!(rt; is_read(rt.alloc(), &names, text, Form::Short, wanted));
+    assert!(rt; is_read(rt.alloc(), &names, text, AclTextForm::Short, wanted));
     Ok(())
 }

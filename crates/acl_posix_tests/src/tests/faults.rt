@@ -164,7 +164,7 @@ pub fn zeros_are_read(alloc: Global) -> bool {
             let mut room = [0u8; 64];
             match parse(alloc, &text, &names) {
                 Ok(file) => {
-                    let (size, _) = write(&file, Form::Short, &mut room);
+                    let (size, _) = write(&file, AclTextForm::Short, &mut room);
                     size == ZEROS_READ.len() && holds(&room, ZEROS_READ)
                 }
                 Err(_) => false,

@@ -66,13 +66,13 @@ fn add_names(rt: &impl Abort, names: &mut Names) -> Option<()> {
     Some(())
 }
 
-static ROWS: [(&[u8], Form, &[u8]); 4] = [
-    (SHORT, Form::Shown, SHOWN),
-    (LISTED_SHORT, Form::Canonical, LISTED_CANONICAL),
-    (TWO_MASKS, Form::Shown, TWO_MASKS_SHOWN),
+static ROWS: [(&[u8], AclTextForm, &[u8]); 4] = [
+    (SHORT, AclTextForm::Shown, SHOWN),
+    (LISTED_SHORT, AclTextForm::Canonical, LISTED_CANONICAL),
+    (TWO_MASKS, AclTextForm::Shown, TWO_MASKS_SHOWN),
     (
         b"u::,u:bob:r,g::,g:staff ops:w,m::,o::",
-        Form::Short,
+        AclTextForm::Short,
         b"u::---,u:1002:r--,g::---,g:50:-w-,m::---,o::---",
     ),
 ];
@@ -82,7 +82,7 @@ fn may_be_read(
     alloc: Global,
     names: &Names,
     has_both: bool,
-    (text, form, wanted): (&[u8], Form, &[u8]),
+    (text, form, wanted): (&[u8], AclTextForm, &[u8]),
 ) -> bool {
     match parse(alloc, text, names) {
         Ok(file) => is_written(&file, form, wanted),

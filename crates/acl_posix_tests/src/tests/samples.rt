@@ -55,7 +55,7 @@ pub fn names_of(alloc: Global) -> Option<Names> {
 }
 
 /// Writes a text into a buffer, and returns how many bytes were written and the result of the call.
-pub fn write(file: &PosixFile, form: Form, room: &mut [u8]) -> (usize, Option<u64>) {
+pub fn write(file: &PosixFile, form: AclTextForm, room: &mut [u8]) -> (usize, Option<u64>) {
     let size = room.len();
     let mut sink = Counted::new(room);
     let answer = file.write(&mut sink, form);
@@ -72,14 +72,20 @@ pub fn holds(room: &[u8], text: &[u8]) -> bool {
 }
 
 /// Returns whether a file has this text in a form.
-pub fn is_written(file: &PosixFile, form: Form, wanted: &[u8]) -> bool {
+pub fn is_written(file: &PosixFile, form: AclTextForm, wanted: &[u8]) -> bool {
     let mut room = [0u8; 512];
     let (size, fault) = write(file, form, &mut room);
     fault.is_none() && size == wanted.len() && holds(&room, wanted)
 }
 
 /// Returns whether a text is read, and its file has this text in a form.
-pub fn is_read(alloc: Global, names: &Names, text: &[u8], form: Form, wanted: &[u8]) -> bool {
+pub fn is_read(
+    alloc: Global,
+    names: &Names,
+    text: &[u8],
+    form: AclTextForm,
+    wanted: &[u8],
+) -> bool {
     match parse(alloc, text, names) {
         Ok(file) => is_written(&file, form, wanted),
         Err(_) => false,

@@ -9,36 +9,36 @@ use acl_perm::Counted;
 use acl_posix::*;
 
 /// Each text is read and written again in a form.
-pub static TEXTS: [(&[u8], Form, &[u8]); 13] = [
-    (SHORT, Form::Canonical, CANONICAL),
-    (SHORT, Form::Shown, SHOWN),
-    (SHORT, Form::Short, SHORT),
-    (CANONICAL, Form::Short, SHORT),
-    (SHOWN, Form::Canonical, CANONICAL),
-    (LISTED, Form::Canonical, LISTED_CANONICAL),
-    (LISTED, Form::Short, LISTED_SHORT),
-    (LISTED_SHORT, Form::Canonical, LISTED_CANONICAL),
-    (TWO_MASKS, Form::Shown, TWO_MASKS_SHOWN),
-    (TWO_MASKS_SHOWN, Form::Shown, TWO_MASKS_SHOWN),
+pub static TEXTS: [(&[u8], AclTextForm, &[u8]); 13] = [
+    (SHORT, AclTextForm::Canonical, CANONICAL),
+    (SHORT, AclTextForm::Shown, SHOWN),
+    (SHORT, AclTextForm::Short, SHORT),
+    (CANONICAL, AclTextForm::Short, SHORT),
+    (SHOWN, AclTextForm::Canonical, CANONICAL),
+    (LISTED, AclTextForm::Canonical, LISTED_CANONICAL),
+    (LISTED, AclTextForm::Short, LISTED_SHORT),
+    (LISTED_SHORT, AclTextForm::Canonical, LISTED_CANONICAL),
+    (TWO_MASKS, AclTextForm::Shown, TWO_MASKS_SHOWN),
+    (TWO_MASKS_SHOWN, AclTextForm::Shown, TWO_MASKS_SHOWN),
     (
         b"o::r--,m:\t:r , g : staff ops :wr,g::r,user: 01001:rw#,\nuser::wr",
-        Form::Short,
+        AclTextForm::Short,
         SHORT,
     ),
     (
         b"u::,g::-----,o::-x-r-w",
-        Form::Short,
+        AclTextForm::Short,
         b"u::---,g::---,o::rwx",
     ),
     (
         b"u:4294967294:,u::,g::,m::,o::",
-        Form::Short,
+        AclTextForm::Short,
         b"u::---,u:4294967294:---,g::---,m::---,o::---",
     ),
 ];
 
 // Writes into a buffer of n bytes: the fault reports n, and the buffer holds the first n bytes of the text.
-fn is_cut(file: &PosixFile, form: Form, text: &[u8], size: usize) -> bool {
+fn is_cut(file: &PosixFile, form: AclTextForm, text: &[u8], size: usize) -> bool {
     let mut room = [0u8; 128];
     let (part, _) = room.split_at_mut(size.min(128));
     let (front, _) = text.split_at(size.min(text.len()));
@@ -56,9 +56,9 @@ fn a_write_that_fails_reports_how_many_bytes_it_wrote(rt: HostRuntime) {
         }
     };
     for (form, text) in [
-        (Form::Canonical, CANONICAL),
-        (Form::Shown, SHOWN),
-        (Form::Short, SHORT),
+        (AclTextForm::Canonical, CANONICAL),
+        (AclTextForm::Shown, SHOWN),
+        (AclTextForm::Short, SHORT),
     ] {
         for size in 0..text.len() {
             assert!(rt; is_cut(&file, form, text, size));

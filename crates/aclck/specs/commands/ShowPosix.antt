@@ -11,8 +11,8 @@ use Rattle.aclck.specs.Options.{form_term}
 use Rattle.aclck.specs.Values.{of_both}
 use Rattle.aclck.specs.Answer.{Answer}
 use Rattle.aclck.specs.PosixAnswer.{WritesAnswer}
-use Rattle.acl_posix.specs.declared.form.Form.{Form}
-use Rattle.acl_posix.specs.declared.form.Form.TheVariants as form
+use Rattle.acl_posix.specs.declared.form.AclTextForm.{AclTextForm}
+use Rattle.acl_posix.specs.declared.form.AclTextForm.TheVariants as form
 use Rattle.aclck.specs.declared.task.values.ShowPosix.{ShowPosix}
 use Rattle.aclck.specs.Definition.{Definition, on_text}
 
@@ -20,11 +20,11 @@ use Rattle.aclck.specs.Definition.{Definition, on_text}
 
 -- the form, and which names a text may have
 pub record ShowPosixValues : Type 0 where
-  pub form : Form
+  pub form : AclTextForm
   pub names : Table
 
 -- the form that a value of `--form` names
-unfoldable pub form_value : Text → Option Form
+unfoldable pub form_value : Text → Option AclTextForm
 form_value text = if bytes_eq text (codes "canonical") then Some form.Canonical
     else (if bytes_eq text (codes "shown") then Some form.Shown
     else (if bytes_eq text (codes "short") then Some form.Short else None))

@@ -12,7 +12,7 @@ ghost use Rattle.aclck.specs.internal.Writing.{WritesText};
 
 use crate::answer::{Outcome, RunFault, write_answer};
 use acl_perm::{Sink, Source, read_all};
-use acl_posix::{Form, Names, PosixFile, TextFault, parse};
+use acl_posix::{AclTextForm, Names, PosixFile, TextFault, parse};
 use std::alloc::Global;
 
 /// Reads an input to its end, and returns the file that its text spells. Fails if the text is refused, a read fails, or
@@ -53,7 +53,7 @@ pub(crate) fn write_file<K: Sink>(
     alloc: Global,
     sink: &mut K,
     file: PosixFile,
-    form: Form,
+    form: AclTextForm,
 ) -> Result<Outcome, RunFault>
     ensures { WritesText Outcome.Yes (file_text form file)
         K.contents K.failure_count sink.old sink.new result }

@@ -5,7 +5,7 @@ ghost use Rattle.aclck.specs.commands.CalcMask.{calc_mask};
 use crate::answer::{Outcome, RunFault};
 use crate::input::posix::{read_file, write_file};
 use acl_perm::{Sink, Source};
-use acl_posix::{Form, Names};
+use acl_posix::{AclTextForm, Names};
 use std::alloc::Global;
 
 /// Writes the canonical text of the file that the input spells, with the mask of its access ACL calculated, and added
@@ -23,5 +23,5 @@ pub fn run_calc_mask<S: Source, K: Sink>(
 {
     let mut file = read_file(alloc, source, names)?;
     file.access.calc_mask()?;
-    write_file(alloc, sink, file, Form::Canonical)
+    write_file(alloc, sink, file, AclTextForm::Canonical)
 }

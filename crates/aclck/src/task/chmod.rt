@@ -10,7 +10,7 @@ use crate::words::names::names_in;
 use crate::words::options::MODE;
 use crate::words::values::mode_in;
 use acl_perm::{Mode, Sink, Source};
-use acl_posix::{Form, Names};
+use acl_posix::{AclTextForm, Names};
 use clap::ArgMatches;
 use std::alloc::Global;
 
@@ -46,5 +46,5 @@ pub fn run_chmod<S: Source, K: Sink>(
 {
     let mut file = read_file(alloc, source, names)?;
     file.access.chmod(mode);
-    write_file(alloc, sink, file, Form::Canonical)
+    write_file(alloc, sink, file, AclTextForm::Canonical)
 }

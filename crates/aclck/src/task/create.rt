@@ -10,7 +10,7 @@ use crate::words::names::names_in;
 use crate::words::options::{DIR, MODE, UMASK};
 use crate::words::values::mode_in;
 use acl_perm::{Mode, Sink, Source};
-use acl_posix::{Form, Names, create};
+use acl_posix::{AclTextForm, Names, create};
 use clap::ArgMatches;
 use std::alloc::Global;
 
@@ -57,5 +57,5 @@ pub fn run_create<S: Source, K: Sink>(
     let default = parent.default.as_ref();
     let file = create(alloc, default, mode, umask, dir)?;
     drop(parent);
-    write_file(alloc, sink, file, Form::Canonical)
+    write_file(alloc, sink, file, AclTextForm::Canonical)
 }

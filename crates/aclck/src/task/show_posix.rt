@@ -10,7 +10,7 @@ use crate::task::values::ShowPosix;
 use crate::words::names::names_in;
 use crate::words::options::FORM;
 use acl_perm::{Sink, Source};
-use acl_posix::{Form, Names};
+use acl_posix::{AclTextForm, Names};
 use clap::ArgMatches;
 use std::alloc::Global;
 
@@ -24,9 +24,9 @@ pub(crate) fn read(alloc: Global, matches: &ArgMatches<'_>) -> Result<ShowPosix,
     ensures { ReadsValues show_posix_held (show_posix_in (rows_in matches.now)) result }
 {
     let form = match text_of(matches, FORM) {
-        Some("canonical") => Form::Canonical,
-        Some("shown") => Form::Shown,
-        Some("short") => Form::Short,
+        Some("canonical") => AclTextForm::Canonical,
+        Some("shown") => AclTextForm::Shown,
+        Some("short") => AclTextForm::Short,
         _ => return Err(LineFault::Usage),
     };
     let names = names_in(alloc, matches)?;
@@ -40,7 +40,7 @@ pub fn run_show_posix<S: Source, K: Sink>(
     alloc: Global,
     source: &mut S,
     sink: &mut K,
-    form: Form,
+    form: AclTextForm,
     names: &Names,
 ) -> Result<Outcome, RunFault>
     ensures { RunsCommand show_posix (record { form = form; names = names.now })

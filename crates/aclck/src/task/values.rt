@@ -2,12 +2,12 @@
 
 use acl_eval::{ChildKind, Object, Requester};
 use acl_perm::{Mask, Mode, Perm, Profile};
-use acl_posix::{Form, Id, Names};
+use acl_posix::{AclTextForm, Id, Names};
 
 /// What `show-posix` takes: the form of its text, and the names that its input may use.
 #[derive(Drop)]
 pub struct ShowPosix {
-    pub form: Form,
+    pub form: AclTextForm,
     pub names: Names,
 }
 

@@ -21,7 +21,7 @@ use crate::refusal::Refusal;
 use crate::status::Status;
 use acl_eval::{BridgeFault, bridge};
 use acl_perm::Mode;
-use acl_posix::{Form, create};
+use acl_posix::{AclTextForm, create};
 use std::alloc::Global;
 
 /// Writes the text of the ACLs in one form (acl(5), "LONG TEXT FORM", "SHORT TEXT FORM"). The form is the canonical one
@@ -46,7 +46,7 @@ pub extern "C" fn aclck_posix_show(
     answer(shown(alloc, text, form), out, needed, fault)
 }
 
-fn shown(alloc: Global, text: &RawPosixText<'_>, form: Form) -> Result<Vec<u8>, Failure>
+fn shown(alloc: Global, text: &RawPosixText<'_>, form: AclTextForm) -> Result<Vec<u8>, Failure>
     ensures ok { IfOk result (λ made.
         MakesOfFile (SpellsFile text.now) (file_text form) made.items) }
     ensures err { IfErr result (IsFileFailure text.now) }
@@ -79,7 +79,7 @@ fn masked(alloc: Global, text: &RawPosixText<'_>) -> Result<Vec<u8>, Failure>
 {
     let mut file = file_of(alloc, text)?;
     file.access.calc_mask()?;
-    Ok(file.to_text(alloc, Form::Canonical)?)
+    Ok(file.to_text(alloc, AclTextForm::Canonical)?)
 }
 
 /// Writes the canonical text of the ACLs after the mode of the access ACL is set (acl(5), "CORRESPONDENCE BETWEEN ACL
@@ -109,7 +109,7 @@ fn with_mode(alloc: Global, text: &RawPosixText<'_>, mode: Mode) -> Result<Vec<u
 {
     let mut file = file_of(alloc, text)?;
     file.access.chmod(mode);
-    Ok(file.to_text(alloc, Form::Canonical)?)
+    Ok(file.to_text(alloc, AclTextForm::Canonical)?)
 }
 
 /// Writes the canonical text of a new object in a directory with the ACLs (acl(5), "OBJECT CREATION AND DEFAULT ACLs").
@@ -152,7 +152,7 @@ fn created(
         creation.umask,
         creation.is_directory,
     )?;
-    Ok(file.to_text(alloc, Form::Canonical)?)
+    Ok(file.to_text(alloc, AclTextForm::Canonical)?)
 }
 
 /// Writes the bytes of the NFSv4 list of the access ACL (this library's own, over POSIX.1e draft 17, section 23, and
