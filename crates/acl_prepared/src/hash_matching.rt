@@ -5,8 +5,8 @@ ghost use Rattle.std.specs.Str.{bytes_eq};
 ghost use Rattle.acl_perm.specs.Order.{principal_name};
 ghost use Rattle.acl_perm.specs.Principal.{group, group_named, owner, principal, user};
 ghost use Rattle.acl_perm.specs.Situation.{matches};
-ghost use Rattle.acl_prepared.specs.Prepared.{name_hash};
 ghost use Rattle.acl_eval.specs.Situation.{groups_of, situation, user_of};
+ghost use Rattle.acl_prepared.specs.Prepared.{name_hash};
 ghost use Rattle.acl_prepared.specs.internal.NameHashes.{AreHashesOf, is_marked};
 
 use crate::prepared_ace::{PreparedAce, name_hash};
