@@ -9,7 +9,7 @@ use Rattle.std.proofs.lemmas.List.Splits.{slice_split_at, slice_split_none}
 use Rattle.std.proofs.lemmas.List.Sums.{sum_by_push}
 use Rattle.std.proofs.lemmas.Bool.{and_from}
 use Rattle.acl_perm.proofs.Bools.{and_true}
-use Rattle.acl_perm.specs.Ascii.{comma, hash, line_feed}
+use Rattle.acl_perm.specs.Ascii.{comma, comment_mark, line_feed}
 use Rattle.acl_perm.specs.Lines.{cut_at, is_all_blank, is_blank, spans, Span}
 use Rattle.acl_nfs4.proofs.Exports.{all_weaker, weight-cons}
 use Rattle.acl_nfs4.specs.Ace.{Ace}
@@ -75,7 +75,7 @@ separated_pass test feed mark Commas entry (a ∷ list) each =
 
 -- a byte that ends no line and begins no comment
 abbrev is_in_line : ℕ → Bool
-is_in_line b = not (b == line_feed) && not (b == hash)
+is_in_line b = not (b == line_feed) && not (b == comment_mark)
 
 -- the entries are in their line
 all_in_line : (by : WhoField) (entry : Ace → List ℕ) (written : Ace → Ace) (list : List Ace)
@@ -125,8 +125,9 @@ comma_items by entry written a list each =
     let inside = separated_in_line by entry written a list each in
     let feed = slice_split_none (λ b. b == line_feed) text (all_not (λ b. b == line_feed) text
     (all_weaker is_in_line (λ b. not (b == line_feed)) text (λ b h. (and_true (not (b == line_feed)) _ h).0) inside)) in
-    let mark = no_place (λ b. b == hash) text
-    (all_weaker is_in_line (λ b. not (b == hash)) text (λ b h. (and_true (not (b == line_feed)) _ h).1) inside) in
+    let mark = no_place (λ b. b == comment_mark) text
+    (all_weaker is_in_line (λ b. not (b == comment_mark)) text
+    (λ b h. (and_true (not (b == line_feed)) _ h).1) inside) in
     let some : is_all_blank text ≡ false =
     list_all-append is_blank (entry a) (flat_map (λ b. comma ∷ entry b) list) ∙ rw each.0.some refl in
     rw (feed, mark, some, comma_split by entry written a list each)
@@ -166,7 +167,8 @@ line_again : (by : WhoField) (text : List ℕ) (a : Ace) → IsEntryReadBack by 
 unfolding line_items cut_entries
 line_again by text a h =
     let mark =
-    no_place (λ b. b == hash) text (all_weaker is_inside (λ b. not (b == hash)) text (λ b i. no_mark b i) h.inside) in
+    no_place (λ b. b == comment_mark) text
+    (all_weaker is_inside (λ b. not (b == comment_mark)) text (λ b i. no_mark b i) h.inside) in
     let whole = slice_split_none (λ b. b == comma) text (all_not (λ b. b == comma) text (no_end text h.inside)) in
     record {
       in_line = all_not (λ b. b == line_feed) text (all_weaker is_inside (λ b. not (b == line_feed)) text

@@ -3,7 +3,7 @@ use Rattle.std.proofs.Common.{◌≡◌, ◌∙◌, ◌++◌, ℕ, true, false, 
 use Rattle.std.specs.Prelude.{◌==◌, position}
 use Rattle.std.specs.List.{slice_split}
 use Rattle.std.proofs.lemmas.List.Splits.{length-slice_split}
-use Rattle.acl_perm.specs.Ascii.{colon, hash}
+use Rattle.acl_perm.specs.Ascii.{colon, comment_mark}
 use Rattle.acl_perm.specs.Lines.{cut_at, IsCut, Span, span_of, spans}
 use Rattle.acl_perm.specs.declared.lines.Piece.{Piece}
 use Rattle.acl_nfs4.specs.Ace.{Ace}
@@ -108,7 +108,7 @@ line_skipped rules aces line e = rw e refl
 
 -- the fault of a comment is that of its line
 pub commented : {X : Type 0} (rules : TextRules X) (aces : List X) (line : Span) (place : ℕ) (fault : ReadFault)
-    → position (λ b. b == hash) line.bytes ≡ Some place → comment_fault rules line place ≡ Some fault
+    → position (λ b. b == comment_mark) line.bytes ≡ Some place → comment_fault rules line place ≡ Some fault
     → read_items rules aces (line_items rules line) ≡ Err fault
 unfolding line_items read_items
 commented rules aces line place fault at wrong = rw (at, wrong) refl

@@ -13,7 +13,7 @@ use Rattle.std.proofs.lemmas.Fmt.{decimal_is_IsNumeral, decimal_nonempty}
 use Rattle.std.proofs.lemmas.List.Folds.{list_all-append}
 use Rattle.acl_perm.proofs.Bools.{and_true}
 use Rattle.acl_perm.proofs.Meetings.{bytes_eq_same}
-use Rattle.acl_perm.specs.Ascii.{colon, comma, hash, line_feed}
+use Rattle.acl_perm.specs.Ascii.{colon, comma, comment_mark, line_feed}
 use Rattle.acl_perm.specs.Bits.{IsPerm}
 use Rattle.acl_perm.specs.Lines.{Span, is_all_blank}
 unfoldable use Rattle.acl_perm.specs.Lines.{cut_at, trimmed}
@@ -48,7 +48,7 @@ use Rattle.acl_forms.proofs.ToolsEntriesReadBack.{is_no_colon}
 
 -- a byte that ends no line and no entry, begins no comment, and may stand in a text
 abbrev pub is_in_entry : ℕ → Bool
-is_in_entry b = not (b == line_feed) && (not (b == hash) && (not (b == comma) && not (b == 0)))
+is_in_entry b = not (b == line_feed) && (not (b == comment_mark) && (not (b == comma) && not (b == 0)))
 
 -- the bytes of a name that is written are inside an entry, and no colons
 name_pass : (name : List ℕ) → list_any is_name_separator name ≡ false

@@ -7,7 +7,7 @@ use Rattle.std.proofs.lemmas.List.Folds.{list_all-append}
 use Rattle.std.proofs.lemmas.List.Splits.{slice_split_at, slice_split_none}
 use Rattle.std.proofs.lemmas.Bool.{and_from}
 use Rattle.acl_perm.proofs.Bools.{and_true}
-use Rattle.acl_perm.specs.Ascii.{comma, hash, line_feed}
+use Rattle.acl_perm.specs.Ascii.{comma, comment_mark, line_feed}
 use Rattle.acl_perm.specs.Lines.{Span, is_all_blank, is_blank, spans}
 unfoldable use Rattle.acl_perm.specs.Lines.{cut_at}
 use Rattle.acl_posix.specs.Names.{Table}
@@ -31,20 +31,22 @@ feed_free text h =
     all_weaker is_in_entry (λ b. not (b == line_feed)) text (λ b i. (and_true (not (b == line_feed)) _ i).0) h
 
 -- no byte inside an entry is `#`
-hash_free : (text : List ℕ) → list_all is_in_entry text ≡ true → list_all (λ b. not (b == hash)) text ≡ true
-hash_free text h = all_weaker is_in_entry (λ b. not (b == hash)) text
-    (λ b i. (and_true (not (b == hash)) _ (and_true (not (b == line_feed)) _ i).1).0) h
+mark_free : (text : List ℕ) → list_all is_in_entry text ≡ true → list_all (λ b. not (b == comment_mark)) text ≡ true
+mark_free text h = all_weaker is_in_entry (λ b. not (b == comment_mark)) text
+    (λ b i. (and_true (not (b == comment_mark)) _ (and_true (not (b == line_feed)) _ i).1).0) h
 
 -- no byte inside an entry is a comma
 comma_free : (text : List ℕ) → list_all is_in_entry text ≡ true → list_all (λ b. not (b == comma)) text ≡ true
 comma_free text h = all_weaker is_in_entry (λ b. not (b == comma)) text
-    (λ b i. (and_true (not (b == comma)) _ (and_true (not (b == hash)) _ (and_true (not (b == line_feed)) _ i).1).1).0)
+    (λ b i. (and_true (not (b == comma)) _
+    (and_true (not (b == comment_mark)) _ (and_true (not (b == line_feed)) _ i).1).1).0)
     h
 
 -- no byte inside an entry is zero
 zero_free : (text : List ℕ) → list_all is_in_entry text ≡ true → list_all (λ b. not (b == 0)) text ≡ true
 zero_free text h = all_weaker is_in_entry (λ b. not (b == 0)) text
-    (λ b i. (and_true (not (b == comma)) _ (and_true (not (b == hash)) _ (and_true (not (b == line_feed)) _ i).1).1).1)
+    (λ b i. (and_true (not (b == comma)) _
+    (and_true (not (b == comment_mark)) _ (and_true (not (b == line_feed)) _ i).1).1).1)
     h
 
 -- the texts of entries are read as these entries
@@ -93,7 +95,7 @@ one_item : (table : Table) (part : Part) (text : List ℕ) (e : Tag × ℕ) (col
     → line_items (posix_rules part table) (part_at column text) ≡ Ok (part_at column text) ∷ []
 unfolding line_items cut_entries
 one_item table part text e column h =
-    let mark = no_place (λ b. b == hash) text (hash_free text h.inside) in
+    let mark = no_place (λ b. b == comment_mark) text (mark_free text h.inside) in
     let whole = slice_split_none (λ b. b == comma) text (all_not (λ b. b == comma) text (comma_free text h.inside)) in
     rw (mark, h.some, whole) refl
 
@@ -132,7 +134,7 @@ joined text (e ∷ es) = text e ++ flat_map (λ x. comma ∷ text x) es
 
 -- a byte of a text with commas
 abbrev is_row : ℕ → Bool
-is_row b = not (b == line_feed) && (not (b == hash) && not (b == 0))
+is_row b = not (b == line_feed) && (not (b == comment_mark) && not (b == 0))
 
 -- bytes inside an entry are those of a text with commas
 in_row : (text : List ℕ) → list_all is_in_entry text ≡ true → list_all is_row text ≡ true
@@ -140,7 +142,7 @@ in_row text h = all_weaker is_in_entry is_row text (λ b i. byte b i) h where
   byte : (b : ℕ) → is_in_entry b ≡ true → is_row b ≡ true
   byte b i =
       let one = and_true (not (b == line_feed)) _ i in
-      let two = and_true (not (b == hash)) _ one.1 in
+      let two = and_true (not (b == comment_mark)) _ one.1 in
       and_from _ _ one.0 (and_from _ _ two.0 (and_true (not (b == comma)) _ two.1).1)
 
 -- texts with commas before them are bytes of such a text
@@ -182,8 +184,8 @@ comma_items table text part e es each =
     ∙ and_from _ _ (in_row (text e) each.0.inside) (behind_row table text es each.1) in
     let feed = slice_split_none (λ b. b == line_feed) whole (all_not (λ b. b == line_feed) whole
     (all_weaker is_row (λ b. not (b == line_feed)) whole (λ b h. (and_true (not (b == line_feed)) _ h).0) row)) in
-    let mark = no_place (λ b. b == hash) whole (all_weaker is_row (λ b. not (b == hash)) whole
-    (λ b h. (and_true (not (b == hash)) _ (and_true (not (b == line_feed)) _ h).1).0) row) in
+    let mark = no_place (λ b. b == comment_mark) whole (all_weaker is_row (λ b. not (b == comment_mark)) whole
+    (λ b h. (and_true (not (b == comment_mark)) _ (and_true (not (b == line_feed)) _ h).1).0) row) in
     let some : is_all_blank whole ≡ false =
     list_all-append is_blank (text e) (flat_map (λ x. comma ∷ text x) es) ∙ rw each.0.some refl in
     rw (feed, mark, some, comma_split table text e es each)
@@ -198,7 +200,7 @@ commas_no_nul table text e es each =
     list_all-append is_row (text e) (flat_map (λ x. comma ∷ text x) es)
     ∙ and_from _ _ (in_row (text e) each.0.inside) (behind_row table text es each.1) in
     no_place (λ b. b == 0) whole (all_weaker is_row (λ b. not (b == 0)) whole
-    (λ b h. (and_true (not (b == hash)) _ (and_true (not (b == line_feed)) _ h).1).1) row)
+    (λ b h. (and_true (not (b == comment_mark)) _ (and_true (not (b == line_feed)) _ h).1).1) row)
 
 -- lines have no zero byte
 lines_pass : (table : Table) (text : Tag × ℕ → List ℕ) (es : List (Tag × ℕ)) → AreTexts table text es

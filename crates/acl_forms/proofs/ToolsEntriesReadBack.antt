@@ -12,7 +12,7 @@ use Rattle.std.proofs.lemmas.List.Splits.{slice_split_at, slice_split_none}
 use Rattle.std.proofs.lemmas.List.Sums.{AllPass-from_list_all}
 use Rattle.acl_perm.proofs.Bools.{and_true}
 use Rattle.acl_perm.proofs.Sets.{has_bit-and, has_bit-or, same_set}
-use Rattle.acl_perm.specs.Ascii.{colon, hash, line_feed}
+use Rattle.acl_perm.specs.Ascii.{colon, comment_mark, line_feed}
 use Rattle.acl_perm.specs.Lines.{cut_at, Span, spans}
 use Rattle.acl_perm.specs.Profile.{full}
 use Rattle.acl_perm.specs.declared.kind.Kind.{Kind}
@@ -86,7 +86,7 @@ held object a e =
 
 -- a byte that ends no line and no entry, and begins no comment
 abbrev pub is_inside : ℕ → Bool
-is_inside b = not (b == line_feed) && (not (b == hash) && not (is_break b))
+is_inside b = not (b == line_feed) && (not (b == comment_mark) && not (is_break b))
 
 -- a byte that is no colon
 abbrev pub is_no_colon : ℕ → Bool

@@ -7,7 +7,7 @@ use Rattle.std.proofs.lemmas.Bool.Decides.{nat_tests}
 use Rattle.std.proofs.lemmas.List.Folds.{list_all-append}
 use Rattle.std.proofs.lemmas.List.Splits.{slice_split_none}
 use Rattle.acl_perm.proofs.Bools.{and_true}
-use Rattle.acl_perm.specs.Ascii.{hash, line_feed}
+use Rattle.acl_perm.specs.Ascii.{comment_mark, line_feed}
 use Rattle.acl_perm.specs.Lines.{Span}
 use Rattle.acl_perm.specs.Profile.{full}
 use Rattle.acl_nfs4.specs.Ace.{Ace}
@@ -33,21 +33,21 @@ use Rattle.acl_forms.proofs.ToolsEntriesReadBack.{all_not, entry_again, entry_in
 -- ---- a text
 
 -- no byte inside an entry begins a comment
-pub no_mark : (b : ℕ) → is_inside b ≡ true → not (b == hash) ≡ true
-no_mark b h = (and_true (not (b == hash)) (not (is_break b)) (and_true (not (b == line_feed)) _ h).1).0
+pub no_mark : (b : ℕ) → is_inside b ≡ true → not (b == comment_mark) ≡ true
+no_mark b h = (and_true (not (b == comment_mark)) (not (is_break b)) (and_true (not (b == line_feed)) _ h).1).0
 
 -- a span whose bytes are inside an entry is one item of its line
 line_again : (object : ObjectKind) (s : Span) → list_all is_inside s.bytes ≡ true → (length s.bytes == 0) ≡ false
     → line_items (tools_rules object) s ≡ Ok s ∷ []
 unfolding line_items cut_entries
 line_again object s inside some =
-    let mark = no_place (λ b. b == hash) s.bytes
-    (all_weaker is_inside (λ b. not (b == hash)) s.bytes (λ b h. no_mark b h) inside) in
+    let mark = no_place (λ b. b == comment_mark) s.bytes
+    (all_weaker is_inside (λ b. not (b == comment_mark)) s.bytes (λ b h. no_mark b h) inside) in
     let whole = slice_split_none is_break s.bytes
     (all_not is_break s.bytes (all_weaker is_inside (λ b. not (is_break b)) s.bytes (λ b h. no_break b h) inside)) in
     rw (mark, whole, some) refl where
       no_break : (b : ℕ) → is_inside b ≡ true → not (is_break b) ≡ true
-      no_break b h = (and_true (not (b == hash)) (not (is_break b)) (and_true (not (b == line_feed)) _ h).1).1
+      no_break b h = (and_true (not (b == comment_mark)) (not (is_break b)) (and_true (not (b == line_feed)) _ h).1).1
 
 -- an entry has some bytes
 some_bytes : (a : Ace) → (length (tools_entry_text a) == 0) ≡ false

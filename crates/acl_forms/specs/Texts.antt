@@ -3,7 +3,7 @@
 -- this library's own.
 use Rattle.std.specs.Prelude.{◌≡◌, ◌==◌, ◌+◌, ◌<◌, ◌≤◌, ℕ, Bool, not, List, [], ◌∷◌, ◌++◌, length, take, drop, filter, map, position, Option, None, Some, Result, Ok, Err, if◌then◌else◌}
 use Rattle.std.specs.List.{flat_map, slice_split}
-use Rattle.acl_perm.specs.Ascii.{hash, line_feed}
+use Rattle.acl_perm.specs.Ascii.{comment_mark, line_feed}
 use Rattle.acl_perm.specs.Lines.{Span, cut_at, spans}
 use Rattle.acl_perm.specs.internal.Steps.{◌>>=◌}
 use Rattle.acl_forms.specs.ReadFaults.{read_fault_at}
@@ -64,7 +64,7 @@ items_before rules line (Some place) = unless_fault (comment_fault rules line pl
 
 -- the items of a line: its entries, or the fault of its comment
 unfoldable pub line_items : {X : Type 0} → TextRules X → Span → List (Result Span ReadFault)
-line_items rules line = items_before rules line (position (λ b. b == hash) line.bytes)
+line_items rules line = items_before rules line (position (λ b. b == comment_mark) line.bytes)
 
 -- the whole text, at its place
 abbrev pub whole_text : List ℕ → Span

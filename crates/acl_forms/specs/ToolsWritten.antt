@@ -4,7 +4,7 @@
 use Rattle.std.specs.Prelude.{◌≡◌, ◌==◌, ◌||◌, ◌+◌, ℕ, Bool, false, not, List, [], ◌∷◌, ◌++◌, length, nat_lt, take, bit_and, filter, map, Option, None, Some, if◌then◌else◌}
 use Rattle.std.specs.List.{enumerate_from, flat_map, list_any}
 use Rattle.std.specs.Option.{option_or}
-use Rattle.acl_perm.specs.Ascii.{colon, comma, hash, line_feed}
+use Rattle.acl_perm.specs.Ascii.{colon, comma, comment_mark, line_feed}
 use Rattle.acl_perm.specs.declared.kind.Kind.{Kind}
 use Rattle.acl_perm.specs.declared.kind.Kind.TheVariants.{Deny, Allow}
 use Rattle.acl_nfs4.specs.Ace.{Ace}
@@ -62,7 +62,7 @@ pub record IsSameButGroup (a b : Ace) : Type 0 where
 
 -- a byte that separates fields or entries, or begins a comment
 abbrev pub is_separator : ℕ → Bool
-is_separator b = b == comma || b == colon || b == hash
+is_separator b = b == comma || b == colon || b == comment_mark
 
 -- the set has a bit of the other set
 abbrev pub meets : ℕ → ℕ → Bool

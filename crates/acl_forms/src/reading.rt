@@ -1,6 +1,6 @@
 //! Reads texts of entries, line by line and entry by entry.
 ghost use Rattle.std.specs.Prelude.{◌≡◌, ◌==◌, [], ◌≤◌, List, MatchResult, length, position};
-ghost use Rattle.acl_perm.specs.Ascii.{hash};
+ghost use Rattle.acl_perm.specs.Ascii.{comment_mark};
 ghost use Rattle.acl_perm.specs.Lines.{span_of, ColumnsFit};
 ghost use Rattle.acl_forms.specs.internal.TextReading.{text_read, read_items, AddsItems, IsHeld, FailsAsRead, IsEntryCut, JudgesComment, part_items};
 ghost use Rattle.acl_forms.specs.Texts.{comment_fault, cut_entries, entries_among, entries_of, items_in, items_of, line_items};
@@ -71,7 +71,7 @@ fn read_line<F: TextForm>(list: &mut F::List, line: Piece<'_>, form: F) -> Resul
 }
 
 fn mark_in(line: &[u8]) -> Option<usize>
-    ensures { result ≡ position (λ b. b == hash) line.now }
+    ensures { result ≡ position (λ b. b == comment_mark) line.now }
 {
     place_of(line, b'#')
 }

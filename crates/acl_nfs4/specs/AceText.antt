@@ -4,7 +4,7 @@ use Rattle.std.specs.List.{enumerate_from, filter, flat_map, list_all}
 use Rattle.std.specs.Str.{is_utf8}
 use Rattle.std.specs.Str.Lossy.{replacement_bytes}
 -- the byte between two fields of a line, and the byte with which a comment begins
-pub use Rattle.acl_perm.specs.Ascii.{space, hash as comment_mark}
+pub use Rattle.acl_perm.specs.Ascii.{space, comment_mark}
 use Rattle.acl_perm.specs.Lines.{lines_of, is_all_blank, line_feed}
 use Rattle.acl_perm.specs.Principal.{Principal, owner, user, group, group_named, everyone}
 use Rattle.acl_perm.specs.Profile.{Profile}

@@ -14,8 +14,8 @@ abbrev pub space : ℕ
 space = 0x20
 
 -- `#`
-abbrev pub hash : ℕ
-hash = 0x23
+abbrev pub comment_mark : ℕ
+comment_mark = 0x23
 
 -- `,`
 abbrev pub comma : ℕ

@@ -3,7 +3,7 @@
 use Rattle.std.specs.Prelude.{ℕ, ◌≡◌, ◌<◌, List, [], ◌∷◌, length, map, Option, Some, None, IsFalse, if◌then◌else◌}
 use Rattle.std.specs.List.{enumerate_from, flat_map}
 -- the byte that begins a comment, the byte between two entries of a line, and the byte between two fields of an entry
-pub use Rattle.acl_perm.specs.Ascii.{hash as comment_mark, comma, colon}
+pub use Rattle.acl_perm.specs.Ascii.{comment_mark, comma, colon}
 use Rattle.acl_perm.specs.Lines.{Span, lines_of, cut_at, before_mark, is_all_blank, trimmed}
 use Rattle.acl_posix.specs.declared.text_fault.Part.{Part}
 use Rattle.acl_posix.specs.declared.text_fault.Part.TheVariants.{Access, Default}

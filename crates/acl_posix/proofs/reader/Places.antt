@@ -1,6 +1,6 @@
 -- Where the faults of texts are: at a column of a line of the text or at the byte after the line, or at an entry.
 use Rattle.acl_perm.proofs.LineLemmas.{IsLineAt, first_line, later_line, place_in_line}
-use Rattle.acl_perm.specs.Ascii.{comma, hash}
+use Rattle.acl_perm.specs.Ascii.{comma, comment_mark}
 use Rattle.acl_perm.specs.Lines.{IsTextPlace, blanks_before}
 use Rattle.acl_posix.proofs.Common.{[], Access, acl_fault, AllByRecursion, ap, arith, before_mark, colon, cond, cut_at, Default, EntryFields, eqb, false, fields_of, HasEntryFields, IsFaultOf, IsFirstTextFault, IsInvalidText, IsTextFault, IsPieceFault, IsPlace, is_all_blank, is_blank, is_default, join_with_byte, length, length-append, length-take-le, line_pieces, lines_of, List, not, numbered, Part, pieces_from, pieces_of, position_or_len, slice_split, Some, Span, spans, subst, Table, Tag, TextFault, TextPiece, three_of, trimmed, true, ℕ, ◌++◌, ◌+◌, ◌∷◌, ◌≡◌, ◌≤◌}
 use Rattle.acl_posix.specs.TextLaws.{IsAtEntry, IsInPart, IsInText, part_entries}
@@ -87,13 +87,13 @@ front_length mark line =
 line_in : (line : List ℕ) → AllByRecursion (IsSpanIn 1 (length line + 1)) (line_pieces line)
 unfolding line_pieces
 line_in line =
-    let front : List ℕ = before_mark hash line in
+    let front : List ℕ = before_mark comment_mark line in
     elim (is_all_blank front)
     as (λ b. AllByRecursion (IsSpanIn 1 (length line + 1))
     (cond b [] (cut_at comma (record { column = 1; bytes = front })))) [
       | true ↦ tt
       | false ↦ cut_in comma 1 (length line + 1) (record { column = 1; bytes = front })
-          (record { from = omega arith; to = omega (arith, front_length hash line) })
+          (record { from = omega arith; to = omega (arith, front_length comment_mark line) })
     ]
 
 -- the pieces of the first line, and then other pieces, are of the lines
