@@ -1,8 +1,8 @@
 -- Fields and entries of a text of a POSIX ACL as the code holds them (this library's own). No public clause cites it.
 use Rattle.std.specs.Prelude.{ℕ, ◌<◌, List, [], ◌∷◌, length, Option, None, Some, option_map}
 use Rattle.acl_perm.specs.Lines.{Span, span_of, ColumnsFit}
-use Rattle.acl_perm.specs.declared.lines.Piece.{Piece}
 use Rattle.acl_posix.specs.Entries.{pair_of}
+use Rattle.acl_posix.specs.internal.Reading.{RestFits}
 use Rattle.acl_forms.specs.PosixRules.{IsPlacedFault}
 use Rattle.acl_forms.specs.PosixText.{PlacedEntry, PosixFields}
 use Rattle.acl_forms.specs.declared.fault.ReadFault.{ReadFault}
@@ -24,17 +24,12 @@ abbrev pub with_last : PosixFields → List Span → Option PosixFields
 with_last fields (id ∷ []) = Some (record fields { id = Some id })
 with_last fields _ = None
 
--- the columns of a field, if it is there, are counts
-abbrev pub IdFits : Option Piece → Type 0
-IdFits None = Unit {0}
-IdFits (Some piece) = ColumnsFit piece
-
 -- the columns of the fields are counts
 pub record PartsFit (parts : PosixParts) : Type 0 where
   pub tag : ColumnsFit parts.tag
   pub qualifier : ColumnsFit parts.qualifier
   pub permissions : ColumnsFit parts.permissions
-  pub id : IdFits parts.id
+  pub id : RestFits parts.id
 
 -- an entry of a text as the rules have it
 abbrev pub placed : TextEntry → PlacedEntry
