@@ -1,8 +1,9 @@
 -- What the bits of `options` and modes mean in calls from C (this library's own). No option is a right: see
 -- `all_rights`.
-use Rattle.std.specs.Prelude.{◌≡◌, ◌==◌, ◌+◌, ◌≤◌, ℕ, Bool, IsFalse, None, Option, Some, bit_and, if◌then◌else◌}
+use Rattle.std.specs.Prelude.{◌==◌, ◌+◌, ◌≤◌, ℕ, Bool, IsFalse, None, Option, Some, bit_and, if◌then◌else◌}
 use Rattle.acl_perm.specs.Bits.{all_mode_bits}
 use Rattle.acl_perm.specs.Profile.{Profile, full, narrow}
+use Rattle.acl_nfs4.specs.Within.{IsWithin}
 use Rattle.acl_posix.specs.declared.form.AclTextForm.{AclTextForm}
 use Rattle.acl_posix.specs.declared.form.AclTextForm.TheVariants as form
 use Rattle.acl_eval.specs.declared.inherit.ChildKind.{ChildKind}
@@ -44,10 +45,6 @@ may_merge_option = 0x00800000
 
 -- ---- what they mean
 
--- the options are a sum of some of the allowed ones
-abbrev pub AreAllowed : ℕ → ℕ → Type 0
-AreAllowed allowed options = bit_and options allowed ≡ options
-
 -- the options have this one
 abbrev pub has_option : ℕ → ℕ → Bool
 has_option option options = bit_and options option == option
@@ -69,11 +66,11 @@ form_from options =
 
 -- the options are those of a call that reads a profile and nothing else
 abbrev pub IsProfileOption : ℕ → Type 0
-IsProfileOption options = AreAllowed narrow_option options
+IsProfileOption options = IsWithin narrow_option options
 
 -- the options are those of a call that reads no profile, and whose requesters may have their groups in order
 abbrev pub IsOrderOption : ℕ → Type 0
-IsOrderOption options = AreAllowed groups_in_order_option options
+IsOrderOption options = IsWithin groups_in_order_option options
 
 -- the caller says that the groups of each requester are in rising order of their bytes
 abbrev pub says_order : ℕ → Bool
@@ -81,12 +78,12 @@ says_order options = has_option groups_in_order_option options
 
 -- the options are those of a call that may add a MASK
 abbrev pub IsMaskOption : ℕ → Type 0
-IsMaskOption options = AreAllowed add_mask_option options
+IsMaskOption options = IsWithin add_mask_option options
 
 -- The options are those of a call that creates an object in a directory with a list. The narrow profile does not have
 -- the flag INHERITED, so it does not go with the option that sets this flag.
 pub record IsCreationOption (options : ℕ) : Type 0 where
-  pub known : AreAllowed (narrow_option + directory_option + mark_option) options
+  pub known : IsWithin (narrow_option + directory_option + mark_option) options
   pub markable : IsFalse (has_option (narrow_option + mark_option) options)
 
 -- the number is a mode: it has no other bit than the nine file mode bits

@@ -4,9 +4,10 @@ use Rattle.acl_perm.specs.Profile.{Profile}
 use Rattle.acl_nfs4.specs.Ace.{Ace}
 use Rattle.acl_nfs4.specs.Renamed.{bad_row, MayRename, refused_merge, renamed, NameRow}
 use Rattle.acl_nfs4.specs.Spelling.{spelling, Xdr}
+use Rattle.acl_nfs4.specs.Within.{IsWithin}
 use Rattle.aclck_c.specs.Call.{ReportsFault}
 use Rattle.aclck_c.specs.Lists.{IsRefusedList}
-use Rattle.aclck_c.specs.Options.{AreAllowed, has_option, may_merge_option, narrow_option}
+use Rattle.aclck_c.specs.Options.{has_option, may_merge_option, narrow_option}
 use Rattle.aclck_c.specs.Out.{WritesBytes}
 use Rattle.aclck_c.specs.Refusal.{merged}
 use Rattle.aclck_c.specs.Status as status
@@ -15,7 +16,7 @@ use Rattle.aclck_c.specs.declared.refusal.Refusal.{Refusal}
 
 -- the options are those of a call that exchanges names
 abbrev pub IsRenameOption : ℕ → Type 0
-IsRenameOption options = AreAllowed (narrow_option + may_merge_option) options
+IsRenameOption options = IsWithin (narrow_option + may_merge_option) options
 
 -- two names may become one if the options say so
 abbrev pub may_merge_from : ℕ → Bool

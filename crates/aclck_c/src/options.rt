@@ -1,7 +1,8 @@
 //! What the bits of `options` mean: `enum aclck_option` of `aclck.h`.
 ghost use Rattle.std.specs.Prelude.{◌≡◌, ◌↔◌, ◌+◌};
+ghost use Rattle.acl_nfs4.specs.Within.{IsWithin};
 ghost use Rattle.aclck_c.specs.Common.{IfSome, IsSome, IsTrue, profile_of, IsCreationOption, IsMode, IsProfileOption, child_kind_from, profile_from};
-ghost use Rattle.aclck_c.specs.Options.{AreAllowed, IsMaskOption, IsOrderOption, add_mask_option, form_from, has_option, mark_option};
+ghost use Rattle.aclck_c.specs.Options.{IsMaskOption, IsOrderOption, add_mask_option, form_from, has_option, mark_option};
 ghost use Rattle.aclck_c.specs.Renaming.{IsRenameOption, may_merge_from};
 
 use acl_eval::ChildKind;
@@ -160,7 +161,7 @@ pub(crate) fn profile_in(options: u32) -> Profile
 
 /// Returns whether `options` are a sum of some of the allowed ones.
 pub(crate) fn are_allowed(allowed: u32, options: u32) -> bool
-    ensures { IsTrue result ↔ AreAllowed allowed options }
+    ensures { IsTrue result ↔ IsWithin allowed options }
 {
     options & allowed == options
 }
