@@ -10,12 +10,13 @@ use Rattle.acl_perm.proofs.Bools.{or_false_right}
 use Rattle.acl_posix.specs.Check.{is_member}
 use Rattle.acl_posix.specs.Tag.{Tag, user_obj, user, group_obj, group, mask, other, tag_cmp}
 use Rattle.acl_posix.specs.internal.GroupAnswers.{user_id}
+use Rattle.acl_to_posix.specs.ListNames.{is_number_of}
 use Rattle.acl_to_posix.specs.ToPosix.{EntryShape, is_in_shape, looks_at}
 use Rattle.acl_to_posix.specs.internal.ShapeBody.{TagColumn, has_tag, is_certain, may_match, tag_meets}
 use Rattle.acl_to_posix.specs.internal.LossBody.{groups_for, is_owner_tag}
 use Rattle.acl_to_posix.proofs.Passes.{IsExtra, is_extra}
 use Rattle.acl_to_posix.proofs.no_greatest.FreeIds.{AreFree, eqb_comm}
-use Rattle.acl_to_posix.proofs.TagRequesters.{asker, asks, asker-own, entry_user, extra_groups, extra_no_mask, extra_no_owner, extra_number, extra_user, is_member-extra, is_member-groups_for, has_number, object_at, outside, is_member-extra_own, is_member-groups_for_own, requester_at}
+use Rattle.acl_to_posix.proofs.TagRequesters.{asker, asks, asker-own, entry_user, extra_groups, extra_no_mask, extra_no_owner, extra_number, extra_user, is_member-extra, is_member-groups_for, object_at, outside, is_member-extra_own, is_member-groups_for_own, requester_at}
 
 -- no group that the requester of OTHER has is one of the groups that have entries
 none_for_other : (shape : EntryShape) (keys : TagColumn) (own : ℕ) (extra : Option Tag)
@@ -108,7 +109,7 @@ meets_at shape keys entry extra free next own f there is user_obj has =
     ∙ ap (λ (b : Bool). eq_by_cmp tag_cmp user_obj entry || b) (sym (extra_no_owner shape entry keys extra is))
 meets_at shape keys entry extra free next own f there is (user w) has =
     asks (user_id entry) (extra_user extra) free w (f.free_key w has) (one_user shape keys entry extra is)
-    ∙ ap (λ (b : Bool). b || has_number (extra_user extra) w) (sym (entry_user entry w))
+    ∙ ap (λ (b : Bool). b || is_number_of (extra_user extra) w) (sym (entry_user entry w))
     ∙ ap (λ (b : Bool). eq_by_cmp tag_cmp (user w) entry || b) (sym (extra_number extra w))
 meets_at shape keys entry extra free next own f there is group_obj has =
     list_any-append (λ (x : ℕ). x == own) (groups_for own entry) (extra_groups own extra)

@@ -10,6 +10,7 @@ use Rattle.acl_perm.proofs.Bools.{or_false_right}
 use Rattle.acl_posix.specs.Check.{Object, Requester, is_member}
 use Rattle.acl_posix.specs.Tag.{Tag, user_obj, user, group_obj, group, mask, other, tag_cmp}
 use Rattle.acl_posix.specs.internal.GroupAnswers.{user_id}
+use Rattle.acl_to_posix.specs.ListNames.{is_number_of}
 use Rattle.acl_to_posix.specs.ToPosix.{EntryShape}
 use Rattle.acl_to_posix.specs.internal.ShapeBody.{TagColumn, has_tag, may_match}
 use Rattle.acl_to_posix.specs.internal.LossBody.{groups_for, is_owner_tag}
@@ -40,17 +41,12 @@ abbrev pub requester_at : Tag → Option Tag → ℕ → ℕ → Requester
 requester_at entry extra free own =
     record { user = asker entry extra free; groups = groups_for own entry ++ extra_groups own extra }
 
--- an option has this number
-abbrev pub has_number : Option ℕ → ℕ → Bool
-has_number None n = false
-has_number (Some m) n = m == n
-
 -- two users are the same tag if their numbers are
 pub is_eq-nat_cmp : (w n : ℕ) → is_eq (nat_cmp w n) ≡ (n == w)
 is_eq-nat_cmp w n = grind (arith, nat_tests)
 
 -- a user is the user of a tag
-pub entry_user : (t : Tag) (w : ℕ) → eq_by_cmp tag_cmp (user w) t ≡ has_number (user_id t) w
+pub entry_user : (t : Tag) (w : ℕ) → eq_by_cmp tag_cmp (user w) t ≡ is_number_of (user_id t) w
 entry_user user_obj w = refl
 entry_user (user id) w = is_eq-nat_cmp w id
 entry_user group_obj w = refl
@@ -59,13 +55,13 @@ entry_user mask w = refl
 entry_user other w = refl
 
 -- a user is the one of the tag besides
-pub extra_number : (extra : Option Tag) (w : ℕ) → is_extra extra (user w) ≡ has_number (extra_user extra) w
+pub extra_number : (extra : Option Tag) (w : ℕ) → is_extra extra (user w) ≡ is_number_of (extra_user extra) w
 extra_number None w = refl
 extra_number (Some x) w = entry_user x w
 
 -- the one who asks is the user of the entry or of the tag besides, or has a free id
 pub asks : (e x : Option ℕ) (free w : ℕ) → (free == w) ≡ false → ((m n : ℕ) → x ≡ Some m → e ≡ Some n → ⊥)
-    → (unwrap_or (option_or x e) free == w) ≡ (has_number e w || has_number x w)
+    → (unwrap_or (option_or x e) free == w) ≡ (is_number_of e w || is_number_of x w)
 asks None None free w apart one = apart
 asks None (Some m) free w apart one = refl
 asks (Some n) None free w apart one = sym (or_false_right (n == w))
