@@ -53,13 +53,6 @@ key_there xs aces i y outline l is =
 
 -- ---- one key
 
--- kinds that are equal by the test are equal
-pub kind_same : (j k : Kind) → kind_eq j k ≡ true → j ≡ k
-kind_same Deny Deny h = refl
-kind_same Deny Allow h = cc
-kind_same Allow Deny h = cc
-kind_same Allow Allow h = refl
-
 -- kinds that are not equal by the test are different
 pub kind_other : (j k : Kind) → kind_eq j k ≡ false → k ≢ j
 kind_other Deny Deny h e = cc

@@ -1,8 +1,9 @@
 use Rattle.acl_normal.proofs.Common.{ace, ap, column, first_at, is_free, principal, principal_of, Some, sym, ◌∙◌, ◌≡◌, ◌^◌, ◌↔◌, IsTrue}
 use Rattle.acl_normal.specs.Left.{HasFree}
-use Rattle.acl_normal.proofs.plain.FreeInRows.{kind_other, kind_same, other_not_free, own_free}
+use Rattle.acl_normal.proofs.plain.FreeInRows.{kind_other, other_not_free, own_free}
 use Rattle.acl_normal.proofs.rows.FirstAces.{right_there}
 use Rattle.acl_normal.proofs.rows.FreeByPlaces.{none_free}
+use Rattle.acl_normal.proofs.unique.Names.{kind_eq_same}
 use Rattle.acl_normal.proofs.plain.by_rows.has_free.Goals as goal
 
 pub returns-in-None : goal.returns-in-None
@@ -26,7 +27,7 @@ returns-then-is_same_kind c =
     let is : IsTrue c.is_free.result ↔ HasFree xs p (2 ^ b) =
     rw (← bits, ← c.principal-whom.ensures) c.is_free.ensures in
     own_free xs b p c.in-Some.kind c.in-Some._place c.requires first c.is_free.result is
-    ∙ ap (λ k. is_free (column xs b) (p, k)) (kind_same c.in-Some.kind c.args.item.now.kind
+    ∙ ap (λ k. is_free (column xs b) (p, k)) (kind_eq_same c.in-Some.kind c.args.item.now.kind
     (sym c.is_same_kind.ensures ∙ c.if-is_same_kind.true))
 
 pub returns-else-is_same_kind : goal.returns-else-is_same_kind
