@@ -9,5 +9,6 @@ mod form;
 mod nfs_text;
 mod part;
 mod posix_text;
+mod shown;
 mod tools;
 mod whos;

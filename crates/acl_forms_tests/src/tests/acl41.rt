@@ -1,9 +1,10 @@
 //! Values of nfsacl41, as the routines that rpcgen makes of Samba's description write and read them. The
 //! texts and the offsets are those of the layout of RFC 4506; the reasons are this library's own.
 
+use super::shown::is_list_shown_as;
 use acl_forms::*;
 use acl_nfs4::{Acl, Counted, Reason};
-use std::alloc::{AllocError, Global};
+use std::alloc::Global;
 use std::test::Fail;
 
 // The value, its flags, and the text of its list.
@@ -82,11 +83,6 @@ fn is_refused(alloc: Global, bytes: &[u8], offset: u64, reason: ReadReason) -> b
     }
 }
 
-// Returns whether the list has this text.
-fn is_shown_as(alloc: Global, list: &Acl, text: &str) -> Result<bool, AllocError> {
-    Ok(list.to_text(alloc)?.as_slice() == text.as_bytes())
-}
-
 // Returns whether the flags and the list are written as these bytes.
 fn is_written_as(alloc: Global, flags: AclFlags, list: &Acl, bytes: &[u8]) -> bool {
     let mut sink = Counted::new(Vec::new(alloc));
@@ -126,7 +122,7 @@ mod ample {
         for (bytes, bits, text) in VALUES {
             let (flags, list) = read_acl41(alloc, bytes)?;
             assert!(rt; flags.bits() == bits);
-            assert!(rt; is_shown_as(alloc, &list, text)?);
+            assert!(rt; is_list_shown_as(alloc, &list, text)?);
             assert!(rt; is_written_as(alloc, flags, &list, bytes));
         }
         Ok(())

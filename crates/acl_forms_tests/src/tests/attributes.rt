@@ -1,6 +1,7 @@
 //! Values of `system.posix_acl_access` and `system.posix_acl_default` that Linux 6.18 accepted or refused on ext4, with
 //! what getfacl 2.3.1 printed of the file. The places and the reasons are this library's own.
 
+use super::shown::is_acl_shown_as;
 use acl_forms::*;
 use acl_nfs4::{Counted, Reason};
 use acl_posix::PosixAcl;
@@ -159,13 +160,6 @@ fn is_refused(alloc: Global, bytes: &[u8], message: &str) -> Result<bool, AllocE
     }
 }
 
-// Returns whether the ACL has this text.
-fn is_shown_as(alloc: Global, acl: &PosixAcl, text: &str) -> Result<bool, Fail> {
-    let mut sink = Counted::new(Vec::new(alloc));
-    acl.write_canonical(&mut sink)?;
-    Ok(sink.into_inner().as_slice() == text.as_bytes())
-}
-
 // Returns whether the ACL is written as these bytes.
 fn is_written_as(alloc: Global, acl: &PosixAcl, bytes: &[u8]) -> bool {
     let mut sink = Counted::new(Vec::new(alloc));
@@ -192,7 +186,7 @@ mod ample {
         let alloc = rt.alloc();
         for (bytes, text) in VALUES {
             let acl = read_attribute(alloc, bytes)?;
-            assert!(rt; is_shown_as(alloc, &acl, text)?, "{text}");
+            assert!(rt; is_acl_shown_as(alloc, &acl, text)?, "{text}");
             assert!(rt; is_written_as(alloc, &acl, bytes), "{text}");
         }
         Ok(())
@@ -203,7 +197,7 @@ mod ample {
         let alloc = rt.alloc();
         for (bytes, text) in UNSORTED {
             let acl = read_attribute(alloc, bytes)?;
-            assert!(rt; is_shown_as(alloc, &acl, text)?, "{text}");
+            assert!(rt; is_acl_shown_as(alloc, &acl, text)?, "{text}");
         }
         Ok(())
     }

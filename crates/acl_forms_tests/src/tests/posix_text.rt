@@ -2,6 +2,7 @@
 //! with what getfacl -n printed, and texts that libarchive 3.6.2 reads. The places and the reasons of the faults are
 //! this library's own.
 
+use super::shown::is_acl_shown_as;
 use acl_forms::*;
 use acl_nfs4::{Counted, Reason};
 use acl_posix::{Id, Names, PosixAcl};
@@ -162,13 +163,6 @@ fn is_written_as(
     answer.is_ok() && sink.into_inner().as_slice() == text
 }
 
-// Returns whether the ACL has this text.
-fn is_shown_as(alloc: Global, acl: &PosixAcl, text: &str) -> Result<bool, Fail> {
-    let mut sink = Counted::new(Vec::new(alloc));
-    acl.write_canonical(&mut sink)?;
-    Ok(sink.into_inner().as_slice() == text.as_bytes())
-}
-
 // Returns whether the text is refused with this message.
 fn is_refused(alloc: Global, text: &[u8], message: &str) -> Result<bool, AllocError> {
     match read_posix_text(alloc, text, &Names::new(alloc)) {
@@ -197,7 +191,7 @@ mod ample {
         let names = Names::new(alloc);
         for (text, shown) in STAR {
             let file = read_posix_text(alloc, text, &names)?;
-            assert!(rt; is_shown_as(alloc, &file.access, shown)?, "{shown}");
+            assert!(rt; is_acl_shown_as(alloc, &file.access, shown)?, "{shown}");
             assert!(rt; file.default.is_none(), "{shown}");
         }
         Ok(())
@@ -209,7 +203,7 @@ mod ample {
         let names = names(alloc)?;
         for (text, shown) in GNU {
             let acl = read_default_text(alloc, text, &names)?;
-            assert!(rt; is_shown_as(alloc, &acl, shown)?, "{shown}");
+            assert!(rt; is_acl_shown_as(alloc, &acl, shown)?, "{shown}");
         }
         Ok(())
     }
@@ -285,7 +279,7 @@ mod ample {
         let names = Names::new(alloc);
         for (text, shown) in DEFAULTS {
             let acl = read_default_text(alloc, text, &names)?;
-            assert!(rt; is_shown_as(alloc, &acl, shown)?, "{shown}");
+            assert!(rt; is_acl_shown_as(alloc, &acl, shown)?, "{shown}");
         }
         Ok(())
     }
