@@ -2,6 +2,8 @@
 #![tactic(auto)]
 
 #[cfg(test)]
+mod pieces;
+#[cfg(test)]
 mod speed;
 #[cfg(test)]
 mod tests;

@@ -2,6 +2,7 @@
 //! that the calls succeed on one list: its 65,536 ACEs take 24 bytes each, and their number 4 (RFC 4506, sections 4.2,
 //! 4.10 and 4.13).
 
+use crate::pieces::fed_in_pieces;
 use acl_nfs4::*;
 use std::alloc::{AllocError, Global};
 
@@ -53,18 +54,10 @@ fn decoded(alloc: Global, text: &[u8], times: usize) -> usize {
         .count()
 }
 
-fn fed_once(alloc: Global, text: &[u8], size: usize) -> Result<Acl, Fault> {
-    let mut feed = Feed::new(alloc);
-    for piece in text.chunks(size.max(1)) {
-        let _ = feed.feed(piece);
-    }
-    feed.finish()
-}
-
 // Returns how often a feed returns the list.
 fn fed(alloc: Global, text: &[u8], size: usize, times: usize) -> usize {
     (0..times)
-        .filter(|_| is_given(fed_once(alloc, text, size)))
+        .filter(|_| is_given(fed_in_pieces(alloc, text, size)))
         .count()
 }
 

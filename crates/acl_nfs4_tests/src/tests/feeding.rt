@@ -2,6 +2,7 @@
 //! offsets are those of the fields in the layout of RFC 4506 over RFC 8881, section 6.2.1.
 
 use super::readers::{ONE, THREE, decoded, fault, parsed, same_list};
+use crate::pieces::fed_in_pieces;
 use acl_nfs4::*;
 use std::alloc::{AllocError, Global};
 use std::process::Abort;
@@ -67,15 +68,6 @@ fn many(alloc: Global, count: u32, zeros: u32) -> Result<Vec<u8>, AllocError> {
         bytes.extend_from_slice(&[0; 4096])?;
     }
     Ok(bytes)
-}
-
-// Feeds the bytes in pieces of `size` bytes, and returns how the feed ends.
-fn fed_in_pieces(alloc: Global, bytes: &[u8], size: usize) -> Result<Acl, Fault> {
-    let mut feed = Feed::new(alloc);
-    for piece in bytes.chunks(size.max(1)) {
-        let _ = feed.feed(piece);
-    }
-    feed.finish()
 }
 
 // After a request for memory was refused, the feed returns Memory from then on.
