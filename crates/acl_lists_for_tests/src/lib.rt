@@ -2,7 +2,9 @@
 #![tactic(auto)]
 
 mod memory;
+mod posix;
 mod rows;
 
 pub use memory::{kept, passes};
+pub use posix::acl_of;
 pub use rows::{ALLOW, AceRow, DENY, ace_of, built, repeated};

@@ -3,6 +3,5 @@
 mod ample;
 mod bounds;
 mod examples;
-mod lists;
 mod losses;
 mod pruning;

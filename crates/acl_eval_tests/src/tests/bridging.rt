@@ -4,18 +4,13 @@
 //! 6.3.2.
 
 use acl_eval::*;
-use acl_lists_for_tests::{kept, passes};
+use acl_lists_for_tests::{acl_of, kept, passes};
 use acl_nfs4::{Acl, PushFault, parse_text};
 use acl_perm::{Mask, Perm};
-use acl_posix::{Entry, Id, Names, PosixAcl, PosixFile, Tag, parse};
+use acl_posix::{Entry, Id, PosixAcl, Tag};
 use std::alloc::Global;
 use std::process::Abort;
 use std::test::Fail;
-
-fn acl_of(alloc: Global, text: &[u8]) -> Result<PosixAcl, PushFault> {
-    let PosixFile { access, .. } = kept(parse(alloc, text, &Names::new(alloc)))?;
-    Ok(access)
-}
 
 const TWO_GROUPS: &[u8] = b"u::rwx,g::---,g:50:r--,g:60:-w-,m::rw-,o::---";
 

@@ -2,8 +2,7 @@
 //! program tried every situation of the names of a list. The last rows are worked by hand from RFC 8881, section 6.2.1,
 //! and acl(5), "ACCESS CHECK ALGORITHM".
 
-use super::lists::acl_of;
-use acl_lists_for_tests::{kept, passes};
+use acl_lists_for_tests::{acl_of, kept, passes};
 use acl_nfs4::{PushFault, parse_text};
 use acl_perm::Perm;
 use acl_posix::{Id, Names};

@@ -1,8 +1,7 @@
 //! POSIX ACLs of lists. The lists and the ACLs of the rows are from `formal/to_posix.jsonl`, where another program made
 //! them by enumeration of the situations of their names.
 
-use super::lists::acl_of;
-use acl_lists_for_tests::{kept, passes};
+use acl_lists_for_tests::{acl_of, kept, passes};
 use acl_nfs4::{PushFault, parse_text};
 use acl_posix::Names;
 use acl_to_posix::{ShapeFault, ToPosix, to_posix};

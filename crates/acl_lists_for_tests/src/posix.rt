@@ -1,6 +1,6 @@
-//! POSIX ACLs that the tests of this crate make of texts.
+//! POSIX ACLs that are made of texts.
 
-use acl_lists_for_tests::kept;
+use crate::memory::kept;
 use acl_nfs4::PushFault;
 use acl_posix::{Names, PosixAcl, PosixFile, parse};
 use std::alloc::Global;
