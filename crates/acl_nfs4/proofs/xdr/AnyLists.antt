@@ -3,12 +3,11 @@ use Rattle.acl_nfs4.proofs.Common.{[], AllByRecursion, Ace, ap, append-nil, appe
 use Rattle.acl_nfs4.proofs.xdr.Fields.{bind_then, bind-ok, count_again, count_is, field_again, field_takes, flags_again, flags_take, len_takes, mask_again, mask_takes, ok_is, place, padding_again, padding_takes, taken_is, Takes, Takes-then, who_len_again, word_again, word_takes}
 use Rattle.acl_nfs4.proofs.list.Within.{flags_lt, mask_lt}
 use Rattle.acl_nfs4.specs.AccessPart.{access_part, any_piece, AnyAce, AnyXdr, is_for_access, IsAnyAce, IsAnyWho, IsPartOf, kept_ace, Part}
-use Rattle.acl_nfs4.specs.PartFault.{any_who_of, IsPartOrMemory, type_of}
+use Rattle.acl_nfs4.specs.PartFault.{any_who_of, IsPartOrMemory, type_of, weight_of_any}
 use Rattle.acl_nfs4.specs.internal.PartReading.{at_end, PartReadAs, with_ace}
 unfoldable use Rattle.acl_nfs4.specs.internal.PartReading.{any_ace_at, part_from, part_in}
 use Rattle.acl_nfs4.specs.internal.Reading.{text_fault}
 use Rattle.acl_nfs4.proofs.xdr.AcesAt.{regrouped}
-use Rattle.std.specs.Prelude.{sum_by}
 
 -- ---- what is read was spelled
 
@@ -112,17 +111,13 @@ joined_none part =
 joined_first : (part : Part) → joined (record { kept = []; left_out = 0 }) part ≡ part
 joined_first part = ap (λ (n : ℕ). record { kept = part.kept; left_out = n }) (omega arith)
 
--- the number of mask bits that are set
-abbrev bits : List AnyAce → ℕ
-bits list = sum_by (λ a. count_ones a.mask) list
-
 -- ACEs were read and taken, and the part has what access reads of them
 pub record TakesParts (profile : Profile) (n weight : ℕ) (old : Part) (p : Place) (x : Part × Place) : Type 0 where
   pub list : List AnyAce
   pub takes : Takes p (flat_map any_piece list) x.1
   pub long : length list ≡ n
   pub each : AllByRecursion (IsAnyAce profile) list
-  pub light : weight + bits list ≤ most_weight
+  pub light : weight + weight_of_any list ≤ most_weight
   pub part : x.0 ≡ joined old (access_part list)
 
 -- reading ACEs takes their bytes
@@ -231,7 +226,7 @@ any_again profile weight at a rest ok is light =
 
 -- ACEs that were spelled are read again
 pub parts_again : (profile : Profile) (list : List AnyAce) (weight at : ℕ) (part : Part) (rest : List ℕ)
-    → IsProfile profile → AllByRecursion (IsAnyAce profile) list → weight + bits list ≤ most_weight
+    → IsProfile profile → AllByRecursion (IsAnyAce profile) list → weight + weight_of_any list ≤ most_weight
     → part_from profile (length list) weight part (place at (flat_map any_piece list ++ rest))
     ≡ Ok (joined part (access_part list), place (at + length (flat_map any_piece list)) rest)
 unfolding part_from
@@ -239,7 +234,7 @@ parts_again profile [] weight at part rest ok each light =
     ap (λ (x : Part). Ok (x, place at rest)) (sym (joined_none part))
     ∙ ap (λ (k : ℕ). Ok (joined part (access_part []), place k rest)) (omega arith)
 parts_again profile (a ∷ list) weight at part rest ok each light =
-    let heavy : weight + count_ones a.mask + bits list ≤ most_weight =
+    let heavy : weight + count_ones a.mask + weight_of_any list ≤ most_weight =
     omega (arith, light, sum_by-cons (λ x. count_ones x.mask) a list) in
     let more : List ℕ = flat_map any_piece list ++ rest in
     ap (λ (x : List ℕ). part_from profile (suc (length list)) weight part (place at x))
