@@ -1,7 +1,7 @@
 -- Flags and a list after them are read if and only if the bytes spell them.
 use Rattle.std.proofs.Common.{◌≡◌, ◌∙◌, ◌+◌, ◌<◌, ◌^◌, ◌++◌, [], ℕ, List, Ok, length, refl, ap, sym}
 use Rattle.acl_perm.specs.Profile.{full}
-use Rattle.acl_nfs4.proofs.Exports.{one, spelling_short, ok_is}
+use Rattle.acl_nfs4.proofs.Exports.{ok_is, one, place, spelling_short}
 use Rattle.acl_nfs4.specs.Ace.{Ace}
 use Rattle.acl_nfs4.specs.Fault.{IsWholeFault}
 use Rattle.acl_nfs4.specs.Spelling.{IsAccepted, Xdr, spelling, word}
@@ -13,7 +13,7 @@ use Rattle.acl_forms.specs.Acl41.IsAcl41Fault.{of_list}
 use Rattle.acl_forms.specs.AclFlags.{IsAclFlags}
 use Rattle.acl_forms.specs.Words.{acl_flags_of, start, word_at}
 use Rattle.acl_forms.specs.declared.fault.ReadReason.TheVariants as reason
-use Rattle.acl_forms.proofs.WordLemmas.{flags_again, flags_found, place_at}
+use Rattle.acl_forms.proofs.WordLemmas.{flags_again, flags_found}
 
 -- the bytes of accepted flags and an accepted list are theirs
 pub bytes_of : (flags : ℕ) (list : List Ace) → IsAclFlags flags → IsAccepted full list
@@ -40,14 +40,14 @@ same_place : (bytes : List ℕ) (flags : ℕ) (after : Place) (set : ℕ) (text 
     → word_at acl_flags_of (start bytes) ≡ Ok (flags, after) → IsAclFlags set → bytes ≡ word set ++ text
     → (flags ≡ set) × (after.rest ≡ text)
 same_place bytes flags after set text e is parts =
-    let h : (flags, after) ≡ (set, place_at 4 text) = ok_is _ _ (sym e ∙ flags_again bytes set text is parts) in
+    let h : (flags, after) ≡ (set, place 4 text) = ok_is _ _ (sym e ∙ flags_again bytes set text is parts) in
     (ap (λ z. z.0) h, ap (λ z. z.1.rest) h)
 
 -- bytes spell at most one pair of flags and a list
 pub one_value : (flags set : ℕ) (list other : List Ace) (bytes : List ℕ) → IsAcl41 flags list bytes
     → IsAcl41 set other bytes → (flags ≡ set) × (list ≡ other)
 one_value flags set list other bytes h k =
-    let same = same_place bytes flags (place_at 4 (spelling list)) set (spelling other)
+    let same = same_place bytes flags (place 4 (spelling list)) set (spelling other)
     (flags_again bytes flags (spelling list) h.flags h.spelled) k.flags k.spelled in
     let lists = one full list other (spelling list) (spelling other) [] [] (record { masks = refl; flags = refl })
     (record { accepted = h.accepted; spelled = refl }) (record { accepted = k.accepted; spelled = refl })

@@ -7,7 +7,7 @@ use Rattle.acl_perm.specs.Bits.{all_flags, all_rights}
 use Rattle.acl_perm.specs.Kind.{kind_number}
 use Rattle.acl_perm.specs.Profile.{full}
 use Rattle.acl_perm.specs.declared.kind.Kind.{Kind}
-use Rattle.acl_nfs4.proofs.Exports.{bind-ok, bind_then, ok_is, kind_is, kind_again, kind_lt, within_le}
+use Rattle.acl_nfs4.proofs.Exports.{Takes, Takes-then, bind-ok, bind_then, kind_again, kind_is, kind_lt, ok_is, place, within_le}
 use Rattle.acl_nfs4.specs.Ace.{Ace}
 use Rattle.acl_nfs4.specs.Fields.{flags_of, kind_of, mask_of}
 use Rattle.acl_nfs4.specs.Limits.{most_weight}
@@ -20,7 +20,7 @@ use Rattle.acl_forms.specs.Acl41Ids.{id_ace_bytes, id_piece, listed, special_of,
 unfoldable use Rattle.acl_forms.specs.Acl41Ids.{id_ace_at}
 use Rattle.acl_forms.specs.Words.{word_at}
 use Rattle.acl_forms.proofs.WhoLemmas.{reads_who, says_who}
-use Rattle.acl_forms.proofs.WordLemmas.{Takes, Takes-then, place_at, word_again, word_takes}
+use Rattle.acl_forms.proofs.WordLemmas.{word_again, word_takes}
 
 -- ---- what each word says
 
@@ -133,7 +133,7 @@ with_words None is go = absurd cc
 -- an ACE with an id is read again
 pub ace_again : (weight at : ℕ) (a : Ace) (rest : List ℕ) → IsAce full a → IsSome (whom_words a.who)
     → weight + count_ones a.mask ≤ most_weight
-    → id_ace_at weight (place_at at (id_piece a ++ rest)) ≡ Ok (a, place_at (at + 4 + 4 + 4 + 4 + 4) rest)
+    → id_ace_at weight (place at (id_piece a ++ rest)) ≡ Ok (a, place (at + 4 + 4 + 4 + 4 + 4) rest)
 unfolding id_ace_at
 ace_again weight at a rest is id light = with_words (whom_words a.who) id (λ x e.
     let r = reads_who a.who x e in
@@ -143,8 +143,8 @@ ace_again weight at a rest is id light = with_words (whom_words a.who) id (λ x 
     let r1 = word a.flags ++ r2 in
     let low = within_le all_flags a.flags is.flags in
     let small = within_le all_rights a.mask is.mask in
-    ap (λ (t : List ℕ). id_ace_at weight (place_at at (t ++ rest))) (sym (piece_of a x e))
-    ∙ ap (λ (t : List ℕ). id_ace_at weight (place_at at t))
+    ap (λ (t : List ℕ). id_ace_at weight (place at (t ++ rest))) (sym (piece_of a x e))
+    ∙ ap (λ (t : List ℕ). id_ace_at weight (place at t))
     (five_regrouped (word (kind_number a.kind)) (word a.flags) (word x.0) (word a.mask) (word x.1) rest)
     ∙ bind-ok _ (word_again (λ n. listed (kind_of n)) at (kind_number a.kind) r1 a.kind (kind_lt a.kind)
     (listed_again _ a.kind (kind_again a.kind)))

@@ -7,7 +7,7 @@ use Rattle.std.proofs.lemmas.List.Concat.{flat_map-cons}
 use Rattle.std.proofs.lemmas.Nat.{and_mask}
 use Rattle.std.proofs.lemmas.List.{nil_from_length}
 use Rattle.acl_perm.specs.Profile.{full}
-use Rattle.acl_nfs4.proofs.Exports.{each_push, front_accepted, bind-ok, bind_then, ok_is, is_who-decimal, is_who-everyone, is_who-group, is_who-owner, count_is, count_again, weight-push}
+use Rattle.acl_nfs4.proofs.Exports.{Takes, Takes-then, bind-ok, bind_then, count_again, count_is, each_push, front_accepted, is_who-decimal, is_who-everyone, is_who-group, is_who-owner, ok_is, place, weight-push}
 use Rattle.acl_nfs4.specs.Ace.{Ace}
 use Rattle.acl_nfs4.specs.Fields.{count_of}
 use Rattle.acl_nfs4.specs.Limits.{most_aces, most_weight}
@@ -29,7 +29,7 @@ use Rattle.acl_forms.specs.declared.acl41_ids.IdAce.{IdAce}
 use Rattle.acl_forms.specs.declared.acl41_ids.IdWho.{IdWho}
 use Rattle.acl_forms.specs.declared.acl41_ids.IdWho.TheVariants.{Owner, Group, Everyone, Account}
 use Rattle.acl_forms.specs.internal.IdAces.{ReadAs, ace_by_id, whom_name, flags_and_list}
-use Rattle.acl_forms.proofs.WordLemmas.{Takes, Takes-then, flags_again, flags_found, place_at, word_again, word_takes}
+use Rattle.acl_forms.proofs.WordLemmas.{flags_again, flags_found, word_again, word_takes}
 use Rattle.acl_forms.proofs.IdAces.{ace_again, ace_takes, listed_again, listed_ok}
 
 -- ---- the ACEs
@@ -89,15 +89,15 @@ ids_take (suc n) list p x fits ok few e =
 -- ACEs with ids are read again after a list
 record ReadsIds (more list : List Ace) (at : ℕ) (rest : List ℕ) : Type 0 where
   pub end : ℕ
-  pub read : id_aces_from (length more) list (place_at at (flat_map id_piece more ++ rest))
-      ≡ Ok (list ++ more, place_at end rest)
+  pub read : id_aces_from (length more) list (place at (flat_map id_piece more ++ rest))
+      ≡ Ok (list ++ more, place end rest)
 
 -- the ACEs of an accepted list are read again, if they have ids
 ids_again : (more list : List Ace) (at : ℕ) (rest : List ℕ) → IsAccepted full (list ++ more) → EachHasId more
     → ReadsIds more list at rest
 unfolding id_aces_from
 ids_again [] list at rest ok ids =
-    record { end = at; read = ap (λ (l : List Ace). Ok (l, place_at at rest)) (sym (append-nil list)) }
+    record { end = at; read = ap (λ (l : List Ace). Ok (l, place at rest)) (sym (append-nil list)) }
 ids_again (a ∷ more) list at rest ok ids =
     let same = append_assoc list (a ∷ []) more in
     let longer : IsAccepted full ((list ++ a ∷ []) ++ more) = subst (IsAccepted full) (sym same) ok in
@@ -108,12 +108,12 @@ ids_again (a ∷ more) list at rest ok ids =
     record {
       end = s.end;
       read =
-          ap (λ (t : List ℕ). id_aces_from (suc (length more)) list (place_at at t))
+          ap (λ (t : List ℕ). id_aces_from (suc (length more)) list (place at t))
           (ap (λ (t : List ℕ). t ++ rest) (flat_map-cons id_piece a more)
           ∙ append_assoc (id_piece a) (flat_map id_piece more) rest)
           ∙ bind-ok _ (ace_again (weight list) at a tail (each_last list a front.each) ids.0 light)
           ∙ s.read
-          ∙ ap (λ (l : List Ace). Ok (l, place_at s.end rest)) same;
+          ∙ ap (λ (l : List Ace). Ok (l, place s.end rest)) same;
     }
 
 -- ---- how the reader goes on
@@ -208,7 +208,7 @@ ids_read bytes flags list is =
     let s = ids_again list [] 8 [] is.accepted is.ids in
     let c = is.accepted.count in
     bind-ok _ (flags_again bytes flags (word n ++ body) is.flags is.spelled)
-    ∙ bind-ok _ (ap (λ (t : List ℕ). word_at (λ n. listed (count_of n)) (place_at 4 (word n ++ t)))
+    ∙ bind-ok _ (ap (λ (t : List ℕ). word_at (λ n. listed (count_of n)) (place 4 (word n ++ t)))
     (sym (append-nil body))
     ∙ word_again (λ n. listed (count_of n)) 4 n (body ++ []) n (omega (arith, c)) (listed_again _ n (count_again n c)))
     ∙ bind-ok (nothing_after flags) s.read

@@ -6,7 +6,7 @@ use Rattle.std.proofs.lemmas.Bool.{le-ltb, ltb-false}
 use Rattle.std.proofs.lemmas.List.{drop_at, length-take, take-append-drop, take_at}
 use Rattle.std.proofs.lemmas.List.Concat.{flat_map-cons}
 use Rattle.std.proofs.lemmas.List.Sums.{sum_by-cons, sum_by_push}
-use Rattle.acl_nfs4.proofs.Exports.{IsBytes-drop, bind-ok, bind_then, guard_ok, ok_is, count_is, count_again}
+use Rattle.acl_nfs4.proofs.Exports.{IsBytes-drop, Takes, Takes-then, bind-ok, bind_then, count_again, count_is, guard_ok, ok_is, place}
 use Rattle.acl_nfs4.specs.AccessPart.{AnyAce}
 use Rattle.acl_nfs4.specs.Ace.{Ace}
 use Rattle.acl_nfs4.specs.Fields.{count_of}
@@ -30,7 +30,7 @@ use Rattle.acl_forms.specs.internal.AnyAces.{IsPartReadAs}
 use Rattle.acl_forms.proofs.IdAces.{listed_again, listed_ok}
 use Rattle.acl_forms.proofs.IdLemmas.{ended}
 use Rattle.acl_forms.proofs.PartAnswers.{part_found, part_only}
-use Rattle.acl_forms.proofs.WordLemmas.{Takes, Takes-then, flags_again, flags_found, place_at, word_again, word_takes}
+use Rattle.acl_forms.proofs.WordLemmas.{flags_again, flags_found, word_again, word_takes}
 
 -- ---- any bytes
 
@@ -43,9 +43,9 @@ pub record TakesBytes {A : Type 0} (n : ℕ) (means : List ℕ → Result A Read
 
 -- whole bytes that give a value were accepted, and reading continues after them
 judged_ok : {A : Type 0} (n : ℕ) (p : Place) (r : Result A ReadReason) (x : A × Place)
-    → judged_bytes n p r ≡ Ok x → (r ≡ Ok x.0) × (place_at (p.at + n) (drop n p.rest) ≡ x.1)
+    → judged_bytes n p r ≡ Ok x → (r ≡ Ok x.0) × (place (p.at + n) (drop n p.rest) ≡ x.1)
 judged_ok n p (Ok y) x e =
-    let h : (y, place_at (p.at + n) (drop n p.rest)) ≡ x = ok_is _ _ e in (ap (λ z. Ok z.0) h, ap (λ z. z.1) h)
+    let h : (y, place (p.at + n) (drop n p.rest)) ≡ x = ok_is _ _ e in (ap (λ z. Ok z.0) h, ap (λ z. z.1) h)
 judged_ok n p (Err d) x e = absurd cc
 
 -- bytes that gave a value were taken
@@ -57,7 +57,7 @@ bytes_take n means p x fits e =
     let j = judged_ok n p (means (take n p.rest)) x g.1 in
     let enough : n ≤ length p.rest = ltb-false _ _ g.0 in
     let len : length (take n p.rest) ≡ n = omega (arith, length-take n p.rest) in
-    let made : Takes p (take n p.rest) (place_at (p.at + n) (drop n p.rest)) =
+    let made : Takes p (take n p.rest) (place (p.at + n) (drop n p.rest)) =
     record {
       parts = sym (take-append-drop n p.rest);
       counted = omega (arith, len);
@@ -72,7 +72,7 @@ bytes_take n means p x fits e =
 -- bytes that were written are read again
 pub bytes_again : {A : Type 0} (n : ℕ) (means : List ℕ → Result A ReadReason) (at : ℕ) (text rest : List ℕ) (x : A)
     → length text ≡ n → means text ≡ Ok x
-    → bytes_at n means (place_at at (text ++ rest)) ≡ Ok (x, place_at (at + n) rest)
+    → bytes_at n means (place at (text ++ rest)) ≡ Ok (x, place (at + n) rest)
 bytes_again n means at text rest x len e =
     let long : ltb (length (text ++ rest)) n ≡ false = le-ltb _ _ (omega (arith, length-append text rest)) in
     rw (long, take_at text rest n len, e, drop_at text rest n len) refl
@@ -94,7 +94,7 @@ pub record IsReader (Spells : AnyAce → List ℕ → Type 0) (read : AceReader)
       → TakesAce Spells bits p x.0 x.1
   pub again : (bits at : ℕ) (a : AnyAce) (bytes rest : List ℕ) → Spells a bytes
       → is_unknown_deny a.type_number a.who ≡ false → bits + count_ones a.mask ≤ most_weight
-      → read bits (place_at at (bytes ++ rest)) ≡ Ok (a, place_at (at + length bytes) rest)
+      → read bits (place at (bytes ++ rest)) ≡ Ok (a, place (at + length bytes) rest)
 
 -- the bytes of an ACE
 abbrev bytes_of : SpelledAce → List ℕ
@@ -151,27 +151,27 @@ module _ {Spells : AnyAce → List ℕ → Type 0} {read : AceReader} (reader : 
   -- ACEs that were spelled are read again after a list
   aces_again : (more : List SpelledAce) (list : List PlacedAce) (at : ℕ) (rest : List ℕ)
       → AllByRecursion (IsPartAce Spells) more → any_weight list + sum_by bits_of more ≤ most_weight
-      → aces_from read (length more) list (place_at at (flat_map bytes_of more ++ rest))
-      ≡ Ok (list ++ placed_from at more, place_at (at + length (flat_map bytes_of more)) rest)
+      → aces_from read (length more) list (place at (flat_map bytes_of more ++ rest))
+      ≡ Ok (list ++ placed_from at more, place (at + length (flat_map bytes_of more)) rest)
   unfolding aces_from placed_from
   aces_again [] list at rest each light =
-      ap (λ (l : List PlacedAce). Ok (l, place_at at rest)) (sym (append-nil list))
-      ∙ ap (λ (k : ℕ). Ok (list ++ [], place_at k rest)) (omega arith)
+      ap (λ (l : List PlacedAce). Ok (l, place at rest)) (sym (append-nil list))
+      ∙ ap (λ (k : ℕ). Ok (list ++ [], place k rest)) (omega arith)
   aces_again (s ∷ more) list at rest each light =
       let one : PlacedAce = record { ace = s.ace; offset = at } in
       let tail : List ℕ = flat_map bytes_of more ++ rest in
       let heavier : any_weight (list ++ one ∷ []) ≡ any_weight list + count_ones s.ace.mask =
       sum_by_push (λ (q : PlacedAce). count_ones q.ace.mask) list one in
       let all = sum_by-cons bits_of s more in
-      ap (λ (t : List ℕ). aces_from read (suc (length more)) list (place_at at t))
+      ap (λ (t : List ℕ). aces_from read (suc (length more)) list (place at t))
       (ap (λ (t : List ℕ). t ++ rest) (flat_map-cons bytes_of s more)
       ∙ append_assoc s.bytes (flat_map bytes_of more) rest)
       ∙ bind-ok _ (reader.again (any_weight list) at s.ace s.bytes tail each.0.spells each.0.known
       (omega (arith, light, all)))
       ∙ aces_again more (list ++ one ∷ []) (at + length s.bytes) rest each.1 (omega (arith, light, all, heavier))
-      ∙ ap (λ (l : List PlacedAce). Ok (l, place_at (at + length s.bytes + length (flat_map bytes_of more)) rest))
+      ∙ ap (λ (l : List PlacedAce). Ok (l, place (at + length s.bytes + length (flat_map bytes_of more)) rest))
       (append_assoc list (one ∷ []) (placed_from (at + length s.bytes) more))
-      ∙ ap (λ (k : ℕ). Ok (list ++ one ∷ placed_from (at + length s.bytes) more, place_at k rest))
+      ∙ ap (λ (k : ℕ). Ok (list ++ one ∷ placed_from (at + length s.bytes) more, place k rest))
       (omega (arith, ap length (flat_map-cons bytes_of s more), length-append s.bytes (flat_map bytes_of more)))
 
   -- what was read was spelled
@@ -216,7 +216,7 @@ module _ {Spells : AnyAce → List ℕ → Type 0} {read : AceReader} (reader : 
       let c = h.count in
       let w = h.weight in
       bind-ok _ (flags_again bytes set (word n ++ body) h.flags h.spelled)
-      ∙ bind-ok _ (ap (λ (t : List ℕ). word_at (λ n. listed (count_of n)) (place_at 4 (word n ++ t)))
+      ∙ bind-ok _ (ap (λ (t : List ℕ). word_at (λ n. listed (count_of n)) (place 4 (word n ++ t)))
       (sym (append-nil body))
       ∙ word_again (λ n. listed (count_of n)) 4 n (body ++ []) n (omega (arith, c))
       (listed_again _ n (count_again n c)))

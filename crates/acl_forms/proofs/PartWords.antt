@@ -10,7 +10,7 @@ use Rattle.std.proofs.lemmas.List.{length-replicate}
 use Rattle.acl_perm.specs.Bits.{all_flags, all_rights}
 use Rattle.acl_perm.specs.Profile.{full}
 use Rattle.acl_posix.specs.Id.{IsId, greatest_id}
-use Rattle.acl_nfs4.proofs.Exports.{bytes_are_zeros, bind-ok, bind_then, guard_ok, ok_is, is_who-decimal, within_le, type_is, type_again, len_bounds, zeros_again, regrouped}
+use Rattle.acl_nfs4.proofs.Exports.{Takes, Takes-then, bind-ok, bind_then, bytes_are_zeros, guard_ok, is_who-decimal, len_bounds, ok_is, place, regrouped, type_again, type_is, within_le, zeros_again}
 use Rattle.acl_nfs4.specs.AccessPart.{AnyAce, IsAnyAce, IsAnyWho, any_piece}
 use Rattle.acl_nfs4.specs.Fields.{flags_of, mask_of, padding_of, unless, who_len_of, who_reason}
 use Rattle.acl_nfs4.specs.Limits.{most_weight}
@@ -29,7 +29,7 @@ use Rattle.acl_forms.specs.Words.{word_at}
 use Rattle.acl_forms.specs.declared.fault.ReadReason.TheVariants as reason
 use Rattle.acl_forms.proofs.AnyNames.{known_who}
 use Rattle.acl_forms.proofs.IdAces.{flags_accepted, flags_are, listed_again, listed_ok, mask_again, mask_is, special_accepted, special_is, five_regrouped}
-use Rattle.acl_forms.proofs.WordLemmas.{Takes, Takes-then, place_at, word_again, word_takes}
+use Rattle.acl_forms.proofs.WordLemmas.{word_again, word_takes}
 use Rattle.acl_forms.proofs.PartLists.{IsReader, TakesAce, bytes_again, bytes_take}
 
 -- ---- an ACE with a name
@@ -171,7 +171,7 @@ reader_by_name = record { take_ace = takes; again = again } where
 
   named_again : (bits at : ℕ) (a : AnyAce) (rest : List ℕ) → IsAnyAce full a
       → is_unknown_deny a.type_number a.who ≡ false → bits + count_ones a.mask ≤ most_weight
-      → ace_by_name bits (place_at at (any_piece a ++ rest)) ≡ Ok (a, place_at (at + length (any_piece a)) rest)
+      → ace_by_name bits (place at (any_piece a ++ rest)) ≡ Ok (a, place (at + length (any_piece a)) rest)
   named_again bits at a rest is known light =
       let n : ℕ = length a.who in
       let pad : List ℕ = replicate (pad_len n) 0 in
@@ -184,7 +184,7 @@ reader_by_name = record { take_ace = takes; again = again } where
       let r3 = word n ++ r4 in
       let r2 = word a.mask ++ r3 in
       let r1 = word a.flags ++ r2 in
-      ap (λ (x : List ℕ). ace_by_name bits (place_at at x))
+      ap (λ (x : List ℕ). ace_by_name bits (place at x))
       (regrouped (word a.type_number) (word a.flags) (word a.mask) (word n) a.who pad rest)
       ∙ bind-ok _ (word_again (λ n. listed (type_of n)) at a.type_number r1 a.type_number
       (let t = is.type_number in omega arith) (listed_again _ a.type_number (type_again a.type_number is.type_number)))
@@ -198,13 +198,13 @@ reader_by_name = record { take_ace = takes; again = again } where
       (name_again a.type_number a.who is.who known))
       ∙ bind-ok _ (bytes_again (pad_len n) (λ b. listed (padding_of b)) (at + 4 + 4 + 4 + 4 + n) pad rest tt len
       (padding_again (pad_len n)))
-      ∙ ap (λ (k : ℕ). Ok (a, place_at k rest)) (omega (arith, len, length-append a.who pad))
+      ∙ ap (λ (k : ℕ). Ok (a, place k rest)) (omega (arith, len, length-append a.who pad))
 
   again : (bits at : ℕ) (a : AnyAce) (bytes rest : List ℕ) → SpellsByName a bytes
       → is_unknown_deny a.type_number a.who ≡ false → bits + count_ones a.mask ≤ most_weight
-      → ace_by_name bits (place_at at (bytes ++ rest)) ≡ Ok (a, place_at (at + length bytes) rest)
+      → ace_by_name bits (place at (bytes ++ rest)) ≡ Ok (a, place (at + length bytes) rest)
   again bits at a bytes rest spells known light =
-      subst (λ (b : List ℕ). ace_by_name bits (place_at at (b ++ rest)) ≡ Ok (a, place_at (at + length b) rest))
+      subst (λ (b : List ℕ). ace_by_name bits (place at (b ++ rest)) ≡ Ok (a, place (at + length b) rest))
       (sym spells.spelled) (named_again bits at a rest spells.is known light)
 
 -- ---- an ACE with a number
@@ -318,7 +318,7 @@ reader_by_number = record { take_ace = takes; again = again } where
 
   again : (bits at : ℕ) (a : AnyAce) (bytes rest : List ℕ) → SpellsById a bytes
       → is_unknown_deny a.type_number a.who ≡ false → bits + count_ones a.mask ≤ most_weight
-      → ace_by_number bits (place_at at (bytes ++ rest)) ≡ Ok (a, place_at (at + length bytes) rest)
+      → ace_by_number bits (place at (bytes ++ rest)) ≡ Ok (a, place (at + length bytes) rest)
   again bits at a bytes rest h known light =
       let r = number_again a.type_number h.special h.number a.who h.who known in
       let low = within_le all_flags a.flags h.flags in
@@ -328,8 +328,8 @@ reader_by_number = record { take_ace = takes; again = again } where
       let r2 = word h.special ++ r3 in
       let r1 = word a.flags ++ r2 in
       let long : length bytes ≡ 20 = ap length h.spelled in
-      ap (λ (t : List ℕ). ace_by_number bits (place_at at (t ++ rest))) h.spelled
-      ∙ ap (λ (t : List ℕ). ace_by_number bits (place_at at t))
+      ap (λ (t : List ℕ). ace_by_number bits (place at (t ++ rest))) h.spelled
+      ∙ ap (λ (t : List ℕ). ace_by_number bits (place at t))
       (five_regrouped (word a.type_number) (word a.flags) (word h.special) (word a.mask) (word h.number) rest)
       ∙ bind-ok _ (word_again (λ n. listed (type_of n)) at a.type_number r1 a.type_number
       (let t = h.type_number in omega arith) (listed_again _ a.type_number (type_again a.type_number h.type_number)))
@@ -341,4 +341,4 @@ reader_by_number = record { take_ace = takes; again = again } where
       (omega (arith, small)) (listed_again _ a.mask (mask_again bits a.mask h.mask light)))
       ∙ bind-ok _ (word_again (who_by_number a.type_number h.special) (at + 4 + 4 + 4 + 4) h.number rest a.who r.fits
       r.read)
-      ∙ ap (λ (k : ℕ). Ok (a, place_at k rest)) (omega (arith, long))
+      ∙ ap (λ (k : ℕ). Ok (a, place k rest)) (omega (arith, long))

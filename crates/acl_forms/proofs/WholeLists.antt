@@ -12,12 +12,12 @@ use Rattle.acl_perm.specs.Profile.{full}
 use Rattle.acl_perm.specs.declared.kind.Kind.{Kind}
 use Rattle.acl_perm.specs.declared.kind.Kind.TheVariants.{Allow, Deny}
 use Rattle.acl_posix.specs.Id.{greatest_id}
-use Rattle.acl_nfs4.specs.AccessPart.{AnyAce, IsAnyWho, kept_ace, kind_of_type}
+use Rattle.acl_nfs4.specs.AccessPart.{AnyAce, IsAnyWho, kept_ace}
 use Rattle.acl_nfs4.specs.Ace.{Ace}
 use Rattle.acl_nfs4.specs.Spelling.{IsAccepted, IsAce, piece, weight, word}
 use Rattle.acl_nfs4.specs.Who.{IsWho, everyone_name, group_name, is_no_who_len, is_plain, is_unknown_special, owner_name}
 use Rattle.acl_nfs4.specs.declared.xdr.fault.Reason.TheVariants as list
-use Rattle.acl_nfs4.proofs.Exports.{ok_is}
+use Rattle.acl_nfs4.proofs.Exports.{kind_of_type-number, ok_is}
 use Rattle.acl_forms.specs.Acl41.{IsAcl41}
 use Rattle.acl_forms.specs.Acl41Ids.{EachHasId, IsAcl41Ids, id_piece, id_who, special_who, whom_words}
 unfoldable use Rattle.acl_forms.specs.Acl41Ids.{id_who_of}
@@ -57,17 +57,13 @@ for_access : (k : Kind) → nat_lt (kind_number k) 2 ≡ true
 for_access Allow = refl
 for_access Deny = refl
 
--- a kind is that of its number
-pub kind_same : (k : Kind) → kind_of_type (kind_number k) ≡ k
-kind_same Allow = refl
-kind_same Deny = refl
-
 -- an ALLOW or a DENY of a name that somebody knows is kept as it is
 pub kept_same : (a : Ace) → is_unknown_special a.who ≡ false
     → (reason_of (any_of a) ≡ None) × (kept_ace (any_of a) ≡ a)
 kept_same a known = (
   rw (for_access a.kind, known) refl,
-  rw known (ap (λ (k : Kind). record { kind = k; flags = a.flags; mask = a.mask; who = a.who }) (kind_same a.kind)),
+  rw known (ap (λ (k : Kind). record { kind = k; flags = a.flags; mask = a.mask; who = a.who })
+      (kind_of_type-number a.kind)),
 )
 
 -- a list whose ACEs have these bytes

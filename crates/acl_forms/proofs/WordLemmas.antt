@@ -1,10 +1,10 @@
 -- A word that is read is the word that was written, and what was written is read again.
-use Rattle.std.proofs.Common.{◌≡◌, ◌∙◌, ◌+◌, ◌<◌, ◌≤◌, ◌^◌, ◌++◌, ℕ, List, bit_and, false, ltb, Result, Ok, Err, length, take, drop, arith, refl, ap, sym, subst, append_assoc, length-append}
+use Rattle.std.proofs.Common.{◌≡◌, ◌∙◌, ◌+◌, ◌<◌, ◌≤◌, ◌^◌, ◌++◌, ℕ, List, bit_and, false, ltb, Result, Ok, Err, length, take, drop, arith, refl, ap, sym, subst, length-append}
 use Rattle.std.proofs.lemmas.Bool.{le-ltb, ltb-false, eq-eqb}
 use Rattle.std.proofs.lemmas.Bool.Decides.{nat_tests}
 use Rattle.std.proofs.lemmas.List.{length-take, take-append-drop}
 use Rattle.std.proofs.lemmas.Nat.{and_le_r, be_bytes_4, from_be_bytes-to_be_bytes_4}
-use Rattle.acl_nfs4.proofs.Exports.{IsBytes-drop, IsBytes-take, guard_ok, ok_is}
+use Rattle.acl_nfs4.proofs.Exports.{IsBytes-drop, IsBytes-take, Takes, guard_ok, ok_is, place}
 use Rattle.acl_nfs4.specs.Fields.{number}
 use Rattle.acl_nfs4.specs.Spelling.{word}
 use Rattle.acl_nfs4.specs.internal.Progress.{IsBytes}
@@ -16,34 +16,13 @@ use Rattle.acl_forms.specs.Words.{acl_flags_of, judged_word, start, word_at}
 use Rattle.acl_forms.specs.declared.fault.ReadReason.{ReadReason}
 use Rattle.acl_forms.specs.declared.fault.ReadReason.TheVariants as reason
 
--- ---- steps
-
 -- ---- words
-
--- a place, by the number of bytes before it and the bytes after it
-abbrev pub place_at : ℕ → List ℕ → Place
-place_at n rest = record { at = n; rest = rest }
-
--- what reading took from the front
-pub record Takes (p : Place) (text : List ℕ) (q : Place) : Type 0 where
-  pub parts : p.rest ≡ text ++ q.rest
-  pub counted : q.at ≡ p.at + length text
-  pub bytes : IsBytes q.rest
-
--- what two steps took
-pub Takes-then : {p : Place} {x : List ℕ} {q : Place} {y : List ℕ} {r : Place} → Takes p x q → Takes q y r
-    → Takes p (x ++ y) r
-Takes-then {x = x} {y = y} {r = r} s t = record {
-  parts = s.parts ∙ ap (λ (z : List ℕ). x ++ z) t.parts ∙ sym (append_assoc x y r.rest);
-  counted = omega (arith, s.counted, t.counted, length-append x y);
-  bytes = t.bytes;
-}
 
 -- a whole word that gives a value was accepted, and reading continues after it
 judged_ok : {A : Type 0} (p : Place) (r : Result A ReadReason) (x : A × Place) → judged_word p r ≡ Ok x
-    → (r ≡ Ok x.0) × (place_at (p.at + 4) (drop 4 p.rest) ≡ x.1)
+    → (r ≡ Ok x.0) × (place (p.at + 4) (drop 4 p.rest) ≡ x.1)
 judged_ok p (Ok y) x e =
-    let h : (y, place_at (p.at + 4) (drop 4 p.rest)) ≡ x = ok_is _ _ e in (ap (λ z. Ok z.0) h, ap (λ z. z.1) h)
+    let h : (y, place (p.at + 4) (drop 4 p.rest)) ≡ x = ok_is _ _ e in (ap (λ z. Ok z.0) h, ap (λ z. z.1) h)
 judged_ok p (Err d) x e = absurd cc
 
 -- a word that was read is taken, and its number is accepted
@@ -64,7 +43,7 @@ word_takes means p x fits e =
     let len : length (take 4 p.rest) ≡ 4 = omega (arith, length-take 4 p.rest) in
     let b = IsBytes-take 4 p.rest fits in
     let front : word (number (take 4 p.rest)) ≡ take 4 p.rest = be_bytes_4 (take 4 p.rest) _ len b refl in
-    let made : Takes p (take 4 p.rest) (place_at (p.at + 4) (drop 4 p.rest)) =
+    let made : Takes p (take 4 p.rest) (place (p.at + 4) (drop 4 p.rest)) =
     record {
       parts = sym (take-append-drop 4 p.rest);
       counted = omega (arith, len);
@@ -80,11 +59,11 @@ word_takes means p x fits e =
 
 -- a word that was written is read again
 pub word_again : {A : Type 0} (means : ℕ → Result A ReadReason) (at n : ℕ) (rest : List ℕ) (x : A) → n < 2 ^ 32
-    → means n ≡ Ok x → word_at means (place_at at (word n ++ rest)) ≡ Ok (x, place_at (at + 4) rest)
+    → means n ≡ Ok x → word_at means (place at (word n ++ rest)) ≡ Ok (x, place (at + 4) rest)
 word_again means at n rest x lt e =
     let long : ltb (length (word n ++ rest)) 4 ≡ false = le-ltb _ _ (omega (arith, length-append (word n) rest)) in
     let same : means (number (word n)) ≡ Ok x = ap means (from_be_bytes-to_be_bytes_4 n lt) ∙ e in
-    rw long (ap (judged_word (place_at at (word n ++ rest))) same)
+    rw long (ap (judged_word (place at (word n ++ rest))) same)
 
 -- ---- the word of flags
 
@@ -111,7 +90,7 @@ flags_found bytes flags after fits e =
 
 -- flags before other bytes are read again
 pub flags_again : (bytes : List ℕ) (flags : ℕ) (text : List ℕ) → IsAclFlags flags → bytes ≡ word flags ++ text
-    → word_at acl_flags_of (start bytes) ≡ Ok (flags, place_at 4 text)
+    → word_at acl_flags_of (start bytes) ≡ Ok (flags, place 4 text)
 flags_again bytes flags text is e =
     ap (λ (b : List ℕ). word_at acl_flags_of (start b)) e
     ∙ word_again acl_flags_of 0 flags text flags (flags_lt flags is) (flags_accepted flags is)

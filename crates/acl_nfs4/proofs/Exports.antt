@@ -15,9 +15,10 @@ pub use Rattle.acl_nfs4.proofs.text.AceLines.{one_list}
 pub use Rattle.acl_nfs4.proofs.text.AceWritten.{plain_who, text_again}
 pub use Rattle.acl_nfs4.proofs.xdr.AcesAt.{regrouped}
 pub use Rattle.acl_nfs4.proofs.xdr.AnyLists.{type_again, type_is}
+pub use Rattle.acl_nfs4.proofs.xdr.Body.{kind_of_type-number}
 pub use Rattle.acl_nfs4.proofs.xdr.Faults.{weight-push}
 pub use Rattle.acl_nfs4.proofs.xdr.Resume.{one_spelling as one}
-pub use Rattle.acl_nfs4.proofs.xdr.Fields.{IsBytes-drop, IsBytes-take, bind-ok, bind_then, bytes_append, bytes_are_zeros, count_again, count_is, guard_ok, kind_again, kind_is, kind_lt, len_bounds, ok, ok_is, who_bounds, zeros_again}
+pub use Rattle.acl_nfs4.proofs.xdr.Fields.{IsBytes-drop, IsBytes-take, Takes, Takes-then, bind-ok, bind_then, bytes_append, bytes_are_zeros, count_again, count_is, guard_ok, kind_again, kind_is, kind_lt, len_bounds, ok, ok_is, place, who_bounds, zeros_again}
 pub use Rattle.acl_nfs4.proofs.xdr.Lengths.{spelling_short}
 pub use Rattle.acl_nfs4.proofs.xdr.Lists.{front_accepted, weight-cons}
 pub use Rattle.acl_nfs4.proofs.xdr.FirstPassing.{none_passes}
