@@ -11,6 +11,7 @@ import shutil
 import subprocess
 import tempfile
 import time
+import timeit
 import unittest
 from unittest import mock
 
@@ -108,9 +109,7 @@ class Scratch(unittest.TestCase):
         took = []
         for number in (count, 8 * count):
             call = prepared(number)
-            begun = time.process_time()
-            call()
-            took.append(time.process_time() - begun)
+            took.append(timeit.timeit(call, timer=time.process_time, number=1))  # without passes of the collector
         self.assertLess(took[1], 24 * took[0])
 
     def write(self, name, text=""):
