@@ -1,4 +1,4 @@
-# An image of aclck-tree, with aclck, aclck-form and aclck-ask, of the packages that `make package` leaves in debian/out:
+# An image of aclck-tree, with the other programs, of the packages that `make package` leaves in debian/out:
 #
 #     podman build -t aclck . && podman run --rm -v /srv/shared:/srv/shared:ro -v "$PWD":/out aclck \
 #         scan /srv/shared -o /out/monday

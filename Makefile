@@ -8,8 +8,8 @@ MANUAL = $(DESTDIR)$(PREFIX)/share/man/man1/aclck.1
 COMPLETION = $(DESTDIR)$(PREFIX)/share/bash-completion/completions/aclck
 SHARE = $(DESTDIR)$(PREFIX)/share
 PAGES = docs/*.md CHANGELOG.md
-PACKAGES = bindings/python/aclck $(addprefix bindings/python/aclck_,tree form ask)
-TREE_PROGRAMS = aclck-tree aclck-form aclck-ask
+PACKAGES = bindings/python/aclck $(addprefix bindings/python/aclck_,tree form ask probe)
+TREE_PROGRAMS = aclck-tree aclck-form aclck-ask aclck-probe
 MODULES = $(DESTDIR)$(PREFIX)/lib/aclck/python
 
 # The first example of the README: may bob, an editor, write under a list of two entries?
@@ -74,7 +74,7 @@ uninstall: uninstall-tree
 	rm -f '$(PROGRAM)' '$(MANUAL)' '$(COMPLETION)'
 	rm -rf '$(SHARE)/doc/aclck'
 
-## install-tree       installs aclck-tree, aclck-form, aclck-ask and the Python module, which use the installed library
+## install-tree       installs the programs in Python and their module, which use the installed library
 install-tree:
 	for name in $(TREE_PROGRAMS); do \
 	  install -D -m 755 bin/$$name '$(DESTDIR)$(PREFIX)/bin/'$$name && \

@@ -674,6 +674,14 @@ ACLCK_CALL ACLCK_READS(2) ACLCK_WRITES(5) ACLCK_WRITES(6)
 enum aclck_status aclck_with_groups(aclck_bytes acl, const aclck_bytes *suffix, enum aclck_option options,
                                     aclck_buffer out, size_t *needed, aclck_fault *fault);
 
+/* What the list keeps under `*bound`, which is a list too: a right of an ALLOW goes if and only if the DENYs before it,
+   and then it, grant the right to somebody whom the bound denies it. The new list grants at most what both lists grant,
+   and of all lists that are made by taking rights out of ALLOWs and do so, it keeps most. It has the bytes of `acl` if
+   and only if aclck_excess() finds nothing. Options: ACLCK_NARROW. */
+ACLCK_CALL ACLCK_READS(2) ACLCK_WRITES(5) ACLCK_WRITES(6)
+enum aclck_status aclck_restricted(aclck_bytes acl, const aclck_bytes *bound, enum aclck_option options,
+                                   aclck_buffer out, size_t *needed, aclck_fault *fault);
+
 /* The text of the list, one line per ACE (docs/reference/formats.md). Options: ACLCK_NARROW. */
 ACLCK_CALL ACLCK_WRITES(4) ACLCK_WRITES(5)
 enum aclck_status aclck_show(aclck_bytes acl, enum aclck_option options, aclck_buffer out, size_t *needed,

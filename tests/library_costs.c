@@ -4,9 +4,9 @@
  *     library_costs CALL INPUT GROUPS [shuffled]
  *
  * The requester has GROUPS groups, named h00000 and so on, in this order or in no order; `entries_to_form` has as many
- * names of users. INPUT is a file: a list, two
- * lists of equal length for `same` and `compare`, a text, or an attribute for the calls over entries. What a call is
- * given is prepared or read before it is counted. The program is linked with --wrap for malloc and realloc.
+ * names of users. INPUT is a file: a list, two lists of equal length for `same`, `compare`, `excess` and `restricted`, a
+ * text, or an attribute for the calls over entries. What a call is given is prepared or read before it is counted. The
+ * program is linked with --wrap for malloc and realloc.
  */
 #include "aclck.h"
 #include <pthread.h>
@@ -135,7 +135,7 @@ static uint32_t invoke_list(const char *call, size_t len) {
     static const aclck_renaming rows[] = {{{"mallory", 7}, {"m", 1}, 0}, {{"editors", 7}, {"writers", 7}, 1}};
     const aclck_renamings table = {rows, 2};
     const aclck_object object = {aclck_string("o"), aclck_string("g")};
-    const aclck_bytes suffix = aclck_string("?");
+    const aclck_bytes suffix = aclck_string("?"), halves[] = {HALVES};
     const aclck_question all = {ACLCK_ALL_RIGHTS, ACLCK_FULL};
     aclck_possible possible;
     aclck_fault fault;
@@ -149,6 +149,8 @@ static uint32_t invoke_list(const char *call, size_t len) {
         return aclck_resolved(LIST, &object, ACLCK_FULL, OUT);
     if (IS("with_groups"))
         return aclck_with_groups(LIST, &suffix, ACLCK_FULL, OUT);
+    if (IS("restricted"))
+        return aclck_restricted(halves[0], &halves[1], ACLCK_FULL, OUT);
     if (IS("read_form"))
         return aclck_read_form(LIST, ACLCK_NFS_TOOLS_DIRECTORY, ROOM_FOR_ALL, &needed, &flags, &fault);
     if (IS("write_form"))

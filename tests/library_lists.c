@@ -1,5 +1,5 @@
 /* Tests the calls of libaclck over NFSv4 lists that no command of aclck has: prepared lists, by names and by ids; ACE
- * by ACE; new modes; names exchanged; names that nobody knows.
+ * by ACE; new modes; names exchanged; bounds; names that nobody knows.
  *
  *     library_lists LISTS [threads]
  *
@@ -21,7 +21,7 @@ typedef struct {
     aclck_names names;
     aclck_renamings table;
     aclck_object object;
-    aclck_bytes suffix;
+    aclck_bytes suffix, bound;
     aclck_aces aces;
     enum aclck_form form;
     uint32_t flags, *flags_read;
@@ -40,6 +40,7 @@ WRITER(set_mode, aclck_chmod(g->acl, g->mode, g->options, out, needed, fault))
 WRITER(exchange, aclck_renamed(g->acl, &g->table, g->options, out, needed, fault))
 WRITER(name_owner, aclck_resolved(g->acl, &g->object, g->options, out, needed, fault))
 WRITER(name_groups, aclck_with_groups(g->acl, &g->suffix, g->options, out, needed, fault))
+WRITER(keep_under, aclck_restricted(g->acl, &g->bound, g->options, out, needed, fault))
 WRITER(read_form, aclck_read_form(g->acl, g->form, out, needed, g->flags_read, fault))
 WRITER(write_form, aclck_write_form(g->acl, g->form, g->flags, out, needed, fault))
 WRITER(inherit, aclck_child(g->acl, g->options, out, needed, fault))
@@ -58,6 +59,7 @@ static given list_with(aclck_bytes acl, uint32_t options) {
     g.table.at = &no_renaming;
     g.object = (aclck_object){aclck_string("bob"), aclck_string("staff")};
     g.suffix = aclck_string("?");
+    g.bound = aclck_bytes_of("\0\0\0\0", 4);
     g.aces.at = &no_ace;
     return g;
 }
@@ -569,6 +571,41 @@ static void is_exchanged_back(aclck_bytes acl, uint32_t options, const people *p
     free(bytes);
 }
 
+/* ---- bounds */
+
+static int is_at_most(aclck_bytes list, aclck_bytes bound, uint32_t options) {
+    aclck_difference found;
+    aclck_fault fault;
+    enum aclck_status status =
+        aclck_excess(list, bound, (enum aclck_option)options, &found, aclck_buffer_of(NULL, 0), &fault);
+    return EXPECT(status == ACLCK_DONE || status == ACLCK_SHORT) && found.same;
+}
+
+/* Under itself a list is as it was. Under the list without its first ACE it grants at most what both grant, it is as it
+   was if it granted no more, and nothing goes a second time. */
+static void is_kept_under(aclck_bytes acl, uint32_t options, const aclck_ace *aces, size_t count) {
+    given rest = list_with(acl, options), g = rest;
+    size_t len = 0;
+    g.bound = acl;
+    writes(keep_under, &g, 1, acl.at, acl.len);
+    if (count == 0)
+        return;
+    rest.aces.at = aces + 1;
+    rest.aces.len = count - 1;
+    g.bound = without_memory(build, rest, options);
+    unsigned char *bytes = result_of(keep_under, &g, 1, &len);
+    const aclck_bytes left = aclck_bytes_of(bytes, len);
+    if (EXPECT(bytes != NULL && len == acl.len)) {
+        EXPECT(is_at_most(left, acl, options) && is_at_most(left, g.bound, options));
+        EXPECT(are_equal(left, acl) == is_at_most(acl, g.bound, options));
+        writes(keep_under, &g, 1, bytes, len);
+        g.acl = left;
+        writes(keep_under, &g, 1, bytes, len);
+    }
+    free(bytes);
+    free((void *)g.bound.at);
+}
+
 /* ---- names that nobody knows */
 
 static int is_nothing_possible(const aclck_possible *possible) {
@@ -958,6 +995,47 @@ static void are_groups_put_for_names_by_hand(void) {
     refuses(name_groups, &g, 1, cut);
 }
 
+/* RFC 8881, section 6.2.1: a right of an ALLOW goes if the DENYs before it, and then it, grant it to somebody whom the
+   bound denies it. Nobody is two users; a user may be the owner, and a member of every group. */
+static void are_lists_restricted_by_hand(void) {
+    static const char no_bob[] = "DENY - READ_DATA bob\nALLOW - READ_DATA EVERYONE@\n",
+                      no_temps[] = "DENY GROUP READ_DATA temps\nALLOW - READ_DATA EVERYONE@\n";
+    static const struct {
+        const char *list, *bound, *left;
+    } rows[] = {
+        {"ALLOW - READ_DATA|WRITE_DATA amy\nALLOW - READ_DATA EVERYONE@\n",
+         "DENY - WRITE_DATA amy\nALLOW - READ_DATA|WRITE_DATA EVERYONE@\n",
+         "ALLOW - READ_DATA amy\nALLOW - READ_DATA EVERYONE@\n"},
+        {"ALLOW - READ_DATA|WRITE_DATA bob\nDENY - READ_DATA bob\n", "ALLOW - WRITE_DATA bob\n",
+         "ALLOW - WRITE_DATA bob\nDENY - READ_DATA bob\n"},
+        {"ALLOW - READ_DATA EVERYONE@\nDENY - READ_DATA bob\nALLOW - READ_DATA EVERYONE@\n", no_bob,
+         "ALLOW - - EVERYONE@\nDENY - READ_DATA bob\nALLOW - READ_DATA EVERYONE@\n"},
+        {"ALLOW GROUP READ_DATA staff\nDENY GROUP READ_DATA temps\nALLOW GROUP READ_DATA staff\n", no_temps,
+         "ALLOW GROUP - staff\nDENY GROUP READ_DATA temps\nALLOW GROUP READ_DATA staff\n"},
+        {"ALLOW - READ_DATA amy\n", no_bob, "ALLOW - READ_DATA amy\n"},
+        {"ALLOW - READ_DATA OWNER@\nALLOW - READ_DATA bob\n", no_bob, "ALLOW - - OWNER@\nALLOW - - bob\n"},
+        {"ALLOW GROUP READ_DATA staff\n", "ALLOW GROUP READ_DATA staff\nDENY GROUP READ_DATA temps\n",
+         "ALLOW GROUP READ_DATA staff\n"},
+        {"ALLOW FILE|INHERITONLY WRITE_DATA bob\n", no_bob, "ALLOW FILE|INHERITONLY WRITE_DATA bob\n"},
+    };
+    const aclck_fault cut = {4, 0, 0, ACLCK_TRUNCATED, 0, 0, 0}, cut_bound = {4, 0, 0, ACLCK_TRUNCATED, 1, 0, 0};
+    given g = list_with(list_of("ALLOW - READ_DATA|WRITE_DATA EVERYONE@\n"), 0);
+    const aclck_bytes nothing = list_of("ALLOW - - EVERYONE@\n");
+    writes(keep_under, &g, 1, nothing.at, nothing.len);
+    g.bound = aclck_bytes_of("\0\0\0\1\0\0", 6);
+    refuses(keep_under, &g, 1, cut_bound);
+    g.acl = g.bound;
+    refuses(keep_under, &g, 1, cut);
+    for (size_t i = 0; i < sizeof rows / sizeof *rows; i++) {
+        const aclck_bytes left = list_of(rows[i].left);
+        g = list_with(list_of(rows[i].list), 0);
+        g.bound = list_of(rows[i].bound);
+        writes(keep_under, &g, 1, left.at, left.len);
+        g.options = ACLCK_NARROW;
+        writes(keep_under, &g, 1, left.at, left.len);
+    }
+}
+
 /* ---- forms of other systems */
 
 /* The list and the text of it in nfs4_setfacl(1), "EXAMPLES". */
@@ -1250,9 +1328,9 @@ static void are_bad_ids_refused(void) {
 
 static void are_bad_options_refused(void) {
     static writer *const writers[] = {prepare, prepare_ids, build, set_mode, exchange, name_owner, name_groups,
-                                     inherit};
+                                     keep_under, inherit};
     static const uint32_t own[] = {ACLCK_NARROW, ACLCK_NARROW, ACLCK_NARROW, ACLCK_NARROW,
-                                   ACLCK_NARROW | ACLCK_MAY_MERGE, ACLCK_NARROW, ACLCK_NARROW,
+                                   ACLCK_NARROW | ACLCK_MAY_MERGE, ACLCK_NARROW, ACLCK_NARROW, ACLCK_NARROW,
                                    ACLCK_NARROW | ACLCK_DIRECTORY | ACLCK_MARK_INHERITED};
     const aclck_bytes list = list_of("ALLOW - READ_DATA 7\n");
     for (size_t i = 0; i < sizeof writers / sizeof *writers; i++)
@@ -1438,6 +1516,7 @@ static void test_list(aclck_bytes acl, uint32_t options) {
         refuses(set_mode, &g, 1, fault);
         refuses(exchange, &g, 1, fault);
         refuses(name_owner, &g, 1, fault);
+        refuses(keep_under, &g, 1, fault);
         return;
     }
     aclck_ace *aces = room_for_aces(acl);
@@ -1447,6 +1526,8 @@ static void test_list(aclck_bytes acl, uint32_t options) {
     is_prepared(acl, options, &p);
     is_mode_set(acl, options, &p);
     is_exchanged_back(acl, options, &p);
+    if (acl.len < 2000)
+        is_kept_under(acl, options, aces, count);
     if (options == 0)
         is_child_marked(acl);
     for (int i = 0; i < 4; i++)
@@ -1460,8 +1541,8 @@ static void run_rows(void) {
         TEST(are_modes_set_by_hand), TEST(are_names_exchanged_by_hand), TEST(are_bad_names_refused),
         TEST(are_owners_named_by_hand), TEST(are_wrong_aces_refused), TEST(are_unknown_names_answered_by_hand),
         TEST(are_long_lists_answered_by_hand), TEST(are_prepared_bytes_those_of_the_form),
-        TEST(are_groups_put_for_names_by_hand), TEST(are_forms_read_and_written_by_hand),
-        TEST(are_other_values_refused), TEST(are_aces_left_out), TEST(are_lists_kept_out_of_forms),
+        TEST(are_groups_put_for_names_by_hand), TEST(are_lists_restricted_by_hand),
+        TEST(are_forms_read_and_written_by_hand), TEST(are_other_values_refused), TEST(are_aces_left_out), TEST(are_lists_kept_out_of_forms),
         TEST(are_bad_questions_refused), TEST(are_lengths_judged), TEST(are_bad_ids_refused),
         TEST(are_bad_options_refused),
         TEST(are_many_groups_asked), TEST(are_no_groups_made), TEST(are_lists_of_all_sizes_asked)};

@@ -257,6 +257,8 @@ def wrong_answers(library, aces, bound, said):
     yield from wrong_meet(there, aces, bound, said["meet"][1], said["meet"][0])
     given, limit = library(nfs(*aces)), library(nfs(*bound))
     found = {command: library(data) for command, (_, data) in said.items()}
+    if given.restricted(limit) != found["restricted"]:
+        yield "restricted of the library"
     for command in "restricted", "meet":
         if found[command].exceeds(given) or found[command].exceeds(limit):
             yield "%s grants too much" % command

@@ -184,6 +184,29 @@ func TestNormalFormsSayWhetherListsGrantTheSame(t *testing.T) {
 	}
 }
 
+// RFC 8881, section 6.2.1: amy, a member of every group, gets WRITE_DATA by the first ALLOW. A user is no other user.
+func TestAListKeepsWhatABoundGrants(t *testing.T) {
+	list := encoded(t, "ALLOW GROUP READ_DATA|WRITE_DATA staff\nALLOW - WRITE_DATA bob\n")
+	bound := encoded(t, "DENY - WRITE_DATA amy\nALLOW - READ_DATA|WRITE_DATA EVERYONE@\n")
+	left := encoded(t, "ALLOW GROUP READ_DATA staff\nALLOW - WRITE_DATA bob\n")
+	for _, row := range []struct{ list, bound, left []byte }{
+		{list, bound, left}, {left, bound, left}, {bound, bound, bound}, {bound[:4:4], bound, nil},
+	} {
+		found, err := Restricted(row.list, row.bound, Narrow)
+		if (err == nil) != (row.left != nil) || !bytes.Equal(found, row.left) {
+			t.Errorf("Restricted is %v, %v", found, err)
+		}
+	}
+	_, err := Restricted(list, bound[:7], Full)
+	var fault *Fault
+	if !errors.As(err, &fault) || fault.List != 1 || fault.Offset != 4 {
+		t.Errorf("the bound is cut off: %v", err)
+	}
+	if _, err = Restricted(list, nil, Full); !errors.As(err, &fault) || fault.List != 1 {
+		t.Errorf("a bound of no bytes: %v", err)
+	}
+}
+
 // The attribute dacl begins with the flags; in Samba's nfs41acl.x an ACE has type, flags, no special who, mask, id.
 func TestAListHasAValueInEachForm(t *testing.T) {
 	list := encoded(t, "ALLOW GROUP READ_DATA 20\n")

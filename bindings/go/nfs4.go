@@ -113,6 +113,18 @@ func Normalize(list []byte, profile Profile) ([]byte, error) {
 	})
 }
 
+// Restricted returns what a list keeps under a bound, which is a list too. A right of an ALLOW goes if and only if the
+// DENYs before it, and then it, grant the right to somebody whom the bound denies it. Of all lists that are made by taking
+// rights out of ALLOWs, and that grant at most what the bound grants, it is the one that keeps most.
+func Restricted(list, bound []byte, profile Profile) ([]byte, error) {
+	block := newMemory(uintptr(len(bound)))
+	defer block.free()
+	limit := block.bytes(string(bound))
+	return made(len(list), func(out C.aclck_buffer, needed *C.size_t, fault *C.aclck_fault) C.enum_aclck_status {
+		return C.aclck_restricted(bytesOf(list), &limit, C.enum_aclck_option(profile), out, needed, fault)
+	})
+}
+
 // Same returns whether two lists grant everybody the same.
 func Same(first, second []byte, profile Profile) (bool, error) {
 	var same C.uint32_t

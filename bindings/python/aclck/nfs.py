@@ -351,6 +351,14 @@ class NfsAcl:
         this list grants a right that the other list does not grant."""
         return self._found("excess", other._list, self._options & other._options)
 
+    def restricted(self, bound: NfsAcl) -> NfsAcl:
+        """Returns what this list keeps under a bound: a right of an ALLOW goes if and only if the DENYs before it, and
+        then it, grant the right to somebody whom the bound denies it. Of all lists that are made by taking rights out
+        of ALLOWs, and that grant at most what the bound grants, it is the one that keeps most. It is this list if and
+        only if `exceeds` returns None."""
+        args = (self._list, bound._list, self._options & bound._options)
+        return self._like(c.bytes_of("restricted", args, len(self._bytes)))
+
     def implies(self, right: int, others: int) -> Optional[Difference]:
         """Returns None if everybody to whom this list grants a right also gets each of some others, and otherwise a
         requester who gets the right, with the lowest of the others that the list denies (docs/reference/lists.md, "What

@@ -18,6 +18,7 @@ from .answer import Reply
 from .comparing import at_most, same
 from .describing import holders, needed
 from .lists import STANDARD_INPUT
+from .restricting import restrict
 
 _NAME = "aclck-ask"
 
@@ -29,6 +30,7 @@ EXAMPLES = {
     "same": "aclck-ask same --form posix --form posix-access first.acl second.value",
     "holders": "getfattr --only-values -n system.nfs4_acl plan.odt | aclck-ask holders WRITE_DATA -",
     "needed": "aclck-ask needed --file --form nfs4-tools plan.acl",
+    "restrict": "aclck-ask restrict --form text list.text bound.text",
     "who": "aclck-ask who READ_DATA plan.xdr --people people --domain example.com --owner alice --group staff",
 }
 """An example for each question."""
@@ -48,6 +50,8 @@ _QUESTIONS: Dict[str, Tuple[str, List[_Argument]]] = {
         ("second", dict(metavar="SECOND", help="the same"))]),
     "holders": ("who has a right by an NFSv4 list, in words", [_RIGHT, _LIST]),
     "needed": ("which rights of an NFSv4 list decide something, and which can go", [_LIST]),
+    "restrict": ("what an NFSv4 list keeps under a bound, which is a list too", [
+        _LIST, ("bound", dict(metavar="BOUND", help="the same"))]),
     "who": ("which of some people have a right", [
         ("right", dict(metavar="RIGHT", help="rights with | between them, or letters of rwx for a POSIX ACL")), _LIST,
         ("--people", dict(metavar="FILE", required=True, help=PEOPLE_HELP)),
@@ -80,7 +84,7 @@ def parser_of() -> argparse.ArgumentParser:
 
 def _judge(args: argparse.Namespace) -> None:
     """Gives each list its form. Raises UsageError if options do not go with the lists."""
-    words = ("old", "new", "first", "second", "list")
+    words = ("old", "new", "first", "second", "list", "bound")
     args.lists = [getattr(args, word) for word in words if hasattr(args, word)]
     forms = args.forms or ["xdr"]
     args.forms = forms * len(args.lists) if len(forms) == 1 else forms
@@ -103,7 +107,7 @@ def _answered(args: argparse.Namespace) -> Reply:
         from .people import who  # which needs the modules of aclck-tree
         return who(args, accounts)
     asked: Dict[str, Callable[[argparse.Namespace, Optional[SystemIds]], Reply]] = {
-        "at-most": at_most, "same": same, "holders": holders, "needed": needed}
+        "at-most": at_most, "same": same, "holders": holders, "needed": needed, "restrict": restrict}
     return asked[args.question](args, accounts)
 
 

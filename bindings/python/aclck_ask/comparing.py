@@ -14,17 +14,20 @@ from aclck_tree.output.text import quoted
 from .answer import Reply, ShownDifference
 from .lists import SPECIAL, Given, read_lists
 
+INHERITANCE = "what new objects inherit does not count"
+"""The line for lists by which new objects inherit something."""
+
 
 def at_most(args: argparse.Namespace, accounts: Optional[SystemIds]) -> Reply:
     """Answers whether the new list grants at most what the old one grants. Raises TreeError if that is not known."""
-    old, new = _compared(args, accounts)
+    old, new = compared(args, accounts)
     found = _excess(new, old)
     return _answer(("at most", "more"), (old, new), found, ("old denied", "new granted"))
 
 
 def same(args: argparse.Namespace, accounts: Optional[SystemIds]) -> Reply:
     """Answers whether two lists grant everybody the same. Raises TreeError if that is not known."""
-    first, second = _compared(args, accounts)
+    first, second = compared(args, accounts)
     found, first_grants = _difference(first, second)
     ends = ("first granted", "second denied") if first_grants else ("first denied", "second granted")
     return _answer(("same", "differ"), (first, second), found, ends)
@@ -47,7 +50,7 @@ def _difference(first: Given, second: Given) -> Tuple[Union[Difference, PosixDif
     return (more, True) if more else (_excess(second, first), False)
 
 
-def _compared(args: argparse.Namespace, accounts: Optional[SystemIds]) -> List[Given]:
+def compared(args: argparse.Namespace, accounts: Optional[SystemIds]) -> List[Given]:
     """Returns two lists whose users and groups are named in one way. Raises TreeError if they are not."""
     if len({form in POSIX for form in args.forms}) > 1:
         raise TreeError("one list is an NFSv4 list, and the other one is a POSIX ACL")
@@ -78,7 +81,7 @@ def _answer(words: Tuple[str, str], lists: Tuple[Given, Given], found: Union[Dif
     """Returns the first of the words if no requester was found, and otherwise the second one with the requester. `ends`
     says what each list answers to the requester."""
     inherits = any(one.inherits for one in lists)
-    note = "what new objects inherit does not count" if inherits else ""
+    note = INHERITANCE if inherits else ""
     if found is None:
         return Reply(YES, {"answer": True, "difference": None, "inherits": inherits}, [words[0]], note)
     shown = ShownDifference.of(found)

@@ -1,4 +1,4 @@
-"""The command line and the run of a program that reads lists: `aclck-form` and `aclck-ask`."""
+"""The command line and the run of a program that reads lists: `aclck-form`, `aclck-ask` and `aclck-probe`."""
 
 from __future__ import annotations
 

@@ -116,6 +116,16 @@ pub fn with_groups(acl: &[u8], suffix: &[u8], profile: Profile) -> Result<Vec<u8
     })
 }
 
+/// Returns what a list keeps under a bound, which is a list too: a right of an ALLOW goes if and only if the DENYs before
+/// it, and then it, grant the right to somebody whom the bound denies it. Of all lists that are made by taking rights out
+/// of ALLOWs, and that grant at most what the bound grants, it is the one that keeps most.
+pub fn restricted(acl: &[u8], bound: &[u8], profile: Profile) -> Result<Vec<u8>, Error> {
+    let bound = Bytes::of(bound);
+    made(acl.len(), |out, needed, fault| unsafe {
+        raw::aclck_restricted(Bytes::of(acl), &bound, options(profile), out, needed, fault)
+    })
+}
+
 /// Returns the text of the list.
 pub fn show(acl: &[u8], profile: Profile) -> Result<Vec<u8>, Error> {
     let options = options(profile);

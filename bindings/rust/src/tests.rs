@@ -192,6 +192,19 @@ fn a_group_stands_for_a_special_identifier() {
 }
 
 #[test]
+fn a_list_keeps_what_a_bound_grants() {
+    // RFC 8881, section 6.2.1: amy, a member of every group, gets WRITE_DATA by the first ALLOW. A user is no other user.
+    let list = |text: &[u8]| encode(text, Profile::Full).unwrap();
+    let given = list(b"ALLOW GROUP READ_DATA|WRITE_DATA staff\nALLOW - WRITE_DATA bob\n");
+    let bound = list(b"DENY - WRITE_DATA amy\nALLOW - READ_DATA|WRITE_DATA EVERYONE@\n");
+    let left = list(b"ALLOW GROUP READ_DATA staff\nALLOW - WRITE_DATA bob\n");
+    assert_eq!(restricted(&given, &bound, Profile::Full), Ok(left));
+    assert_eq!(restricted(&bound, &bound, Profile::Narrow), Ok(bound.clone()));
+    let fault = restricted(&given, &bound[..7], Profile::Full).unwrap_err();
+    assert!(matches!(fault, Error::Refused(Fault { reason: 1, offset: 4, list: 1, .. })), "{fault}");
+}
+
+#[test]
 fn a_list_has_a_value_in_each_form() {
     // The attribute dacl begins with the flags; in Samba's nfs41acl.x an ACE has type, flags, no special who, mask, id.
     let list = encode(b"ALLOW GROUP READ_DATA 20\n", Profile::Full).unwrap();

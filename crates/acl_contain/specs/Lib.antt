@@ -3,3 +3,4 @@ pub mod Implied
 pub mod Needed
 pub mod internal
 pub mod Removal
+pub mod Questions

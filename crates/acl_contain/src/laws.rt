@@ -1,8 +1,9 @@
-//! Laws of what lists grant at most, and of the most that a list may keep under a bound.
+//! Laws of what lists grant at most, of the most that a list may keep under a bound, and of the questions of a list.
 
 ghost use Rattle.std.specs.Prelude.{◌↔◌, ◌≡◌};
 ghost use Rattle.acl_normal.specs.Common.{Ace, all_rights, IsAccepted, IsNormalFormOf, List, SameGrants, full, ℕ};
 ghost use Rattle.acl_eval.specs.Grant.{GrantsAtMost};
+ghost use Rattle.acl_contain.specs.Questions.{AskEachSet, AskFew, QuestionsSuffice};
 ghost use Rattle.acl_contain.specs.Removal.{IsGreatestRemoval, IsRemoval};
 
 /// Containment of grants: a list contains itself, what a contained list contains is contained too, and two lists grant
@@ -35,3 +36,14 @@ pub fn greatest_removal()
     ensures wider { (list bound wide cut more : List Ace) → GrantsAtMost all_rights bound wide
         → IsGreatestRemoval list bound cut → IsGreatestRemoval list wide more → IsRemoval more cut }
 {}
+
+/// What the questions of a list show: a list that mentions no other principals, and answers each question as the list
+/// does, grants the same to everybody.
+pub fn questions_suffice()
+    ensures same { QuestionsSuffice }
+    // There is one for each set of at most two mentioned principals that one requester can match, and no other.
+    ensures sets { AskEachSet }
+    ensures few { AskFew }
+{
+    acl_normal::laws::small_situations_suffice();
+}

@@ -1,7 +1,8 @@
-//! Whether a list grants at most what another does, what it may keep under a bound, who has a right, and which rights
-//! are needed.
+//! Whether a list grants at most what another does, what it may keep under a bound, who has a right, which rights are
+//! needed, and which questions show all that it grants.
 #![tactic(auto)]
 
+mod asking;
 mod equal_grants;
 mod exceeding;
 mod holder_lines;
@@ -10,6 +11,7 @@ pub mod laws;
 mod needed_rights;
 mod restricting;
 
+pub use asking::{Question, QuestionsFault, questions};
 pub use equal_grants::same_views;
 pub use exceeding::excess;
 pub use holder_lines::holders;

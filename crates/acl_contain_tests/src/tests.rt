@@ -2,6 +2,7 @@
 //! 8881, section 6.2.1), and the rest by docs/reference/lists.md.
 
 mod ample;
+mod asked_questions;
 mod equal_lists;
 mod examples;
 mod excesses;

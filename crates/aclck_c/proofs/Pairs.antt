@@ -1,6 +1,7 @@
 -- What calls over two lists make of each list.
-use Rattle.std.proofs.Common.{◌≡◌, ◌∙◌, ℕ, Bool, List, false, inl, inr, refl, subst, sym, true}
-use Rattle.std.specs.Prelude.{◌↔◌, IsTrue}
+use Rattle.std.proofs.Common.{◌≡◌, ◌∙◌, ℕ, Bool, Err, List, Ok, Result, false, inl, inr, refl, subst, sym, true}
+use Rattle.std.specs.Prelude.{◌↔◌, IfErr, IsTrue}
+use Rattle.std.specs.Result.{IsErrAnd}
 use Rattle.std.proofs.lemmas.Bool.{false≢true}
 use Rattle.std.proofs.lemmas.Slice.Eq.{bytes_eq-Decides}
 use Rattle.std.specs.Str.{bytes_eq}
@@ -49,3 +50,10 @@ pub second_failure : (p : Profile) (first second : List ℕ) (list : List Ace) (
 second_failure p first second list failure.BadArgument spelled h = h
 second_failure p first second list (failure.Refused shown) spelled h = inr ((list, spelled), h)
 second_failure p first second list failure.Memory spelled h = (list, spelled)
+
+-- the first list is read, and memory ran out
+pub memory_failure : {T : Type 0} (p : Profile) (first second : List ℕ) (list : List Ace) (r : Result T Failure)
+    → IsErrAnd r (λ f. f ≡ failure.Memory) → Xdr p list first → IfErr r (IsPairFailure p first second)
+memory_failure p first second list (Ok x) is spelled = absurd is
+memory_failure p first second list (Err f) is spelled =
+    subst (IsPairFailure p first second) (sym is) (list, spelled)

@@ -29,6 +29,7 @@ pub mod Refusal
 pub mod Renaming
 pub mod Requests
 pub mod Resolving
+pub mod Restricting
 pub mod Status
 pub mod Table
 pub mod ToPosix

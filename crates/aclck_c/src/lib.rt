@@ -40,6 +40,7 @@ pub use nfs4::prepared_many::aclck_decide_prepared_many;
 pub use nfs4::renamed::{RawRenaming, RawRenamings, aclck_renamed};
 pub use nfs4::request::{RawObject, RawQuestion, RawRequester};
 pub use nfs4::resolved::aclck_resolved;
+pub use nfs4::restricted::{RawBound, aclck_restricted};
 pub use nfs4::same::aclck_same;
 pub use nfs4::texts::{
     aclck_child, aclck_holders, aclck_normalize, aclck_normalize_inherit, aclck_show, aclck_table,

@@ -25,6 +25,7 @@ pub(crate) mod reading;
 pub(crate) mod renamed;
 pub(crate) mod request;
 pub(crate) mod resolved;
+pub(crate) mod restricted;
 pub(crate) mod same;
 pub(crate) mod texts;
 pub(crate) mod to_posix;

@@ -1,9 +1,9 @@
 //! Why and where something is refused, as C sees it.
-ghost use Rattle.std.specs.Prelude.{◌≡◌, codes};
+ghost use Rattle.std.specs.Prelude.{◌≡◌};
+ghost use Rattle.acl_posix.specs.declared.text_fault.Cause.TheVariants as cause;
 ghost use Rattle.aclck_c.specs.EntriesExcess.{of_second};
-ghost use Rattle.aclck_c.specs.Posix.{part_number, tag_number};
+ghost use Rattle.aclck_c.specs.Posix.{invalid_refusal, part_number};
 ghost use Rattle.aclck_c.specs.Refusal.{at_place, in_list, in_part, in_value};
-ghost use Rattle.aclck_c.specs.Words.{reason_called};
 ghost use Rattle.aclck_c.specs.internal.Numbers.{number_of_reason};
 
 use crate::posix::text_fault::{part_number, tag_number};
@@ -77,7 +77,7 @@ impl Refusal {
 
     /// Makes the refusal of a part of a POSIX ACL that has no entry with this tag.
     pub(crate) fn missing(part: Part, tag: Tag) -> Refusal
-        ensures { result ≡ in_part (reason_called (codes "Miss")) (part_number part) 0 (tag_number tag) }
+        ensures { result ≡ invalid_refusal (part_number part) (cause.Miss tag) }
     {
         Refusal {
             tag: tag_number(tag),

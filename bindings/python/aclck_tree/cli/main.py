@@ -258,7 +258,7 @@ def main(words: Optional[List[str]] = None, together: Optional[Together] = None)
     _open_streams()
     line, status = "", DEVICE
     try:
-        with _signals_as_ctrl_c():
+        with signals_as_ctrl_c():
             status = _run(words, together)
             sys.stdout.flush()
     except TreeError as error:
@@ -306,7 +306,7 @@ def _end_streams(status: int) -> int:
 
 
 @contextlib.contextmanager
-def _signals_as_ctrl_c() -> Iterator[None]:
+def signals_as_ctrl_c() -> Iterator[None]:
     """Lets SIGTERM and SIGHUP do what Ctrl-C does, unless they are ignored, as after nohup(1)."""
     taken = [one for one in (signal.SIGTERM, signal.SIGHUP) if signal.getsignal(one) == signal.SIG_DFL]
     for one in taken:

@@ -39,6 +39,12 @@ def kind_of(handle: int) -> int:
     return ctypes.c_ulong.from_buffer(found).value & 0xFFFFFFFF
 
 
+def mount_of(handle: int) -> bytes:
+    """Returns the number of the mount that an object is on (proc(5), /proc/PID/fdinfo). Raises OSError."""
+    with open(f"/proc/self/fdinfo/{handle}", "rb") as file:
+        return next(line.split()[1] for line in file if line.startswith(b"mnt_id:"))
+
+
 class Mounts:
     """The mounts that a scan meets. Each is asked once. Any number of threads can use it."""
 
@@ -62,8 +68,7 @@ class Mounts:
         OSError."""
         if self._has_own_ids:
             return True
-        with open(f"/proc/self/fdinfo/{handle}", "rb") as file:
-            mount = next(line.split()[1] for line in file if line.startswith(b"mnt_id:"))
+        mount = mount_of(handle)
         if mount not in self._maps:
             self._maps[mount] = _maps_ids(mount)
         return self._maps[mount]

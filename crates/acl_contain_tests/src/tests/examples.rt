@@ -11,6 +11,18 @@ mod ample {
     use super::*;
 
     #[test]
+    fn a_list_over_amy_and_staff_has_four_questions(rt: HostRuntime) -> Result<(), Fail> {
+        let alloc = rt.alloc();
+        let list = parse_text(
+            alloc,
+            b"ALLOW - READ_DATA amy\nALLOW GROUP READ_DATA staff\n",
+        )?;
+        let asked = questions(alloc, &list, 100)?;
+        assert!(rt; asked.len() == 4 && asked[1].user.as_slice() == b"amy".as_slice());
+        Ok(())
+    }
+
+    #[test]
     fn amy_does_not_keep_what_the_bound_denies_her(rt: HostRuntime) -> Result<(), Fail> {
         let alloc = rt.alloc();
         let list = parse_text(

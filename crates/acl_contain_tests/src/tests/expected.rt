@@ -12,7 +12,8 @@ pub type Expected = (
     bool,
 );
 
-fn same_names(names: &[Vec<u8>], others: &[&[u8]]) -> bool {
+/// Returns whether the names are the others, in order.
+pub fn same_names(names: &[Vec<u8>], others: &[&[u8]]) -> bool {
     for (name, other) in names.iter().zip(others) {
         if name.as_slice() != *other {
             return false;

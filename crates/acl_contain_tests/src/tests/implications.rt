@@ -151,7 +151,8 @@ fn short_rows(alloc: Global, number: usize) -> Result<Vec<AceRow>, AllocError> {
     Ok(rows)
 }
 
-fn short_list(alloc: Global, number: usize) -> Result<Acl, PushFault> {
+/// A list of at most three of the rows, by a number.
+pub fn short_list(alloc: Global, number: usize) -> Result<Acl, PushFault> {
     let rows = kept(short_rows(alloc, number))?;
     built(alloc, &rows)
 }
