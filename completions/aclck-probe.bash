@@ -7,11 +7,11 @@ _aclck_probe() {
         --form)
             offered='xdr text nfs4-tools nfs-text nfs-text-ids nfs41 nfs41-ids posix posix-access posix-default'
             offered+=' posix-archive posix-archive-default posix-gnu-tar posix-gnu-tar-default' ;;
-        --domain | --attribute | --most | --seconds) return ;;
+        --domain | --attribute | --most | --seconds | --server | --port) return ;;
     esac
     if [[ $current == -?* ]]; then
         offered='--questions --form --file --directory --names --system --domain --try --attribute --most --seconds'
-        offered+=' --json --help --version'
+        offered+=' --server --port --json --help --version'
     fi
     if [[ -n $offered ]]; then
         mapfile -t COMPREPLY < <(compgen -W "$offered" -- "$current")

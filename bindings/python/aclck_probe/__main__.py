@@ -16,6 +16,7 @@ from aclck_tree.output.errors import YES, UsageError
 
 from .listing import listed
 from .probing import probe
+from .server.probing import probe_server
 
 _NAME = "aclck-probe"
 
@@ -25,10 +26,11 @@ _EXIT = """exit status: 0 each object answers by its list for everybody, 1 one d
 EXAMPLES = ("aclck-probe /srv/plan.odt /srv/drafts",
             "aclck-probe --try /srv --json /srv/drafts",
             "aclck-probe --system --domain example.com /mnt/nfs/plan.odt",
-            "aclck-probe --questions plan.acl --form posix")
+            "aclck-probe --questions plan.acl --form posix",
+            "aclck-probe --server files.example.com:/srv --try")
 """Examples of command lines."""
 
-_MOST, _SECONDS = 100_000, 10.0
+_MOST, _SECONDS, _PORT = 100_000, 10.0, 2049
 
 
 def _number(text: str) -> int:
@@ -47,6 +49,12 @@ def _seconds(text: str) -> float:
     return found
 
 
+def _port(text: str) -> int:
+    if not text.isascii() or not text.isdigit() or not 0 < int(text[:6]) < 1 << 16:
+        raise argparse.ArgumentTypeError(f"{text!r} is not a port")
+    return int(text)
+
+
 def parser_of() -> argparse.ArgumentParser:
     """Returns the parser of the command line."""
     examples = "".join(f"  {example}\n" for example in EXAMPLES)
@@ -60,8 +68,11 @@ def parser_of() -> argparse.ArgumentParser:
     parser.add_argument("--form", choices=(*NFS, *POSIX), metavar="FORM", help="with --questions: the form, else xdr")
     add_kinds(parser)
     add_accounts(parser)
-    parser.add_argument("--try", dest="scratch", metavar="DIRECTORY", help="also try operations, on copies in a new "
-                        "directory that is made here, and removed at the end")
+    parser.add_argument("--server", metavar="HOST:/EXPORT", help="ask a server of NFSv4 about lists of this program, in "
+                        "a new directory of the export, which is removed at the end")
+    parser.add_argument("--port", metavar="PORT", type=_port, help=f"the port of the server, else {_PORT}")
+    parser.add_argument("--try", dest="scratch", metavar="DIRECTORY", nargs="?", const="", help="also try operations, on "
+                        "copies in a new directory that is made here, and removed at the end")
     parser.add_argument("--attribute", metavar="NAME", help="read NFSv4 lists from this attribute alone")
     parser.add_argument("--most", metavar="COUNT", type=_number, default=_MOST,
                         help=f"how many questions one list may have, else {_MOST}")
@@ -73,9 +84,15 @@ def parser_of() -> argparse.ArgumentParser:
 
 def _judge(args: argparse.Namespace) -> None:
     """Gives the options that are left out their values. Raises UsageError if options do not go together."""
-    lists = args.questions is not None
+    lists, server = args.questions is not None, args.server is not None
+    others = (args.names, args.domain, args.attribute)
     for is_wrong, line in (
-            (lists == bool(args.paths), "either objects or --questions are given"),
+            (server and (lists or bool(args.paths)), "--server goes with neither objects nor --questions"),
+            (not server and lists == bool(args.paths), "either objects or --questions are given"),
+            (server and (args.system or any(one is not None for one in others)),
+             "--names, --system, --domain and --attribute do not go with --server"),
+            (args.port is not None and not server, "--port goes with --server"),
+            (args.scratch is not None and server == bool(args.scratch), "--try has a directory except with --server"),
             (args.form is not None and not lists, "--form goes with --questions"),
             ((args.form == TOOLS) != bool(args.kind), "--file or --directory goes with nfs4-tools"),
             (lists and (args.json or any(one is not None for one in (args.scratch, args.attribute, args.seconds))),
@@ -86,7 +103,7 @@ def _judge(args: argparse.Namespace) -> None:
         if is_wrong:
             raise UsageError(line)
     args.lists, args.forms = [args.questions], [args.form or "xdr"]
-    args.seconds = args.seconds or _SECONDS
+    args.seconds, args.port = args.seconds or _SECONDS, args.port or _PORT
 
 
 def main(words: Optional[List[str]] = None) -> int:
@@ -95,6 +112,9 @@ def main(words: Optional[List[str]] = None) -> int:
         args = parser_of().parse_args(words)
         _judge(args)
         accounts = accounts_of(args)
+        if args.server is not None:
+            with signals_as_ctrl_c():
+                return probe_server(args)
         if args.questions is None:
             with signals_as_ctrl_c():
                 return probe(args, accounts)

@@ -2,8 +2,7 @@
 
 from __future__ import annotations
 
-import os
-from typing import AbstractSet, NamedTuple, Tuple
+from typing import AbstractSet, NamedTuple, Protocol, Tuple
 
 from aclck import NfsAcl
 from aclck_tree.output.errors import TreeError
@@ -24,6 +23,16 @@ class Requester(NamedTuple):
     groups: Tuple[int, ...]
 
 
+class Owned(Protocol):
+    """What has an owner and an owning group, such as a status of os.stat."""
+
+    @property
+    def st_uid(self) -> int: ...
+
+    @property
+    def st_gid(self) -> int: ...
+
+
 class Strangers(NamedTuple):
     """A user and a group of whom a list says nothing, who are not those of the object, and who are no accounts of this
     system."""
@@ -32,7 +41,7 @@ class Strangers(NamedTuple):
     group: int
 
     @classmethod
-    def to(cls, acl: NfsAcl, status: os.stat_result) -> Strangers:
+    def to(cls, acl: NfsAcl, status: Owned) -> Strangers:
         """Returns strangers to a list by ids and to its object. Raises TreeError if no id is free."""
         taken = {number for number in (read_id(ace.who) for ace in acl) if number is not None}
         taken |= {status.st_uid, status.st_gid}
