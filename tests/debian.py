@@ -66,7 +66,7 @@ class Debian:
     def package(self, name):
         """Returns the directory with the files of a package."""
         archive = self.fetched(f"{name}_*.deb", "download", name)
-        there = os.path.join(self.directory, name)
+        there = os.path.join(self.directory, f"{name}.files")
         if not os.path.exists(there):
             subprocess.run(["dpkg-deb", "-x", archive, there], check=True)
         return there

@@ -47,11 +47,11 @@ _DIRECTORY_TYPE = 2
 
 
 class Failed(TreeError):
-    """A server does not do an operation. `status` is still that of the program, and `answer` that of the server."""
+    """A server does not do an operation, after it did some. `answer` is the status of the server."""
 
-    def __init__(self, answer: int) -> None:
+    def __init__(self, answer: int, done: int) -> None:
         super().__init__(f"the server answers {status_name(answer)}")
-        self.answer = answer
+        self.answer, self.done = answer, done
 
 
 def status_name(answer: int) -> str:
@@ -87,10 +87,10 @@ def results(reply: Reader, operations: Sequence[Operation[Any]]) -> List[Any]:
         if answer != OK:
             if answer != status or len(found) + 1 != count:
                 raise BadReply("the server sent results that disagree")
-            raise Failed(answer)
+            raise Failed(answer, len(found))
         found.append(operation.read(reply))
     if status != OK:
-        raise Failed(status)
+        raise Failed(status, len(found))
     if count != len(operations):
         raise BadReply("the server sent too few results")
     reply.require_end()

@@ -4,7 +4,7 @@ from __future__ import annotations
 
 from typing import Callable, NamedTuple, Optional, Tuple
 
-from aclck import ADD_FILE, APPEND_DATA, EXECUTE, WRITE_DATA, Ace, AceFlag, NfsAcl
+from aclck import ADD_FILE, APPEND_DATA, DELETE_CHILD, EXECUTE, WRITE_DATA, Ace, AceFlag, NfsAcl
 
 from . import meanings as asked
 
@@ -50,8 +50,10 @@ def _lacks(word: str, right: int) -> Callable[[Mismatch], bool]:
     return lambda found: found.word == word and not found.is_granted and not found.granted & right
 
 
-def _lacks_add_file(found: Mismatch) -> bool:
-    return found.word in _REMOVALS and not found.is_granted and not found.granted & ADD_FILE
+def _needs_add_file(found: Mismatch) -> bool:
+    """Whether a server takes no notice of a right to remove: ADD_FILE decides where DELETE_CHILD is not denied."""
+    is_by_delete = found.word == asked.REMOVE_BY_DELETE.word and not found.granted & DELETE_CHILD
+    return found.word in _REMOVALS and not found.is_granted and (is_by_delete or not found.granted & ADD_FILE)
 
 
 def _is_removal(found: Mismatch) -> bool:
@@ -105,7 +107,7 @@ RULES: Tuple[Rule, ...] = (
     Rule("append", "who writes needs APPEND_DATA too", _lacks(asked.WRITE_FILE.word, APPEND_DATA)),
     Rule("times", "who sets the times to that of the server needs WRITE_DATA", _lacks(asked.SET_TIME.word, WRITE_DATA)),
     Rule("search", "who lists a directory needs EXECUTE too", _lacks(asked.LIST_NAMES.word, EXECUTE)),
-    Rule("remove by ADD_FILE", "DELETE and DELETE_CHILD need ADD_FILE too", _lacks_add_file),
+    Rule("remove by ADD_FILE", "DELETE and DELETE_CHILD need ADD_FILE too", _needs_add_file),
     Rule("remove by mode", "EXECUTE and the mode of the directory decide who removes", _is_removal),
     Rule("empty list", "an empty list leaves the list before it in place", _is_kept_empty),
     Rule("no list", "a new object that inherits nothing has no list", _has_no_list),

@@ -84,12 +84,14 @@ class Scratch:
 
     @contextlib.contextmanager
     def noted(self, place: bytes, name: bytes) -> Iterator[None]:
-        """Notes a name that is removed at the end, before something is made: perhaps no answer comes."""
+        """Notes a name that is removed at the end, before something is made by the second operation of a call: perhaps
+        no answer comes."""
         self._made[place, name] = None
         try:
             yield
-        except Failed:
-            del self._made[place, name]
+        except Failed as failed:
+            if failed.done < 2:
+                del self._made[place, name]
             raise
 
     def new_object(self, name: bytes, is_directory: bool, people: People) -> Object:

@@ -44,10 +44,13 @@ class Session:
         """Opens a file of a directory, closes it, and returns its handle. Raises Failed and DeviceError."""
         opened, handle = self._patiently(lambda until: self._opened(who, until, directory, name, share, makes))
         state, sequence = opened.state, 1
-        if opened.is_unconfirmed:
-            _, state = self.call(who, nfs.put_handle(handle), nfs.confirm_open(opened))
-            sequence = 2
-        self.call(who, nfs.put_handle(handle), nfs.close_file(state, sequence))
+        try:
+            if opened.is_unconfirmed:
+                _, state = self.call(who, nfs.put_handle(handle), nfs.confirm_open(opened))
+                sequence = 2
+            self.call(who, nfs.put_handle(handle), nfs.close_file(state, sequence))
+        except Failed as failed:  # after OPEN, which may have made the file
+            raise DeviceError(f"an open file: {failed}") from None
         return handle
 
     def _opened(self, who: Credentials, until: float, directory: bytes, name: bytes, share: int,
