@@ -112,14 +112,11 @@ def main(words: Optional[List[str]] = None) -> int:
         args = parser_of().parse_args(words)
         _judge(args)
         accounts = accounts_of(args)
-        if args.server is not None:
-            with signals_as_ctrl_c():
-                return probe_server(args)
-        if args.questions is None:
-            with signals_as_ctrl_c():
-                return probe(args, accounts)
-        streams.write(listed(args, accounts))
-        return YES
+        if args.questions is not None:
+            streams.write(listed(args, accounts))
+            return YES
+        with signals_as_ctrl_c():
+            return probe(args, accounts) if args.server is None else probe_server(args)
     return run(_NAME, work)
 
 
