@@ -2,9 +2,9 @@
 
 A definition is `abbrev pub NAME : TYPE` and then clauses `NAME PATTERNS = EXPRESSION`. Its translation is one function
 with one `match`. A record of facts is translated to the statement that its lists and numbers exist and its other fields
-hold. Coq infers the types of the arguments from the definition of formal/Specs.v or formal/PosixSpecs.v that has the
-same name, so the types of the specs are not read. The words are rewritten as text, and what is not rewritten is not
-valid in Coq.
+hold. Coq infers the types of the arguments from the definition of formal/Specs.v, formal/PosixSpecs.v or
+formal/RemovalSpecs.v that has the same name, so the types of the specs are not read. The words are rewritten as text,
+and what is not rewritten is not valid in Coq.
 """
 import os
 import re
@@ -48,6 +48,10 @@ Definition codes (text : string) := text.
 Definition permissions_in_order := [4; 2; 1]%N.
 Fixpoint Contains (items : list N) (item : N) : Prop :=
   match items with [] => False | [one] => item = one | one :: rest => item = one \/ Contains rest item end.
+""",
+    "RemovalSpecs": COMMON % ("RemovalSpecs", "RemovalSpecs.RemovalSpecs") + """
+Definition GrantsAtMost := Specs.Specs.GrantsAtMost.
+Definition AllZip {A B} := @Forall2 A B.
 """}
 SIGNS = {"∷": "::", "≡": "=", "≢": "<>", "×": "/\\", "→": "->", "↔": "<->", "⊎": "\\/", "⊤": "True", "⊥": "False",
          "≤": "<=", "List ℕ": "Name", "Bool": "bool", "slice_cmp nat_cmp": "slice_cmp",

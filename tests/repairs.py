@@ -264,7 +264,13 @@ def wrong_answers(library, aces, bound, said):
             yield "%s grants too much" % command
     if said["meet"][0] == 0 and found["restricted"].exceeds(found["meet"]):
         yield "restricted grants what meet does not grant"
+    for one, other in (given, limit), (limit, given):
+        if not one.exceeds(other) and not found["meet"].means_the_same(one):
+            yield "meet is not the list that grants at most the other"
     if not found["tidy"].means_the_same(given):
         yield "tidy grants something else"
     if list(map(bytes, found["tidy --inherit"].inherited())) != list(map(bytes, given.inherited())):
         yield "tidy --inherit grants something else"
+    for command in "tidy", "tidy --inherit":
+        if len(found[command]) > len(given):
+            yield "%s is longer" % command

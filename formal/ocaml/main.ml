@@ -1,7 +1,7 @@
 (* The commands normalize, compare, child and check-nfs of aclck, over the extracted program acl.ml:
-   the same words, the same input, the same answer. The commands excess, resolved, decide-unknown and
-   to-posix are calls of libaclck, and no commands of aclck. The library has no restricted, meet and
-   tidy yet. *)
+   the same words, the same input, the same answer. The commands excess, resolved, decide-unknown,
+   to-posix and restricted are calls of libaclck, and no commands of aclck. The library has no meet
+   and no tidy. *)
 
 let of_a_profile = { Words.valued = [ "--profile" ]; plain = []; takes_words = false }
 
